@@ -1,0 +1,27 @@
+#!/usr/bin/env python3
+"""Runs a program three times over an input file and prints the least wall time and the peak memory.
+
+usage: measure.py NAME INPUT PROGRAM [WORD..]
+"""
+import os
+import subprocess
+import sys
+import time
+
+
+def main() -> None:
+    name, path, words = sys.argv[1], sys.argv[2], sys.argv[3:]
+    walls, peak, status, size = [], 0, 0, 0
+    for _ in range(3):
+        with open(path, "rb") as source, open(path + ".out", "wb") as sink:
+            start = time.monotonic()
+            child = subprocess.Popen(words, stdin=source, stdout=sink)
+            _, status, usage = os.wait4(child.pid, 0)
+            walls.append(time.monotonic() - start)
+            peak = max(peak, usage.ru_maxrss)
+        size = os.path.getsize(path + ".out")
+    status = os.waitstatus_to_exitcode(status)
+    print(f"{name}: status {status}, {size} bytes out, wall {min(walls):.3f} s, peak {peak / 1024:.1f} MiB")
+
+
+main()
