@@ -1,0 +1,8 @@
+use Rattle.wl_clock.proofs.Ticks.{ticks_apart, ticks_near}
+use Rattle.wl_clock.proofs.ticks_increase.Goals as goal
+
+pub returns-clause-low : goal.returns-clause-low
+returns-clause-low c = ticks_apart
+
+pub returns-clause-high : goal.returns-clause-high
+returns-clause-high c = ticks_near

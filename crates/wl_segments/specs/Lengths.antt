@@ -1,0 +1,52 @@
+-- The segments of a bit, in quanta.
+use Rattle.std.specs.Prelude.{ℕ, ◌+◌, ◌-◌, ◌*◌, ◌≤◌, ◌||◌, nat_lt, min, Result, Ok, Err, if◌then◌else◌}
+use Rattle.wl_segments.specs.declared.SegmentsFault.{SegmentsFault}
+use Rattle.wl_segments.specs.declared.SegmentsFault.TheVariants.{Prop, Phase1, Phase2, Jump, Length}
+
+-- PROP_SEG, PHASE_SEG1, PHASE_SEG2 and the resynchronisation jump width (Bosch CAN 2.0 part B, section 10)
+pub record Lengths : Type 0 where
+  pub prop : ℕ
+  pub ps1 : ℕ
+  pub ps2 : ℕ
+  pub sjw : ℕ
+
+-- the place of the sample in a bit that nothing moved: behind SYNC_SEG of 1 quantum, PROP_SEG and PHASE_SEG1
+-- (Bosch CAN 2.0 part B, section 10)
+abbrev pub sample_at : Lengths → ℕ
+sample_at l = 1 + l.prop + l.ps1
+
+-- the quanta of a bit that nothing moved: the nominal bit time (Bosch CAN 2.0 part B, section 10)
+abbrev pub bit_quanta : Lengths → ℕ
+bit_quanta l = sample_at l + l.ps2
+
+-- what holds of all segments: each length is in its range (Bosch CAN 2.0 part B, section 10; PHASE_SEG2 from 2 to 8,
+-- whatever PHASE_SEG1 is: this project's profile)
+pub record AreLengths (l : Lengths) : Type 0 where
+  pub prop_low : 1 ≤ l.prop
+  pub prop_high : l.prop ≤ 8
+  pub ps1_low : 1 ≤ l.ps1
+  pub ps1_high : l.ps1 ≤ 8
+  pub ps2_low : 2 ≤ l.ps2
+  pub ps2_high : l.ps2 ≤ 8
+  pub sjw_low : 1 ≤ l.sjw
+  pub sjw_high : l.sjw ≤ 4
+  pub sjw_ps1 : l.sjw ≤ l.ps1
+  pub low : 8 ≤ bit_quanta l
+  pub high : bit_quanta l ≤ 25
+
+-- the segments of these lengths, or the first refusal that applies (the ranges of Bosch CAN 2.0 part B, section 10;
+-- the order is this project's profile)
+abbrev pub segments_of : ℕ → ℕ → ℕ → ℕ → Result Lengths SegmentsFault
+segments_of prop ps1 ps2 sjw =
+    if nat_lt prop 1 || nat_lt 8 prop then Err Prop
+    else if nat_lt ps1 1 || nat_lt 8 ps1 then Err Phase1
+    else if nat_lt ps2 2 || nat_lt 8 ps2 then Err Phase2
+    else if nat_lt sjw 1 || nat_lt (min 4 ps1) sjw then Err Jump
+    else if nat_lt (1 + prop + ps1 + ps2) 8 || nat_lt 25 (1 + prop + ps1 + ps2) then Err Length
+    else Ok (record { prop = prop; ps1 = ps1; ps2 = ps2; sjw = sjw })
+
+-- Two oscillators that each deviate by so many parts per million stay in step over 13 bits but for PHASE_SEG2, as
+-- after an error flag, and over the 10 bits between two resynchronisations (this project's profile)
+pub record IsTolerated (l : Lengths) (ppm : ℕ) : Type 0 where
+  pub flagged : 2 * ppm * (13 * bit_quanta l - l.ps2) ≤ 1000000 * min l.ps1 l.ps2
+  pub stuffed : 20 * ppm * bit_quanta l ≤ 1000000 * l.sjw
