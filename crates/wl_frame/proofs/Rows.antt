@@ -1,0 +1,107 @@
+-- Worked examples of the stuffing and of the checksum, by computation.
+use Rattle.std.proofs.Common.{◌≡◌, List, [], ◌∷◌, true, false, refl}
+use Rattle.wl_intervals.specs.declared.Level.{Level}
+use Rattle.wl_intervals.specs.declared.Level.TheVariants.{Dominant, Recessive}
+use Rattle.wl_frame.specs.Stuffing.{destuffed, is_stuff}
+use Rattle.wl_frame.specs.Crc.{crc_of}
+use Rattle.wl_frame.specs.Grammar.{Content, bits_of, number_bits, is_whole, is_crc_right, content_of}
+
+abbrev d : Level
+d = Dominant
+
+abbrev r : Level
+r = Recessive
+
+-- identifier 0, no byte: what the CRC sequence is of, its number, and the bits on the line
+abbrev plain_bits : List Level
+plain_bits = d ∷ d ∷ d ∷ d ∷ d ∷ d ∷ d ∷ d ∷ d ∷ d ∷ d ∷ d ∷ d ∷ d ∷ d ∷ d ∷ d ∷ d ∷ d ∷ []
+
+plain_crc : crc_of plain_bits ≡ 0
+plain_crc = refl
+
+abbrev plain_stuffed : List Level
+plain_stuffed = d ∷ d ∷ d ∷ d ∷ d ∷ r ∷ d ∷ d ∷ d ∷ d ∷ d ∷ r ∷ d ∷ d ∷ d ∷ d ∷ d ∷ r ∷ d ∷ d ∷ d ∷ d ∷ d ∷ r ∷ d ∷ d ∷ d ∷ d ∷ d ∷ r ∷ d ∷ d ∷ d ∷ d ∷ d ∷ r ∷ d ∷ d ∷ d ∷ d ∷ []
+
+plain_destuffed : destuffed plain_stuffed ≡ d ∷ d ∷ d ∷ d ∷ d ∷ d ∷ d ∷ d ∷ d ∷ d ∷ d ∷ d ∷ d ∷ d ∷ d ∷ d ∷ d ∷ d ∷ d ∷ d ∷ d ∷ d ∷ d ∷ d ∷ d ∷ d ∷ d ∷ d ∷ d ∷ d ∷ d ∷ d ∷ d ∷ d ∷ []
+plain_destuffed = refl
+
+plain_closed : is_stuff plain_stuffed 40 ≡ false
+plain_closed = refl
+
+-- identifier 0, one byte 0: what the CRC sequence is of, its number, and the bits on the line
+abbrev zero_byte_bits : List Level
+zero_byte_bits = d ∷ d ∷ d ∷ d ∷ d ∷ d ∷ d ∷ d ∷ d ∷ d ∷ d ∷ d ∷ d ∷ d ∷ d ∷ d ∷ d ∷ d ∷ r ∷ d ∷ d ∷ d ∷ d ∷ d ∷ d ∷ d ∷ d ∷ []
+
+zero_byte_crc : crc_of zero_byte_bits ≡ 17446
+zero_byte_crc = refl
+
+abbrev zero_byte_stuffed : List Level
+zero_byte_stuffed = d ∷ d ∷ d ∷ d ∷ d ∷ r ∷ d ∷ d ∷ d ∷ d ∷ d ∷ r ∷ d ∷ d ∷ d ∷ d ∷ d ∷ r ∷ d ∷ d ∷ d ∷ r ∷ d ∷ d ∷ d ∷ d ∷ d ∷ r ∷ d ∷ d ∷ d ∷ r ∷ d ∷ d ∷ d ∷ r ∷ d ∷ d ∷ d ∷ d ∷ r ∷ d ∷ d ∷ r ∷ r ∷ d ∷ []
+
+zero_byte_destuffed : destuffed zero_byte_stuffed ≡ d ∷ d ∷ d ∷ d ∷ d ∷ d ∷ d ∷ d ∷ d ∷ d ∷ d ∷ d ∷ d ∷ d ∷ d ∷ d ∷ d ∷ d ∷ r ∷ d ∷ d ∷ d ∷ d ∷ d ∷ d ∷ d ∷ d ∷ r ∷ d ∷ d ∷ d ∷ r ∷ d ∷ d ∷ d ∷ d ∷ r ∷ d ∷ d ∷ r ∷ r ∷ d ∷ []
+zero_byte_destuffed = refl
+
+zero_byte_closed : is_stuff zero_byte_stuffed 46 ≡ false
+zero_byte_closed = refl
+
+-- identifier 0x100, no byte: what the CRC sequence is of, its number, and the bits on the line
+abbrev higher_bits : List Level
+higher_bits = d ∷ d ∷ d ∷ r ∷ d ∷ d ∷ d ∷ d ∷ d ∷ d ∷ d ∷ d ∷ d ∷ d ∷ d ∷ d ∷ d ∷ d ∷ d ∷ []
+
+higher_crc : crc_of higher_bits ≡ 14346
+higher_crc = refl
+
+abbrev higher_stuffed : List Level
+higher_stuffed = d ∷ d ∷ d ∷ r ∷ d ∷ d ∷ d ∷ d ∷ d ∷ r ∷ d ∷ d ∷ d ∷ d ∷ d ∷ r ∷ d ∷ d ∷ d ∷ d ∷ d ∷ r ∷ d ∷ r ∷ r ∷ r ∷ d ∷ d ∷ d ∷ d ∷ d ∷ r ∷ d ∷ d ∷ r ∷ d ∷ r ∷ d ∷ []
+
+higher_destuffed : destuffed higher_stuffed ≡ d ∷ d ∷ d ∷ r ∷ d ∷ d ∷ d ∷ d ∷ d ∷ d ∷ d ∷ d ∷ d ∷ d ∷ d ∷ d ∷ d ∷ d ∷ d ∷ d ∷ r ∷ r ∷ r ∷ d ∷ d ∷ d ∷ d ∷ d ∷ d ∷ d ∷ r ∷ d ∷ r ∷ d ∷ []
+higher_destuffed = refl
+
+higher_closed : is_stuff higher_stuffed 38 ≡ false
+higher_closed = refl
+
+-- identifier 0x101, no byte: what the CRC sequence is of, its number, and the bits on the line
+abbrev arbitrated_id_bits : List Level
+arbitrated_id_bits = d ∷ d ∷ d ∷ r ∷ d ∷ d ∷ d ∷ d ∷ d ∷ d ∷ d ∷ r ∷ d ∷ d ∷ d ∷ d ∷ d ∷ d ∷ d ∷ []
+
+arbitrated_id_crc : crc_of arbitrated_id_bits ≡ 6681
+arbitrated_id_crc = refl
+
+abbrev arbitrated_id_stuffed : List Level
+arbitrated_id_stuffed = d ∷ d ∷ d ∷ r ∷ d ∷ d ∷ d ∷ d ∷ d ∷ r ∷ d ∷ d ∷ r ∷ d ∷ d ∷ d ∷ d ∷ d ∷ r ∷ d ∷ d ∷ d ∷ d ∷ r ∷ r ∷ d ∷ r ∷ d ∷ d ∷ d ∷ d ∷ r ∷ r ∷ d ∷ d ∷ r ∷ []
+
+arbitrated_id_destuffed : destuffed arbitrated_id_stuffed ≡ d ∷ d ∷ d ∷ r ∷ d ∷ d ∷ d ∷ d ∷ d ∷ d ∷ d ∷ r ∷ d ∷ d ∷ d ∷ d ∷ d ∷ d ∷ d ∷ d ∷ d ∷ r ∷ r ∷ d ∷ r ∷ d ∷ d ∷ d ∷ d ∷ r ∷ r ∷ d ∷ d ∷ r ∷ []
+arbitrated_id_destuffed = refl
+
+arbitrated_id_closed : is_stuff arbitrated_id_stuffed 36 ≡ false
+arbitrated_id_closed = refl
+
+abbrev zero_frame : Content
+zero_frame = record { id = 0; remote = false; dlc = 1; bytes = 0 ∷ [] }
+
+spelled : bits_of zero_frame ≡ destuffed zero_byte_stuffed
+unfolding bits_of number_bits
+spelled = refl
+
+whole : is_whole (bits_of zero_frame) ≡ true
+unfolding bits_of number_bits
+whole = refl
+
+right : is_crc_right (bits_of zero_frame) ≡ true
+unfolding bits_of number_bits
+right = refl
+
+read : content_of (bits_of zero_frame) ≡ zero_frame
+unfolding bits_of number_bits
+read = refl
+
+abbrev arbitrated : Content
+arbitrated = record { id = 257; remote = false; dlc = 0; bytes = [] }
+
+arbitrated_spelled : bits_of arbitrated ≡ destuffed arbitrated_id_stuffed
+unfolding bits_of number_bits
+arbitrated_spelled = refl
+
+arbitrated_read : content_of (bits_of arbitrated) ≡ arbitrated
+unfolding bits_of number_bits
+arbitrated_read = refl

@@ -1,0 +1,257 @@
+//! Base frames.
+
+ghost use Rattle.std.specs.Prelude.{◌≡◌, ◌≤◌, ◌+◌, ◌*◌, ◌++◌, length};
+ghost use Rattle.std.specs.List.{flat_map};
+ghost use Rattle.wl_frame.specs.Grammar.{byte_count, bytes_at, number_bits};
+ghost use Rattle.wl_frame.specs.Padded.{padded};
+
+use crate::checksum::crc15;
+use crate::numbers::{level_of, number, push_number};
+use crate::places::{BYTES, DLC, RTR};
+use crate::stuffing::{StuffedBits, stuff};
+use arrayvec::ArrayVec;
+use std::marker::Model;
+use thiserror::Error;
+use wl_intervals::Level;
+
+/// The bits of a frame, in the order in which they are sent.
+pub type FrameBits = ArrayVec<Level, 160>;
+
+/// Why numbers make no base frame: the first that applies, in this order.
+#[derive(Clone, Copy, Debug, PartialEq, Eq, Error)]
+pub enum FrameFault {
+    /// The identifier has more than 11 bits.
+    #[error("Id")]
+    Id,
+    /// The data length code has more than 4 bits.
+    #[error("Dlc")]
+    Dlc,
+    /// The number of bytes is not that of the data length code, or a remote frame has bytes.
+    #[error("DataLength")]
+    DataLength,
+}
+
+const GREATEST_ID: u32 = 0x7ff;
+
+const GREATEST_DLC: u32 = 15;
+
+/// The most bytes that a frame has.
+pub(crate) const MOST_BYTES: usize = 8;
+
+/// A base frame: identifier, remote or data, data length code, bytes (Bosch CAN 2.0 part B,
+/// section 3.2.1). Plain data of a fixed size.
+#[derive(Clone, Copy, Debug)]
+pub struct Frame {
+    id: u32,
+    remote: bool,
+    dlc: u32,
+    bytes: [u8; MOST_BYTES],
+}
+
+impl Model for Frame {
+    ghost use Rattle.wl_frame.specs.Grammar.{Content};
+
+    ghost Value = { Content };
+
+    ghost use Rattle.wl_frame.specs.Held.{content, held, IsHeld, held_content};
+
+    ghost view = { content };
+
+    ghost invariant = { IsHeld };
+
+    ghost inverse = { held };
+
+    ghost inverse_ok = { held_content };
+}
+
+impl Frame {
+    ghost use Rattle.std.specs.Prelude.{true};
+    ghost use Rattle.wl_intervals.specs.declared.Level.TheVariants.{Dominant as DominantLevel};
+    ghost use Rattle.wl_frame.specs.Grammar.{IsContent, IsFrame, bits_of, content_of, covered, frame_of, is_whole};
+    ghost use Rattle.wl_frame.specs.Stuffing.{Stuffs};
+
+    /// The base frame of these numbers.
+    ///
+    /// `id` is at most 0x7ff, else [`FrameFault::Id`]; `dlc` is at most 15, else
+    /// [`FrameFault::Dlc`]; a data frame has `min(dlc, 8)` bytes and a remote frame none, else
+    /// [`FrameFault::DataLength`].
+    pub fn base(id: u32, remote: bool, dlc: u32, bytes: &[u8]) -> Result<Frame, FrameFault>
+        ensures { result ≡ frame_of id remote dlc bytes.now }
+    {
+        if id > GREATEST_ID {
+            return Err(FrameFault::Id);
+        }
+        if dlc > GREATEST_DLC {
+            return Err(FrameFault::Dlc);
+        }
+        if bytes.len() != byte_count(remote, dlc) {
+            return Err(FrameFault::DataLength);
+        }
+        let bytes = zero_filled(bytes);
+        Ok(Frame {
+            id,
+            remote,
+            dlc,
+            bytes,
+        })
+    }
+
+    /// The frame that a whole list of bits carries, without stuff bits, from the start of frame to
+    /// the last of the CRC sequence. The reserved bits and the CRC sequence are not looked at: where
+    /// the list begins dominant and its CRC sequence is right it is a frame, and else none.
+    pub fn from_bits(bits: &[Level]) -> Frame
+        requires { is_whole bits.now ≡ true }
+        ensures { result ≡ content_of bits.now }
+    {
+        let remote = !bits[RTR].is_dominant();
+        let dlc = number(&bits[DLC..BYTES]);
+        let bytes = bytes_at(bits, byte_count(remote, dlc));
+        Frame {
+            id: number(&bits[1..RTR]),
+            remote,
+            dlc,
+            bytes,
+        }
+    }
+
+    /// The identifier, 11 bits.
+    pub fn id(&self) -> u32
+        ensures value { result ≡ self.now.id }
+        ensures content { IsContent self.now }
+    {
+        self.id
+    }
+
+    /// True of a remote frame, false of a data frame.
+    pub fn remote(&self) -> bool
+        ensures value { result ≡ self.now.remote }
+        ensures content { IsContent self.now }
+    {
+        self.remote
+    }
+
+    /// The data length code, 0 to 15, as it was given or read.
+    pub fn dlc(&self) -> u32
+        ensures value { result ≡ self.now.dlc }
+        ensures content { IsContent self.now }
+    {
+        self.dlc
+    }
+
+    /// The bytes, 0 to 8, the one sent first in front.
+    pub fn bytes(&self) -> &[u8]
+        ensures value { result.now ≡ self.now.bytes }
+        ensures most { length result.now ≤ 8 }
+        ensures content { IsContent self.now }
+    {
+        let count = byte_count(self.remote, self.dlc);
+        &self.bytes[..count]
+    }
+
+    /// The bits from the start of frame to the last of the CRC sequence, without stuff bits: 34 to
+    /// 98. Both reserved bits are dominant.
+    pub fn bits(&self) -> FrameBits
+        ensures bits { result.items ≡ bits_of self.now }
+        ensures frame { IsFrame result.items self.now }
+        ensures whole { is_whole result.items ≡ true }
+        ensures room { length result.items ≤ 98 }
+    {
+        let mut bits = self.covered();
+        let crc = crc15(bits.as_slice());
+        push_number(&mut bits, u32::from(crc), 15);
+        bits
+    }
+
+    /// The same bits with their stuff bits, as they are sent.
+    pub fn stuffed(&self) -> StuffedBits
+        ensures { Stuffs result.items (bits_of self.now) }
+    {
+        stuff(self.bits().as_slice())
+    }
+
+    /// What the CRC sequence is of: the bits from the start of frame to the last data bit.
+    fn covered(&self) -> FrameBits
+        ensures bits { result.items ≡ covered self.now DominantLevel DominantLevel }
+        ensures room { length result.items ≤ 83 }
+        ensures content { IsContent self.now }
+    {
+        let mut bits = FrameBits::new();
+        bits.push(Level::Dominant);
+        push_number(&mut bits, self.id, 11);
+        bits.push(level_of(self.remote));
+        bits.push(Level::Dominant);
+        bits.push(Level::Dominant);
+        push_number(&mut bits, self.dlc, 4);
+        push_bytes(&mut bits, self.bytes());
+        bits
+    }
+}
+
+/// The bytes of a whole list of bits, and zeros behind them.
+fn bytes_at(bits: &[Level], count: usize) -> [u8; MOST_BYTES]
+    requires few { count ≤ 8 }
+    requires there { 19 + 8 * count ≤ length bits.now }
+    ensures { result ≡ padded (bytes_at bits.now 19 count) }
+{
+    let mut held = [0; MOST_BYTES];
+    for k in 0..count {
+        let place = BYTES + 8 * k;
+        held[k] = number(&bits[place..place + 8]) as u8;
+    }
+    held
+}
+
+/// Appends the bits of bytes.
+fn push_bytes(bits: &mut FrameBits, bytes: &[u8])
+    requires { length bits.old.items + 8 * length bytes.now ≤ 160 }
+    ensures bits { bits.new.items ≡ bits.old.items ++ flat_map (number_bits 8) bytes.now }
+    ensures len { length bits.new.items ≡ length bits.old.items + 8 * length bytes.now }
+{
+    for byte in bytes {
+        push_number(bits, u32::from(*byte), 8);
+    }
+}
+
+impl PartialEq for Frame {
+    ghost use Rattle.std.specs.Prelude.{◌≡◌, ◌↔◌, IsTrue};
+    ghost use Rattle.wl_frame.specs.Same.{same_content, same_content_laws};
+
+    ghost eq = { same_content };
+
+    ghost laws = { same_content_laws };
+
+    /// Two frames are equal where identifier, kind, data length code and bytes are.
+    fn eq(&self, other: &Frame) -> bool
+        ensures value { result ≡ same_content self.now other.now }
+        ensures same { IsTrue result ↔ (self.now ≡ other.now) }
+    {
+        self.id == other.id
+            && self.remote == other.remote
+            && self.dlc == other.dlc
+            && self.bytes() == other.bytes()
+    }
+}
+
+impl Eq for Frame {
+    ghost use Rattle.wl_frame.specs.Same.{same_content_equiv};
+
+    ghost laws = { same_content_equiv };
+}
+
+/// How many bytes a frame has.
+pub(crate) fn byte_count(remote: bool, dlc: u32) -> usize
+    ensures value { result ≡ byte_count remote dlc }
+    ensures most { result ≤ 8 }
+{
+    if remote { 0 } else { dlc.min(8) as usize }
+}
+
+/// The bytes with zeros behind them.
+fn zero_filled(bytes: &[u8]) -> [u8; MOST_BYTES]
+    requires { length bytes.now ≤ 8 }
+    ensures { result ≡ padded bytes.now }
+{
+    let mut held = [0; MOST_BYTES];
+    held[..bytes.len()].copy_from_slice(bytes);
+    held
+}

@@ -1,0 +1,4 @@
+pub mod Levels
+pub mod Places
+pub mod Pairs
+pub mod Search

@@ -1,0 +1,4 @@
+pub mod Lists
+pub mod OrderLaws
+pub mod MapLemmas
+pub mod MapProofs

@@ -1,0 +1,6 @@
+pub mod Laws
+pub mod Products
+pub mod Words
+pub mod Maps
+pub mod ProductLaws
+pub mod WordLaws

@@ -1,0 +1,11 @@
+pub mod AnswerLemmas
+pub mod GrammarLemmas
+pub mod LineLemmas
+pub mod NumberLemmas
+pub mod ParseLemmas
+pub mod PieceLemmas
+pub mod ReadLemmas
+pub mod Runs
+mod TableProofs
+mod TruthProofs
+pub mod WriteLemmas

@@ -1,0 +1,5 @@
+use Rattle.wl_record.proofs.AnswerLemmas.{one_answer}
+use Rattle.wl_record.proofs.laws.one_answer_law.Goals as goal
+
+pub returns : goal.returns
+returns c = one_answer

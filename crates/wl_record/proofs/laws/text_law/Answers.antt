@@ -1,0 +1,5 @@
+use Rattle.wl_record.proofs.GrammarLemmas.{lines_are_text}
+use Rattle.wl_record.proofs.laws.text_law.Goals as goal
+
+pub returns : goal.returns
+returns c = λ text rs h. lines_are_text text rs h.lines h.within

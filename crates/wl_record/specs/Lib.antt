@@ -1,0 +1,12 @@
+pub mod Devices
+pub mod Faults
+pub mod Grammar
+pub mod Limits
+pub mod Parsing
+pub mod Reading
+pub mod Scripts
+pub mod Slots
+pub mod TableLaws
+pub mod Text
+pub mod Truth
+pub mod Within

@@ -1,0 +1,90 @@
+-- Reading records: what a reader gave, and what is to be answered (this project's profile).
+use Rattle.std.specs.Prelude.{◌≡◌, ℕ, ◌+◌, ◌++◌, ◌≤◌, List, [], length, refl}
+use Rattle.std.specs.List.{AllByRecursion}
+use Rattle.std.proofs.Common.{arith}
+use Rattle.wl_record.specs.declared.record.Record.{Record}
+use Rattle.wl_record.specs.declared.fault.TextFault.{TextFault}
+use Rattle.wl_record.specs.declared.fault.TextFault.TheVariants.{Memory}
+use Rattle.wl_record.specs.declared.read.Came.{Came}
+use Rattle.wl_record.specs.declared.read.Came.TheVariants.{More, All}
+use Rattle.wl_record.specs.Limits.{most_calls}
+use Rattle.wl_record.specs.Within.{IsWithin}
+use Rattle.wl_record.specs.Devices.{Answer, ended, Run, moved_bytes, AllGoOn, EndsWith, GaveOut}
+use Rattle.wl_record.specs.Grammar.{IsText}
+use Rattle.wl_record.specs.Faults.{Ending, at_end, broken_off, going_on, IsFirstFault, Stands}
+
+-- how the answers of a reader end
+abbrev pub EndsAs : Ending → List Answer → Type 0
+EndsAs at_end answers = EndsWith answers ended
+EndsAs broken_off answers = GaveOut 0 answers
+EndsAs going_on answers = AllGoOn answers
+
+-- A reading: the reader made these answers, and the bytes are what it gave.
+pub record ReadsBy {S : Type 0} (gives : S → Answer → S → Type 0) (s : S) (bytes : List ℕ) (e : Ending) (t : S) (answers : List Answer) : Type 0 where
+  pub run : Run gives s answers t
+  pub bytes_are : moved_bytes answers ≡ bytes
+  pub ends : EndsAs e answers
+  pub few : length answers ≤ most_calls
+
+abbrev pub Reads : {S : Type 0} → (S → Answer → S → Type 0) → S → List ℕ → Ending → S → Type 0
+Reads gives s bytes e t = (answers : List Answer) × ReadsBy gives s bytes e t answers
+
+-- before the first call nothing has been given
+pub nothing_given : {S : Type 0} (gives : S → Answer → S → Type 0) (s : S) → Reads gives s [] going_on s
+nothing_given gives s = ([], record { run = refl; bytes_are = refl; ends = tt; few = omega arith })
+
+-- the records of all that the reader gave up to its end
+abbrev pub RecordsOf : {S : Type 0} → (S → Answer → S → Type 0) → S → List Record → S → Type 0
+RecordsOf gives s rs t = (text : List ℕ) × Reads gives s text at_end t × IsText text rs
+
+-- the fault is the first one of what the reader gave; want of memory comes while it goes on
+abbrev pub FaultOf : {S : Type 0} → (S → Answer → S → Type 0) → S → TextFault → S → Type 0
+FaultOf gives s Memory t = (text : List ℕ) × (e : Ending) × Reads gives s text e t
+FaultOf gives s fault t = (text : List ℕ) × (e : Ending) × Reads gives s text e t × IsFirstFault text e fault
+
+-- what a reading by pieces keeps between its steps: the calls, bytes and lines so far, and the part of a line
+pub record Progress : Type 0 where
+  pub calls : ℕ
+  pub bytes : ℕ
+  pub lines : ℕ
+  pub begun : List ℕ
+
+abbrev pub beginning : Progress
+beginning = record { calls = 0; bytes = 0; lines = 0; begun = [] }
+
+-- The reader made these answers, after which it goes on, and gave the lines of these records and the part of a line.
+pub record HasRead {S : Type 0} (gives : S → Answer → S → Type 0) (s : S) (answers : List Answer) (rs : List Record) (p : Progress) (t : S) : Type 0 where
+  pub run : Run gives s answers t
+  pub goes : AllGoOn answers
+  pub calls : length answers ≡ p.calls
+  pub bytes : length (moved_bytes answers) ≡ p.bytes
+  pub lines : length rs ≡ p.lines
+  pub stands : Stands (moved_bytes answers) rs p.begun []
+
+-- before the first call nothing has been read
+pub nothing_read : {S : Type 0} (gives : S → Answer → S → Type 0) (s : S) → HasRead gives s [] [] beginning s
+nothing_read gives s = record {
+  run = refl;
+  goes = tt;
+  calls = refl;
+  bytes = refl;
+  lines = refl;
+  stands = record { front = []; parts = refl; lines = refl; within = tt; one_line = tt; short_line = omega arith; short_text = omega arith };
+}
+
+-- A step of reading: wherever it began, these records came, and reading goes on or was the whole of the text.
+abbrev pub GoesOnWith : {S : Type 0} → (S → Answer → S → Type 0) → Progress → S → Came → List Record → Progress → S → Type 0
+GoesOnWith {S} gives p t came rs q u = AllByRecursion IsWithin rs × ((s : S) (answers : List Answer) (told : List Record) → HasRead gives s answers told p t → ComesTo s (told ++ rs) came)
+  where
+    ComesTo : S → List Record → Came → Type 0
+    ComesTo s told More = (answers : List Answer) × HasRead gives s answers told q u
+    ComesTo s told All = RecordsOf gives s told u
+
+-- a step that ends in a fault: wherever reading began, it is that of all that the reader gave
+abbrev pub FaultsWith : {S : Type 0} → (S → Answer → S → Type 0) → Progress → S → TextFault → S → Type 0
+FaultsWith {S} gives p t fault u = (s : S) (answers : List Answer) (told : List Record) → HasRead gives s answers told p t → FaultOf gives s fault u
+
+-- a step after which reading goes on makes one call
+abbrev pub IsNext : Came → Progress → Progress → Type 0
+IsNext More p q = (q.calls ≡ p.calls + 1) × (q.calls ≤ most_calls)
+IsNext All p q = Unit {0}

@@ -1,0 +1,23 @@
+//! Laws of record text: each is the contract of a function that does nothing.
+ghost use Rattle.std.specs.Prelude.{◌≡◌, ◌↔◌, List, ℕ, Result};
+ghost use Rattle.wl_record.specs.declared.record.Record.{Record};
+ghost use Rattle.wl_record.specs.declared.fault.TextFault.{TextFault};
+ghost use Rattle.wl_record.specs.Within.{IsWithin};
+ghost use Rattle.wl_record.specs.Text.{words_of, text_of};
+ghost use Rattle.wl_record.specs.Grammar.{Spells, IsText};
+ghost use Rattle.wl_record.specs.Faults.{Ending, IsAnswer};
+
+/// Some bytes and their ending have one answer: the records of a text, or one fault.
+pub fn one_answer_law()
+    ensures { (text : List ℕ) (e : Ending) (a b : Result (List Record) TextFault) → IsAnswer text e a → IsAnswer text e b → a ≡ b }
+{}
+
+/// A record that is within is spelled exactly as it is written.
+pub fn spelling_law()
+    ensures { (line : List ℕ) (r : Record) → IsWithin r → Spells line r ↔ (line ≡ words_of r) }
+{}
+
+/// The text of records is that in which they are written, and no other.
+pub fn text_law()
+    ensures { (text : List ℕ) (rs : List Record) → IsText text rs → text ≡ text_of rs }
+{}

@@ -1,0 +1,272 @@
+//! Lines of record text.
+ghost use Rattle.std.specs.Prelude.{◌≡◌, ◌↔◌, ◌+◌, ◌<◌, ◌≤◌, ℕ, List, length, take, slice_index, IfSome, IfNone, IfOk, IfErr, MatchOption, IsTrue, [], ◌∷◌, ◌++◌};
+ghost use Rattle.std.specs.Char.{digit_value};
+
+use crate::limits::{MOST_EDGES, MOST_LINE, MOST_NODES, TICK_END};
+use crate::record::Record;
+use std::alloc::AllocError;
+
+/// Why a line is refused.
+#[derive(Clone, Copy, Debug, PartialEq, Eq)]
+pub enum LineFault {
+    /// It spells no record.
+    Grammar,
+    /// It spells a record that isn't within.
+    Limits,
+}
+
+/// Why no record is taken from the front of some bytes.
+#[derive(Clone, Copy, Debug, PartialEq, Eq)]
+pub enum Stop {
+    /// They end before a newline, and a line may still come of them.
+    Open,
+    /// More bytes stand before a newline than a line has.
+    Long,
+    /// A line that is refused.
+    Refused(LineFault),
+}
+
+ghost use Rattle.wl_record.specs.Parsing.{IsDigits, IsField, FieldsThen, capped};
+
+fn is_digit(byte: u8) -> bool
+    ensures { IsTrue result ↔ (digit_value byte < 10) }
+{
+    byte.is_ascii_digit()
+}
+
+/// The digits at the front: their value, and what follows them.
+fn digits(bytes: &[u8]) -> (u64, &[u8])
+    ensures { IsDigits bytes.now result.0 result.1.now }
+{
+    let mut value: u64 = 0;
+    let mut at = 0;
+    while at < bytes.len() && is_digit(bytes[at]) {
+        value = value
+            .saturating_mul(10)
+            .saturating_add(u64::from(bytes[at] - b'0'));
+        at += 1;
+    }
+    (value, &bytes[at..])
+}
+
+/// A space and a number at the front: the number, and what follows it.
+fn field(bytes: &[u8]) -> Option<(u64, &[u8])>
+    ensures found { IfSome result (λ r. (n : ℕ) × IsField bytes.now n r.1.now × (r.0 ≡ capped n)) }
+    ensures none { IfNone result ((n : ℕ) (rest : List ℕ) → ¬ (IsField bytes.now n rest)) }
+{
+    let [b' ', text @ ..] = bytes else {
+        return None;
+    };
+    let (value, rest) = digits(text);
+    let len = text.len() - rest.len();
+    if len == 0 || (len > 1 && text[0] == b'0') {
+        return None;
+    }
+    Some((value, rest))
+}
+
+/// A space and a number, twice, and what follows them.
+fn two_fields(bytes: &[u8]) -> Option<(u64, u64, &[u8])>
+    ensures found { IfSome result (λ r. (a b : ℕ) × FieldsThen bytes.now (a ∷ b ∷ []) r.2.now × (r.0 ≡ capped a) × (r.1 ≡ capped b)) }
+    ensures none { IfNone result ((a b : ℕ) (rest : List ℕ) → ¬ (FieldsThen bytes.now (a ∷ b ∷ []) rest)) }
+{
+    let Some((first, more)) = field(bytes) else {
+        return None;
+    };
+    let Some((second, rest)) = field(more) else {
+        return None;
+    };
+    Some((first, second, rest))
+}
+
+/// A space and a number, three times, and what follows them.
+fn three_fields(bytes: &[u8]) -> Option<(u64, u64, u64, &[u8])>
+    ensures found { IfSome result (λ r. (a b k : ℕ) × FieldsThen bytes.now (a ∷ b ∷ k ∷ []) r.3.now × (r.0 ≡ capped a) × (r.1 ≡ capped b) × (r.2 ≡ capped k)) }
+    ensures none { IfNone result ((a b k : ℕ) (rest : List ℕ) → ¬ (FieldsThen bytes.now (a ∷ b ∷ k ∷ []) rest)) }
+{
+    let Some((first, more)) = field(bytes) else {
+        return None;
+    };
+    let Some((second, third, rest)) = two_fields(more) else {
+        return None;
+    };
+    Some((first, second, third, rest))
+}
+
+ghost use Rattle.wl_record.specs.declared.record.Record.{Record};
+ghost use Rattle.wl_record.specs.declared.record.Record.TheVariants.{Edge, Clash, Silence};
+ghost use Rattle.wl_record.specs.Grammar.{letter_of, numbers_of, Spells};
+ghost use Rattle.wl_record.specs.Limits.{most_line};
+ghost use Rattle.wl_record.specs.Within.{IsWithin};
+ghost use Rattle.wl_record.specs.Faults.{HasNoNewline};
+ghost use Rattle.wl_record.specs.Parsing.{IsFront, IsRecordFront, Begins, IsLineFault, TakesLine, IsStop};
+
+/// The edge with these numbers, if it is within.
+#[tactic(auto, unfolding(crate::specs::Limits::most_nodes, crate::specs::Limits::most_edges, crate::specs::Limits::tick_end))]
+fn edge(node: u64, seq: u64, tick: u64) -> Option<Record>
+    ensures { MatchOption result (¬ (IsWithin (Edge node seq tick))) (λ r. (r ≡ Edge node seq tick) × IsWithin r) }
+{
+    if node < u64::from(MOST_NODES) && seq < u64::from(MOST_EDGES) && tick < TICK_END {
+        let (node, seq) = (node as u8, seq as u32);
+        Some(Record::Edge { node, seq, tick })
+    } else {
+        None
+    }
+}
+
+/// The clash with these numbers, if it is within.
+#[tactic(auto, unfolding(crate::specs::Limits::most_nodes, crate::specs::Limits::most_edges, crate::specs::Limits::tick_end))]
+fn clash(node: u64, seq: u64) -> Option<Record>
+    ensures { MatchOption result (¬ (IsWithin (Clash node seq))) (λ r. (r ≡ Clash node seq) × IsWithin r) }
+{
+    if node < u64::from(MOST_NODES) && seq < u64::from(MOST_EDGES) {
+        let (node, seq) = (node as u8, seq as u32);
+        Some(Record::Clash { node, seq })
+    } else {
+        None
+    }
+}
+
+/// The silence with these numbers, if it is within.
+#[tactic(auto, unfolding(crate::specs::Limits::most_nodes, crate::specs::Limits::most_edges, crate::specs::Limits::tick_end))]
+fn silence(node: u64, count: u64, until: u64) -> Option<Record>
+    ensures { MatchOption result (¬ (IsWithin (Silence node count until))) (λ r. (r ≡ Silence node count until) × IsWithin r) }
+{
+    if node < u64::from(MOST_NODES) && count <= u64::from(MOST_EDGES) && until < TICK_END {
+        let (node, count) = (node as u8, count as u32);
+        Some(Record::Silence { node, count, until })
+    } else {
+        None
+    }
+}
+
+/// The fields of an edge, and what follows them. The edge is told where it is within.
+fn edge_front(fields: &[u8]) -> Option<(Option<Record>, &[u8])>
+    ensures found { IfSome result (λ f. IsFront 69 fields.now f.0 f.1.now) }
+    ensures none { IfNone result ((r : Record) (rest : List ℕ) → letter_of r ≡ 69 → ¬ (FieldsThen fields.now (numbers_of r) rest)) }
+{
+    let Some((node, seq, tick, rest)) = three_fields(fields) else {
+        return None;
+    };
+    Some((edge(node, seq, tick), rest))
+}
+
+/// The fields of a clash, likewise.
+fn clash_front(fields: &[u8]) -> Option<(Option<Record>, &[u8])>
+    ensures found { IfSome result (λ f. IsFront 67 fields.now f.0 f.1.now) }
+    ensures none { IfNone result ((r : Record) (rest : List ℕ) → letter_of r ≡ 67 → ¬ (FieldsThen fields.now (numbers_of r) rest)) }
+{
+    let Some((node, seq, rest)) = two_fields(fields) else {
+        return None;
+    };
+    Some((clash(node, seq), rest))
+}
+
+/// The fields of a silence, likewise.
+fn silence_front(fields: &[u8]) -> Option<(Option<Record>, &[u8])>
+    ensures found { IfSome result (λ f. IsFront 83 fields.now f.0 f.1.now) }
+    ensures none { IfNone result ((r : Record) (rest : List ℕ) → letter_of r ≡ 83 → ¬ (FieldsThen fields.now (numbers_of r) rest)) }
+{
+    let Some((node, count, until, rest)) = three_fields(fields) else {
+        return None;
+    };
+    Some((silence(node, count, until), rest))
+}
+
+/// A record's letter and fields at the front, and what follows them. The record is told where it is within.
+fn record_front(bytes: &[u8]) -> Option<(Option<Record>, &[u8])>
+    ensures found { IfSome result (λ f. IsRecordFront bytes.now f.0 f.1.now) }
+    ensures none { IfNone result ((r : Record) (rest : List ℕ) → ¬ (Begins bytes.now r rest)) }
+{
+    match bytes {
+        [b'E', fields @ ..] => edge_front(fields),
+        [b'C', fields @ ..] => clash_front(fields),
+        [b'S', fields @ ..] => silence_front(fields),
+        _ => None,
+    }
+}
+
+/// The record of a line, or why the line is refused.
+fn parse_line(line: &[u8]) -> Result<Record, LineFault>
+    ensures told { IfOk result (λ r. Spells line.now r × IsWithin r) }
+    ensures fault { IfErr result (λ fault. IsLineFault line.now fault) }
+{
+    let Some((told, rest)) = record_front(line) else {
+        return Err(LineFault::Grammar);
+    };
+    if !rest.is_empty() {
+        return Err(LineFault::Grammar);
+    }
+    match told {
+        Some(told) => Ok(told),
+        None => Err(LineFault::Limits),
+    }
+}
+
+/// Where the first newline stands, if it does among the bytes of a line and the one after.
+fn newline_at(bytes: &[u8]) -> Option<usize>
+    ensures found { IfSome result (λ at. (at ≤ most_line) × (at < length bytes.now) × HasNoNewline (take at bytes.now) × (slice_index bytes.now at ≡ 10)) }
+    ensures none { IfNone result (HasNoNewline (take (most_line + 1) bytes.now)) }
+{
+    for at in 0..bytes.len().min(MOST_LINE + 1) {
+        if bytes[at] == b'\n' {
+            return Some(at);
+        }
+    }
+    None
+}
+
+/// The record whose line stands at the front, and what follows its newline; or why there is none.
+#[cold]
+#[inline(never)]
+fn slow_line(bytes: &[u8]) -> Result<(Record, &[u8]), Stop>
+    ensures told { IfOk result (λ t. TakesLine bytes.now t.0 t.1.now) }
+    ensures stop { IfErr result (λ stop. IsStop bytes.now stop) }
+{
+    let Some(at) = newline_at(bytes) else {
+        return Err(if bytes.len() > MOST_LINE {
+            Stop::Long
+        } else {
+            Stop::Open
+        });
+    };
+    match parse_line(&bytes[..at]) {
+        Ok(told) => Ok((told, &bytes[at + 1..])),
+        Err(fault) => Err(Stop::Refused(fault)),
+    }
+}
+
+/// The same, which looks for no newline first.
+fn take_line(bytes: &[u8]) -> Result<(Record, &[u8]), Stop>
+    ensures told { IfOk result (λ t. TakesLine bytes.now t.0 t.1.now) }
+    ensures stop { IfErr result (λ stop. IsStop bytes.now stop) }
+{
+    if let Some((Some(told), more)) = record_front(bytes) {
+        if let [b'\n', rest @ ..] = more {
+            return Ok((told, rest));
+        }
+    }
+    slow_line(bytes)
+}
+
+ghost use Rattle.wl_record.specs.Parsing.{TakesLines};
+
+/// Appends the records of the whole lines at the front. Answers what follows them, and why no line stands there.
+pub fn take_lines<'a>(
+    bytes: &'a [u8],
+    records: &mut Vec<Record>,
+) -> Result<(&'a [u8], Stop), AllocError>
+    ensures told { IfOk result (λ t. (rs : List Record) × TakesLines bytes.now rs t.0.now × (records.new.items ≡ records.old.items ++ rs)) }
+    ensures stop { IfOk result (λ t. IsStop t.0.now t.1) }
+{
+    let mut rest = bytes;
+    loop {
+        match take_line(rest) {
+            Ok((told, others)) => {
+                records.push(told)?;
+                rest = others;
+            }
+            Err(stop) => return Ok((rest, stop)),
+        }
+    }
+}

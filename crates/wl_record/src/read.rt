@@ -1,0 +1,199 @@
+//! Reading records from a reader, piece by piece.
+ghost use Rattle.std.specs.Prelude.{◌≡◌, ◌↔◌, ◌<◌, ◌≤◌, ◌+◌, ◌++◌, ◌-◌, ◌^◌, length, take, drop, min, List, IfOk, IfErr, MatchResult, MatchBool, OnOk, IsTrue};
+ghost use Rattle.wl_record.specs.Limits.{most_bytes, most_calls, most_line};
+
+use crate::device::{Got, Source};
+use crate::fault::TextFault;
+use crate::limits::{MOST_BYTES, MOST_CALLS, MOST_LINE};
+use crate::parse::{LineFault, Stop, take_lines};
+use crate::record::Record;
+use std::alloc::{AllocError, Global};
+use std::marker::Model;
+use std::vec;
+
+/// How many bytes are asked for in one call.
+const PIECE: usize = 65_536;
+
+ghost use Rattle.wl_record.specs.Devices.{read_answer, FitsBuffer};
+
+/// One call that asks for at most `most` bytes, behind the first `have` of the buffer.
+fn read_behind<R: Source>(reader: &mut R, buffer: &mut Vec<u8>, have: usize, most: usize) -> Got
+    requires room { have < length buffer.old.items }
+    requires some { 0 < most }
+    ensures gives { R.gives reader.old (read_answer result (drop have buffer.new.items)) reader.new }
+    ensures fits { FitsBuffer result (take most (drop have buffer.new.items)) }
+    ensures kept { take have buffer.new.items ≡ take have buffer.old.items }
+    ensures len { length buffer.new.items ≡ length buffer.old.items }
+{
+    let end = have + (buffer.len() - have).min(most);
+    reader.read(&mut buffer[have..end])
+}
+
+ghost use Rattle.wl_record.specs.declared.record.Record.{Record};
+ghost use Rattle.wl_record.specs.declared.parse.Stop.TheVariants.{Open};
+ghost use Rattle.wl_record.specs.Parsing.{TakesPiece, IsPieceFault, stop_fault};
+ghost use Rattle.wl_record.specs.Faults.{HasNoNewline};
+
+fn is_open(stop: Stop) -> bool
+    ensures { IsTrue result ↔ (stop ≡ Open) }
+{
+    match stop {
+        Stop::Open => true,
+        Stop::Long | Stop::Refused(_) => false,
+    }
+}
+
+/// The fault of a stop in the line with this number.
+fn fault_of(stop: Stop, line: u64) -> TextFault
+    ensures { result ≡ stop_fault stop line }
+{
+    match stop {
+        Stop::Open | Stop::Long => TextFault::TooLong(line),
+        Stop::Refused(LineFault::Grammar) => TextFault::Line(line),
+        Stop::Refused(LineFault::Limits) => TextFault::Range(line),
+    }
+}
+
+/// Takes the whole lines of the first `filled` bytes, which come after `lines` others, and moves what is left to the
+/// front. Where `past`, the last of these bytes is one that a text doesn't have. Answers how many are left, and how
+/// many lines there are now.
+fn take_piece(
+    buffer: &mut Vec<u8>,
+    filled: usize,
+    past: bool,
+    lines: u64,
+    records: &mut Vec<Record>,
+) -> Result<(usize, u64), TextFault>
+    requires within { filled ≤ length buffer.old.items }
+    requires some { 0 < filled }
+    requires few { lines < 2 ^ 63 - length buffer.old.items }
+    ensures ok { IfOk result (λ r. (rs : List Record) × TakesPiece (take filled buffer.old.items) past rs (take r.0 buffer.new.items) × (r.0 ≡ length (take r.0 buffer.new.items)) × (r.1 ≡ lines + length rs) × (records.new.items ≡ records.old.items ++ rs)) }
+    ensures fault { IfErr result (λ fault. IsPieceFault (take filled buffer.old.items) past lines fault) }
+    ensures len { length buffer.new.items ≡ length buffer.old.items }
+{
+    let before = records.len();
+    let allowed = if past { filled - 1 } else { filled };
+    let Ok((rest, stop)) = take_lines(&buffer[..allowed], records) else {
+        return Err(TextFault::Memory);
+    };
+    let left = rest.len();
+    let lines = lines + (records.len() - before) as u64;
+    if past || !is_open(stop) {
+        return Err(fault_of(stop, lines + 1));
+    }
+    buffer.copy_within(allowed - left..allowed, 0);
+    Ok((left, lines))
+}
+
+/// What a step of reading answers.
+#[derive(Clone, Copy, Debug, PartialEq, Eq)]
+pub enum Came {
+    /// There may be more.
+    More,
+    /// These were the last: the text is whole.
+    All,
+}
+
+/// Reads a record text piece by piece. It holds one piece, whatever the text's length.
+#[derive(Drop)]
+pub struct RecordReader {
+    buffer: Vec<u8>,
+    begun: usize,
+    calls: u32,
+    bytes: usize,
+    lines: u64,
+}
+
+impl Model for RecordReader {
+    ghost use Rattle.std.specs.Prelude.{◌≡◌, ◌+◌, ◌^◌, ◌<◌, ◌≤◌, length, take};
+    ghost use Rattle.wl_record.specs.Limits.{most_bytes, most_calls, most_line};
+    ghost use Rattle.wl_record.specs.Reading.{Progress};
+
+    ghost Value = { Progress };
+
+    ghost view = { λ r. record { calls = r.calls; bytes = r.bytes; lines = r.lines; begun = take r.begun r.buffer.items } };
+
+    ghost invariant = { λ r. (r.begun ≤ most_line) × (most_line < length r.buffer.items) × (length r.buffer.items < 2 ^ 32) × (r.calls ≤ most_calls) × (r.bytes ≤ most_bytes) × (r.lines + r.begun ≤ r.bytes) };
+}
+
+impl RecordReader {
+    ghost use Rattle.wl_record.specs.Reading.{beginning, GoesOnWith, FaultsWith, IsNext};
+
+    /// A reading that has made no call yet. Takes memory for one piece.
+    pub fn new(alloc: Global) -> Result<RecordReader, AllocError>
+        ensures { IfOk result (λ r. r ≡ beginning) }
+    {
+        Ok(RecordReader {
+            buffer: vec![in alloc; 0u8; PIECE]?,
+            begun: 0,
+            calls: 0,
+            bytes: 0,
+            lines: 0,
+        })
+    }
+
+    /// One step: makes one call of the reader, and appends the records of the lines that are whole now. All of them
+    /// are within. After `All` or a fault there is nothing more to ask.
+    pub fn next<R: Source>(
+        &mut self,
+        reader: &mut R,
+        records: &mut Vec<Record>,
+    ) -> Result<Came, TextFault>
+        ensures came { IfOk result (λ came. (rs : List Record) × (records.new.items ≡ records.old.items ++ rs) × GoesOnWith R.gives self.old reader.old came rs self.new reader.new) }
+        ensures steps { IfOk result (λ came. IsNext came self.old self.new) }
+        ensures fault { IfErr result (λ fault. FaultsWith R.gives self.old reader.old fault reader.new) }
+    {
+        if self.calls >= MOST_CALLS {
+            return Err(TextFault::Read);
+        }
+        self.calls += 1;
+        match read_behind(
+            reader,
+            &mut self.buffer,
+            self.begun,
+            MOST_BYTES + 1 - self.bytes,
+        ) {
+            Got::Again => Ok(Came::More),
+            Got::Failed => Err(TextFault::Read),
+            Got::End => {
+                if self.begun > 0 {
+                    return Err(TextFault::Truncated);
+                }
+                Ok(Came::All)
+            }
+            Got::Bytes(n) => {
+                let bytes = self.bytes + n;
+                let past = bytes > MOST_BYTES;
+                let taken = take_piece(&mut self.buffer, self.begun + n, past, self.lines, records);
+                let (left, lines) = match taken {
+                    Ok(taken) => taken,
+                    Err(fault) => return Err(fault),
+                };
+                self.begun = left;
+                self.bytes = bytes;
+                self.lines = lines;
+                Ok(Came::More)
+            }
+        }
+    }
+}
+
+ghost use Rattle.wl_record.specs.Reading.{RecordsOf, FaultOf};
+
+/// The records of all that the reader gives up to its end, or the first fault of it.
+pub fn read_records<R: Source>(alloc: Global, reader: &mut R) -> Result<Vec<Record>, TextFault>
+    ensures ok { IfOk result (λ records. RecordsOf R.gives reader.old records.items reader.new) }
+    ensures fault { IfErr result (λ fault. FaultOf R.gives reader.old fault reader.new) }
+{
+    let Ok(mut text) = RecordReader::new(alloc) else {
+        return Err(TextFault::Memory);
+    };
+    let mut records = Vec::new(alloc);
+    loop {
+        match text.next(reader, &mut records) {
+            Ok(Came::More) => {}
+            Ok(Came::All) => return Ok(records),
+            Err(fault) => return Err(fault),
+        }
+    }
+}

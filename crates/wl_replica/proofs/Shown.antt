@@ -1,0 +1,147 @@
+-- What a kept map shows, key by key.
+use Rattle.std.specs.Prelude.{◌≡◌, Bool, true, false, cond, T, ◌&&◌, ◌||◌, Option, List, [], ◌∷◌, Some, None, unwrap_or, filter, refl, Result, Ok, Err, OnErr}
+use Rattle.std.specs.declared.cmp.Ordering.TheVariants.{Less, Equal}
+use Rattle.std.specs.Ordering.{eq_by_cmp, is_eq, is_lt}
+use Rattle.std.specs.Cmp.{eq_by_cmp_equiv}
+use Rattle.std.specs.List.{AllByRecursion}
+use Rattle.std.specs.List.Sorted.{IsStrictlySortedBy}
+use Rattle.std.specs.Map.{lookup, keys_of}
+use Rattle.std.specs.BTreeMap.{BTreeMap, IsOrdered}
+use Rattle.std.specs.FinMap.{FinMap, get, get-from_sorted, same_map}
+use Rattle.std.specs.FinMap.Entries.{find, is_sorted, below_all}
+use Rattle.std.proofs.lemmas.Map.Entries.{lookup-filter-values, option_filter}
+use Rattle.std.proofs.lemmas.Map.Keys.{IsDistinct-from_sorted}
+use Rattle.std.proofs.Common.{sym, ap, ◌∙◌, subst}
+use Rattle.wl_lattice.specs.Laws.{JoinLaws}
+use Rattle.wl_lattice.specs.Maps.{joined_options, joined_maps, map_of, words_at}
+use Rattle.wl_lattice.proofs.MapLemmas.{get-joined_maps, get-map_of}
+use Rattle.wl_replica.specs.Keys.{Key, key_cmp}
+use Rattle.wl_replica.proofs.KeyLaws.{key_cmp_total, exact_keys}
+use Rattle.wl_replica.specs.Kept.{word_in, joined_all, shown}
+use Rattle.wl_replica.proofs.KeptLemmas.{tied_by}
+
+both : (a b : Bool) → T a → T b → T (a && b)
+both true b p q = q
+both false b p q = p
+
+below : {W : Type 0} (p : W → Bool) (x : Key) (es : List (Key × W)) → AllByRecursion (λ y. key_cmp x y ≡ Less) (keys_of es) → T (below_all key_cmp x (filter (λ e. p e.1) es))
+below p x [] h = tt
+below p x (e ∷ es) h =
+    let rest = below p x es h.1 in
+    elim (p e.1) as (λ b. T (below_all key_cmp x (cond b (e ∷ filter (λ f. p f.1) es) (filter (λ f. p f.1) es)))) [ true ↦ both _ _ (subst (λ r. T (is_lt r)) (sym h.0) tt) rest | false ↦ rest ]
+
+-- what is left of a list in order is in order
+pub sorted_filter : {W : Type 0} (p : W → Bool) (es : List (Key × W)) → IsStrictlySortedBy key_cmp (keys_of es) → T (is_sorted key_cmp (filter (λ e. p e.1) es))
+unfolding IsStrictlySortedBy
+sorted_filter p [] h = tt
+sorted_filter p (e ∷ es) h =
+    let rest = sorted_filter p es h.1 in
+    elim (p e.1) as (λ b. T (is_sorted key_cmp (cond b (e ∷ filter (λ f. p f.1) es) (filter (λ f. p f.1) es)))) [ true ↦ both _ _ (below p e.0 es h.0) rest | false ↦ rest ]
+
+find_is_lookup : {W : Type 0} (q : Key) (es : List (Key × W)) → find key_cmp q es ≡ lookup (eq_by_cmp key_cmp q) es
+find_is_lookup q [] = refl
+find_is_lookup q (e ∷ es) = ap (cond (eq_by_cmp key_cmp q e.0) (Some e.1)) (find_is_lookup q es)
+
+-- What it means that a test tells the words that hold something from the least one.
+pub record Tells {W : Type 0} (least : W) (join : W → W → W) (holds : W → Bool) : Type 0 where
+  pub none : holds least ≡ false
+  pub over : (v w : W) → holds (join v w) ≡ (holds v || holds w)
+  pub empty : (w : W) → holds w ≡ false → w ≡ least
+  pub left : (w : W) → join least w ≡ w
+  pub right : (w : W) → join w least ≡ w
+
+module _ {W : Type 0} {is_word : W → Type 0} {least : W} {join : W → W → W} {holds : W → Bool} (laws : JoinLaws is_word least join) (tells : Tells least join holds) where
+  abbrev pub seen : W → Option W
+  seen w = cond (holds w) (Some w) None
+
+  filtered : (o : Option W) → option_filter holds o ≡ seen (unwrap_or o least)
+  filtered None = ap (λ b. cond b (Some least) None) (sym tells.none)
+  filtered (Some w) = refl
+
+  pub get-shown : (m : BTreeMap Key W) → IsOrdered key_cmp m → (q : Key) → get (shown holds m.entries) q ≡ seen (word_in least m q)
+  get-shown m h q =
+      get-from_sorted key_cmp (filter (λ e. holds e.1) m.entries) q (sorted_filter holds m.entries h)
+      ∙ (find_is_lookup q (filter (λ e. holds e.1) m.entries)
+      ∙ (lookup-filter-values (eq_by_cmp_equiv key_cmp_total) holds q m.entries (IsDistinct-from_sorted key_cmp (keys_of m.entries) h)
+      ∙ filtered (lookup (eq_by_cmp key_cmp q) m.entries)))
+
+  -- maps that have the same words show the same
+  pub shown_same : (m n : BTreeMap Key W) → IsOrdered key_cmp m → IsOrdered key_cmp n → ((q : Key) → word_in least n q ≡ word_in least m q) → shown holds n.entries ≡ shown holds m.entries
+  shown_same m n h k same = same_map key_cmp_total exact_keys _ _ (λ q. get-shown n k q ∙ (ap seen (same q) ∙ sym (get-shown m h q)))
+
+  seen_both : (a b : Bool) (v w : W) → holds v ≡ a → holds w ≡ b → seen (join v w) ≡ joined_options join (cond a (Some v) None) (cond b (Some w) None)
+  seen_both true true v w p q = ap (λ c. cond c (Some (join v w)) None) (tells.over v w ∙ (λ i. p i || q i))
+  seen_both true false v w p q = ap (λ c. cond c (Some (join v w)) None) (tells.over v w ∙ (λ i. p i || q i)) ∙ ap Some (ap (join v) (tells.empty w q) ∙ tells.right v)
+  seen_both false true v w p q = ap (λ c. cond c (Some (join v w)) None) (tells.over v w ∙ (λ i. p i || q i)) ∙ ap Some (ap (λ x. join x w) (tells.empty v p) ∙ tells.left w)
+  seen_both false false v w p q = ap (λ c. cond c (Some (join v w)) None) (tells.over v w ∙ (λ i. p i || q i))
+
+  seen-join : (v w : W) → seen (join v w) ≡ joined_options join (seen v) (seen w)
+  seen-join v w = seen_both (holds v) (holds w) v w refl refl
+
+  nothing_below : (x q : Key) (es : List (Key × W)) (v : W) → key_cmp q x ≡ Equal → AllByRecursion (λ y. key_cmp x y ≡ Less) (keys_of es) → (lookup (eq_by_cmp key_cmp q) es ≡ None) × (joined_all join v es q ≡ v)
+  nothing_below x q [] v e h = (refl, refl)
+  nothing_below x q (f ∷ es) v e h =
+      let apart : eq_by_cmp key_cmp q f.0 ≡ false = ap is_eq (key_cmp_total.congr q x f.0 e ∙ h.0) in
+      let rest = nothing_below x q es v e h.1 in (
+        ap (λ b. cond b (Some f.1) (lookup (eq_by_cmp key_cmp q) es)) apart ∙ rest.0,
+        ap (λ b. joined_all join (cond b (join v f.1) v) es q) apart ∙ rest.1,
+      )
+
+  -- a list in order has one word at most at a key
+  pub joined_all-is : (es : List (Key × W)) → IsStrictlySortedBy key_cmp (keys_of es) → (v : W) (q : Key) → joined_all join v es q ≡ join v (unwrap_or (lookup (eq_by_cmp key_cmp q) es) least)
+  unfolding IsStrictlySortedBy
+  joined_all-is [] h v q = sym (tells.right v)
+  joined_all-is (e ∷ es) h v q =
+      let rest = joined_all-is es h.1 v q in
+      elim (eq_by_cmp key_cmp q e.0) as (λ b. eq_by_cmp key_cmp q e.0 ≡ b → joined_all join (cond b (join v e.1) v) es q ≡ join v (unwrap_or (cond b (Some e.1) (lookup (eq_by_cmp key_cmp q) es)) least)) [
+        | true ↦ λ is. (nothing_below e.0 q es (join v e.1) (tied_by (key_cmp q e.0) is) h.0).1
+        | false ↦ λ is. rest
+      ] refl
+
+  -- a map with another's words joined in shows both, joined
+  pub shown_joined : (m n other : BTreeMap Key W) → IsOrdered key_cmp m → IsOrdered key_cmp n → IsOrdered key_cmp other
+      → ((q : Key) → word_in least n q ≡ joined_all join (word_in least m q) other.entries q)
+      → shown holds n.entries ≡ joined_maps join (shown holds m.entries) (shown holds other.entries)
+  shown_joined m n other h k l is = same_map key_cmp_total exact_keys _ _ (λ q.
+      get-shown n k q ∙ (ap seen (is q ∙ joined_all-is other.entries l (word_in least m q) q) ∙ (seen-join (word_in least m q) (word_in least other q)
+      ∙ ((λ i. joined_options join (sym (get-shown m h q) i) (sym (get-shown other l q) i)) ∙ sym (get-joined_maps laws key_cmp_total (shown holds m.entries) (shown holds other.entries) q)))))
+
+  nothing_more : (a : Option W) → joined_options join a None ≡ a
+  nothing_more None = refl
+  nothing_more (Some v) = refl
+
+  -- with one word raised
+  single : (b c : Bool) (k q : Key) (v w : W) → eq_by_cmp key_cmp q k ≡ b → holds w ≡ c
+      → seen (joined_all join v ((k, w) ∷ []) q) ≡ joined_options join (seen v) (words_at key_cmp join (cond c ((k, w) ∷ []) []) q)
+  single true true k q v w e f =
+      ap (λ x. seen (cond x (join v w) v)) e ∙ (seen-join v w ∙ (ap (λ x. joined_options join (seen v) (cond x (Some w) None)) f ∙ sym (ap (λ x. joined_options join (seen v) (cond x (Some w) None)) e)))
+  single true false k q v w e f = ap (λ x. seen (cond x (join v w) v)) e ∙ (seen-join v w ∙ ap (λ x. joined_options join (seen v) (cond x (Some w) None)) f)
+  single false true k q v w e f = ap (λ x. seen (cond x (join v w) v)) e ∙ (sym (nothing_more (seen v)) ∙ sym (ap (λ x. joined_options join (seen v) (cond x (Some w) None)) e))
+  single false false k q v w e f = ap (λ x. seen (cond x (join v w) v)) e ∙ sym (nothing_more (seen v))
+
+  pub shown_raised : (m n : BTreeMap Key W) (k : Key) (w : W) → IsOrdered key_cmp m → IsOrdered key_cmp n
+      → ((q : Key) → word_in least n q ≡ joined_all join (word_in least m q) ((k, w) ∷ []) q)
+      → shown holds n.entries ≡ joined_maps join (shown holds m.entries) (map_of key_cmp join (cond (holds w) ((k, w) ∷ []) []))
+  shown_raised m n k w h l is = same_map key_cmp_total exact_keys _ _ (λ q.
+      get-shown n l q ∙ (ap seen (is q) ∙ (single _ _ k q (word_in least m q) w refl refl
+      ∙ ((λ i. joined_options join (sym (get-shown m h q) i) (sym (get-map_of laws key_cmp_total (cond (holds w) ((k, w) ∷ []) []) q) i)) ∙ sym (get-joined_maps laws key_cmp_total (shown holds m.entries) _ q)))))
+
+  pub joined_nothing : (m : FinMap key_cmp W) → joined_maps join m (map_of key_cmp join []) ≡ m
+  joined_nothing m = same_map key_cmp_total exact_keys _ _ (λ q. get-joined_maps laws key_cmp_total m _ q ∙ (ap (joined_options join (get m q)) (get-map_of laws key_cmp_total [] q) ∙ nothing_more (get m q)))
+
+  -- a map joined into an empty one
+  pub joined_into_nothing : (m : FinMap key_cmp W) → joined_maps join (map_of key_cmp join []) m ≡ m
+  joined_into_nothing m = same_map key_cmp_total exact_keys _ _ (λ q. get-joined_maps laws key_cmp_total _ m q ∙ ap (λ g. joined_options join g (get m q)) (get-map_of laws key_cmp_total [] q))
+
+  held : (b : Bool) (w : W) → holds w ≡ b → unwrap_or (cond b (Some w) None) least ≡ w
+  held true w e = refl
+  held false w e = sym (tells.empty w e)
+
+  -- the word that is shown is the one kept
+  pub word_shown : (m : BTreeMap Key W) → IsOrdered key_cmp m → (q : Key) → unwrap_or (get (shown holds m.entries) q) least ≡ word_in least m q
+  word_shown m h q = ap (λ o. unwrap_or o least) (get-shown m h q) ∙ held (holds (word_in least m q)) (word_in least m q) refl
+
+-- a fact that holds anyway holds at an error
+pub at_error : {A E : Type 0} (r : Result A E) (P : Type 0) → P → OnErr r P
+at_error (Ok x) P h = tt
+at_error (Err e) P h = h

@@ -1,0 +1,11 @@
+pub mod Keys
+pub mod State
+pub mod Words
+pub mod Canonical
+pub mod Laws
+pub mod Kept
+pub mod Stored
+pub mod Known
+pub mod KnownLaws
+pub mod Slots
+pub mod SlotsOf

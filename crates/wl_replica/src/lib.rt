@@ -1,0 +1,22 @@
+//! What is known of all nodes of a bus, kept as slots that records are joined into: replicas that
+//! took the same records are equal, in whatever order and however often they came.
+#![tactic(auto)]
+
+mod kept;
+mod known;
+mod laws;
+mod listed;
+mod replica;
+mod walks;
+mod waves;
+
+pub use known::{known_laws, no_horizon_falls, slots_laws, waves_agree};
+pub use laws::{
+    canonical_determines_the_state, canonical_stays_a_text, joining_is_a_join,
+    merging_is_appending, same_records_same_state, slots_of_states, states_join_slot_by_slot,
+    taking_is_joining,
+};
+pub use replica::{Replica, Word};
+
+#[cfg(test)]
+mod tests;

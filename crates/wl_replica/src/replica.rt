@@ -1,0 +1,278 @@
+// A replica: what is known of all nodes.
+ghost use Rattle.std.specs.Prelude.{◌≡◌, ◌↔◌, ℕ, IsTrue, IfOk, OnOk, OnErr};
+
+use crate::kept::{join_in, make_room, raise};
+use crate::known::known_laws;
+use crate::listed::{push_edges, push_silences};
+use crate::walks::{promise_of, run_of};
+use crate::waves::{is_dominant_at, wave_of};
+use std::alloc::{AllocError, Global};
+use std::collections::BTreeMap;
+use std::marker::Model;
+use wl_intervals::{Intervals, Level};
+use wl_lattice::{FlatWord, MaxWord};
+use wl_record::{Record, Slot};
+use wl_topology::Topology;
+
+/// What a replica has in one slot.
+#[derive(Clone, Copy, Debug, PartialEq, Eq)]
+pub enum Word {
+    /// Of a change: nothing, its tick, or that two different ticks were told.
+    Edge(FlatWord),
+    /// Of a silence: the greatest tick up to which it reaches; 0 says nothing.
+    Silence(MaxWord),
+}
+
+/// What is known of so many nodes: for each change its tick, for each number of changes how far
+/// the silence after them reaches.
+///
+/// A slot that holds nothing counts as a slot that is absent. What is taken is joined in, so it
+/// doesn't matter in what order records come, nor how often.
+#[derive(Drop)]
+pub struct Replica {
+    nodes: u8,
+    edges: BTreeMap<(u8, u32), FlatWord>,
+    silences: BTreeMap<(u8, u32), MaxWord>,
+}
+
+impl Model for Replica {
+    ghost use Rattle.wl_replica.specs.State.{State};
+    ghost use Rattle.wl_replica.specs.Stored.{coded_state};
+    ghost use Rattle.wl_replica.specs.Kept.{shown, holds_edge, holds_silence, AreKept};
+
+    ghost Value = { State };
+
+    ghost coded = { coded_state };
+
+    ghost view = { λ r. record { nodes = r.nodes; edges = shown holds_edge r.edges.entries; silences = shown holds_silence r.silences.entries } };
+
+    ghost invariant = { λ r. AreKept r.nodes r.edges r.silences };
+}
+
+impl Replica {
+    ghost use Rattle.wl_replica.specs.State.{state_of, taken, taken_all, joined, Fits};
+    ghost use Rattle.wl_replica.specs.Canonical.{canonical};
+    ghost use Rattle.wl_replica.specs.Words.{word_at};
+    ghost use Rattle.std.specs.Prelude.{List, [], ◌∷◌, ◌++◌, All};
+    ghost use Rattle.wl_record.specs.declared.record.Record.{Record};
+    ghost use Rattle.wl_record.specs.Truth.{IsIncreasing, IsTrueOf};
+    ghost use Rattle.wl_replica.specs.State.{slots_of};
+    ghost use Rattle.wl_replica.specs.Slots.{HoldsTrue};
+    ghost use Rattle.wl_replica.specs.SlotsOf.{NoHorizonFalls};
+
+    /// A replica of so many nodes that knows nothing.
+    pub fn new(alloc: Global, nodes: u8) -> Result<Replica, AllocError>
+        ensures { IfOk result (λ made. made ≡ state_of nodes []) }
+    {
+        Ok(Replica {
+            nodes,
+            edges: BTreeMap::new(alloc),
+            silences: BTreeMap::new(alloc),
+        })
+    }
+
+    /// The number of nodes that it knows of.
+    pub fn nodes(&self) -> u8
+        ensures { result ≡ self.now.nodes }
+    {
+        self.nodes
+    }
+
+    /// Whether the replica can take a record: its node is one of the replica's, and its numbers
+    /// are within their limits.
+    pub fn fits(&self, told: &Record) -> bool
+        ensures { IsTrue result ↔ Fits self.now.nodes told.now }
+    {
+        let node = match *told {
+            Record::Edge { node, .. } => node,
+            Record::Clash { node, .. } => node,
+            Record::Silence { node, .. } => node,
+        };
+        node < self.nodes && told.within()
+    }
+
+    /// Takes a record: joins what it says into its slot. Refused where memory is wanted; the
+    /// replica is then as it was.
+    pub fn take(&mut self, told: Record) -> Result<(), AllocError>
+        requires { Fits self.old.nodes told }
+        ensures ok { OnOk result (self.new ≡ taken self.old told) }
+        // What took some records, and takes this one, took both.
+        ensures after { OnOk result ((before : List Record) → self.old ≡ state_of self.old.nodes before
+            → self.new ≡ state_of self.old.nodes (before ++ told ∷ [])) }
+        ensures err { OnErr result (self.new ≡ self.old) }
+        ensures keeps { OnOk result ((table : ℕ → List ℕ) → ((i : ℕ) → IsIncreasing (table i))
+            → HoldsTrue self.old.nodes table (slots_of self.old) → IsTrueOf self.old.nodes table told → NoHorizonFalls self.old self.new) }
+    {
+        known_laws();
+        match told {
+            Record::Edge { node, seq, tick } => {
+                raise(&mut self.edges, (node, seq), &FlatWord::Value(tick))?
+            }
+            Record::Clash { node, seq } => {
+                raise(&mut self.edges, (node, seq), &FlatWord::Clash)?
+            }
+            Record::Silence { node, count, until } => {
+                raise(&mut self.silences, (node, count), &MaxWord { word: until })?
+            }
+        }
+        Ok(())
+    }
+
+    /// Joins in what the other replica knows. It puts nothing at every slot that it lacks, and
+    /// then joins; so where it is refused for want of memory, the replica is as it was.
+    pub fn join(&mut self, other: &Replica) -> Result<(), AllocError>
+        requires { self.old.nodes ≡ other.now.nodes }
+        ensures ok { OnOk result (self.new ≡ joined self.old other.now) }
+        // What took some records, joined with what took others, took all of them.
+        ensures after { OnOk result ((mine theirs : List Record) → self.old ≡ state_of self.old.nodes mine
+            → other.now ≡ state_of self.old.nodes theirs → self.new ≡ state_of self.old.nodes (mine ++ theirs)) }
+        ensures err { OnErr result (self.new ≡ self.old) }
+        ensures keeps { OnOk result ((table : ℕ → List ℕ) → ((i : ℕ) → IsIncreasing (table i))
+            → HoldsTrue self.old.nodes table (slots_of self.old) → HoldsTrue self.old.nodes table (slots_of other.now) → NoHorizonFalls self.old self.new) }
+    {
+        known_laws();
+        make_room(&mut self.edges, &other.edges)?;
+        make_room(&mut self.silences, &other.silences)?;
+        join_in(&mut self.edges, &other.edges);
+        join_in(&mut self.silences, &other.silences);
+        Ok(())
+    }
+
+    /// What the replica has in a slot.
+    pub fn slot(&self, slot: Slot) -> Word
+        ensures { result ≡ word_at self.now slot }
+    {
+        match slot {
+            Slot::EdgeAt { node, seq } => Word::Edge(
+                self.edges
+                    .get(&(node, seq))
+                    .copied()
+                    .unwrap_or(FlatWord::Nothing),
+            ),
+            Slot::SilenceAt { node, count } => Word::Silence(
+                self.silences
+                    .get(&(node, count))
+                    .copied()
+                    .unwrap_or(MaxWord { word: 0 }),
+            ),
+        }
+    }
+
+    /// A replica that knows the same.
+    pub fn clone_in(&self, alloc: Global) -> Result<Replica, AllocError>
+        ensures { IfOk result (λ other. other ≡ self.now) }
+    {
+        let mut other = Replica::new(alloc, self.nodes)?;
+        other.join(self)?;
+        Ok(other)
+    }
+
+    /// The records that make this replica, each slot once: node by node, the changes by number and
+    /// then the silences by count.
+    pub fn canonical(&self, alloc: Global) -> Result<Vec<Record>, AllocError>
+        ensures list { IfOk result (λ all. all.items ≡ canonical self.now) }
+        ensures fits { IfOk result (λ all. All (Fits self.now.nodes) all.items) }
+    {
+        let mut all = Vec::new(alloc);
+        for node in 0..self.nodes {
+            push_edges(&mut all, &self.edges, node)?;
+            push_silences(&mut all, &self.silences, node)?;
+        }
+        Ok(all)
+    }
+
+    ghost use Rattle.wl_record.specs.Limits.{most_edges, tick_end};
+    ghost use Rattle.wl_replica.specs.Known.{run_length, horizon};
+    ghost use Rattle.std.specs.Prelude.{◌<◌, ◌≤◌};
+
+    /// How many of the node's first changes are known without a gap: their ticks strictly
+    /// increase, and none lies inside a silence before it.
+    pub fn run_length(&self, node: u8) -> u32
+        requires { node < self.now.nodes }
+        ensures length { result ≡ run_length (slots_of self.now) node }
+        ensures few { result ≤ most_edges }
+    {
+        run_of(&self.edges, &self.silences, node).length
+    }
+
+    /// The tick below which the node's level is known, if all that was taken is true: past the last
+    /// change of its run, or the end of a silence after at most so many changes (Chandy and Misra,
+    /// 1979).
+    pub fn horizon(&self, node: u8) -> u64
+        requires { node < self.now.nodes }
+        ensures tick { result ≡ horizon (slots_of self.now) node }
+        ensures early { result ≤ tick_end }
+    {
+        let run = run_of(&self.edges, &self.silences, node);
+        run.end.max(promise_of(&self.silences, node, run.length))
+    }
+
+    ghost use Rattle.wl_replica.specs.Known.{wave, wave_at, place_horizon};
+    ghost use Rattle.wl_intervals.specs.Levels.{level_of};
+    ghost use Rattle.wl_intervals.specs.Pairs.{covers};
+    ghost use Rattle.wl_topology.specs.Delays.{delay_of};
+    ghost use Rattle.wl_topology.specs.Driven.{driven};
+    ghost use Rattle.std.specs.Prelude.{◌+◌, ◌-◌, ◌&&◌, length, nat_le};
+
+    /// The ticks below the node's horizon at which it drives dominant, as far as its run tells:
+    /// from each first to each second change, an open last one up to the horizon.
+    pub fn wave(&self, alloc: Global, node: u8) -> Result<Intervals, AllocError>
+        requires { node < self.now.nodes }
+        ensures { IfOk result (λ set. set ≡ wave (slots_of self.now) node) }
+    {
+        wave_of(alloc, &self.edges, &self.silences, node)
+    }
+
+    /// The tick below which the line at node `j` is known: the least horizon of a node, later by its
+    /// delay to `j`. `topology` has this replica's nodes.
+    pub fn place_horizon(&self, topology: &Topology, j: u8) -> u64
+        requires nodes { length topology.now.places ≡ self.now.nodes }
+        requires place { j < self.now.nodes }
+        ensures { result ≡ place_horizon self.now.nodes (delay_of topology.now) (slots_of self.now) j }
+    {
+        let mut least = self.known_until(topology, 0, j);
+        for i in 1..self.nodes {
+            least = least.min(self.known_until(topology, i, j));
+        }
+        least
+    }
+
+    /// The tick below which what node `i` drives is known at node `j`.
+    fn known_until(&self, topology: &Topology, i: u8, j: u8) -> u64
+        requires nodes { length topology.now.places ≡ self.now.nodes }
+        requires from { i < self.now.nodes }
+        requires to { j < self.now.nodes }
+        ensures { result ≡ horizon (slots_of self.now) i + delay_of topology.now i j }
+    {
+        self.horizon(i) + topology.delay(i, j)
+    }
+
+    /// The level that node `j` finds at tick `t`, by the waves of all nodes, without disturbances:
+    /// dominant where some node drove dominant its delay earlier. `topology` has this replica's
+    /// nodes, and `t` is below the place horizon.
+    pub fn seen(&self, topology: &Topology, j: u8, t: u64) -> Level
+        requires nodes { length topology.now.places ≡ self.now.nodes }
+        requires place { j < self.now.nodes }
+        requires known { t < place_horizon self.now.nodes (delay_of topology.now) (slots_of self.now) j }
+        ensures { result ≡ level_of (driven self.now.nodes (delay_of topology.now) (wave_at (slots_of self.now)) j t) }
+    {
+        for i in 0..self.nodes {
+            if self.drove(topology, i, j, t) {
+                return Level::Dominant;
+            }
+        }
+        Level::Recessive
+    }
+
+    /// Whether node `j` finds at tick `t` that node `i` drove dominant.
+    fn drove(&self, topology: &Topology, i: u8, j: u8, t: u64) -> bool
+        requires nodes { length topology.now.places ≡ self.now.nodes }
+        requires from { i < self.now.nodes }
+        requires to { j < self.now.nodes }
+        requires known { t < horizon (slots_of self.now) i + delay_of topology.now i j }
+        ensures { result ≡ (nat_le (delay_of topology.now i j) t && wave_at (slots_of self.now) i (t - delay_of topology.now i j)) }
+    {
+        let delay = topology.delay(i, j);
+        delay <= t && is_dominant_at(&self.edges, &self.silences, i, t - delay)
+    }
+}

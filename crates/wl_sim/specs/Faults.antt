@@ -1,0 +1,23 @@
+-- The faults of a run (this project's profile).
+use Rattle.std.specs.Prelude.{Bool, true, false}
+use Rattle.wl_record.specs.declared.fault.TextFault.{TextFault}
+use Rattle.wl_record.specs.declared.fault.TextFault.TheVariants as text
+use Rattle.wl_sim.specs.declared.fault.RunFault.{RunFault}
+use Rattle.wl_sim.specs.declared.fault.RunFault.TheVariants as run
+
+-- want of memory is that of the run, and all else the text's
+abbrev pub of_text : TextFault → RunFault
+of_text text.Memory = run.Memory
+of_text (text.Line n) = run.Text (text.Line n)
+of_text (text.Range n) = run.Text (text.Range n)
+of_text text.Truncated = run.Text text.Truncated
+of_text text.Read = run.Text text.Read
+of_text (text.TooLong n) = run.Text (text.TooLong n)
+
+-- the input is refused for what it says
+abbrev pub is_refusal : RunFault → Bool
+is_refusal (run.Text text.Read) = false
+is_refusal (run.Text text.Memory) = false
+is_refusal (run.Text fault) = true
+is_refusal run.Write = false
+is_refusal run.Memory = false

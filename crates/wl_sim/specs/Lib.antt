@@ -1,0 +1,3 @@
+pub mod Faults
+pub mod Gather
+pub mod Merge

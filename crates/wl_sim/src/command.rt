@@ -1,0 +1,66 @@
+//! The command line.
+
+use clap::error::ErrorKind;
+use clap::{Command, Error};
+use std::alloc::Global;
+use std::rt::Env;
+
+/// What the program is asked to do.
+#[derive(Clone, Copy, Debug, PartialEq, Eq)]
+pub enum Task {
+    /// The canonical text of a record text.
+    Merge,
+}
+
+/// Why no task could be read from the command line.
+#[derive(Clone, Copy, Debug, PartialEq, Eq)]
+pub enum Refusal {
+    /// The words were refused, or help was asked for; the text is on standard error.
+    Words,
+    /// Want of memory.
+    Memory,
+}
+
+/// The subcommands, each with one line of help.
+fn command<'a>(alloc: Global) -> Result<Command<'a>, Error> {
+    let merge = Command::new(alloc, "merge").about(
+        "Writes the canonical text of the records that standard input has",
+    );
+    let all = Command::new(alloc, "wl_sim")
+        .about("Simulates CAN 2.0 buses at the level of time quanta")
+        .subcommand_required(true)
+        .subcommand(merge)?;
+    Ok(all)
+}
+
+/// The task that these words name, the program's own name first.
+fn task_of(alloc: Global, words: &[String]) -> Result<Task, Error> {
+    let matches = command(alloc)?.try_get_matches_from(words)?;
+    match matches.subcommand_name() {
+        Some(_) | None => Ok(Task::Merge),
+    }
+}
+
+/// Reads the command line. A refusal's text goes to standard error, help too.
+pub fn read<R: Env + AllocGlobal + Eprint>(rt: &R) -> Result<Task, Refusal> {
+    let words: Vec<String> = match std::env::args(rt) {
+        Ok(words) => match words.collect(rt.alloc()) {
+            Ok(words) => words,
+            Err(_) => return Err(Refusal::Memory),
+        },
+        Err(_) => {
+            let _ = eprintln!(rt; "error: the arguments are no text");
+            return Err(Refusal::Words);
+        }
+    };
+    match task_of(rt.alloc(), words.as_slice()) {
+        Ok(task) => Ok(task),
+        Err(error) => {
+            if error.kind() == ErrorKind::OutOfMemory {
+                return Err(Refusal::Memory);
+            }
+            let _ = rt.eprint(error);
+            Err(Refusal::Words)
+        }
+    }
+}

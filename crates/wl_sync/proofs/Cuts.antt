@@ -1,0 +1,271 @@
+-- What a bit clock keeps, one quantum later.
+use Rattle.std.proofs.Common.{◌≡◌, ℕ, suc, ◌+◌, ◌-◌, ◌<◌, ◌≤◌, ◌∙◌, inl, inr, List, [], ◌∷◌, ◌++◌, length, Bool, true, false, cond, not, ◌&&◌, Option, Some, None, is_some, refl, sym, ap, arith, length-append, add-zero, add-one, min}
+use Rattle.std.specs.Prelude.{◌==◌, nat_lt, ◌||◌}
+use Rattle.std.proofs.Math.ListN.{get_or-append}
+use Rattle.std.proofs.Math.Seq.{get_or-append_seam}
+use Rattle.std.proofs.lemmas.Bool.{ltb-true, eqb-false, lt-ltb, le-ltb, eq-eqb, ne_eqb, and_right, and_parts, both_ways, not-true, cases_order}
+use Rattle.wl_intervals.specs.declared.Level.{Level}
+use Rattle.wl_intervals.specs.Places.{or_at, first_place, is_at}
+use Rattle.wl_intervals.proofs.FirstPlace.{first_cong, first_not, or_at_here, or_at_cond}
+use Rattle.wl_segments.specs.Lengths.{Lengths, sample_at}
+use Rattle.wl_sync.specs.Edges.{Seen, edge_counts, edge_restarts, phase_error, longer_by, shorter_by}
+use Rattle.wl_sync.specs.Bits.{Bit, unseen, seen_at, level_before, sample_before, is_edge, sync_place, sample_place, end_place, last_level, last_sample, opened, due, longer, is_sync, is_restart, placed, bit_after, bit_of, beat_at, sync_at, beat_of, sync_of}
+use Rattle.wl_sync.specs.Running.{Running, running, clock_after}
+use Rattle.wl_sync.specs.Steps.{running_due, running_sync, running_restart, running_placed, running_after, running_beat, running_answer}
+use Rattle.wl_sync.specs.declared.Sync.TheVariants.{Hard, Error}
+use Rattle.wl_sync.specs.declared.Beat.TheVariants.{Plain, Sample, Start}
+use Rattle.std.proofs.lemmas.List.Sums.{fold_push}
+
+cond_else : {A : Type 0} (b : Bool) (x y z : A) → (b ≡ false → y ≡ z) → cond b x y ≡ cond b x z
+cond_else true x y z h = refl
+cond_else false x y z h = h refl
+
+cond_then : {A : Type 0} (b : Bool) (x y z : A) → (b ≡ true → x ≡ y) → cond b x z ≡ cond b y z
+cond_then true x y z h = h refl
+cond_then false x y z h = refl
+
+cond_min : (b : Bool) (n : ℕ) → cond b (min 0 n) 0 ≡ 0
+cond_min true n = omega arith
+cond_min false n = refl
+
+none_from : (o : Option ℕ) → not (is_some o) ≡ true → o ≡ None
+none_from None h = refl
+none_from (Some k) h = cc
+
+longer_cond : (l : Lengths) (b : Bool) (n : ℕ) (o : Option ℕ) → (b ≡ true → o ≡ None)
+    → longer_by l (cond b (Some n) o) ≡ cond (b && nat_lt n (sample_at l)) (min n l.sjw) (longer_by l o)
+longer_cond l true n o h = ap (cond (nat_lt n (sample_at l)) (min n l.sjw)) (sym (ap (longer_by l) (h refl)))
+longer_cond l false n o h = refl
+
+shorter_cond : (l : Lengths) (b : Bool) (n : ℕ) (o : Option ℕ) → (b ≡ true → o ≡ None)
+    → shorter_by l (cond b (Some n) o) ≡ cond (b && nat_lt (sample_at l) n) l.sjw (shorter_by l o)
+shorter_cond l true n o h = ap (cond (nat_lt (sample_at l) n) l.sjw) (sym (ap (shorter_by l) (h refl)))
+shorter_cond l false n o h = refl
+
+some_cond : (b : Bool) (n : ℕ) (o : Option ℕ) → is_some (cond b (Some n) o) ≡ (b || is_some o)
+some_cond true n o = refl
+some_cond false n o = refl
+
+same_running : (l : Lengths) {q q' a a' s s' : ℕ} {b b' : Bool} {v v' m m' : Level}
+    → q ≡ q' → a ≡ a' → s ≡ s' → b ≡ b' → v ≡ v' → m ≡ m'
+    → ◌≡◌ {A = Running} (record { lengths = l; quanta = q; longer = a; shorter = s; synced = b; level = v; sample = m })
+    (record { lengths = l; quanta = q'; longer = a'; shorter = s'; synced = b'; level = v'; sample = m' })
+same_running l e1 e2 e3 e4 e5 e6 = cc
+
+sync_true : (l : Lengths) (bit : Bit) → bit.opening.synced ≡ true → sync_place l bit ≡ Some 0
+sync_true l bit e = ap (λ b. cond b (Some 0) (first_place (is_edge l bit) (length bit.seen))) e
+
+sync_false : (l : Lengths) (bit : Bit) → bit.opening.synced ≡ false → sync_place l bit ≡ first_place (is_edge l bit) (length bit.seen)
+sync_false l bit e = ap (λ b. cond b (Some 0) (first_place (is_edge l bit) (length bit.seen))) e
+
+module _ (l : Lengths) (bit : Bit) (x : Seen) where
+  at_new : seen_at (longer bit x) (length bit.seen) ≡ x
+  at_new = get_or-append_seam bit.seen x [] unseen
+
+  at_old : (k : ℕ) → k < length bit.seen → seen_at (longer bit x) k ≡ seen_at bit k
+  at_old k h = get_or-append bit.seen (x ∷ []) unseen k h
+
+  quanta_more : length (longer bit x).seen ≡ suc (length bit.seen)
+  quanta_more = length-append bit.seen (x ∷ []) ∙ add-one (length bit.seen)
+
+  before_old : (k : ℕ) → k ≤ length bit.seen → level_before (longer bit x) k ≡ level_before bit k
+  before_old k h =
+      cond_else (k == 0) _ _ _ (λ e. let ne : k ≡ 0 → ⊥ = eqb-false k 0 e in ap (λ s. s.level) (at_old (k - 1) (omega arith)))
+
+  sample_old : (k : ℕ) → k ≤ length bit.seen → sample_before l (longer bit x) k ≡ sample_before l bit k
+  sample_old k h =
+      cond_then (nat_lt (sample_at l) k) _ _ _ (λ e. ap (λ s. s.level) (at_old (sample_at l) (omega (arith, ltb-true (sample_at l) k e))))
+
+  edge_old : (k : ℕ) → k < length bit.seen → is_edge l (longer bit x) k ≡ is_edge l bit k
+  edge_old k h =
+      ap (λ s. edge_counts l s (level_before (longer bit x) k) (sample_before l (longer bit x) k) k) (at_old k h)
+      ∙ ap (λ b. edge_counts l (seen_at bit k) b (sample_before l (longer bit x) k) k) (before_old k (omega arith))
+      ∙ ap (λ b. edge_counts l (seen_at bit k) (level_before bit k) b k) (sample_old k (omega arith))
+
+  edge_new : is_edge l (longer bit x) (length bit.seen) ≡ edge_counts l x (last_level bit) (sample_before l bit (length bit.seen)) (length bit.seen)
+  edge_new =
+      ap (λ s. edge_counts l s (level_before (longer bit x) (length bit.seen)) (sample_before l (longer bit x) (length bit.seen)) (length bit.seen)) at_new
+      ∙ ap (λ b. edge_counts l x b (sample_before l (longer bit x) (length bit.seen)) (length bit.seen)) (before_old (length bit.seen) (omega arith))
+      ∙ ap (λ b. edge_counts l x (last_level bit) b (length bit.seen)) (sample_old (length bit.seen) (omega arith))
+
+  -- where no edge counted so far, the last sample is that before this place
+  sample_none : sync_place l bit ≡ None → last_sample l bit ≡ sample_before l bit (length bit.seen)
+  sample_none e = rw (e, add-zero)
+
+  place_free : bit.opening.synced ≡ false → sync_place l (longer bit x) ≡ or_at (sync_place l bit) (is_edge l (longer bit x) (length bit.seen)) (length bit.seen)
+  place_free e =
+      sync_false l (longer bit x) e ∙ ap (first_place (is_edge l (longer bit x))) quanta_more
+      ∙ ap (λ o. or_at o (is_edge l (longer bit x) (length bit.seen)) (length bit.seen))
+      (first_cong (is_edge l (longer bit x)) (is_edge l bit) (length bit.seen) edge_old ∙ sym (sync_false l bit e))
+
+  edge_is : (o : Option ℕ) → sync_place l bit ≡ o
+      → (is_edge l (longer bit x) (length bit.seen) && not (is_some o))
+      ≡ (edge_counts l x (last_level bit) (last_sample l bit) (length bit.seen) && not (is_some o))
+  edge_is (Some k) e = and_right _ _ refl ∙ sym (and_right _ _ refl)
+  edge_is None e = ap (λ b. b && true) (edge_new ∙ ap (λ s. edge_counts l x (last_level bit) s (length bit.seen)) (sym (sample_none e)))
+
+  -- a bit synchronises once
+  sync_once : bit.opening.synced ≡ true → running_sync (running l bit) x ≡ false
+  sync_once e = and_right _ _ (ap (λ o. not (is_some o)) (sync_true l bit e))
+
+  place_is : (b : Bool) → bit.opening.synced ≡ b
+      → sync_place l (longer bit x) ≡ cond (running_sync (running l bit) x) (Some (length bit.seen)) (sync_place l bit)
+  place_is true e =
+      sync_true l (longer bit x) e
+      ∙ sym (ap (λ b. cond b (Some (length bit.seen)) (sync_place l bit)) (sync_once e) ∙ sync_true l bit e)
+  place_is false e =
+      place_free e ∙ or_at_cond _ _ _
+      ∙ ap (λ b. cond b (Some (length bit.seen)) (sync_place l bit)) (edge_is (sync_place l bit) refl)
+
+  sync_is : (b : Bool) → bit.opening.synced ≡ b → is_sync l bit x ≡ running_sync (running l bit) x
+  sync_is true e = ap (λ b. not b && is_at (sync_place l (longer bit x)) (length bit.seen)) e ∙ sym (sync_once e)
+  sync_is false e =
+      ap (λ b. not b && is_at (sync_place l (longer bit x)) (length bit.seen)) e
+      ∙ ap (λ o. is_at o (length bit.seen)) (place_free e)
+      ∙ or_at_here (sync_place l bit) _ (length bit.seen)
+      (ap (λ o. is_at o (length bit.seen)) (sync_false l bit e) ∙ first_not (is_edge l bit) (length bit.seen) (length bit.seen) (omega arith))
+      ∙ edge_is (sync_place l bit) refl
+
+  is_sync_is : is_sync l bit x ≡ running_sync (running l bit) x
+  is_sync_is = sync_is bit.opening.synced refl
+
+  restart_is : is_restart l bit x ≡ running_restart (running l bit) x
+  restart_is = ap (λ b. b && edge_restarts l x (length bit.seen)) is_sync_is
+
+  level_new : last_level (longer bit x) ≡ x.level
+  level_new =
+      ap (level_before (longer bit x)) quanta_more
+      ∙ ap (λ b. cond b bit.opening.level (seen_at (longer bit x) (suc (length bit.seen) - 1)).level) (ne_eqb (suc (length bit.seen)) 0 (λ e. omega arith))
+      ∙ ap (λ k. (seen_at (longer bit x) k).level) (let back : suc (length bit.seen) - 1 ≡ length bit.seen = omega arith in back)
+      ∙ ap (λ s. s.level) at_new
+
+  -- the last sample after x, where the place of the sample stays
+  sample_new : (p : ℕ)
+      → cond (nat_lt p (suc (length bit.seen))) (seen_at (longer bit x) p).level bit.opening.sample
+      ≡ cond (length bit.seen == p) x.level (cond (nat_lt p (length bit.seen)) (seen_at bit p).level bit.opening.sample)
+  sample_new p = elim (cases_order (length bit.seen) p) [
+    | inl e ↦ (let at_p : seen_at (longer bit x) p ≡ x = ap (seen_at (longer bit x)) (sym e) ∙ at_new in
+        rw (lt-ltb p (suc (length bit.seen)) (omega arith), eq-eqb (length bit.seen) p e) (ap (λ s. s.level) at_p))
+    | inr h ↦ elim h [
+      | inl above ↦ rw (le-ltb p (suc (length bit.seen)) (omega arith), ne_eqb (length bit.seen) p (λ e. omega arith), le-ltb p (length bit.seen) (omega arith)) refl
+      | inr below ↦ rw (lt-ltb p (suc (length bit.seen)) (omega arith), ne_eqb (length bit.seen) p (λ e. omega arith), lt-ltb p (length bit.seen) below) (ap (λ s. s.level) (at_old p below))
+    ]
+  ]
+
+  -- and where it moves from p to q, both still to come
+  sample_moved : (p q : ℕ) → length bit.seen < p → length bit.seen < q
+      → cond (nat_lt q (suc (length bit.seen))) (seen_at (longer bit x) q).level bit.opening.sample
+      ≡ cond (length bit.seen == p) x.level (cond (nat_lt p (length bit.seen)) (seen_at bit p).level bit.opening.sample)
+  sample_moved p q n_p n_q =
+      rw (le-ltb q (suc (length bit.seen)) (omega arith), ne_eqb (length bit.seen) p (λ e. omega arith), le-ltb p (length bit.seen) (omega arith)) refl
+
+  -- an edge counts where none did before, and never at the sample
+  sync_fresh : running_sync (running l bit) x ≡ true → sync_place l bit ≡ None
+  sync_fresh h = none_from (sync_place l bit) (and_parts _ _ h).1
+
+  sync_apart : running_sync (running l bit) x ≡ true → length bit.seen ≡ sample_at l → ⊥
+  sync_apart h e =
+      let at : not (length bit.seen == sample_at l) ≡ true = (and_parts _ _ (and_parts _ _ (and_parts _ _ h).0).0).1 in
+      let here : (length bit.seen == sample_at l) ≡ true = eq-eqb (length bit.seen) (sample_at l) e in
+      both_ways (length bit.seen == sample_at l) (not-true _ at) here
+
+  sample_step : (b : Bool) → running_sync (running l bit) x ≡ b
+      → cond (nat_lt (sample_at l + longer_by l (cond b (Some (length bit.seen)) (sync_place l bit))) (suc (length bit.seen)))
+      (seen_at (longer bit x) (sample_at l + longer_by l (cond b (Some (length bit.seen)) (sync_place l bit)))).level bit.opening.sample
+      ≡ cond (length bit.seen == sample_place l bit) x.level (last_sample l bit)
+  sample_step false h = sample_new (sample_place l bit)
+  sample_step true h = elim (cases_order (length bit.seen) (sample_at l)) [
+    | inl e ↦ absurd (sync_apart h e)
+    | inr apart ↦ elim apart [
+      | inl before ↦ sample_moved (sample_place l bit) (sample_at l + longer_by l (Some (length bit.seen))) (omega arith) (omega arith)
+      | inr after ↦
+          ap (λ q. cond (nat_lt q (suc (length bit.seen))) (seen_at (longer bit x) q).level bit.opening.sample)
+          (ap (λ b. sample_at l + cond b (min (length bit.seen) l.sjw) 0) (le-ltb (length bit.seen) (sample_at l) (omega arith))
+          ∙ ap (λ o. sample_at l + longer_by l o) (sym (sync_fresh h)))
+          ∙ sample_new (sample_place l bit)
+    ]
+  ]
+
+  -- what the bit keeps after x, where x does not restart it
+  stepped : running l (longer bit x) ≡ record {
+    lengths = l;
+    quanta = length bit.seen + 1;
+    longer = cond (running_sync (running l bit) x && nat_lt (length bit.seen) (sample_at l)) (min (length bit.seen) l.sjw) (longer_by l (sync_place l bit));
+    shorter = cond (running_sync (running l bit) x && nat_lt (sample_at l) (length bit.seen)) l.sjw (shorter_by l (sync_place l bit));
+    synced = running_sync (running l bit) x || is_some (sync_place l bit);
+    level = x.level;
+    sample = cond (length bit.seen == sample_place l bit) x.level (last_sample l bit);
+  }
+  stepped =
+      same_running l (quanta_more ∙ sym (add-one (length bit.seen)))
+      (ap (longer_by l) (place_is bit.opening.synced refl) ∙ longer_cond l (running_sync (running l bit) x) (length bit.seen) (sync_place l bit) sync_fresh)
+      (ap (shorter_by l) (place_is bit.opening.synced refl) ∙ shorter_cond l (running_sync (running l bit) x) (length bit.seen) (sync_place l bit) sync_fresh)
+      (ap is_some (place_is bit.opening.synced refl) ∙ some_cond (running_sync (running l bit) x) (length bit.seen) (sync_place l bit))
+      level_new
+      (ap (λ n. cond (nat_lt (sample_place l (longer bit x)) n) (seen_at (longer bit x) (sample_place l (longer bit x))).level bit.opening.sample) quanta_more
+      ∙ ap (λ o. cond (nat_lt (sample_at l + longer_by l o) (suc (length bit.seen))) (seen_at (longer bit x) (sample_at l + longer_by l o)).level bit.opening.sample) (place_is bit.opening.synced refl)
+      ∙ sample_step (running_sync (running l bit) x) refl)
+
+  restarted : running l (longer (opened l bit true) x) ≡ record {
+    lengths = l;
+    quanta = 1;
+    longer = 0;
+    shorter = 0;
+    synced = true;
+    level = x.level;
+    sample = last_sample l bit;
+  }
+  restarted =
+      same_running l refl (cond_min (nat_lt 0 (sample_at l)) l.sjw)
+      (ap (λ b. cond b l.sjw 0) (le-ltb (sample_at l) 0 (omega arith)))
+      refl refl
+      (ap (λ b. cond b (seen_at (longer (opened l bit true) x) (sample_at l + longer_by l (Some 0))).level (last_sample l bit)) (le-ltb (sample_at l + longer_by l (Some 0)) 1 (omega arith)))
+
+  placed_at : (b : Bool) → running l (longer (cond b (opened l bit true) bit) x)
+      ≡ cond b
+      (record { lengths = l; quanta = 1; longer = 0; shorter = 0; synced = true; level = x.level; sample = last_sample l bit })
+      (record {
+        lengths = l;
+        quanta = length bit.seen + 1;
+        longer = cond (running_sync (running l bit) x && nat_lt (length bit.seen) (sample_at l)) (min (length bit.seen) l.sjw) (longer_by l (sync_place l bit));
+        shorter = cond (running_sync (running l bit) x && nat_lt (sample_at l) (length bit.seen)) l.sjw (shorter_by l (sync_place l bit));
+        synced = running_sync (running l bit) x || is_some (sync_place l bit);
+        level = x.level;
+        sample = cond (length bit.seen == sample_place l bit) x.level (last_sample l bit);
+      })
+  placed_at true = restarted
+  placed_at false = stepped
+
+  placed_is : running l (placed l bit x) ≡ running_placed (running l bit) x
+  placed_is = ap (λ b. running l (longer (cond b (opened l bit true) bit) x)) restart_is ∙ placed_at (running_restart (running l bit) x)
+
+  beat_is : beat_at l bit x ≡ running_beat (running l bit) x
+  beat_is = ap (λ r. cond (r.quanta == 1) Start (cond (length bit.seen == sample_place l bit) (Sample x.level) Plain)) placed_is
+
+  answer_is : sync_at l bit x ≡ running_answer (running l bit) x
+  answer_is = ap (λ b. cond b (Some (cond x.idle Hard (Error (phase_error l (length bit.seen))))) None) is_sync_is
+
+-- the bit that is due
+due_cond : (l : Lengths) (bit : Bit) (b : Bool)
+    → running l (cond b (opened l bit false) bit)
+    ≡ cond b (record { lengths = l; quanta = 0; longer = 0; shorter = 0; synced = false; level = last_level bit; sample = last_sample l bit }) (running l bit)
+due_cond l bit true =
+    same_running l refl refl refl refl refl
+    (ap (λ b. cond b (seen_at (opened l bit false) (sample_at l + 0)).level (last_sample l bit)) (le-ltb (sample_at l + 0) 0 (omega arith)))
+due_cond l bit false = refl
+
+due_is : (l : Lengths) (bit : Bit) → running l (due l bit) ≡ running_due (running l bit)
+due_is l bit = due_cond l bit (length bit.seen == end_place l bit)
+
+-- the clock, one quantum later
+pub clock_next : (l : Lengths) (past : List Seen) (x : Seen) → clock_after l (past ++ x ∷ []) ≡ running_after (clock_after l past) x
+clock_next l past x =
+    ap (running l) (fold_push (bit_after l) _ past x)
+    ∙ placed_is l (due l (bit_of l past)) x
+    ∙ ap (λ r. running_placed r x) (due_is l (bit_of l past))
+
+pub beat_next : (l : Lengths) (past : List Seen) (x : Seen) → beat_of l past x ≡ running_beat (running_due (clock_after l past)) x
+beat_next l past x = beat_is l (due l (bit_of l past)) x ∙ ap (λ r. running_beat r x) (due_is l (bit_of l past))
+
+pub sync_next : (l : Lengths) (past : List Seen) (x : Seen) → sync_of l past x ≡ running_answer (running_due (clock_after l past)) x
+sync_next l past x = answer_is l (due l (bit_of l past)) x ∙ ap (λ r. running_answer r x) (due_is l (bit_of l past))

@@ -1,0 +1,3 @@
+mod Rows
+pub mod Cuts
+pub mod Remembered

@@ -1,0 +1,4 @@
+pub mod Edges
+pub mod Bits
+pub mod Running
+pub mod Steps

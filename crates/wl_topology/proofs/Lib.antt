@@ -1,0 +1,7 @@
+pub mod Driven
+mod Pairs
+mod Nearest
+mod Kept
+mod Equal
+mod Accepted
+mod Rows
