@@ -70,19 +70,19 @@ begins_once bytes r q rest more h g =
     (fields_once g.0 (numbers_of r) (numbers_of q) rest more (same_numbers r q letters) (subst (λ z. FieldsThen z (numbers_of r) rest) tails h.2) g.2).1
 
 -- ---- capped numbers
-capped_small : (n m : ℕ) → capped n < m → m < 2 ^ 60 → capped n ≡ n
+capped_small : (n m : ℕ) → capped n < m → m < 2 ^ 59 → capped n ≡ n
 capped_small n m h small = omega (arith, h, small)
 
-small_capped : (n m : ℕ) → n < m → m < 2 ^ 60 → capped n ≡ n
+small_capped : (n m : ℕ) → n < m → m < 2 ^ 59 → capped n ≡ n
 small_capped n m h small = omega (arith, h, small)
 
-node_limit : most_nodes < 2 ^ 60
+node_limit : most_nodes < 2 ^ 59
 node_limit = omega (arith, most_nodes-is)
 
-edge_limit : most_edges + 1 < 2 ^ 60
+edge_limit : most_edges + 1 < 2 ^ 59
 edge_limit = omega (arith, most_edges-is)
 
-tick_limit : tick_end < 2 ^ 60
+tick_limit : tick_end < 2 ^ 59
 tick_limit = omega (arith, tick_end-is)
 
 -- ---- a record of each letter

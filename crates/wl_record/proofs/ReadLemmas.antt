@@ -198,7 +198,7 @@ module _ {S : Type 0} (gives : S → Answer → S → Type 0) where
             few = omega (arith, length-append answers (moved came ∷ []), h.calls);
           } in
           elim is [
-            | inl e ↦ subst (λ f. FaultOf gives s f u) (sym e) (moved_bytes answers ++ came, going_on, (_, read))
+            | inl e ↦ subst (λ f. FaultOf gives s f u) (sym e) (moved_bytes answers ++ came, (_, read))
             | inr (rs, stop, at, e) ↦ subst (λ f. FaultOf gives s f u) (sym e)
                 (stop_of_text gives s u (moved_bytes answers ++ came) _ stop _ read
                 (stop_is_fault (moved_bytes answers) told p.begun came past bytes _ rs stop h.stands at (omega (arith, length-append (moved_bytes answers) came, h.bytes, eb)) full fits (omega (arith, length-append told rs, h.lines))))

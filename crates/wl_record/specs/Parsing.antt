@@ -1,5 +1,5 @@
 -- Parts of lines, as the functions that read them say (this project's profile).
-use Rattle.std.specs.Prelude.{◌≡◌, ◌≢◌, ℕ, ◌+◌, ◌-◌, ◌^◌, ◌≤◌, List, [], ◌∷◌, ◌++◌, length, min, Option, MatchOption, Bool, true, false, if◌then◌else◌, ◌⊎◌}
+use Rattle.std.specs.Prelude.{◌≡◌, ◌≢◌, ℕ, ◌+◌, ◌≤◌, List, [], ◌∷◌, ◌++◌, length, min, Option, MatchOption, Bool, true, false, if◌then◌else◌, ◌⊎◌}
 use Rattle.std.specs.List.{AllByRecursion}
 use Rattle.std.specs.Char.{digit_value}
 use Rattle.std.specs.Str.Parse.{AllDigits, digits_value}
@@ -20,9 +20,9 @@ abbrev pub Stops : List ℕ → Type 0
 Stops [] = Unit {0}
 Stops (b ∷ bytes) = 10 ≤ digit_value b
 
--- a number as 64 bits hold it: exactly, or as the greatest where it is greater
+-- a number as it is read: exactly, or as this limit where it is greater
 abbrev pub capped : ℕ → ℕ
-capped n = min n (2 ^ 64 - 1)
+capped n = min n 1000000000000000000
 
 -- the digits at the front, and what follows them
 pub record IsDigits (bytes : List ℕ) (value : ℕ) (rest : List ℕ) : Type 0 where

@@ -39,7 +39,7 @@ RecordsOf gives s rs t = (text : List ℕ) × Reads gives s text at_end t × IsT
 
 -- the fault is the first one of what the reader gave; want of memory comes while it goes on
 abbrev pub FaultOf : {S : Type 0} → (S → Answer → S → Type 0) → S → TextFault → S → Type 0
-FaultOf gives s Memory t = (text : List ℕ) × (e : Ending) × Reads gives s text e t
+FaultOf gives s Memory t = (text : List ℕ) × Reads gives s text going_on t
 FaultOf gives s fault t = (text : List ℕ) × (e : Ending) × Reads gives s text e t × IsFirstFault text e fault
 
 -- what a reading by pieces keeps between its steps: the calls, bytes and lines so far, and the part of a line

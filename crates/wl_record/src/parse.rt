@@ -28,6 +28,9 @@ pub enum Stop {
 
 ghost use Rattle.wl_record.specs.Parsing.{IsDigits, IsField, FieldsThen, capped};
 
+/// More than any number that is within. Greater numbers in a text are told as this one.
+const CAP: u64 = 1_000_000_000_000_000_000;
+
 fn is_digit(byte: u8) -> bool
     ensures { IsTrue result ↔ (digit_value byte < 10) }
 {
@@ -41,12 +44,12 @@ fn digits(bytes: &[u8]) -> (u64, &[u8])
     let mut value: u64 = 0;
     let mut at = 0;
     while at < bytes.len() && is_digit(bytes[at]) {
-        value = value
-            .saturating_mul(10)
-            .saturating_add(u64::from(bytes[at] - b'0'));
+        if value < CAP {
+            value = value * 10 + u64::from(bytes[at] - b'0');
+        }
         at += 1;
     }
-    (value, &bytes[at..])
+    (value.min(CAP), &bytes[at..])
 }
 
 /// A space and a number at the front: the number, and what follows it.

@@ -21,3 +21,4 @@ mod WalkLemmas
 mod PromiseLemmas
 mod WaveLemmas
 mod PlaceLemmas
+mod BatchLemmas

@@ -158,13 +158,13 @@ joined_edge_held k v w p q = tells_edge.over v w ∙ ap (λ b. b || holds_edge w
 joined_silence_held : (k : Key) (v w : MaxWord) → holds_silence v ≡ true → holds_silence w ≡ true → holds_silence (joined_max v w) ≡ true
 joined_silence_held k v w p q = tells_silence.over v w ∙ ap (λ b. b || holds_silence w) p
 
-edge_words_held : (rs : List Record) → AllByRecursion (IsHeld holds_edge) (filter_map edge_word rs)
+pub edge_words_held : (rs : List Record) → AllByRecursion (IsHeld holds_edge) (filter_map edge_word rs)
 edge_words_held [] = tt
 edge_words_held (Edge i s t ∷ rs) = (refl, edge_words_held rs)
 edge_words_held (Clash i s ∷ rs) = (refl, edge_words_held rs)
 edge_words_held (Silence i c u ∷ rs) = edge_words_held rs
 
-silence_words_held : (rs : List Record) → AllByRecursion (IsHeld holds_silence) (filter_map silence_word rs)
+pub silence_words_held : (rs : List Record) → AllByRecursion (IsHeld holds_silence) (filter_map silence_word rs)
 silence_words_held [] = tt
 silence_words_held (Edge i s t ∷ rs) = silence_words_held rs
 silence_words_held (Clash i s ∷ rs) = silence_words_held rs

@@ -75,7 +75,7 @@ module _ {W : Type 0} {is_word : W → Type 0} {least : W} {join : W → W → W
   seen_both false true v w p q = ap (λ c. cond c (Some (join v w)) None) (tells.over v w ∙ (λ i. p i || q i)) ∙ ap Some (ap (λ x. join x w) (tells.empty v p) ∙ tells.left w)
   seen_both false false v w p q = ap (λ c. cond c (Some (join v w)) None) (tells.over v w ∙ (λ i. p i || q i))
 
-  seen-join : (v w : W) → seen (join v w) ≡ joined_options join (seen v) (seen w)
+  pub seen-join : (v w : W) → seen (join v w) ≡ joined_options join (seen v) (seen w)
   seen-join v w = seen_both (holds v) (holds w) v w refl refl
 
   nothing_below : (x q : Key) (es : List (Key × W)) (v : W) → key_cmp q x ≡ Equal → AllByRecursion (λ y. key_cmp x y ≡ Less) (keys_of es) → (lookup (eq_by_cmp key_cmp q) es ≡ None) × (joined_all join v es q ≡ v)

@@ -190,13 +190,13 @@ module _ (nodes : ℕ) where
     | inr e ↦ subst (λ n. 0 < n → Fits nodes (Silence k.0 k.1 n)) (sym e) q
   ]
 
-  edge_words_fit : (rs : List Record) → AllByRecursion (Fits nodes) rs → AllByRecursion (FitsEdge nodes) (filter_map edge_word rs)
+  pub edge_words_fit : (rs : List Record) → AllByRecursion (Fits nodes) rs → AllByRecursion (FitsEdge nodes) (filter_map edge_word rs)
   edge_words_fit [] h = tt
   edge_words_fit (Edge i s t ∷ rs) h = (h.0, edge_words_fit rs h.1)
   edge_words_fit (Clash i s ∷ rs) h = (h.0, edge_words_fit rs h.1)
   edge_words_fit (Silence i c u ∷ rs) h = edge_words_fit rs h.1
 
-  silence_words_fit : (rs : List Record) → AllByRecursion (Fits nodes) rs → AllByRecursion (FitsSilence nodes) (filter_map silence_word rs)
+  pub silence_words_fit : (rs : List Record) → AllByRecursion (Fits nodes) rs → AllByRecursion (FitsSilence nodes) (filter_map silence_word rs)
   silence_words_fit [] h = tt
   silence_words_fit (Edge i s t ∷ rs) h = silence_words_fit rs h.1
   silence_words_fit (Clash i s ∷ rs) h = silence_words_fit rs h.1

@@ -1,5 +1,5 @@
 -- A walk over the entries of one node, in the order of their numbers.
-use Rattle.std.proofs.Common.{◌≡◌, ℕ, zero, suc, ◌+◌, ◌<◌, ◌≤◌, Bool, true, false, cond, inl, inr, List, [], ◌∷◌, None, Some, unwrap_or, refl, sym, ◌∙◌, ap, subst, arith, nat_lt, nat_le}
+use Rattle.std.proofs.Common.{◌≡◌, ℕ, zero, suc, ◌+◌, ◌<◌, ◌≤◌, ◌==◌, Bool, true, false, cond, inl, inr, List, [], ◌∷◌, None, Some, unwrap_or, refl, sym, ◌∙◌, ap, subst, arith, nat_lt, nat_le}
 use Rattle.std.specs.Prelude.{filter}
 use Rattle.std.specs.List.{AllByRecursion}
 use Rattle.std.specs.List.Sorted.{IsStrictlySortedBy}
@@ -14,6 +14,7 @@ use Rattle.std.proofs.lemmas.Map.Entries.{lookup-filter-keys}
 use Rattle.wl_lattice.specs.declared.FlatWord.{FlatWord}
 use Rattle.wl_lattice.specs.declared.FlatWord.TheVariants as flat
 use Rattle.wl_replica.specs.Keys.{Key, key_cmp}
+use Rattle.wl_replica.specs.Canonical.{of_node}
 use Rattle.wl_replica.specs.Kept.{edges_in}
 use Rattle.wl_replica.specs.Known.{is_tick, tick_in, goes_on, is_run, greatest, after_edges}
 use Rattle.wl_replica.proofs.KeptLemmas.{found}
@@ -163,6 +164,17 @@ module _ {W : Type 0} where
   -- the entries of the range, at the node's numbers, are those of the map
   pub found_range : (node n : ℕ) (es : List (Key × W)) → found (entries_between key_cmp (Included (node, 0)) (Excluded (node + 1, 0)) es) (node, n) ≡ found es (node, n)
   found_range node n es = lookup-filter-keys (is_at (key_cmp (node, n))) (range_contains key_cmp (Included (node, 0)) (Excluded (node + 1, 0))) true (range_has node n) es
+
+-- the range of a node has its entries
+same_test : {W : Type 0} (p q : Key → Bool) → ((k : Key) → p k ≡ q k) → (es : List (Key × W)) → filter (λ f. p f.0) es ≡ filter (λ f. q f.0) es
+same_test p q h [] = refl
+same_test p q h (e ∷ es) = λ i. cond (h e.0 i) (e ∷ same_test p q h es i) (same_test p q h es i)
+
+node_is : (node : ℕ) (k : Key) → range_contains key_cmp (Included (node, 0)) (Excluded (node + 1, 0)) k ≡ (k.0 == node)
+node_is node k = grind (arith, nat_tests)
+
+pub of_node_range : {W : Type 0} (node : ℕ) (es : List (Key × W)) → entries_between key_cmp (Included (node, 0)) (Excluded (node + 1, 0)) es ≡ of_node node es
+of_node_range node es = same_test (range_contains key_cmp (Included (node, 0)) (Excluded (node + 1, 0))) (λ k. k.0 == node) (node_is node) es
 
 -- What is left of a walk that has come to number m: of the edges e of a node, entries in order from m on.
 pub record IsLeft (e : ℕ → FlatWord) (node m : ℕ) (es : List (Key × FlatWord)) : Type 0 where

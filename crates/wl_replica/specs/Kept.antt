@@ -8,6 +8,8 @@ use Rattle.wl_lattice.specs.declared.FlatWord.{FlatWord}
 use Rattle.wl_lattice.specs.declared.FlatWord.TheVariants as flat
 use Rattle.wl_lattice.specs.declared.MaxWord.{MaxWord}
 use Rattle.wl_lattice.specs.Words.{max_word}
+use Rattle.wl_record.specs.declared.record.Record.{Record}
+use Rattle.wl_record.specs.declared.record.Record.TheVariants.{Edge, Clash, Silence}
 use Rattle.wl_record.specs.Limits.{most_edges, tick_end}
 use Rattle.wl_replica.specs.Keys.{Key, key_cmp}
 use Rattle.wl_replica.specs.State.{FitsEdge, FitsSilence}
@@ -57,3 +59,23 @@ pub record AreKept (nodes : ℕ) (edges : BTreeMap Key FlatWord) (silences : BTr
 -- each tick that a map holds is one that a record can have
 abbrev pub TicksAreWithin : BTreeMap Key FlatWord → Type 0
 TicksAreWithin edges = (k : Key) (t : ℕ) → word_in flat.Nothing edges k ≡ flat.Value t → (k.1 < most_edges) × (t < tick_end)
+
+-- no word is another, and no key is gone
+pub record SameWords {W : Type 0} (least : W) (old new : BTreeMap Key W) : Type 0 where
+  pub words : (q : Key) → word_in least new q ≡ word_in least old q
+  pub stay : (q : Key) → IsSome (get key_cmp old q) → IsSome (get key_cmp new q)
+
+-- the words that entries have are joined in, and no key is gone
+pub record JoinsIn {W : Type 0} (least : W) (join : W → W → W) (old new : BTreeMap Key W) (es : List (Key × W)) : Type 0 where
+  pub words : (q : Key) → word_in least new q ≡ joined_all join (word_in least old q) es q
+  pub stay : (q : Key) → IsSome (get key_cmp old q) → IsSome (get key_cmp new q)
+
+-- the maps have a key for what a record tells
+abbrev pub HasSlot : BTreeMap Key FlatWord → BTreeMap Key MaxWord → Record → Type 0
+HasSlot edges silences (Edge node seq tick) = IsSome (get key_cmp edges (node, seq))
+HasSlot edges silences (Clash node seq) = IsSome (get key_cmp edges (node, seq))
+HasSlot edges silences (Silence node count until) = IsSome (get key_cmp silences (node, count))
+
+-- and for what each record tells
+abbrev pub HasSlots : BTreeMap Key FlatWord → BTreeMap Key MaxWord → List Record → Type 0
+HasSlots edges silences rs = AllByRecursion (HasSlot edges silences) rs

@@ -2,6 +2,7 @@
 //! took the same records are equal, in whatever order and however often they came.
 #![tactic(auto)]
 
+mod batch;
 mod kept;
 mod known;
 mod laws;

@@ -1,6 +1,7 @@
 // A replica: what is known of all nodes.
 ghost use Rattle.std.specs.Prelude.{◌≡◌, ◌↔◌, ℕ, IsTrue, IfOk, OnOk, OnErr};
 
+use crate::batch::{join_slots, make_slots};
 use crate::kept::{join_in, make_room, raise};
 use crate::known::known_laws;
 use crate::listed::{push_edges, push_silences};
@@ -55,7 +56,7 @@ impl Replica {
     ghost use Rattle.wl_replica.specs.Words.{word_at};
     ghost use Rattle.std.specs.Prelude.{List, [], ◌∷◌, ◌++◌, All};
     ghost use Rattle.wl_record.specs.declared.record.Record.{Record};
-    ghost use Rattle.wl_record.specs.Truth.{IsIncreasing, IsTrueOf};
+    ghost use Rattle.wl_record.specs.Truth.{IsIncreasing, IsTrueOf, AreTrueOf};
     ghost use Rattle.wl_replica.specs.State.{slots_of};
     ghost use Rattle.wl_replica.specs.Slots.{HoldsTrue};
     ghost use Rattle.wl_replica.specs.SlotsOf.{NoHorizonFalls};
@@ -115,6 +116,24 @@ impl Replica {
                 raise(&mut self.silences, (node, count), &MaxWord { word: until })?
             }
         }
+        Ok(())
+    }
+
+    /// Takes each of the records, or none of them: refused where memory is wanted, and the replica
+    /// is then as it was.
+    pub fn take_all(&mut self, told: &[Record]) -> Result<(), AllocError>
+        requires { All (Fits self.old.nodes) told.now }
+        ensures ok { OnOk result (self.new ≡ taken_all self.old told.now) }
+        // What took some records, and takes these, took all of them.
+        ensures after { OnOk result ((before : List Record) → self.old ≡ state_of self.old.nodes before
+            → self.new ≡ state_of self.old.nodes (before ++ told.now)) }
+        ensures err { OnErr result (self.new ≡ self.old) }
+        ensures keeps { OnOk result ((table : ℕ → List ℕ) → ((i : ℕ) → IsIncreasing (table i))
+            → HoldsTrue self.old.nodes table (slots_of self.old) → AreTrueOf self.old.nodes table told.now → NoHorizonFalls self.old self.new) }
+    {
+        known_laws();
+        make_slots(&mut self.edges, &mut self.silences, told)?;
+        join_slots(&mut self.edges, &mut self.silences, told);
         Ok(())
     }
 

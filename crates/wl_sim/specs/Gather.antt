@@ -23,5 +23,6 @@ module _ {S : Type 0} (gives : S → Answer → S → Type 0) (s s' : S) where
   abbrev pub Gathers : Result State RunFault → Type 0
   Gathers (Ok state) = (rs : List Record) × RecordsOf gives s rs s' × (state ≡ state_of_all rs)
   Gathers (Err (run.Text fault)) = RefusesText fault
+  Gathers (Err (run.Setup fault)) = ⊥
   Gathers (Err run.Write) = ⊥
   Gathers (Err run.Memory) = Unit {0}

@@ -10,7 +10,7 @@ use Rattle.wl_record.specs.Text.{text_of}
 use Rattle.wl_record.specs.Reading.{RecordsOf}
 use Rattle.wl_replica.specs.Canonical.{canonical}
 use Rattle.wl_sim.specs.declared.fault.RunFault.{RunFault}
-use Rattle.wl_sim.specs.declared.fault.RunFault.TheVariants.{Text, Write, Memory}
+use Rattle.wl_sim.specs.declared.fault.RunFault.TheVariants.{Text, Setup, Write, Memory}
 use Rattle.wl_sim.specs.Gather.{state_of_all, RefusesText}
 
 -- the canonical records of some records, and their text
@@ -28,6 +28,7 @@ module _ {S T : Type 0} (gives : S → Answer → S → Type 0) (takes : T → A
   -- what a run of merge did; where it wrote nothing, the writer wasn't called
   abbrev pub Merges : Result (Unit {0}) RunFault → Type 0
   Merges (Ok u) = WritesMerged (Ok tt)
+  Merges (Err (Setup fault)) = ⊥
   Merges (Err Write) = (fault : WriteFault) × WritesMerged (Err fault)
   Merges (Err (Text fault)) = RefusesText gives s s' fault × (t' ≡ t)
   Merges (Err Memory) = t' ≡ t

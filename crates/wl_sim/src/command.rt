@@ -10,6 +10,10 @@ use std::rt::Env;
 pub enum Task {
     /// The canonical text of a record text.
     Merge,
+    /// What a record text tells of each node, and up to when.
+    Horizon,
+    /// The settings of a plan's nodes.
+    Check,
 }
 
 /// Why no task could be read from the command line.
@@ -26,10 +30,18 @@ fn command<'a>(alloc: Global) -> Result<Command<'a>, Error> {
     let merge = Command::new(alloc, "merge").about(
         "Writes the canonical text of the records that standard input has",
     );
+    let horizon = Command::new(alloc, "horizon").about(
+        "Writes what the records tell of each node, and up to which tick",
+    );
+    let check = Command::new(alloc, "check").about(
+        "Tests the clocks and bit segments of the plan's nodes, and writes what they allow",
+    );
     let all = Command::new(alloc, "wl_sim")
         .about("Simulates CAN 2.0 buses at the level of time quanta")
         .subcommand_required(true)
-        .subcommand(merge)?;
+        .subcommand(merge)?
+        .subcommand(horizon)?
+        .subcommand(check)?;
     Ok(all)
 }
 
@@ -37,6 +49,8 @@ fn command<'a>(alloc: Global) -> Result<Command<'a>, Error> {
 fn task_of(alloc: Global, words: &[String]) -> Result<Task, Error> {
     let matches = command(alloc)?.try_get_matches_from(words)?;
     match matches.subcommand_name() {
+        Some("horizon") => Ok(Task::Horizon),
+        Some("check") => Ok(Task::Check),
         Some(_) | None => Ok(Task::Merge),
     }
 }

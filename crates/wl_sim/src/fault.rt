@@ -3,13 +3,17 @@
 use std::alloc::AllocError;
 use thiserror::Error;
 use wl_record::{TextFault, WriteFault};
+use wl_setup::SetupFault;
 
 /// Why a run ended early. Each is shown as the fault that was met; what wraps it isn't shown.
-#[derive(Clone, Copy, Debug, PartialEq, Eq, Error)]
+#[derive(Debug, Drop, Error)]
 pub enum RunFault {
     /// The record text was refused, or its reader failed; nothing was written.
     #[error("{0}")]
     Text(TextFault),
+    /// The plan text was refused, or its reader failed; nothing was written.
+    #[error("{0}")]
+    Setup(SetupFault),
     /// The writer failed; a front of the output may stand written.
     #[error("Write")]
     Write,
@@ -29,6 +33,8 @@ impl RunFault {
         match self {
             RunFault::Text(TextFault::Read) | RunFault::Text(TextFault::Memory) => false,
             RunFault::Text(_) => true,
+            RunFault::Setup(SetupFault::Read) | RunFault::Setup(SetupFault::Memory) => false,
+            RunFault::Setup(_) => true,
             RunFault::Write | RunFault::Memory => false,
         }
     }
@@ -44,6 +50,20 @@ impl From<TextFault> for RunFault {
         match fault {
             TextFault::Memory => RunFault::Memory,
             other => RunFault::Text(other),
+        }
+    }
+}
+
+impl From<SetupFault> for RunFault {
+    ghost use Rattle.std.specs.Prelude.{◌≡◌};
+    ghost use Rattle.wl_sim.specs.Faults.{of_setup};
+
+    ghost from_gives = { λ fault given. given ≡ of_setup fault };
+
+    fn from(fault: SetupFault) -> RunFault {
+        match fault {
+            SetupFault::Memory => RunFault::Memory,
+            other => RunFault::Setup(other),
         }
     }
 }

@@ -1,20 +1,29 @@
 //! `wl_sim`: the program of Wireline.
 //!
 //! It reads one input from standard input, does what its one subcommand says, and writes the answer to standard
-//! output. `merge` reads a record text and writes the canonical text of the replica that its records make.
+//! output. `merge` and `horizon` read a record text: the one writes the canonical text of the replica that its records make, the
+//! other what that replica tells of each node, and up to when. `check` reads a plan text, tests the clock and the bit segments of each
+//! node, and writes what they allow.
 #![tactic(auto)]
 
+use std::alloc::Global;
 use std::process::ExitCode;
-use wl_record::Host;
+use wl_record::{Host, Sink, Source};
 
+mod check;
 mod command;
 mod fault;
 mod gather;
+mod horizon;
 mod merge;
+#[cfg(test)]
+mod tests;
 
+pub use check::check_run;
 pub use command::Task;
 pub use fault::RunFault;
-pub use merge::merge_run;
+pub use horizon::horizon_run;
+pub use merge::{merge_run, merges_as_one};
 
 /// The statuses that the program ends with beside 0.
 const REFUSED_INPUT: u8 = 1;
@@ -32,10 +41,22 @@ fn main(rt: HostRuntime) -> ExitCode {
     };
     let mut reader = Host::new(rt.stdin());
     let mut writer = Host::new(rt.stdout());
-    let answer = match task {
-        Task::Merge => merge_run(rt.alloc(), &mut reader, &mut writer),
-    };
+    let answer = run(rt.alloc(), task, &mut reader, &mut writer);
     ended(&rt, answer)
+}
+
+/// Runs the engine of a task.
+fn run<R: Source, W: Sink>(
+    alloc: Global,
+    task: Task,
+    reader: &mut R,
+    writer: &mut W,
+) -> Result<(), RunFault> {
+    match task {
+        Task::Merge => merge_run(alloc, reader, writer),
+        Task::Horizon => horizon_run(alloc, reader, writer),
+        Task::Check => check_run(alloc, reader, writer),
+    }
 }
 
 /// The status of a run; a fault is said on standard error, in one line.

@@ -7,9 +7,6 @@ use crate::gather::gather;
 use std::alloc::Global;
 use wl_record::{Sink, Source, text_of, write_all};
 
-#[cfg(test)]
-mod tests;
-
 /// Reads a record text and writes the canonical text of the replica that its records make, and nothing else.
 ///
 /// The whole output stands before the first write. Where the input is refused, or memory is wanted, the writer isn't called;

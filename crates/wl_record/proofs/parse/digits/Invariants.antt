@@ -7,7 +7,7 @@ abbrev pub invariant-loop-at : goal.invariant-loop-at
 invariant-loop-at l = record {
   within : l.at ≤ length l.bytes;
   digits : AllDigits 10 (take l.at l.bytes);
-  value_is : l.value ≡ capped (digits_value 10 (take l.at l.bytes));
+  value_is : capped l.value ≡ capped (digits_value 10 (take l.at l.bytes));
 }
 
 abbrev pub decreases-loop-at : goal.decreases-loop-at

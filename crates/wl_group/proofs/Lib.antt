@@ -1,0 +1,3 @@
+mod AdvanceProofs
+mod GroupProofs
+mod Rows

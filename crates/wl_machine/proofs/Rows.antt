@@ -1,0 +1,193 @@
+-- Worked examples of the machine, by computation.
+use Rattle.std.proofs.Common.{◌≡◌, ℕ, zero, suc, ◌-◌, List, [], ◌∷◌, ◌++◌, false, Option, Some, None, refl, replicate}
+use Rattle.wl_intervals.specs.declared.Level.{Level}
+use Rattle.wl_intervals.specs.declared.Level.TheVariants.{Dominant, Recessive}
+use Rattle.wl_confine.specs.declared.ErrorKind.TheVariants.{Stuff, Ack, Crc}
+use Rattle.wl_confine.specs.declared.Mode.TheVariants.{Active}
+use Rattle.wl_confine.specs.declared.Happened.{Happened}
+use Rattle.wl_confine.specs.declared.Happened.TheVariants as happens
+use Rattle.wl_frame.specs.Grammar.{Content, bits_of, number_bits}
+use Rattle.wl_machine.specs.declared.state.Role.{Role}
+use Rattle.wl_machine.specs.declared.state.Role.TheVariants.{Tx, Rx}
+use Rattle.wl_machine.specs.Stretch.{Stretch, Sampled, Input, Ended}
+use Rattle.wl_machine.specs.Stretch.Sort.{Integration}
+use Rattle.wl_machine.specs.Stretch.Ended.{Sent, Received}
+use Rattle.wl_machine.specs.Stretch.Input.{Sample}
+use Rattle.wl_machine.specs.Judged.{judged, stretch_of, stretch_after, drive_of, role_of}
+
+abbrev heard : Level → Sampled
+heard level = record { level = level; head = None; mode = Active }
+
+abbrev all : ℕ → Level → List Input
+all n level = replicate n (Sample (heard level))
+
+-- what happens at a dominant sample after n recessive and m dominant ones
+abbrev stuck : ℕ → ℕ → Happened
+stuck n m = (judged (stretch_of (all n Recessive ++ all m Dominant)) (heard Dominant)).happened
+
+-- eleven recessive samples, and dominant for ever: a stuff error at 17
+before_stuff : stuck 11 4 ≡ happens.Nothing
+unfolding bits_of number_bits
+before_stuff = refl
+
+stuff_error : stuck 11 5 ≡ happens.RxError Stuff
+unfolding bits_of number_bits
+stuff_error = refl
+
+-- six flag bits, and a dominant sample behind them
+in_flag : stuck 11 11 ≡ happens.Nothing
+unfolding bits_of number_bits
+in_flag = refl
+
+after_flag : stuck 11 12 ≡ happens.RxAfterFlag
+unfolding bits_of number_bits
+after_flag = refl
+
+-- the 14th dominant sample since the flag began, and each eighth
+long : stuck 11 19 ≡ happens.RxLong
+unfolding bits_of number_bits
+long = refl
+
+long_again : stuck 11 27 ≡ happens.RxLong
+unfolding bits_of number_bits
+long_again = refl
+
+between : stuck 11 26 ≡ happens.Nothing
+unfolding bits_of number_bits
+between = refl
+
+-- one sample of a machine alone on its wire
+abbrev alone : Option Content → Stretch → Stretch
+alone head s = stretch_after s (Sample (record { level = drive_of s; head = head; mode = Active }))
+
+abbrev alone_after : Option Content → ℕ → Stretch
+alone_after head zero = record { sort = Integration; own = [] }
+alone_after head (suc n) = alone head (alone_after head n)
+
+abbrev zero_frame : Option Content
+zero_frame = Some (record { id = 0; remote = false; dlc = 0; bytes = [] })
+
+abbrev happens_alone : ℕ → Happened
+happens_alone n =
+    let s = alone_after zero_frame n in
+    (judged s (record { level = drive_of s; head = zero_frame; mode = Active })).happened
+
+early : happens_alone 20 ≡ happens.Nothing
+unfolding bits_of number_bits
+early = refl
+
+-- nobody acknowledges: an error of the acknowledgement at sample 53
+ack : happens_alone 52 ≡ happens.TxError Ack
+unfolding bits_of number_bits
+ack = refl
+
+again : happens_alone 111 ≡ happens.TxError Ack
+unfolding bits_of number_bits
+again = refl
+
+-- two machines on one wire, each with its head
+record Pair : Type 0 where
+  first : Stretch
+  second : Stretch
+  first_head : Option Content
+  second_head : Option Content
+
+abbrev wire : Level → Level → Level
+wire Dominant b = Dominant
+wire Recessive b = b
+
+abbrev level_on : Pair → Level
+level_on p = wire (drive_of p.first) (drive_of p.second)
+
+abbrev sampled_by : Pair → Option Content → Sampled
+sampled_by p head = record { level = level_on p; head = head; mode = Active }
+
+-- a frame that is sent is no longer the head
+abbrev head_after : Ended → Option Content → Option Content
+head_after (Sent frame) head = None
+head_after done head = head
+
+abbrev stepped : Pair → Level → Pair
+stepped p level =
+    let x : Sampled = record { level = level; head = p.first_head; mode = Active } in
+    let y : Sampled = record { level = level; head = p.second_head; mode = Active } in
+    record {
+      first = stretch_after p.first (Sample x);
+      second = stretch_after p.second (Sample y);
+      first_head = head_after (judged p.first x).ended p.first_head;
+      second_head = head_after (judged p.second y).ended p.second_head;
+    }
+
+abbrev pair_after : Option Content → Option Content → ℕ → Pair
+pair_after a b zero = record { first = record { sort = Integration; own = [] }; second = record { sort = Integration; own = [] }; first_head = a; second_head = b }
+pair_after a b (suc n) = let p = pair_after a b n in stepped p (level_on p)
+
+abbrev base : ℕ → Content
+base id = record { id = id; remote = false; dlc = 0; bytes = [] }
+
+-- what is done at sample n, counted from 1, by the first and by the second
+abbrev first_done : Option Content → Option Content → ℕ → Ended
+first_done a b n = let p = pair_after a b (n - 1) in (judged p.first (sampled_by p p.first_head)).ended
+
+abbrev second_done : Option Content → Option Content → ℕ → Ended
+second_done a b n = let p = pair_after a b (n - 1) in (judged p.second (sampled_by p p.second_head)).ended
+
+received_58 : second_done (Some (base 256)) (Some (base 257)) 58 ≡ Received (base 256)
+unfolding bits_of number_bits
+received_58 = refl
+
+sent_59 : first_done (Some (base 256)) (Some (base 257)) 59 ≡ Sent (base 256)
+unfolding bits_of number_bits
+sent_59 = refl
+
+received_107 : first_done (Some (base 256)) (Some (base 257)) 107 ≡ Received (base 257)
+unfolding bits_of number_bits
+received_107 = refl
+
+sent_108 : second_done (Some (base 256)) (Some (base 257)) 108 ≡ Sent (base 257)
+unfolding bits_of number_bits
+sent_108 = refl
+
+received_60 : second_done (Some (base 0)) None 60 ≡ Received (base 0)
+unfolding bits_of number_bits
+received_60 = refl
+
+sent_61 : first_done (Some (base 0)) None 61 ≡ Sent (base 0)
+unfolding bits_of number_bits
+sent_61 = refl
+
+-- the receiver acknowledges at 53
+acked_53 : (let p = pair_after (Some (base 0)) None 52 in (judged p.second (sampled_by p p.second_head)).happened) ≡ happens.Acked
+unfolding bits_of number_bits
+acked_53 = refl
+
+-- the greater identifier is a transmitter up to sample 23, and loses at 24
+abbrev second_role : ℕ → Role
+second_role n = role_of (pair_after (Some (base 256)) (Some (base 257)) n).second
+
+sends_23 : second_role 23 ≡ Tx
+unfolding bits_of number_bits
+sends_23 = refl
+
+loses_24 : second_role 24 ≡ Rx
+unfolding bits_of number_bits
+loses_24 = refl
+
+-- a frame with its last CRC bit turned over: no acknowledgement, and an error at the third sample behind it
+abbrev d : Input
+d = Sample (heard Dominant)
+
+abbrev r : Input
+r = Sample (heard Recessive)
+
+abbrev turned : List Input
+turned = d ∷ d ∷ d ∷ d ∷ d ∷ r ∷ d ∷ d ∷ d ∷ d ∷ d ∷ r ∷ d ∷ d ∷ d ∷ d ∷ d ∷ r ∷ d ∷ d ∷ d ∷ d ∷ d ∷ r ∷ d ∷ d ∷ d ∷ d ∷ d ∷ r ∷ d ∷ d ∷ d ∷ d ∷ d ∷ r ∷ d ∷ d ∷ d ∷ r ∷ []
+
+abbrev turned_after : ℕ → Stretch
+turned_after n = stretch_of (all 11 Recessive ++ turned ++ all n Recessive)
+
+no_acknowledgement : drive_of (turned_after 1) ≡ Recessive
+no_acknowledgement = refl
+
+crc_error_54 : (judged (turned_after 2) (heard Recessive)).happened ≡ happens.RxError Crc
+crc_error_54 = refl

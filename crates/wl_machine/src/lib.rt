@@ -1,0 +1,115 @@
+//! The machine of a node, bit by bit: integration, frames sent and received, flags, delimiters,
+//! intermission, suspension and bus off (Bosch CAN 2.0 part B, sections 3, 6, 7 and 8).
+#![tactic(auto)]
+
+ghost use Rattle.std.specs.Prelude.{◌≡◌, ◌++◌, [], ◌∷◌, List};
+ghost use Rattle.wl_machine.specs.Stretch.{Input};
+ghost use Rattle.wl_machine.specs.States.{IsReached};
+
+use wl_confine::{Happened, Mode};
+use wl_frame::frame::{Frame, FrameBits};
+use wl_intervals::Level;
+
+mod flags;
+mod framing;
+pub mod laws;
+mod progress;
+mod quiet;
+mod state;
+
+use progress::Progress;
+use state::State;
+
+#[cfg(test)]
+mod tests;
+
+/// A frame that one sample completed (Bosch CAN 2.0 part B, section 5).
+#[derive(Clone, Copy, Debug, PartialEq, Eq)]
+pub enum Done {
+    /// None.
+    Nothing,
+    /// The frame that the node sends, with the last bit of its end of frame: the head with which the
+    /// stretch of this frame began.
+    Sent,
+    /// A frame that another node sends, with the last bit but one of its end of frame.
+    Received(Frame),
+}
+
+/// What one sampled bit did.
+#[derive(Clone, Copy, Debug, PartialEq, Eq)]
+pub struct Turn {
+    /// The level that the node drives from the next bit start on, up to the next turn's.
+    pub drive: Level,
+    /// What the error counters are to count.
+    pub happened: Happened,
+    /// The frame that this bit completed.
+    pub done: Done,
+}
+
+/// The machine of a node: what it does at each sampled bit (Bosch CAN 2.0 part B, sections 3, 6, 7
+/// and 8).
+///
+/// Each machine is where some list of samples and calls of [`Machine::bus_off`] puts it. A call
+/// takes no memory, and no loop but at a frame's start and at its last stuffed bit.
+#[derive(Drop)]
+pub struct Machine {
+    progress: Progress,
+    ghost reached: { ∥ ((past : List Input) × IsReached progress past) ∥₁ },
+}
+
+impl Machine {
+    ghost use Rattle.std.specs.Option.{option_copied};
+    ghost use Rattle.wl_machine.specs.Stretch.Input.{Sample, SwitchedOff};
+    ghost use Rattle.wl_machine.specs.Judged.{judged, stretch_of, drive_of, is_idle_sort};
+    ghost use Rattle.wl_machine.specs.States.{sample_of, done_of};
+    ghost use Rattle.wl_machine.specs.Reached.{IsMachine};
+
+    /// A machine before its first sample. It takes part in the traffic only once it has sampled
+    /// eleven recessive bits in a row (this project's profile; ISO 11898-1, bus integration).
+    pub fn new() -> Machine
+        ensures { IsMachine result [] }
+    {
+        Machine {
+            progress: Progress::new(),
+        }
+    }
+
+    /// One sampled bit.
+    ///
+    /// `head` is the frame that is to be sent next, if there is one: it is looked at only where the
+    /// bus becomes free, and a frame that has begun is sent to its end or to its first error,
+    /// whatever is handed in later. `mode` is the mode before this sample.
+    pub fn bit(&mut self, sample: Level, head: Option<&Frame>, mode: Mode) -> Turn
+        ensures machine { (past : List Input) → IsMachine self.old past → IsMachine self.new (past ++ Sample (sample_of sample (option_copied head.entry) mode) ∷ []) }
+        ensures drive { (past : List Input) → IsMachine self.old past
+            → result.drive ≡ drive_of (stretch_of (past ++ Sample (sample_of sample (option_copied head.entry) mode) ∷ [])) }
+        ensures happened { (past : List Input) → IsMachine self.old past
+            → result.happened ≡ (judged (stretch_of past) (sample_of sample (option_copied head.entry) mode)).happened }
+        ensures done { (past : List Input) → IsMachine self.old past
+            → result.done ≡ done_of (judged (stretch_of past) (sample_of sample (option_copied head.entry) mode)).ended }
+    {
+        let step = self.progress.step(sample, head, mode);
+        Turn {
+            drive: self.progress.drive(),
+            happened: step.happened,
+            done: step.done,
+        }
+    }
+
+    /// Puts the machine into bus off, wherever it is: it drives recessive from the next bit start
+    /// on, and comes back after 128 runs of eleven recessive samples (Bosch CAN 2.0 part B, section
+    /// 8, rules 10 and 12).
+    pub fn bus_off(&mut self)
+        ensures { (past : List Input) → IsMachine self.new (past ++ SwitchedOff ∷ []) }
+    {
+        self.progress.switch_off();
+    }
+
+    /// True where the bus is idle to the node: it has nothing to send, or it is suspended. A node
+    /// that has decided to send is not idle.
+    pub fn idle(&self) -> bool
+        ensures { (past : List Input) → IsMachine self.now past → result ≡ is_idle_sort (stretch_of past).sort }
+    {
+        self.progress.is_idle()
+    }
+}

@@ -1,0 +1,140 @@
+-- A node as a function of its setup and of all levels that it has seen, one for each quantum, the oldest first.
+use Rattle.std.specs.Prelude.{ℕ, nat_le, ℤ, Bool, true, false, List, [], ◌∷◌, ◌++◌, length, drop, count_by, fold, Option, Some, None, if◌then◌else◌}
+use Rattle.std.specs.List.{flat_map}
+use Rattle.wl_intervals.specs.declared.Level.{Level}
+use Rattle.wl_intervals.specs.declared.Level.TheVariants.{Recessive}
+use Rattle.wl_intervals.specs.Levels.{is_dominant}
+use Rattle.wl_sync.specs.declared.Sync.{Sync}
+use Rattle.wl_sync.specs.declared.Sync.TheVariants.{Hard, Error}
+use Rattle.wl_sync.specs.declared.Beat.{Beat}
+use Rattle.wl_sync.specs.declared.Beat.TheVariants as beats
+use Rattle.wl_sync.specs.Bits.{Seen, beat_of, sync_of}
+use Rattle.wl_confine.specs.declared.Mode.{Mode}
+use Rattle.wl_confine.specs.declared.Mode.TheVariants.{Active, Passive, Off}
+use Rattle.wl_confine.specs.declared.Happened.{Happened}
+use Rattle.wl_confine.specs.Counts.{Counts, counts_of, mode_of, is_error}
+use Rattle.wl_frame.specs.Grammar.{Content}
+use Rattle.wl_machine.specs.Stretch.{Sampled, Input, Ended, Judgement}
+use Rattle.wl_machine.specs.Stretch.Input.{Sample, SwitchedOff}
+use Rattle.wl_machine.specs.Stretch.Ended.{NoFrame, Sent, Received}
+use Rattle.wl_machine.specs.Judged.{judged, stretch_of, drive_of, is_idle_sort}
+use Rattle.wl_node.specs.declared.setup.Queued.{Queued}
+use Rattle.wl_node.specs.declared.setup.Passed.{Passed}
+use Rattle.wl_node.specs.declared.setup.NodeSetup.{NodeSetup}
+
+-- What a node saw and did: what its bit clock saw at each quantum, what its machine was given and what happened at each
+-- sample, its samples, the frames that passed and the synchronisations with their quanta, and the level that it drives.
+pub record History : Type 0 where
+  pub seen : List Seen
+  pub inputs : List Input
+  pub happened : List Happened
+  pub samples : List (ℕ × Level)
+  pub frames : List Passed
+  pub syncs : List (ℕ × Sync)
+  pub drive : Level
+
+-- before quantum 0: a node that hasn't begun drives recessive (this project's profile)
+abbrev pub no_history : History
+no_history = record { seen = []; inputs = []; happened = []; samples = []; frames = []; syncs = []; drive = Recessive }
+
+abbrev pub is_sent : Passed → Bool
+is_sent p = p.sent
+
+-- the frames of the queue that were not sent yet: a frame that lost the arbitration or failed stays (Bosch CAN 2.0 part B, section 6)
+abbrev pub unsent_of : NodeSetup → History → List Queued
+unsent_of setup h = drop (count_by is_sent h.frames) setup.queue
+
+-- the first of them, if it is ready (this project's profile)
+abbrev pub ready_head : List Queued → ℕ → Option Content
+ready_head [] quantum = None
+ready_head (q ∷ qs) quantum = if nat_le q.ready quantum then Some q.frame else None
+
+-- what is kept of a frame that a sample completed
+abbrev pub passed : ℕ → Ended → List Passed
+passed quantum NoFrame = []
+passed quantum (Sent frame) = record { sent = true; quantum = quantum; frame = frame } ∷ []
+passed quantum (Received frame) = record { sent = false; quantum = quantum; frame = frame } ∷ []
+
+-- where the mode becomes bus off, the machine goes off the bus at once (Bosch CAN 2.0 part B, section 8, rule 11)
+abbrev pub switched_off : Mode → Mode → List Input
+switched_off Active Off = SwitchedOff ∷ []
+switched_off Passive Off = SwitchedOff ∷ []
+switched_off old new = []
+
+-- what the bit clock sees at the next quantum
+abbrev pub seen_next : History → Level → Seen
+seen_next h level = record { level = level; idle = is_idle_sort (stretch_of h.inputs).sort; driving = is_dominant h.drive }
+
+-- what the machine is given, where the next quantum is a sample
+abbrev pub sampled_next : NodeSetup → History → Level → Sampled
+sampled_next setup h level = record {
+  level = level;
+  head = ready_head (unsent_of setup h) (length h.seen);
+  mode = mode_of (counts_of h.happened);
+}
+
+-- the history behind a sample that the machine judged so
+abbrev pub judged_so : History → Sampled → Judgement → History
+judged_so h x judgement =
+    record {
+      seen = h.seen;
+      inputs = (h.inputs ++ Sample x ∷ []) ++ switched_off x.mode (mode_of (counts_of (h.happened ++ judgement.happened ∷ [])));
+      happened = h.happened ++ judgement.happened ∷ [];
+      samples = h.samples ++ (length h.seen, x.level) ∷ [];
+      frames = h.frames ++ passed (length h.seen) judgement.ended;
+      syncs = h.syncs;
+      drive = h.drive;
+    }
+
+-- a sample goes to the machine and then to the counters
+abbrev pub sampled : NodeSetup → History → Level → History
+sampled setup h level = let x : Sampled = sampled_next setup h level in judged_so h x (judged (stretch_of h.inputs) x)
+
+-- what a quantum does by its beat: where a bit starts, the node drives what the machine wants since its last sample
+abbrev pub by_beat : NodeSetup → History → Level → Beat → History
+by_beat setup h level beats.Plain = h
+by_beat setup h level beats.Start = record h { drive = drive_of (stretch_of h.inputs) }
+by_beat setup h level (beats.Sample _) = sampled setup h level
+
+abbrev pub syncs_at : ℕ → Option Sync → List (ℕ × Sync)
+syncs_at quantum None = []
+syncs_at quantum (Some sync) = (quantum, sync) ∷ []
+
+-- the history one quantum later, at which the node sees this level
+abbrev pub history_after : NodeSetup → History → Level → History
+history_after setup h level =
+    let x : Seen = seen_next h level in
+    let next : History = by_beat setup h level (beat_of setup.segments h.seen x) in
+    record next { seen = h.seen ++ x ∷ []; syncs = h.syncs ++ syncs_at (length h.seen) (sync_of setup.segments h.seen x) }
+
+-- a node after the levels that it saw at its quanta
+unfoldable pub history_of : NodeSetup → List Level → History
+history_of setup levels = fold (history_after setup) no_history levels
+
+-- the error counters
+abbrev pub counters_of : History → Counts
+counters_of h = counts_of h.happened
+
+-- the resynchronising edges: quantum and phase error, in quanta, error 0 too
+abbrev pub phase_of : ℕ × Sync → List (ℕ × ℤ)
+phase_of (quantum, Hard) = []
+phase_of (quantum, Error e) = (quantum, e) ∷ []
+
+abbrev pub phases_of : History → List (ℕ × ℤ)
+phases_of h = flat_map phase_of h.syncs
+
+abbrev pub is_hard : ℕ × Sync → Bool
+is_hard (quantum, Hard) = true
+is_hard (quantum, Error e) = false
+
+-- the number of hard synchronisations
+abbrev pub hards_of : History → ℕ
+hards_of h = count_by is_hard h.syncs
+
+-- the number of errors, those that leave the counters alone too
+abbrev pub errors_of : History → ℕ
+errors_of h = count_by is_error h.happened
+
+-- the number of frames that were not sent yet
+abbrev pub unsent_count : NodeSetup → History → ℕ
+unsent_count setup h = length (unsent_of setup h)

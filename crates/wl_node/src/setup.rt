@@ -1,0 +1,69 @@
+//! What a node is made of, and the frames that pass through it.
+ghost use Rattle.std.specs.Prelude.{◌≡◌, ◌↔◌, IsTrue, IfOk};
+
+use std::alloc::{AllocError, Global};
+use wl_clock::Clock;
+use wl_frame::frame::Frame;
+use wl_intervals::Listed;
+use wl_segments::Segments;
+
+/// A frame that waits to be sent, from quantum `ready` of its node on.
+#[derive(Clone, Copy, Debug, PartialEq, Eq)]
+pub struct Queued {
+    pub frame: Frame,
+    pub ready: u64,
+}
+
+/// A frame that a node sent (`sent`) or received, and the quantum of the sample that completed it.
+#[derive(Clone, Copy, Debug, PartialEq, Eq)]
+pub struct Passed {
+    pub sent: bool,
+    pub quantum: u64,
+    pub frame: Frame,
+}
+
+/// The frames that a node is to send, in this order.
+pub type Queue = Listed<Queued>;
+
+/// What a node is made of: its clock, its bit segments and the frames that it is to send.
+#[derive(Debug, Drop)]
+pub struct NodeSetup {
+    pub clock: Clock,
+    pub segments: Segments,
+    pub queue: Queue,
+}
+
+impl NodeSetup {
+    /// An equal setup. Refused for want of memory alone.
+    pub fn clone_in(&self, alloc: Global) -> Result<NodeSetup, AllocError>
+        ensures { IfOk result (λ copy. copy ≡ self.now) }
+    {
+        Ok(NodeSetup {
+            clock: self.clock,
+            segments: self.segments,
+            queue: self.queue.clone_in(alloc)?,
+        })
+    }
+}
+
+impl PartialEq for NodeSetup {
+    ghost use Rattle.wl_node.specs.Same.{same_setup, same_setup_laws};
+
+    ghost eq = { same_setup };
+
+    ghost laws = { same_setup_laws };
+
+    /// Two setups are equal where clock, segments and queue are.
+    fn eq(&self, other: &NodeSetup) -> bool
+        ensures value { result ≡ same_setup self.now other.now }
+        ensures same { IsTrue result ↔ (self.now ≡ other.now) }
+    {
+        self.clock == other.clock && self.segments == other.segments && self.queue == other.queue
+    }
+}
+
+impl Eq for NodeSetup {
+    ghost use Rattle.wl_node.specs.Same.{same_setup_equiv};
+
+    ghost laws = { same_setup_equiv };
+}

@@ -1,0 +1,245 @@
+-- Which plans have no fault.
+use Rattle.std.proofs.Common.{◌≡◌, ℕ, zero, suc, ◌<◌, ◌≤◌, ◌==◌, ◌∙◌, ◌⊎◌, Bool, true, false, ◌||◌, not, List, length, get_or, All, Option, Some, None, cond, inl, inr, refl, sym, ap, arith, nat_lt, nat_le}
+use Rattle.std.specs.List.{position, position_or_len, enumerate_from}
+use Rattle.std.proofs.lemmas.Bool.{cases_lt, lt-ltb, le-ltb, ltb-false, leb-false, lt-leb, eqb-true, eq-eqb, eqb-false, ne_eqb, not-false, not_from_true, or_left, or_right, or_parts, or_from}
+use Rattle.std.proofs.lemmas.List.Sums.{position_or_len_is, fails_before_first}
+use Rattle.std.proofs.lemmas.List.FromFn.{length-enumerate_from, get_or-enumerate_from}
+use Rattle.wl_clock.specs.Timing.{Timing, IsTiming, tick_of}
+use Rattle.wl_topology.specs.Delays.{IsTopology, disturbance_delay}
+use Rattle.wl_topology.specs.Driven.{any_below}
+use Rattle.wl_topology.specs.Limits.{most_nodes, longest_delay}
+use Rattle.wl_plan.specs.declared.plan.Disturbance.{Disturbance}
+use Rattle.wl_plan.specs.declared.plan.Plan.{Plan}
+use Rattle.wl_plan.specs.declared.check.PlanFault.TheVariants as faults
+use Rattle.wl_plan.specs.Limits.{latest_end, most_quanta, most_disturbances}
+use Rattle.wl_plan.specs.PlanLine.{no_setup}
+use Rattle.wl_plan.specs.Checked.{IsChecked, IsDisturbance, first_fault, has_wrong_nodes, has_many_quanta, has_long_queue, is_refused, is_far, FaultlessIsChecked}
+
+-- one that passes is enough
+pub any_from : (n i : ℕ) (p : ℕ → Bool) → i < n → p i ≡ true → any_below n p ≡ true
+any_from zero i p b h = absurd (omega arith)
+any_from (suc n) i p b h =
+    elim (cases_lt i n) [
+      | inl below ↦ or_left _ _ (any_from n i p below h)
+      | inr last ↦ (let same : n ≡ i = omega arith in or_right _ _ (ap p same ∙ h))
+    ]
+
+-- where numbers grow, the first that is not below the end is above `most` exactly where that of `most` is below the end
+pub many_below : (q : ℕ → ℕ) → ((j k : ℕ) → j < k → q j < q k) → (most last r : ℕ) → last ≤ q r → ((k : ℕ) → k < r → q k < last)
+    → nat_lt most r ≡ nat_lt (q most) last
+many_below q later most last r reached least =
+    elim (cases_lt most r) [
+      | inl more ↦ lt-ltb most r more ∙ sym (lt-ltb (q most) last (least most more))
+      | inr few ↦ le-ltb most r few ∙ sym (le-ltb (q most) last (enough few (cases_lt r most)))
+    ]
+  where
+    enough : r ≤ most → (r < most) ⊎ (most ≤ r) → last ≤ q most
+    enough few (inl less) = (let e = later r most less in omega arith)
+    enough few (inr same) = (let e : r ≡ most = omega arith in let f : q r ≡ q most = ap q e in omega arith)
+
+-- the first place that passes
+pub position_is : {X : Type 0} (p : X → Bool) (xs : List X) (i : ℕ) (d : X) → i < length xs → p (get_or xs i d) ≡ true
+    → ((k : ℕ) → k < i → p (get_or xs k d) ≡ false) → position p xs ≡ Some i
+position_is p xs i d b here before =
+    let e : position_or_len p xs ≡ i = position_or_len_is p xs i d (omega arith) before (λ _. here) in
+    ap (λ n. cond (nat_lt n (length xs)) (Some n) None) e ∙ ap (λ v. cond v (Some i) None) (lt-ltb i (length xs) b)
+
+-- none passes
+pub position_none : {X : Type 0} (p : X → Bool) (xs : List X) (d : X) → ((k : ℕ) → k < length xs → p (get_or xs k d) ≡ false) → position p xs ≡ None
+position_none p xs d none =
+    let e : position_or_len p xs ≡ length xs = position_or_len_is p xs (length xs) d (omega arith) none (λ h. absurd (omega arith)) in
+    ap (λ n. cond (nat_lt n (length xs)) (Some n) None) e ∙ ap (λ v. cond v (Some (length xs)) None) (le-ltb (length xs) (length xs) (omega arith))
+
+pub none_position : {X : Type 0} (p : X → Bool) (xs : List X) → position p xs ≡ None → (k : ℕ) (d : X) → k < length xs → p (get_or xs k d) ≡ false
+none_position p xs none k d b = go (nat_lt (position_or_len p xs) (length xs)) refl none
+  where
+    go : (v : Bool) → nat_lt (position_or_len p xs) (length xs) ≡ v → cond v (Some (position_or_len p xs)) None ≡ None → p (get_or xs k d) ≡ false
+    go true e h = cc
+    go false e h = fails_before_first p xs k d (let far = ltb-false _ _ e in omega arith)
+
+-- none passes where none does below
+pub any_none : (n : ℕ) (p : ℕ → Bool) → ((i : ℕ) → i < n → p i ≡ false) → any_below n p ≡ false
+any_none zero p h = refl
+any_none (suc n) p h = or_from _ _ (any_none n p (λ i b. h i (omega arith))) (h n (omega arith))
+
+none_any : (n : ℕ) (p : ℕ → Bool) → any_below n p ≡ false → (i : ℕ) → i < n → p i ≡ false
+none_any zero p h i b = absurd (omega arith)
+none_any (suc n) p h i b =
+    let parts = or_parts (any_below n p) (p n) h in
+    elim (cases_lt i n) [
+      | inl below ↦ none_any n p parts.0 i below
+      | inr last ↦ (let same : i ≡ n = omega arith in ap p same ∙ parts.1)
+    ]
+
+-- ---- the first fault, and none
+
+-- What no fault says of the tests.
+pub record IsFaultless (wrong late : Bool) (many long refused : Option ℕ) : Type 0 where
+  pub right : wrong ≡ false
+  pub early : late ≡ false
+  pub few : many ≡ None
+  pub short : long ≡ None
+  pub accepted : refused ≡ None
+
+pub faultless : (wrong late : Bool) (many long refused : Option ℕ) → IsFaultless wrong late many long refused
+    → first_fault wrong late many long refused ≡ None
+faultless wrong late many long refused h = λ i. first_fault (h.right i) (h.early i) (h.few i) (h.short i) (h.accepted i)
+
+faultless_by : (wrong late : Bool) (many long refused : Option ℕ) → first_fault wrong late many long refused ≡ None
+    → IsFaultless wrong late many long refused
+faultless_by true late many long refused h = cc
+faultless_by false true many long refused h = cc
+faultless_by false false (Some i) long refused h = cc
+faultless_by false false None (Some i) refused h = cc
+faultless_by false false None None (Some n) h = cc
+faultless_by false false None None None h = record { right = refl; early = refl; few = refl; short = refl; accepted = refl }
+
+-- ---- what the tests say
+
+-- a clock whose quantum `most_quanta` is not before the end has few before it, and the other way round
+few_from : (q : ℕ → ℕ) → ((j k : ℕ) → j < k → q j < q k) → (most last : ℕ) → nat_lt (q most) last ≡ false → (k : ℕ) → q k < last → k < most
+few_from q later most last h k b =
+    elim (cases_lt k most) [
+      | inl fine ↦ fine
+      | inr more ↦ absurd (go more (cases_lt most k))
+    ]
+  where
+    go : most ≤ k → (most < k) ⊎ (k ≤ most) → ⊥
+    go more (inl above) = (let e = later most k above in let f = ltb-false _ _ h in omega arith)
+    go more (inr same) = (let e : q most ≡ q k = ap q (omega arith) in let f = ltb-false _ _ h in omega arith)
+
+few_to : (q : ℕ → ℕ) (most last : ℕ) → ((k : ℕ) → q k < last → k < most) → nat_lt (q most) last ≡ false
+few_to q most last h =
+    elim (cases_lt (q most) last) [
+      | inl below ↦ absurd (let e = h most below in omega arith)
+      | inr fine ↦ le-ltb (q most) last fine
+    ]
+
+abbrev pub no_disturbance : Disturbance
+no_disturbance = record { x = 0; from = 0; to = 0 }
+
+module _ (plan : Plan) where
+  refused_at : (n : ℕ) (d : Disturbance) → n < length plan.disturbances
+      → is_refused plan (get_or (enumerate_from 0 plan.disturbances) n (0, d)) ≡ is_refused plan (n, get_or plan.disturbances n d)
+  refused_at n d b =
+      ap (is_refused plan) (get_or-enumerate_from 0 plan.disturbances n (0, d) b)
+      ∙ ap (λ m. is_refused plan (m, get_or plan.disturbances n d)) (omega arith)
+
+  -- the first disturbance that is refused
+  pub refused_is : (n : ℕ) (d : Disturbance) → n < length plan.disturbances → is_refused plan (n, get_or plan.disturbances n d) ≡ true
+      → ((k : ℕ) → k < n → is_refused plan (k, get_or plan.disturbances k d) ≡ false)
+      → position (is_refused plan) (enumerate_from 0 plan.disturbances) ≡ Some n
+  refused_is n d b here before =
+      position_is (is_refused plan) (enumerate_from 0 plan.disturbances) n (0, d) (omega (arith, length-enumerate_from 0 plan.disturbances))
+      (refused_at n d b ∙ here)
+      (λ k below. refused_at k d (omega arith) ∙ before k below)
+
+  pub refused_none : (d : Disturbance) → ((k : ℕ) → k < length plan.disturbances → is_refused plan (k, get_or plan.disturbances k d) ≡ false)
+      → position (is_refused plan) (enumerate_from 0 plan.disturbances) ≡ None
+  refused_none d none =
+      position_none (is_refused plan) (enumerate_from 0 plan.disturbances) (0, d)
+      (λ k b. let c : k < length plan.disturbances = omega (arith, length-enumerate_from 0 plan.disturbances) in refused_at k d c ∙ none k c)
+
+  none_refused : position (is_refused plan) (enumerate_from 0 plan.disturbances) ≡ None
+      → (k : ℕ) (d : Disturbance) → k < length plan.disturbances → is_refused plan (k, get_or plan.disturbances k d) ≡ false
+  none_refused h k d b =
+      sym (refused_at k d b)
+      ∙ none_position (is_refused plan) (enumerate_from 0 plan.disturbances) h k (0, d) (omega (arith, length-enumerate_from 0 plan.disturbances))
+
+-- ---- a plan without a fault is checked, and the other way round
+
+module _ (later : (t : Timing) → IsTiming t → (j k : ℕ) → j < k → tick_of t j < tick_of t k) (plan : Plan) where
+  right_nodes : has_wrong_nodes plan ≡ false → (0 < length plan.nodes) × (length plan.nodes ≤ most_nodes) × (length plan.nodes ≡ length plan.topology.places)
+  right_nodes h =
+      let some = or_parts (length plan.nodes == 0) (nat_lt most_nodes (length plan.nodes) || not (length plan.nodes == length plan.topology.places)) h in
+      let few = or_parts (nat_lt most_nodes (length plan.nodes)) (not (length plan.nodes == length plan.topology.places)) some.1 in
+      (above (length plan.nodes) some.0, ltb-false _ _ few.0, eqb-true _ _ (not-false _ few.1))
+    where
+      above : (n : ℕ) → (n == 0) ≡ false → 0 < n
+      above zero e = absurd (eqb-false 0 0 e refl)
+      above (suc n) e = omega arith
+
+  wrong_nodes : 0 < length plan.nodes → length plan.nodes ≤ most_nodes → length plan.nodes ≡ length plan.topology.places → has_wrong_nodes plan ≡ false
+  wrong_nodes some few placed =
+      or_from (length plan.nodes == 0) (nat_lt most_nodes (length plan.nodes) || not (length plan.nodes == length plan.topology.places))
+      (ne_eqb (length plan.nodes) 0 (λ e. omega arith))
+      (or_from (nat_lt most_nodes (length plan.nodes)) (not (length plan.nodes == length plan.topology.places)) (le-ltb _ _ few) (not_from_true _ (eq-eqb _ _ placed)))
+
+  -- what is not refused
+  accepted : (n : ℕ) (d : Disturbance) → is_refused plan (n, d) ≡ false → IsDisturbance plan d × (n < most_disturbances)
+  accepted n d h =
+      let a = or_parts (nat_le d.to d.from) (nat_lt latest_end d.to || (nat_le most_disturbances n || is_far plan d)) h in
+      let b = or_parts (nat_lt latest_end d.to) (nat_le most_disturbances n || is_far plan d) a.1 in
+      let e = or_parts (nat_le most_disturbances n) (is_far plan d) b.1 in (
+        record {
+          lasts = leb-false _ _ a.0;
+          ends = ltb-false _ _ b.0;
+          near = λ j below. ltb-false _ _ (none_any (length plan.nodes) (λ j. nat_lt longest_delay (disturbance_delay plan.topology d.x j)) e.1 j below);
+        },
+        leb-false _ _ e.0,
+      )
+
+  not_refused : (n : ℕ) (d : Disturbance) → IsDisturbance plan d → n < most_disturbances → is_refused plan (n, d) ≡ false
+  not_refused n d h b =
+      or_from (nat_le d.to d.from) (nat_lt latest_end d.to || (nat_le most_disturbances n || is_far plan d)) (lt-leb _ _ h.lasts)
+      (or_from (nat_lt latest_end d.to) (nat_le most_disturbances n || is_far plan d) (le-ltb _ _ h.ends)
+      (or_from (nat_le most_disturbances n) (is_far plan d) (lt-leb _ _ b)
+      (any_none (length plan.nodes) (λ j. nat_lt longest_delay (disturbance_delay plan.topology d.x j)) (λ j below. le-ltb _ _ (h.near j below)))))
+
+  few_accepted : ((k : ℕ) (d : Disturbance) → k < length plan.disturbances → is_refused plan (k, get_or plan.disturbances k d) ≡ false)
+      → length plan.disturbances ≤ most_disturbances
+  few_accepted none =
+      elim (cases_lt most_disturbances (length plan.disturbances)) [
+        | inl more ↦ absurd (let h = accepted most_disturbances (get_or plan.disturbances most_disturbances no_disturbance) (none most_disturbances no_disturbance more) in omega (arith, h.1))
+        | inr fine ↦ fine
+      ]
+
+  pub checked_from : All (λ node. IsTiming node.clock) plan.nodes → IsTopology plan.topology
+      → IsFaultless (has_wrong_nodes plan) (nat_lt latest_end plan.end) (position (has_many_quanta plan.end) plan.nodes) (position has_long_queue plan.nodes)
+      (position (is_refused plan) (enumerate_from 0 plan.disturbances))
+      → IsChecked plan
+  checked_from clocks cable h =
+      let nodes = right_nodes h.right in
+      let accepts = none_refused plan h.accepted in
+      record {
+        clocks = clocks;
+        cable = cable;
+        some_node = nodes.0;
+        few_nodes = nodes.1;
+        placed = nodes.2;
+        ends = ltb-false _ _ h.early;
+        few_quanta = λ i d b k below.
+            few_from (tick_of (get_or plan.nodes i d).clock) (later (get_or plan.nodes i d).clock (clocks i d b)) most_quanta plan.end
+            (none_position (has_many_quanta plan.end) plan.nodes h.few i d b) k below;
+        short_queues = λ i d b. ltb-false _ _ (none_position has_long_queue plan.nodes h.short i d b);
+        few_disturbances = few_accepted accepts;
+        disturbances = λ n d b. (accepted n (get_or plan.disturbances n d) (accepts n d b)).0;
+      }
+
+  pub faultless_from : IsChecked plan
+      → IsFaultless (has_wrong_nodes plan) (nat_lt latest_end plan.end) (position (has_many_quanta plan.end) plan.nodes) (position has_long_queue plan.nodes)
+      (position (is_refused plan) (enumerate_from 0 plan.disturbances))
+  faultless_from h = record {
+    right = wrong_nodes h.some_node h.few_nodes h.placed;
+    early = le-ltb _ _ h.ends;
+    few = position_none (has_many_quanta plan.end) plan.nodes no_setup
+        (λ i b. few_to (tick_of (get_or plan.nodes i no_setup).clock) most_quanta plan.end (h.few_quanta i no_setup b));
+    short = position_none has_long_queue plan.nodes no_setup (λ i b. le-ltb _ _ (h.short_queues i no_setup b));
+    accepted = refused_none plan no_disturbance
+        (λ n b. not_refused n (get_or plan.disturbances n no_disturbance) (h.disturbances n no_disturbance b) (let few = h.few_disturbances in omega arith));
+  }
+
+pub faultless_is_checked : ((t : Timing) → IsTiming t → (j k : ℕ) → j < k → tick_of t j < tick_of t k) → FaultlessIsChecked
+faultless_is_checked later plan clocks cable = (
+  (λ h. checked_from later plan clocks cable (faultless_by _ _ _ _ _ h)),
+  (λ h. faultless _ _ _ _ _ (faultless_from later plan h)),
+)
+
+-- the later faults
+pub fault_of_queue : (wrong late : Bool) (many long refused : Option ℕ) (i : ℕ) → wrong ≡ false → late ≡ false → many ≡ None → long ≡ Some i
+    → first_fault wrong late many long refused ≡ Some (faults.Queue i)
+fault_of_queue wrong late many long refused i w l m q = λ j. first_fault (w j) (l j) (m j) (q j) refused
+
+pub fault_of_disturbance : (wrong late : Bool) (many long refused : Option ℕ) (n : ℕ) → wrong ≡ false → late ≡ false → many ≡ None → long ≡ None → refused ≡ Some n
+    → first_fault wrong late many long refused ≡ Some (faults.Disturbance n)
+fault_of_disturbance wrong late many long refused n w l m q r = λ j. first_fault (w j) (l j) (m j) (q j) (r j)

@@ -1,0 +1,32 @@
+-- The limits of a plan (this project's profile), each that of the constant of its name.
+use Rattle.std.specs.Prelude.{◌≡◌, ℕ, refl}
+use Rattle.wl_plan.specs.declared.limits.TheConstants.{LATEST_END, MOST_QUANTA, MOST_QUIET, MOST_QUEUED, MOST_DISTURBANCES}
+
+-- the latest tick at which a plan or a disturbance may end
+abbrev pub latest_end : ℕ
+latest_end = LATEST_END
+
+-- the most quanta of a node before the end of a plan
+unfoldable pub most_quanta : ℕ
+most_quanta = MOST_QUANTA
+
+-- the most quanta for which a node is said to keep its drive
+unfoldable pub most_quiet : ℕ
+most_quiet = MOST_QUIET
+
+-- the most frames that wait at a node
+abbrev pub most_queued : ℕ
+most_queued = MOST_QUEUED
+
+-- the most disturbances of a plan
+abbrev pub most_disturbances : ℕ
+most_disturbances = MOST_DISTURBANCES
+
+-- what the names that don't unfold stand for, for proofs
+pub most_quanta-is : most_quanta ≡ MOST_QUANTA
+unfolding most_quanta
+most_quanta-is = refl
+
+pub most_quiet-is : most_quiet ≡ MOST_QUIET
+unfolding most_quiet
+most_quiet-is = refl

@@ -1,0 +1,154 @@
+//! Which plans can be run, and the refusals of the others.
+ghost use Rattle.std.specs.Prelude.{◌≡◌, ◌<◌, ◌≤◌, length, nat_lt, position, All, OnOk, IfNone};
+ghost use Rattle.std.specs.Result.{result_err};
+ghost use Rattle.std.specs.List.{enumerate_from};
+ghost use Rattle.wl_clock.specs.Timing.{IsTiming, tick_of};
+ghost use Rattle.wl_topology.specs.Delays.{IsTopology};
+ghost use Rattle.wl_plan.specs.Checked.{IsChecked, fault_of, has_wrong_nodes, has_many_quanta, has_long_queue, is_refused, is_far, FaultlessIsChecked, CheckedIsSound};
+ghost use Rattle.wl_plan.specs.Limits.{latest_end, most_quanta};
+
+use crate::limits::{LATEST_END, MOST_DISTURBANCES, MOST_QUANTA, MOST_QUEUED};
+use crate::plan::{Disturbance, Plan};
+use crate::simulation::simulation_laws;
+use thiserror::Error;
+use wl_clock::Clock;
+use wl_node::NodeSetup;
+use wl_topology::{LONGEST_DELAY, MOST_NODES};
+
+/// Why a plan can't be run: the first that applies, in this order. Numbers of nodes and disturbances count from 0, and the first is named.
+#[derive(Clone, Copy, Debug, PartialEq, Eq, Error)]
+pub enum PlanFault {
+    /// There is no node, there are more than 16, or not as many as places.
+    #[error("Nodes")]
+    Nodes,
+    /// The end is above 2^36 ticks.
+    #[error("End")]
+    End,
+    /// More than 65,536 quanta of this node begin before the end.
+    #[error("Quanta({0})")]
+    Quanta(u64),
+    /// More than 64 frames wait at this node.
+    #[error("Queue({0})")]
+    Queue(u64),
+    /// This disturbance takes no tick, ends after tick 2^36, has 64 or more before it, or takes more than 1,048,576 ticks to some node.
+    #[error("Disturbance({0})")]
+    Disturbance(u64),
+}
+
+impl Plan {
+    /// Whether the plan can be run, or the first refusal that applies. It takes no memory.
+    pub fn check(&self) -> Result<(), PlanFault>
+        ensures fault { result_err result ≡ fault_of self.now }
+        ensures checked { OnOk result (IsChecked self.now) }
+    {
+        faultless_is_checked();
+        let nodes = self.nodes.as_slice();
+        if self.has_wrong_nodes() {
+            return Err(PlanFault::Nodes);
+        }
+        if self.end > LATEST_END {
+            return Err(PlanFault::End);
+        }
+        if let Some(i) = first_with_many_quanta(nodes, self.end) {
+            return Err(PlanFault::Quanta(i as u64));
+        }
+        if let Some(i) = first_with_long_queue(nodes) {
+            return Err(PlanFault::Queue(i as u64));
+        }
+        if let Some(n) = self.first_refused() {
+            return Err(PlanFault::Disturbance(n as u64));
+        }
+        Ok(())
+    }
+
+    /// Whether there is no node, too many, or not as many as places.
+    fn has_wrong_nodes(&self) -> bool
+        ensures wrong { result ≡ has_wrong_nodes self.now }
+        ensures cable { IsTopology self.now.topology }
+    {
+        let nodes = self.nodes.len();
+        let places = self.topology.nodes() as usize;
+        nodes == 0 || nodes > MOST_NODES || nodes != places
+    }
+
+    /// The number of the first disturbance that is refused.
+    fn first_refused(&self) -> Option<usize>
+        requires { length self.now.nodes ≡ length self.now.topology.places }
+        ensures { result ≡ position (is_refused self.now) (enumerate_from 0 self.now.disturbances) }
+    {
+        for (n, d) in self.disturbances.as_slice().iter().enumerate() {
+            if self.is_refused(n, *d) {
+                return Some(n);
+            }
+        }
+        None
+    }
+
+    /// Whether disturbance `n` takes no tick, ends too late, is one too many, or is far.
+    fn is_refused(&self, n: usize, d: Disturbance) -> bool
+        requires { length self.now.nodes ≡ length self.now.topology.places }
+        ensures { result ≡ is_refused self.now (n, d) }
+    {
+        d.to <= d.from || d.to > LATEST_END || n >= MOST_DISTURBANCES || self.is_far(d)
+    }
+
+    /// Whether the disturbance takes too long to some node.
+    fn is_far(&self, d: Disturbance) -> bool
+        requires { length self.now.nodes ≡ length self.now.topology.places }
+        ensures { result ≡ is_far self.now d }
+    {
+        for j in 0..self.topology.nodes() {
+            if self.topology.place_delay(d.x, j) > LONGEST_DELAY as u128 {
+                return true;
+            }
+        }
+        false
+    }
+}
+
+/// Whether more quanta begin before the end than a plan may have.
+fn has_many_quanta(clock: &Clock, end: u64) -> bool
+    requires { end ≤ latest_end }
+    ensures many { result ≡ nat_lt (tick_of clock.now most_quanta) end }
+    ensures timing { IsTiming clock.now }
+{
+    wl_clock::ticks_increase();
+    clock.first_not_before(end) > MOST_QUANTA
+}
+
+/// The first node with too many quanta before the end.
+#[tactic(auto, using(crate::proofs::CheckProofs::position_is))]
+fn first_with_many_quanta(nodes: &[NodeSetup], end: u64) -> Option<usize>
+    requires { end ≤ latest_end }
+    ensures first { result ≡ position (has_many_quanta end) nodes.now }
+    ensures clocks { IfNone result (All (λ node. IsTiming node.clock) nodes.now) }
+{
+    for (i, node) in nodes.iter().enumerate() {
+        if has_many_quanta(&node.clock, end) {
+            return Some(i);
+        }
+    }
+    None
+}
+
+/// The first node at which too many frames wait.
+fn first_with_long_queue(nodes: &[NodeSetup]) -> Option<usize>
+    ensures { result ≡ position has_long_queue nodes.now }
+{
+    nodes.iter().position(|node| node.queue.len() > MOST_QUEUED)
+}
+
+/// Law: a plan, whose clocks and cable are what their types keep, has no fault exactly where it can be run.
+pub fn faultless_is_checked()
+    ensures { FaultlessIsChecked }
+{
+    wl_clock::ticks_increase();
+}
+
+/// Law: the line of a plan that can be run is sound: causes come before effects, and no number outgrows what a record can name.
+pub fn checked_is_sound()
+    ensures { CheckedIsSound }
+{
+    wl_clock::ticks_increase();
+    simulation_laws();
+}

@@ -1,0 +1,12 @@
+//! Plans of a simulation: what they are, which of them can be run, and the one-thread simulation by which all else is judged.
+#![tactic(auto)]
+
+mod check;
+mod limits;
+mod plan;
+mod simulation;
+
+pub use check::{PlanFault, checked_is_sound, faultless_is_checked};
+pub use limits::{LATEST_END, MOST_DISTURBANCES, MOST_QUANTA, MOST_QUEUED, MOST_QUIET};
+pub use plan::{Disturbance, Disturbances, Nodes, Plan, test_of_truth};
+pub use simulation::{outcome_is_true, simulation_laws};

@@ -1,0 +1,16 @@
+//! The limits of a plan.
+
+/// The latest tick at which a plan or a disturbance may end: 2^36.
+pub const LATEST_END: u64 = 68_719_476_736;
+
+/// The most quanta of a node before the end of a plan.
+pub const MOST_QUANTA: u64 = 65_536;
+
+/// The most quanta for which a node is said to keep its drive, whatever it sees.
+pub const MOST_QUIET: u64 = 65_536;
+
+/// The most frames that wait at a node.
+pub const MOST_QUEUED: usize = 64;
+
+/// The most disturbances of a plan.
+pub const MOST_DISTURBANCES: usize = 64;

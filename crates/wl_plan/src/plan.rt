@@ -1,0 +1,121 @@
+//! Plans: what is to be simulated.
+ghost use Rattle.std.specs.Prelude.{◌≡◌, ◌+◌, ◌<◌, ◌≤◌, ◌↔◌, nat_lt, nat_le, ◌&&◌, IsTrue, IfOk, length};
+ghost use Rattle.wl_topology.specs.Delays.{disturbance_delay};
+ghost use Rattle.wl_plan.specs.PlanLine.{TestOfTruth};
+
+use std::alloc::{AllocError, Global};
+use wl_intervals::Listed;
+use wl_node::NodeSetup;
+use wl_topology::Topology;
+
+/// A fault of the cable: the line is dominant at the place `x` from tick `from` up to tick `to`, which no longer counts.
+///
+/// It reaches each node a delay later, which goes by the node's place and by what the node takes from the cable to a level that it sees.
+#[derive(Clone, Copy, Debug, Default, PartialEq, Eq)]
+pub struct Disturbance {
+    /// In units of length from the end of the cable from which the nodes' places count.
+    pub x: u32,
+    pub from: u64,
+    pub to: u64,
+}
+
+/// The nodes of a plan: node `i` is the one at place `i`.
+pub type Nodes = Listed<NodeSetup>;
+
+/// The disturbances of a plan, in any order. They may overlap.
+pub type Disturbances = Listed<Disturbance>;
+
+/// What is to be simulated. Any plan can be written down; `check` tells which ones can be run.
+#[derive(Debug, Drop)]
+pub struct Plan {
+    pub nodes: Nodes,
+    /// Where the nodes sit on the cable.
+    pub topology: Topology,
+    pub disturbances: Disturbances,
+    /// The tick at which the simulation ends: a quantum that begins there or later is not run.
+    pub end: u64,
+}
+
+impl Plan {
+    ghost use Rattle.wl_plan.specs.PlanLine.{line_of};
+
+    /// Whether some disturbance makes the line dominant at node `j` and tick `t`.
+    pub fn disturbed(&self, j: u8, t: u64) -> bool
+        requires { j < length self.now.topology.places }
+        ensures { result ≡ (line_of self.now).disturbed j t }
+    {
+        self.disturbances
+            .as_slice()
+            .iter()
+            .any(|d| is_at(&self.topology, *d, j, t))
+    }
+
+    /// An equal plan. Refused for want of memory alone.
+    pub fn clone_in(&self, alloc: Global) -> Result<Plan, AllocError>
+        ensures { IfOk result (λ copy. copy ≡ self.now) }
+    {
+        Ok(Plan {
+            nodes: copied(alloc, self.nodes.as_slice())?,
+            topology: self.topology,
+            disturbances: self.disturbances.clone_in(alloc)?,
+            end: self.end,
+        })
+    }
+}
+
+impl PartialEq for Plan {
+    ghost use Rattle.wl_plan.specs.Same.{same_plan, same_plan_laws};
+
+    ghost eq = { same_plan };
+
+    ghost laws = { same_plan_laws };
+
+    /// Two plans are equal where nodes, topology, disturbances and end are.
+    fn eq(&self, other: &Plan) -> bool
+        ensures value { result ≡ same_plan self.now other.now }
+        ensures same { IsTrue result ↔ (self.now ≡ other.now) }
+    {
+        self.nodes == other.nodes
+            && self.topology == other.topology
+            && self.disturbances == other.disturbances
+            && self.end == other.end
+    }
+}
+
+impl Eq for Plan {
+    ghost use Rattle.wl_plan.specs.Same.{same_plan_equiv};
+
+    ghost laws = { same_plan_equiv };
+}
+
+/// Whether the disturbance has come to node `j` by tick `t` and is not yet over there.
+fn is_at(topology: &Topology, d: Disturbance, j: u8, t: u64) -> bool
+    requires { j < length topology.now.places }
+    ensures { result ≡ (nat_le (d.from + disturbance_delay topology.now d.x j) t && nat_lt t (d.to + disturbance_delay topology.now d.x j)) }
+{
+    let delay = topology.place_delay(d.x, j);
+    let now = t as u128;
+    if now < delay {
+        return false;
+    }
+    let then = now - delay;
+    d.from as u128 <= then && then < d.to as u128
+}
+
+/// Equal setups, in the same order.
+fn copied(alloc: Global, setups: &[NodeSetup]) -> Result<Nodes, AllocError>
+    ensures { IfOk result (λ copy. copy ≡ setups.now) }
+{
+    let mut copy = Listed::new(alloc);
+    for setup in setups {
+        copy.push(setup.clone_in(alloc)?)?;
+    }
+    Ok(copy)
+}
+
+/// Law: truth of a record by cases, of the table of a plan's changes, and the test of it agree.
+pub fn test_of_truth()
+    ensures { TestOfTruth }
+{
+    wl_record::truth_is_its_test();
+}

@@ -1,0 +1,7 @@
+pub mod Loops
+pub mod ValueLemmas
+pub mod UnknownLemmas
+pub mod NameLemmas
+pub mod ReadLemmas
+pub mod CheckLemmas
+pub mod FaultLemmas

@@ -1,0 +1,48 @@
+-- Which plan text or first fault belongs to a document (this project's profile).
+use Rattle.std.specs.Prelude.{◌≡◌, ◌≢◌, Bool, true, false, [], ◌∷◌, map, Option, Some, None, Result, Ok, Err, MatchResult}
+use Rattle.toml.specs.Data.{Members}
+use Rattle.wl_setup.specs.declared.keys.Key.TheVariants as key
+use Rattle.wl_setup.specs.declared.fault.SetupFault.{SetupFault}
+use Rattle.wl_setup.specs.declared.fault.SetupFault.TheVariants.{Version, Missing, Kind, Unknown, SameName, Memory}
+use Rattle.wl_setup.specs.declared.plan_text.PlanText.{PlanText}
+use Rattle.wl_setup.specs.Keys.{top_keys, disturbance_keys}
+use Rattle.wl_setup.specs.Kinds.{tables_at}
+use Rattle.wl_setup.specs.Texts.{plan_of}
+use Rattle.wl_setup.specs.Faults.{first_some, version_fault, table_fault, node_fault}
+use Rattle.wl_setup.specs.Names.{same_name_fault}
+
+-- the first fault: of the version, the top table, each node followed by its frames, the disturbances, the names
+abbrev pub document_fault : Members → Option SetupFault
+document_fault top =
+    first_some (
+    version_fault top
+    ∷ table_fault top_keys top
+    ∷ first_some (map node_fault (tables_at key.Node top))
+    ∷ first_some (map (table_fault disturbance_keys) (tables_at key.Disturbance top))
+    ∷ same_name_fault (plan_of top) ∷ [])
+
+-- a value, unless there is a fault
+abbrev pub unless : {T : Type 0} → Option SetupFault → T → Result T SetupFault
+unless None value = Ok value
+unless (Some fault) value = Err fault
+
+-- the plan text of a document, or its first fault
+abbrev pub plan_text_of : Members → Result PlanText SetupFault
+plan_text_of top = unless (document_fault top) (plan_of top)
+
+-- an answer is this value, or this fault if there is one, unless memory was refused
+abbrev pub Answers : {T : Type 0} → Option SetupFault → T → Result T SetupFault → Type 0
+Answers fault value answer = MatchResult answer (λ v. (fault ≡ None) × (v ≡ value)) (λ e. e ≢ Memory → fault ≡ Some e)
+
+-- the faults that a document can have
+abbrev pub is_document_fault : SetupFault → Bool
+is_document_fault Version = true
+is_document_fault (Missing k) = true
+is_document_fault (Kind k) = true
+is_document_fault (Unknown k) = true
+is_document_fault SameName = true
+is_document_fault _ = false
+
+-- a document has no fault of reading, of TOML, of a setting or of memory
+abbrev pub OnlyDocumentFaults : Type 0
+OnlyDocumentFaults = (top : Members) (fault : SetupFault) → document_fault top ≡ Some fault → is_document_fault fault ≡ true

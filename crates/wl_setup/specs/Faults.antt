@@ -1,0 +1,87 @@
+-- The faults of a plan's tables, in the order in which they are answered (this project's profile).
+use Rattle.std.specs.Prelude.{ℕ, ◌==◌, Bool, not, ◌||◌, if◌then◌else◌, List, [], ◌∷◌, map, filter, Option, Some, None, option_map, is_some}
+use Rattle.std.specs.List.{list_any}
+use Rattle.std.specs.Ordering.{nat_cmp, is_lt}
+use Rattle.std.specs.Str.{bytes_eq}
+use Rattle.std.specs.Cmp.Lexicographic.{slice_cmp}
+use Rattle.toml.specs.Data.{Data, Members, no_members, member}
+use Rattle.wl_setup.specs.declared.keys.Key.{Key}
+use Rattle.wl_setup.specs.declared.keys.Key.TheVariants as key
+use Rattle.wl_setup.specs.declared.fault.SetupFault.{SetupFault}
+use Rattle.wl_setup.specs.declared.fault.SetupFault.TheVariants.{Version, Missing, Kind, Unknown}
+use Rattle.wl_setup.specs.Keys.{key_text, kind_of, TableKeys, node_keys_by_rate, node_keys_by_ppm, frame_keys}
+use Rattle.wl_setup.specs.Kinds.{has_kind, value_at, number_at, tables_at}
+use Rattle.wl_setup.specs.Limits.{known_version}
+
+-- the first of those that are there
+abbrev pub first_some : {A : Type 0} → List (Option A) → Option A
+first_some [] = None
+first_some (None ∷ more) = first_some more
+first_some (Some x ∷ more) = Some x
+
+-- the value of a key is of another kind than the key's
+abbrev pub kind_fault : Key → Data → Option SetupFault
+kind_fault k d = if has_kind (kind_of k) d then None else Some (Kind (key_text k))
+
+-- of a key that has to be there, and of one that may be absent
+abbrev pub required_fault_of : Key → Option Data → Option SetupFault
+required_fault_of k None = Some (Missing (key_text k))
+required_fault_of k (Some d) = kind_fault k d
+
+abbrev pub optional_fault_of : Key → Option Data → Option SetupFault
+optional_fault_of k None = None
+optional_fault_of k (Some d) = kind_fault k d
+
+abbrev pub required_fault : Members → Key → Option SetupFault
+required_fault table k = required_fault_of k (value_at k table)
+
+abbrev pub optional_fault : Members → Key → Option SetupFault
+optional_fault table k = optional_fault_of k (value_at k table)
+
+-- the keys of a table, as they are written
+abbrev pub keys_in : Members → List (List ℕ)
+keys_in no_members = []
+keys_in (member k d more) = k ∷ keys_in more
+
+-- whether a text is one of the keys
+abbrev pub is_among : List Key → List ℕ → Bool
+is_among keys text = list_any (λ k. bytes_eq (key_text k) text) keys
+
+abbrev pub is_known : TableKeys → List ℕ → Bool
+is_known keys text = is_among keys.required text || is_among keys.optional text
+
+-- the lesser of a text and another, if there is another, in the order of their bytes
+abbrev pub lesser : List ℕ → Option (List ℕ) → List ℕ
+lesser text None = text
+lesser text (Some other) = if is_lt (slice_cmp nat_cmp text other) then text else other
+
+-- the first text in the order of their bytes
+abbrev pub least : List (List ℕ) → Option (List ℕ)
+least [] = None
+least (text ∷ more) = Some (lesser text (least more))
+
+-- the first key, in the order of their bytes, that no such table has
+abbrev pub unknown_fault : TableKeys → Members → Option SetupFault
+unknown_fault keys table = option_map Unknown (least (filter (λ text. not (is_known keys text)) (keys_in table)))
+
+-- the first fault of one table: of its required keys, then of its optional ones, then an unknown key
+abbrev pub table_fault : TableKeys → Members → Option SetupFault
+table_fault keys table =
+    first_some (
+    first_some (map (required_fault table) keys.required)
+    ∷ first_some (map (optional_fault table) keys.optional)
+    ∷ unknown_fault keys table ∷ [])
+
+-- the keys of a node go by whether `quantum` is there
+abbrev pub node_keys : Members → TableKeys
+node_keys table = if is_some (value_at key.Quantum table) then node_keys_by_ppm else node_keys_by_rate
+
+-- a version that is missing, of another kind, or not known
+abbrev pub version_fault : Members → Option SetupFault
+version_fault top =
+    first_some (required_fault top key.Version ∷ (if number_at key.Version top == known_version then None else Some Version) ∷ [])
+
+-- of a node: its own table, then its frames
+abbrev pub node_fault : Members → Option SetupFault
+node_fault node =
+    first_some (table_fault (node_keys node) node ∷ first_some (map (table_fault frame_keys) (tables_at key.Frame node)) ∷ [])

@@ -1,0 +1,80 @@
+-- The keys of a plan's tables (this project's profile).
+use Rattle.std.specs.Prelude.{ℕ, List, [], ◌∷◌, codes}
+use Rattle.wl_setup.specs.declared.keys.Key.{Key}
+use Rattle.wl_setup.specs.declared.keys.Key.TheVariants.{Version, End, Per, Node, Disturbance, Name, Offset, Num, Den, Quantum, Ppm, Prop, Ps1, Ps2, Sjw, X, Out, In, Frame, Id, Dlc, Remote, Bytes, Ready, From, To}
+use Rattle.wl_setup.specs.declared.keys.Kind.{Kind}
+use Rattle.wl_setup.specs.declared.keys.Kind.TheVariants as kind
+
+-- a key as it is written
+abbrev pub key_text : Key → List ℕ
+key_text Version = codes "version"
+key_text End = codes "end"
+key_text Per = codes "per"
+key_text Node = codes "node"
+key_text Disturbance = codes "disturbance"
+key_text Name = codes "name"
+key_text Offset = codes "offset"
+key_text Num = codes "num"
+key_text Den = codes "den"
+key_text Quantum = codes "quantum"
+key_text Ppm = codes "ppm"
+key_text Prop = codes "prop"
+key_text Ps1 = codes "ps1"
+key_text Ps2 = codes "ps2"
+key_text Sjw = codes "sjw"
+key_text X = codes "x"
+key_text Out = codes "out"
+key_text In = codes "in"
+key_text Frame = codes "frame"
+key_text Id = codes "id"
+key_text Dlc = codes "dlc"
+key_text Remote = codes "remote"
+key_text Bytes = codes "bytes"
+key_text Ready = codes "ready"
+key_text From = codes "from"
+key_text To = codes "to"
+
+-- what its value has to be
+abbrev pub kind_of : Key → Kind
+kind_of Node = kind.Tables
+kind_of Frame = kind.Tables
+kind_of Disturbance = kind.Tables
+kind_of X = kind.Small
+kind_of Id = kind.Small
+kind_of Dlc = kind.Small
+kind_of Name = kind.Name
+kind_of Ppm = kind.Ppm
+kind_of Remote = kind.Truth
+kind_of Bytes = kind.Bytes
+kind_of _ = kind.Number
+
+-- the keys of a table, in the order in which they are tested
+pub record TableKeys : Type 0 where
+  pub required : List Key
+  pub optional : List Key
+
+abbrev pub top_keys : TableKeys
+top_keys = record { required = Version ∷ End ∷ Per ∷ Node ∷ []; optional = Disturbance ∷ [] }
+
+-- of a node whose rate is written as a fraction
+abbrev pub node_keys_by_rate : TableKeys
+node_keys_by_rate = record {
+  required = Name ∷ Offset ∷ Num ∷ Den ∷ Prop ∷ Ps1 ∷ Ps2 ∷ Sjw ∷ X ∷ Out ∷ In ∷ [];
+  optional = Frame ∷ [];
+}
+
+-- of a node whose rate is written as a whole number of ticks and an error in parts per million
+abbrev pub node_keys_by_ppm : TableKeys
+node_keys_by_ppm = record {
+  required = Name ∷ Offset ∷ Quantum ∷ Ppm ∷ Prop ∷ Ps1 ∷ Ps2 ∷ Sjw ∷ X ∷ Out ∷ In ∷ [];
+  optional = Frame ∷ [];
+}
+
+abbrev pub frame_keys : TableKeys
+frame_keys = record { required = Id ∷ Dlc ∷ []; optional = Remote ∷ Bytes ∷ Ready ∷ [] }
+
+abbrev pub disturbance_keys : TableKeys
+disturbance_keys = record { required = X ∷ From ∷ To ∷ []; optional = [] }
+
+abbrev pub table_keys : List Key → List Key → TableKeys
+table_keys required optional = record { required = required; optional = optional }

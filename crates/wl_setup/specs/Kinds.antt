@@ -1,0 +1,81 @@
+-- What the value of a key has to be, and what it says (this project's profile).
+use Rattle.std.specs.Prelude.{ℕ, ℤ, pos, unsigned_abs, ◌||◌, ◌&&◌, ◌==◌, nat_le, Bool, false, if◌then◌else◌, List, [], ◌∷◌, length, Option, Some, None, is_some, unwrap_or, option_and_then}
+use Rattle.std.specs.List.{list_all, filter_map}
+use Rattle.toml.specs.Data.{Data, integer, array, Items, no_items, item, Members, get_member, as_str, as_integer, as_bool, as_table}
+use Rattle.wl_setup.specs.declared.keys.Key.{Key}
+use Rattle.wl_setup.specs.declared.keys.Kind.{Kind}
+use Rattle.wl_setup.specs.declared.keys.Kind.TheVariants as kind
+use Rattle.wl_setup.specs.Keys.{key_text}
+use Rattle.wl_setup.specs.Limits.{largest_number, largest_small, largest_ppm, largest_byte, longest_name}
+
+-- a whole number from 0 to the greatest
+abbrev pub number_in : ℕ → Data → Option ℕ
+number_in most (integer (pos n)) = if nat_le n most then Some n else None
+number_in most _ = None
+
+-- an ASCII letter or digit, `_` or `-`
+abbrev pub is_name_letter : ℕ → Bool
+is_name_letter c = (nat_le 97 c && nat_le c 122) || (nat_le 65 c && nat_le c 90) || (nat_le 48 c && nat_le c 57) || (c == 95) || (c == 45)
+
+abbrev pub is_name : List ℕ → Bool
+is_name name = nat_le 1 (length name) && nat_le (length name) longest_name && list_all is_name_letter name
+
+-- a whole number whose size is at most the greatest, either way
+abbrev pub is_ppm : ℤ → Bool
+is_ppm n = nat_le (unsigned_abs n) largest_ppm
+
+-- the elements of an array
+abbrev pub list_of : Items → List Data
+list_of no_items = []
+list_of (item d ds) = d ∷ list_of ds
+
+abbrev pub elements_of : Data → Option (List Data)
+elements_of (array items) = Some (list_of items)
+elements_of _ = None
+
+-- whether there is a value, and the test holds of it
+abbrev pub holds : {A : Type 0} → (A → Bool) → Option A → Bool
+holds test None = false
+holds test (Some x) = test x
+
+abbrev pub byte_in : Data → Option ℕ
+byte_in d = number_in largest_byte d
+
+-- whether a value is of a kind
+abbrev pub has_kind : Kind → Data → Bool
+has_kind kind.Number d = is_some (number_in largest_number d)
+has_kind kind.Small d = is_some (number_in largest_small d)
+has_kind kind.Ppm d = holds is_ppm (as_integer d)
+has_kind kind.Truth d = is_some (as_bool d)
+has_kind kind.Name d = holds is_name (as_str d)
+has_kind kind.Bytes d = holds (list_all (λ e. is_some (byte_in e))) (elements_of d)
+has_kind kind.Tables d = holds (list_all (λ e. is_some (as_table e))) (elements_of d)
+
+-- the value of a key
+abbrev pub value_at : Key → Members → Option Data
+value_at key table = get_member (key_text key) table
+
+-- what a value says; where it is absent or of another kind, the default
+abbrev pub number_at : Key → Members → ℕ
+number_at key table = unwrap_or (option_and_then (number_in largest_number) (value_at key table)) 0
+
+abbrev pub small_at : Key → Members → ℕ
+small_at key table = unwrap_or (option_and_then (number_in largest_small) (value_at key table)) 0
+
+abbrev pub ppm_at : Key → Members → ℤ
+ppm_at key table = unwrap_or (option_and_then as_integer (value_at key table)) (pos 0)
+
+abbrev pub truth_at : Key → Members → Bool
+truth_at key table = unwrap_or (option_and_then as_bool (value_at key table)) false
+
+abbrev pub name_at : Key → Members → List ℕ
+name_at key table = unwrap_or (option_and_then as_str (value_at key table)) []
+
+abbrev pub elements_at : Key → Members → List Data
+elements_at key table = unwrap_or (option_and_then elements_of (value_at key table)) []
+
+abbrev pub bytes_at : Key → Members → List ℕ
+bytes_at key table = filter_map byte_in (elements_at key table)
+
+abbrev pub tables_at : Key → Members → List Members
+tables_at key table = filter_map as_table (elements_at key table)

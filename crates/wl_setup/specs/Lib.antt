@@ -1,0 +1,9 @@
+pub mod Limits
+pub mod Keys
+pub mod Kinds
+pub mod Texts
+pub mod Faults
+pub mod Names
+pub mod Document
+pub mod Reading
+pub mod Check

@@ -1,0 +1,48 @@
+-- The limits of a plan's text (this project's profile), each that of the constant of its name.
+use Rattle.std.specs.Prelude.{◌≡◌, ℕ, refl}
+use Rattle.wl_setup.specs.declared.limits.TheConstants.{MOST_BYTES, LARGEST_NUMBER, LARGEST_SMALL, LARGEST_PPM, LARGEST_BYTE, LONGEST_NAME, KNOWN_VERSION}
+
+-- the most bytes of a plan's text
+unfoldable pub most_bytes : ℕ
+most_bytes = MOST_BYTES
+
+-- the greatest whole number
+unfoldable pub largest_number : ℕ
+largest_number = LARGEST_NUMBER
+
+-- the greatest place, identifier or data length code
+unfoldable pub largest_small : ℕ
+largest_small = LARGEST_SMALL
+
+-- the greatest rate error either way, in parts per million
+unfoldable pub largest_ppm : ℕ
+largest_ppm = LARGEST_PPM
+
+-- the greatest byte of a frame
+abbrev pub largest_byte : ℕ
+largest_byte = LARGEST_BYTE
+
+-- the most letters of a name
+abbrev pub longest_name : ℕ
+longest_name = LONGEST_NAME
+
+-- the version that is known
+abbrev pub known_version : ℕ
+known_version = KNOWN_VERSION
+
+-- what each large name stands for, for proofs
+pub most_bytes-is : most_bytes ≡ MOST_BYTES
+unfolding most_bytes
+most_bytes-is = refl
+
+pub largest_number-is : largest_number ≡ LARGEST_NUMBER
+unfolding largest_number
+largest_number-is = refl
+
+pub largest_small-is : largest_small ≡ LARGEST_SMALL
+unfolding largest_small
+largest_small-is = refl
+
+pub largest_ppm-is : largest_ppm ≡ LARGEST_PPM
+unfolding largest_ppm
+largest_ppm-is = refl

@@ -1,0 +1,20 @@
+-- The names of a plan's nodes (this project's profile).
+use Rattle.std.specs.Prelude.{ℕ, Bool, false, ◌||◌, if◌then◌else◌, List, [], ◌∷◌, map, Option, Some, None}
+use Rattle.std.specs.List.{list_any}
+use Rattle.std.specs.Str.{bytes_eq}
+use Rattle.wl_setup.specs.declared.fault.SetupFault.{SetupFault}
+use Rattle.wl_setup.specs.declared.fault.SetupFault.TheVariants.{SameName}
+use Rattle.wl_setup.specs.declared.plan_text.PlanText.{PlanText}
+
+-- the names of the nodes, in the nodes' order
+abbrev pub names_of : PlanText → List (List ℕ)
+names_of plan = map (λ node. node.name) plan.node
+
+-- some text stands twice
+abbrev pub has_repeat : List (List ℕ) → Bool
+has_repeat [] = false
+has_repeat (text ∷ more) = list_any (bytes_eq text) more || has_repeat more
+
+-- two nodes have one name
+abbrev pub same_name_fault : PlanText → Option SetupFault
+same_name_fault plan = if has_repeat (names_of plan) then Some SameName else None

@@ -1,0 +1,57 @@
+-- What the tables of a plan say (this project's profile).
+use Rattle.std.specs.Prelude.{map, if◌then◌else◌, is_some}
+use Rattle.toml.specs.Data.{Members}
+use Rattle.wl_setup.specs.declared.keys.Key.TheVariants as key
+use Rattle.wl_setup.specs.declared.plan_text.PlanText.{PlanText}
+use Rattle.wl_setup.specs.declared.plan_text.NodeText.{NodeText}
+use Rattle.wl_setup.specs.declared.plan_text.FrameText.{FrameText}
+use Rattle.wl_setup.specs.declared.plan_text.DisturbanceText.{DisturbanceText}
+use Rattle.wl_setup.specs.declared.plan_text.ClockText.{ClockText}
+use Rattle.wl_setup.specs.declared.plan_text.ClockText.TheVariants.{Rate, Ppm}
+use Rattle.wl_setup.specs.Kinds.{value_at, number_at, small_at, ppm_at, truth_at, name_at, bytes_at, tables_at}
+
+abbrev pub frame_of : Members → FrameText
+frame_of table = record {
+  id = small_at key.Id table;
+  dlc = small_at key.Dlc table;
+  remote = truth_at key.Remote table;
+  bytes = bytes_at key.Bytes table;
+  ready = number_at key.Ready table;
+}
+
+abbrev pub disturbance_of : Members → DisturbanceText
+disturbance_of table = record {
+  x = small_at key.X table;
+  from = number_at key.From table;
+  to = number_at key.To table;
+}
+
+-- the rate of a node's clock goes by whether `quantum` is there
+abbrev pub clock_of : Members → ClockText
+clock_of table =
+    if is_some (value_at key.Quantum table) then Ppm (number_at key.Quantum table) (ppm_at key.Ppm table)
+    else Rate (number_at key.Num table) (number_at key.Den table)
+
+abbrev pub node_of : Members → NodeText
+node_of table = record {
+  name = name_at key.Name table;
+  offset = number_at key.Offset table;
+  clock = clock_of table;
+  prop = number_at key.Prop table;
+  ps1 = number_at key.Ps1 table;
+  ps2 = number_at key.Ps2 table;
+  sjw = number_at key.Sjw table;
+  x = small_at key.X table;
+  out_delay = number_at key.Out table;
+  in_delay = number_at key.In table;
+  frame = map frame_of (tables_at key.Frame table);
+}
+
+abbrev pub plan_of : Members → PlanText
+plan_of top = record {
+  version = number_at key.Version top;
+  end = number_at key.End top;
+  per = number_at key.Per top;
+  node = map node_of (tables_at key.Node top);
+  disturbance = map disturbance_of (tables_at key.Disturbance top);
+}

@@ -1,0 +1,55 @@
+//! Why a text gives no plan.
+use crate::text::Text;
+use std::alloc::AllocError;
+use thiserror::Error;
+use wl_clock::ClockFault;
+use wl_segments::SegmentsFault;
+
+/// Why a text gives no plan. A key is named as it is written in its table, without a path.
+#[derive(Debug, Drop, Error)]
+pub enum SetupFault {
+    /// The text is no TOML, or not UTF-8.
+    #[error("Toml")]
+    Toml,
+    /// The version is none that is known.
+    #[error("Version")]
+    Version,
+    /// A required key is not there.
+    #[error("Missing({0})")]
+    Missing(Text),
+    /// The value of a key has another type, or lies outside its bounds.
+    #[error("Kind({0})")]
+    Kind(Text),
+    /// A table has a key that no such table has.
+    #[error("Unknown({0})")]
+    Unknown(Text),
+    /// Two nodes have one name.
+    #[error("SameName")]
+    SameName,
+    /// The text has more than 1,048,576 bytes.
+    #[error("Size")]
+    Size,
+    /// The clock of a node, counted from 0.
+    #[error("NodeClock({0}, {1})")]
+    NodeClock(u64, ClockFault),
+    /// The bit segments of a node, counted from 0.
+    #[error("NodeSegments({0}, {1})")]
+    NodeSegments(u64, SegmentsFault),
+    /// The reader failed, or its calls ran out.
+    #[error("Read")]
+    Read,
+    /// Memory was refused.
+    #[error("Memory")]
+    Memory,
+}
+
+impl From<AllocError> for SetupFault {
+    ghost use Rattle.std.specs.Prelude.{◌≡◌};
+    ghost use Rattle.wl_setup.specs.declared.fault.SetupFault.TheVariants.{Memory};
+
+    ghost from_gives = { λ _ fault. fault ≡ Memory };
+
+    fn from(_: AllocError) -> SetupFault {
+        SetupFault::Memory
+    }
+}

@@ -1,0 +1,22 @@
+//! The limits of a plan's text.
+
+/// The most bytes of a plan's text.
+pub const MOST_BYTES: usize = 1_048_576;
+
+/// The greatest whole number, 2^48 - 1.
+pub const LARGEST_NUMBER: u64 = (1 << 48) - 1;
+
+/// The greatest place, identifier or data length code, 2^31 - 1.
+pub const LARGEST_SMALL: u64 = (1 << 31) - 1;
+
+/// The greatest rate error either way, in parts per million.
+pub const LARGEST_PPM: u64 = 1_000_000_000;
+
+/// The greatest byte of a frame.
+pub const LARGEST_BYTE: u64 = 255;
+
+/// The most letters of a name.
+pub const LONGEST_NAME: usize = 32;
+
+/// The version that is known.
+pub const KNOWN_VERSION: u64 = 1;

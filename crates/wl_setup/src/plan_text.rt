@@ -1,0 +1,82 @@
+//! What a plan's text says, key by key, with the numbers as they are written.
+use crate::sequence::Sequence;
+use crate::text::Text;
+
+/// A plan as it is written: one field for each key of the top table.
+///
+/// Nothing is known of the numbers but the bounds of their keys: whole numbers are below 2^48.
+#[derive(Debug, Drop)]
+pub struct PlanText {
+    /// The version of the text: 1.
+    pub version: u64,
+    /// The tick at which the plan ends.
+    pub end: u64,
+    /// Ticks that a level takes along one unit of length.
+    pub per: u64,
+    /// The nodes, in the order of their tables.
+    pub node: Sequence<NodeText>,
+    /// The disturbances, none where the key is absent.
+    pub disturbance: Sequence<DisturbanceText>,
+}
+
+/// The rate of a node's clock as it is written.
+#[derive(Clone, Copy, Debug, PartialEq, Eq)]
+pub enum ClockText {
+    /// A quantum takes `num / den` ticks.
+    Rate { num: u64, den: u64 },
+    /// A quantum takes `quantum` ticks, but for a deviation of `ppm` parts per million, from -10^9 to 10^9.
+    Ppm { quantum: u64, ppm: i64 },
+}
+
+/// A node as it is written: one field for each key, and one for its two clock keys.
+#[derive(Debug, Drop)]
+pub struct NodeText {
+    /// 1 to 32 ASCII letters, digits, `_` or `-`.
+    pub name: Text,
+    /// The tick at which quantum 0 begins.
+    pub offset: u64,
+    /// The keys `num` and `den`, or `quantum` and `ppm`.
+    pub clock: ClockText,
+    /// Quanta of PROP_SEG.
+    pub prop: u64,
+    /// Quanta of PHASE_SEG1.
+    pub ps1: u64,
+    /// Quanta of PHASE_SEG2.
+    pub ps2: u64,
+    /// Quanta of the resynchronisation jump width.
+    pub sjw: u64,
+    /// The place on the cable, in units of length, below 2^31.
+    pub x: u32,
+    /// The key `out`: ticks that a level takes from the node to the cable.
+    pub out_delay: u64,
+    /// The key `in`: ticks that it takes from the cable to the node.
+    pub in_delay: u64,
+    /// The frames that wait at the node, in the order of their tables, none where the key is absent.
+    pub frame: Sequence<FrameText>,
+}
+
+/// A frame that waits at a node, as it is written.
+#[derive(Debug, Drop)]
+pub struct FrameText {
+    /// The identifier, below 2^31.
+    pub id: u32,
+    /// The data length code, below 2^31.
+    pub dlc: u32,
+    /// Whether it is a remote frame, false where the key is absent.
+    pub remote: bool,
+    /// The data bytes, none where the key is absent.
+    pub bytes: Sequence<u8>,
+    /// The quantum of the node from which on the frame may be sent, 0 where the key is absent.
+    pub ready: u64,
+}
+
+/// A disturbance as it is written: at a place of the cable something drives dominant for a while.
+#[derive(Clone, Copy, Debug, PartialEq, Eq)]
+pub struct DisturbanceText {
+    /// The place on the cable, in units of length, below 2^31.
+    pub x: u32,
+    /// The first tick.
+    pub from: u64,
+    /// The first tick after it.
+    pub to: u64,
+}

@@ -1,0 +1,179 @@
+//! What the values of a table's keys are, and what they say.
+ghost use Rattle.std.specs.Prelude.{◌≡◌, ◌≤◌, ◌^◌, ◌<◌, Some, None, option_map, option_copied, IsSome, IfOk, is_some, map};
+ghost use Rattle.std.specs.List.{list_all};
+ghost use Rattle.toml.specs.Data.{as_table};
+ghost use Rattle.toml.specs.View.{view, table_view, items_view};
+ghost use Rattle.wl_setup.specs.Kinds.{number_in, byte_in, is_name, is_name_letter, is_ppm, has_kind, value_at, number_at, small_at, ppm_at, truth_at, name_at, elements_of, elements_at, bytes_at};
+
+use crate::keys::{Key, Kind};
+use crate::limits::{LARGEST_BYTE, LARGEST_NUMBER, LARGEST_PPM, LARGEST_SMALL, LONGEST_NAME};
+use crate::sequence::Sequence;
+use crate::text::Text;
+use std::alloc::{AllocError, Global};
+use toml::{Table, Value};
+
+/// The value of a key.
+pub(crate) fn value_at(table: &Table, key: Key) -> Option<&Value>
+    ensures { option_map (λ v. view v.now) result ≡ value_at key (table_view table.now) }
+{
+    table.get(key.text())
+}
+
+/// A whole number from 0 to the greatest.
+fn number_in(most: u64, value: &Value) -> Option<u64>
+    ensures { result ≡ number_in most (view value.now) }
+{
+    match value.as_integer() {
+        Some(n) if n >= 0 && n as u64 <= most => Some(n as u64),
+        _ => None,
+    }
+}
+
+fn is_name_letter(letter: u8) -> bool
+    ensures { result ≡ is_name_letter letter }
+{
+    letter.is_ascii_alphanumeric() || letter == b'_' || letter == b'-'
+}
+
+fn are_name_letters(text: &str) -> bool
+    ensures { result ≡ list_all is_name_letter text.now }
+{
+    text.as_bytes().iter().all(|letter| is_name_letter(*letter))
+}
+
+fn is_name(text: &str) -> bool
+    ensures { result ≡ is_name text.now }
+{
+    1 <= text.len() && text.len() <= LONGEST_NAME && are_name_letters(text)
+}
+
+#[tactic(auto, unfolding(crate::specs::Limits::largest_ppm))]
+fn is_ppm(n: i64) -> bool
+    ensures { result ≡ is_ppm n }
+{
+    n.unsigned_abs() <= LARGEST_PPM
+}
+
+fn are_bytes(values: &[Value]) -> bool
+    ensures { result ≡ list_all (λ v. is_some (byte_in (view v))) values.now }
+{
+    values
+        .iter()
+        .all(|value| number_in(LARGEST_BYTE, value).is_some())
+}
+
+fn are_tables(values: &[Value]) -> bool
+    ensures { result ≡ list_all (λ v. is_some (as_table (view v))) values.now }
+{
+    values.iter().all(|value| value.is_table())
+}
+
+/// The elements of an array.
+fn elements_of(value: &Value) -> Option<&[Value]>
+    ensures { option_map (λ vs. map view vs.now) result ≡ elements_of (view value.now) }
+{
+    match value.as_array() {
+        Some(array) => Some(array.as_slice()),
+        None => None,
+    }
+}
+
+/// Whether a value is of a kind.
+#[tactic(auto, unfolding(crate::specs::Limits::largest_number, crate::specs::Limits::largest_small))]
+pub(crate) fn has_kind(kind: Kind, value: &Value) -> bool
+    ensures { result ≡ has_kind kind (view value.now) }
+{
+    match kind {
+        Kind::Number => number_in(LARGEST_NUMBER, value).is_some(),
+        Kind::Small => number_in(LARGEST_SMALL, value).is_some(),
+        Kind::Ppm => value.as_integer().is_some_and(is_ppm),
+        Kind::Truth => value.is_bool(),
+        Kind::Name => value.as_str().is_some_and(is_name),
+        Kind::Bytes => match elements_of(value) {
+            Some(values) => are_bytes(values),
+            None => false,
+        },
+        Kind::Tables => match elements_of(value) {
+            Some(values) => are_tables(values),
+            None => false,
+        },
+    }
+}
+
+/// The number at a key, 0 where it has none.
+#[tactic(auto, unfolding(crate::specs::Limits::largest_number))]
+pub(crate) fn number_at(table: &Table, key: Key) -> u64
+    ensures { result ≡ number_at key (table_view table.now) }
+{
+    match value_at(table, key) {
+        Some(value) => number_in(LARGEST_NUMBER, value).unwrap_or(0),
+        None => 0,
+    }
+}
+
+/// The small number at a key, 0 where it has none.
+#[tactic(auto, unfolding(crate::specs::Limits::largest_small))]
+pub(crate) fn small_at(table: &Table, key: Key) -> u32
+    ensures { result ≡ small_at key (table_view table.now) }
+{
+    match value_at(table, key) {
+        Some(value) => match number_in(LARGEST_SMALL, value) {
+            Some(n) => n as u32,
+            None => 0,
+        },
+        None => 0,
+    }
+}
+
+/// The whole number at a key, 0 where it has none.
+pub(crate) fn ppm_at(table: &Table, key: Key) -> i64
+    ensures { result ≡ ppm_at key (table_view table.now) }
+{
+    match value_at(table, key) {
+        Some(value) => value.as_integer().unwrap_or(0),
+        None => 0,
+    }
+}
+
+/// The truth value at a key, false where it has none.
+pub(crate) fn truth_at(table: &Table, key: Key) -> bool
+    ensures { result ≡ truth_at key (table_view table.now) }
+{
+    match value_at(table, key) {
+        Some(value) => value.as_bool().unwrap_or(false),
+        None => false,
+    }
+}
+
+/// The text at a key, empty where it has none.
+pub(crate) fn name_at(alloc: Global, table: &Table, key: Key) -> Result<Text, AllocError>
+    ensures { IfOk result (λ t. t ≡ name_at key (table_view table.now)) }
+{
+    match value_at(table, key) {
+        Some(value) => Text::new(alloc, value.as_str().unwrap_or("")),
+        None => Text::new(alloc, ""),
+    }
+}
+
+/// The elements of the array at a key, none where it has no array.
+pub(crate) fn elements_at(table: &Table, key: Key) -> &[Value]
+    ensures { map view result.now ≡ elements_at key (table_view table.now) }
+{
+    match value_at(table, key) {
+        Some(value) => elements_of(value).unwrap_or(&[]),
+        None => &[],
+    }
+}
+
+/// The bytes in the array at a key.
+pub(crate) fn bytes_at(alloc: Global, table: &Table, key: Key) -> Result<Sequence<u8>, AllocError>
+    ensures { IfOk result (λ bytes. bytes ≡ bytes_at key (table_view table.now)) }
+{
+    let mut bytes = Sequence::new(alloc);
+    for value in elements_at(table, key) {
+        if let Some(byte) = number_in(LARGEST_BYTE, value) {
+            bytes.push(byte as u8)?;
+        }
+    }
+    Ok(bytes)
+}

@@ -1,0 +1,5 @@
+mod Lists
+mod WorldProofs
+mod NoStallProofs
+mod SettlingProofs
+mod Rows

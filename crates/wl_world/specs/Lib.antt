@@ -1,0 +1,4 @@
+pub mod Headline
+pub mod Scene
+pub mod Settling
+pub mod Steps

@@ -1,0 +1,40 @@
+//! All groups of a line together, over every schedule.
+#![tactic(auto)]
+
+ghost use Rattle.wl_world.specs.Headline.{Headline, NoStall};
+ghost use Rattle.wl_world.specs.Settling.{SettlingLaws};
+
+mod events;
+
+pub use events::{Answer, Event};
+
+/// Whatever the groups do, in whatever order records come, repeated or late, whoever joins or
+/// restarts: every emitted record is true, replicas that took the same records are equal, and
+/// below each horizon, at each node and in each read, all is as in the one-thread simulation.
+pub fn headline()
+    ensures { Headline }
+{
+    wl_replica::same_records_same_state();
+    wl_replica::taking_is_joining();
+    wl_replica::joining_is_a_join();
+    wl_replica::slots_of_states();
+    wl_replica::known_laws();
+    wl_group::group_laws();
+}
+
+/// Where each group has taken all that was emitted, some node can advance, or all are at the end:
+/// the groups never wait for each other in a ring.
+pub fn no_stall()
+    ensures { NoStall }
+{
+    wl_replica::known_laws();
+    wl_group::group_laws();
+}
+
+/// What settling rests on: each advance runs one of the quanta that are left, a delivery none; no
+/// quantum is left exactly where all nodes are at the end; what is delivered is taken and stays.
+pub fn settling_laws()
+    ensures { SettlingLaws }
+{
+    wl_plan::simulation_laws();
+}
