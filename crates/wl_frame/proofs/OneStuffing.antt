@@ -7,9 +7,9 @@ use Rattle.std.proofs.lemmas.Bool.{both_ways, cases_lt}
 use Rattle.wl_intervals.specs.declared.Level.{Level}
 use Rattle.wl_intervals.specs.declared.Level.TheVariants.{Dominant, Recessive}
 use Rattle.wl_intervals.specs.Levels.{same, opposite}
-use Rattle.wl_intervals.specs.Places.{at, before, run_at}
+use Rattle.wl_intervals.specs.Places.{at, before, run_at, IsFirst}
 use Rattle.wl_intervals.proofs.Places.{at_new, at_front, before_front, same_opposite, other_level}
-use Rattle.wl_intervals.proofs.FirstPlace.{IsFirst, first_none, first_is}
+use Rattle.wl_intervals.proofs.FirstPlace.{first_none, first_is}
 use Rattle.wl_frame.specs.Stuffing.{is_stuff, kept, destuffed, Stuffs, ends_six, first_six, IsStuffedFront}
 use Rattle.wl_frame.proofs.Stuffed.{stuff_run, stuff_front, kept_front, opposes_more, Opposes, run_more}
 

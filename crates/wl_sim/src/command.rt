@@ -3,6 +3,7 @@
 use clap::error::ErrorKind;
 use clap::{Command, Error};
 use std::alloc::Global;
+use std::io;
 use std::rt::Env;
 
 /// What the program is asked to do.
@@ -62,7 +63,10 @@ pub fn read<R: Env + AllocGlobal + Eprint>(rt: &R) -> Result<Task, Refusal> {
             Ok(words) => words,
             Err(_) => return Err(Refusal::Memory),
         },
-        Err(_) => {
+        Err(error) => {
+            if error.kind() == io::ErrorKind::OutOfMemory {
+                return Err(Refusal::Memory);
+            }
             let _ = eprintln!(rt; "error: the arguments are no text");
             return Err(Refusal::Words);
         }
