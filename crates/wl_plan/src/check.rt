@@ -46,7 +46,7 @@ impl Plan {
         if self.has_wrong_nodes() {
             return Err(PlanFault::Nodes);
         }
-        if self.end > LATEST_END {
+        if self.ends_late() {
             return Err(PlanFault::End);
         }
         if let Some(i) = first_with_many_quanta(nodes, self.end) {
@@ -69,6 +69,13 @@ impl Plan {
         let nodes = self.nodes.len();
         let places = self.topology.nodes() as usize;
         nodes == 0 || nodes > MOST_NODES || nodes != places
+    }
+
+    /// Whether the end is later than it may be.
+    fn ends_late(&self) -> bool
+        ensures { result ≡ nat_lt latest_end self.now.end }
+    {
+        self.end > LATEST_END
     }
 
     /// The number of the first disturbance that is refused.

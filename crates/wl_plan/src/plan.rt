@@ -116,6 +116,4 @@ fn copied(alloc: Global, setups: &[NodeSetup]) -> Result<Nodes, AllocError>
 /// Law: truth of a record by cases, of the table of a plan's changes, and the test of it agree.
 pub fn test_of_truth()
     ensures { TestOfTruth }
-{
-    wl_record::truth_is_its_test();
-}
+{}

@@ -8,7 +8,7 @@ use Rattle.wl_record.specs.declared.fault.TextFault.TheVariants.{Line, Range, Tr
 use Rattle.wl_record.specs.Limits.{most_bytes, most_line}
 use Rattle.wl_record.specs.Within.{IsWithin}
 use Rattle.wl_record.specs.Grammar.{Spells, Lines, IsText}
-use Rattle.wl_record.specs.Faults.{Ending, at_end, broken_off, HasNoNewline, Stands, EndsLine, GoesPast, FaultThere, IsFirstFault, IsAnswer}
+use Rattle.wl_record.specs.Faults.{Ending, at_end, broken_off, going_on, HasNoNewline, Stands, EndsLine, GoesPast, FaultThere, IsFirstFault, IsAnswer}
 use Rattle.wl_record.proofs.GrammarLemmas.{spelled_one_line, spelled_once, spelled_short}
 use Rattle.wl_record.proofs.Runs.{nothing_after}
 
@@ -211,3 +211,33 @@ one_answer text e (Err f) (Err g) (rs, begun, rest, stands, there) (qs, cegun, s
     let same = one_place text text rs qs begun rest cegun sest (place_of_fault text rs begun rest stands (final_of_fault text rs begun rest e f there)) (place_of_fault text qs cegun sest stood (final_of_fault text qs cegun sest e g here)) in
     let P : List Record → List ℕ → List ℕ → Type 0 = λ us bs xs. FaultThere text us bs xs e g in
     ap Err (same_fault text rs begun rest e f g there (subst (λ us. P us begun rest) (sym same.0) (subst (λ bs. P qs bs rest) (sym same.1) (subst (λ xs. P qs cegun xs) (sym same.2) here))))
+
+-- ---- what comes after a fault changes nothing
+stands_more : (text : List ℕ) (rs : List Record) (begun rest more : List ℕ) → Stands text rs begun rest → Stands (text ++ more) rs begun (rest ++ more)
+stands_more text rs begun rest more h = record {
+  front = h.front;
+  parts = ap (λ z. z ++ more) h.parts ∙ (append_assoc h.front (begun ++ rest) more ∙ ap (λ z. h.front ++ z) (append_assoc begun rest more));
+  lines = h.lines;
+  within = h.within;
+  one_line = h.one_line;
+  short_line = h.short_line;
+  short_text = omega (arith, h.short_text, length-append text more, length-append rest more);
+}
+
+ends_line_more : (text rest more : List ℕ) → EndsLine text rest → EndsLine (text ++ more) (rest ++ more)
+ends_line_more text rest more h = (h.0 ++ more, ap (λ z. z ++ more) h.1, omega (arith, h.2, length-append text more, length-append rest more))
+
+goes_past_more : (text begun rest more : List ℕ) → GoesPast text begun rest → GoesPast (text ++ more) begun (rest ++ more)
+goes_past_more text begun rest more (next, others, is, inl full) = (next, others ++ more, ap (λ z. z ++ more) is, inl (omega (arith, full, length-append text more, length-append rest more)))
+goes_past_more text begun rest more (next, others, is, inr long) = (next, others ++ more, ap (λ z. z ++ more) is, inr long)
+
+fault_there_more : (text : List ℕ) (rs : List Record) (begun rest more : List ℕ) (e : Ending) (fault : TextFault) → FaultThere text rs begun rest going_on fault → FaultThere (text ++ more) rs begun (rest ++ more) e fault
+fault_there_more text rs begun rest more e (Line n) h = (h.0, ends_line_more text rest more h.1, h.2)
+fault_there_more text rs begun rest more e (Range n) h = (h.0, ends_line_more text rest more h.1, h.2, h.3, h.4)
+fault_there_more text rs begun rest more e Truncated h = absurd (let bad : going_on ≡ at_end = h.2 in cc)
+fault_there_more text rs begun rest more e Read h = absurd (let bad : going_on ≡ broken_off = h.1 in cc)
+fault_there_more text rs begun rest more e (TooLong n) h = (h.0, goes_past_more text begun rest more h.1)
+fault_there_more text rs begun rest more e Memory h = absurd h
+
+pub fault_stays : (text more : List ℕ) (e : Ending) (fault : TextFault) → IsFirstFault text going_on fault → IsFirstFault (text ++ more) e fault
+fault_stays text more e fault (rs, begun, rest, stands, there) = (rs, begun, rest ++ more, stands_more text rs begun rest more stands, fault_there_more text rs begun rest more e fault there)

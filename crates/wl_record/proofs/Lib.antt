@@ -5,6 +5,7 @@ pub mod NumberLemmas
 pub mod ParseLemmas
 pub mod PieceLemmas
 pub mod ReadLemmas
+mod Rows
 pub mod Runs
 mod TableProofs
 mod TruthProofs

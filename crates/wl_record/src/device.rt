@@ -1,5 +1,5 @@
 //! Readers and writers, by what they answer to each call.
-ghost use Rattle.std.specs.Prelude.{◌≡◌, ◌<◌, ◌≤◌, ◌+◌, length, List, ℕ, Result};
+ghost use Rattle.std.specs.Prelude.{◌<◌, ◌≤◌, length};
 
 use crate::limits::MOST_CALLS;
 

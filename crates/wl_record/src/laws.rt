@@ -1,15 +1,22 @@
 //! Laws of record text: each is the contract of a function that does nothing.
-ghost use Rattle.std.specs.Prelude.{◌≡◌, ◌↔◌, List, ℕ, Result};
+ghost use Rattle.std.specs.Prelude.{◌≡◌, ◌++◌, ◌↔◌, List, ℕ, Result};
 ghost use Rattle.wl_record.specs.declared.record.Record.{Record};
 ghost use Rattle.wl_record.specs.declared.fault.TextFault.{TextFault};
 ghost use Rattle.wl_record.specs.Within.{IsWithin};
 ghost use Rattle.wl_record.specs.Text.{words_of, text_of};
 ghost use Rattle.wl_record.specs.Grammar.{Spells, IsText};
-ghost use Rattle.wl_record.specs.Faults.{Ending, IsAnswer};
+ghost use Rattle.wl_record.specs.Faults.{Ending, going_on, IsFirstFault, IsAnswer};
 
 /// Some bytes and their ending have one answer: the records of a text, or one fault.
 pub fn one_answer_law()
-    ensures { (text : List ℕ) (e : Ending) (a b : Result (List Record) TextFault) → IsAnswer text e a → IsAnswer text e b → a ≡ b }
+    ensures { (text : List ℕ) (e : Ending) (a b : Result (List Record) TextFault)
+        → IsAnswer text e a → IsAnswer text e b → a ≡ b }
+{}
+
+/// A fault of bytes that go on is that of all the bytes, whatever comes after them and however they end.
+pub fn fault_stays_law()
+    ensures { (text more : List ℕ) (e : Ending) (fault : TextFault)
+        → IsFirstFault text going_on fault → IsFirstFault (text ++ more) e fault }
 {}
 
 /// A record that is within is spelled exactly as it is written.

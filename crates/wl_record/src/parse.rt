@@ -70,7 +70,8 @@ fn field(bytes: &[u8]) -> Option<(u64, &[u8])>
 
 /// A space and a number, twice, and what follows them.
 fn two_fields(bytes: &[u8]) -> Option<(u64, u64, &[u8])>
-    ensures found { IfSome result (λ r. (a b : ℕ) × FieldsThen bytes.now (a ∷ b ∷ []) r.2.now × (r.0 ≡ capped a) × (r.1 ≡ capped b)) }
+    ensures found { IfSome result (λ r. (a b : ℕ) × FieldsThen bytes.now (a ∷ b ∷ []) r.2.now
+        × (r.0 ≡ capped a) × (r.1 ≡ capped b)) }
     ensures none { IfNone result ((a b : ℕ) (rest : List ℕ) → ¬ (FieldsThen bytes.now (a ∷ b ∷ []) rest)) }
 {
     let Some((first, more)) = field(bytes) else {
@@ -84,7 +85,8 @@ fn two_fields(bytes: &[u8]) -> Option<(u64, u64, &[u8])>
 
 /// A space and a number, three times, and what follows them.
 fn three_fields(bytes: &[u8]) -> Option<(u64, u64, u64, &[u8])>
-    ensures found { IfSome result (λ r. (a b k : ℕ) × FieldsThen bytes.now (a ∷ b ∷ k ∷ []) r.3.now × (r.0 ≡ capped a) × (r.1 ≡ capped b) × (r.2 ≡ capped k)) }
+    ensures found { IfSome result (λ r. (a b k : ℕ) × FieldsThen bytes.now (a ∷ b ∷ k ∷ []) r.3.now
+        × (r.0 ≡ capped a) × (r.1 ≡ capped b) × (r.2 ≡ capped k)) }
     ensures none { IfNone result ((a b k : ℕ) (rest : List ℕ) → ¬ (FieldsThen bytes.now (a ∷ b ∷ k ∷ []) rest)) }
 {
     let Some((first, more)) = field(bytes) else {
@@ -146,7 +148,8 @@ fn silence(node: u64, count: u64, until: u64) -> Option<Record>
 /// The fields of an edge, and what follows them. The edge is told where it is within.
 fn edge_front(fields: &[u8]) -> Option<(Option<Record>, &[u8])>
     ensures found { IfSome result (λ f. IsFront 69 fields.now f.0 f.1.now) }
-    ensures none { IfNone result ((r : Record) (rest : List ℕ) → letter_of r ≡ 69 → ¬ (FieldsThen fields.now (numbers_of r) rest)) }
+    ensures none { IfNone result ((r : Record) (rest : List ℕ)
+        → letter_of r ≡ 69 → ¬ (FieldsThen fields.now (numbers_of r) rest)) }
 {
     let Some((node, seq, tick, rest)) = three_fields(fields) else {
         return None;
@@ -157,7 +160,8 @@ fn edge_front(fields: &[u8]) -> Option<(Option<Record>, &[u8])>
 /// The fields of a clash, likewise.
 fn clash_front(fields: &[u8]) -> Option<(Option<Record>, &[u8])>
     ensures found { IfSome result (λ f. IsFront 67 fields.now f.0 f.1.now) }
-    ensures none { IfNone result ((r : Record) (rest : List ℕ) → letter_of r ≡ 67 → ¬ (FieldsThen fields.now (numbers_of r) rest)) }
+    ensures none { IfNone result ((r : Record) (rest : List ℕ)
+        → letter_of r ≡ 67 → ¬ (FieldsThen fields.now (numbers_of r) rest)) }
 {
     let Some((node, seq, rest)) = two_fields(fields) else {
         return None;
@@ -168,7 +172,8 @@ fn clash_front(fields: &[u8]) -> Option<(Option<Record>, &[u8])>
 /// The fields of a silence, likewise.
 fn silence_front(fields: &[u8]) -> Option<(Option<Record>, &[u8])>
     ensures found { IfSome result (λ f. IsFront 83 fields.now f.0 f.1.now) }
-    ensures none { IfNone result ((r : Record) (rest : List ℕ) → letter_of r ≡ 83 → ¬ (FieldsThen fields.now (numbers_of r) rest)) }
+    ensures none { IfNone result ((r : Record) (rest : List ℕ)
+        → letter_of r ≡ 83 → ¬ (FieldsThen fields.now (numbers_of r) rest)) }
 {
     let Some((node, count, until, rest)) = three_fields(fields) else {
         return None;
@@ -208,7 +213,8 @@ fn parse_line(line: &[u8]) -> Result<Record, LineFault>
 
 /// Where the first newline stands, if it does among the bytes of a line and the one after.
 fn newline_at(bytes: &[u8]) -> Option<usize>
-    ensures found { IfSome result (λ at. (at ≤ most_line) × (at < length bytes.now) × HasNoNewline (take at bytes.now) × (slice_index bytes.now at ≡ 10)) }
+    ensures found { IfSome result (λ at. (at ≤ most_line) × (at < length bytes.now)
+        × HasNoNewline (take at bytes.now) × (slice_index bytes.now at ≡ 10)) }
     ensures none { IfNone result (HasNoNewline (take (most_line + 1) bytes.now)) }
 {
     for at in 0..bytes.len().min(MOST_LINE + 1) {
@@ -259,7 +265,8 @@ pub fn take_lines<'a>(
     bytes: &'a [u8],
     records: &mut Vec<Record>,
 ) -> Result<(&'a [u8], Stop), AllocError>
-    ensures told { IfOk result (λ t. (rs : List Record) × TakesLines bytes.now rs t.0.now × (records.new.items ≡ records.old.items ++ rs)) }
+    ensures told { IfOk result (λ t. (rs : List Record) × TakesLines bytes.now rs t.0.now
+        × (records.new.items ≡ records.old.items ++ rs)) }
     ensures stop { IfOk result (λ t. IsStop t.0.now t.1) }
 {
     let mut rest = bytes;

@@ -1,10 +1,9 @@
 //! Reading records from a reader, piece by piece.
-ghost use Rattle.std.specs.Prelude.{◌≡◌, ◌↔◌, ◌<◌, ◌≤◌, ◌+◌, ◌++◌, ◌-◌, ◌^◌, length, take, drop, min, List, IfOk, IfErr, MatchResult, MatchBool, OnOk, IsTrue};
-ghost use Rattle.wl_record.specs.Limits.{most_bytes, most_calls, most_line};
+ghost use Rattle.std.specs.Prelude.{◌≡◌, ◌↔◌, ◌<◌, ◌≤◌, ◌+◌, ◌++◌, ◌-◌, ◌^◌, length, take, drop, List, IfOk, IfErr, IsTrue};
 
 use crate::device::{Got, Source};
 use crate::fault::TextFault;
-use crate::limits::{MOST_BYTES, MOST_CALLS, MOST_LINE};
+use crate::limits::{MOST_BYTES, MOST_CALLS};
 use crate::parse::{LineFault, Stop, take_lines};
 use crate::record::Record;
 use std::alloc::{AllocError, Global};
@@ -32,7 +31,6 @@ fn read_behind<R: Source>(reader: &mut R, buffer: &mut Vec<u8>, have: usize, mos
 ghost use Rattle.wl_record.specs.declared.record.Record.{Record};
 ghost use Rattle.wl_record.specs.declared.parse.Stop.TheVariants.{Open};
 ghost use Rattle.wl_record.specs.Parsing.{TakesPiece, IsPieceFault, stop_fault};
-ghost use Rattle.wl_record.specs.Faults.{HasNoNewline};
 
 fn is_open(stop: Stop) -> bool
     ensures { IsTrue result ↔ (stop ≡ Open) }
@@ -67,7 +65,10 @@ fn take_piece(
     requires within { filled ≤ length buffer.old.items }
     requires some { 0 < filled }
     requires few { lines < 2 ^ 63 - length buffer.old.items }
-    ensures ok { IfOk result (λ r. (rs : List Record) × TakesPiece (take filled buffer.old.items) past rs (take r.0 buffer.new.items) × (r.0 ≡ length (take r.0 buffer.new.items)) × (r.1 ≡ lines + length rs) × (records.new.items ≡ records.old.items ++ rs)) }
+    ensures ok { IfOk result (λ r. (rs : List Record)
+        × TakesPiece (take filled buffer.old.items) past rs (take r.0 buffer.new.items)
+        × (r.0 ≡ length (take r.0 buffer.new.items)) × (r.1 ≡ lines + length rs)
+        × (records.new.items ≡ records.old.items ++ rs)) }
     ensures fault { IfErr result (λ fault. IsPieceFault (take filled buffer.old.items) past lines fault) }
     ensures len { length buffer.new.items ≡ length buffer.old.items }
 {
@@ -105,15 +106,22 @@ pub struct RecordReader {
 }
 
 impl Model for RecordReader {
-    ghost use Rattle.std.specs.Prelude.{◌≡◌, ◌+◌, ◌^◌, ◌<◌, ◌≤◌, length, take};
+    ghost use Rattle.std.specs.Prelude.{◌+◌, ◌^◌, ◌<◌, ◌≤◌, length, take};
     ghost use Rattle.wl_record.specs.Limits.{most_bytes, most_calls, most_line};
     ghost use Rattle.wl_record.specs.Reading.{Progress};
 
     ghost Value = { Progress };
 
-    ghost view = { λ r. record { calls = r.calls; bytes = r.bytes; lines = r.lines; begun = take r.begun r.buffer.items } };
+    ghost view = { λ r. record {
+      calls = r.calls;
+      bytes = r.bytes;
+      lines = r.lines;
+      begun = take r.begun r.buffer.items;
+    } };
 
-    ghost invariant = { λ r. (r.begun ≤ most_line) × (most_line < length r.buffer.items) × (length r.buffer.items < 2 ^ 32) × (r.calls ≤ most_calls) × (r.bytes ≤ most_bytes) × (r.lines + r.begun ≤ r.bytes) };
+    ghost invariant = { λ r. (r.begun ≤ most_line) × (most_line < length r.buffer.items)
+        × (length r.buffer.items < 2 ^ 32) × (r.calls ≤ most_calls) × (r.bytes ≤ most_bytes)
+        × (r.lines + r.begun ≤ r.bytes) };
 }
 
 impl RecordReader {
@@ -139,7 +147,8 @@ impl RecordReader {
         reader: &mut R,
         records: &mut Vec<Record>,
     ) -> Result<Came, TextFault>
-        ensures came { IfOk result (λ came. (rs : List Record) × (records.new.items ≡ records.old.items ++ rs) × GoesOnWith R.gives self.old reader.old came rs self.new reader.new) }
+        ensures came { IfOk result (λ came. (rs : List Record) × (records.new.items ≡ records.old.items ++ rs)
+            × GoesOnWith R.gives self.old reader.old came rs self.new reader.new) }
         ensures steps { IfOk result (λ came. IsNext came self.old self.new) }
         ensures fault { IfErr result (λ fault. FaultsWith R.gives self.old reader.old fault reader.new) }
     {

@@ -1,5 +1,4 @@
 //! Devices for tests, which follow a script.
-ghost use Rattle.std.specs.Prelude.{◌≡◌, ◌<◌, ◌+◌, length};
 
 use crate::device::{Got, Put, Sink, Source};
 

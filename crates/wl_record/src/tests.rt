@@ -385,6 +385,7 @@ fn faults_and_records_are_shown(rt: HostRuntime) -> Result<(), Fail> {
 #[test]
 fn laws_hold(_rt: HostRuntime) {
     crate::one_answer_law();
+    crate::fault_stays_law();
     crate::spelling_law();
     crate::text_law();
     crate::clash_is_never_true();

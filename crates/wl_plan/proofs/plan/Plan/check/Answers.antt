@@ -1,7 +1,6 @@
 -- Each way out of the check is the first fault in their order, and without one the plan is checked.
 use Rattle.std.proofs.Common.{◌≡◌, None, All, nat_lt, sym, subst}
 use Rattle.std.specs.List.{position, enumerate_from}
-use Rattle.std.proofs.lemmas.Bool.{le-ltb}
 use Rattle.wl_clock.specs.Timing.{IsTiming}
 use Rattle.wl_node.specs.declared.setup.NodeSetup.{NodeSetup}
 use Rattle.wl_plan.specs.Limits.{latest_end}
@@ -13,19 +12,19 @@ pub returns-in-Some-first_with_long_queue-clause-fault : goal.returns-in-Some-fi
 returns-in-Some-first_with_long_queue-clause-fault c =
     sym (fault_of_queue (has_wrong_nodes c.args.self.now) (nat_lt latest_end c.args.self.now.end) (position (has_many_quanta c.args.self.now.end) c.args.self.now.nodes)
     (position has_long_queue c.args.self.now.nodes) (position (is_refused c.args.self.now) (enumerate_from 0 c.args.self.now.disturbances))
-    _ (cc) (le-ltb _ _ c.if-self-gt-LATEST_END.false) (cc) (cc))
+    _ (cc) (cc) (cc) (cc))
 
 pub returns-in-Some-first_refused-clause-fault : goal.returns-in-Some-first_refused-clause-fault
 returns-in-Some-first_refused-clause-fault c =
     sym (fault_of_disturbance (has_wrong_nodes c.args.self.now) (nat_lt latest_end c.args.self.now.end) (position (has_many_quanta c.args.self.now.end) c.args.self.now.nodes)
     (position has_long_queue c.args.self.now.nodes) (position (is_refused c.args.self.now) (enumerate_from 0 c.args.self.now.disturbances))
-    _ (cc) (le-ltb _ _ c.if-self-gt-LATEST_END.false) (cc) (cc) (cc))
+    _ (cc) (cc) (cc) (cc) (cc))
 
 none : (c : goal.In_default-first_refused) → fault_of c.args.self.now ≡ None
 none c =
     faultless (has_wrong_nodes c.args.self.now) (nat_lt latest_end c.args.self.now.end) (position (has_many_quanta c.args.self.now.end) c.args.self.now.nodes)
     (position has_long_queue c.args.self.now.nodes) (position (is_refused c.args.self.now) (enumerate_from 0 c.args.self.now.disturbances))
-    (record { right = (cc); early = le-ltb _ _ c.if-self-gt-LATEST_END.false; few = (cc); short = (cc); accepted = (cc) })
+    (record { right = (cc); early = (cc); few = (cc); short = (cc); accepted = (cc) })
 
 pub returns-clause-fault : goal.returns-clause-fault
 returns-clause-fault c = sym (none c)

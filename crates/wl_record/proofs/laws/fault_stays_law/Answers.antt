@@ -1,0 +1,5 @@
+use Rattle.wl_record.proofs.AnswerLemmas.{fault_stays}
+use Rattle.wl_record.proofs.laws.fault_stays_law.Goals as goal
+
+pub returns : goal.returns
+returns c = fault_stays
