@@ -1,5 +1,5 @@
 #!/usr/bin/env python3
-"""Runs a program three times over an input file and prints the least wall time and the peak memory.
+"""Runs a program three times (or RUNS times) over an input file and prints the least wall time and the peak memory.
 
 usage: measure.py NAME INPUT PROGRAM [WORD..]
 """
@@ -12,7 +12,7 @@ import time
 def main() -> None:
     name, path, words = sys.argv[1], sys.argv[2], sys.argv[3:]
     walls, peak, status, size = [], 0, 0, 0
-    for _ in range(3):
+    for _ in range(int(os.environ.get("RUNS", "3"))):
         with open(path, "rb") as source, open(path + ".out", "wb") as sink:
             start = time.monotonic()
             child = subprocess.Popen(words, stdin=source, stdout=sink)

@@ -167,19 +167,19 @@ impl Counters {
     }
 
     /// The transmit error count, 0 to 256.
-    pub fn tec(&self) -> u16
+    pub fn tec(&self) -> u64
         ensures value { result ≡ self.now.tec }
         ensures limits { AreCounts self.now }
     {
-        self.tec
+        u64::from(self.tec)
     }
 
     /// The receive error count, 0 to 255.
-    pub fn rec(&self) -> u16
+    pub fn rec(&self) -> u64
         ensures value { result ≡ self.now.rec }
         ensures limits { AreCounts self.now }
     {
-        self.rec
+        u64::from(self.rec)
     }
 
     /// The mode that the counters give.

@@ -4,7 +4,7 @@ use super::*;
 use std::process::Abort;
 
 /// The counts and the mode are these.
-fn expect(rt: &impl Abort, counters: &Counters, tec: u16, rec: u16, mode: Mode) {
+fn expect(rt: &impl Abort, counters: &Counters, tec: u64, rec: u64, mode: Mode) {
     assert_eq!(rt; counters.tec(), tec);
     assert_eq!(rt; counters.rec(), rec);
     assert_eq!(rt; counters.mode(), mode);
@@ -14,7 +14,7 @@ fn expect(rt: &impl Abort, counters: &Counters, tec: u16, rec: u16, mode: Mode) 
 fn errors_while_sending_end_in_bus_off(rt: HostRuntime) {
     let mut counters = Counters::new();
     expect(&rt, &counters, 0, 0, Mode::Active);
-    for n in 1..33u16 {
+    for n in 1..33u64 {
         counters.apply(Happened::TxError(ErrorKind::Bit));
         let mode = if n < 16 {
             Mode::Active
@@ -34,7 +34,7 @@ fn errors_while_sending_end_in_bus_off(rt: HostRuntime) {
 #[test]
 fn errors_while_receiving_end_in_passive(rt: HostRuntime) {
     let mut counters = Counters::new();
-    for n in 1..128u16 {
+    for n in 1..128u64 {
         counters.apply(Happened::RxError(ErrorKind::Stuff));
         expect(&rt, &counters, 0, n, Mode::Active);
     }

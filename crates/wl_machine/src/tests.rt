@@ -257,7 +257,7 @@ fn a_receiver_on_a_dominant_line_counts(rt: HostRuntime) {
         } else {
             (17 + (n - 20) / 8 * 8).min(255)
         };
-        assert_eq!(rt; u32::from(receiver.counters.rec()), rec, "sample {n}");
+        assert_eq!(rt; receiver.counters.rec(), u64::from(rec), "sample {n}");
         let mode = if n < 132 { Mode::Active } else { Mode::Passive };
         assert_eq!(rt; receiver.counters.mode(), mode, "sample {n}");
     }
@@ -277,7 +277,7 @@ fn a_transmitter_on_a_dominant_line_goes_off(rt: HostRuntime) -> Result<(), Fail
         } else {
             (8 + (n - 31) / 8 * 8).min(256)
         };
-        assert_eq!(rt; u32::from(sender.counters.tec()), tec, "sample {n}");
+        assert_eq!(rt; sender.counters.tec(), u64::from(tec), "sample {n}");
         let mode = if n < 151 {
             Mode::Active
         } else if n < 279 {

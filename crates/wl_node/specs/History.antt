@@ -40,7 +40,7 @@ no_history = record { seen = []; inputs = []; happened = []; samples = []; frame
 abbrev pub is_sent : Passed → Bool
 is_sent p = p.sent
 
--- the frames of the queue that were not sent yet: a frame that lost the arbitration or failed stays (Bosch CAN 2.0 part B, section 6)
+-- the frames of the queue that were not sent yet: a frame that lost the arbitration or failed stays (Bosch CAN 2.0 part B, sections 2 and 5)
 abbrev pub unsent_of : NodeSetup → History → List Queued
 unsent_of setup h = drop (count_by is_sent h.frames) setup.queue
 

@@ -1,5 +1,6 @@
 pub mod AnswerLemmas
 pub mod GrammarLemmas
+mod HostProofs
 pub mod LineLemmas
 pub mod NumberLemmas
 pub mod ParseLemmas

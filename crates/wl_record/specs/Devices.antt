@@ -101,10 +101,10 @@ Writes takes s bytes r t = MatchResult r
     (λ _. (answers : List Answer) × WentOut takes s bytes t answers × (length answers ≤ most_calls))
     (λ _. (answers : List Answer) × BrokeOff takes s bytes 0 t answers)
 
--- what a reader of std with these known bytes may answer, and which it knows then
+-- What a reader of std with these known bytes may answer, and which it knows then. The end comes where none is left, and takes none.
 abbrev pub HostGives : Option (List ℕ) → Answer → Option (List ℕ) → Type 0
 HostGives old (moved bytes) new = Consumes old new bytes
-HostGives old ended new = IsAtEnd new
+HostGives old ended new = Consumes old new [] × IsAtEnd new
 HostGives old again new = Keeps old new
 HostGives old failed new = Keeps old new
 

@@ -1,6 +1,7 @@
 pub mod Devices
 pub mod Faults
 pub mod Grammar
+pub mod HostLaws
 pub mod Limits
 pub mod Parsing
 pub mod Reading

@@ -17,7 +17,7 @@ mod write;
 
 pub use device::{Got, Put, Sink, Source, WriteFault, send, write_all};
 pub use fault::TextFault;
-pub use host::Host;
+pub use host::{Host, host_laws};
 pub use laws::{fault_stays_law, one_answer_law, spelling_law, text_law};
 pub use limits::{MOST_BYTES, MOST_CALLS, MOST_EDGES, MOST_LINE, MOST_NODES, TICK_END};
 pub use read::{Came, RecordReader, read_records};

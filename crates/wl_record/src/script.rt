@@ -20,9 +20,10 @@ pub struct ScriptedReader<'a> {
 }
 
 impl<'a> Source for ScriptedReader<'a> {
+    ghost use Rattle.std.specs.Prelude.{◌≡◌};
     ghost use Rattle.wl_record.specs.Scripts.{ScriptGives};
 
-    ghost gives = { λ s a t. ScriptGives s.text.now s.then a t.text.now };
+    ghost gives = { λ s a t. ScriptGives s.text.now s.then a t.text.now × (t.then ≡ s.then) };
 
     fn read(&mut self, buffer: &mut [u8]) -> Got {
         let text = self.text;

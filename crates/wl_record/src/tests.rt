@@ -5,6 +5,8 @@ use crate::{
     read_records, send, text_of, write_all, write_records,
 };
 use std::alloc::Global;
+use std::io;
+use std::io::{ErrorKind, Read, Write};
 use std::process::Abort;
 use std::test::Fail;
 
@@ -327,6 +329,87 @@ fn devices_of_the_system(rt: HostRuntime) -> Result<(), Fail> {
     Ok(())
 }
 
+/// A reader of the standard library that fails once, before its first byte, and then gives its text.
+#[derive(Drop)]
+struct FailsOnce<'a> {
+    kind: Option<ErrorKind>,
+    text: &'a [u8],
+}
+
+impl<'a> Read for FailsOnce<'a> {
+    fn read(&mut self, buffer: &mut [u8]) -> io::Result<usize> {
+        if let Some(kind) = self.kind {
+            self.kind = None;
+            return Err(io::Error::from(kind));
+        }
+        let text = self.text;
+        let n = text.len().min(buffer.len());
+        buffer[..n].copy_from_slice(&text[..n]);
+        self.text = &text[n..];
+        Ok(n)
+    }
+}
+
+/// What is read from such a reader.
+fn read_after(alloc: Global, kind: ErrorKind) -> Result<Vec<Record>, TextFault> {
+    let kind = Some(kind);
+    let text = b"C 0 0\n";
+    read_records(alloc, &mut Host::new(FailsOnce { kind, text }))
+}
+
+#[test]
+fn an_interrupted_reader_is_asked_again_and_no_other(rt: HostRuntime) -> Result<(), Fail> {
+    let read = read_after(rt.alloc(), ErrorKind::Interrupted)?;
+    assert_eq!(rt; read.as_slice(), [CLASH].as_slice());
+    for kind in [ErrorKind::BrokenPipe, ErrorKind::WouldBlock] {
+        assert!(rt; read_after(rt.alloc(), kind).err() == Some(TextFault::Read));
+    }
+    Ok(())
+}
+
+/// A writer of the standard library that takes nothing at its first call, or fails then, and afterwards takes all.
+#[derive(Drop)]
+struct TakesLater {
+    first: Option<Option<ErrorKind>>,
+    written: Vec<u8>,
+}
+
+impl Write for TakesLater {
+    fn write(&mut self, piece: &[u8]) -> io::Result<usize> {
+        let Some(first) = self.first else {
+            self.written.extend_from_slice(piece)?;
+            return Ok(piece.len());
+        };
+        self.first = None;
+        match first {
+            Some(kind) => Err(io::Error::from(kind)),
+            None => Ok(0),
+        }
+    }
+
+    fn flush(&mut self) -> io::Result<()> {
+        Ok(())
+    }
+}
+
+/// Whether all of a text goes out to such a writer.
+fn goes_out(alloc: Global, first: Option<ErrorKind>) -> bool {
+    let mut writer = Host::new(TakesLater {
+        first: Some(first),
+        written: Vec::new(alloc),
+    });
+    let went = write_records(&FIVE, &mut writer).is_ok();
+    went && writer.device.written.as_slice() == FIVE_TEXT
+}
+
+#[test]
+fn an_interrupted_writer_is_asked_again_and_no_other(rt: HostRuntime) {
+    assert!(rt; goes_out(rt.alloc(), Some(ErrorKind::Interrupted)));
+    assert!(rt; !goes_out(rt.alloc(), Some(ErrorKind::BrokenPipe)));
+    assert!(rt; !goes_out(rt.alloc(), Some(ErrorKind::WouldBlock)));
+    assert!(rt; !goes_out(rt.alloc(), None));
+}
+
 #[test]
 fn records_name_their_slots(rt: HostRuntime) {
     assert!(rt; edge(3, 7, 100).slot() == Slot::EdgeAt { node: 3, seq: 7 });
@@ -388,6 +471,7 @@ fn laws_hold(_rt: HostRuntime) {
     crate::fault_stays_law();
     crate::spelling_law();
     crate::text_law();
+    crate::host_laws();
     crate::clash_is_never_true();
     crate::one_tick_a_slot();
     crate::table_laws();

@@ -3,5 +3,6 @@ pub mod ValueLemmas
 pub mod UnknownLemmas
 pub mod NameLemmas
 pub mod ReadLemmas
+pub mod PlanLemmas
 pub mod CheckLemmas
 pub mod FaultLemmas

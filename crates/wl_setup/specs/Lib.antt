@@ -6,4 +6,5 @@ pub mod Faults
 pub mod Names
 pub mod Document
 pub mod Reading
+pub mod Plans
 pub mod Check

@@ -1,49 +1,17 @@
-//! The test of a plan's settings, and what it prints.
-ghost use Rattle.std.specs.Prelude.{◌≡◌, ◌≢◌, ◌++◌, [], ◌∷◌, Ok, None, Some, IfOk, IfErr, string_bytes};
-ghost use Rattle.wl_segments.specs.Lengths.{Lengths};
-ghost use Rattle.wl_setup.specs.Check.{timing_of_node, segments_of_node, setting_fault, settings_fault, line_words, IsNodeLine, IsCheck};
-ghost use Rattle.wl_setup.specs.Document.{Answers};
+//! What a check of a plan prints.
+ghost use Rattle.std.specs.Prelude.{◌≡◌, ◌<◌, ◌++◌, ◌∷◌, [], length, string_bytes, IfOk, IfErr};
+ghost use Rattle.std.specs.List.{enumerate_from, filter, flat_map};
+ghost use Rattle.wl_topology.specs.Delays.{row};
+ghost use Rattle.wl_plan.specs.Checked.{IsChecked};
+ghost use Rattle.wl_setup.specs.Check.{name_of, line_words, pair_words, pair_line, is_upward, pair_lines, IsNodeLine, AreNodeLines, IsPlanCheck};
 
-use crate::fault::SetupFault;
-use crate::plan_text::{ClockText, NodeText, PlanText};
+use crate::names::Names;
 use std::alloc::{AllocError, Global};
 use std::fmt;
-use wl_clock::{Clock, ClockFault};
-use wl_segments::{Segments, SegmentsFault};
-
-impl NodeText {
-    /// The clock that the keys `offset`, `num` and `den`, or `offset`, `quantum` and `ppm`, make.
-    pub fn make_clock(&self) -> Result<Clock, ClockFault>
-        ensures { result ≡ timing_of_node self.now }
-    {
-        match self.clock {
-            ClockText::Rate { num, den } => Clock::new(self.offset, num, den),
-            ClockText::Ppm { quantum, ppm } => Clock::from_ppm(self.offset, quantum, ppm),
-        }
-    }
-
-    /// The bit segments that the keys `prop`, `ps1`, `ps2` and `sjw` make.
-    pub fn make_segments(&self) -> Result<Segments, SegmentsFault>
-        ensures { result ≡ segments_of_node self.now }
-    {
-        Segments::new(self.prop, self.ps1, self.ps2, self.sjw)
-    }
-}
-
-/// The segments of node `i`, if its clock and its segments are sound.
-fn sound_segments(i: u64, node: &NodeText) -> Result<Segments, SetupFault>
-    ensures sound { IfOk result (λ s. (setting_fault (i, node.now) ≡ None) × (segments_of_node node.now ≡ Ok s)) }
-    ensures fault { IfErr result (λ e. setting_fault (i, node.now) ≡ Some e) }
-{
-    match node.make_clock() {
-        Ok(_) => {}
-        Err(fault) => return Err(SetupFault::NodeClock(i, fault)),
-    }
-    match node.make_segments() {
-        Ok(segments) => Ok(segments),
-        Err(fault) => Err(SetupFault::NodeSegments(i, fault)),
-    }
-}
+use wl_node::NodeSetup;
+use wl_plan::Plan;
+use wl_segments::Segments;
+use wl_topology::Topology;
 
 /// What is printed of a node.
 #[derive(Clone, Copy)]
@@ -78,46 +46,128 @@ impl fmt::Display for NodeLine<'_> {
     }
 }
 
-fn spelled(alloc: Global, line: &NodeLine) -> Result<String, AllocError>
+/// What is printed of a pair of nodes.
+#[derive(Clone, Copy)]
+struct PairLine {
+    i: u8,
+    j: u8,
+    there: u64,
+    back: u64,
+}
+
+impl fmt::Display for PairLine {
+    ghost use Rattle.std.specs.Prelude.{Some};
+    ghost use Rattle.wl_setup.specs.Check.{pair_words};
+
+    ghost output = { λ l. Some (pair_words l.i l.j l.there l.back) };
+
+    fn fmt<W: fmt::Write>(&self, f: &mut fmt::Formatter<W>) -> fmt::Result {
+        let PairLine { i, j, there, back } = *self;
+        write!(f, "pair {i} {j} delay {there} back {back}")
+    }
+}
+
+fn spelled_node(alloc: Global, line: &NodeLine) -> Result<String, AllocError>
     ensures { IfOk result (λ text. string_bytes text ≡ line_words line.now.number line.now.name.now line.now.quanta line.now.sample line.now.jump line.now.ppm ++ 10 ∷ []) }
 {
     format!(in alloc; "{line}\n")
 }
 
-/// The line of node `i`.
-fn node_line(
-    alloc: Global,
-    i: u64,
-    node: &NodeText,
-    segments: &Segments,
-) -> Result<String, AllocError>
-    ensures { IfOk result (λ line. segments_of_node node.now ≡ Ok segments.now → IsNodeLine (i, node.now) (string_bytes line)) }
+fn spelled_pair(alloc: Global, line: &PairLine) -> Result<String, AllocError>
+    ensures { IfOk result (λ text. string_bytes text ≡ pair_words line.now.i line.now.j line.now.there line.now.back ++ 10 ∷ []) }
 {
+    format!(in alloc; "{line}\n")
+}
+
+/// The name of node `i`, empty where it has none.
+fn name_of(names: &Names, i: usize) -> &str
+    ensures { result.now ≡ name_of names.now i }
+{
+    names.name(i).unwrap_or("")
+}
+
+/// The line of node `i`.
+fn node_line(alloc: Global, names: &Names, i: usize, node: &NodeSetup) -> Result<String, AllocError>
+    ensures { IfOk result (λ line. IsNodeLine names.now (i, node.now) (string_bytes line)) }
+{
+    let segments = &node.segments;
     let line = NodeLine {
-        number: i,
-        name: node.name.as_str(),
+        number: i as u64,
+        name: name_of(names, i),
         quanta: segments.bit_quanta(),
         sample: segments.sample_at(),
         jump: segments.sjw(),
         ppm: segments.greatest_ppm(),
     };
-    spelled(alloc, &line)
+    spelled_node(alloc, &line)
 }
 
-/// Tests the clock and the bit segments node by node, and answers a line for each node: its number and name, the
-/// quanta of a bit, the quantum of the sample, the resynchronisation jump width, and the greatest deviation in parts
-/// per million that both oscillators of a pair may have.
-///
-/// Answers the first node's fault: `NodeClock`, then `NodeSegments`; or `Memory`, at any point.
-pub fn check_text(alloc: Global, plan: &PlanText) -> Result<String, SetupFault>
-    ensures ok { IfOk result (λ text. (settings_fault plan.now ≡ None) × IsCheck plan.now (string_bytes text)) }
-    ensures refused { IfErr result (λ e. e ≢ SetupFault.Memory → settings_fault plan.now ≡ Some e) }
+/// The lines of the nodes.
+fn node_lines(alloc: Global, nodes: &[NodeSetup], names: &Names) -> Result<String, AllocError>
+    ensures { IfOk result (λ text. AreNodeLines names.now (enumerate_from 0 nodes.now) (string_bytes text)) }
 {
     let mut text = String::new(alloc);
-    for (i, node) in plan.node.as_slice().iter().enumerate() {
-        let segments = sound_segments(i as u64, node)?;
-        let line = node_line(alloc, i as u64, node, &segments)?;
+    for (i, node) in nodes.iter().enumerate() {
+        let line = node_line(alloc, names, i, node)?;
         text.push_str(line.as_str())?;
     }
+    Ok(text)
+}
+
+/// The line of nodes `i` and `j`.
+fn pair_line(alloc: Global, topology: &Topology, i: u8, j: u8) -> Result<String, AllocError>
+    requires first { i < length topology.now.places }
+    requires second { j < length topology.now.places }
+    ensures { IfOk result (λ line. string_bytes line ≡ pair_line topology.now (i, j)) }
+{
+    let line = PairLine {
+        i,
+        j,
+        there: topology.delay(i, j),
+        back: topology.delay(j, i),
+    };
+    spelled_pair(alloc, &line)
+}
+
+/// Adds the lines of node `i` and the nodes after it.
+fn push_pairs_of(
+    alloc: Global,
+    topology: &Topology,
+    i: u8,
+    text: &mut String,
+) -> Result<(), AllocError>
+    requires { i < length topology.now.places }
+    ensures { IfOk result (λ _. string_bytes text.new ≡ string_bytes text.old ++ flat_map (pair_line topology.now) (filter is_upward (row i (length topology.now.places)))) }
+{
+    for j in 0..topology.nodes() {
+        if i < j {
+            let line = pair_line(alloc, topology, i, j)?;
+            text.push_str(line.as_str())?;
+        }
+    }
+    Ok(())
+}
+
+/// Adds the lines of all pairs.
+fn push_pairs(alloc: Global, topology: &Topology, text: &mut String) -> Result<(), AllocError>
+    ensures { IfOk result (λ _. string_bytes text.new ≡ string_bytes text.old ++ pair_lines topology.now) }
+{
+    for i in 0..topology.nodes() {
+        push_pairs_of(alloc, topology, i, text)?;
+    }
+    Ok(())
+}
+
+/// What a check prints of a plan.
+///
+/// For each node its number and name, the quanta of a bit, the quantum of the sample, the resynchronisation jump width, and the
+/// greatest deviation in parts per million that both oscillators of a pair may have. Then for each pair of nodes, by the first
+/// and then by the second, the ticks that a level takes from the first to the second, and those that it takes back. A node
+/// without a name has an empty one. Refused for want of memory alone.
+pub fn check_plan(alloc: Global, plan: &Plan, names: &Names) -> Result<String, AllocError>
+    ensures { IfOk result (λ text. IsPlanCheck plan.now names.now (string_bytes text)) }
+{
+    let mut text = node_lines(alloc, plan.nodes.as_slice(), names)?;
+    push_pairs(alloc, &plan.topology, &mut text)?;
     Ok(text)
 }

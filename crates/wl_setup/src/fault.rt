@@ -3,7 +3,10 @@ use crate::text::Text;
 use std::alloc::AllocError;
 use thiserror::Error;
 use wl_clock::ClockFault;
+use wl_frame::frame::FrameFault;
+use wl_plan::PlanFault;
 use wl_segments::SegmentsFault;
+use wl_topology::TopologyFault;
 
 /// Why a text gives no plan. A key is named as it is written in its table, without a path.
 #[derive(Debug, Drop, Error)]
@@ -35,6 +38,15 @@ pub enum SetupFault {
     /// The bit segments of a node, counted from 0.
     #[error("NodeSegments({0}, {1})")]
     NodeSegments(u64, SegmentsFault),
+    /// A frame of a node, both counted from 0: first the node, then the frame.
+    #[error("NodeFrame({0}, {1}, {2})")]
+    NodeFrame(u64, u64, FrameFault),
+    /// The places of the nodes.
+    #[error("Topology({0})")]
+    Topology(TopologyFault),
+    /// The plan can't be run.
+    #[error("Plan({0})")]
+    Plan(PlanFault),
     /// The reader failed, or its calls ran out.
     #[error("Read")]
     Read,

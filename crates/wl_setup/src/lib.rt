@@ -1,4 +1,4 @@
-//! Settings of a bus from a plan's text.
+//! Plans from TOML, and what a check of a plan prints.
 #![tactic(auto)]
 
 mod check;
@@ -7,6 +7,7 @@ mod fault;
 mod keys;
 mod limits;
 mod names;
+mod plan;
 mod plan_text;
 mod read;
 mod sequence;
@@ -16,9 +17,10 @@ mod tests;
 mod text;
 mod values;
 
-pub use check::check_text;
+pub use check::check_plan;
 pub use fault::SetupFault;
 pub use names::Names;
+pub use plan::read_plan;
 pub use plan_text::{ClockText, DisturbanceText, FrameText, NodeText, PlanText};
 pub use read::{faults_of_texts, read_text};
 pub use sequence::Sequence;

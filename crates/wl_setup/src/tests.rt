@@ -1,11 +1,13 @@
 mod order;
+mod plans;
 mod rows;
 mod shapes;
 mod streams;
 
-use crate::{PlanText, SetupFault, check_text, read_text};
+use crate::{Names, PlanText, SetupFault, check_plan, read_plan, read_text};
 use std::alloc::{AllocError, Global};
 use std::test::Fail;
+use wl_plan::Plan;
 use wl_record::Host;
 
 /// Two nodes on a bus 50 metres long, one of them with a frame.
@@ -56,13 +58,14 @@ fn fault(alloc: Global, text: &str) -> Result<String, AllocError> {
     }
 }
 
+fn plan(alloc: Global, text: &str) -> Result<(Plan, Names), SetupFault> {
+    read_plan(alloc, &mut Host::new(text.as_bytes()))
+}
+
 /// What a check of a text prints, or its fault.
 fn check(alloc: Global, text: &str) -> Result<String, AllocError> {
-    match read(alloc, text) {
-        Ok(plan) => match check_text(alloc, &plan) {
-            Ok(text) => Ok(text),
-            Err(fault) => fault.to_string(alloc),
-        },
+    match plan(alloc, text) {
+        Ok((plan, names)) => check_plan(alloc, &plan, &names),
         Err(fault) => fault.to_string(alloc),
     }
 }

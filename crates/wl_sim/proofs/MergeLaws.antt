@@ -1,7 +1,7 @@
 -- Merging in parts is merging as one, from what is known of record texts and of canonical lists.
-use Rattle.std.proofs.Common.{◌≡◌, ◌∙◌, ap, sym, subst, refl, arith, ℕ, ◌≤◌, ◌<◌, List, [], ◌∷◌, ◌++◌, length, All, length-append}
+use Rattle.std.proofs.Common.{◌≡◌, ◌∙◌, ap, sym, subst, refl, arith, ℕ, ◌≤◌, ◌<◌, List, [], ◌∷◌, ◌++◌, length, length-append}
 use Rattle.std.specs.Prelude.{◌↔◌}
-use Rattle.std.specs.List.{AllByRecursion, flat_map}
+use Rattle.std.specs.List.{AllByRecursion}
 use Rattle.std.proofs.lemmas.List.{append_assoc}
 use Rattle.std.proofs.lemmas.List.Concat.{flat_map-append}
 use Rattle.std.proofs.lemmas.List.Elements.{All-from_recursion, recursion_from_All}
@@ -11,7 +11,7 @@ use Rattle.wl_record.specs.Limits.{most_bytes, most_nodes}
 use Rattle.wl_record.specs.Text.{words_of, line_of, text_of}
 use Rattle.wl_record.specs.Within.{IsWithin}
 use Rattle.wl_replica.specs.Laws.{SameRecordsSameState, MergingIsAppending, CanonicalStaysAText}
-use Rattle.wl_replica.specs.State.{Fits, node_of, state_of}
+use Rattle.wl_replica.specs.State.{Fits, node_of}
 use Rattle.wl_replica.specs.Canonical.{canonical}
 use Rattle.wl_sim.specs.Merge.{merged, merged_records, MergesAsOne}
 use Rattle.wl_sim.proofs.Gathering.{fits_all, node_within}

@@ -27,6 +27,9 @@ of_setup setup.SameName = run.Setup setup.SameName
 of_setup setup.Size = run.Setup setup.Size
 of_setup (setup.NodeClock i f) = run.Setup (setup.NodeClock i f)
 of_setup (setup.NodeSegments i f) = run.Setup (setup.NodeSegments i f)
+of_setup (setup.NodeFrame i n f) = run.Setup (setup.NodeFrame i n f)
+of_setup (setup.Topology f) = run.Setup (setup.Topology f)
+of_setup (setup.Plan f) = run.Setup (setup.Plan f)
 of_setup setup.Read = run.Setup setup.Read
 of_setup setup.Memory = run.Memory
 

@@ -1,5 +1,5 @@
 -- What the records of a text tell of each node, and up to when, as text (this project's profile).
-use Rattle.std.specs.Prelude.{◌≡◌, ◌==◌, ℕ, zero, suc, Bool, if◌then◌else◌, List, [], ◌∷◌, ◌++◌, codes, Result, Ok, Err}
+use Rattle.std.specs.Prelude.{◌≡◌, ◌==◌, ℕ, zero, suc, Bool, if◌then◌else◌, List, [], ◌++◌, codes, Result, Ok, Err}
 use Rattle.std.specs.List.{flat_map, list_any}
 use Rattle.std.specs.Fmt.{decimal}
 use Rattle.wl_record.specs.declared.record.Record.{Record}

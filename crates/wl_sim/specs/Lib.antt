@@ -1,5 +1,5 @@
-pub mod Check
 pub mod Faults
 pub mod Gather
 pub mod Horizon
 pub mod Merge
+pub mod Plans

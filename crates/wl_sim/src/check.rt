@@ -1,23 +1,26 @@
-//! The check of a plan's settings.
-ghost use Rattle.wl_sim.specs.Check.{Checks};
+//! The check of a plan.
+ghost use Rattle.wl_setup.specs.Check.{IsPlanCheck};
+ghost use Rattle.wl_sim.specs.Plans.{RunsPlan};
 
 use crate::fault::RunFault;
 use std::alloc::Global;
 use wl_record::{Sink, Source, write_all};
-use wl_setup::{check_text, read_text};
+use wl_setup::{check_plan, read_plan};
 
-/// Reads a plan's text, tests its clocks and bit segments, and writes a line for each node.
+/// Reads a plan's text, tests whether the plan can be run, and writes what each node's bit segments allow and how long a level takes
+/// from each node to each later one, and back.
 ///
-/// On a fault of the text, and where memory is refused, nothing is written.
+/// The whole output stands before the first write. Where the input is refused, or memory is wanted, the writer isn't called;
+/// where the writer fails, a front of the output has gone out.
 pub fn check_run<R: Source, W: Sink>(
     alloc: Global,
     reader: &mut R,
     writer: &mut W,
 ) -> Result<(), RunFault>
-    ensures { Checks R.gives W.takes reader.old reader.new writer.old writer.new result }
+    ensures { RunsPlan R.gives W.takes IsPlanCheck reader.old reader.new writer.old writer.new result }
 {
-    let plan = read_text(alloc, reader)?;
-    let text = check_text(alloc, &plan)?;
+    let (plan, names) = read_plan(alloc, reader)?;
+    let text = check_plan(alloc, &plan, &names)?;
     write_all(text.as_bytes(), writer)?;
     Ok(())
 }

@@ -13,8 +13,12 @@ pub enum Task {
     Merge,
     /// What a record text tells of each node, and up to when.
     Horizon,
-    /// The settings of a plan's nodes.
+    /// The settings of a plan's nodes, and the delays between them.
     Check,
+    /// The records of a plan's simulation.
+    Records,
+    /// The report of a plan's simulation.
+    Run,
 }
 
 /// Why no task could be read from the command line.
@@ -35,14 +39,22 @@ fn command<'a>(alloc: Global) -> Result<Command<'a>, Error> {
         "Writes what the records tell of each node, and up to which tick",
     );
     let check = Command::new(alloc, "check").about(
-        "Tests the clocks and bit segments of the plan's nodes, and writes what they allow",
+        "Tests the plan, and writes what its bit segments allow and how long its cable takes",
+    );
+    let records = Command::new(alloc, "records").about(
+        "Simulates the plan, and writes each change of the line and the silence behind it",
+    );
+    let run = Command::new(alloc, "run").about(
+        "Simulates the plan, and writes the report of its nodes and frames",
     );
     let all = Command::new(alloc, "wl_sim")
         .about("Simulates CAN 2.0 buses at the level of time quanta")
         .subcommand_required(true)
         .subcommand(merge)?
         .subcommand(horizon)?
-        .subcommand(check)?;
+        .subcommand(check)?
+        .subcommand(records)?
+        .subcommand(run)?;
     Ok(all)
 }
 
@@ -52,6 +64,8 @@ fn task_of(alloc: Global, words: &[String]) -> Result<Task, Error> {
     match matches.subcommand_name() {
         Some("horizon") => Ok(Task::Horizon),
         Some("check") => Ok(Task::Check),
+        Some("records") => Ok(Task::Records),
+        Some("run") => Ok(Task::Run),
         Some(_) | None => Ok(Task::Merge),
     }
 }

@@ -2,8 +2,8 @@
 //!
 //! It reads one input from standard input, does what its one subcommand says, and writes the answer to standard
 //! output. `merge` and `horizon` read a record text: the one writes the canonical text of the replica that its records make, the
-//! other what that replica tells of each node, and up to when. `check` reads a plan text, tests the clock and the bit segments of each
-//! node, and writes what they allow.
+//! other what that replica tells of each node, and up to when. `check`, `records` and `run` read a plan text: the first writes what
+//! the bit segments allow and how long the cable takes, the second the records of the plan's simulation, the third its report.
 #![tactic(auto)]
 
 use std::alloc::Global;
@@ -16,6 +16,8 @@ mod fault;
 mod gather;
 mod horizon;
 mod merge;
+mod plan;
+mod records;
 #[cfg(test)]
 mod tests;
 
@@ -24,6 +26,8 @@ pub use command::Task;
 pub use fault::RunFault;
 pub use horizon::horizon_run;
 pub use merge::{merge_run, merges_as_one};
+pub use plan::plan_run;
+pub use records::records_run;
 
 /// The statuses that the program ends with beside 0.
 const REFUSED_INPUT: u8 = 1;
@@ -56,6 +60,8 @@ fn run<R: Source, W: Sink>(
         Task::Merge => merge_run(alloc, reader, writer),
         Task::Horizon => horizon_run(alloc, reader, writer),
         Task::Check => check_run(alloc, reader, writer),
+        Task::Records => records_run(alloc, reader, writer),
+        Task::Run => plan_run(alloc, reader, writer),
     }
 }
 

@@ -3,6 +3,7 @@
 mod checks;
 mod horizons;
 mod merges;
+mod plans;
 
 use crate::{RunFault, Task, run};
 use std::alloc::{AllocError, Global};

@@ -2,4 +2,5 @@ mod Lists
 mod WorldProofs
 mod NoStallProofs
 mod SettlingProofs
+mod RoundProofs
 mod Rows

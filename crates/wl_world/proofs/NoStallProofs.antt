@@ -21,7 +21,7 @@ use Rattle.wl_world.proofs.Lists.{put_at, true_append}
 use Rattle.wl_world.proofs.WorldProofs.{IsWorld, may_advance, start_holds, emission_true, happens_holds, world_holds}
 
 -- each node's changes so far and its silence up to its next quantum were emitted, and its first silence too
-record IsToldWorld (l : Line) (c : Cast) (w : Scene) : Type 0 where
+pub record IsToldWorld (l : Line) (c : Cast) (w : Scene) : Type 0 where
   firsts : (i : ℕ) → i < l.nodes → IsTold l i fresh (slots_of_records w.emitted)
   told : (i : ℕ) → i < l.nodes → IsTold l i (member_of w (c.group_of i) i) (slots_of_records w.emitted)
 
@@ -54,7 +54,7 @@ abbrev due_of : Line → Cast → Scene → ℕ → ℕ
 due_of l c w i = due l i (member_of w (c.group_of i) i)
 
 module _ (knows : KnownLaws) (groups : GroupLaws) where
-  start_told : (l : Line) → IsSound l → (c : Cast) → IsToldWorld l c (start l c)
+  pub start_told : (l : Line) → IsSound l → (c : Cast) → IsToldWorld l c (start l c)
   start_told l s c = record { firsts = groups.told_first l s; told = groups.told_first l s }
 
   event_told : (l : Line) → IsSound l → (c : Cast) (w : Scene) (e : Event) → IsWorld l c w → IsToldWorld l c w → possible l c w e ≡ true → IsToldWorld l c (done l c w e)
@@ -81,7 +81,7 @@ module _ (knows : KnownLaws) (groups : GroupLaws) where
   event_told l s c w (Join h k) v t y = told_same l c w h (taking (w.parties k).taken (w.parties h)) t (λ i. inl refl)
   event_told l s c w (Restart h) v t y = told_same l c w h (begun l (λ i. c.group_of i == h)) t (λ i. inr refl)
 
-  run_told : (l : Line) → IsSound l → (c : Cast) (es : List Event) (w : Scene) → IsWorld l c w → IsToldWorld l c w → IsToldWorld l c (run l c es w)
+  pub run_told : (l : Line) → IsSound l → (c : Cast) (es : List Event) (w : Scene) → IsWorld l c w → IsToldWorld l c w → IsToldWorld l c (run l c es w)
   run_told l s c [] w v t = t
   run_told l s c (e ∷ es) w v t = run_told l s c es (happens l c w e) (happens_holds knows groups l s c w e v) (elim (cases_Bool (possible l c w e)) [
     | inl y ↦ subst (IsToldWorld l c) (sym (cond-true (possible l c w e) (done l c w e) w y)) (event_told l s c w e v t y)
@@ -95,7 +95,7 @@ module _ (knows : KnownLaws) (groups : GroupLaws) where
       let own = (v.groups (c.group_of i) (gs i b)).each i b (eq-eqb _ _ refl) in
       groups.told_known l s i (member_of w (c.group_of i) i) (slots (w.parties (c.group_of i))) b own w.emitted (w.parties h).taken (v.groups h hb).truth all (t.told i b)
 
-  some_can : (l : Line) → IsSound l → (c : Cast) (w : Scene) → IsWorld l c w → IsToldWorld l c w → ((i : ℕ) → i < l.nodes → c.group_of i < c.groups) → ((h : ℕ) → h < c.groups → HasAll w h)
+  pub some_can : (l : Line) → IsSound l → (c : Cast) (w : Scene) → IsWorld l c w → IsToldWorld l c w → ((i : ℕ) → i < l.nodes → c.group_of i < c.groups) → ((h : ℕ) → h < c.groups → HasAll w h)
       → ((i : ℕ) × (i < l.nodes) × (possible l c w (Advance (c.group_of i) i) ≡ true)) ⊎ AllAtEnd l c w
   some_can l s c w v t gs all =
       let some = s.some_node in

@@ -15,7 +15,7 @@ use Rattle.wl_group.specs.Party.{Party, slots, put, taking}
 use Rattle.wl_group.specs.Advanced.{run_next, emission_of}
 use Rattle.wl_world.specs.Scene.{Cast, Scene, possible, at_most_one, done, happens}
 use Rattle.wl_world.specs.Headline.{IsFaithful, AllAtEnd, member_of}
-use Rattle.wl_world.specs.Settling.{IsMove, left_below, quanta_left, SettlingLaws}
+use Rattle.wl_world.specs.Settling.{IsMove, left_below, quanta_left}
 use Rattle.wl_world.proofs.Lists.{put_at, there_right}
 use Rattle.wl_world.proofs.WorldProofs.{may_advance}
 
@@ -62,7 +62,7 @@ delivered_size l c w h k n =
     put_at w.parties h (taking (at_most_one (slice_get w.emitted k)) (w.parties h)) (λ q. length (q.members n).saw ≡ length (member_of w (c.group_of n) n).saw) (c.group_of n)
     (λ e. ap (λ g. length ((w.parties g).members n).saw) (sym e)) (λ o. refl)
 
-deliver_keeps : (l : Line) (c : Cast) (w : Scene) (h k : ℕ) → quanta_left l c (happens l c w (Deliver h k)) ≡ quanta_left l c w
+pub deliver_keeps : (l : Line) (c : Cast) (w : Scene) (h k : ℕ) → quanta_left l c (happens l c w (Deliver h k)) ≡ quanta_left l c w
 deliver_keeps l c w h k = elim (cases_Bool (possible l c w (Deliver h k))) [
   | inl y ↦ ap (quanta_left l c) (cond-true (possible l c w (Deliver h k)) (done l c w (Deliver h k)) w y) ∙ left_same l c w (done l c w (Deliver h k)) (delivered_size l c w h k) l.nodes
   | inr n ↦ ap (quanta_left l c) (cond-false (possible l c w (Deliver h k)) (done l c w (Deliver h k)) w n)
@@ -77,7 +77,7 @@ get_below [] k r h = cc
 get_below (q ∷ rs) zero r h = omega arith
 get_below (q ∷ rs) (suc k) r h = (let e = get_below rs k r h in omega arith)
 
-delivered : (l : Line) (c : Cast) (w : Scene) (h k : ℕ) (r : Record) → h < c.groups → slice_get w.emitted k ≡ Some r
+pub delivered : (l : Line) (c : Cast) (w : Scene) (h k : ℕ) (r : Record) → h < c.groups → slice_get w.emitted k ≡ Some r
     → Contains ((happens l c w (Deliver h k)).parties h).taken r
 delivered l c w h k r b e =
     let y : possible l c w (Deliver h k) ≡ true = and_from (nat_lt h c.groups) (nat_lt k (length w.emitted)) (lt-ltb h c.groups b) (lt-ltb k (length w.emitted) (get_below w.emitted k r e)) in
@@ -97,7 +97,7 @@ done_keeps l c w (Deliver h k) m g r t = kept w h g (taking (at_most_one (slice_
 done_keeps l c w (Join h k) m g r t = absurd m
 done_keeps l c w (Restart h) m g r t = absurd m
 
-moves_keep : (l : Line) (c : Cast) (w : Scene) (e : Event) → IsMove e → (g : ℕ) (r : Record) → Contains (w.parties g).taken r → Contains ((happens l c w e).parties g).taken r
+pub moves_keep : (l : Line) (c : Cast) (w : Scene) (e : Event) → IsMove e → (g : ℕ) (r : Record) → Contains (w.parties g).taken r → Contains ((happens l c w e).parties g).taken r
 moves_keep l c w e m g r t = elim (cases_Bool (possible l c w e)) [
   | inl y ↦ subst (λ x. Contains (x.parties g).taken r) (sym (cond-true (possible l c w e) (done l c w e) w y)) (done_keeps l c w e m g r t)
   | inr n ↦ subst (λ x. Contains (x.parties g).taken r) (sym (cond-false (possible l c w e) (done l c w e) w n)) t
@@ -113,7 +113,7 @@ module _ (sims : SimulationLaws) where
         elim (sims.ran_all l i l.stop s.causal b) [ inl e ↦ omega arith | inr e ↦ omega arith ])
   ]
 
-  advance_lowers : (l : Line) → IsSound l → (c : Cast) (w : Scene) → IsFaithful l c w → (h i : ℕ) → possible l c w (Advance h i) ≡ true
+  pub advance_lowers : (l : Line) → IsSound l → (c : Cast) (w : Scene) → IsFaithful l c w → (h i : ℕ) → possible l c w (Advance h i) ≡ true
       → quanta_left l c w ≡ suc (quanta_left l c (done l c w (Advance h i)))
   advance_lowers l s c w v h i y =
       let a = may_advance l c w h i y in
@@ -136,7 +136,7 @@ module _ (sims : SimulationLaws) where
       (λ o. refl))
       some l.nodes a.node
 
-  none_left : (l : Line) → IsSound l → (c : Cast) → ((i : ℕ) → i < l.nodes → c.group_of i < c.groups) → (w : Scene) → IsFaithful l c w
+  pub none_left : (l : Line) → IsSound l → (c : Cast) → ((i : ℕ) → i < l.nodes → c.group_of i < c.groups) → (w : Scene) → IsFaithful l c w
       → (quanta_left l c w ≡ 0) ↔ AllAtEnd l c w
   none_left l s c gs w v = (
     λ z i b.
@@ -147,12 +147,3 @@ module _ (sims : SimulationLaws) where
         let e = sims.ran_at_end l i (length (member_of w (c.group_of i) i).saw) s.causal b (v.nodes_placed (c.group_of i) i (gs i b) b refl).inside (z i b) in
         omega arith),
   )
-
-  pub settling_laws : SettlingLaws
-  settling_laws = record {
-    advance_lowers = advance_lowers;
-    deliver_keeps = deliver_keeps;
-    none_left = none_left;
-    delivered = delivered;
-    moves_keep = moves_keep;
-  }

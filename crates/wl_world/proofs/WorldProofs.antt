@@ -140,14 +140,14 @@ module _ (knows : KnownLaws) (groups : GroupLaws) where
   ]
 
   -- whatever happens, in whatever order
-  run_holds : (l : Line) → IsSound l → (c : Cast) (es : List Event) (w : Scene) → IsWorld l c w → IsWorld l c (run l c es w)
+  pub run_holds : (l : Line) → IsSound l → (c : Cast) (es : List Event) (w : Scene) → IsWorld l c w → IsWorld l c (run l c es w)
   run_holds l s c [] w v = v
   run_holds l s c (e ∷ es) w v = run_holds l s c es (happens l c w e) (happens_holds l s c w e v)
 
   pub world_holds : (l : Line) → IsSound l → (c : Cast) (es : List Event) → IsWorld l c (run l c es (start l c))
   world_holds l s c es = run_holds l s c es (start l c) (start_holds l s c)
 
-  faithful : (l : Line) → IsSound l → (c : Cast) (w : Scene) → IsWorld l c w → IsFaithful l c w
+  pub faithful : (l : Line) → IsSound l → (c : Cast) (w : Scene) → IsWorld l c w → IsFaithful l c w
   faithful l s c w v = record {
     records_true = v.truth;
     told_emitted = λ h b. v.told h;

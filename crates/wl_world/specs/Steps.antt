@@ -1,13 +1,13 @@
 -- What the calls of a world answer and leave, beside the machine of groups: `at w v` says that value v is the scene w. A world's crate gives it.
 -- This project's profile.
-use Rattle.std.specs.Prelude.{◌≡◌, ℕ, ◌≤◌, List, ◌++◌, length, take}
+use Rattle.std.specs.Prelude.{◌≡◌, ℕ, ◌<◌, List, ◌++◌, length, take}
 use Rattle.std.specs.List.{AllByRecursion}
 use Rattle.wl_world.specs.declared.events.Event.{Event}
 use Rattle.wl_world.specs.declared.events.Answer.{Answer}
 use Rattle.wl_plan.specs.Line.{Line}
 use Rattle.wl_world.specs.Scene.{Cast, Scene, start, happens, run, answer, answers}
-use Rattle.wl_world.specs.Headline.{IsFaithful, Grows, AllAtEnd}
-use Rattle.wl_world.specs.Settling.{IsMove, quanta_left}
+use Rattle.wl_world.specs.Headline.{IsFaithful, Grows}
+use Rattle.wl_world.specs.Settling.{IsMove, Rounds}
 
 module _ {W : Type 0} (at : Scene → W → Type 0) (l : Line) (c : Cast) where
   -- one event
@@ -24,10 +24,10 @@ module _ {W : Type 0} (at : Scene → W → Type 0) (l : Line) (c : Cast) where
       (before : List Event) → at (run l c before (start l c)) old
       → (told ≡ answers l c events (run l c before (start l c))) × at (run l c (before ++ events) (start l c)) new
 
-  -- a list of events that stopped after some of them, for want of memory
+  -- a list of events that stopped after some of them, before the next one, for want of memory
   abbrev pub HasStopped : List Event → W → W → ℕ → Type 0
   HasStopped events old new count =
-      (count ≤ length events)
+      (count < length events)
       × ((before : List Event) → at (run l c before (start l c)) old → at (run l c (before ++ take count events) (start l c)) new)
 
   -- and what the headline says of the world afterwards
@@ -38,12 +38,11 @@ module _ {W : Type 0} (at : Scene → W → Type 0) (l : Line) (c : Cast) where
 
   -- ---- settling: records are delivered to all and nodes advance, until all are at the end
 
-  -- it moved records and ran quanta alone, all are at the end, and there were no more rounds than quanta left
+  -- it made just so many rounds: records were moved and quanta run alone, and all are at the end
   abbrev pub HasSettled : W → W → ℕ → Type 0
   HasSettled old new rounds =
       (before : List Event) → at (run l c before (start l c)) old
-      → (moves : List Event) × AllByRecursion IsMove moves × at (run l c (before ++ moves) (start l c)) new
-      × AllAtEnd l c (run l c (before ++ moves) (start l c)) × (rounds ≤ quanta_left l c (run l c before (start l c)))
+      → (moves : List Event) × Rounds l c (run l c before (start l c)) rounds moves × at (run l c (before ++ moves) (start l c)) new
 
   -- it stopped on the way, for want of memory
   abbrev pub HasMoved : W → W → Type 0

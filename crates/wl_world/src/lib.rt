@@ -33,8 +33,12 @@ pub fn no_stall()
 
 /// What settling rests on: each advance runs one of the quanta that are left, a delivery none; no
 /// quantum is left exactly where all nodes are at the end; what is delivered is taken and stays.
+/// Rounds of deliveries to all and of advances until none can end with all nodes at the end, and
+/// there are no more of them than quanta were left.
 pub fn settling_laws()
     ensures { SettlingLaws }
 {
     wl_plan::simulation_laws();
+    wl_replica::known_laws();
+    wl_group::group_laws();
 }

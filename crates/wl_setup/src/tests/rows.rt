@@ -45,7 +45,7 @@ fn names_stand_in_the_order_of_the_nodes(rt: HostRuntime) -> Result<(), Fail> {
 fn check_of_two_nodes(rt: HostRuntime) -> Result<(), Fail> {
     let text = check(rt.alloc(), PLAN_A)?;
     let want =
-        "node 0 a quanta 10 sample 7 jump 2 ppm 10000\nnode 1 b quanta 10 sample 7 jump 2 ppm 10000\n";
+        "node 0 a quanta 10 sample 7 jump 2 ppm 10000\nnode 1 b quanta 10 sample 7 jump 2 ppm 10000\npair 0 1 delay 51 back 51\n";
     assert_eq!(rt; text.as_str(), want);
     Ok(())
 }

@@ -1,13 +1,13 @@
 //! Readers that fail, break a text into pieces, or give too much.
 use super::{PLAN_A, check};
-use crate::{check_text, read_text};
+use crate::{check_plan, read_plan};
 use std::alloc::{AllocError, Global};
 use std::test::Fail;
 use wl_record::{ScriptedReader, Then};
 
 /// The answer to a reader that gives a text by so many bytes a call, and then goes on so.
 fn answer(alloc: Global, text: &[u8], step: usize, then: Then) -> Result<String, AllocError> {
-    match read_text(alloc, &mut ScriptedReader { text, step, then }) {
+    match read_plan(alloc, &mut ScriptedReader { text, step, then }) {
         Ok(_) => String::from_str(alloc, "ok"),
         Err(fault) => fault.to_string(alloc),
     }
@@ -21,8 +21,8 @@ fn pieces_make_one_text(rt: HostRuntime) -> Result<(), Fail> {
             step,
             then: Then::End,
         };
-        let plan = read_text(rt.alloc(), &mut reader)?;
-        let text = check_text(rt.alloc(), &plan)?;
+        let (plan, names) = read_plan(rt.alloc(), &mut reader)?;
+        let text = check_plan(rt.alloc(), &plan, &names)?;
         assert_eq!(rt; text.as_str(), check(rt.alloc(), PLAN_A)?.as_str());
     }
     Ok(())

@@ -20,7 +20,7 @@ fn plan(alloc: Global, head: &str, jump: u8) -> Result<String, AllocError> {
 fn rows(rt: HostRuntime) -> Result<(), AllocError> {
     let alloc = rt.alloc();
     let lines =
-        "node 0 a quanta 10 sample 7 jump 2 ppm 10000\nnode 1 b quanta 10 sample 7 jump 2 ppm 10000\n";
+        "node 0 a quanta 10 sample 7 jump 2 ppm 10000\nnode 1 b quanta 10 sample 7 jump 2 ppm 10000\npair 0 1 delay 51 back 51\n";
     let rows = [
         ("version = 1\nend = 70000\nper = 1\n", 2, "Ok", lines),
         (

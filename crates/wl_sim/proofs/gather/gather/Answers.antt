@@ -1,4 +1,4 @@
-use Rattle.std.proofs.Common.{◌≡◌, ◌∙◌, ap, sym, subst, List, [], ◌++◌, All, ℕ}
+use Rattle.std.proofs.Common.{◌≡◌, ◌∙◌, ap, sym, subst, List, [], ◌++◌, All}
 use Rattle.wl_record.specs.declared.record.Record.{Record}
 use Rattle.wl_record.specs.Limits.{most_nodes, most_nodes-is}
 use Rattle.wl_record.specs.Reading.{HasRead, Progress, nothing_read}

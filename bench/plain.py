@@ -1,0 +1,699 @@
+#!/usr/bin/env python3
+"""Wireline in plain Python: what the proved program is compared with.
+
+usage: plain.py merge|horizon|check|records|run      standard input to standard output
+
+This is a second program, written from the rules and not from the proved one: whole lists, one quantum after another, no cleverness.
+Where both answer the same bytes on many inputs, a mistake would have to be in both. It shares no line with the proved program.
+
+Rules of the bus are from the Bosch CAN Specification 2.0 (1991) and ISO 11898-1; the section stands behind each, as (B 3.2.1) for
+section 3.2.1 of part B. What they leave open is this project's profile, marked (P); docs/DECISIONS.md lists it.
+Plan texts are read by Python's tomllib, which knows TOML 1.0; the proved program takes TOML 1.1.
+"""
+import re
+import sys
+import tomllib
+from bisect import bisect_right
+from heapq import heapify, heapreplace
+from typing import NamedTuple
+
+DOMINANT, RECESSIVE = 0, 1
+NUMBER_END, SMALL_END = 2**48, 2**31
+
+
+class Fault(Exception):
+    """Why an input is refused."""
+
+
+# ---- Clock: the tick at which a quantum begins (P)
+
+class Clock(NamedTuple):
+    offset: int
+    num: int
+    den: int
+
+    def at(self, quantum):
+        return self.offset + quantum * self.num // self.den
+
+    def quanta_before(self, end):
+        return max(0, -((self.offset - end) * self.den // self.num)) if end > self.offset else 0
+
+    def fault(self):
+        if self.den == 0: return "ZeroDen"
+        if self.num < self.den: return "TooFast"
+        if self.num > 2**20 * self.den: return "TooSlow"
+        if self.offset > 2**20: return "BigOffset"
+        if self.den > 1_000_000: return "BigDen"
+
+
+# ---- Bit clock: segments, samples, synchronisation (B 10)
+
+class Segments(NamedTuple):
+    prop: int
+    ps1: int
+    ps2: int
+    sjw: int
+
+    def sample_at(self):
+        return 1 + self.prop + self.ps1
+
+    def bit_quanta(self):
+        return 1 + self.prop + self.ps1 + self.ps2
+
+    def greatest_ppm(self):
+        behind_a_flag = 1_000_000 * min(self.ps1, self.ps2) // (2 * (13 * self.bit_quanta() - self.ps2))
+        between_edges = 1_000_000 * self.sjw // (20 * self.bit_quanta())
+        return min(behind_a_flag, between_edges)
+
+    def fault(self):
+        if not 1 <= self.prop <= 8: return "Prop"
+        if not 1 <= self.ps1 <= 8: return "Phase1"
+        if not 2 <= self.ps2 <= 8: return "Phase2"
+        if not 1 <= self.sjw <= min(4, self.ps1): return "Jump"
+        if not 8 <= self.bit_quanta() <= 25: return "Length"
+
+
+class BitClock:
+    """One step is one quantum: the beat (Start, Sample or Plain) and the synchronisation (Hard, a phase error, or None)."""
+
+    def __init__(self, segments):
+        self.segments = segments
+        self.before = self.sampled = RECESSIVE
+        self.place, self.longer, self.shorter, self.synchronised = -1, 0, 0, False
+        self.first = True
+
+    def start(self, synchronised):
+        self.place, self.longer, self.shorter, self.synchronised = 0, 0, 0, synchronised
+
+    def step(self, level, idle, driving):
+        before, self.before = self.before, level
+        self.place += 1
+        sample_at = self.segments.sample_at() + self.longer
+        if self.first or self.place == sample_at + self.segments.ps2 - self.shorter:
+            self.first = False
+            self.start(False)
+            sample_at = self.segments.sample_at()
+        if self.place == sample_at:  # an edge in the sample's quantum counts nowhere (P)
+            self.sampled = level
+            return "Sample", None
+        edge = level == DOMINANT and before == RECESSIVE and self.sampled == RECESSIVE and not self.synchronised
+        sync = self.synchronise(idle, driving, sample_at) if edge else None
+        return ("Start" if self.place == 0 else "Plain"), sync
+
+    def synchronise(self, idle, driving, sample_at):
+        if idle:
+            self.start(True)
+            return "Hard"
+        if self.place == 0:
+            self.synchronised = True
+            return 0
+        if self.place < sample_at:  # late: PHASE_SEG1 grows
+            error = self.place
+            if driving: return None
+            self.longer, self.synchronised = min(error, self.segments.sjw), True
+            return error
+        error = self.place - (sample_at + self.segments.ps2)  # early: PHASE_SEG2 shrinks
+        if -error <= self.segments.sjw:
+            self.start(True)
+        else:
+            self.shorter, self.synchronised = self.segments.sjw, True
+        return error
+
+
+# ---- Frames: fields, CRC sequence, bit stuffing (B 3.2.1, 3.2.2, 6)
+
+RTR = 12  # the place of the RTR bit; the identifier is at places 1 to 11
+
+
+class Frame(NamedTuple):
+    id: int
+    remote: bool
+    dlc: int
+    data: bytes
+
+    def bits(self):
+        head = [0] + bits_of(self.id, 11) + [int(self.remote), 0, 0] + bits_of(self.dlc, 4)
+        body = head + [bit for byte in self.data for bit in bits_of(byte, 8)]
+        return body + bits_of(crc15(body), 15)
+
+    def fault(self):
+        if self.id > 0x7FF: return "Id"
+        if self.dlc > 15: return "Dlc"
+        if len(self.data) != (0 if self.remote else min(self.dlc, 8)): return "DataLength"
+
+
+def bits_of(number, width):
+    return [number >> (width - 1 - place) & 1 for place in range(width)]
+
+
+def number_of(bits):
+    return int("".join(map(str, bits)), 2)
+
+
+def crc15(bits):
+    register = 0
+    for bit in bits:
+        differs = (register >> 14) != bit
+        register = (register << 1 & 0x7FFF) ^ (0x4599 if differs else 0)
+    return register
+
+
+def stuff(bits):
+    """The bits on the line, each with its place in the frame, or None for a stuff bit."""
+    line = []
+    for place, bit in enumerate(bits):
+        line.append((bit, place))
+        if len(line) >= 5 and len({level for level, _ in line[-5:]}) == 1:
+            line.append((1 - bit, None))
+    return line
+
+
+def frame_length(bits):
+    """How many bits a frame has up to its CRC sequence, once its first 19 bits tell; None before."""
+    if len(bits) < 19: return None
+    data = 0 if bits[RTR] else min(number_of(bits[15:19]), 8)
+    return 19 + 8 * data + 15
+
+
+def frame_of(bits):
+    data = bytes(number_of(bits[at:at + 8]) for at in range(19, len(bits) - 15, 8))
+    return Frame(number_of(bits[1:12]), bits[RTR] == 1, number_of(bits[15:19]), data)
+
+
+# ---- Machine: what a node does at each sampled bit (B 3.2, 5, 7, 8)
+
+class Machine:
+    """One call of bit is one sampled bit; what happened is told in the words of Counters, the frame that is done stands in done."""
+
+    def __init__(self):
+        self.role, self.done = "Rx", None
+        self.go("integrating")
+
+    def go(self, state):
+        self.state, self.count = state, 0
+        return "Nothing"
+
+    def idle(self):
+        return self.state in ("waiting", "suspend")
+
+    def drive(self):
+        """The level from the next bit start on."""
+        if self.state == "sending": return self.line[self.count][0]
+        if self.state == "flag": return DOMINANT
+        if self.state == "ending" and self.count == 1 and self.crc_right: return DOMINANT
+        return RECESSIVE
+
+    def bit(self, sample, head, mode):
+        self.done = None
+        return getattr(self, self.state)(sample, head, mode)
+
+    def bus_off(self):
+        self.role, self.runs = "Rx", 0
+        self.go("off")
+
+    # Where a bit leads to
+
+    def free(self, head):
+        if head is None: return self.go("waiting")
+        self.role, self.frame = "Tx", head
+        self.line = stuff(head.bits()) + [(RECESSIVE, end) for end in ENDING]
+        self.begin_bits()
+        return self.go("sending")
+
+    def receive(self, sample):
+        self.role = "Rx"
+        self.begin_bits()
+        self.take(sample)
+        return self.go("receiving")
+
+    def overload(self):
+        self.flag_kind, self.run = "overload", 0
+        return self.go("flag")
+
+    def error(self, kind, mode, counted=True):
+        self.owes_ack = kind == "Ack" and not counted
+        self.run, self.last = 0, None
+        self.flag_kind = "active" if mode == "active" else "passive"
+        self.go("flag" if mode == "active" else "passive_flag")
+        return f"{self.role}Error {kind}" if counted else "TxFree"
+
+    # The bits between SOF and the last CRC bit, without stuff bits
+
+    def begin_bits(self):
+        self.bits, self.equal, self.last = [], 0, None
+
+    def take(self, sample):
+        """Takes one bit; False where it is the sixth equal one."""
+        stuff_bit = self.equal == 5
+        if stuff_bit and sample == self.last: return False
+        self.equal = self.equal + 1 if sample == self.last else 1
+        self.last = sample
+        if not stuff_bit: self.bits.append(sample)
+        return True
+
+    # One method for each state
+
+    def integrating(self, sample, head, mode):
+        self.count = self.count + 1 if sample == RECESSIVE else 0
+        return self.free(head) if self.count == 11 else "Nothing"
+
+    def waiting(self, sample, head, mode):
+        return self.receive(sample) if sample == DOMINANT else self.free(head)
+
+    def sending(self, sample, head, mode):
+        sent, place = self.line[self.count]
+        if place == "ACK slot" and sample == RECESSIVE:
+            return self.error("Ack", mode, counted=mode != "passive")
+        if place == "ACK slot" or sent == sample:
+            self.count += 1
+            if place not in ENDING: self.take(sample)
+            if place != "EOF 7": return "Nothing"
+            self.done = "sent", self.frame
+            self.go("intermission")
+            return "Sent"
+        if sent == RECESSIVE and isinstance(place, int) and 1 <= place <= RTR:  # arbitration lost
+            self.role = "Rx"
+            self.take(sample)
+            return self.go("receiving")
+        if sent == RECESSIVE and place is None and len(self.bits) <= RTR:  # a stuff bit before the RTR bit (B 8, rule 3)
+            return self.error("Stuff", mode, counted=False)
+        return self.error("Bit", mode)
+
+    def receiving(self, sample, head, mode):
+        if not self.take(sample): return self.error("Stuff", mode)
+        if len(self.bits) == frame_length(self.bits) and self.equal < 5:
+            self.crc_right = crc15(self.bits[:-15]) == number_of(self.bits[-15:])
+            self.go("ending")
+        return "Nothing"
+
+    def ending(self, sample, head, mode):
+        place = ENDING[self.count]
+        self.count += 1
+        if place == "ACK slot":
+            if not self.crc_right: return "Nothing"
+            return "Acked" if sample == DOMINANT else self.error("Bit", mode)
+        if place == "EOF 7":
+            return self.overload() if sample == DOMINANT else self.go("intermission")
+        if sample == DOMINANT: return self.error("Form", mode)
+        if place == "ACK delimiter" and not self.crc_right: return self.error("Crc", mode)
+        if place == "EOF 6": self.done = "received", frame_of(self.bits)
+        return "Nothing"
+
+    def flag(self, sample, head, mode):
+        self.count += 1
+        self.run = self.run + 1 if sample == DOMINANT else 0
+        if self.count == 6: self.go("wait")
+        return "Nothing" if sample == DOMINANT else self.role + "FlagBit"
+
+    def passive_flag(self, sample, head, mode):
+        self.count = self.count + 1 if sample == self.last else 1
+        self.last = sample
+        if self.count == 6: self.go("wait")
+        if sample == RECESSIVE or not self.owes_ack: return "Nothing"
+        self.owes_ack = False
+        return "PassiveAck"
+
+    def wait(self, sample, head, mode):
+        self.count += 1
+        self.run += 1
+        first = self.count == 1
+        if sample == RECESSIVE:
+            self.go("delimiter")
+            self.count = 1
+            return "Nothing"
+        if first and self.flag_kind != "overload" and self.role == "Rx": return "RxAfterFlag"
+        long = 8 if self.flag_kind == "passive" else 14
+        return self.role + "Long" if self.run >= long and (self.run - long) % 8 == 0 else "Nothing"
+
+    def delimiter(self, sample, head, mode):
+        if sample == DOMINANT:
+            return self.overload() if self.count == 7 else self.error("Bit" if self.role == "Tx" else "Form", mode)
+        self.count += 1
+        return self.go("intermission") if self.count == 8 else "Nothing"
+
+    def intermission(self, sample, head, mode):
+        self.count += 1
+        if self.count < 3: return self.overload() if sample == DOMINANT else "Nothing"
+        suspended = self.role == "Tx" and mode == "passive"
+        self.role = "Rx"
+        if sample == DOMINANT: return self.receive(sample)
+        return self.go("suspend") if suspended else self.free(head)
+
+    def suspend(self, sample, head, mode):
+        self.count += 1
+        if sample == DOMINANT: return self.receive(sample)
+        return self.free(head) if self.count == 8 else "Nothing"
+
+    def off(self, sample, head, mode):
+        self.count = self.count + 1 if sample == RECESSIVE else 0
+        if self.count == 11: self.count, self.runs = 0, self.runs + 1
+        if self.runs < 128: return "Nothing"
+        self.free(head)
+        return "Recovered"
+
+
+ENDING = ("CRC delimiter", "ACK slot", "ACK delimiter") + tuple(f"EOF {n}" for n in range(1, 8))
+
+
+# ---- Counters: fault confinement (B 8)
+
+class Counters:
+    def __init__(self):
+        self.tec = self.rec = 0
+
+    def mode(self):
+        if self.tec >= 256: return "off"
+        return "passive" if max(self.tec, self.rec) >= 128 else "active"
+
+    def apply(self, happened):
+        word = happened.split()[0]
+        if word in ("TxError", "PassiveAck", "TxFlagBit", "TxLong"): self.tec = min(256, self.tec + 8)
+        if word == "RxError": self.rec = min(255, self.rec + 1)
+        if word in ("RxAfterFlag", "RxFlagBit", "RxLong"): self.rec = min(255, self.rec + 8)
+        if word == "Sent": self.tec = max(0, self.tec - 1)
+        if word == "Acked": self.rec = max(0, min(127, self.rec - 1))
+        if word == "Recovered": self.tec = self.rec = 0
+
+
+# ---- Node: one quantum after another
+
+class Node:
+    def __init__(self, setup):
+        self.setup, self.bit_clock, self.machine, self.counters = setup, BitClock(setup.segments), Machine(), Counters()
+        self.waiting = list(setup.queue)
+        self.quanta, self.drive = 0, RECESSIVE
+        self.changes, self.frames, self.phases = [], [], []
+        self.samples = self.hards = self.errors = 0
+
+    def next_tick(self):
+        return self.setup.clock.at(self.quanta)
+
+    def quantum(self, level):
+        beat, sync = self.bit_clock.step(level, self.machine.idle(), self.drive == DOMINANT)
+        if sync == "Hard": self.hards += 1
+        elif sync is not None: self.phases.append(sync)
+        if beat == "Start" and self.drive != self.machine.drive():
+            self.drive = self.machine.drive()
+            self.changes.append(self.next_tick())
+        if beat == "Sample": self.sample(level)
+        self.quanta += 1
+
+    def sample(self, level):
+        self.samples += 1
+        mode = self.counters.mode()
+        head = self.waiting[0].frame if self.waiting and self.waiting[0].ready <= self.quanta else None
+        happened = self.machine.bit(level, head, mode)
+        self.counters.apply(happened)
+        if mode != "off" and self.counters.mode() == "off": self.machine.bus_off()
+        if happened.startswith(("TxError", "RxError", "TxFree")): self.errors += 1
+        if self.machine.done:
+            what, frame = self.machine.done
+            self.frames.append((what, self.quanta, frame))
+            if what == "sent": self.waiting.pop(0)
+
+
+# ---- Line: what a node finds at a tick (part A, section 2, "Bus values"; fixed delays: P)
+
+class Place(NamedTuple):
+    x: int
+    out_delay: int
+    in_delay: int
+
+
+class Line:
+    def __init__(self, plan, nodes):
+        self.nodes = nodes
+        every = range(len(nodes))
+        self.delays = [[plan.delay(i, j) for i in every] for j in every]
+        self.disturbed = [[(start + plan.place_delay(x, j), end + plan.place_delay(x, j)) for x, start, end in plan.disturbances]
+                          for j in every]
+
+    def found(self, j, tick):
+        for node, delay in zip(self.nodes, self.delays[j]):
+            if bisect_right(node.changes, tick - delay) % 2 == 1: return DOMINANT
+        if any(start <= tick < end for start, end in self.disturbed[j]): return DOMINANT
+        return RECESSIVE
+
+
+# ---- Simulation: from quantum to quantum, in the order of their ticks
+
+def simulate(plan):
+    nodes = [Node(setup) for setup in plan.nodes]
+    line = Line(plan, nodes)
+    coming = [(node.next_tick(), number) for number, node in enumerate(nodes)]
+    heapify(coming)
+    while coming[0][0] < plan.end:
+        tick, number = coming[0]
+        nodes[number].quantum(line.found(number, tick))
+        heapreplace(coming, (nodes[number].next_tick(), number))
+    return nodes
+
+
+# ---- Plan text (P): what a plan is, and the first fault of a text
+
+class Queued(NamedTuple):
+    frame: Frame
+    ready: int
+
+
+class Setup(NamedTuple):
+    name: str
+    clock: Clock
+    segments: Segments
+    queue: list
+
+
+class Plan(NamedTuple):
+    nodes: list
+    places: list
+    per: int
+    disturbances: list  # of (x, from, to)
+    end: int
+
+    def delay(self, i, j):
+        a, b = self.places[i], self.places[j]
+        return a.out_delay + abs(a.x - b.x) * self.per + b.in_delay
+
+    def place_delay(self, x, j):
+        return abs(x - self.places[j].x) * self.per + self.places[j].in_delay
+
+    def topology_fault(self):
+        if not self.places: return "NoNodes"
+        if len(self.places) > 16: return "TooManyNodes"
+        pairs = [(i, j) for i in range(len(self.places)) for j in range(len(self.places))]
+        for i, j in pairs:
+            if self.delay(i, j) == 0: return f"ZeroDelay({i}, {j})"
+        for i, j in pairs:
+            if self.delay(i, j) > 2**20: return f"TooLong({i}, {j})"
+
+    def fault(self):
+        if self.end > 2**36: return "End"
+        for i, node in enumerate(self.nodes):
+            if node.clock.quanta_before(self.end) > 65_536: return f"Quanta({i})"
+        for i, node in enumerate(self.nodes):
+            if len(node.queue) > 64: return f"Queue({i})"
+        for n, (x, start, end) in enumerate(self.disturbances):
+            far = any(self.place_delay(x, j) > 2**20 for j in range(len(self.places)))
+            if start >= end or end > 2**36 or n > 63 or far: return f"Disturbance({n})"
+
+
+def whole(low, end):
+    return lambda value: type(value) is int and low <= value < end
+
+
+def array_of(kind):
+    return lambda value: type(value) is list and all(map(kind, value))
+
+
+NUMBER, SMALL, BYTE, PPM = whole(0, NUMBER_END), whole(0, SMALL_END), whole(0, 256), whole(-10**9, 10**9 + 1)
+TABLES = array_of(lambda value: type(value) is dict)
+TRUTH = lambda value: type(value) is bool
+NAME = lambda value: type(value) is str and re.fullmatch("[A-Za-z0-9_-]{1,32}", value)
+TOP = {"version": NUMBER, "end": NUMBER, "per": NUMBER, "node": TABLES}
+RATE, NOMINAL = {"num": NUMBER, "den": NUMBER}, {"quantum": NUMBER, "ppm": PPM}
+LENGTHS = dict.fromkeys(("prop", "ps1", "ps2", "sjw"), NUMBER) | {"x": SMALL, "out": NUMBER, "in": NUMBER}
+FRAME = {"id": SMALL, "dlc": SMALL}, {"remote": TRUTH, "bytes": array_of(BYTE), "ready": NUMBER}
+DISTURBANCE = {"x": SMALL, "from": NUMBER, "to": NUMBER}, {}
+
+
+def test_keys(table, required, optional):
+    for key, kind in required.items():
+        if key not in table: raise Fault(f"Missing({key})")
+        if not kind(table[key]): raise Fault(f"Kind({key})")
+    for key, kind in optional.items():
+        if key in table and not kind(table[key]): raise Fault(f"Kind({key})")
+    for key in sorted(table, key=str.encode):
+        if key not in required and key not in optional: raise Fault(f"Unknown({key})")
+
+
+def refuse(word, fault):
+    if fault: raise Fault(word % fault)
+
+
+def read_toml(text):
+    if len(text) > 1_048_576: raise Fault("Size")
+    try:
+        document = tomllib.loads(text.decode())
+    except (ValueError, RecursionError):
+        raise Fault("Toml")
+    values = [document]
+    for value in values:
+        if type(value) is int and not -2**63 <= value < 2**63: raise Fault("Toml")
+        values += value.values() if type(value) is dict else value if type(value) is list else []
+    return document
+
+
+def read_plan(text):
+    top = read_toml(text)
+    if "version" in top and NUMBER(top["version"]) and top["version"] != 1: raise Fault("Version")
+    test_keys(top, TOP, {"disturbance": TABLES})
+    for node in top["node"]:
+        clock = NOMINAL if "quantum" in node else RATE
+        test_keys(node, {"name": NAME, "offset": NUMBER} | clock | LENGTHS, {"frame": TABLES})
+        for frame in node.get("frame", []): test_keys(frame, *FRAME)
+    for disturbance in top.get("disturbance", []): test_keys(disturbance, *DISTURBANCE)
+    if len({node["name"] for node in top["node"]}) < len(top["node"]): raise Fault("SameName")
+    nodes = [read_node(i, node) for i, node in enumerate(top["node"])]
+    places = [Place(node["x"], node["out"], node["in"]) for node in top["node"]]
+    disturbances = [(table["x"], table["from"], table["to"]) for table in top.get("disturbance", [])]
+    plan = Plan(nodes, places, top["per"], disturbances, top["end"])
+    refuse("Topology(%s)", plan.topology_fault())
+    refuse("Plan(%s)", plan.fault())
+    return plan
+
+
+def read_node(i, node):
+    if "quantum" in node:
+        refuse(f"NodeClock({i}, %s)", "" if abs(node["ppm"]) <= 100_000 else "BadPpm")
+        clock = Clock(node["offset"], node["quantum"] * (1_000_000 + node["ppm"]), 1_000_000)
+    else:
+        clock = Clock(node["offset"], node["num"], node["den"])
+    segments = Segments(node["prop"], node["ps1"], node["ps2"], node["sjw"])
+    refuse(f"NodeClock({i}, %s)", clock.fault())
+    refuse(f"NodeSegments({i}, %s)", segments.fault())
+    queue = []
+    for n, table in enumerate(node.get("frame", [])):
+        frame = Frame(table["id"], table.get("remote", False), table["dlc"], bytes(table.get("bytes", [])))
+        refuse(f"NodeFrame({i}, {n}, %s)", frame.fault())
+        queue.append(Queued(frame, table.get("ready", 0)))
+    return Setup(node["name"], clock, segments, queue)
+
+
+# ---- Record text (P): one slot for each change and each silence
+
+NUMERAL = "(0|[1-9][0-9]*)"
+SHAPES = {"E": f"E {NUMERAL} {NUMERAL} {NUMERAL}", "C": f"C {NUMERAL} {NUMERAL}", "S": f"S {NUMERAL} {NUMERAL} {NUMERAL}"}
+LIMITS = {"E": (16, 65_536, NUMBER_END), "C": (16, 65_536), "S": (16, 65_537, NUMBER_END)}
+
+
+def read_records(text):
+    """The records of a text, as ("E", node, seq, tick), ("C", node, seq) or ("S", node, count, until); or its first fault."""
+    records, at, number = [], 0, 1
+    while at < len(text):
+        end = text.find(b"\n", at, min(at + 41, 2**26))
+        if end < 0: raise Fault(f"TooLong({number})" if len(text) > min(at + 40, 2**26) else "Truncated")
+        line = text[at:end].decode("latin-1")
+        shape = re.fullmatch(SHAPES.get(line[:1], "(?!)"), line)
+        if not shape: raise Fault(f"Line({number})")
+        numbers = tuple(map(int, shape.groups()))
+        if any(n >= limit for n, limit in zip(numbers, LIMITS[line[0]])): raise Fault(f"Range({number})")
+        records.append((line[0],) + numbers)
+        at, number = end + 1, number + 1
+    return records
+
+
+def slots_of(records):
+    """For each node the ticks of its changes ("clash" where two differ), and the greatest end of each of its silences."""
+    changes, silences = [{} for _ in range(16)], [{} for _ in range(16)]
+    for kind, node, number, *word in records:
+        if kind == "S": silences[node][number] = max(word[0], silences[node].get(number, 0))
+        if kind == "C": changes[node][number] = "clash"
+        if kind == "E" and changes[node].setdefault(number, word[0]) != word[0]: changes[node][number] = "clash"
+    return changes, [{count: until for count, until in of_node.items() if until > 0} for of_node in silences]
+
+
+def merge_text(records):
+    lines = []
+    for node, (changes, silences) in enumerate(zip(*slots_of(records))):
+        for seq, tick in sorted(changes.items()):
+            lines.append(f"C {node} {seq}" if tick == "clash" else f"E {node} {seq} {tick}")
+        lines += [f"S {node} {count} {until}" for count, until in sorted(silences.items())]
+    return lines
+
+
+def horizon_text(records):
+    lines = []
+    for node, (changes, silences) in enumerate(zip(*slots_of(records))):
+        if not changes and not silences: continue
+        run = []
+        while (tick := changes.get(len(run), "clash")) != "clash":
+            if run and tick <= run[-1] or tick < silences.get(len(run), 0): break
+            run.append(tick)
+        horizon = max([tick + 1 for tick in run[-1:]] + [until for count, until in silences.items() if count <= len(run)], default=0)
+        lines.append(f"H {node} {len(run)} {horizon}")
+        ends = run[1::2] + [horizon]
+        lines += [f"D {node} {start} {end}" for start, end in zip(run[0::2], ends)]
+    return lines
+
+
+# ---- Output texts (P)
+
+def check_text(plan):
+    lines = []
+    for i, node in enumerate(plan.nodes):
+        timing = node.segments
+        lines.append(f"node {i} {node.name} quanta {timing.bit_quanta()} sample {timing.sample_at()} jump {timing.sjw} "
+                     f"ppm {timing.greatest_ppm()}")
+    pairs = [(i, j) for i in range(len(plan.nodes)) for j in range(i + 1, len(plan.nodes))]
+    return lines + [f"pair {i} {j} delay {plan.delay(i, j)} back {plan.delay(j, i)}" for i, j in pairs]
+
+
+def records_text(plan):
+    lines = []
+    for i, node in enumerate(simulate(plan)):
+        lines += [f"E {i} {seq} {tick}" for seq, tick in enumerate(node.changes)]
+        lines.append(f"S {i} {len(node.changes)} {plan.end}")
+    return lines
+
+
+def report_text(plan):
+    nodes, lines = simulate(plan), []
+    for i, node in enumerate(nodes):
+        least, greatest = min(node.phases, default="-"), max(node.phases, default="-")
+        lines.append(f"node {i} tec {node.counters.tec} rec {node.counters.rec} mode {node.counters.mode()} errors {node.errors} "
+                     f"samples {node.samples} hard {node.hards} sync {len(node.phases)} least {least} greatest {greatest}")
+        for what, quantum, frame in node.frames:
+            kind = "remote" if frame.remote else "data"
+            lines.append(f"frame {i} {what} {quantum} {frame.id:03x} {kind} {frame.dlc} {frame.data.hex() or '-'}")
+    errors, unsent = sum(node.errors for node in nodes), sum(len(node.waiting) for node in nodes)
+    return lines + [f"verdict faulty errors {errors} unsent {unsent}" if errors or unsent else "verdict clean"]
+
+
+COMMANDS = {
+    "merge": lambda text: merge_text(read_records(text)),
+    "horizon": lambda text: horizon_text(read_records(text)),
+    "check": lambda text: check_text(read_plan(text)),
+    "records": lambda text: records_text(read_plan(text)),
+    "run": lambda text: report_text(read_plan(text)),
+}
+
+
+def answer(command, text):
+    """Standard output, standard error and status for an input."""
+    try:
+        return "".join(line + "\n" for line in COMMANDS[command](text)), "", 0
+    except Fault as fault:
+        return "", f"fault: {fault}\n", 1
+
+
+def main():
+    if len(sys.argv) != 2 or sys.argv[1] not in COMMANDS:
+        sys.exit(sys.stderr.write(__doc__) and 2)
+    out, fault, status = answer(sys.argv[1], sys.stdin.buffer.read())
+    sys.stdout.write(out)
+    sys.stderr.buffer.write(fault.encode())
+    sys.exit(status)
+
+
+if __name__ == "__main__":
+    main()

@@ -1,0 +1,37 @@
+-- A node's history, one level longer.
+use Rattle.std.proofs.Common.{◌≡◌, ◌≢◌, ◌∙◌, Bool, List, [], ◌∷◌, ◌++◌, refl, ap, sym}
+use Rattle.std.proofs.lemmas.List.Sums.{fold-append}
+use Rattle.wl_intervals.specs.declared.Level.{Level}
+use Rattle.wl_intervals.specs.Levels.{is_dominant}
+use Rattle.wl_sync.specs.declared.Beat.{Beat}
+use Rattle.wl_sync.specs.declared.Beat.TheVariants.{Plain, Sample, Start}
+use Rattle.wl_sync.specs.Bits.{Seen, beat_of}
+use Rattle.wl_machine.specs.Judged.{stretch_of, is_idle_sort}
+use Rattle.wl_node.specs.declared.setup.NodeSetup.{NodeSetup}
+use Rattle.wl_node.specs.History.{History, history_of, history_after, no_history, seen_next, by_beat}
+
+pub history_first : (setup : NodeSetup) → history_of setup [] ≡ no_history
+unfolding history_of
+history_first setup = refl
+
+pub history_next : (setup : NodeSetup) (levels : List Level) (level : Level) → history_of setup (levels ++ level ∷ []) ≡ history_after setup (history_of setup levels) level
+unfolding history_of
+history_next setup levels level = fold-append (history_after setup) no_history levels (level ∷ [])
+
+-- what the bit clock is told is what it sees
+pub seen_is : (h : History) (level drive : Level) (idle driving : Bool) → idle ≡ is_idle_sort (stretch_of h.inputs).sort
+    → driving ≡ is_dominant drive → drive ≡ h.drive → ◌≡◌ {A = Seen} (record { level = level; idle = idle; driving = driving }) (seen_next h level)
+seen_is h level drive idle driving e f g i = record { level = level; idle = e i; driving = (f ∙ ap is_dominant g) i }
+
+-- the drive after one more level, by the beat
+pub drive_is : (setup : NodeSetup) (levels : List Level) (level : Level) (beat : Beat)
+    → beat ≡ beat_of setup.segments (history_of setup levels).seen (seen_next (history_of setup levels) level)
+    → (by_beat setup (history_of setup levels) level beat).drive ≡ (history_of setup (levels ++ level ∷ [])).drive
+drive_is setup levels level beat e =
+    ap (λ b. (by_beat setup (history_of setup levels) level b).drive) e ∙ sym (ap (λ h. h.drive) (history_next setup levels level))
+
+-- the drive stays where no bit starts
+pub drive_stays : (setup : NodeSetup) (h : History) (level : Level) (beat : Beat) → beat ≢ Start → h.drive ≡ (by_beat setup h level beat).drive
+drive_stays setup h level Plain differs = refl
+drive_stays setup h level (Sample other) differs = refl
+drive_stays setup h level Start differs = absurd (differs refl)

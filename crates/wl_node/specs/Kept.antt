@@ -1,0 +1,56 @@
+-- Where its history puts what a node keeps.
+use Rattle.std.specs.Prelude.{◌≡◌, ℕ, ◌<◌, List, [], ◌∷◌, length, count_by, Option, Some, None, vec_len, vec_capacity}
+use Rattle.std.specs.List.{flat_map}
+use Rattle.wl_intervals.specs.declared.Level.{Level}
+use Rattle.wl_sync.specs.declared.Sync.{Sync}
+use Rattle.wl_sync.specs.Running.{clock_after}
+use Rattle.wl_confine.specs.Counts.{counts_of}
+use Rattle.wl_frame.specs.Grammar.{Content}
+use Rattle.wl_machine.specs.Judged.{stretch_of, drive_of, head_of}
+use Rattle.wl_machine.specs.Reached.{IsMachine}
+use Rattle.wl_node.specs.declared.setup.Queued.{Queued}
+use Rattle.wl_node.specs.declared.setup.NodeSetup.{NodeSetup}
+use Rattle.wl_node.specs.declared.syncs.Syncs.{Syncs}
+use Rattle.wl_node.specs.declared.traffic.Traffic.{Traffic}
+use Rattle.wl_node.specs.declared.progress.Progress.{Progress}
+use Rattle.wl_node.specs.History.{History, history_of, is_sent, unsent_of, errors_of, phase_of, is_hard}
+
+-- the frame of the first one in a queue
+abbrev pub first_frame : List Queued → Option Content
+first_frame [] = None
+first_frame (q ∷ qs) = Some q.frame
+
+-- what is kept of the synchronisations
+pub record AreSyncs (kept : Syncs) (syncs : List (ℕ × Sync)) : Type 0 where
+  pub phases : kept.phases.items ≡ flat_map phase_of syncs
+  pub hards : kept.hards ≡ count_by is_hard syncs
+
+-- What is kept of the samples and of what came of them. The frame that the machine sends is the first unsent one.
+pub record IsTraffic (setup : NodeSetup) (kept : Traffic) (h : History) : Type 0 where
+  pub machine : IsMachine kept.machine h.inputs
+  pub counters : kept.counters ≡ counts_of h.happened
+  pub pending : kept.pending ≡ drive_of (stretch_of h.inputs)
+  pub sent : kept.sent ≡ count_by is_sent h.frames
+  pub errors : kept.errors ≡ errors_of h
+  pub samples : kept.samples.items ≡ h.samples
+  pub frames : kept.frames.items ≡ h.frames
+  pub sends : (frame : Content) → head_of (stretch_of h.inputs).sort ≡ Some frame → first_frame (unsent_of setup h) ≡ Some frame
+
+-- a node is where its history puts it
+pub record IsAt (setup : NodeSetup) (kept : Progress) (h : History) : Type 0 where
+  pub clock : kept.clock ≡ clock_after setup.segments h.seen
+  pub drive : kept.drive ≡ h.drive
+  pub quanta : kept.quanta ≡ length h.seen
+  pub syncs : AreSyncs kept.syncs h.syncs
+  pub traffic : IsTraffic setup kept.traffic h
+
+-- a node is where these levels put it, one for each of its quanta
+pub record IsProgress (setup : NodeSetup) (kept : Progress) (levels : List Level) : Type 0 where
+  pub counted : length (history_of setup levels).seen ≡ length levels
+  pub place : IsAt setup kept (history_of setup levels)
+
+-- there is room for what one more quantum stores
+pub record IsRoomy (kept : Progress) : Type 0 where
+  pub samples : vec_len kept.traffic.samples < vec_capacity kept.traffic.samples
+  pub frames : vec_len kept.traffic.frames < vec_capacity kept.traffic.frames
+  pub phases : vec_len kept.syncs.phases < vec_capacity kept.syncs.phases

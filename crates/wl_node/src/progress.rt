@@ -1,0 +1,132 @@
+//! One quantum of a node.
+
+ghost use Rattle.std.specs.Prelude.{◌≡◌, ◌+◌, ◌<◌, ◌≤◌, ◌^◌, ◌++◌, [], ◌∷◌, length, List, OnOk, IfOk, vec_len, vec_capacity};
+ghost use Rattle.wl_intervals.specs.declared.Level.{Level};
+ghost use Rattle.wl_node.specs.declared.setup.NodeSetup.{NodeSetup};
+ghost use Rattle.wl_node.specs.History.{History, history_of, by_beat};
+ghost use Rattle.wl_node.specs.Kept.{IsTraffic, IsProgress, IsRoomy};
+
+use crate::setup::NodeSetup;
+use crate::syncs::Syncs;
+use crate::traffic::Traffic;
+use std::alloc::{AllocError, Global};
+use wl_confine::Counters;
+use wl_intervals::Level;
+use wl_machine::Machine;
+use wl_segments::Segments;
+use wl_sync::{Beat, BitClock};
+
+/// What a node keeps beside its setup.
+#[derive(Drop)]
+pub struct Progress {
+    pub clock: BitClock,
+    pub drive: Level,
+    pub quanta: u64,
+    pub syncs: Syncs,
+    pub traffic: Traffic,
+}
+
+/// For how many samples, frames and phase errors there is room at first.
+const FIRST_ROOM: usize = 8;
+
+impl Progress {
+    /// Before the first quantum: the node drives recessive.
+    pub fn new(alloc: Global, segments: Segments) -> Result<Progress, AllocError>
+        ensures place { IfOk result (λ kept. (setup : NodeSetup) → setup.segments ≡ segments → IsProgress setup kept []) }
+        ensures none { IfOk result (λ kept. (kept.syncs.hards ≡ 0) × (kept.traffic.errors ≡ 0)) }
+    {
+        Ok(Progress {
+            clock: BitClock::new(segments),
+            drive: Level::Recessive,
+            quanta: 0,
+            syncs: Syncs {
+                phases: Vec::with_capacity(alloc, FIRST_ROOM)?,
+                hards: 0,
+            },
+            traffic: Traffic {
+                machine: Machine::new(),
+                counters: Counters::new(),
+                pending: Level::Recessive,
+                sent: 0,
+                errors: 0,
+                samples: Vec::with_capacity(alloc, FIRST_ROOM)?,
+                frames: Vec::with_capacity(alloc, FIRST_ROOM)?,
+            },
+        })
+    }
+
+    /// Makes room for what the next quantum stores.
+    pub fn prepare(&mut self) -> Result<(), AllocError>
+        ensures room { OnOk result (IsRoomy self.new) }
+        ensures same { (setup : NodeSetup) (levels : List Level) → IsProgress setup self.old levels → IsProgress setup self.new levels }
+        ensures quanta { self.new.quanta ≡ self.old.quanta }
+        ensures hards { self.new.syncs.hards ≡ self.old.syncs.hards }
+        ensures errors { self.new.traffic.errors ≡ self.old.traffic.errors }
+    {
+        self.syncs.prepare()?;
+        self.traffic.prepare()
+    }
+
+    /// What the node drives once it has seen this level at its next quantum.
+    pub fn drive_after(&self, level: Level) -> Level
+        ensures { (setup : NodeSetup) (levels : List Level) → IsProgress setup self.now levels → result ≡ (history_of setup (levels ++ level ∷ [])).drive }
+    {
+        let mut clock = self.clock;
+        let idle = self.traffic.machine.idle();
+        let (beat, _) = clock.step(level, idle, self.drive.is_dominant());
+        match beat {
+            Beat::Start => self.traffic.pending,
+            _ => self.drive,
+        }
+    }
+
+    /// The next quantum, at which the node sees this level: first the bit clock, and then what its
+    /// beat asks for.
+    pub fn run(&mut self, setup: &NodeSetup, level: Level)
+        requires room { IsRoomy self.old }
+        requires short { self.old.quanta < 2 ^ 21 }
+        requires hards { self.old.syncs.hards ≤ self.old.quanta }
+        requires errors { self.old.traffic.errors ≤ self.old.quanta }
+        ensures place { (levels : List Level) → IsProgress setup.now self.old levels → IsProgress setup.now self.new (levels ++ level ∷ []) }
+        ensures quanta { self.new.quanta ≡ self.old.quanta + 1 }
+        ensures hards { self.new.syncs.hards ≤ self.old.syncs.hards + 1 }
+        ensures errors { self.new.traffic.errors ≤ self.old.traffic.errors + 1 }
+    {
+        let idle = self.traffic.machine.idle();
+        let (beat, sync) = self.clock.step(level, idle, self.drive.is_dominant());
+        self.syncs.note(self.quanta, sync);
+        obey(
+            &mut self.drive,
+            &mut self.traffic,
+            setup,
+            self.quanta,
+            beat,
+            level,
+        );
+        self.quanta += 1;
+    }
+}
+
+/// What a quantum does by its beat: where a bit starts, the node drives what its machine wants since
+/// its last sample.
+fn obey(
+    drive: &mut Level,
+    traffic: &mut Traffic,
+    setup: &NodeSetup,
+    quantum: u64,
+    beat: Beat,
+    level: Level,
+)
+    requires samples { vec_len traffic.old.samples < vec_capacity traffic.old.samples }
+    requires frames { vec_len traffic.old.frames < vec_capacity traffic.old.frames }
+    requires fits { traffic.old.errors < 2 ^ 21 }
+    ensures drive { (h : History) → drive.old ≡ h.drive → IsTraffic setup.now traffic.old h → drive.new ≡ (by_beat setup.now h level beat).drive }
+    ensures traffic { (h : History) → length h.seen ≡ quantum → IsTraffic setup.now traffic.old h → IsTraffic setup.now traffic.new (by_beat setup.now h level beat) }
+    ensures errors { traffic.new.errors ≤ traffic.old.errors + 1 }
+{
+    match beat {
+        Beat::Plain => {}
+        Beat::Start => *drive = traffic.pending,
+        Beat::Sample(_) => traffic.sample(setup.queue.as_slice(), quantum, level),
+    }
+}

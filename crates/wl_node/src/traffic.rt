@@ -1,0 +1,132 @@
+//! What a node's samples do: to its machine, its counters, and the frames that pass.
+
+ghost use Rattle.std.specs.Prelude.{◌≡◌, ◌+◌, ◌<◌, ◌≤◌, ◌^◌, ◌++◌, [], ◌∷◌, length, drop, count_by, List, OnOk, Option, Some, vec_len, vec_capacity};
+ghost use Rattle.std.specs.Option.{option_copied};
+ghost use Rattle.wl_frame.specs.Grammar.{Content};
+ghost use Rattle.wl_confine.specs.Counts.{is_error};
+ghost use Rattle.wl_machine.specs.Stretch.{Input, Ended};
+ghost use Rattle.wl_machine.specs.Stretch.Ended.{Sent as SentFrame};
+ghost use Rattle.wl_machine.specs.Judged.{stretch_of, drive_of};
+ghost use Rattle.wl_machine.specs.Reached.{IsMachine};
+ghost use Rattle.wl_machine.specs.States.{done_of};
+ghost use Rattle.wl_node.specs.declared.setup.NodeSetup.{NodeSetup};
+ghost use Rattle.wl_node.specs.History.{History, ready_head, passed, is_sent, switched_off, sampled};
+ghost use Rattle.wl_node.specs.Kept.{IsTraffic, first_frame};
+
+use crate::setup::{Passed, Queued};
+use std::alloc::AllocError;
+use wl_confine::{Counters, Happened, Mode};
+use wl_frame::frame::Frame;
+use wl_intervals::Level;
+use wl_machine::{Done, Machine};
+
+/// What a node keeps of its samples, and of what came of them.
+#[derive(Drop)]
+pub struct Traffic {
+    pub machine: Machine,
+    pub counters: Counters,
+    /// What the node drives from its next bit start on.
+    pub pending: Level,
+    /// How many frames of the queue were sent.
+    pub sent: usize,
+    pub errors: u64,
+    pub samples: Vec<(u64, Level)>,
+    pub frames: Vec<Passed>,
+}
+
+/// The first unsent frame, if it is ready.
+fn ready_head(queue: &[Queued], sent: usize, quantum: u64) -> Option<&Frame>
+    ensures { option_copied result ≡ ready_head (drop sent queue.now) quantum }
+{
+    match queue.get(sent) {
+        Some(first) if first.ready <= quantum => Some(&first.frame),
+        _ => None,
+    }
+}
+
+/// Keeps the frame that a sample completed: one that was sent is the first unsent one.
+fn pass(frames: &mut Vec<Passed>, sent: &mut usize, done: Done, queue: &[Queued], quantum: u64)
+    requires { vec_len frames.old < vec_capacity frames.old }
+    ensures { (ended : Ended) → done ≡ done_of ended → ((frame : Content) → ended ≡ SentFrame frame → first_frame (drop sent.old queue.now) ≡ Some frame)
+        → (frames.new.items ≡ frames.old.items ++ passed quantum ended) × (sent.new ≡ sent.old + count_by is_sent (passed quantum ended)) }
+{
+    match done {
+        Done::Nothing => {}
+        Done::Sent => {
+            if let Some(first) = queue.get(*sent) {
+                frames.push_reserved(Passed {
+                    sent: true,
+                    quantum,
+                    frame: first.frame,
+                });
+                *sent += 1;
+            }
+        }
+        Done::Received(frame) => frames.push_reserved(Passed {
+            sent: false,
+            quantum,
+            frame,
+        }),
+    }
+}
+
+/// Counts an error.
+fn count(errors: &mut u64, happened: Happened)
+    requires { errors.old < 2 ^ 21 }
+    ensures { errors.new ≡ errors.old + count_by is_error (happened ∷ []) }
+{
+    if happened.is_error() {
+        *errors += 1;
+    }
+}
+
+/// Takes the machine off the bus where a sample made the mode bus off: it drives recessive then.
+fn switch_off(machine: &mut Machine, pending: &mut Level, before: Mode, after: Mode)
+    ensures { (past : List Input) → IsMachine machine.old past → pending.old ≡ drive_of (stretch_of past)
+        → IsMachine machine.new (past ++ switched_off before after) × (pending.new ≡ drive_of (stretch_of (past ++ switched_off before after))) }
+{
+    if before != Mode::Off && after == Mode::Off {
+        machine.bus_off();
+        *pending = Level::Recessive;
+    }
+}
+
+impl Traffic {
+    /// Makes room for one more sample and one more frame.
+    pub fn prepare(&mut self) -> Result<(), AllocError>
+        ensures samples { OnOk result (vec_len self.new.samples < vec_capacity self.new.samples) }
+        ensures frames { OnOk result (vec_len self.new.frames < vec_capacity self.new.frames) }
+        ensures errors { self.new.errors ≡ self.old.errors }
+        ensures same { (setup : NodeSetup) (h : History) → IsTraffic setup self.old h → IsTraffic setup self.new h }
+    {
+        if self.samples.len() == self.samples.capacity() {
+            self.samples.reserve(1)?;
+        }
+        if self.frames.len() == self.frames.capacity() {
+            self.frames.reserve(1)?;
+        }
+        Ok(())
+    }
+
+    /// A sample at this quantum: it is stored, and goes to the machine and then to the counters.
+    pub fn sample(&mut self, queue: &[Queued], quantum: u64, level: Level)
+        requires samples { vec_len self.old.samples < vec_capacity self.old.samples }
+        requires frames { vec_len self.old.frames < vec_capacity self.old.frames }
+        requires fits { self.old.errors < 2 ^ 21 }
+        ensures traffic { (setup : NodeSetup) (h : History) → setup.queue ≡ queue.now → length h.seen ≡ quantum
+            → IsTraffic setup self.old h → IsTraffic setup self.new (sampled setup h level) }
+        ensures errors { self.new.errors ≤ self.old.errors + 1 }
+    {
+        wl_machine::laws::a_sent_frame_is_the_head_that_began_its_stretch();
+        let mode = self.counters.mode();
+        let head = ready_head(queue, self.sent, quantum);
+        let turn = self.machine.bit(level, head, mode);
+        self.samples.push_reserved((quantum, level));
+        self.pending = turn.drive;
+        pass(&mut self.frames, &mut self.sent, turn.done, queue, quantum);
+        count(&mut self.errors, turn.happened);
+        self.counters.apply(turn.happened);
+        let after = self.counters.mode();
+        switch_off(&mut self.machine, &mut self.pending, mode, after);
+    }
+}

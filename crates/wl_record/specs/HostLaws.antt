@@ -1,0 +1,11 @@
+-- What a run of a device of the system tells, where the device's bytes are known (this project's profile).
+use Rattle.std.specs.Prelude.{◌≡◌, ℕ, List, ◌++◌, Option, Some}
+use Rattle.wl_record.specs.Devices.{Answer, ended, Run, moved_bytes, EndsWith, HostGives, HostTakes}
+
+pub record HostLaws : Type 0 where
+  -- up to its end a reader gives all the bytes that it had
+  pub all_came : (bytes : List ℕ) (left : Option (List ℕ)) (answers : List Answer)
+      → Run HostGives (Some bytes) answers left → EndsWith answers ended → moved_bytes answers ≡ bytes
+  -- a writer holds what went, behind what it held
+  pub all_held : (before : List ℕ) (held : Option (List ℕ)) (answers : List Answer)
+      → Run HostTakes (Some before) answers held → held ≡ Some (before ++ moved_bytes answers)

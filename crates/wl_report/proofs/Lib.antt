@@ -1,0 +1,5 @@
+pub mod Hexadecimal
+pub mod Numbered
+pub mod Passing
+pub mod Picking
+pub mod Sums

@@ -1,0 +1,57 @@
+-- The report of an outcome as text (this project's profile).
+use Rattle.std.specs.Prelude.{ℕ, Bool, ◌==◌, ◌&&◌, if◌then◌else◌, List, [], ◌∷◌, ◌++◌, length, codes}
+use Rattle.std.specs.List.{flat_map, list_all, enumerate_from, sum_by}
+use Rattle.std.specs.Fmt.{decimal}
+use Rattle.wl_confine.specs.Counts.{mode_of}
+use Rattle.wl_node.specs.declared.setup.Passed.{Passed}
+use Rattle.wl_serial.specs.declared.outcome.NodeOutcome.{NodeOutcome}
+use Rattle.wl_serial.specs.declared.outcome.Outcome.{Outcome}
+use Rattle.wl_report.specs.Lines.{line, hexadecimal, bytes_word, mode_word, way_word, kind_word, error_word}
+use Rattle.wl_report.specs.Extremes.{errors_of, least_of, greatest_of}
+
+-- what stands of a node: its counters and mode, how many errors, samples and synchronisations there were, and the
+-- least and the greatest phase error
+abbrev pub node_line : ℕ → NodeOutcome → List ℕ
+node_line i n =
+    line (codes "node") (decimal i
+    ∷ codes "tec" ∷ decimal n.counters.tec
+    ∷ codes "rec" ∷ decimal n.counters.rec
+    ∷ codes "mode" ∷ mode_word (mode_of n.counters)
+    ∷ codes "errors" ∷ decimal n.errors
+    ∷ codes "samples" ∷ decimal (length n.samples)
+    ∷ codes "hard" ∷ decimal n.hards
+    ∷ codes "sync" ∷ decimal (length n.phases)
+    ∷ codes "least" ∷ error_word (least_of (errors_of n.phases))
+    ∷ codes "greatest" ∷ error_word (greatest_of (errors_of n.phases)) ∷ [])
+
+-- a frame that passed through a node: which way, the quantum of the sample that completed it, and what it carries
+abbrev pub frame_words : ℕ → Passed → List (List ℕ)
+frame_words i p =
+    decimal i ∷ way_word p.sent ∷ decimal p.quantum ∷ hexadecimal 3 p.frame.id ∷ kind_word p.frame.remote
+    ∷ decimal p.frame.dlc ∷ []
+
+abbrev pub frame_line : ℕ → Passed → List ℕ
+frame_line i p = line (codes "frame") (frame_words i p ++ bytes_word p.frame.bytes ∷ [])
+
+-- the line of a numbered node, and then its frames as they passed
+abbrev pub node_lines : ℕ × NodeOutcome → List ℕ
+node_lines n = node_line n.0 n.1 ++ flat_map (frame_line n.0) n.1.frames
+
+-- no error, and no frame left to send
+abbrev pub is_clean : NodeOutcome → Bool
+is_clean n = n.errors == 0 && n.unsent == 0
+
+-- how many errors and unsent frames there are in all
+abbrev pub faulty_line : List NodeOutcome → List ℕ
+faulty_line nodes =
+    line (codes "verdict") (codes "faulty"
+    ∷ codes "errors" ∷ decimal (sum_by (λ n. n.errors) nodes)
+    ∷ codes "unsent" ∷ decimal (sum_by (λ n. n.unsent) nodes) ∷ [])
+
+-- the verdict on all nodes
+abbrev pub verdict_line : List NodeOutcome → List ℕ
+verdict_line nodes = if list_all is_clean nodes then line (codes "verdict") (codes "clean" ∷ []) else faulty_line nodes
+
+-- the report: node by node in order, and last the verdict
+abbrev pub report_text : Outcome → List ℕ
+report_text outcome = flat_map node_lines (enumerate_from 0 outcome.nodes) ++ verdict_line outcome.nodes

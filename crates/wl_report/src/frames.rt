@@ -1,0 +1,77 @@
+//! The line of a frame.
+ghost use Rattle.std.specs.Prelude.{◌≡◌, ◌++◌, OnOk, string_bytes, codes};
+ghost use Rattle.std.specs.List.{flat_map};
+ghost use Rattle.wl_report.specs.Lines.{bytes_word, hexadecimal, joined, kind_word, way_word};
+ghost use Rattle.wl_report.specs.Report.{frame_line, frame_words};
+
+use std::alloc::AllocError;
+use wl_node::Passed;
+
+/// Whether a node sent a frame or received it.
+fn way_word(sent: bool) -> &'static str
+    ensures { result.now ≡ way_word sent }
+{
+    if sent { "sent" } else { "received" }
+}
+
+/// Whether a frame is a remote frame or a data frame.
+fn kind_word(remote: bool) -> &'static str
+    ensures { result.now ≡ kind_word remote }
+{
+    if remote { "remote" } else { "data" }
+}
+
+/// Adds a byte as two lower-case hexadecimal digits.
+#[tactic(auto, using(crate::proofs::Hexadecimal::byte_digits))]
+fn push_byte(text: &mut String, byte: u8) -> Result<(), AllocError>
+    ensures { OnOk result (string_bytes text.new ≡ string_bytes text.old ++ hexadecimal 2 byte) }
+{
+    write!(text, "{byte:02x}")
+}
+
+/// Adds bytes as two lower-case hexadecimal digits each.
+fn push_each_byte(text: &mut String, bytes: &[u8]) -> Result<(), AllocError>
+    ensures { OnOk result (string_bytes text.new ≡ string_bytes text.old ++ flat_map (hexadecimal 2) bytes.now) }
+{
+    for byte in bytes {
+        push_byte(text, *byte)?;
+    }
+    Ok(())
+}
+
+/// Adds the word of a frame's bytes.
+fn push_bytes(text: &mut String, bytes: &[u8]) -> Result<(), AllocError>
+    ensures { OnOk result (string_bytes text.new ≡ string_bytes text.old ++ bytes_word bytes.now) }
+{
+    if bytes.is_empty() {
+        text.push_str("-")
+    } else {
+        push_each_byte(text, bytes)
+    }
+}
+
+/// Adds the words of a frame that stand before its bytes, and a space.
+#[tactic(auto, using(crate::proofs::Hexadecimal::identifier_digits))]
+fn push_frame_words(text: &mut String, node: usize, passed: &Passed) -> Result<(), AllocError>
+    ensures { OnOk result (string_bytes text.new ≡ string_bytes text.old ++ joined 32 (codes "frame") (frame_words node passed.now)) }
+{
+    let Passed {
+        sent,
+        quantum,
+        frame,
+    } = *passed;
+    let way = way_word(sent);
+    let id = frame.id();
+    let kind = kind_word(frame.remote());
+    let dlc = frame.dlc();
+    write!(text, "frame {node} {way} {quantum} {id:03x} {kind} {dlc} ")
+}
+
+/// Adds the line of a frame that passed through a node.
+pub(crate) fn push_frame(text: &mut String, node: usize, passed: &Passed) -> Result<(), AllocError>
+    ensures { OnOk result (string_bytes text.new ≡ string_bytes text.old ++ frame_line node passed.now) }
+{
+    push_frame_words(text, node, passed)?;
+    push_bytes(text, passed.frame.bytes())?;
+    text.push_str("\n")
+}

@@ -1,0 +1,49 @@
+//! The verdict on all nodes.
+ghost use Rattle.std.specs.Prelude.{◌≡◌, ◌++◌, OnOk, string_bytes};
+ghost use Rattle.std.specs.List.{sum_by};
+ghost use Rattle.wl_report.specs.Report.{verdict_line};
+ghost use Rattle.wl_report.specs.Verdict.{CleanIsClean};
+
+use std::alloc::AllocError;
+use wl_serial::NodeOutcome;
+
+/// The errors of all nodes together. The sum is exact: a slice has fewer than 2^64 nodes.
+fn all_errors(nodes: &[NodeOutcome]) -> u128
+    ensures { result ≡ sum_by (λ n. n.errors) nodes.now }
+{
+    let mut sum = 0u128;
+    for node in nodes {
+        sum += u128::from(node.errors);
+    }
+    sum
+}
+
+/// The unsent frames of all nodes together.
+fn all_unsent(nodes: &[NodeOutcome]) -> u128
+    ensures { result ≡ sum_by (λ n. n.unsent) nodes.now }
+{
+    let mut sum = 0u128;
+    for node in nodes {
+        sum += u128::from(node.unsent);
+    }
+    sum
+}
+
+/// Adds the verdict.
+#[tactic(auto, using(crate::proofs::Sums::verdict_clean, crate::proofs::Sums::verdict_faulty))]
+pub(crate) fn push_verdict(text: &mut String, nodes: &[NodeOutcome]) -> Result<(), AllocError>
+    ensures { OnOk result (string_bytes text.new ≡ string_bytes text.old ++ verdict_line nodes.now) }
+{
+    let errors = all_errors(nodes);
+    let unsent = all_unsent(nodes);
+    if errors == 0 && unsent == 0 {
+        writeln!(text, "verdict clean")
+    } else {
+        writeln!(text, "verdict faulty errors {errors} unsent {unsent}")
+    }
+}
+
+/// Law: a verdict is clean exactly where no node has an error and none has an unsent frame.
+pub fn clean_is_clean()
+    ensures { CleanIsClean }
+{}

@@ -1,0 +1,37 @@
+//! The report of an outcome.
+ghost use Rattle.std.specs.Prelude.{◌≡◌, ◌++◌, OnOk, IfOk, string_bytes};
+ghost use Rattle.std.specs.List.{enumerate_from, flat_map};
+ghost use Rattle.wl_report.specs.Report.{node_lines, report_text};
+
+use crate::nodes::push_node;
+use crate::verdict::push_verdict;
+use std::alloc::{AllocError, Global};
+use wl_serial::{NodeOutcome, Outcome};
+
+/// Adds the lines of all nodes.
+fn push_nodes(text: &mut String, nodes: &[NodeOutcome]) -> Result<(), AllocError>
+    ensures { OnOk result (string_bytes text.new ≡ string_bytes text.old ++ flat_map node_lines (enumerate_from 0 nodes.now)) }
+{
+    for (number, node) in nodes.iter().enumerate() {
+        push_node(text, number, node)?;
+    }
+    Ok(())
+}
+
+/// The report of an outcome.
+///
+/// For each node in order a line
+/// `node {i} tec {n} rec {n} mode {active|passive|off} errors {n} samples {n} hard {n} sync {n} least {e} greatest {e}`,
+/// phase errors in quanta and `-` where there are none, and then a line for each frame in the order in which they passed,
+/// `frame {i} {sent|received} {quantum} {id} {data|remote} {dlc} {bytes}`, identifier and bytes in hexadecimal digits, `-`
+/// for no byte. Last `verdict clean`, where no node has an error and none has an unsent frame, or
+/// `verdict faulty errors {sum} unsent {sum}`. Refused for want of memory alone.
+pub fn report(alloc: Global, outcome: &Outcome) -> Result<Vec<u8>, AllocError>
+    ensures { IfOk result (λ text. text.items ≡ report_text outcome.now) }
+{
+    let mut text = String::new(alloc);
+    let nodes = outcome.nodes.as_slice();
+    push_nodes(&mut text, nodes)?;
+    push_verdict(&mut text, nodes)?;
+    Ok(text.into_bytes())
+}

@@ -1,0 +1,5 @@
+mod Counts
+mod Found
+mod Runners
+mod Steps
+mod Told

@@ -1,0 +1,74 @@
+-- All nodes together while one after another runs.
+use Rattle.std.proofs.Common.{◌≡◌, ℕ, zero, suc, ◌+◌, ◌<◌, ◌≢◌, inl, inr, List, [], ◌∷◌, ◌++◌, length, map, get_or, refl, sym, ◌∙◌, ap, subst, arith, length-append}
+use Rattle.std.proofs.Math.ListN.{set, length-set}
+use Rattle.std.specs.List.{range_with_len}
+use Rattle.std.proofs.lemmas.List.FromFn.{map-range_with_len_more}
+use Rattle.std.proofs.lemmas.Bool.{cases_lt}
+use Rattle.std.proofs.lemmas.List.{get_or-set_same, get_or-set_other}
+use Rattle.wl_plan.specs.declared.plan.Plan.{Plan}
+use Rattle.wl_serial.specs.declared.running.Running.{Running}
+use Rattle.wl_serial.specs.declared.outcome.NodeOutcome.{NodeOutcome}
+use Rattle.wl_serial.specs.Outcome.{node_outcome_of}
+use Rattle.wl_serial.specs.Running.{IsRunning, AreRunning, ticks_left}
+
+-- one more that runs, behind the others
+get_or_before : (xs : List Running) (x d : Running) (j : ℕ) → j < length xs → get_or (xs ++ x ∷ []) j d ≡ get_or xs j d
+get_or_before [] x d j b = absurd (omega arith)
+get_or_before (y ∷ ys) x d zero b = refl
+get_or_before (y ∷ ys) x d (suc j) b = get_or_before ys x d j (omega arith)
+
+get_or_behind : (xs : List Running) (x d : Running) → get_or (xs ++ x ∷ []) (length xs) d ≡ x
+get_or_behind [] x d = refl
+get_or_behind (y ∷ ys) x d = get_or_behind ys x d
+
+pub one_more : (plan : Plan) (xs ys : List Running) (x : Running) (i : ℕ) → ys ≡ xs ++ x ∷ [] → length xs ≡ i
+    → ((j : ℕ) (d : Running) → j < length xs → IsRunning plan j (get_or xs j d)) → IsRunning plan i x
+    → (length ys ≡ i + 1) × ((j : ℕ) (d : Running) → j < length ys → IsRunning plan j (get_or ys j d))
+one_more plan xs ys x i e len each run = (long, runs)
+  where
+    long : length ys ≡ i + 1
+    long = ap length e ∙ (length-append xs (x ∷ []) ∙ ap (λ n. n + 1) len)
+
+    runs : (j : ℕ) (d : Running) → j < length ys → IsRunning plan j (get_or ys j d)
+    runs j d b = elim (cases_lt j (length xs)) [
+      | inl before ↦ subst (IsRunning plan j) (sym (ap (λ zs. get_or zs j d) e ∙ get_or_before xs x d j before)) (each j d before)
+      | inr behind ↦ (let here : length xs ≡ j = (let l = long in omega arith) in let there : i ≡ j = omega arith in
+          subst (IsRunning plan j) (sym (ap (λ zs. get_or zs j d) e ∙ (ap (λ k. get_or (xs ++ x ∷ []) k d) (sym here) ∙ get_or_behind xs x d))) (subst (λ k. IsRunning plan k x) there run))
+    ]
+
+-- one that ran on, in its place
+pub one_on : (plan : Plan) (rs : List Running) (j : ℕ) (r : Running) → j < length rs → AreRunning plan rs → IsRunning plan j r → AreRunning plan (set rs j r)
+one_on plan rs j r b running run = record { all = length-set rs j r ∙ running.all; each = each }
+  where
+    each : (i : ℕ) (d : Running) → i < length (set rs j r) → IsRunning plan i (get_or (set rs j r) i d)
+    each i d c =
+        let inside : i < length rs = subst (λ n. i < n) (length-set rs j r) c in
+        elim (cases_lt i j) [
+          | inl below ↦ (let other : i ≢ j = omega arith in subst (IsRunning plan i) (sym (get_or-set_other rs j i r d other)) (running.each i d inside))
+          | inr above ↦ elim (cases_lt j i) [
+            | inl past ↦ (let other : i ≢ j = omega arith in subst (IsRunning plan i) (sym (get_or-set_other rs j i r d other)) (running.each i d inside))
+            | inr here ↦ (let same : j ≡ i = omega arith in
+                subst (λ k. IsRunning plan k (get_or (set rs j r) k d)) same (subst (IsRunning plan j) (sym (get_or-set_same rs j r d b)) run))
+          ]
+        ]
+
+-- which leaves fewer ticks
+pub fewer_left : (end : ℕ) (rs : List Running) (j : ℕ) (r d : Running) → j < length rs → (get_or rs j d).next < end → (get_or rs j d).next < r.next
+    → ticks_left end (set rs j r) < ticks_left end rs
+fewer_left end [] j r d b before later = absurd (omega arith)
+fewer_left end (x ∷ xs) zero r d b before later = omega arith
+fewer_left end (x ∷ xs) (suc j) r d b before later = (let f = fewer_left end xs j r d (omega arith) before later in omega arith)
+
+-- what one more of them did, behind the others
+pub told_more : (plan : Plan) (seen : List Running) (r : Running) (told more : List NodeOutcome) (o : NodeOutcome)
+    → more ≡ told ++ o ∷ [] → told ≡ map (node_outcome_of plan) (range_with_len 0 (length seen)) → o ≡ node_outcome_of plan (length seen)
+    → more ≡ map (node_outcome_of plan) (range_with_len 0 (length (seen ++ r ∷ [])))
+told_more plan seen r told more o e are is =
+    e ∙ (ap (λ xs. xs ++ o ∷ []) are
+    ∙ (ap (λ x. map (node_outcome_of plan) (range_with_len 0 (length seen)) ++ x ∷ []) is
+    ∙ (sym (map-range_with_len_more (node_outcome_of plan) 0 (length seen) (length seen) (omega arith))
+    ∙ ap (λ n. map (node_outcome_of plan) (range_with_len 0 n)) (sym (length-append seen (r ∷ []))))))
+
+-- the one that stands at a place is the node of that number
+pub stands_at : (plan : Plan) (rs : List Running) (i : ℕ) (r : Running) → i < length rs → r ≡ get_or rs i r → AreRunning plan rs → IsRunning plan i r
+stands_at plan rs i r b e running = subst (IsRunning plan i) (sym e) (running.each i r b)

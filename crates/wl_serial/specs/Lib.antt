@@ -1,0 +1,3 @@
+pub mod Outcome
+pub mod Records
+pub mod Running

@@ -1,0 +1,34 @@
+-- What the one-thread simulation of a plan comes to: for each node its changes, and what its history at the end says. This project's profile.
+use Rattle.std.specs.Prelude.{ℕ, List, length, map}
+use Rattle.std.specs.List.{range_with_len}
+use Rattle.wl_node.specs.declared.setup.NodeSetup.{NodeSetup}
+use Rattle.wl_node.specs.History.{History, history_of, counters_of, phases_of, hards_of, errors_of, unsent_count}
+use Rattle.wl_plan.specs.declared.plan.Plan.{Plan}
+use Rattle.wl_plan.specs.PlanLine.{setup_at, line_of, table_of}
+use Rattle.wl_plan.specs.Simulation.{history}
+use Rattle.wl_serial.specs.declared.outcome.NodeOutcome.{NodeOutcome}
+use Rattle.wl_serial.specs.declared.outcome.Outcome.{Outcome}
+
+-- what a node of this setup did, by the ticks at which its drive changed and by its history
+abbrev pub told_of : NodeSetup → List ℕ → History → NodeOutcome
+told_of setup changes h = record {
+  changes = changes;
+  samples = h.samples;
+  frames = h.frames;
+  counters = counters_of h;
+  phases = phases_of h;
+  hards = hards_of h;
+  errors = errors_of h;
+  unsent = unsent_count setup h;
+}
+
+-- node i at the end: after all that it has seen in the tick-by-tick simulation up to there
+abbrev pub history_at_end : Plan → ℕ → History
+history_at_end plan i = history_of (setup_at plan i) ((history (line_of plan) plan.end).seen i)
+
+abbrev pub node_outcome_of : Plan → ℕ → NodeOutcome
+node_outcome_of plan i = told_of (setup_at plan i) (table_of plan i) (history_at_end plan i)
+
+-- of each node, and the end
+abbrev pub outcome_of : Plan → Outcome
+outcome_of plan = record { nodes = map (node_outcome_of plan) (range_with_len 0 (length plan.nodes)); end = plan.end }

@@ -1,0 +1,48 @@
+-- Where each node of a plan is while the engine goes from quantum to quantum.
+use Rattle.std.specs.Prelude.{◌≡◌, ℕ, ◌+◌, ◌-◌, ◌<◌, ◌≤◌, List, [], ◌∷◌, length, slice_index_or, take}
+use Rattle.wl_intervals.specs.declared.Level.{Level}
+use Rattle.wl_intervals.specs.Levels.{level_of}
+use Rattle.wl_record.specs.Truth.{count_below}
+use Rattle.wl_plan.specs.declared.plan.Plan.{Plan}
+use Rattle.wl_plan.specs.PlanLine.{setup_at, line_of, table_of}
+use Rattle.wl_plan.specs.Line.{found}
+use Rattle.wl_plan.specs.Simulation.{level, seen, AreInside}
+use Rattle.wl_node.specs.Reached.{IsNode, setup_of}
+use Rattle.wl_serial.specs.declared.running.Running.{Running}
+
+-- what node j finds on the line at tick t
+abbrev pub finds : Plan → ℕ → ℕ → Level
+finds plan j t = level_of (found (line_of plan) (level (line_of plan)) j t)
+
+-- Node i has run its first k quanta, which stand below the end, as the simulation does: it has seen the same levels, and keeps
+-- the changes below its next quantum.
+pub record HasRun (plan : Plan) (i : ℕ) (r : Running) (k : ℕ) : Type 0 where
+  pub inside : AreInside (line_of plan) i k
+  pub next : r.next ≡ (line_of plan).instant i k
+  pub setup : setup_of r.node ≡ setup_at plan i
+  pub node : IsNode (seen (line_of plan) i k) r.node
+  pub changes : r.changes ≡ take (count_below ((line_of plan).instant i k) (table_of plan i)) (table_of plan i)
+
+-- some number of quanta
+abbrev pub IsRunning : Plan → ℕ → Running → Type 0
+IsRunning plan i r = (k : ℕ) × HasRun plan i r k
+
+-- each node of a plan
+pub record AreRunning (plan : Plan) (rs : List Running) : Type 0 where
+  pub all : length rs ≡ length plan.nodes
+  pub each : (i : ℕ) (d : Running) → i < length rs → IsRunning plan i (slice_index_or rs i d)
+
+-- no next quantum begins before tick t
+abbrev pub NoneBefore : ℕ → List Running → Type 0
+NoneBefore t rs = (i : ℕ) (d : Running) → i < length rs → t ≤ (slice_index_or rs i d).next
+
+-- node j has its next quantum before the end, and none before it
+pub record IsNext (end : ℕ) (rs : List Running) (j : ℕ) : Type 0 where
+  pub is_node : j < length rs
+  pub before : (d : Running) → (slice_index_or rs j d).next < end
+  pub first : (d : Running) → NoneBefore (slice_index_or rs j d).next rs
+
+-- how many ticks the nodes together have before them
+abbrev pub ticks_left : ℕ → List Running → ℕ
+ticks_left end [] = 0
+ticks_left end (r ∷ rs) = (end - r.next) + ticks_left end rs

@@ -1,0 +1,15 @@
+//! The one-thread engine: what the tick-by-tick simulation of a plan comes to, computed from quantum to quantum.
+#![tactic(auto)]
+
+mod line;
+mod outcome;
+mod records;
+mod run;
+mod running;
+
+pub use outcome::{Changes, Frames, NodeOutcome, NodeOutcomes, Outcome, Phases, Samples};
+pub use records::{outcome_is_recordable, records_are_true, records_of};
+pub use run::run_serial;
+
+#[cfg(test)]
+mod tests;

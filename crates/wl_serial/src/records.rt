@@ -1,0 +1,86 @@
+//! The records of an outcome.
+ghost use Rattle.std.specs.Prelude.{◌≡◌, ◌≤◌, ◌++◌, ◌↔◌, IsTrue, IfOk, OnOk, All, length};
+ghost use Rattle.wl_record.specs.Limits.{most_edges};
+ghost use Rattle.wl_serial.specs.Records.{IsRecordable, OutcomeIsRecordable, RecordsAreTrue, node_records, outcome_records};
+
+use crate::outcome::{NodeOutcome, Outcome};
+use std::alloc::{AllocError, Global};
+use wl_record::{MOST_EDGES, MOST_NODES, Record, TICK_END};
+
+impl Outcome {
+    /// Whether records can tell all of it: there are at most 16 nodes and at most 65,536 changes of each, and the end is below 2^48.
+    ///
+    /// What a plan that passed its check comes to is recordable.
+    #[tactic(auto, unfolding(wl_record::specs::Limits::most_nodes, wl_record::specs::Limits::tick_end))]
+    pub fn recordable(&self) -> bool
+        ensures { IsTrue result ↔ IsRecordable self.now }
+    {
+        self.nodes.len() <= MOST_NODES as usize
+            && self.end < TICK_END
+            && have_few_changes(self.nodes.as_slice())
+    }
+}
+
+/// Whether each of the nodes has at most 65,536 changes.
+#[tactic(auto, unfolding(wl_record::specs::Limits::most_edges))]
+fn have_few_changes(nodes: &[NodeOutcome]) -> bool
+    ensures { IsTrue result ↔ All (λ node. length node.changes ≤ most_edges) nodes.now }
+{
+    nodes
+        .iter()
+        .all(|node| node.changes.len() <= MOST_EDGES as usize)
+}
+
+/// The records of an outcome: for each node in order all its edges, then one silence with the number of its changes and the end.
+///
+/// Refused for want of memory alone.
+pub fn records_of(alloc: Global, outcome: &Outcome) -> Result<Vec<Record>, AllocError>
+    requires { IsRecordable outcome.now }
+    ensures { IfOk result (λ records. records.items ≡ outcome_records outcome.now) }
+{
+    let mut records = Vec::new(alloc);
+    for (i, node) in outcome.nodes.as_slice().iter().enumerate() {
+        push_node(&mut records, i as u8, node.changes.as_slice(), outcome.end)?;
+    }
+    Ok(records)
+}
+
+/// The records of one node behind those that are there.
+fn push_node(
+    records: &mut Vec<Record>,
+    node: u8,
+    changes: &[u64],
+    end: u64,
+) -> Result<(), AllocError>
+    requires { length changes.now ≤ most_edges }
+    ensures { OnOk result (records.new.items ≡ records.old.items ++ node_records end node changes.now) }
+{
+    for (seq, tick) in changes.iter().enumerate() {
+        records.push(Record::Edge {
+            node,
+            seq: seq as u32,
+            tick: *tick,
+        })?;
+    }
+    records.push(Record::Silence {
+        node,
+        count: changes.len() as u32,
+        until: end,
+    })?;
+    Ok(())
+}
+
+/// Law: what a plan that passed its check comes to can be told in records.
+pub fn outcome_is_recordable()
+    ensures { OutcomeIsRecordable }
+{
+    wl_plan::checked_is_sound();
+}
+
+/// Law: each record of what a plan that passed its check comes to is true of the plan, and within the limits of records.
+pub fn records_are_true()
+    ensures { RecordsAreTrue }
+{
+    wl_plan::checked_is_sound();
+    wl_plan::outcome_is_true();
+}
