@@ -6,3 +6,4 @@ pub mod ReadLemmas
 pub mod PlanLemmas
 pub mod CheckLemmas
 pub mod FaultLemmas
+mod Rows

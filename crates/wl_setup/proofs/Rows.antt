@@ -1,0 +1,83 @@
+-- The worked rows of a text's plan, as the definition gives them.
+use Rattle.std.proofs.Common.{◌≡◌, ℕ, List, [], ◌∷◌, false, Ok, Err, refl}
+use Rattle.std.specs.Prelude.{codes}
+use Rattle.wl_frame.specs.declared.frame.FrameFault.TheVariants.{Id}
+use Rattle.wl_topology.specs.Delays.{Cable}
+use Rattle.wl_topology.specs.declared.TopologyFault.TheVariants.{ZeroDelay}
+use Rattle.wl_plan.specs.Limits.{most_quanta}
+use Rattle.wl_plan.specs.declared.check.PlanFault.TheVariants as refusal
+use Rattle.wl_node.specs.declared.setup.Queued.{Queued}
+use Rattle.wl_node.specs.declared.setup.NodeSetup.{NodeSetup}
+use Rattle.wl_plan.specs.declared.plan.Plan.{Plan}
+use Rattle.wl_setup.specs.declared.fault.SetupFault.TheVariants as fault
+use Rattle.wl_setup.specs.declared.plan_text.PlanText.{PlanText}
+use Rattle.wl_setup.specs.declared.plan_text.NodeText.{NodeText}
+use Rattle.wl_setup.specs.declared.plan_text.FrameText.{FrameText}
+use Rattle.wl_setup.specs.declared.plan_text.ClockText.TheVariants.{Rate}
+use Rattle.wl_setup.specs.Plans.{plan_of_text}
+
+abbrev frame_text : ℕ → FrameText
+frame_text id = record { id = id; dlc = 0; remote = false; bytes = []; ready = 0 }
+
+abbrev node_text : List ℕ → ℕ → ℕ → List FrameText → NodeText
+node_text name x in_delay frames = record {
+  name = name;
+  offset = 0;
+  clock = Rate 100 1;
+  prop = 3;
+  ps1 = 3;
+  ps2 = 3;
+  sjw = 2;
+  x = x;
+  out_delay = 0;
+  in_delay = in_delay;
+  frame = frames;
+}
+
+-- two nodes 50 ticks apart, the first with a frame; its identifier, its way from the cable and the end differ from row to row
+abbrev text_with : ℕ → ℕ → ℕ → PlanText
+text_with id in_delay end = record {
+  version = 1;
+  end = end;
+  per = 1;
+  node = node_text (codes "a") 0 in_delay (frame_text id ∷ []) ∷ node_text (codes "b") 50 1 [] ∷ [];
+  disturbance = [];
+}
+
+abbrev setup_with : List Queued → NodeSetup
+setup_with queue = record {
+  clock = record { offset = 0; num = 100; den = 1 };
+  segments = record { prop = 3; ps1 = 3; ps2 = 3; sjw = 2 };
+  queue = queue;
+}
+
+abbrev cable : Cable
+cable = record {
+  places = record { x = 0; out_delay = 0; in_delay = 1 } ∷ record { x = 50; out_delay = 0; in_delay = 1 } ∷ [];
+  per = 1;
+}
+
+abbrev two_nodes : Plan
+two_nodes = record {
+  nodes = setup_with (record { frame = record { id = 0; remote = false; dlc = 0; bytes = [] }; ready = 0 } ∷ []) ∷ setup_with [] ∷ [];
+  topology = cable;
+  disturbances = [];
+  end = 70000;
+}
+
+plan-two_nodes : plan_of_text (text_with 0 1 70000) ≡ Ok two_nodes
+unfolding most_quanta
+plan-two_nodes = refl
+
+plan-id : plan_of_text (text_with 2048 0 68719476737) ≡ Err (fault.NodeFrame 0 0 Id)
+plan-id = refl
+
+plan-zero_delay : plan_of_text (text_with 0 0 68719476737) ≡ Err (fault.Topology (ZeroDelay 0 0))
+plan-zero_delay = refl
+
+plan-late : plan_of_text (text_with 0 1 68719476737) ≡ Err (fault.Plan refusal.End)
+plan-late = refl
+
+plan-quanta : plan_of_text (text_with 0 1 6553601) ≡ Err (fault.Plan (refusal.Quanta 0))
+unfolding most_quanta
+plan-quanta = refl
