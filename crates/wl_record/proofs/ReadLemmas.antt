@@ -231,6 +231,9 @@ Kept begun size calls bytes lines = (begun ≤ most_line) × (most_line < size) 
 pub kept_call : (begun size same calls bytes lines : ℕ) → Kept begun size calls bytes lines → calls < 134217728 → same ≡ size → Kept begun same (calls + 1) bytes lines
 kept_call begun size same calls bytes lines k few e = (k.0, omega (arith, k.1, e), omega (arith, k.2, e), omega (arith, few, most_calls-is), k.4, k.5)
 
+pub kept_spent : (begun size same calls bytes lines : ℕ) → Kept begun size calls bytes lines → same ≡ size → Kept begun same 134217728 bytes lines
+kept_spent begun size same calls bytes lines k e = (k.0, omega (arith, k.1, e), omega (arith, k.2, e), omega (arith, most_calls-is), k.4, k.5)
+
 pub kept_piece : (begun size same calls bytes lines left n more : ℕ) → Kept begun size calls bytes lines → calls < 134217728 → same ≡ size → left ≤ most_line → bytes + n ≤ most_bytes → more + left ≤ bytes + n → Kept left same (calls + 1) (bytes + n) more
 kept_piece begun size same calls bytes lines left n more k few e short fits count = (short, omega (arith, k.1, e), omega (arith, k.2, e), omega (arith, few, most_calls-is), fits, count)
 

@@ -113,6 +113,10 @@ pub record StopsAt (bytes : List ℕ) (past : Bool) (rs : List Record) (stop : S
   pub stops : IsStop rest stop
   pub open_is_past : stop ≡ Open → past ≡ true
 
+-- what there was, and then records that are within
+abbrev pub Appends : List Record → List Record → Type 0
+Appends old new = (rs : List Record) × AllByRecursion IsWithin rs × (new ≡ old ++ rs)
+
 -- lines of records, and then the part of a line
 pub record TakesPiece (bytes : List ℕ) (past : Bool) (rs : List Record) (begun : List ℕ) : Type 0 where
   pub taken : TakesLines bytes rs begun

@@ -84,7 +84,11 @@ GoesOnWith {S} gives p t came rs q u = AllByRecursion IsWithin rs × ((s : S) (a
 abbrev pub FaultsWith : {S : Type 0} → (S → Answer → S → Type 0) → Progress → S → TextFault → S → Type 0
 FaultsWith {S} gives p t fault u = (s : S) (answers : List Answer) (told : List Record) → HasRead gives s answers told p t → FaultOf gives s fault u
 
--- a step after which reading goes on makes one call
+-- all calls are made, or reading is over
+abbrev pub IsSpent : Progress → Type 0
+IsSpent p = p.calls ≡ most_calls
+
+-- a step after which reading goes on makes one call, and the last one leaves none
 abbrev pub IsNext : Came → Progress → Progress → Type 0
 IsNext More p q = (q.calls ≡ p.calls + 1) × (q.calls ≤ most_calls)
-IsNext All p q = Unit {0}
+IsNext All p q = IsSpent q

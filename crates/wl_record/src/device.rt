@@ -12,6 +12,7 @@ pub enum Got {
     End,
     /// Nothing came this time.
     Again,
+    /// The reader failed.
     Failed,
 }
 
@@ -22,6 +23,7 @@ pub enum Put {
     Bytes(usize),
     /// Nothing went this time.
     Again,
+    /// The writer failed.
     Failed,
 }
 
@@ -61,7 +63,8 @@ pub struct WriteFault;
 ghost use Rattle.wl_record.specs.Devices.{Writes, Sends};
 ghost use Rattle.wl_record.specs.Limits.{most_calls};
 
-/// Writes all of the piece, in a run that has made `calls` calls before. Answers the calls made since the run's start.
+/// Writes all of the piece, in a run that has made `calls` calls before, at most `MOST_CALLS`. Answers the calls made since the run's start.
+/// On a fault a front of the piece has gone out, and not all.
 pub fn send<W: Sink>(piece: &[u8], writer: &mut W, calls: u32) -> Result<u32, WriteFault>
     requires { calls ≤ most_calls }
     ensures { Sends W.takes writer.old piece.now calls result writer.new }

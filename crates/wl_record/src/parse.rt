@@ -258,7 +258,7 @@ fn take_line(bytes: &[u8]) -> Result<(Record, &[u8]), Stop>
     slow_line(bytes)
 }
 
-ghost use Rattle.wl_record.specs.Parsing.{TakesLines};
+ghost use Rattle.wl_record.specs.Parsing.{TakesLines, Appends};
 
 /// Appends the records of the whole lines at the front. Answers what follows them, and why no line stands there.
 pub fn take_lines<'a>(
@@ -268,6 +268,7 @@ pub fn take_lines<'a>(
     ensures told { IfOk result (λ t. (rs : List Record) × TakesLines bytes.now rs t.0.now
         × (records.new.items ≡ records.old.items ++ rs)) }
     ensures stop { IfOk result (λ t. IsStop t.0.now t.1) }
+    ensures grows { IfErr result (λ _. Appends records.old.items records.new.items) }
 {
     let mut rest = bytes;
     loop {

@@ -1,5 +1,5 @@
 //! Reading records from a reader, piece by piece.
-ghost use Rattle.std.specs.Prelude.{◌≡◌, ◌↔◌, ◌<◌, ◌≤◌, ◌+◌, ◌++◌, ◌-◌, ◌^◌, length, take, drop, List, IfOk, IfErr, IsTrue};
+ghost use Rattle.std.specs.Prelude.{◌≡◌, ◌↔◌, ◌<◌, ◌≤◌, ◌+◌, ◌++◌, ◌-◌, ◌^◌, length, take, drop, List, IfOk, IfErr, Err, IsTrue};
 
 use crate::device::{Got, Source};
 use crate::fault::TextFault;
@@ -30,7 +30,7 @@ fn read_behind<R: Source>(reader: &mut R, buffer: &mut Vec<u8>, have: usize, mos
 
 ghost use Rattle.wl_record.specs.declared.record.Record.{Record};
 ghost use Rattle.wl_record.specs.declared.parse.Stop.TheVariants.{Open};
-ghost use Rattle.wl_record.specs.Parsing.{TakesPiece, IsPieceFault, stop_fault};
+ghost use Rattle.wl_record.specs.Parsing.{TakesPiece, IsPieceFault, Appends, stop_fault};
 
 fn is_open(stop: Stop) -> bool
     ensures { IsTrue result ↔ (stop ≡ Open) }
@@ -70,6 +70,7 @@ fn take_piece(
         × (r.0 ≡ length (take r.0 buffer.new.items)) × (r.1 ≡ lines + length rs)
         × (records.new.items ≡ records.old.items ++ rs)) }
     ensures fault { IfErr result (λ fault. IsPieceFault (take filled buffer.old.items) past lines fault) }
+    ensures grows { IfErr result (λ _. Appends records.old.items records.new.items) }
     ensures len { length buffer.new.items ≡ length buffer.old.items }
 {
     let before = records.len();
@@ -125,9 +126,10 @@ impl Model for RecordReader {
 }
 
 impl RecordReader {
-    ghost use Rattle.wl_record.specs.Reading.{beginning, GoesOnWith, FaultsWith, IsNext};
+    ghost use Rattle.wl_record.specs.Reading.{beginning, GoesOnWith, FaultsWith, IsNext, IsSpent};
+    ghost use Rattle.wl_record.specs.declared.fault.TextFault.TheVariants.{Read};
 
-    /// A reading that has made no call yet. Takes memory for one piece.
+    /// A reading that has made no call yet. Takes memory for one piece, and is refused for want of it alone.
     pub fn new(alloc: Global) -> Result<RecordReader, AllocError>
         ensures { IfOk result (λ r. r ≡ beginning) }
     {
@@ -141,7 +143,8 @@ impl RecordReader {
     }
 
     /// One step: makes one call of the reader, and appends the records of the lines that are whole now. All of them
-    /// are within. After `All` or a fault there is nothing more to ask.
+    /// are within, also where the step ends in a fault. After `All` or a fault there is nothing more to ask: each later
+    /// step is refused as `Read`, and makes no call.
     pub fn next<R: Source>(
         &mut self,
         reader: &mut R,
@@ -151,18 +154,27 @@ impl RecordReader {
             × GoesOnWith R.gives self.old reader.old came rs self.new reader.new) }
         ensures steps { IfOk result (λ came. IsNext came self.old self.new) }
         ensures fault { IfErr result (λ fault. FaultsWith R.gives self.old reader.old fault reader.new) }
+        ensures grows { IfErr result (λ _. Appends records.old.items records.new.items) }
+        ensures spent { IfErr result (λ _. IsSpent self.new) }
+        ensures over { IsSpent self.old → (result ≡ Err Read) × (self.new ≡ self.old) × (reader.new ≡ reader.old)
+            × (records.new.items ≡ records.old.items) }
     {
         if self.calls >= MOST_CALLS {
             return Err(TextFault::Read);
         }
-        self.calls += 1;
+        let calls = self.calls + 1;
+        // Nothing more may be asked, but where this step is seen to go on.
+        self.calls = MOST_CALLS;
         match read_behind(
             reader,
             &mut self.buffer,
             self.begun,
             MOST_BYTES + 1 - self.bytes,
         ) {
-            Got::Again => Ok(Came::More),
+            Got::Again => {
+                self.calls = calls;
+                Ok(Came::More)
+            }
             Got::Failed => Err(TextFault::Read),
             Got::End => {
                 if self.begun > 0 {
@@ -178,6 +190,7 @@ impl RecordReader {
                     Ok(taken) => taken,
                     Err(fault) => return Err(fault),
                 };
+                self.calls = calls;
                 self.begun = left;
                 self.bytes = bytes;
                 self.lines = lines;

@@ -18,14 +18,17 @@ pub enum Record {
 /// A place for what is known: of a change, or of the silence after some changes.
 #[derive(Clone, Copy, Debug, PartialEq, Eq)]
 pub enum Slot {
+    /// Of change number `seq` of the node: its tick, or a clash.
     EdgeAt { node: u8, seq: u32 },
+    /// Of the silence after the node's first `count` changes: how far it reaches.
     SilenceAt { node: u8, count: u32 },
 }
 
 impl Record {
     ghost use Rattle.wl_record.specs.Within.{IsWithin};
 
-    /// Whether the numbers are within their limits.
+    /// Whether the numbers are within their limits, which are this project's profile: a node below 16, a change's number below 65,536, a
+    /// count at most 65,536, a tick below 2^48.
     #[tactic(auto, unfolding(crate::specs::Limits::most_nodes, crate::specs::Limits::most_edges, crate::specs::Limits::tick_end))]
     pub fn within(&self) -> bool
         ensures { IsTrue result ↔ IsWithin self.now }
@@ -53,6 +56,21 @@ impl Record {
                 seq,
             },
             Record::Silence { node, count, .. } => Slot::SilenceAt { node, count },
+        }
+    }
+}
+
+/// A silence of node 0 up to tick 0, which says nothing. Lists of a fixed size hold it where they hold no record.
+impl Default for Record {
+    ghost use Rattle.wl_record.specs.declared.record.Record.TheVariants.{Silence};
+
+    ghost is_default = { λ r. r ≡ Silence 0 0 0 };
+
+    fn default() -> Self {
+        Record::Silence {
+            node: 0,
+            count: 0,
+            until: 0,
         }
     }
 }

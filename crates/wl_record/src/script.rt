@@ -7,15 +7,20 @@ use crate::device::{Got, Put, Sink, Source};
 pub enum Then {
     /// A reader: the end. A writer takes no byte.
     End,
+    /// Nothing this time.
     Again,
+    /// A failure.
     Failed,
 }
 
 /// Gives a text by at most `step` bytes a call (at least one), and then answers so for ever.
 #[derive(Drop)]
 pub struct ScriptedReader<'a> {
+    /// What is still to come.
     pub text: &'a [u8],
+    /// The most bytes of a call; 0 counts as 1.
     pub step: usize,
+    /// What comes behind the text.
     pub then: Then,
 }
 
@@ -23,7 +28,7 @@ impl<'a> Source for ScriptedReader<'a> {
     ghost use Rattle.std.specs.Prelude.{◌≡◌};
     ghost use Rattle.wl_record.specs.Scripts.{ScriptGives};
 
-    ghost gives = { λ s a t. ScriptGives s.text.now s.then a t.text.now × (t.then ≡ s.then) };
+    ghost gives = { λ s a t. ScriptGives s.text.now s.step s.then a t.text.now × (t.step ≡ s.step) × (t.then ≡ s.then) };
 
     fn read(&mut self, buffer: &mut [u8]) -> Got {
         let text = self.text;
@@ -44,16 +49,21 @@ impl<'a> Source for ScriptedReader<'a> {
 /// Takes at most `step` bytes a call (at least one) while there is room for some, and then answers so for ever.
 #[derive(Drop)]
 pub struct ScriptedWriter {
+    /// What was taken so far.
     pub written: Vec<u8>,
+    /// How many bytes it still takes.
     pub room: usize,
+    /// The most bytes of a call; 0 counts as 1.
     pub step: usize,
+    /// What it answers without room.
     pub then: Then,
 }
 
 impl Sink for ScriptedWriter {
+    ghost use Rattle.std.specs.Prelude.{◌≡◌};
     ghost use Rattle.wl_record.specs.Scripts.{ScriptTakes};
 
-    ghost takes = { λ s a t. ScriptTakes s.written.items a t.written.items };
+    ghost takes = { λ s a t. ScriptTakes s.written.items s.room s.step s.then a t.written.items t.room × (t.step ≡ s.step) × (t.then ≡ s.then) };
 
     fn write(&mut self, piece: &[u8]) -> Put {
         if self.room == 0 {

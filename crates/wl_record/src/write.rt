@@ -69,7 +69,7 @@ fn line_at_end(line: &mut [u8; LINE_ROOM], told: &Record) -> usize
     }
 }
 
-/// The text of the records.
+/// The text of the records, within their limits or not. Refused for want of memory alone.
 pub fn text_of(alloc: Global, records: &[Record]) -> Result<Vec<u8>, AllocError>
     ensures { IfOk result (λ text. text.items ≡ text_of records.now) }
 {

@@ -5,7 +5,7 @@ use Rattle.wl_record.specs.Devices.{moved, again}
 use Rattle.wl_record.specs.Reading.{Progress, HasRead, RecordsOf}
 use Rattle.wl_record.specs.Parsing.{TakesPiece, IsPieceFault}
 use Rattle.wl_record.proofs.Runs.{nothing_after, no_length}
-use Rattle.wl_record.proofs.ReadLemmas.{read_again, read_piece, read_all, read_truncated, read_failed, read_fault, read_out, kept_call, kept_piece, piece_count, piece_bytes, past_means}
+use Rattle.wl_record.proofs.ReadLemmas.{read_again, read_piece, read_all, read_truncated, read_failed, read_fault, read_out, kept_call, kept_spent, kept_piece, piece_count, piece_bytes, past_means}
 use Rattle.wl_record.proofs.read.RecordReader.next.Goals as goal
 
 pub overflow_sub-self-inside : goal.overflow_sub-self-inside
@@ -18,16 +18,16 @@ pub invariant_of-self : goal.invariant_of-self
 invariant_of-self g c = kept_call _ _ _ _ _ _ c.self.invariant c.if-self-ge-MOST_CALLS.false c.in-Again.ensures.len
 
 pub invariant_of-self-in-Failed : goal.invariant_of-self-in-Failed
-invariant_of-self-in-Failed g c = kept_call _ _ _ _ _ _ c.self.invariant c.if-self-ge-MOST_CALLS.false c.in-Failed.ensures.len
+invariant_of-self-in-Failed g c = kept_spent _ _ _ _ _ _ c.self.invariant c.in-Failed.ensures.len
 
 pub invariant_of-self-then-self-gt0 : goal.invariant_of-self-then-self-gt0
-invariant_of-self-then-self-gt0 g c = kept_call _ _ _ _ _ _ c.self.invariant c.if-self-ge-MOST_CALLS.false c.in-End.ensures.len
+invariant_of-self-then-self-gt0 g c = kept_spent _ _ _ _ _ _ c.self.invariant c.in-End.ensures.len
 
 pub invariant_of-self-in-End : goal.invariant_of-self-in-End
-invariant_of-self-in-End g c = kept_call _ _ _ _ _ _ c.self.invariant c.if-self-ge-MOST_CALLS.false c.in-End.ensures.len
+invariant_of-self-in-End g c = kept_spent _ _ _ _ _ _ c.self.invariant c.in-End.ensures.len
 
 pub invariant_of-self-in-Err : goal.invariant_of-self-in-Err
-invariant_of-self-in-Err g c = kept_call _ _ _ _ _ _ c.self.invariant c.if-self-ge-MOST_CALLS.false (c.in-Err.ensures.len ∙ c.in-Bytes.ensures.len)
+invariant_of-self-in-Err g c = kept_spent _ _ _ _ _ _ c.self.invariant (c.in-Err.ensures.len ∙ c.in-Bytes.ensures.len)
 
 pub invariant_of-self-in-Bytes : goal.invariant_of-self-in-Bytes
 invariant_of-self-in-Bytes g c =
@@ -125,3 +125,36 @@ returns-in-Ok-clause-came g c =
 
 pub returns-in-Ok-clause-steps : goal.returns-in-Ok-clause-steps
 returns-in-Ok-clause-steps g c = (ap (λ (p : Progress). p.calls + 1) c.self.view_is, omega (arith, c.if-self-ge-MOST_CALLS.false, most_calls-is))
+
+pub returns-in-Again-clause-over : goal.returns-in-Again-clause-over
+returns-in-Again-clause-over g c = λ is. absurd (omega (arith, is, ap (λ (p : Progress). p.calls) c.self.view_is, c.if-self-ge-MOST_CALLS.false, most_calls-is))
+
+pub returns-in-Failed-clause-over : goal.returns-in-Failed-clause-over
+returns-in-Failed-clause-over g c = λ is. absurd (omega (arith, is, ap (λ (p : Progress). p.calls) c.self.view_is, c.if-self-ge-MOST_CALLS.false, most_calls-is))
+
+pub returns-then-self-gt0-clause-over : goal.returns-then-self-gt0-clause-over
+returns-then-self-gt0-clause-over g c = λ is. absurd (omega (arith, is, ap (λ (p : Progress). p.calls) c.self.view_is, c.if-self-ge-MOST_CALLS.false, most_calls-is))
+
+pub returns-else-self-gt0-clause-over : goal.returns-else-self-gt0-clause-over
+returns-else-self-gt0-clause-over g c = λ is. absurd (omega (arith, is, ap (λ (p : Progress). p.calls) c.self.view_is, c.if-self-ge-MOST_CALLS.false, most_calls-is))
+
+pub returns-in-Err-clause-over : goal.returns-in-Err-clause-over
+returns-in-Err-clause-over g c = λ is. absurd (omega (arith, is, ap (λ (p : Progress). p.calls) c.self.view_is, c.if-self-ge-MOST_CALLS.false, most_calls-is))
+
+pub returns-in-Ok-clause-over : goal.returns-in-Ok-clause-over
+returns-in-Ok-clause-over g c = λ is. absurd (omega (arith, is, ap (λ (p : Progress). p.calls) c.self.view_is, c.if-self-ge-MOST_CALLS.false, most_calls-is))
+
+pub returns-in-Failed-clause-spent : goal.returns-in-Failed-clause-spent
+returns-in-Failed-clause-spent g c = sym most_calls-is
+
+pub returns-then-self-gt0-clause-spent : goal.returns-then-self-gt0-clause-spent
+returns-then-self-gt0-clause-spent g c = sym most_calls-is
+
+pub returns-in-Err-clause-spent : goal.returns-in-Err-clause-spent
+returns-in-Err-clause-spent g c = sym most_calls-is
+
+pub returns-else-self-gt0-clause-steps : goal.returns-else-self-gt0-clause-steps
+returns-else-self-gt0-clause-steps g c = sym most_calls-is
+
+pub returns-then-self-ge-MOST_CALLS-clause-spent : goal.returns-then-self-ge-MOST_CALLS-clause-spent
+returns-then-self-ge-MOST_CALLS-clause-spent g c = omega (arith, ap (λ (p : Progress). p.calls) c.self.view_is, c.self.invariant.3, c.if-self-ge-MOST_CALLS.true, most_calls-is)
