@@ -4,7 +4,7 @@ use Rattle.wl_intervals.specs.declared.Level.{Level}
 use Rattle.wl_intervals.specs.declared.Level.TheVariants.{Dominant, Recessive}
 use Rattle.wl_intervals.specs.Levels.{is_dominant}
 use Rattle.wl_record.specs.Limits.{most_nodes-is, most_edges, most_edges-is, tick_end-is}
-use Rattle.wl_plan.specs.Limits.{most_quanta-is, most_quiet-is}
+use Rattle.wl_plan.specs.Limits.{latest_end, most_quanta, most_quanta-is, most_quiet, most_quiet-is, most_queued, most_disturbances}
 use Rattle.wl_plan.specs.Sound.{IsSound}
 use Rattle.wl_plan.specs.Line.{Line, reach}
 use Rattle.wl_plan.specs.Simulation.{changes, changes_below, level, seen, history, ran}
@@ -106,3 +106,21 @@ small_is_sound = record {
   next_fits = λ i k b h. (let e = most_quiet-is in let f = tick_end-is in omega arith);
   end_fits = (let f = tick_end-is in omega arith);
 }
+
+-- the limits, in numbers
+end_is : latest_end ≡ 68719476736
+end_is = refl
+
+quanta_are : most_quanta ≡ 65536
+unfolding most_quanta
+quanta_are = refl
+
+quiet_is : most_quiet ≡ 65536
+unfolding most_quiet
+quiet_is = refl
+
+queued_are : most_queued ≡ 64
+queued_are = refl
+
+disturbances_are : most_disturbances ≡ 64
+disturbances_are = refl

@@ -14,6 +14,7 @@ use Rattle.wl_setup.specs.declared.plan_text.PlanText.{PlanText}
 use Rattle.wl_setup.specs.declared.plan_text.NodeText.{NodeText}
 use Rattle.wl_setup.specs.declared.plan_text.FrameText.{FrameText}
 use Rattle.wl_setup.specs.declared.plan_text.ClockText.TheVariants.{Rate}
+use Rattle.wl_setup.specs.Limits.{most_bytes, largest_number, largest_small, largest_ppm, largest_byte, longest_name, known_version}
 use Rattle.wl_setup.specs.Plans.{plan_of_text}
 
 abbrev frame_text : ℕ → FrameText
@@ -81,3 +82,29 @@ plan-late = refl
 plan-quanta : plan_of_text (text_with 0 1 6553601) ≡ Err (fault.Plan (refusal.Quanta 0))
 unfolding most_quanta
 plan-quanta = refl
+
+-- the limits, in numbers
+bytes_are : most_bytes ≡ 1048576
+unfolding most_bytes
+bytes_are = refl
+
+numbers_are : largest_number ≡ 281474976710655
+unfolding largest_number
+numbers_are = refl
+
+small_are : largest_small ≡ 2147483647
+unfolding largest_small
+small_are = refl
+
+ppm_are : largest_ppm ≡ 1000000000
+unfolding largest_ppm
+ppm_are = refl
+
+byte_is : largest_byte ≡ 255
+byte_is = refl
+
+name_is : longest_name ≡ 32
+name_is = refl
+
+version_is : known_version ≡ 1
+version_is = refl

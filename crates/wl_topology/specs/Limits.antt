@@ -1,10 +1,9 @@
--- The limits of a cable (this project's profile), each that of the constant of its name.
+-- The limits of a cable: this project's profile.
 use Rattle.std.specs.Prelude.{ℕ}
-use Rattle.wl_topology.specs.declared.TheConstants.{MOST_NODES, LONGEST_DELAY}
 
 abbrev pub most_nodes : ℕ
-most_nodes = MOST_NODES
+most_nodes = 16
 
 -- in ticks
 abbrev pub longest_delay : ℕ
-longest_delay = LONGEST_DELAY
+longest_delay = 1048576

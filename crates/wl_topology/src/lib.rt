@@ -19,9 +19,9 @@ use thiserror::Error;
 pub struct Place {
     /// In units of length from one end of the cable.
     pub x: u32,
-    /// What the node takes from a level that it drives to the cable, in ticks.
+    /// How many ticks a level takes from the node's drive to the cable.
     pub out_delay: u64,
-    /// What it takes from the cable to a level that it sees, in ticks.
+    /// How many it takes from the cable to what the node sees.
     pub in_delay: u64,
 }
 
@@ -155,7 +155,8 @@ impl Topology {
         self.nodes
     }
 
-    /// How many ticks a level takes from node `i` to node `j`: 1 to 1,048,576.
+    /// How many ticks a level takes from node `i` to node `j`: 1 to 1,048,576. It is `out_delay` of `i`, then the distance times the ticks a
+    /// unit of length, then `in_delay` of `j` (this project's profile).
     pub fn delay(&self, i: u8, j: u8) -> u64
         requires from { i < length self.now.places }
         requires to { j < length self.now.places }
@@ -182,7 +183,8 @@ impl Topology {
         least
     }
 
-    /// How many ticks a disturbance at `x` takes to node `j`. It may be 0.
+    /// How many ticks a disturbance at `x` takes to node `j`: the way along the cable and `in_delay` of `j`. It may be 0, and it may be more
+    /// than any delay between nodes.
     pub fn place_delay(&self, x: u32, j: u8) -> u128
         requires { j < length self.now.places }
         ensures ticks { result ≡ disturbance_delay self.now x j }
@@ -257,7 +259,8 @@ fn stored(places: &[Place]) -> [Place; MOST_NODES]
     held
 }
 
-/// What a node finds on the line, by what the nodes drove: dominant exactly where one of them drove dominant a delay earlier.
+/// What a node finds on the line, by what the nodes drove and without disturbances: dominant exactly where one of them drove dominant a
+/// delay earlier (Bosch CAN 2.0 part A, section 2).
 pub fn driven_laws()
     ensures { DrivenLaws }
 {}
