@@ -115,7 +115,8 @@ impl Intervals {
         Ok(())
     }
 
-    /// The set with each tick later by `d`.
+    /// The set with each tick later by `d`. The end of its last interval, if there is one, plus `d` is below 2^64. Refused for want of memory
+    /// alone.
     pub fn shift(&self, alloc: Global, d: u64) -> Result<Intervals, AllocError>
         requires { IfSome (last_end self.now) (λ end. end + d < 2 ^ 64) }
         ensures pairs { IfOk result (λ later. later ≡ shifted d self.now) }
@@ -129,7 +130,7 @@ impl Intervals {
         Ok(Intervals { pairs })
     }
 
-    /// The ticks of the set that lie below tick `t`.
+    /// The ticks of the set that lie below tick `t`. Refused for want of memory alone.
     pub fn cut(&self, alloc: Global, t: u64) -> Result<Intervals, AllocError>
         ensures { IfOk result (λ part. (u : ℕ) → covers part u ≡ (covers self.now u && nat_lt u t)) }
     {
@@ -142,7 +143,7 @@ impl Intervals {
         Ok(Intervals { pairs })
     }
 
-    /// An equal set.
+    /// An equal set. Refused for want of memory alone.
     pub fn clone_in(&self, alloc: Global) -> Result<Intervals, AllocError>
         ensures { IfOk result (λ copy. copy ≡ self.now) }
     {

@@ -14,13 +14,23 @@ pub use listed::Listed;
 /// What a line carries: bit 0 is dominant, bit 1 recessive (Bosch CAN 2.0 part A, section 2).
 ///
 /// A line that nobody drives is recessive, so that is the default.
-#[derive(Clone, Copy, Debug, Default, PartialEq, Eq)]
+#[derive(Clone, Copy, Debug, PartialEq, Eq)]
 pub enum Level {
     /// Bit 0: one node that drives it decides the line.
     Dominant,
     /// Bit 1: the line where no node drives dominant.
-    #[default]
     Recessive,
+}
+
+impl Default for Level {
+    ghost use Rattle.wl_intervals.specs.declared.Level.TheVariants.{Recessive};
+
+    ghost is_default = { λ l. l ≡ Recessive };
+
+    /// Recessive, as a line that nobody drives.
+    fn default() -> Self {
+        Self::Recessive
+    }
 }
 
 impl Level {

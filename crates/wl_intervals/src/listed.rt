@@ -72,7 +72,7 @@ impl<T: Drop> Listed<T> {
 }
 
 impl<T: Copy> Listed<T> {
-    /// An equal list.
+    /// An equal list. Refused for want of memory alone.
     pub fn clone_in(&self, alloc: Global) -> Result<Listed<T>, AllocError>
         ensures { IfOk result (λ copy. copy ≡ self.now) }
     {
