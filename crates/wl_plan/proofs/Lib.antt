@@ -5,4 +5,5 @@ mod QuantumProofs
 mod Rows
 pub mod CheckProofs
 pub mod EqualProofs
+pub mod GroupingProofs
 pub mod SoundProofs

@@ -1,4 +1,5 @@
 pub mod Checked
+pub mod Groupings
 pub mod Limits
 pub mod Line
 pub mod PlanLine

@@ -15,7 +15,9 @@ use wl_topology::Topology;
 pub struct Disturbance {
     /// In units of length from the end of the cable from which the nodes' places count.
     pub x: u32,
+    /// The first tick at which it is dominant there.
     pub from: u64,
+    /// The first tick behind it.
     pub to: u64,
 }
 
@@ -28,9 +30,11 @@ pub type Disturbances = Listed<Disturbance>;
 /// What is to be simulated. Any plan can be written down; `check` tells which ones can be run.
 #[derive(Debug, Drop)]
 pub struct Plan {
+    /// The nodes: their clocks, bit segments and frames.
     pub nodes: Nodes,
     /// Where the nodes sit on the cable.
     pub topology: Topology,
+    /// What makes the line dominant from outside.
     pub disturbances: Disturbances,
     /// The tick at which the simulation ends: a quantum that begins there or later is not run.
     pub end: u64,
@@ -39,7 +43,7 @@ pub struct Plan {
 impl Plan {
     ghost use Rattle.wl_plan.specs.PlanLine.{line_of};
 
-    /// Whether some disturbance makes the line dominant at node `j` and tick `t`.
+    /// Whether some disturbance, later by its delay to node `j`, makes the line dominant there at tick `t`.
     pub fn disturbed(&self, j: u8, t: u64) -> bool
         requires { j < length self.now.topology.places }
         ensures { result ≡ (line_of self.now).disturbed j t }

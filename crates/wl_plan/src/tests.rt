@@ -346,9 +346,106 @@ fn names(rt: HostRuntime) -> Result<(), Fail> {
     Ok(())
 }
 
+/// Numbers of groups for three nodes, at the borders: how many there are, and how great they are.
+#[test]
+fn groupings(rt: HostRuntime) -> Result<(), Fail> {
+    let plan = three_nodes(rt.alloc())?;
+    let accepted: [(&[u8], u8); 6] = [
+        (&[0, 0, 0], 1),
+        (&[0, 1, 2], 3),
+        (&[0, 2, 2], 3),
+        (&[15, 0, 1], 16),
+        (&[0, 0, 15], 16),
+        (&[3, 3, 3], 4),
+    ];
+    for (numbers, groups) in accepted {
+        let grouping = Grouping::new(rt.alloc(), &plan, numbers)?;
+        assert_eq!(rt; grouping.groups(), groups);
+        assert_eq!(rt; grouping.nodes(), 3);
+        for i in 0..3u8 {
+            assert_eq!(rt; grouping.group_of(i), Some(numbers[i as usize]));
+        }
+        assert_eq!(rt; grouping.group_of(3), None);
+        assert_eq!(rt; grouping.group_of(255), None);
+    }
+    let refused: [&[u8]; 7] = [
+        &[],
+        &[0, 0],
+        &[0, 0, 0, 0],
+        &[16, 0, 0],
+        &[0, 0, 16],
+        &[0, 255, 0],
+        &[16, 16],
+    ];
+    for numbers in refused {
+        let answer = Grouping::new(rt.alloc(), &plan, numbers);
+        assert!(rt; matches!(answer, Err(GroupingFault::Grouping)));
+    }
+    Ok(())
+}
+
+/// The nodes of each group, the group without nodes and the numbers that are no group.
+#[test]
+fn members(rt: HostRuntime) -> Result<(), Fail> {
+    let plan = three_nodes(rt.alloc())?;
+    let grouping = Grouping::new(rt.alloc(), &plan, &[2, 0, 2])?;
+    let rows: [(u8, &[u8]); 6] = [
+        (0, &[1]),
+        (1, &[]),
+        (2, &[0, 2]),
+        (3, &[]),
+        (16, &[]),
+        (255, &[]),
+    ];
+    for (group, wanted) in rows {
+        let members = grouping.members(rt.alloc(), group)?;
+        assert_eq!(rt; members.as_slice(), wanted, "group {group}");
+    }
+    Ok(())
+}
+
+/// A plan needs no check to be grouped: none of its nodes are in none of the groups.
+#[test]
+fn no_node_in_no_group(rt: HostRuntime) -> Result<(), Fail> {
+    let mut plan = two_nodes(rt.alloc())?;
+    plan.nodes = Listed::new(rt.alloc());
+    let grouping = Grouping::new(rt.alloc(), &plan, &[])?;
+    assert_eq!(rt; grouping.groups(), 0);
+    assert_eq!(rt; grouping.nodes(), 0);
+    assert_eq!(rt; grouping.group_of(0), None);
+    assert!(rt;
+        matches!(
+            Grouping::new(rt.alloc(), &plan, &[0]),
+            Err(GroupingFault::Grouping)
+        )
+    );
+    Ok(())
+}
+
+fn three_nodes(alloc: Global) -> Result<Plan, Fail> {
+    let mut plan = two_nodes(alloc)?;
+    plan.nodes.push(node(alloc, Clock::new(0, 100, 1)?, 0)?)?;
+    plan.topology = Topology::new(&[place(0), place(50), place(100)], 1)?;
+    Ok(plan)
+}
+
+#[test]
+fn names_of_grouping_faults(rt: HostRuntime) -> Result<(), Fail> {
+    let rows = [
+        (GroupingFault::Grouping, "Grouping"),
+        (GroupingFault::Memory, "Memory"),
+    ];
+    for (fault, name) in rows {
+        let text = format!(in rt.alloc(); "{fault}")?;
+        assert_eq!(rt; text.as_str(), name);
+    }
+    Ok(())
+}
+
 #[test]
 fn laws() {
     simulation_laws();
+    grouping_laws();
     outcome_is_true();
     faultless_is_checked();
     checked_is_sound();
