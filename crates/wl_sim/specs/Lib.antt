@@ -3,3 +3,5 @@ pub mod Gather
 pub mod Horizon
 pub mod Merge
 pub mod Plans
+pub mod Tasks
+pub mod CommandLine

@@ -1,4 +1,7 @@
 //! The command line.
+ghost use Rattle.std.specs.Prelude.{◌≡◌, [], map, string_bytes, IfOk, IfErr, Some, option_map};
+ghost use Rattle.clap.specs.Words.{app_of, fault_of, kind_of};
+ghost use Rattle.wl_sim.specs.CommandLine.{program, task_word, NamesTask};
 
 use clap::error::ErrorKind;
 use clap::{Command, Error};
@@ -31,7 +34,10 @@ pub enum Refusal {
 }
 
 /// The subcommands, each with one line of help.
-fn command<'a>(alloc: Global) -> Result<Command<'a>, Error> {
+fn command<'a>(alloc: Global) -> Result<Command<'a>, Error>
+    ensures app { IfOk result (λ all. app_of all ≡ program) }
+    ensures memory { IfErr result (λ e. kind_of e ≡ ErrorKind.OutOfMemory) }
+{
     let merge = Command::new(alloc, "merge").about(
         "Writes the canonical text of the records that standard input has",
     );
@@ -58,16 +64,27 @@ fn command<'a>(alloc: Global) -> Result<Command<'a>, Error> {
     Ok(all)
 }
 
-/// The task that these words name, the program's own name first.
-fn task_of(alloc: Global, words: &[String]) -> Result<Task, Error> {
-    let matches = command(alloc)?.try_get_matches_from(words)?;
-    match matches.subcommand_name() {
-        Some("horizon") => Ok(Task::Horizon),
-        Some("check") => Ok(Task::Check),
-        Some("records") => Ok(Task::Records),
-        Some("run") => Ok(Task::Run),
-        Some(_) | None => Ok(Task::Merge),
+/// The task of a subcommand, by its name.
+fn task_named(name: Option<&str>) -> Task
+    ensures { (wanted : Task) → option_map (λ s. s.now) name.entry ≡ Some (task_word wanted) → result ≡ wanted }
+{
+    match name {
+        Some("horizon") => Task::Horizon,
+        Some("check") => Task::Check,
+        Some("records") => Task::Records,
+        Some("run") => Task::Run,
+        Some(_) | None => Task::Merge,
     }
+}
+
+/// The task that these words name, the program's own name first.
+fn task_of(alloc: Global, words: &[String]) -> Result<Task, Error>
+    ensures task { IfOk result (λ task. (wanted : Task) → NamesTask wanted (map string_bytes words.now) → task ≡ wanted) }
+    ensures fault { IfOk result (λ task. fault_of program (map string_bytes words.now) ≡ []) }
+    ensures memory { IfErr result (λ e. (wanted : Task) → NamesTask wanted (map string_bytes words.now) → kind_of e ≡ ErrorKind.OutOfMemory) }
+{
+    let matches = command(alloc)?.try_get_matches_from(words)?;
+    Ok(task_named(matches.subcommand_name()))
 }
 
 /// Reads the command line. A refusal's text goes to standard error, help too.
@@ -94,5 +111,51 @@ pub fn read<R: Env + AllocGlobal + Eprint>(rt: &R) -> Result<Task, Refusal> {
             let _ = rt.eprint(error);
             Err(Refusal::Words)
         }
+    }
+}
+
+#[cfg(test)]
+mod tests {
+    use super::{Task, task_of};
+    use std::test::Fail;
+
+    /// Words behind the program's name, and what they name.
+    const ROWS: [(&str, Option<Task>); 10] = [
+        ("merge", Some(Task::Merge)),
+        ("horizon", Some(Task::Horizon)),
+        ("check", Some(Task::Check)),
+        ("records", Some(Task::Records)),
+        ("run", Some(Task::Run)),
+        ("", None),
+        ("Merge", None),
+        ("runs", None),
+        ("help", None),
+        ("--help", None),
+    ];
+
+    #[test]
+    fn words_and_tasks(rt: HostRuntime) -> Result<(), Fail> {
+        let alloc = rt.alloc();
+        let program = String::from_str(alloc, "wl_sim")?;
+        assert!(rt; task_of(alloc, &[program]).is_err());
+        for (word, wanted) in ROWS {
+            let program = String::from_str(alloc, "wl_sim")?;
+            let words = [program, String::from_str(alloc, word)?];
+            assert_eq!(rt; task_of(alloc, &words).ok(), wanted);
+        }
+        Ok(())
+    }
+
+    #[test]
+    fn one_word_too_many(rt: HostRuntime) -> Result<(), Fail> {
+        let alloc = rt.alloc();
+        let program = String::from_str(alloc, "wl_sim")?;
+        let words = [
+            program,
+            String::from_str(alloc, "run")?,
+            String::from_str(alloc, "merge")?,
+        ];
+        assert!(rt; task_of(alloc, &words).is_err());
+        Ok(())
     }
 }

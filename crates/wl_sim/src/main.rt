@@ -6,6 +6,10 @@
 //! the bit segments allow and how long the cable takes, the second the records of the plan's simulation, the third its report.
 #![tactic(auto)]
 
+ghost use Rattle.std.specs.Prelude.{◌≡◌};
+ghost use Rattle.std.specs.Process.{exit_status};
+ghost use Rattle.wl_sim.specs.Tasks.{Does, run_status, refusal_status};
+
 use std::alloc::Global;
 use std::process::ExitCode;
 use wl_record::{Host, Sink, Source};
@@ -22,7 +26,7 @@ mod records;
 mod tests;
 
 pub use check::check_run;
-pub use command::Task;
+pub use command::{Refusal, Task};
 pub use fault::RunFault;
 pub use horizon::horizon_run;
 pub use merge::{merge_run, merges_as_one};
@@ -40,8 +44,7 @@ const BROKEN: u8 = 3;
 fn main(rt: HostRuntime) -> ExitCode {
     let task = match command::read(&rt) {
         Ok(task) => task,
-        Err(command::Refusal::Words) => return ExitCode::from(REFUSED_COMMAND),
-        Err(command::Refusal::Memory) => return ended(&rt, Err(RunFault::Memory)),
+        Err(refusal) => return refused(&rt, refusal),
     };
     let mut reader = Host::new(rt.stdin());
     let mut writer = Host::new(rt.stdout());
@@ -55,7 +58,9 @@ fn run<R: Source, W: Sink>(
     task: Task,
     reader: &mut R,
     writer: &mut W,
-) -> Result<(), RunFault> {
+) -> Result<(), RunFault>
+    ensures { Does R.gives W.takes reader.old reader.new writer.old writer.new task result }
+{
     match task {
         Task::Merge => merge_run(alloc, reader, writer),
         Task::Horizon => horizon_run(alloc, reader, writer),
@@ -66,7 +71,9 @@ fn run<R: Source, W: Sink>(
 }
 
 /// The status of a run; a fault is said on standard error, in one line.
-fn ended(rt: &impl Eprint, answer: Result<(), RunFault>) -> ExitCode {
+fn ended(rt: &impl Eprint, answer: Result<(), RunFault>) -> ExitCode
+    ensures { exit_status result ≡ run_status answer }
+{
     match answer {
         Ok(()) => ExitCode::SUCCESS,
         Err(fault) => {
@@ -78,5 +85,15 @@ fn ended(rt: &impl Eprint, answer: Result<(), RunFault>) -> ExitCode {
             let _ = eprintln!(rt; "fault: {fault}");
             ExitCode::from(status)
         }
+    }
+}
+
+/// The status of a command line that named no task. What was wrong with its words has been said; want of memory is said here.
+fn refused(rt: &impl Eprint, refusal: Refusal) -> ExitCode
+    ensures { exit_status result ≡ refusal_status refusal }
+{
+    match refusal {
+        Refusal::Words => ExitCode::from(REFUSED_COMMAND),
+        Refusal::Memory => ended(rt, Err(RunFault::Memory)),
     }
 }
