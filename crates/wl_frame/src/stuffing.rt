@@ -14,7 +14,8 @@ pub type StuffedBits = ArrayVec<Level, 160>;
 const LONGEST_RUN: usize = 5;
 
 /// The list with a bit of the other level behind each five equal ones, which counts as the first of
-/// the next run. Behind the last bit too, where one is due there.
+/// the next run. Behind the last bit too, where one is due there: this project's profile. It takes at
+/// most 128 bits.
 pub fn stuff(bits: &[Level]) -> StuffedBits
     requires { length bits.now ≤ 128 }
     ensures { Stuffs result.items bits.now }

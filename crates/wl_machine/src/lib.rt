@@ -105,8 +105,9 @@ impl Machine {
         self.progress.switch_off();
     }
 
-    /// True where the bus is idle to the node: it has nothing to send, or it is suspended. A node
-    /// that has decided to send is not idle.
+    /// True where the bus is idle to the node: it is free and the node has nothing to send, or the
+    /// node is suspended (Bosch CAN 2.0 part B, section 3.2.5). One that has decided to send is not
+    /// idle.
     pub fn idle(&self) -> bool
         ensures { (past : List Input) → IsMachine self.now past → result ≡ is_idle_sort (stretch_of past).sort }
     {

@@ -77,7 +77,8 @@ impl Node {
         self.progress.drive_after(level)
     }
 
-    /// The next quantum, at which the node sees this level, where [`Node::prepare`] has made room.
+    /// The next quantum, at which the node sees this level, where [`Node::prepare`] has made room and
+    /// fewer than 2^21 quanta were run.
     ///
     /// The bit clock runs first. Where a bit starts, the node drives what its machine wants since
     /// its last sample. A sample is stored, goes to the machine with the first unsent frame, if it
@@ -94,8 +95,8 @@ impl Node {
     }
 
     /// The next quantum, at which the node sees this level: [`Node::prepare`], and then
-    /// [`Node::run`]. Refused for want of memory, the quantum isn't run, and every reader answers as
-    /// before.
+    /// [`Node::run`]. Fewer than 2^21 quanta were run before. Refused for want of memory, the quantum
+    /// isn't run, and every reader answers as before.
     pub fn quantum(&mut self, level: Level) -> Result<(), AllocError>
         requires { quanta_of self.old < 2 ^ 21 }
         ensures ok { OnOk result ((levels : List Level) → IsNode levels self.old → IsNode (levels ++ level ∷ []) self.new) }

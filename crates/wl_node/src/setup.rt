@@ -10,15 +10,21 @@ use wl_segments::Segments;
 /// A frame that waits to be sent, from quantum `ready` of its node on.
 #[derive(Clone, Copy, Debug, PartialEq, Eq)]
 pub struct Queued {
+    /// What is to be sent.
     pub frame: Frame,
+    /// The first quantum at which it may be handed to the machine, counted from 0.
     pub ready: u64,
 }
 
 /// A frame that a node sent (`sent`) or received, and the quantum of the sample that completed it.
 #[derive(Clone, Copy, Debug, PartialEq, Eq)]
 pub struct Passed {
+    /// True of a frame that was sent, false of one that was received.
     pub sent: bool,
+    /// The node's quantum, counted from 0: of the last bit of end of frame where it was sent, of the
+    /// last but one where it was received (Bosch CAN 2.0 part B, section 5).
     pub quantum: u64,
+    /// What it carries.
     pub frame: Frame,
 }
 
@@ -28,8 +34,11 @@ pub type Queue = Listed<Queued>;
 /// What a node is made of: its clock, its bit segments and the frames that it is to send.
 #[derive(Debug, Drop)]
 pub struct NodeSetup {
+    /// The ticks of its quanta. The node itself never asks for them.
     pub clock: Clock,
+    /// The segments of its bits, in quanta.
     pub segments: Segments,
+    /// The frames that it is to send, in this order, whatever their identifiers.
     pub queue: Queue,
 }
 

@@ -61,7 +61,7 @@ impl Replica {
     ghost use Rattle.wl_replica.specs.Slots.{HoldsTrue};
     ghost use Rattle.wl_replica.specs.SlotsOf.{NoHorizonFalls};
 
-    /// A replica of so many nodes that knows nothing.
+    /// A replica of so many nodes that knows nothing. Refused for want of memory alone.
     pub fn new(alloc: Global, nodes: u8) -> Result<Replica, AllocError>
         ensures { IfOk result (λ made. made ≡ state_of nodes []) }
     {
@@ -92,8 +92,8 @@ impl Replica {
         node < self.nodes && told.within()
     }
 
-    /// Takes a record: joins what it says into its slot. Refused where memory is wanted; the
-    /// replica is then as it was.
+    /// Takes a record that fits: joins what it says into its slot. Refused where memory is wanted;
+    /// the replica is then as it was.
     pub fn take(&mut self, told: Record) -> Result<(), AllocError>
         requires { Fits self.old.nodes told }
         ensures ok { OnOk result (self.new ≡ taken self.old told) }
@@ -119,8 +119,8 @@ impl Replica {
         Ok(())
     }
 
-    /// Takes each of the records, or none of them: refused where memory is wanted, and the replica
-    /// is then as it was.
+    /// Takes each of the records, which fit, or none of them: refused where memory is wanted, and the
+    /// replica is then as it was.
     pub fn take_all(&mut self, told: &[Record]) -> Result<(), AllocError>
         requires { All (Fits self.old.nodes) told.now }
         ensures ok { OnOk result (self.new ≡ taken_all self.old told.now) }
@@ -137,8 +137,8 @@ impl Replica {
         Ok(())
     }
 
-    /// Joins in what the other replica knows. It puts nothing at every slot that it lacks, and
-    /// then joins; so where it is refused for want of memory, the replica is as it was.
+    /// Joins in what the other replica, of as many nodes, knows. It puts nothing at every slot that it
+    /// lacks, and then joins; so where it is refused for want of memory, the replica is as it was.
     pub fn join(&mut self, other: &Replica) -> Result<(), AllocError>
         requires { self.old.nodes ≡ other.now.nodes }
         ensures ok { OnOk result (self.new ≡ joined self.old other.now) }
@@ -177,7 +177,7 @@ impl Replica {
         }
     }
 
-    /// A replica that knows the same.
+    /// A replica that knows the same. Refused for want of memory alone.
     pub fn clone_in(&self, alloc: Global) -> Result<Replica, AllocError>
         ensures { IfOk result (λ other. other ≡ self.now) }
     {
@@ -187,7 +187,7 @@ impl Replica {
     }
 
     /// The records that make this replica, each slot once: node by node, the changes by number and
-    /// then the silences by count.
+    /// then the silences by count. Refused for want of memory alone.
     pub fn canonical(&self, alloc: Global) -> Result<Vec<Record>, AllocError>
         ensures list { IfOk result (λ all. all.items ≡ canonical self.now) }
         ensures fits { IfOk result (λ all. All (Fits self.now.nodes) all.items) }
@@ -234,7 +234,8 @@ impl Replica {
     ghost use Rattle.std.specs.Prelude.{◌+◌, ◌-◌, ◌&&◌, length, nat_le};
 
     /// The ticks below the node's horizon at which it drives dominant, as far as its run tells:
-    /// from each first to each second change, an open last one up to the horizon.
+    /// from each first to each second change, an open last one up to the horizon. Refused for want of
+    /// memory alone.
     pub fn wave(&self, alloc: Global, node: u8) -> Result<Intervals, AllocError>
         requires { node < self.now.nodes }
         ensures { IfOk result (λ set. set ≡ wave (slots_of self.now) node) }

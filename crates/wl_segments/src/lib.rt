@@ -131,7 +131,7 @@ impl Segments {
         self.sample_at() + self.ps2()
     }
 
-    /// Whether two oscillators that each deviate by `ppm` parts per million stay in step with these segments.
+    /// Whether two oscillators that each deviate by `ppm` parts per million stay in step with these segments, by this project's test.
     ///
     /// With B the quanta of a bit this asks two things: `2 * ppm * (13 * B - ps2)` is at most
     /// `1000000 * min(ps1, ps2)`, and `20 * ppm * B` is at most `1000000 * sjw`.

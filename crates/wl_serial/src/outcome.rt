@@ -43,6 +43,7 @@ pub type NodeOutcomes = Listed<NodeOutcome>;
 /// What a simulation came to.
 #[derive(Debug, Drop)]
 pub struct Outcome {
+    /// What each node did.
     pub nodes: NodeOutcomes,
     /// The tick at which the simulation ended: only quanta that begin before it were run.
     pub end: u64,

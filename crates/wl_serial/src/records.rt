@@ -31,7 +31,8 @@ fn have_few_changes(nodes: &[NodeOutcome]) -> bool
         .all(|node| node.changes.len() <= MOST_EDGES as usize)
 }
 
-/// The records of an outcome: for each node in order all its edges, then one silence with the number of its changes and the end.
+/// The records of an outcome that is recordable: for each node in order all its edges, then one silence with the number of its changes and
+/// the end.
 ///
 /// Refused for want of memory alone.
 pub fn records_of(alloc: Global, outcome: &Outcome) -> Result<Vec<Record>, AllocError>

@@ -30,7 +30,7 @@ pub enum Beat {
 pub enum Sync {
     /// Hard synchronisation: the node is idle, and its bit begins anew with this quantum.
     Hard,
-    /// Resynchronisation at a phase error, in quanta: positive before the sample, negative behind it.
+    /// Resynchronisation at a phase error, in quanta: 0 at the start of the bit, positive before the sample, negative behind it.
     Error(i8),
 }
 
@@ -109,9 +109,9 @@ impl BitClock {
 
     /// One quantum: what it is in its bit, and how it synchronises the bit, if it does.
     ///
-    /// `level` is the line's level at the quantum, `idle` that the node neither sends nor receives, and `driving` that
-    /// it drives the line dominant. After any list of quanta both answers, and what the clock keeps, are those of that
-    /// list.
+    /// `level` is the line's level at the quantum, `idle` that the bus is idle to the node, so that it is idle or in
+    /// suspend transmission, and `driving` that it drove dominant up to this quantum. After any list of quanta both
+    /// answers, and what the clock keeps, are those of that list.
     pub fn step(&mut self, level: Level, idle: bool, driving: bool) -> (Beat, Option<Sync>)
         ensures clock { (l : Lengths) (past : List Seen) → self.old ≡ clock_after l past
             → self.new ≡ clock_after l (past ++ record { level = level; idle = idle; driving = driving } ∷ []) }
