@@ -1,6 +1,6 @@
 #!/usr/bin/env bash
 # Wall time and peak memory of `wl_sim run` and `wl_sim records` on the busy plan of bench/plan.py; the least of five.
-# usage: bench/run.sh [PROGRAM [WORD..]]      PROGRAM is the built wl_sim; WORDS follow `run`, such as --workers 4
+# usage: bench/run.sh [PROGRAM [WORD..]]      PROGRAM is the built wl_sim; WORDS follow `run`
 set -euo pipefail
 here=$(cd "$(dirname "$0")" && pwd)
 program=${1:-$here/../crates/wl_sim/out/wl_sim}
