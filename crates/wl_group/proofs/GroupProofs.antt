@@ -24,7 +24,7 @@ use Rattle.wl_group.specs.Holds.{IsMember, IsGroup, IsTold}
 use Rattle.wl_group.specs.GroupLaws.{WaveIsLevel, GroupLaws}
 
 -- a written place, and another
-put_at : {A : Type 0} (f : ℕ → A) (i : ℕ) (a : A) (P : A → Type 0) (j : ℕ) → (j ≡ i → P a) → ((j ≡ i → ⊥) → P (f j)) → P (put f i a j)
+pub put_at : {A : Type 0} (f : ℕ → A) (i : ℕ) (a : A) (P : A → Type 0) (j : ℕ) → (j ≡ i → P a) → ((j ≡ i → ⊥) → P (f j)) → P (put f i a j)
 put_at f i a P j here_is other_is = elim (cases_eq j i) [
   | inl e ↦ subst P (sym (cond-true (j == i) a (f j) (eq-eqb j i e))) (here_is e)
   | inr n ↦ subst P (sym (cond-false (j == i) a (f j) (ne_eqb j i n))) (other_is n)
@@ -36,7 +36,7 @@ get_below [] s t h = cc
 get_below (x ∷ xs) zero t h = omega arith
 get_below (x ∷ xs) (suc s) t h = (let r = get_below xs s t h in omega arith)
 
-true_append : (nodes : ℕ) (table : ℕ → List ℕ) (qs rs : List Record) → AreTrueOf nodes table qs → AreTrueOf nodes table rs → AreTrueOf nodes table (qs ++ rs)
+pub true_append : (nodes : ℕ) (table : ℕ → List ℕ) (qs rs : List Record) → AreTrueOf nodes table qs → AreTrueOf nodes table rs → AreTrueOf nodes table (qs ++ rs)
 true_append nodes table [] rs p q = q
 true_append nodes table (r ∷ qs) rs p q = (p.0, true_append nodes table qs rs p.1 q)
 
@@ -86,7 +86,7 @@ module _ (tables : TableLaws) (joins : SlotsLaws) (knows : KnownLaws) (sims : Si
       omega arith)
 
   -- a member stays one where more that is true is held
-  member_keeps : (l : Line) (i : ℕ) (m : Member) (a b : Slots) → i < l.nodes → HoldsTrue l.nodes (changes l) a → HoldsTrue l.nodes (changes l) b → IsBelow a b → IsMember l i m a → IsMember l i m b
+  pub member_keeps : (l : Line) (i : ℕ) (m : Member) (a b : Slots) → i < l.nodes → HoldsTrue l.nodes (changes l) a → HoldsTrue l.nodes (changes l) b → IsBelow a b → IsMember l i m a → IsMember l i m b
   member_keeps l i m a b p ha hb up h = record {
     state = h.state;
     inside = h.inside;
@@ -95,7 +95,7 @@ module _ (tables : TableLaws) (joins : SlotsLaws) (knows : KnownLaws) (sims : Si
     known = (let r = knows.horizon_keeps l.nodes (changes l) a b i (sims.changes_increase l i) ha hb up in let q = h.known in omega arith);
   }
 
-  group_joins : (l : Line) (belongs : ℕ → Bool) (members : ℕ → Member) (w x : Slots) → IsGroup l belongs members w → HoldsTrue l.nodes (changes l) x → IsGroup l belongs members (slots_joined w x)
+  pub group_joins : (l : Line) (belongs : ℕ → Bool) (members : ℕ → Member) (w x : Slots) → IsGroup l belongs members w → HoldsTrue l.nodes (changes l) x → IsGroup l belongs members (slots_joined w x)
   group_joins l belongs members w x g h =
       let t = knows.true_joined l.nodes (changes l) w x g.truth h in
       record { truth = t; each = λ i b m. member_keeps l i (members i) w (slots_joined w x) b g.truth t (joins.above_first w x) (g.each i b m) }
@@ -310,6 +310,11 @@ module _ (tables : TableLaws) (joins : SlotsLaws) (knows : KnownLaws) (sims : Si
         known = knows.horizon_reached l.nodes (changes l) after i (stepped l i m (level_read l i m w)).changed _ (sims.changes_increase l i) after_true changed_few
             (edges_there w after more_after said_after after_true held_now) (silence_there w after more_after said_after after_true held_now);
       }
+
+      -- the same, with the slots written out
+      pub member_joined : IsMember l i (stepped l i m (level_read l i m w)) (slots_joined w (slots_of_records (emission l i m (level_read l i m w))))
+      unfolding after
+      member_joined = member_next
 
   running_holds : (l : Line) → IsSound l → (belongs : ℕ → Bool) (i : ℕ) (p : Party) → IsGroup l belongs p.members (slots p) → i < l.nodes → belongs i ≡ true
       → can_run l i (p.members i) (slots p) ≡ true

@@ -1,3 +1,7 @@
 mod AdvanceProofs
+mod BeginProofs
 mod GroupProofs
 mod Rows
+mod ValueProofs
+pub mod RunProofs
+pub mod AllProofs

@@ -1,6 +1,13 @@
 pub mod AdvanceLaws
 pub mod Advanced
+pub mod Chosen
 pub mod GroupLaws
+pub mod GroupValue
 pub mod Holds
+pub mod Kept
 pub mod Member
 pub mod Party
+pub mod Running
+pub mod Said
+pub mod Stored
+pub mod ValueLaws

@@ -4,6 +4,20 @@
 ghost use Rattle.wl_group.specs.GroupLaws.{GroupLaws, WaveIsLevel};
 ghost use Rattle.wl_group.specs.AdvanceLaws.{AdvanceLaws};
 
+mod advance;
+mod answer;
+mod begin;
+mod cell;
+mod group;
+mod laws;
+
+pub use answer::{Advance, Emission};
+pub use group::Group;
+pub use laws::value_laws;
+
+#[cfg(test)]
+mod tests;
+
 /// Every replica of true records agrees with the one-thread simulation: below each node's horizon
 /// its wave is the node's level there. Workers and groups rest on this, whatever way records came.
 pub fn true_replicas_agree()

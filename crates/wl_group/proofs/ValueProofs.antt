@@ -1,0 +1,327 @@
+-- A group begins, takes and runs as the party that it is, and stays where the one-thread simulation has it.
+use Rattle.std.proofs.Common.{◌≡◌, ℕ, zero, suc, ◌<◌, ◌≤◌, ◌&&◌, Bool, true, false, inl, inr, List, [], ◌∷◌, ◌++◌, length, map, refl, sym, ◌∙◌, ap, subst, arith, length-append, add-one, Some, None, Option, is_some, if◌then◌else◌}
+use Rattle.std.specs.List.{range_with_len}
+use Rattle.std.proofs.Math.ListN.{length-set}
+use Rattle.std.proofs.lemmas.Bool.{cases_lt, cases_eq, cases_Bool, and_parts, false≢true}
+use Rattle.std.proofs.lemmas.List.{get_or-set_same, get_or-set_other, get_or_past}
+use Rattle.std.proofs.lemmas.List.FromFn.{length-map-range_with_len, get_or-map-range_with_len}
+use Rattle.wl_record.specs.declared.record.Record.{Record}
+use Rattle.wl_record.specs.Truth.{AreTrueOf}
+use Rattle.wl_record.specs.TableLaws.{TableLaws}
+use Rattle.wl_replica.specs.State.{State, state_of, slots_of, taken_all, joined}
+use Rattle.wl_replica.specs.Slots.{Slots, slots_joined, slots_of_records, HoldsTrue}
+use Rattle.wl_replica.specs.KnownLaws.{SlotsLaws, KnownLaws}
+use Rattle.wl_replica.specs.SlotsOf.{SlotsOfStates}
+use Rattle.wl_replica.specs.Laws.{TakingIsJoining, IsJoining}
+use Rattle.wl_plan.specs.declared.plan.Plan.{Plan}
+use Rattle.wl_plan.specs.Limits.{most_quanta}
+use Rattle.wl_plan.specs.Line.{Line}
+use Rattle.wl_plan.specs.PlanLine.{line_of, table_of}
+use Rattle.wl_plan.specs.Simulation.{seen, AreInside}
+use Rattle.wl_plan.specs.SimulationLaws.{SimulationLaws}
+use Rattle.wl_plan.specs.Checked.{IsChecked, CheckedIsSound}
+use Rattle.wl_group.specs.Member.{Member, fresh, can_run, stepped, emission, level_read}
+use Rattle.wl_group.specs.Party.{Party, slots, firsts, begun, taking}
+use Rattle.wl_group.specs.Advanced.{can_advance, emission_of, run_next}
+use Rattle.wl_group.specs.Holds.{IsMember, IsGroup}
+use Rattle.wl_group.specs.GroupLaws.{GroupLaws}
+use Rattle.wl_group.specs.GroupValue.{GroupValue, IsGroupValue, Matches, quanta_at, belongs, member_after, member_at, members_of, begun_of, may_run, with_records, with_state, reads_at, emission_at, run_on}
+use Rattle.wl_group.specs.ValueLaws.{ValueLaws}
+use Rattle.wl_group.proofs.GroupProofs.{put_at, true_append, group_laws, group_joins, member_keeps, member_joined}
+
+-- ---- the list of quanta
+
+abbrev first_if : Bool → Option ℕ
+first_if b = if b then Some 0 else None
+
+is_some_first : (b : Bool) → is_some (first_if b) ≡ b
+is_some_first true = refl
+is_some_first false = refl
+
+begun_inside : (plan : Plan) (chosen : ℕ → Bool) (i : ℕ) → i < length plan.nodes → quanta_at (begun_of plan chosen) i ≡ first_if (chosen i)
+begun_inside plan chosen i b = get_or-map-range_with_len (λ j. first_if (chosen j)) 0 (length plan.nodes) i i None b (omega arith)
+
+begun_outside : (plan : Plan) (chosen : ℕ → Bool) (i : ℕ) → length plan.nodes ≤ i → quanta_at (begun_of plan chosen) i ≡ None
+begun_outside plan chosen i b =
+    let e = length-map-range_with_len (λ j. first_if (chosen j)) 0 (length plan.nodes) in
+    get_or_past (map (λ j. first_if (chosen j)) (range_with_len 0 (length plan.nodes))) i None (omega arith)
+
+begins_at : (plan : Plan) (chosen : ℕ → Bool) → ((i : ℕ) → length plan.nodes ≤ i → chosen i ≡ false) → (i : ℕ) → belongs (begun_of plan chosen) i ≡ chosen i
+begins_at plan chosen past i = elim (cases_lt i (length plan.nodes)) [
+  | inl inside ↦ ap is_some (begun_inside plan chosen i inside) ∙ is_some_first (chosen i)
+  | inr outside ↦ ap is_some (begun_outside plan chosen i outside) ∙ sym (past i outside)
+]
+
+begins_with : (plan : Plan) (chosen : ℕ → Bool) → ((i : ℕ) → length plan.nodes ≤ i → chosen i ≡ false) → belongs (begun_of plan chosen) ≡ chosen
+begins_with plan chosen past = λ k i. begins_at plan chosen past i k
+
+-- who belongs to a group that begins was chosen, and is a node
+was_chosen : (plan : Plan) (chosen : ℕ → Bool) (i : ℕ) → belongs (begun_of plan chosen) i ≡ true → (i < length plan.nodes) × (chosen i ≡ true)
+was_chosen plan chosen i h = elim (cases_lt i (length plan.nodes)) [
+  | inl inside ↦ (inside, sym (is_some_first (chosen i)) ∙ (sym (ap is_some (begun_inside plan chosen i inside)) ∙ h))
+  | inr outside ↦ absurd (false≢true (sym (ap is_some (begun_outside plan chosen i outside)) ∙ h))
+]
+
+at_first : (plan : Plan) (chosen : ℕ → Bool) (i : ℕ) → belongs (begun_of plan chosen) i ≡ true → quanta_at (begun_of plan chosen) i ≡ Some 0
+at_first plan chosen i h =
+    let c = was_chosen plan chosen i h in
+    begun_inside plan chosen i c.0 ∙ ap first_if c.1
+
+-- a place of the list holds something only inside it
+member_inside : (g : GroupValue) (i k : ℕ) → quanta_at g i ≡ Some k → i < length g.ran
+member_inside g i k e = elim (cases_lt i (length g.ran)) [
+  | inl inside ↦ inside
+  | inr outside ↦ absurd (false≢true (sym (ap is_some (get_or_past g.ran i None outside)) ∙ ap is_some e))
+]
+
+-- one more quantum, in its place and in another
+on_here : (g : GroupValue) (i k : ℕ) → quanta_at g i ≡ Some k → quanta_at (run_on i k g) i ≡ Some (suc k)
+on_here g i k e = get_or-set_same g.ran i (Some (suc k)) None (member_inside g i k e)
+
+on_else : (g : GroupValue) (i k j : ℕ) → (j ≡ i → ⊥) → quanta_at (run_on i k g) j ≡ quanta_at g j
+on_else g i k j n = get_or-set_other g.ran i j (Some (suc k)) None n
+
+runs_at : (g : GroupValue) (i k : ℕ) → quanta_at g i ≡ Some k → (j : ℕ) → belongs (run_on i k g) j ≡ belongs g j
+runs_at g i k e j = elim (cases_eq j i) [
+  | inl same ↦ ap (belongs (run_on i k g)) same ∙ (ap is_some (on_here g i k e) ∙ (sym (ap is_some e) ∙ ap (belongs g) (sym same)))
+  | inr other ↦ ap is_some (on_else g i k j other)
+]
+
+runs_with : (g : GroupValue) (i k : ℕ) → quanta_at g i ≡ Some k → belongs (run_on i k g) ≡ belongs g
+runs_with g i k e = λ d j. runs_at g i k e j d
+
+-- ---- members
+
+-- a member is the one after its number of quanta
+member_is : (l : Line) (i : ℕ) (m : Member) (w : Slots) → IsMember l i m w → m ≡ member_after l i (length m.saw)
+member_is l i m w h = λ d. record { saw = h.state d; changed = h.count d }
+
+nothing_seen : (l : Line) (i : ℕ) → seen l i 0 ≡ []
+unfolding seen
+nothing_seen l i = refl
+
+same_member : (m n : Member) → m.saw ≡ n.saw → m.changed ≡ n.changed → m ≡ n
+same_member m n e f = λ d. record { saw = e d; changed = f d }
+
+module _ (tables : TableLaws) (joins : SlotsLaws) (knows : KnownLaws) (sims : SimulationLaws) (states : SlotsOfStates) (takings : TakingIsJoining) (joinings : IsJoining) (sound : CheckedIsSound) where
+  groups : GroupLaws
+  groups = group_laws tables joins knows sims
+
+  -- before its first quantum
+  fresh_is : (plan : Plan) → IsChecked plan → (i : ℕ) → i < length plan.nodes → fresh ≡ member_after (line_of plan) i 0
+  fresh_is plan c i b =
+      same_member fresh (member_after (line_of plan) i 0) (sym (nothing_seen (line_of plan) i)) (sym (sims.none_at_first (line_of plan) i (sound plan c).causal b))
+
+  begun_member : (plan : Plan) → IsChecked plan → (chosen : ℕ → Bool) (i : ℕ) → belongs (begun_of plan chosen) i ≡ true → fresh ≡ members_of (begun_of plan chosen) i
+  begun_member plan c chosen i h =
+      fresh_is plan c i (was_chosen plan chosen i h).0 ∙ sym (ap (member_at (line_of plan) i) (at_first plan chosen i h))
+
+  begins_as : (plan : Plan) → IsChecked plan → (chosen : ℕ → Bool) → Matches (begun (line_of plan) chosen) (begun_of plan chosen)
+  begins_as plan c chosen = record { replica = refl; members = λ i h. begun_member plan c chosen i h; told = refl }
+
+  begun_slots : (plan : Plan) (chosen : ℕ → Bool) → slots_of (begun_of plan chosen).replica ≡ slots (begun (line_of plan) chosen)
+  begun_slots plan chosen = states.records (length plan.nodes) (firsts (line_of plan) chosen (length plan.nodes))
+
+  begins : (plan : Plan) → IsChecked plan → (chosen : ℕ → Bool) → IsGroupValue (begun_of plan chosen)
+  begins plan c chosen =
+      let h = groups.begun_holds (line_of plan) (sound plan c) chosen in
+      record {
+        checked = c;
+        one_each = length-map-range_with_len (λ j. first_if (chosen j)) 0 (length plan.nodes);
+        of_all = refl;
+        holds = subst (IsGroup (line_of plan) (belongs (begun_of plan chosen)) (members_of (begun_of plan chosen))) (sym (begun_slots plan chosen)) (record {
+          truth = h.truth;
+          each = λ i b o. subst (λ m. IsMember (line_of plan) i m (slots (begun (line_of plan) chosen))) (begun_member plan c chosen i o)
+              (h.each i b (was_chosen plan chosen i o).1);
+        });
+        told_true = tt;
+      }
+
+  -- ---- a member of a group
+
+  module _ (g : GroupValue) (v : IsGroupValue g) (i k : ℕ) (e : quanta_at g i ≡ Some k) where
+    is_node : i < length g.plan.nodes
+    is_node = (let b = member_inside g i k e in let f = v.one_each in omega arith)
+
+    is_in : belongs g i ≡ true
+    is_in = ap is_some e
+
+    is_after : members_of g i ≡ member_after (line_of g.plan) i k
+    is_after = ap (member_at (line_of g.plan) i) e
+
+    own : IsMember (line_of g.plan) i (members_of g i) (slots_of g.replica)
+    own = v.holds.each i is_node is_in
+
+    saw_length : length (members_of g i).saw ≡ k
+    saw_length = ap (λ m. length m.saw) is_after ∙ sims.length_seen (line_of g.plan) i k
+
+    inside : AreInside (line_of g.plan) i k
+    inside j b = own.inside j (let f = saw_length in omega arith)
+
+    quanta_few : (i < length g.plan.nodes) × (k ≤ most_quanta) × AreInside (line_of g.plan) i k
+    quanta_few = (is_node, few k inside, inside)
+      where
+        few : (n : ℕ) → AreInside (line_of g.plan) i n → n ≤ most_quanta
+        few zero f = omega arith
+        few (suc n) f = (let q = (sound g.plan v.checked).few_quanta i n is_node (f n (omega arith)) in omega arith)
+
+  -- ---- what comes in
+
+  joined_value : (g : GroupValue) → IsGroupValue g → (s : State) → HoldsTrue (length g.plan.nodes) (table_of g.plan) (slots_of s) → IsGroupValue (with_state s g)
+  joined_value g v s h = record {
+    checked = v.checked;
+    one_each = v.one_each;
+    of_all = v.of_all;
+    holds = subst (IsGroup (line_of g.plan) (belongs g) (members_of g)) (sym (states.both g.replica s))
+        (group_joins tables joins knows sims (line_of g.plan) (belongs g) (members_of g) (slots_of g.replica) (slots_of s) v.holds h);
+    told_true = v.told_true;
+  }
+
+  joins_as : (g : GroupValue) (p : Party) (s : State) (rs : List Record) → Matches p g → s ≡ state_of (length g.plan.nodes) rs → Matches (taking rs p) (with_state s g)
+  joins_as g p s rs h e =
+      let n = length g.plan.nodes in
+      record {
+        replica = ap (λ x. joined x s) h.replica
+            ∙ (ap (joined (state_of n p.taken)) e
+            ∙ (joinings.commutes (state_of n p.taken) (state_of n rs) refl
+            ∙ takings.both n rs p.taken));
+        members = h.members;
+        told = h.told;
+      }
+
+  records_true : (nodes : ℕ) (table : ℕ → List ℕ) (n : ℕ) (rs : List Record) → AreTrueOf nodes table rs → HoldsTrue nodes table (slots_of (state_of n rs))
+  records_true nodes table n rs t = subst (HoldsTrue nodes table) (sym (states.records n rs)) (knows.true_records nodes table rs t)
+
+  takes : (g : GroupValue) → IsGroupValue g → (rs : List Record) → AreTrueOf (length g.plan.nodes) (table_of g.plan) rs → IsGroupValue (with_records rs g)
+  takes g v rs t = joined_value g v (state_of g.replica.nodes rs) (records_true (length g.plan.nodes) (table_of g.plan) g.replica.nodes rs t)
+
+  takes_as : (g : GroupValue) (p : Party) (rs : List Record) → Matches p g → Matches (taking rs p) (with_records rs g)
+  takes_as g p rs h = joins_as g p (state_of g.replica.nodes rs) rs h (ap (λ (x : State). state_of x.nodes rs) h.replica)
+
+  -- ---- beside a party
+
+  module _ (g : GroupValue) (p : Party) (i : ℕ) (h : Matches p g) where
+    same_slots : slots_of g.replica ≡ slots p
+    same_slots = ap slots_of h.replica ∙ states.records (length g.plan.nodes) p.taken
+
+    emits_as : belongs g i ≡ true → emission_at g i ≡ emission_of (line_of g.plan) p i
+    emits_as o =
+        ap (λ m. emission (line_of g.plan) i m (level_read (line_of g.plan) i m (slots_of g.replica))) (sym (h.members i o))
+        ∙ ap (λ w. emission (line_of g.plan) i (p.members i) (level_read (line_of g.plan) i (p.members i) w)) same_slots
+
+    may_as : may_run g i ≡ can_advance (line_of g.plan) (belongs g) p i
+    may_as = elim (cases_Bool (belongs g i)) [
+      | inl y ↦ ap (λ b. belongs g i && b)
+          (ap (λ m. can_run (line_of g.plan) i m (slots_of g.replica)) (sym (h.members i y)) ∙ ap (can_run (line_of g.plan) i (p.members i)) same_slots)
+      | inr n ↦ ap (λ b. b && can_run (line_of g.plan) i (members_of g i) (slots_of g.replica)) n
+          ∙ sym (ap (λ b. b && can_run (line_of g.plan) i (p.members i) (slots p)) n)
+    ]
+
+  -- ---- the next quantum of a member that may run
+
+  module _ (g : GroupValue) (v : IsGroupValue g) (i k : ℕ) (e : quanta_at g i ≡ Some k) (may : may_run g i ≡ true) where
+    can : can_run (line_of g.plan) i (members_of g i) (slots_of g.replica) ≡ true
+    can = (and_parts (belongs g i) (can_run (line_of g.plan) i (members_of g i) (slots_of g.replica)) may).1
+
+    said_true : AreTrueOf (length g.plan.nodes) (table_of g.plan) (emission_at g i)
+    said_true = groups.emission_true (line_of g.plan) (sound g.plan v.checked) (slots_of g.replica) v.holds.truth i (members_of g i) (is_node g v i k e) (own g v i k e) can
+
+    next : Member
+    next = stepped (line_of g.plan) i (members_of g i) (reads_at g i)
+
+    new_slots : Slots
+    new_slots = slots_joined (slots_of g.replica) (slots_of_records (emission_at g i))
+
+    slots_are : slots_of (taken_all g.replica (emission_at g i)) ≡ new_slots
+    unfolding new_slots
+    slots_are =
+        states.both g.replica (state_of g.replica.nodes (emission_at g i))
+        ∙ ap (slots_joined (slots_of g.replica)) (states.records g.replica.nodes (emission_at g i))
+
+    next_is_member : IsMember (line_of g.plan) i next new_slots
+    unfolding next new_slots
+    next_is_member = member_joined tables joins knows sims (line_of g.plan) (sound g.plan v.checked) (slots_of g.replica) v.holds.truth i (members_of g i) (is_node g v i k e) can (own g v i k e)
+
+    new_true : HoldsTrue (length g.plan.nodes) (table_of g.plan) new_slots
+    unfolding new_slots
+    new_true = knows.true_joined (length g.plan.nodes) (table_of g.plan) (slots_of g.replica) (slots_of_records (emission_at g i)) v.holds.truth
+        (knows.true_records (length g.plan.nodes) (table_of g.plan) (emission_at g i) said_true)
+
+    next_length : length next.saw ≡ suc k
+    unfolding next
+    next_length = length-append (members_of g i).saw (reads_at g i ∷ []) ∙ (add-one (length (members_of g i).saw) ∙ ap (λ n. suc n) (saw_length g v i k e))
+
+    next_is : next ≡ members_of (run_on i k g) i
+    next_is =
+        member_is (line_of g.plan) i next new_slots next_is_member
+        ∙ (ap (member_after (line_of g.plan) i) next_length
+        ∙ sym (ap (member_at (line_of g.plan) i) (on_here g i k e)))
+
+    steps_to : stepped (line_of g.plan) i (members_of g i) (reads_at g i) ≡ members_of (run_on i k g) i
+    unfolding next
+    steps_to = next_is
+
+    holds_new : IsGroup (line_of g.plan) (belongs (run_on i k g)) (members_of (run_on i k g)) new_slots
+    unfolding new_slots
+    holds_new = record {
+      truth = new_true;
+      each = λ j b o. elim (cases_eq j i) [
+        | inl same ↦ subst (λ x. IsMember (line_of g.plan) x (members_of (run_on i k g) x) new_slots) (sym same)
+            (subst (λ m. IsMember (line_of g.plan) i m new_slots) next_is next_is_member)
+        | inr other ↦ subst (λ q. IsMember (line_of g.plan) j (member_at (line_of g.plan) j q) new_slots) (sym (on_else g i k j other))
+            (member_keeps tables joins knows sims (line_of g.plan) j (members_of g j) (slots_of g.replica) new_slots b v.holds.truth new_true
+            (joins.above_first (slots_of g.replica) (slots_of_records (emission_at g i)))
+            (v.holds.each j b (sym (runs_at g i k e j) ∙ o)))
+      ];
+    }
+
+    runs : IsGroupValue (run_on i k g)
+    runs = record {
+      checked = v.checked;
+      one_each = length-set g.ran i (Some (suc k)) ∙ v.one_each;
+      of_all = v.of_all;
+      holds = subst (IsGroup (line_of g.plan) (belongs (run_on i k g)) (members_of (run_on i k g))) (sym slots_are) holds_new;
+      told_true = true_append (length g.plan.nodes) (table_of g.plan) g.told (emission_at g i) v.told_true said_true;
+    }
+
+    runs_as : (p : Party) → Matches p g → Matches (run_next (line_of g.plan) i p) (run_on i k g)
+    unfolding next
+    runs_as p h =
+        let l = line_of g.plan in
+        let m = p.members i in
+        let rs : emission_at g i ≡ emission_of l p i = emits_as g p i h (is_in g v i k e) in
+        record {
+          replica = (takes_as g p (emission_at g i) h).replica ∙ ap (λ qs. state_of (length g.plan.nodes) (qs ++ p.taken)) rs;
+          members = λ j o. put_at p.members i (stepped l i m (level_read l i m (slots p))) (λ x. x ≡ members_of (run_on i k g) j) j
+              (λ same. ap (λ (x : Member). stepped l i x (level_read l i x (slots p))) (h.members i (is_in g v i k e))
+              ∙ (ap (λ w. stepped l i (members_of g i) (level_read l i (members_of g i) w)) (sym (same_slots g p i h))
+              ∙ (next_is ∙ ap (members_of (run_on i k g)) (sym same))))
+              (λ other. h.members j (sym (runs_at g i k e j) ∙ o) ∙ sym (ap (member_at l j) (on_else g i k j other)));
+          told = ap (λ xs. xs ++ emission_at g i) h.told ∙ ap (λ qs. p.told ++ qs) rs;
+        }
+
+  -- a node that may run is a member
+  some_quanta : (q : Option ℕ) → is_some q ≡ true → (k : ℕ) × (q ≡ Some k)
+  some_quanta None h = absurd (false≢true h)
+  some_quanta (Some k) h = (k, refl)
+
+  pub value_laws : ValueLaws
+  value_laws = record {
+    begins = begins;
+    begins_as = begins_as;
+    begins_with = begins_with;
+    quanta_few = quanta_few;
+    joins = joined_value;
+    joins_as = joins_as;
+    takes = takes;
+    takes_as = takes_as;
+    may_as = may_as;
+    emits_as = emits_as;
+    emits_true = λ g v i may.
+        let q = some_quanta (quanta_at g i) (and_parts (belongs g i) (can_run (line_of g.plan) i (members_of g i) (slots_of g.replica)) may).0 in
+        said_true g v i q.0 q.1 may;
+    runs = runs;
+    runs_as = λ g v p i k h e may. runs_as g v i k e may p h;
+    steps_to = steps_to;
+    runs_with = runs_with;
+  }

@@ -1,0 +1,14 @@
+use Rattle.std.proofs.Common.{◌∙◌, ap, arith}
+use Rattle.std.specs.Prelude.{slice_set}
+use Rattle.std.proofs.Math.ListN.{length-set}
+use Rattle.wl_group.specs.GroupValue.{belongs}
+use Rattle.wl_group.specs.Chosen.{is_chosen}
+use Rattle.wl_group.proofs.BeginProofs.{one_more_chosen}
+use Rattle.wl_group.proofs.group.Group.chosen.Goals as goal
+
+pub loop-i-preserved : goal.loop-i-preserved
+loop-i-preserved c = (
+  (λ j. ap (λ b. is_chosen (slice_set c.loop-i.chosen c.loop-i.i b) j) c.has.ensures
+      ∙ one_more_chosen c.loop-i.chosen (belongs c.args.self.now) c.loop-i.i (let n = c.loop-i.invariant.1 in let t = c.loop-i-test.true in omega arith) c.loop-i.invariant.0 j),
+  length-set c.loop-i.chosen c.loop-i.i c.has.result ∙ c.loop-i.invariant.1,
+)

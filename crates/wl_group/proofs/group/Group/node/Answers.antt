@@ -1,0 +1,19 @@
+use Rattle.std.proofs.Common.{◌≡◌, ◌<◌, length, Some, None, sym, subst}
+use Rattle.std.specs.Prelude.{slice_index_or, true}
+use Rattle.wl_node.specs.Reached.{IsNode}
+use Rattle.wl_group.specs.GroupValue.{GroupValue, members_of, belongs}
+use Rattle.wl_group.proofs.BeginProofs.{has_place, cell_read, kept_member}
+use Rattle.wl_group.proofs.group.Group.node.Goals as goal
+
+pub returns-clause-node : goal.returns-clause-node
+returns-clause-node c =
+    let b : c.args.i < length c.self.inside.cells.items =
+    has_place c.self.inside.cells.items c.args.i (subst (λ (v : GroupValue). belongs v c.args.i ≡ true) (sym c.self.view_is) c.requires)
+    in
+    let e : slice_index_or c.self.inside.cells.items c.args.i None ≡ Some c.in-Some.cell =
+    cell_read c.self.inside.cells.items c.args.i c.index.result.now c.in-Some.cell b c.index.ensures c.in-Some.is
+    in
+    subst (λ (v : GroupValue). IsNode (members_of v c.args.i).saw c.in-Some.cell.node) c.self.view_is
+    (subst (λ m. IsNode m.saw c.in-Some.cell.node)
+    (sym (kept_member c.self.inside.plan c.self.inside.cells.items c.self.inside.replica c.self.inside.told.items c.args.i c.in-Some.cell e))
+    (c.self.invariant.placed c.args.i c.in-Some.cell e).node)

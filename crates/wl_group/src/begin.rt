@@ -1,0 +1,119 @@
+//! What a group begins with.
+ghost use Rattle.std.specs.Prelude.{◌≡◌, ◌<◌, ◌≤◌, ◌++◌, ℕ, Bool, true, if◌then◌else◌, Option, List, [], ◌∷◌, length, All, IfOk, OnOk, map, None, Some};
+ghost use Rattle.wl_record.specs.declared.record.Record.{Record as Told};
+ghost use Rattle.wl_record.specs.declared.record.Record.TheVariants.{Silence};
+ghost use Rattle.wl_replica.specs.State.{state_of};
+ghost use Rattle.wl_plan.specs.Line.{reach};
+ghost use Rattle.wl_plan.specs.PlanLine.{line_of};
+ghost use Rattle.wl_plan.specs.Checked.{IsChecked};
+ghost use Rattle.wl_group.specs.GroupValue.{names, begun_of};
+ghost use Rattle.wl_group.specs.Kept.{quanta_kept, ran_of, IsCell, AreCells};
+ghost use Rattle.wl_group.specs.declared.cell.Cell.{Cell as KeptCell};
+ghost use Rattle.wl_group.specs.Chosen.{is_chosen};
+
+use crate::cell::Cell;
+use std::alloc::{AllocError, Global};
+use wl_node::Node;
+use wl_plan::Plan;
+use wl_record::Record;
+use wl_replica::Replica;
+use wl_topology::MOST_NODES;
+
+/// For each number that a node may have, whether it is chosen.
+pub(crate) type Chosen = [bool; MOST_NODES];
+
+/// The numbers of a list.
+pub(crate) fn chosen_of(members: &[u8]) -> Chosen
+    requires { All (λ m. m < 16) members.now }
+    ensures { (i : ℕ) → is_chosen result i ≡ names members.now i }
+{
+    let mut chosen = [false; MOST_NODES];
+    for i in 0..16 {
+        chosen[i as usize] = is_named(members, i);
+    }
+    chosen
+}
+
+/// Whether the list has this number.
+fn is_named(members: &[u8], i: u8) -> bool
+    ensures { result ≡ names members.now i }
+{
+    members.iter().any(|m| *m == i)
+}
+
+/// For each node of the plan that is chosen, the node before its first quantum.
+pub(crate) fn fresh_cells(
+    alloc: Global,
+    plan: &Plan,
+    chosen: &Chosen,
+) -> Result<Vec<Option<Cell>>, AllocError>
+    requires { IsChecked plan.now }
+    ensures ran { IfOk result (λ cells. ran_of cells.items ≡ (begun_of plan.now (is_chosen chosen.now)).ran) }
+    ensures cells { IfOk result (λ cells. AreCells plan.now cells.items) }
+{
+    let mut cells = Vec::new(alloc);
+    for i in 0..plan.topology.nodes() {
+        cells.push(fresh_cell(alloc, plan, chosen, i)?)?;
+    }
+    Ok(cells)
+}
+
+/// Node `i` before its first quantum, if it is chosen.
+fn fresh_cell(
+    alloc: Global,
+    plan: &Plan,
+    chosen: &Chosen,
+    i: u8,
+) -> Result<Option<Cell>, AllocError>
+    requires checked { IsChecked plan.now }
+    requires node { i < length plan.now.nodes }
+    ensures ran { IfOk result (λ cell. quanta_kept cell ≡ (if is_chosen chosen.now i then Some 0 else None)) }
+    ensures cell { IfOk result (λ cell. (member : KeptCell) → cell ≡ Some member → IsCell plan.now i member) }
+{
+    wl_plan::checked_is_sound();
+    wl_plan::simulation_laws();
+    wl_node::node_laws();
+    if !chosen[i as usize] {
+        return Ok(None);
+    }
+    let setup = plan.nodes.as_slice()[i as usize].clone_in(alloc)?;
+    let node = Node::new(alloc, setup)?;
+    Ok(Some(Cell { node, changed: 0 }))
+}
+
+/// A replica of the plan's nodes that has taken the first silence of each node that is chosen: that
+/// it keeps its first drive up to its first quantum.
+pub(crate) fn first_replica(
+    alloc: Global,
+    plan: &Plan,
+    chosen: &Chosen,
+) -> Result<Replica, AllocError>
+    requires { IsChecked plan.now }
+    ensures { IfOk result (λ replica. replica ≡ (begun_of plan.now (is_chosen chosen.now)).replica) }
+{
+    let mut replica = Replica::new(alloc, plan.topology.nodes())?;
+    for i in 0..plan.topology.nodes() {
+        take_first(&mut replica, plan, chosen, i)?;
+    }
+    Ok(replica)
+}
+
+/// Takes the first silence of node `i`, if it is chosen.
+fn take_first(replica: &mut Replica, plan: &Plan, chosen: &Chosen, i: u8) -> Result<(), AllocError>
+    requires checked { IsChecked plan.now }
+    requires node { i < length plan.now.nodes }
+    requires nodes { replica.old.nodes ≡ length plan.now.nodes }
+    ensures { OnOk result ((before : List Told) → replica.old ≡ state_of (length plan.now.nodes) before
+        → replica.new ≡ state_of (length plan.now.nodes) (before ++ (if is_chosen chosen.now i then Silence i 0 (reach (line_of plan.now) i []) ∷ [] else []))) }
+{
+    if !chosen[i as usize] {
+        return Ok(());
+    }
+    let until = plan.nodes.as_slice()[i as usize].clock.at(0);
+    replica.take(Record::Silence {
+        node: i,
+        count: 0,
+        until,
+    })?;
+    Ok(())
+}

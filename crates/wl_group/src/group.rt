@@ -1,0 +1,208 @@
+//! A group of nodes that runs by itself, up to what it knows of the others.
+
+ghost use Rattle.std.specs.Prelude.{◌≡◌, ◌<◌, ℕ, true, List, [], ◌∷◌, length, All, IfOk, OnOk, OnErr, Some};
+
+use crate::begin::{Chosen, chosen_of, first_replica, fresh_cells};
+use crate::cell::Cell;
+use crate::laws::value_laws;
+use std::alloc::{AllocError, Global};
+use std::marker::Model;
+use wl_node::Node;
+use wl_plan::Plan;
+use wl_record::Record;
+use wl_replica::Replica;
+use wl_topology::MOST_NODES;
+
+/// Some nodes of a plan, each of them as far as the line at its place is known, and what is known of all nodes.
+///
+/// A group runs its nodes without waiting for others: a node may run its next quantum where all that
+/// the line can have at its place by then is known (Chandy and Misra, 1979). Each member is where the
+/// one-thread simulation of the plan has it after as many quanta.
+#[derive(Drop)]
+pub struct Group {
+    pub(crate) alloc: Global,
+    pub(crate) plan: Plan,
+    pub(crate) cells: Vec<Option<Cell>>,
+    pub(crate) replica: Replica,
+    pub(crate) told: Vec<Record>,
+}
+
+impl Model for Group {
+    ghost use Rattle.wl_group.specs.GroupValue.{GroupValue};
+    ghost use Rattle.wl_group.specs.Stored.{coded_group};
+
+    ghost Value = { GroupValue };
+
+    ghost coded = { coded_group };
+
+    ghost use Rattle.wl_group.specs.Kept.{value_of, IsKept};
+
+    ghost view = { λ g. value_of g.plan g.cells.items g.replica g.told.items };
+
+    ghost invariant = { λ g. IsKept g.plan g.cells.items g.replica g.told.items };
+}
+
+impl Group {
+    ghost use Rattle.wl_record.specs.declared.record.Record.{Record};
+    ghost use Rattle.wl_replica.specs.State.{state_of, slots_of};
+    ghost use Rattle.wl_replica.specs.Slots.{HoldsTrue};
+    ghost use Rattle.wl_node.specs.Reached.{IsNode, setup_of, quanta_of};
+    ghost use Rattle.wl_plan.specs.Checked.{IsChecked};
+    ghost use Rattle.wl_plan.specs.PlanLine.{setup_at, line_of, table_of, IsTrueOfPlan};
+    ghost use Rattle.wl_group.specs.Party.{Party, begun, taking};
+    ghost use Rattle.wl_group.specs.Advanced.{can_advance};
+    ghost use Rattle.wl_group.specs.Member.{due};
+    ghost use Rattle.wl_group.specs.Chosen.{is_chosen};
+    ghost use Rattle.wl_group.specs.GroupValue.{IsGroupValue, Matches, belongs, quanta_at, members_of, names, begun_of, may_run, with_records, with_state};
+
+    /// A group of these nodes of a plan that passed its check, before their first quanta. It knows no
+    /// more than that each of them keeps its first drive up to its first quantum. A number that comes
+    /// twice counts once. Refused for want of memory alone.
+    pub fn new(alloc: Global, plan: &Plan, members: &[u8]) -> Result<Group, AllocError>
+        requires checked { IsChecked plan.now }
+        requires nodes { All (λ m. m < length plan.now.nodes) members.now }
+        ensures value { IfOk result (λ group. group ≡ begun_of plan.now (names members.now)) }
+        ensures begun { IfOk result (λ group. Matches (begun (line_of plan.now) (names members.now)) group) }
+        ensures plan { IfOk result (λ group. group.plan ≡ plan.now) }
+        ensures members { IfOk result (λ group. belongs group ≡ names members.now) }
+    {
+        value_laws();
+        let chosen = chosen_of(members);
+        let cells = fresh_cells(alloc, plan, &chosen)?;
+        let replica = first_replica(alloc, plan, &chosen)?;
+        Ok(Group {
+            alloc,
+            plan: plan.clone_in(alloc)?,
+            cells,
+            replica,
+            told: Vec::new(alloc),
+        })
+    }
+
+    /// Begins again: fresh nodes, and an empty replica that has taken the members' first silences.
+    /// Refused for want of memory, the group is as it was.
+    pub fn restart(&mut self) -> Result<(), AllocError>
+        ensures ok { OnOk result (self.new ≡ begun_of self.old.plan (belongs self.old)) }
+        ensures begun { OnOk result (Matches (begun (line_of self.old.plan) (belongs self.old)) self.new) }
+        ensures members { belongs self.new ≡ belongs self.old }
+        ensures err { OnErr result (self.new ≡ self.old) }
+    {
+        value_laws();
+        let chosen = self.chosen();
+        let cells = fresh_cells(self.alloc, &self.plan, &chosen)?;
+        let replica = first_replica(self.alloc, &self.plan, &chosen)?;
+        self.cells = cells;
+        self.replica = replica;
+        self.told.clear();
+        Ok(())
+    }
+
+    /// Takes a record that is true of the plan. Refused for want of memory, the group is as it was.
+    pub fn take(&mut self, told: Record) -> Result<(), AllocError>
+        requires { IsTrueOfPlan self.old.plan told }
+        ensures ok { OnOk result (self.new ≡ with_records (told ∷ []) self.old) }
+        ensures after { OnOk result ((p : Party) → Matches p self.old → Matches (taking (told ∷ []) p) self.new) }
+        ensures err { OnErr result (self.new ≡ self.old) }
+    {
+        value_laws();
+        self.replica.take(told)?;
+        Ok(())
+    }
+
+    /// Takes all that another replica of the plan's nodes knows, where that is true of the plan.
+    /// Refused for want of memory, the group is as it was.
+    pub fn join(&mut self, other: &Replica) -> Result<(), AllocError>
+        requires nodes { other.now.nodes ≡ length self.old.plan.nodes }
+        requires truth { HoldsTrue (length self.old.plan.nodes) (table_of self.old.plan) (slots_of other.now) }
+        ensures ok { OnOk result (self.new ≡ with_state other.now self.old) }
+        ensures after { OnOk result ((p : Party) (rs : List Record) → Matches p self.old → other.now ≡ state_of (length self.old.plan.nodes) rs → Matches (taking rs p) self.new) }
+        ensures err { OnErr result (self.new ≡ self.old) }
+    {
+        value_laws();
+        self.replica.join(other)?;
+        Ok(())
+    }
+
+    /// Whether node `i` is a member.
+    pub fn has(&self, i: u8) -> bool
+        ensures { result ≡ belongs self.now i }
+    {
+        (i as usize) < self.cells.len() && self.cells[i as usize].is_some()
+    }
+
+    /// Whether an advance of this node would run a quantum: it is a member, and its next quantum's
+    /// tick is below the end and below what is known of the line at its place. Any number may be asked.
+    pub fn can_advance(&self, node: u8) -> bool
+        ensures value { result ≡ may_run self.now node }
+        ensures party { (p : Party) → Matches p self.now → result ≡ can_advance (line_of self.now.plan) (belongs self.now) p node }
+    {
+        value_laws();
+        if !self.has(node) {
+            return false;
+        }
+        let due = self.due(node);
+        due < self.plan.end && due < self.replica.place_horizon(&self.plan.topology, node)
+    }
+
+    /// For each number that a node may have, whether it is a member.
+    fn chosen(&self) -> Chosen
+        ensures { (i : ℕ) → is_chosen result i ≡ belongs self.now i }
+    {
+        let mut chosen = [false; MOST_NODES];
+        for i in 0..16 {
+            chosen[i as usize] = self.has(i);
+        }
+        let _ = &self.plan;
+        chosen
+    }
+
+    /// The tick of a member's next quantum.
+    pub(crate) fn due(&self, node: u8) -> u64
+        requires { belongs self.now node ≡ true }
+        ensures { result ≡ due (line_of self.now.plan) node (members_of self.now node) }
+    {
+        value_laws();
+        wl_plan::simulation_laws();
+        let quanta = self.node(node).quanta();
+        self.plan.nodes.as_slice()[node as usize].clock.at(quanta)
+    }
+
+    /// What is known of all nodes. All of it is true of the plan.
+    pub fn replica(&self) -> &Replica
+        ensures value { result.now ≡ self.now.replica }
+        ensures holds { IsGroupValue self.now }
+    {
+        &self.replica
+    }
+
+    /// A member's node. It is where the one-thread simulation has it after as many quanta.
+    pub fn node(&self, i: u8) -> &Node
+        requires { belongs self.now i ≡ true }
+        ensures node { IsNode (members_of self.now i).saw result.now }
+        ensures setup { setup_of result.now ≡ setup_at self.now.plan i }
+        ensures quanta { quanta_at self.now i ≡ Some (quanta_of result.now) }
+        ensures holds { IsGroupValue self.now }
+    {
+        match &self.cells[i as usize] {
+            Some(cell) => &cell.node,
+            None => unreachable!(),
+        }
+    }
+
+    /// What the group's advances have emitted since it began or began again, in order. Each record
+    /// is true of the plan.
+    pub fn emitted(&self) -> &[Record]
+        ensures value { result.now ≡ self.now.told }
+        ensures holds { IsGroupValue self.now }
+    {
+        &self.told
+    }
+
+    /// The plan whose nodes these are.
+    pub fn plan(&self) -> &Plan
+        ensures value { result.now ≡ self.now.plan }
+        ensures holds { IsGroupValue self.now }
+    {
+        &self.plan
+    }
+}
