@@ -3,4 +3,6 @@ mod WorldProofs
 mod NoStallProofs
 mod SettlingProofs
 mod RoundProofs
+mod RunProofs
+mod WorldValueProofs
 mod Rows

@@ -2,3 +2,5 @@ pub mod Headline
 pub mod Scene
 pub mod Settling
 pub mod Steps
+pub mod Stored
+pub mod WorldValue

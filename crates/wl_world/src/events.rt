@@ -22,3 +22,10 @@ pub enum Answer {
     /// It was not possible, and changed nothing.
     Idle,
 }
+
+/// A run that ended for want of memory. The world is as the first `done` events left it.
+#[derive(Clone, Copy, Debug, PartialEq, Eq)]
+pub struct Stopped {
+    /// How many events were handled, those that were not possible too.
+    pub done: usize,
+}

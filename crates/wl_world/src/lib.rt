@@ -4,9 +4,13 @@
 ghost use Rattle.wl_world.specs.Headline.{Headline, NoStall};
 ghost use Rattle.wl_world.specs.Settling.{SettlingLaws};
 
+mod begin;
 mod events;
+mod steps;
+mod world;
 
-pub use events::{Answer, Event};
+pub use events::{Answer, Event, Stopped};
+pub use world::World;
 
 /// Whatever the groups do, in whatever order records come, repeated or late, whoever joins or
 /// restarts: every emitted record is true, replicas that took the same records are equal, and

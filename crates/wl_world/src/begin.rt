@@ -1,0 +1,73 @@
+//! What a world begins with.
+ghost use Rattle.std.specs.Prelude.{◌≡◌, ◌<◌, true, [], length, IfOk};
+ghost use Rattle.wl_record.specs.declared.record.Record.TheVariants.{Silence};
+ghost use Rattle.wl_plan.specs.Line.{reach};
+ghost use Rattle.wl_plan.specs.Checked.{IsChecked};
+ghost use Rattle.wl_plan.specs.Groupings.{IsGrouping, groups_of};
+ghost use Rattle.wl_plan.specs.PlanLine.{line_of};
+ghost use Rattle.wl_group.specs.GroupValue.{Matches, belongs as has};
+ghost use Rattle.wl_group.specs.Party.{begun, firsts};
+ghost use Rattle.wl_world.specs.Scene.{belongs};
+ghost use Rattle.wl_world.specs.WorldValue.{cast_of, AreFirst};
+
+use std::alloc::{AllocError, Global};
+use wl_group::Group;
+use wl_plan::{Grouping, Plan};
+use wl_record::Record;
+
+/// The groups of a grouping, each before the first quanta of its nodes.
+pub(crate) fn first_groups(
+    alloc: Global,
+    plan: &Plan,
+    grouping: &Grouping,
+) -> Result<Vec<Group>, AllocError>
+    requires checked { IsChecked plan.now }
+    requires grouping { IsGrouping (length plan.now.nodes) grouping.now }
+    ensures count { IfOk result (λ groups. length groups.items ≡ groups_of grouping.now) }
+    ensures first { IfOk result (λ groups. AreFirst plan.now grouping.now groups.items) }
+{
+    let mut groups = Vec::new(alloc);
+    for h in 0..grouping.groups() {
+        groups.push(first_group(alloc, plan, grouping, h)?)?;
+    }
+    Ok(groups)
+}
+
+/// Group `h` of a grouping, before the first quanta of its nodes.
+fn first_group(alloc: Global, plan: &Plan, grouping: &Grouping, h: u8) -> Result<Group, AllocError>
+    requires checked { IsChecked plan.now }
+    requires grouping { IsGrouping (length plan.now.nodes) grouping.now }
+    requires group { h < 16 }
+    ensures plan { IfOk result (λ group. group.plan ≡ plan.now) }
+    ensures members { IfOk result (λ group. has group ≡ belongs (cast_of grouping.now) h) }
+    ensures begun { IfOk result (λ group. Matches (begun (line_of plan.now) (belongs (cast_of grouping.now) h)) group) }
+{
+    wl_plan::grouping_laws();
+    let members = grouping.members(alloc, h)?;
+    Group::new(alloc, plan, members.as_slice())
+}
+
+/// The first silence of each node: that it keeps its first drive up to its first quantum.
+pub(crate) fn first_records(alloc: Global, plan: &Plan) -> Result<Vec<Record>, AllocError>
+    requires { IsChecked plan.now }
+    ensures { IfOk result (λ records. records.items ≡ firsts (line_of plan.now) (λ i. true) (length plan.now.nodes)) }
+{
+    let mut records = Vec::new(alloc);
+    for i in 0..plan.topology.nodes() {
+        records.push(first_record(plan, i))?;
+    }
+    Ok(records)
+}
+
+/// The first silence of node `i`.
+fn first_record(plan: &Plan, i: u8) -> Record
+    requires checked { IsChecked plan.now }
+    requires node { i < length plan.now.nodes }
+    ensures { result ≡ Silence i 0 (reach (line_of plan.now) i []) }
+{
+    Record::Silence {
+        node: i,
+        count: 0,
+        until: plan.nodes.as_slice()[i as usize].clock.at(0),
+    }
+}

@@ -1,0 +1,174 @@
+//! The events of a world, one at a time and in lists.
+ghost use Rattle.std.specs.Prelude.{◌≡◌, ◌+◌, ◌<◌, ◌≤◌, ◌++◌, [], ◌∷◌, length, IfOk, OnOk, IfErr, OnErr, vec_len, vec_capacity};
+
+use crate::events::{Answer, Event, Stopped};
+use crate::headline;
+use crate::world::World;
+use std::alloc::{AllocError, Global};
+use wl_group::Advance;
+use wl_record::Record;
+
+/// The most records that one advance emits.
+const MOST_EMITTED: usize = 2;
+
+impl World {
+    ghost use Rattle.std.specs.Prelude.{take};
+    ghost use Rattle.wl_plan.specs.PlanLine.{line_of};
+    ghost use Rattle.wl_world.specs.declared.events.Event.TheVariants as events;
+    ghost use Rattle.wl_world.specs.Steps.{HasStepped, HasRun, HasStopped, IsFaithfulAfter};
+    ghost use Rattle.wl_world.specs.WorldValue.{IsAt, cast_of, IsWorldValue};
+
+    /// Handles events in order, and answers for each whether it was possible; one that is not changes
+    /// nothing. Refused for want of memory, the world is as the first `done` events left it.
+    pub fn run(&mut self, alloc: Global, events: &[Event]) -> Result<Vec<Answer>, Stopped>
+        ensures ok { IfOk result (λ told. HasRun IsAt (line_of self.old.plan) (cast_of self.old.numbers) events.now self.old self.new told.items) }
+        ensures stopped { IfErr result (λ s. HasStopped IsAt (line_of self.old.plan) (cast_of self.old.numbers) events.now self.old self.new s.done) }
+        ensures faithful { OnOk result (IsFaithfulAfter IsAt (line_of self.old.plan) (cast_of self.old.numbers) events.now self.old) }
+        ensures faithful_stopped { IfErr result (λ s. IsFaithfulAfter IsAt (line_of self.old.plan) (cast_of self.old.numbers) (take s.done events.now) self.old) }
+        ensures plan { self.new.plan ≡ self.old.plan }
+        ensures grouping { self.new.numbers ≡ self.old.numbers }
+    {
+        headline();
+        wl_plan::checked_is_sound();
+        let _ = &self.plan;
+        self.handle(alloc, events)
+    }
+
+    /// Handles events in order.
+    fn handle(&mut self, alloc: Global, events: &[Event]) -> Result<Vec<Answer>, Stopped>
+        ensures ok { IfOk result (λ told. HasRun IsAt (line_of self.old.plan) (cast_of self.old.numbers) events.now self.old self.new told.items) }
+        ensures stopped { IfErr result (λ s. HasStopped IsAt (line_of self.old.plan) (cast_of self.old.numbers) events.now self.old self.new s.done) }
+        ensures plan { self.new.plan ≡ self.old.plan }
+        ensures grouping { self.new.numbers ≡ self.old.numbers }
+    {
+        let mut told = Vec::new(alloc);
+        if events.is_empty() {
+            return Ok(told);
+        }
+        match told.reserve(events.len()) {
+            Ok(()) => {}
+            Err(_) => return Err(Stopped { done: 0 }),
+        }
+        for (i, event) in events.iter().enumerate() {
+            match self.step(*event) {
+                Ok(answer) => push_within(&mut told, answer),
+                Err(_) => return Err(Stopped { done: i }),
+            }
+        }
+        Ok(told)
+    }
+
+    /// Handles one event. Refused for want of memory, the world is as it was.
+    fn step(&mut self, event: Event) -> Result<Answer, AllocError>
+        ensures ok { IfOk result (λ a. HasStepped IsAt (line_of self.old.plan) (cast_of self.old.numbers) event self.old self.new a) }
+        ensures err { OnErr result (self.new ≡ self.old) }
+        ensures plan { self.new.plan ≡ self.old.plan }
+        ensures grouping { self.new.numbers ≡ self.old.numbers }
+    {
+        match event {
+            Event::Advance(group, node) => self.advance(group, node),
+            Event::Deliver(group, number) => self.deliver(group, number),
+            Event::Join(group, other) => self.join(group, other),
+            Event::Restart(group) => self.restart(group),
+        }
+    }
+
+    /// A group runs the next quantum of its node, and what it emits is kept.
+    fn advance(&mut self, group: u8, node: u8) -> Result<Answer, AllocError>
+        ensures ok { IfOk result (λ a. HasStepped IsAt (line_of self.old.plan) (cast_of self.old.numbers) (events.Advance group node) self.old self.new a) }
+        ensures err { OnErr result (self.new ≡ self.old) }
+        ensures plan { self.new.plan ≡ self.old.plan }
+        ensures grouping { self.new.numbers ≡ self.old.numbers }
+    {
+        wl_plan::grouping_laws();
+        wl_group::advance_laws();
+        if group as usize >= self.groups.len() {
+            return Ok(Answer::Idle);
+        }
+        self.emitted.reserve(MOST_EMITTED)?;
+        let runner = &mut self.groups[group as usize];
+        match runner.advance(node)? {
+            Advance::Emitted(emission) => {
+                append(&mut self.emitted, &emission);
+                Ok(Answer::Done)
+            }
+            Advance::Blocked => Ok(Answer::Idle),
+            Advance::Ended => Ok(Answer::Idle),
+        }
+    }
+
+    /// A group takes an emitted record.
+    fn deliver(&mut self, group: u8, number: u64) -> Result<Answer, AllocError>
+        ensures ok { IfOk result (λ a. HasStepped IsAt (line_of self.old.plan) (cast_of self.old.numbers) (events.Deliver group number) self.old self.new a) }
+        ensures err { OnErr result (self.new ≡ self.old) }
+        ensures plan { self.new.plan ≡ self.old.plan }
+        ensures grouping { self.new.numbers ≡ self.old.numbers }
+    {
+        headline();
+        wl_plan::checked_is_sound();
+        if group as usize >= self.groups.len() || number >= self.emitted.len() as u64 {
+            return Ok(Answer::Idle);
+        }
+        let told = self.emitted[number as usize];
+        let taker = &mut self.groups[group as usize];
+        taker.take(told)?;
+        Ok(Answer::Done)
+    }
+
+    /// A group takes all that another has taken.
+    fn join(&mut self, group: u8, other: u8) -> Result<Answer, AllocError>
+        ensures ok { IfOk result (λ a. HasStepped IsAt (line_of self.old.plan) (cast_of self.old.numbers) (events.Join group other) self.old self.new a) }
+        ensures err { OnErr result (self.new ≡ self.old) }
+        ensures plan { self.new.plan ≡ self.old.plan }
+        ensures grouping { self.new.numbers ≡ self.old.numbers }
+    {
+        if group as usize >= self.groups.len() || other as usize >= self.groups.len() {
+            return Ok(Answer::Idle);
+        }
+        let alloc = self.alloc;
+        let giver = &self.groups[other as usize];
+        let given = giver.replica().clone_in(alloc)?;
+        let taker = &mut self.groups[group as usize];
+        taker.join(&given)?;
+        Ok(Answer::Done)
+    }
+
+    /// A group begins again.
+    fn restart(&mut self, group: u8) -> Result<Answer, AllocError>
+        ensures ok { IfOk result (λ a. HasStepped IsAt (line_of self.old.plan) (cast_of self.old.numbers) (events.Restart group) self.old self.new a) }
+        ensures err { OnErr result (self.new ≡ self.old) }
+        ensures plan { self.new.plan ≡ self.old.plan }
+        ensures grouping { self.new.numbers ≡ self.old.numbers }
+    {
+        if group as usize >= self.groups.len() {
+            return Ok(Answer::Idle);
+        }
+        let again = &mut self.groups[group as usize];
+        again.restart()?;
+        Ok(Answer::Done)
+    }
+}
+
+/// Appends records for which there is room.
+fn append(emitted: &mut Vec<Record>, more: &[Record])
+    requires { vec_len emitted.old + length more.now ≤ vec_capacity emitted.old }
+    ensures { emitted.new.items ≡ emitted.old.items ++ more.now }
+{
+    match emitted.extend_from_slice(more) {
+        Ok(()) => {}
+        Err(_) => unreachable!(),
+    }
+}
+
+/// Adds an answer, for which there is room.
+fn push_within(told: &mut Vec<Answer>, answer: Answer)
+    requires { vec_len told.old < vec_capacity told.old }
+    ensures items { told.new.items ≡ told.old.items ++ answer ∷ [] }
+    ensures len { vec_len told.new ≡ vec_len told.old + 1 }
+    ensures capacity { vec_capacity told.old ≤ vec_capacity told.new }
+{
+    match told.push(answer) {
+        Ok(()) => {}
+        Err(_) => unreachable!(),
+    }
+}

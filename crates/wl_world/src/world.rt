@@ -1,0 +1,88 @@
+//! All groups of a plan together.
+ghost use Rattle.std.specs.Prelude.{◌≡◌, ◌<◌, length, IfOk, Some, slice_get};
+
+use crate::begin::{first_groups, first_records};
+use std::alloc::{AllocError, Global};
+use std::marker::Model;
+use wl_group::Group;
+use wl_plan::{Grouping, Plan};
+use wl_record::Record;
+
+/// The groups of a grouping of a plan's nodes, and all records that they ever emitted.
+///
+/// Every world is a scene of the machine of groups: some events led to it. So in every world all that
+/// was emitted is true, and each node is where the one-thread simulation has it.
+#[derive(Drop)]
+pub struct World {
+    pub(crate) alloc: Global,
+    pub(crate) plan: Plan,
+    pub(crate) grouping: Grouping,
+    pub(crate) groups: Vec<Group>,
+    pub(crate) emitted: Vec<Record>,
+}
+
+impl Model for World {
+    ghost use Rattle.wl_world.specs.WorldValue.{WorldValue, value_of, IsWorldValue};
+
+    ghost Value = { WorldValue };
+
+    ghost use Rattle.wl_world.specs.Stored.{coded_world};
+
+    ghost coded = { coded_world };
+
+    ghost view = { λ w. value_of w.plan w.grouping w.groups.items w.emitted.items };
+
+    ghost invariant = { λ w. IsWorldValue (value_of w.plan w.grouping w.groups.items w.emitted.items) };
+}
+
+impl World {
+    ghost use Rattle.wl_plan.specs.Checked.{IsChecked};
+    ghost use Rattle.wl_plan.specs.PlanLine.{line_of};
+    ghost use Rattle.wl_world.specs.Steps.{HasStarted};
+    ghost use Rattle.wl_world.specs.WorldValue.{IsAt, IsWorldValue, cast_of};
+
+    /// The world of a plan that passed its check and a grouping of its nodes, before the first quanta:
+    /// the first silence of each node is emitted, in the order of the nodes, and each group has taken
+    /// those of its members. Refused for want of memory alone.
+    pub fn new(alloc: Global, plan: Plan, grouping: Grouping) -> Result<World, AllocError>
+        requires checked { IsChecked plan }
+        requires grouping { length grouping ≡ length plan.nodes }
+        ensures started { IfOk result (λ world. HasStarted IsAt (line_of plan) (cast_of grouping) world) }
+        ensures plan { IfOk result (λ world. world.plan ≡ plan) }
+        ensures grouping { IfOk result (λ world. world.numbers ≡ grouping) }
+    {
+        let groups = first_groups(alloc, &plan, &grouping)?;
+        let emitted = first_records(alloc, &plan)?;
+        Ok(World {
+            alloc,
+            plan,
+            grouping,
+            groups,
+            emitted,
+        })
+    }
+
+    /// How many groups there are, those without nodes too.
+    pub fn groups(&self) -> usize
+        ensures { result ≡ length self.now.groups }
+    {
+        self.groups.len()
+    }
+
+    /// A group, as it is by now.
+    pub fn group(&self, g: u8) -> &Group
+        requires { g < length self.now.groups }
+        ensures group { slice_get self.now.groups g ≡ Some result.now }
+        ensures holds { IsWorldValue self.now }
+    {
+        &self.groups[g as usize]
+    }
+
+    /// All records that were ever emitted, the oldest first. Each of them is true of the plan.
+    pub fn emitted(&self) -> &[Record]
+        ensures value { result.now ≡ self.now.emitted }
+        ensures holds { IsWorldValue self.now }
+    {
+        &self.emitted
+    }
+}
