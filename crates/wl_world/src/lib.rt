@@ -46,3 +46,6 @@ pub fn settling_laws()
     wl_replica::known_laws();
     wl_group::group_laws();
 }
+
+#[cfg(test)]
+mod tests;
