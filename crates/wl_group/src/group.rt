@@ -97,7 +97,7 @@ impl Group {
         Ok(())
     }
 
-    /// Takes a record that is true of the plan. Refused for want of memory, the group is as it was.
+    /// Takes a record that is true of the plan, as what its groups emit is. Refused for want of memory, the group is as it was.
     pub fn take(&mut self, told: Record) -> Result<(), AllocError>
         requires { IsTrueOfPlan self.old.plan told }
         ensures ok { OnOk result (self.new ≡ with_records (told ∷ []) self.old) }
@@ -152,6 +152,7 @@ impl Group {
         for i in 0..16 {
             chosen[i as usize] = self.has(i);
         }
+        // (reading a part gives the proof what the type keeps)
         let _ = &self.plan;
         chosen
     }

@@ -30,6 +30,7 @@ impl World {
     {
         headline();
         wl_plan::checked_is_sound();
+        // (reading a part gives the proof what the type keeps)
         let _ = &self.plan;
         self.handle(alloc, events)
     }

@@ -11,7 +11,7 @@ use wl_record::Record;
 /// The groups of a grouping of a plan's nodes, and all records that they ever emitted.
 ///
 /// Every world is a scene of the machine of groups: some events led to it. So in every world all that
-/// was emitted is true, and each node is where the one-thread simulation has it.
+/// was emitted is true, and each node is where the one-thread simulation has it (Chandy and Misra, 1979).
 #[derive(Drop)]
 pub struct World {
     pub(crate) alloc: Global,
@@ -69,7 +69,7 @@ impl World {
         self.groups.len()
     }
 
-    /// A group, as it is by now.
+    /// A group, as it is by now: `g` counts from 0 and is below `groups`.
     pub fn group(&self, g: u8) -> &Group
         requires { g < length self.now.groups }
         ensures group { slice_get self.now.groups g ≡ Some result.now }
