@@ -47,6 +47,8 @@ off                  r  Recovered                     waiting|sending
 s-SOF|s-identifier|s-RTR|s-stuff<RTR|s-stuff>RTR|s-control|s-data|s-CRC  d  Nothing  sending
 s-identifier|s-RTR|s-stuff<RTR|s-stuff>RTR|s-control|s-data|s-CRC  r  Nothing  sending
 s-identifier|s-RTR   d  Nothing                       receiving
+s-SRR|s-IDE          r  Nothing                       sending
+s-SRR|s-IDE          d  Nothing                       receiving
 s-SOF|s-identifier|s-RTR|s-stuff<RTR|s-stuff>RTR|s-control|s-data|s-CRC  r  TxError_Bit  active|passive
 s-stuff<RTR          d  TxFree                        active|passive
 s-stuff>RTR|s-control|s-data|s-CRC|s-CRC_delimiter|s-ACK_delimiter|s-EOF_1-6|s-EOF_7  d  TxError_Bit  active|passive
@@ -94,8 +96,8 @@ def rows_of(text):
 
 
 FAULTS = """
-Toml Version Missing Kind Unknown SameName Size ZeroDen TooFast TooSlow BigOffset BigDen BadPpm Prop Phase1 Phase2 Jump Length
-Id Dlc DataLength NoNodes TooManyNodes ZeroDelay TooLong End Quanta Queue Disturbance Line Range Truncated TooLong
+Toml Version Missing Kind Unknown SameName Size ZeroDen TooFast TooSlow BigOffset BigDen BadPpm NoRates TooManyRates RateOrder BadFrom Prop Phase1 Phase2 Jump Length
+Id Dlc DataLength ExtendedId NoNodes TooManyNodes ZeroDelay TooLong End Quanta Queue Disturbance Line Range Truncated TooLong
 """
 ALL_ROWS = rows_of(ROWS) | rows_of(COUNTER_ROWS) | rows_of(CLOCK_ROWS)
 reached = Counter()
@@ -105,11 +107,9 @@ class CountedMachine(plain.Machine):
     def where(self):
         if self.state == "sending":
             place = self.line[self.count][1]
-            if place is None: return "s-stuff<RTR" if len(self.bits) <= 12 else "s-stuff>RTR"
+            if place is None: return "s-stuff<RTR" if len(self.bits) <= self.rtr else "s-stuff>RTR"
             if type(place) is str: return "s-" + ending_word(place)
-            if place < 13: return "s-SOF" if place == 0 else "s-identifier" if place < 12 else "s-RTR"
-            last = len(self.frame.bits()) - 15
-            return "s-control" if place < 19 and place < last else "s-data" if place < last else "s-CRC"
+            return "s-CRC" if place >= len(self.frame.bits()) - 15 else "s-" + field_of(place, self.frame.extended)
         if self.state == "ending": return ("right-" if self.crc_right else "wrong-") + ending_word(plain.ENDING[self.count])
         if self.state == "intermission": return f"intermission {self.count + 1}"
         if self.state == "wait": return "wait-" + self.flag_kind
@@ -186,6 +186,10 @@ def random_frame(rng, ids, bits):
     dlc = rng.choice([0, 0, 1, 1, 2, 3, 4, 8, rng.randint(0, 15)])
     frame = {"id": rng.choice(ids), "dlc": dlc}
     if remote: frame["remote"] = True
+    if rng.random() < 0.4:
+        tail = rng.choice([0, 2**18 - 1, 1 << rng.randrange(18), rng.randrange(2**18)])
+        frame |= {"id": frame["id"] << 18 | tail, "extended": True}
+    elif rng.random() < 0.1: frame["extended"] = False
     size = 0 if remote else min(dlc, 8)
     data = rng.choice([[0] * size, [255] * size, [0x3C] * size, [rng.randrange(256) for _ in range(size)]])
     if data or rng.random() < 0.2: frame["bytes"] = data
@@ -226,7 +230,24 @@ def random_plan(rng):
     if style in ("supported", "ghost") or style == "off" and many == 1: disturbances = spelled(rng, style, nodes, common, quanta, base, ids)
     plan = {"version": 1, "end": end, "per": per, "node": nodes}
     if disturbances: plan["disturbance"] = disturbances[:64]
+    if rng.random() < 0.4: change_rates(rng, plan, base, drift if style not in ("supported", "ghost") else 0, bits * quanta)
     return plan
+
+
+def change_rates(rng, plan, base, drift, quanta):
+    """Makes a plan one of version 2: its clocks' rates, and more of them from later quanta on."""
+    plan["version"] = 2
+    for node in plan["node"]:
+        first = {"from": 0} | {key: node.pop(key) for key in ("num", "den", "quantum", "ppm") if key in node}
+        many = rng.choice([0, 0, 1, 1, 2, 3, 15]) if drift or rng.random() < 0.2 else 0
+        starts = sorted({rng.choice([rng.randint(1, quanta + 9), rng.randint(1, 200), 2**20]) for _ in range(many)})
+        node["rates"] = [first] + [{"from": start} | random_clock(rng, base, drift) for start in starts]
+
+
+def clocks_of(plan):
+    """The tables that have the clock keys."""
+    nodes = plan["node"] if is_tables(plan.get("node")) else []
+    return [table for node in nodes for table in (node["rates"] if is_tables(node.get("rates")) else [node])]
 
 
 def random_out(rng, style, base, bit):
@@ -250,10 +271,10 @@ def spelled(rng, style, nodes, segments, quanta, base, ids):
     node, frame, bit = nodes[0], random_frame(rng, ids, 0) | {"ready": 0}, quanta * base
     if rng.random() < 0.5:
         data = [rng.choice([0xA5, 255]), 255, rng.randrange(256)]
-        frame = {"id": rng.choice([frame["id"], 0x7FF, 0x7C1]), "dlc": 3, "bytes": data}
+        frame = {"id": rng.choice([*ids, 0x7FF, 0x7C1]), "dlc": 3, "bytes": data}
     node.pop("quantum", None), node.pop("ppm", None)
     node.update(segments, offset=0, num=base, den=1, out=0 if style == "off" else min(2**18, 600 * bit), frame=[frame], **{"in": 1})
-    bits = plain.Frame(frame["id"], frame.get("remote", False), frame["dlc"], bytes(frame.get("bytes", []))).bits()
+    bits = plain.table_frame(frame).bits()
     first = 11 + rng.choice([0, 62])
     if style == "ghost":
         node["frame"] = rng.choice([[], [{"id": 1, "dlc": 0}], [{"id": 1, "dlc": 0}]])
@@ -265,17 +286,19 @@ def spelled(rng, style, nodes, segments, quanta, base, ids):
     ends = ["intermission", *plain.ENDING]
     inner = ["SOF", "identifier", "RTR", "control", "data", "data", "stuff", "stuff", "stuff"]
     field = rng.choice({"off": ["intermission"], "ghost": ["data", *ends], "supported": inner * 2 + ends}[style])
-    places = [n for n, (level, place) in enumerate(line) if field_of(place) == field and (level == 0 or type(place) is str)] or [len(line) - 1]
+    places = [n for n, (level, place) in enumerate(line) if field_of(place, frame.get("extended", False)) == field and (level == 0 or type(place) is str)] or [len(line) - 1]
     upto, hit = rng.choice(places), {"off": 280, "ghost": rng.choice([1, 1, 9, 20])}.get(style, int(field in ends))
     said = [(first + n, first + n + 1) for n, (level, _) in enumerate(line[:upto]) if level == 0]
     if hit: said.append((first + upto, first + upto + hit))
     return [{"x": node["x"], "from": start * bit, "to": end * bit} for start, end in said[-64:] if end * bit <= 2**36]
 
 
-def field_of(place):
+def field_of(place, extended):
     if place is None: return "stuff"
     if type(place) is str: return place.rstrip(" 123") if place.startswith("inter") else place
-    return "SOF" if place == 0 else "identifier" if place < 12 else "RTR" if place == 12 else "control" if place < 19 else "data"
+    if extended and place in (12, 13): return "SRR" if place == 12 else "IDE"
+    rtr, end = plain.header(extended)
+    return "SOF" if place == 0 else "identifier" if place < rtr else "RTR" if place == rtr else "control" if place < end else "data"
 
 
 # ---- Texts of tables, and what can be wrong with them
@@ -305,14 +328,14 @@ def toml_text(table, inline, path=""):
     return "\n".join(lines).replace("\x01", "")
 
 
-ODD_KEYS = ["a", "zz", "A", "é", "ppm", "num", "den", "quantum", "frame", "bytes", "rates", "a.b", "-"]
+ODD_KEYS = ["a", "zz", "A", "é", "ppm", "num", "den", "quantum", "frame", "bytes", "extended", "rates", "a.b", "-"]
 ODD_VALUES = [-1, 0, 1, 2**31 - 1, 2**31, 2**36, 2**36 + 1, 2**48 - 1, 2**48, 2**63 - 1, 2**63, -2**63, -2**63 - 1, 1.0, True, False, "", "a", "a b",
               "n0", "é", "a" * 32, "a" * 33, [], [0], [256], [-1], [True], [1.5], [[]], {}, [{}], [1, {}], {"id": 0}, "\x010x10", "\x011_000",
               "\x01+5", "\x01-0", "\x011e3", "\x01inf", "\x012026-11-22", "\x0107:32:00", "\x010b11", "\x01'n0'", "\x0101"]
 RANGES = {"num": [0, 1, 99, 2**20, 2**40, 2**48 - 1], "den": [0, 1, 7, 1_000_000, 1_000_001], "offset": [2**20, 2**20 + 1],
           "quantum": [0, 1, 2**20, 2**20 + 1], "ppm": [-10**9, -10**9 - 1, 10**9, 10**9 + 1, 100_000, 100_001, -100_000, -100_001],
-          "prop": [0, 1, 8, 9], "ps1": [0, 1, 8, 9], "ps2": [1, 2, 8, 9], "sjw": [0, 1, 4, 5], "id": [0x7FF, 0x800], "dlc": [0, 8, 9, 15, 16],
-          "bytes": [[], [0], [0] * 8, [255] * 9], "in": [0, 2**20, 2**20 + 1], "out": [0, 2**20], "x": [0, 2**31 - 1, 2**20], "version": [0, 1, 2],
+          "prop": [0, 1, 8, 9], "ps1": [0, 1, 8, 9], "ps2": [1, 2, 8, 9], "sjw": [0, 1, 4, 5], "id": [0x7FF, 0x800, 0x1FFFFFFF, 0x20000000], "dlc": [0, 8, 9, 15, 16],
+          "bytes": [[], [0], [0] * 8, [255] * 9], "in": [0, 2**20, 2**20 + 1], "out": [0, 2**20], "x": [0, 2**31 - 1, 2**20], "version": [0, 1, 2, 3],
           "end": [0, 1, 2**36, 2**36 + 1], "per": [0, 1, 2**20, 2**48 - 1], "to": [0, 2**36, 2**36 + 1], "from": [0, 2**36, 2**37],
           "name": ["n0", "n1", "N_-9"]}
 
@@ -321,13 +344,22 @@ SPECIAL = [{"prop": 1, "ps1": 1, "ps2": 2, "sjw": 1}, {"prop": 1, "ps1": 2, "ps2
            {"ps1": 3, "sjw": 4}, {"ps2": 1}, {"ps2": 9}, {"ps1": 9}, {"x": 2**31 - 1, "in": 1}]
 
 
+ONE = {"from": 0, "num": 100, "den": 1}
+SPECIAL_RATES = [[], [ONE] * 2, [ONE, ONE | {"from": 2**20}], [ONE, ONE | {"from": 2**20 + 1}], [ONE | {"from": 1}], [ONE | {"from": 5 * n} for n in range(16)],
+                 [ONE | {"from": 5 * n} for n in range(17)], [ONE, ONE | {"from": 9}, ONE | {"from": 5}], [ONE, {"from": 5, "num": 1, "den": 2}],
+                 [{"from": 5, "quantum": 100, "ppm": 100_001}, ONE | {"den": 0}], [ONE | {"num": 99, "den": 100}, ONE | {"from": 2, "num": 3, "den": 0}],
+                 [ONE | {"num": 10**9, "den": 1_000_001}], [ONE | {"num": 2**20 * 7 + 1, "den": 7}], [{"from": 0, "quantum": 100, "ppm": -100_000}, ONE | {"from": 3}]]
+
+
 def spoil(rng, plan):
     """Makes one change to a plan's tables that is mostly wrong."""
     nodes = plan["node"] if is_tables(plan.get("node")) else []
     frames = [frame for node in nodes for frame in node.get("frame", []) if type(frame) is dict] if all(
         type(node.get("frame", [])) is list for node in nodes) else []
     disturbances = plan.get("disturbance") if is_tables(plan.get("disturbance")) else []
-    table = rng.choice([plan] + [rng.choice(some) for some in (nodes, nodes, frames, disturbances) if some])
+    clocks = clocks_of(plan)
+    rates = clocks if plan.get("version") == 2 else []
+    table = rng.choice([plan] + [rng.choice(some) for some in (nodes, nodes, frames, disturbances, rates, rates) if some])
     key = rng.choice(list(table) or ["a"])
     way = rng.randrange(18)
     if way == 0: table.pop(key, None)
@@ -338,9 +370,16 @@ def spoil(rng, plan):
     elif way == 4 and nodes: plan["node"] = [dict(nodes[i % len(nodes)], name=f"m{i}") for i in range(rng.choice([16, 17, 18]))]
     elif way == 5 and nodes: nodes[-1]["frame"] = [{"id": 1, "dlc": 0}] * rng.choice([64, 65])
     elif way == 6: plan["disturbance"] = [{"x": 0, "from": 1, "to": 2}] * rng.choice([64, 65]) + rng.choice([[], [{"x": 0, "from": 2, "to": 2}]])
-    elif way == 9 and nodes: rng.choice(nodes).update(rng.choice(SPECIAL))
+    elif way == 9 and nodes and not rates: rng.choice(nodes).update(rng.choice(SPECIAL))
+    elif way == 9 and nodes: rng.choice(nodes).update(rates=rng.choice(SPECIAL_RATES))
+    elif way == 10 and rates: table["from"] = rng.choice([0, 0, 1, 2**20, 2**20 + 1])
     elif way == 7 and nodes: rng.choice(nodes).update(out=0, **{"in": 0})
-    elif way == 8 and nodes: plan.update(end=rng.choice([65_535, 65_536, 65_537]) * 100 + 1), rng.choice(nodes).update(offset=0, num=100, den=1)
+    elif way == 8 and nodes:  # the greatest number of quanta takes half a minute here
+        plan["end"] = rng.choice([1_048_576] + [1_048_577] * 15) * 100
+        one = rng.choice(nodes)
+        one["offset"] = 0
+        if rates: one["rates"] = [{"from": 0, "num": 100, "den": 1}]
+        else: one.update(num=100, den=1)
     elif (picked := [one for one in table if one in RANGES]): table.update({(key := rng.choice(picked)): rng.choice(RANGES[key])})
 
 
@@ -348,7 +387,7 @@ def plan_input(rng):
     plan = random_plan(rng)
     kind = rng.random()
     if kind < 0.65: return toml_text(plan, rng.random() < 0.2).encode() + b"\n"
-    plan["end"] = min(plan["end"], plan["node"][0].get("num", 10**12) * 200)
+    plan["end"] = min(plan["end"], clocks_of(plan)[0].get("num", 10**12) * 200)
     for _ in range(rng.choice([1, 1, 2, 3, 8])): spoil(rng, plan)
     if kind < 0.9: return toml_text(plan, rng.random() < 0.5).encode()
     text = bytearray(toml_text(plan, False).encode())
@@ -365,7 +404,7 @@ def plan_input(rng):
 
 
 def record_input(rng):
-    nodes, seqs = rng.choice([1, 2, 16, 16]), rng.choice([3, 8, 40, 65_536])
+    nodes, seqs = rng.choice([1, 2, 16, 16]), rng.choice([3, 8, 40, 262_145])
     lines = wave_lines(rng) if rng.random() < 0.5 else []
     for _ in range(rng.choice([0, 1, 3, 10, 60, 400])):
         node, number = rng.randrange(nodes), min(rng.randrange(seqs), rng.randrange(seqs))
@@ -399,10 +438,10 @@ def wave_lines(rng):
     return lines
 
 
-EDGE_LINES = ["E 15 65535 281474976710655", "S 15 65536 281474976710655", "S 0 0 0", "S 3 0 0", "E 3 0 0", "E 0 0 0", "S 0 65536 1", "C 15 65535"]
+EDGE_LINES = ["E 15 262144 281474976710655", "S 15 262145 281474976710655", "S 0 0 0", "S 3 0 0", "E 3 0 0", "E 0 0 0", "S 0 262145 1", "C 15 262144"]
 BAD_LINES = ["", " ", "E", "E 0 0", "E 0 0 ", "E 0 0 05", "E 00 0 5", "E 0 0 5 ", " E 0 0 5", "E 0 0 5\r", "E  0 0 5", "E 0 0 -5", "E 0 0 +5", "e 0 0 5",
-             "C 0 0 5", "C 0", "S 0 0", "D 0 1 2", "E 16 0 5", "E 0 65536 5", "E 0 0 281474976710656", "S 0 65537 1", "S 16 0 1",
-             "S 0 0 281474976710656", "C 16 0", "C 0 65536", "E 99999999999999999999 0 0", "E 16 65536 281474976710656", "x" * 40, "x" * 41,
+             "C 0 0 5", "C 0", "S 0 0", "D 0 1 2", "E 16 0 5", "E 0 262145 5", "E 0 0 281474976710656", "S 0 262146 1", "S 16 0 1",
+             "S 0 0 281474976710656", "C 16 0", "C 0 262145", "E 99999999999999999999 0 0", "E 16 262145 281474976710656", "x" * 40, "x" * 41,
              "E 0 0 " + "9" * 34, "E 0 0 " + "9" * 35, "E 0 0 18446744073709551616", "E 18446744073709551616 0 0", "H 0 0 0", "E 0 0 5\x00", "E\t0 0 5"]
 
 # ---- Comparing

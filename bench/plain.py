@@ -13,7 +13,7 @@ Plan texts are read by Python's tomllib, which knows TOML 1.0; the proved progra
 import re
 import sys
 import tomllib
-from bisect import bisect_right
+from bisect import bisect_left, bisect_right
 from heapq import heapify, heapreplace
 from typing import NamedTuple
 
@@ -27,23 +27,37 @@ class Fault(Exception):
 
 # ---- Clock: the tick at which a quantum begins (P)
 
-class Clock(NamedTuple):
-    offset: int
+class Rate(NamedTuple):
+    start: int  # the quantum with which it begins
     num: int
     den: int
 
+
+class Clock(NamedTuple):
+    offset: int
+    rates: list
+
     def at(self, quantum):
-        return self.offset + quantum * self.num // self.den
+        tick = self.offset
+        for rate, after in zip(self.rates, self.rates[1:] + [None]):
+            last = quantum if after is None else min(quantum, after.start)
+            tick += (last - rate.start) * rate.num // rate.den
+            if last == quantum: return tick
 
     def quanta_before(self, end):
-        return max(0, -((self.offset - end) * self.den // self.num)) if end > self.offset else 0
+        return bisect_left(range(end), end, key=self.at)
 
     def fault(self):
-        if self.den == 0: return "ZeroDen"
-        if self.num < self.den: return "TooFast"
-        if self.num > 2**20 * self.den: return "TooSlow"
+        starts = [rate.start for rate in self.rates]
+        if any(rate.den == 0 for rate in self.rates): return "ZeroDen"
+        if any(rate.num < rate.den for rate in self.rates): return "TooFast"
+        if any(rate.num > 2**20 * rate.den for rate in self.rates): return "TooSlow"
         if self.offset > 2**20: return "BigOffset"
-        if self.den > 1_000_000: return "BigDen"
+        if any(rate.den > 1_000_000 for rate in self.rates): return "BigDen"
+        if not starts: return "NoRates"
+        if len(starts) > 16: return "TooManyRates"
+        if starts[0] != 0 or starts != sorted(set(starts)): return "RateOrder"
+        if starts[-1] > 2**20: return "BadFrom"
 
 
 # ---- Bit clock: segments, samples, synchronisation (B 10)
@@ -122,7 +136,12 @@ class BitClock:
 
 # ---- Frames: fields, CRC sequence, bit stuffing (B 3.2.1, 3.2.2, 6)
 
-RTR = 12  # the place of the RTR bit; the identifier is at places 1 to 11
+IDE = 13  # the place of the IDE bit, recessive in an extended frame; the identifier, or its first part, is at places 1 to 11
+
+
+def header(extended):
+    """The place of the RTR bit, and the number of bits up to the DLC."""
+    return (32, 39) if extended else (12, 19)
 
 
 class Frame(NamedTuple):
@@ -130,16 +149,19 @@ class Frame(NamedTuple):
     remote: bool
     dlc: int
     data: bytes
+    extended: bool = False
 
     def bits(self):
-        head = [0] + bits_of(self.id, 11) + [int(self.remote), 0, 0] + bits_of(self.dlc, 4)
+        sent_id = bits_of(self.id >> 18, 11) + [1, 1] + bits_of(self.id % 2**18, 18) if self.extended else bits_of(self.id, 11)
+        head = [0] + sent_id + [int(self.remote), 0, 0] + bits_of(self.dlc, 4)
         body = head + [bit for byte in self.data for bit in bits_of(byte, 8)]
         return body + bits_of(crc15(body), 15)
 
     def fault(self):
-        if self.id > 0x7FF: return "Id"
+        if self.id > 0x7FF and not self.extended: return "Id"
         if self.dlc > 15: return "Dlc"
         if len(self.data) != (0 if self.remote else min(self.dlc, 8)): return "DataLength"
+        if self.id > 0x1FFFFFFF: return "ExtendedId"
 
 
 def bits_of(number, width):
@@ -169,15 +191,19 @@ def stuff(bits):
 
 
 def frame_length(bits):
-    """How many bits a frame has up to its CRC sequence, once its first 19 bits tell; None before."""
-    if len(bits) < 19: return None
-    data = 0 if bits[RTR] else min(number_of(bits[15:19]), 8)
-    return 19 + 8 * data + 15
+    """How many bits a frame has up to its CRC sequence, once its header tells; None before."""
+    rtr, end = header(len(bits) > IDE and bits[IDE])
+    if len(bits) < end: return None
+    data = 0 if bits[rtr] else min(number_of(bits[end - 4:end]), 8)
+    return end + 8 * data + 15
 
 
 def frame_of(bits):
-    data = bytes(number_of(bits[at:at + 8]) for at in range(19, len(bits) - 15, 8))
-    return Frame(number_of(bits[1:12]), bits[RTR] == 1, number_of(bits[15:19]), data)
+    extended = bits[IDE] == 1
+    rtr, end = header(extended)
+    data = bytes(number_of(bits[at:at + 8]) for at in range(end, len(bits) - 15, 8))
+    number = number_of(bits[1:12] + bits[14:32] if extended else bits[1:12])
+    return Frame(number, bits[rtr] == 1, number_of(bits[end - 4:end]), data, extended)
 
 
 # ---- Machine: what a node does at each sampled bit (B 3.2, 5, 7, 8)
@@ -216,6 +242,7 @@ class Machine:
     def free(self, head):
         if head is None: return self.go("waiting")
         self.role, self.frame = "Tx", head
+        self.rtr, _ = header(head.extended)
         self.line = stuff(head.bits()) + [(RECESSIVE, end) for end in ENDING]
         self.begin_bits()
         return self.go("sending")
@@ -271,11 +298,11 @@ class Machine:
             self.done = "sent", self.frame
             self.go("intermission")
             return "Sent"
-        if sent == RECESSIVE and isinstance(place, int) and 1 <= place <= RTR:  # arbitration lost
+        if sent == RECESSIVE and isinstance(place, int) and 1 <= place <= self.rtr:  # arbitration lost
             self.role = "Rx"
             self.take(sample)
             return self.go("receiving")
-        if sent == RECESSIVE and place is None and len(self.bits) <= RTR:  # a stuff bit before the RTR bit (B 8, rule 3)
+        if sent == RECESSIVE and place is None and len(self.bits) <= self.rtr:  # a stuff bit before the RTR bit (B 8, rule 3)
             return self.error("Stuff", mode, counted=False)
         return self.error("Bit", mode)
 
@@ -489,7 +516,7 @@ class Plan(NamedTuple):
     def fault(self):
         if self.end > 2**36: return "End"
         for i, node in enumerate(self.nodes):
-            if node.clock.quanta_before(self.end) > 65_536: return f"Quanta({i})"
+            if node.clock.quanta_before(self.end) > 1_048_576: return f"Quanta({i})"
         for i, node in enumerate(self.nodes):
             if len(node.queue) > 64: return f"Queue({i})"
         for n, (x, start, end) in enumerate(self.disturbances):
@@ -510,9 +537,9 @@ TABLES = array_of(lambda value: type(value) is dict)
 TRUTH = lambda value: type(value) is bool
 NAME = lambda value: type(value) is str and re.fullmatch("[A-Za-z0-9_-]{1,32}", value)
 TOP = {"version": NUMBER, "end": NUMBER, "per": NUMBER, "node": TABLES}
-RATE, NOMINAL = {"num": NUMBER, "den": NUMBER}, {"quantum": NUMBER, "ppm": PPM}
+FRACTION, NOMINAL = {"num": NUMBER, "den": NUMBER}, {"quantum": NUMBER, "ppm": PPM}
 LENGTHS = dict.fromkeys(("prop", "ps1", "ps2", "sjw"), NUMBER) | {"x": SMALL, "out": NUMBER, "in": NUMBER}
-FRAME = {"id": SMALL, "dlc": SMALL}, {"remote": TRUTH, "bytes": array_of(BYTE), "ready": NUMBER}
+FRAME = {"id": SMALL, "dlc": SMALL}, {"remote": TRUTH, "bytes": array_of(BYTE), "ready": NUMBER, "extended": TRUTH}
 DISTURBANCE = {"x": SMALL, "from": NUMBER, "to": NUMBER}, {}
 
 
@@ -543,13 +570,18 @@ def read_toml(text):
     return document
 
 
+def clock_keys(table):
+    return NOMINAL if "quantum" in table else FRACTION
+
+
 def read_plan(text):
     top = read_toml(text)
-    if "version" in top and NUMBER(top["version"]) and top["version"] != 1: raise Fault("Version")
+    if "version" in top and NUMBER(top["version"]) and top["version"] not in (1, 2): raise Fault("Version")
     test_keys(top, TOP, {"disturbance": TABLES})
     for node in top["node"]:
-        clock = NOMINAL if "quantum" in node else RATE
+        clock = {"rates": TABLES} if top["version"] == 2 else clock_keys(node)
         test_keys(node, {"name": NAME, "offset": NUMBER} | clock | LENGTHS, {"frame": TABLES})
+        for rate in node.get("rates", []): test_keys(rate, {"from": NUMBER} | clock_keys(rate), {})
         for frame in node.get("frame", []): test_keys(frame, *FRAME)
     for disturbance in top.get("disturbance", []): test_keys(disturbance, *DISTURBANCE)
     if len({node["name"] for node in top["node"]}) < len(top["node"]): raise Fault("SameName")
@@ -562,18 +594,28 @@ def read_plan(text):
     return plan
 
 
+def table_frame(table):
+    return Frame(table["id"], table.get("remote", False), table["dlc"], bytes(table.get("bytes", [])), table.get("extended", False))
+
+
+def table_rate(i, start, table):
+    if "quantum" not in table: return Rate(start, table["num"], table["den"])
+    refuse(f"NodeClock({i}, %s)", "" if abs(table["ppm"]) <= 100_000 else "BadPpm")
+    return Rate(start, table["quantum"] * (1_000_000 + table["ppm"]), 1_000_000)
+
+
 def read_node(i, node):
-    if "quantum" in node:
-        refuse(f"NodeClock({i}, %s)", "" if abs(node["ppm"]) <= 100_000 else "BadPpm")
-        clock = Clock(node["offset"], node["quantum"] * (1_000_000 + node["ppm"]), 1_000_000)
+    if "rates" in node:
+        rates = [table_rate(i, table["from"], table) for table in node["rates"]]
     else:
-        clock = Clock(node["offset"], node["num"], node["den"])
+        rates = [table_rate(i, 0, node)]
+    clock = Clock(node["offset"], rates)
     segments = Segments(node["prop"], node["ps1"], node["ps2"], node["sjw"])
     refuse(f"NodeClock({i}, %s)", clock.fault())
     refuse(f"NodeSegments({i}, %s)", segments.fault())
     queue = []
     for n, table in enumerate(node.get("frame", [])):
-        frame = Frame(table["id"], table.get("remote", False), table["dlc"], bytes(table.get("bytes", [])))
+        frame = table_frame(table)
         refuse(f"NodeFrame({i}, {n}, %s)", frame.fault())
         queue.append(Queued(frame, table.get("ready", 0)))
     return Setup(node["name"], clock, segments, queue)
@@ -583,15 +625,15 @@ def read_node(i, node):
 
 NUMERAL = "(0|[1-9][0-9]*)"
 SHAPES = {"E": f"E {NUMERAL} {NUMERAL} {NUMERAL}", "C": f"C {NUMERAL} {NUMERAL}", "S": f"S {NUMERAL} {NUMERAL} {NUMERAL}"}
-LIMITS = {"E": (16, 65_536, NUMBER_END), "C": (16, 65_536), "S": (16, 65_537, NUMBER_END)}
+LIMITS = {"E": (16, 262_145, NUMBER_END), "C": (16, 262_145), "S": (16, 262_146, NUMBER_END)}
 
 
 def read_records(text):
     """The records of a text, as ("E", node, seq, tick), ("C", node, seq) or ("S", node, count, until); or its first fault."""
     records, at, number = [], 0, 1
     while at < len(text):
-        end = text.find(b"\n", at, min(at + 41, 2**26))
-        if end < 0: raise Fault(f"TooLong({number})" if len(text) > min(at + 40, 2**26) else "Truncated")
+        end = text.find(b"\n", at, min(at + 41, 2**27))
+        if end < 0: raise Fault(f"TooLong({number})" if len(text) > min(at + 40, 2**27) else "Truncated")
         line = text[at:end].decode("latin-1")
         shape = re.fullmatch(SHAPES.get(line[:1], "(?!)"), line)
         if not shape: raise Fault(f"Line({number})")
@@ -664,7 +706,7 @@ def report_text(plan):
                      f"samples {node.samples} hard {node.hards} sync {len(node.phases)} least {least} greatest {greatest}")
         for what, quantum, frame in node.frames:
             kind = "remote" if frame.remote else "data"
-            lines.append(f"frame {i} {what} {quantum} {frame.id:03x} {kind} {frame.dlc} {frame.data.hex() or '-'}")
+            lines.append(f"frame {i} {what} {quantum} {frame.id:0{8 if frame.extended else 3}x} {kind} {frame.dlc} {frame.data.hex() or '-'}")
     errors, unsent = sum(node.errors for node in nodes), sum(len(node.waiting) for node in nodes)
     return lines + [f"verdict faulty errors {errors} unsent {unsent}" if errors or unsent else "verdict clean"]
 

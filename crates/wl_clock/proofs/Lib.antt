@@ -1,1 +1,3 @@
+mod Rows
+pub mod Runs
 pub mod Ticks

@@ -1,38 +1,76 @@
--- How the ticks of a clock lie: what one more quantum adds.
-use Rattle.std.proofs.Common.{◌≡◌, ℕ, ◌+◌, ◌*◌, ◌/◌, ◌<◌, ◌≤◌, arith}
-use Rattle.std.proofs.Math.Nat.{lt-div-mul-add, div-mul-le_self, div-le_of_le-mul, mul-le-mul_left}
-use Rattle.std.proofs.lemmas.Nat.{div_below, le-div}
-use Rattle.wl_clock.specs.Timing.{Timing, IsTiming, tick_of, slowest_rate}
+-- How the ticks of a clock lie.
+use Rattle.std.proofs.Common.{◌≡◌, refl, sym, ap, subst, List, ◌∷◌, length, take, drop, slice_index_or, All, ℕ, zero, suc, ◌+◌, ◌-◌, ◌*◌, ◌<◌, ◌≤◌, arith}
+use Rattle.wl_clock.specs.declared.Rate.{Rate}
+use Rattle.wl_clock.specs.Timing.{Timing, IsRate, IsTiming, tick_of, ticks_from, ticks_over, slowest_rate}
+use Rattle.wl_clock.proofs.Runs.{over_low, over_high, over_none, over_parts, are_parts}
 
--- n divisors more raise a quotient by n at least
-div_raised : (a b d n : ℕ) → 0 < d → n * d ≤ b → a / d + n ≤ (a + b) / d
-div_raised a b d n h low =
-    le-div (a / d + n) (a + b) d h (omega (arith, div-mul-le_self a d))
+pub tick_is : (t : Timing) (k : ℕ) → tick_of t k ≡ t.offset + ticks_over t.rates k
+unfolding tick_of
+tick_is t k = refl
 
--- and by n at most, where no more than n are added
-div_capped : (a b d n : ℕ) → 0 < d → b ≤ n * d → (a + b) / d ≤ a / d + n
-div_capped a b d n h high =
-    let below : (a + b) / d < a / d + n + 1 = div_below (a + b) d (a / d + n + 1) h (omega (arith, lt-div-mul-add {a = a} h)) in
-    omega arith
+-- quantum 0 begins at the offset
+pub tick_first : (t : Timing) → tick_of t 0 ≡ t.offset
+tick_first t = let e = tick_is t 0 in let none = over_none t.rates in omega arith
+
+one_more : (k n : ℕ) → k + suc n ≡ (k + n) + 1
+one_more k n = omega arith
 
 -- n quanta take n ticks at least
 pub ticks_apart : (t : Timing) → IsTiming t → (k n : ℕ) → tick_of t k + n ≤ tick_of t (k + n)
-ticks_apart t h k n =
-    let raised = div_raised (k * t.num) (n * t.num) t.den n h.divides (mul-le-mul_left n h.not_fast) in
-    let e : (k + n) * t.num ≡ k * t.num + n * t.num = omega arith in
-    rw e (omega (arith, raised))
+ticks_apart t h k zero = let e : tick_of t (k + 0) ≡ tick_of t k = ap (tick_of t) (omega arith) in omega arith
+ticks_apart t h k (suc n) =
+    let below = ticks_apart t h k n in
+    let low = over_low t.rates h.rates h.some h.order (k + n) in
+    let a = tick_is t (k + n) in
+    let b = tick_is t ((k + n) + 1) in
+    let e : tick_of t (k + suc n) ≡ tick_of t ((k + n) + 1) = ap (tick_of t) (one_more k n) in
+    omega arith
 
 -- and n times the slowest rate at most
 pub ticks_near : (t : Timing) → IsTiming t → (k n : ℕ) → tick_of t (k + n) ≤ tick_of t k + n * slowest_rate
-ticks_near t h k n =
-    let capped = div_capped (k * t.num) (n * t.num) t.den (n * slowest_rate) h.divides
-    (let most : n * t.num ≤ n * (slowest_rate * t.den) = mul-le-mul_left n h.not_slow in omega arith) in
-    let e : (k + n) * t.num ≡ k * t.num + n * t.num = omega arith in
-    rw e (omega (arith, capped))
+ticks_near t h k zero = let e : tick_of t (k + 0) ≡ tick_of t k = ap (tick_of t) (omega arith) in omega arith
+ticks_near t h k (suc n) =
+    let below = ticks_near t h k n in
+    let high = over_high t.rates h.rates h.some h.order (k + n) in
+    let a = tick_is t (k + n) in
+    let b = tick_is t ((k + n) + 1) in
+    let e : tick_of t (k + suc n) ≡ tick_of t ((k + n) + 1) = ap (tick_of t) (one_more k n) in
+    omega arith
 
--- so quantum k begins k times the slowest rate behind the offset at most
+pub ticks_later : (t : Timing) → IsTiming t → (j k : ℕ) → j < k → tick_of t j < tick_of t k
+ticks_later t h j k less =
+    let e : j + (k - j) ≡ k = omega arith in
+    let apart = ticks_apart t h j (k - j) in
+    let f : tick_of t (j + (k - j)) ≡ tick_of t k = ap (tick_of t) e in
+    omega arith
+
+-- so quantum k begins k times the slowest rate behind the offset at most, and k ticks behind it at least
 pub tick_near : (t : Timing) → IsTiming t → (k : ℕ) → tick_of t k ≤ t.offset + k * slowest_rate
 tick_near t h k =
-    let most : k * t.num ≤ k * (slowest_rate * t.den) = mul-le-mul_left k h.not_slow in
-    let whole : k * t.num / t.den ≤ k * slowest_rate = div-le_of_le-mul t.den (omega arith) in
+    let near = ticks_near t h 0 k in
+    let e : tick_of t (0 + k) ≡ tick_of t k = ap (tick_of t) (omega arith) in
+    let first = tick_first t in
     omega arith
+
+pub tick_far : (t : Timing) → IsTiming t → (k : ℕ) → t.offset + k ≤ tick_of t k
+tick_far t h k =
+    let far = ticks_apart t h 0 k in
+    let e : tick_of t (0 + k) ≡ tick_of t k = ap (tick_of t) (omega arith) in
+    let first = tick_first t in
+    omega arith
+
+-- the same over the first rate and the others
+pub tick_parts : (t : Timing) → IsTiming t → (rates : List Rate) → rates ≡ t.rates → (d : Rate) (k : ℕ)
+    → tick_of t k ≡ t.offset + ticks_from (slice_index_or rates 0 d) (take (length rates - 1) (drop 1 rates)) k
+tick_parts t h rates e d k =
+    let some : 1 ≤ length rates = subst (λ xs. 1 ≤ length xs) (sym e) h.some in
+    let same = over_parts rates d some k in
+    let there : ticks_over rates k ≡ ticks_over t.rates k = ap (λ xs. ticks_over xs k) e in
+    let is = tick_is t k in
+    omega arith
+
+pub rates_parts : (t : Timing) → IsTiming t → (rates : List Rate) → rates ≡ t.rates → (d : Rate)
+    → All IsRate (slice_index_or rates 0 d ∷ take (length rates - 1) (drop 1 rates))
+rates_parts t h rates e d =
+    let some : 1 ≤ length rates = subst (λ xs. 1 ≤ length xs) (sym e) h.some in
+    are_parts rates d some (subst (All IsRate) (sym e) h.rates)

@@ -3,16 +3,23 @@
 //! The world has one row of whole ticks. A node has quanta, the units in which it counts time, and its oscillator
 //! decides how many ticks one takes: a rate `num / den` of 1 to 2^20 ticks per quantum, which need not be whole.
 //! Quantum 0 begins at the clock's offset, and a quantum that would begin between two ticks begins at the earlier one.
+//! A clock may have up to 16 rates, each from a quantum of its own on: an oscillator that warms up, ages or jumps.
 //! Offsets, rates and their limits are this project's profile.
 #![tactic(auto)]
 
-ghost use Rattle.std.specs.Prelude.{◌≡◌, ℕ, ◌+◌, ◌*◌, ◌^◌, ◌<◌, ◌≤◌, pos, unsigned_abs};
-ghost use Rattle.wl_clock.specs.Timing.{Timing, IsTiming, tick_of, timing_of, timing_of_ppm, millionths, slowest_rate};
+ghost use Rattle.std.specs.Prelude.{◌≡◌, ℕ, ◌+◌, ◌*◌, ◌^◌, ◌<◌, ◌≤◌, pos, unsigned_abs, length};
+ghost use Rattle.wl_clock.specs.Timing.{Timing, IsTiming, tick_of, timing_of, timing_of_rates, timing_of_ppm, rate_of_ppm, millionths, most_rates, slowest_rate};
+ghost use Rattle.wl_clock.specs.Padded.{padded};
 
+mod refusals;
+mod stretches;
+
+use refusals::{any_bad_from, any_big_den, any_too_fast, any_too_slow, any_zero_den, in_order};
 use std::marker::Model;
+use stretches::{first_from, ticks_from};
 use thiserror::Error;
 
-/// Why an offset and a rate make no clock.
+/// Why an offset and rates make no clock.
 #[derive(Clone, Copy, Debug, PartialEq, Eq, Error)]
 pub enum ClockFault {
     /// The denominator is 0.
@@ -33,37 +40,93 @@ pub enum ClockFault {
     /// The deviation is outside -100,000 to 100,000 ppm.
     #[error("BadPpm")]
     BadPpm,
+    /// There is no rate.
+    #[error("NoRates")]
+    NoRates,
+    /// There are more than 16 rates.
+    #[error("TooManyRates")]
+    TooManyRates,
+    /// The first rate does not begin with quantum 0, or a later one not after the one in front of it.
+    #[error("RateOrder")]
+    RateOrder,
+    /// A rate begins after quantum 2^20.
+    #[error("BadFrom")]
+    BadFrom,
 }
 
 const LARGEST_OFFSET: u64 = 1_048_576;
-
-const SLOWEST_RATE: u128 = 1_048_576;
-
-const LARGEST_DENOMINATOR: u64 = 1_000_000;
 
 const LARGEST_DEVIATION: u64 = 100_000;
 
 const MILLION: u64 = 1_000_000;
 
-/// A clock whose quantum k begins at tick `offset + k * num / den`, rounded down.
+const MOST_RATES: usize = 16;
+
+/// A rate of `num / den` ticks per quantum, from quantum `from` on.
 ///
-/// Two clocks are equal where offset, numerator and denominator are: rates are compared as they were given, and not
-/// in lowest terms.
+/// Any numbers can be written down; `Clock::with_rates` tells which ones make a clock.
 #[derive(Clone, Copy, Debug, PartialEq, Eq)]
+pub struct Rate {
+    /// The first quantum at this rate, counted from 0.
+    pub from: u64,
+    /// The numerator, in ticks.
+    pub num: u128,
+    /// The denominator, in quanta.
+    pub den: u64,
+}
+
+/// What is held behind the last rate of a clock.
+const SPARE: Rate = Rate {
+    from: 0,
+    num: 1,
+    den: 1,
+};
+
+impl Rate {
+    /// The rate of a nominal quantum of so many ticks and a deviation from it in parts per million, from a quantum on.
+    ///
+    /// A positive `ppm` is a slow clock: a quantum takes `quantum * (1000000 + ppm) / 1000000` ticks. Refused as
+    /// `BadPpm` where `ppm` is outside -100,000 to 100,000.
+    pub fn from_ppm(from: u64, quantum: u64, ppm: i64) -> Result<Rate, ClockFault>
+        ensures { result ≡ rate_of_ppm from quantum ppm }
+    {
+        if ppm.unsigned_abs() > LARGEST_DEVIATION {
+            return Err(ClockFault::BadPpm);
+        }
+        Ok(Rate {
+            from,
+            num: quantum as u128 * parts_per_million(ppm) as u128,
+            den: MILLION,
+        })
+    }
+}
+
+/// A clock whose quantum 0 begins at its offset.
+///
+/// At a rate that begins with quantum f, quantum k begins `(k - f) * num / den` ticks, rounded down, after quantum f;
+/// so does the next rate's first quantum. Two clocks are equal where offset and rates are: rates are compared as they
+/// were given, and not in lowest terms.
+#[derive(Clone, Copy, Debug)]
 pub struct Clock {
     offset: u64,
-    num: u64,
-    den: u64,
+    count: usize,
+    rates: [Rate; MOST_RATES],
 }
 
 impl Model for Clock {
+    ghost use Rattle.wl_clock.specs.Timing.{Timing};
+
     ghost Value = { Timing };
 
-    ghost view = { λ c. record { offset = c.offset; num = c.num; den = c.den } };
+    ghost use Rattle.wl_clock.specs.Held.{timing, held, IsHeld, held_timing};
 
-    ghost inverse = { λ t. record { offset = t.offset; num = t.num; den = t.den } };
+    ghost view = { timing };
 
-    ghost invariant = { λ c. IsTiming (record { offset = c.offset; num = c.num; den = c.den }) };
+    ghost invariant = { IsHeld };
+
+    ghost inverse = { held };
+
+    ghost inverse_ok = { held_timing };
 }
 
 impl Clock {
@@ -74,7 +137,14 @@ impl Clock {
     pub fn new(offset: u64, num: u64, den: u64) -> Result<Clock, ClockFault>
         ensures { result ≡ timing_of offset num den }
     {
-        Clock::timed(offset, num as u128, den)
+        Clock::with_rates(
+            offset,
+            &[Rate {
+                from: 0,
+                num: num as u128,
+                den,
+            }],
+        )
     }
 
     /// The clock of a nominal quantum of so many ticks and a deviation from it in parts per million.
@@ -84,61 +154,61 @@ impl Clock {
     pub fn from_ppm(offset: u64, quantum: u64, ppm: i64) -> Result<Clock, ClockFault>
         ensures { result ≡ timing_of_ppm offset quantum ppm }
     {
-        if ppm.unsigned_abs() > LARGEST_DEVIATION {
-            return Err(ClockFault::BadPpm);
-        }
-        let num = quantum as u128 * parts_per_million(ppm) as u128;
-        Clock::timed(offset, num, MILLION)
+        let rate = match Rate::from_ppm(0, quantum, ppm) {
+            Ok(rate) => rate,
+            Err(fault) => return Err(fault),
+        };
+        Clock::with_rates(offset, &[rate])
     }
 
-    /// The clock of an offset and a rate, or the first refusal that applies.
-    fn timed(offset: u64, num: u128, den: u64) -> Result<Clock, ClockFault>
-        ensures { result ≡ timing_of offset num den }
+    /// The clock whose quantum 0 begins at tick `offset`, and which goes at each rate from its first quantum on.
+    ///
+    /// Refused as `new` refuses, where some rate has that fault, and then as `NoRates`, `TooManyRates` (above 16),
+    /// `RateOrder` (the first rate does not begin with quantum 0, or a later one not after the one in front of it) or
+    /// `BadFrom` (a rate begins after quantum 2^20); where several apply, the first of them in this order.
+    pub fn with_rates(offset: u64, rates: &[Rate]) -> Result<Clock, ClockFault>
+        ensures { result ≡ timing_of_rates offset rates.now }
     {
-        if den == 0 {
+        if any_zero_den(rates) {
             return Err(ClockFault::ZeroDen);
         }
-        if num < den as u128 {
+        if any_too_fast(rates) {
             return Err(ClockFault::TooFast);
         }
-        if num > SLOWEST_RATE * den as u128 {
+        if any_too_slow(rates) {
             return Err(ClockFault::TooSlow);
         }
         if offset > LARGEST_OFFSET {
             return Err(ClockFault::BigOffset);
         }
-        if den > LARGEST_DENOMINATOR {
+        if any_big_den(rates) {
             return Err(ClockFault::BigDen);
+        }
+        if rates.is_empty() {
+            return Err(ClockFault::NoRates);
+        }
+        if rates.len() > MOST_RATES {
+            return Err(ClockFault::TooManyRates);
+        }
+        if !in_order(rates) {
+            return Err(ClockFault::RateOrder);
+        }
+        if any_bad_from(rates) {
+            return Err(ClockFault::BadFrom);
         }
         Ok(Clock {
             offset,
-            num: num as u64,
-            den,
+            count: rates.len(),
+            rates: filled(rates),
         })
     }
 
-    /// The tick at which quantum 0 begins: at most 2^20.
-    pub fn offset(&self) -> u64
-        ensures offset { result ≡ self.now.offset }
+    /// The rates, 1 to 16, in the order of their quanta.
+    fn rates(&self) -> &[Rate]
+        ensures rates { result.now ≡ self.now.rates }
         ensures timing { IsTiming self.now }
     {
-        self.offset
-    }
-
-    /// The numerator of the rate in ticks per quantum.
-    pub fn num(&self) -> u64
-        ensures num { result ≡ self.now.num }
-        ensures timing { IsTiming self.now }
-    {
-        self.num
-    }
-
-    /// The denominator of the rate: 1 to 1,000,000.
-    pub fn den(&self) -> u64
-        ensures den { result ≡ self.now.den }
-        ensures timing { IsTiming self.now }
-    {
-        self.den
+        &self.rates[..self.count]
     }
 
     /// The tick at which quantum `k` begins, for `k` up to 2^21.
@@ -151,7 +221,8 @@ impl Clock {
         ensures low { self.now.offset + k ≤ result }
         ensures high { result ≤ self.now.offset + k * slowest_rate }
     {
-        k * self.num / self.den + self.offset
+        let rates = self.rates();
+        ticks_from(&rates[0], &rates[1..], k) + self.offset
     }
 
     /// The least quantum that begins at tick `t` or later, for `t` below 2^48.
@@ -167,9 +238,32 @@ impl Clock {
         if t <= self.offset {
             return 0;
         }
-        let ticks = (t - self.offset) as u128 * self.den as u128;
-        ticks.div_ceil(self.num as u128) as u64
+        let rates = self.rates();
+        first_from(&rates[0], &rates[1..], t - self.offset)
     }
+}
+
+impl PartialEq for Clock {
+    ghost use Rattle.std.specs.Prelude.{◌≡◌, ◌↔◌, IsTrue};
+    ghost use Rattle.wl_clock.specs.Same.{same_timing, same_timing_laws};
+
+    ghost eq = { same_timing };
+
+    ghost laws = { same_timing_laws };
+
+    /// Two clocks are equal where offset and rates are.
+    fn eq(&self, other: &Clock) -> bool
+        ensures value { result ≡ same_timing self.now other.now }
+        ensures same { IsTrue result ↔ (self.now ≡ other.now) }
+    {
+        self.offset == other.offset && self.rates() == other.rates()
+    }
+}
+
+impl Eq for Clock {
+    ghost use Rattle.wl_clock.specs.Same.{same_timing_equiv};
+
+    ghost laws = { same_timing_equiv };
 }
 
 /// Law: the quanta of every clock begin one after another, the first at the offset; `n` quanta take `n` ticks at
@@ -196,95 +290,12 @@ fn parts_per_million(ppm: i64) -> u64
     }
 }
 
-#[cfg(test)]
-mod tests {
-    use super::*;
-    use std::test::Fail;
-
-    /// Quanta of one tick and a half, the first at tick 1.
-    #[test]
-    fn three_halves(rt: HostRuntime) -> Result<(), Fail> {
-        let clock = Clock::new(1, 3, 2)?;
-        for (k, tick) in [(0, 1), (1, 2), (2, 4), (3, 5), (4, 7)] {
-            assert_eq!(rt; clock.at(k), tick, "quantum {k}");
-        }
-        assert_eq!(rt; clock.first_not_before(3), 2);
-        assert_eq!(rt; clock.first_not_before(0), 0);
-        assert_eq!(rt; clock.offset(), 1);
-        assert_eq!(rt; clock.num(), 3);
-        assert_eq!(rt; clock.den(), 2);
-        assert_eq!(rt; clock, Clock::new(1, 3, 2)?);
-        assert_ne!(rt; clock, Clock::new(1, 6, 4)?);
-        Ok(())
-    }
-
-    /// A clock that is 150 ppm fast: its quantum 1 begins before tick 100, its quantum 10,000 at tick 999,850.
-    #[test]
-    fn fast_by_150_ppm(rt: HostRuntime) -> Result<(), Fail> {
-        let clock = Clock::from_ppm(0, 100, -150)?;
-        assert_eq!(rt; clock.at(1), 99);
-        assert_eq!(rt; clock.at(10_000), 999_850);
-        assert_eq!(rt; clock, Clock::new(0, 99_985_000, 1_000_000)?);
-        let slow = Clock::from_ppm(0, 100, 100_000)?;
-        assert_eq!(rt; slow.at(1), 110);
-        Ok(())
-    }
-
-    /// Each refusal of an offset and a rate, alone and before the later ones.
-    #[test]
-    fn refusals(rt: HostRuntime) {
-        let rows = [
-            (0, 1, 2, ClockFault::TooFast),
-            (1_048_577, 0, 0, ClockFault::ZeroDen),
-            (1_048_577, 1_000_000, 1_000_001, ClockFault::TooFast),
-            (1_048_577, 2_097_153, 2, ClockFault::TooSlow),
-            (1_048_577, 1_000_001, 1_000_001, ClockFault::BigOffset),
-            (1_048_576, 1_000_001, 1_000_001, ClockFault::BigDen),
-        ];
-        for (offset, num, den, fault) in rows {
-            assert_eq!(rt; Clock::new(offset, num, den), Err(fault));
-        }
-        assert_eq!(rt; Clock::new(1_048_576, 2_097_152, 2).is_ok(), true);
-    }
-
-    /// The deviation is tested before all else, and a nominal quantum that no rate can have is too slow.
-    #[test]
-    fn refusals_by_ppm(rt: HostRuntime) {
-        let rows = [
-            (1_048_577, 0, 100_001, ClockFault::BadPpm),
-            (1_048_577, 0, -100_001, ClockFault::BadPpm),
-            (1_048_577, 0, i64::MIN, ClockFault::BadPpm),
-            (1_048_577, 0, 100_000, ClockFault::TooFast),
-            (1_048_577, 1, -1, ClockFault::TooFast),
-            (1_048_577, u64::MAX, 100_000, ClockFault::TooSlow),
-            (1_048_577, 1_048_576, 1, ClockFault::TooSlow),
-            (1_048_577, 1_048_576, -1, ClockFault::BigOffset),
-        ];
-        for (offset, quantum, ppm, fault) in rows {
-            assert_eq!(rt; Clock::from_ppm(offset, quantum, ppm), Err(fault));
-        }
-    }
-
-    /// A fault is printed as its bare name.
-    #[test]
-    fn names(rt: HostRuntime) -> Result<(), Fail> {
-        let rows = [
-            (ClockFault::ZeroDen, "ZeroDen"),
-            (ClockFault::TooFast, "TooFast"),
-            (ClockFault::TooSlow, "TooSlow"),
-            (ClockFault::BigOffset, "BigOffset"),
-            (ClockFault::BigDen, "BigDen"),
-            (ClockFault::BadPpm, "BadPpm"),
-        ];
-        for (fault, name) in rows {
-            let text = format!(in rt.alloc(); "{fault}")?;
-            assert_eq!(rt; text.as_str(), name);
-        }
-        Ok(())
-    }
-
-    #[test]
-    fn laws() {
-        ticks_increase();
-    }
+/// The rates with spare ones behind them.
+fn filled(rates: &[Rate]) -> [Rate; MOST_RATES]
+    requires { length rates.now ≤ most_rates }
+    ensures { result ≡ padded rates.now }
+{
+    let mut held = [SPARE; MOST_RATES];
+    held[..rates.len()].copy_from_slice(rates);
+    held
 }

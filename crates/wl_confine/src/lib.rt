@@ -8,9 +8,6 @@ ghost use Rattle.wl_confine.specs.declared.Happened.{Happened};
 
 use std::marker::Model;
 
-#[cfg(test)]
-mod tests;
-
 /// What kind of error was found (Bosch CAN 2.0 part B, section 7.1).
 #[derive(Clone, Copy, Debug, PartialEq, Eq)]
 pub enum ErrorKind {
@@ -33,11 +30,11 @@ pub enum Happened {
     Nothing,
     /// A receiver found an error.
     RxError(ErrorKind),
-    /// A receiver sampled a dominant bit right behind its error flag.
+    /// A receiver sampled a dominant bit right after its error flag.
     RxAfterFlag,
     /// A receiver sampled a recessive bit in a dominant flag of its own.
     RxFlagBit,
-    /// A receiver sampled too long a run of dominant bits behind its flag.
+    /// A receiver sampled too long a run of dominant bits after its flag.
     RxLong,
     /// A transmitter found an error.
     TxError(ErrorKind),
@@ -47,7 +44,7 @@ pub enum Happened {
     PassiveAck,
     /// A transmitter sampled a recessive bit in a dominant flag of its own.
     TxFlagBit,
-    /// A transmitter sampled too long a run of dominant bits behind its flag.
+    /// A transmitter sampled too long a run of dominant bits after its flag.
     TxLong,
     /// A frame was sent to its end.
     Sent,
@@ -124,7 +121,8 @@ impl Counters {
     /// Counts what happened at one sampled bit.
     pub fn apply(&mut self, happened: Happened)
         ensures step { self.new ≡ counts_after self.old happened }
-        ensures whole { (past : List Happened) → self.old ≡ counts_of past → self.new ≡ counts_of (past ++ happened ∷ []) }
+        ensures whole { (past : List Happened) → self.old ≡ counts_of past
+            → self.new ≡ counts_of (past ++ happened ∷ []) }
     {
         match happened {
             Happened::Nothing | Happened::TxFree => {}

@@ -1,21 +1,19 @@
 -- The shift register divides.
-use Rattle.std.proofs.Common.{◌≡◌, ℕ, zero, suc, ◌+◌, ◌*◌, ◌/◌, ◌%◌, ◌^◌, ◌<◌, ◌∙◌, List, [], ◌∷◌, ◌++◌, length, Bool, true, false, cond, not, refl, sym, ap, arith, replicate, map, drop, drop-cons, add-one, get_or, fold}
+use Rattle.std.proofs.Common.{◌≡◌, ℕ, zero, suc, ◌+◌, ◌*◌, ◌/◌, ◌%◌, ◌^◌, ◌<◌, ◌∙◌, List, [], ◌∷◌, ◌++◌, length, Bool, true, false, cond, refl, sym, ap, arith, replicate, map, drop, drop-cons, add-one, get_or, fold}
 use Rattle.std.specs.Prelude.{◌==◌, bit_xor}
 use Rattle.std.specs.Int.{bit_at}
-use Rattle.std.proofs.Math.Nat.{pow-suc}
+use Rattle.std.proofs.Math.Nat.{pow-succ'}
 use Rattle.std.proofs.Math.Numerals.{one-add}
 use Rattle.std.proofs.lemmas.Nat.{mod-pow-add, div-add-mod', xor_comm}
 use Rattle.std.proofs.lemmas.Nat.Bits.{bit_at_xor, bit_at-suc, bit_at_lowest, bit_at-lt, bit_at_cat_low}
-use Rattle.wl_intervals.specs.declared.Level.{Level}
+use Rattle.std.proofs.Math.Bool.{not-not}
+use Rattle.wl_level.specs.declared.Level.{Level}
 use Rattle.wl_frame.specs.Crc.{bit_of_level, generator, differ, subtracted, remainder, crc_bits, number_of}
-use Rattle.wl_frame.specs.Register.{register_bits, shifted}
+use Rattle.wl_frame.specs.Register.{register_after}
+use Rattle.wl_frame.proofs.Registers.{register_bits}
 
 differ_assoc : (a b c : Bool) → differ a (differ b c) ≡ differ (differ a b) c
 differ_assoc true true c = not-not c
-  where
-    not-not : (b : Bool) → not (not b) ≡ b
-    not-not true = refl
-    not-not false = refl
 differ_assoc true false c = refl
 differ_assoc false true c = refl
 differ_assoc false false c = refl
@@ -102,18 +100,18 @@ division_step r n b false ds e = ap (remainder n) (sym (shifted_false r ds))
 abbrev pub left : List Level → ℕ → List Bool
 left rest r = remainder (length rest) (subtracted (register_bits 15 r) (map bit_of_level rest ++ replicate 15 false))
 
-left_step : (level : Level) (rest : List Level) (r : ℕ) → left (level ∷ rest) r ≡ left rest (shifted r (bit_of_level level))
-unfolding shifted
+left_step : (level : Level) (rest : List Level) (r : ℕ) → left (level ∷ rest) r ≡ left rest (register_after r (bit_of_level level))
+unfolding register_after
 left_step level rest r =
     ap (λ bs. remainder (suc (length rest)) (subtracted bs (bit_of_level level ∷ (map bit_of_level rest ++ replicate 15 false)))) (top_bits r)
     ∙ division_step r (length rest) (bit_of_level level) (differ (bit_at r 14 == 1) (bit_of_level level)) (map bit_of_level rest ++ replicate 15 false) refl
 
 pub left_more : (levels : List Level) (i r : ℕ) (default : Level) → i < length levels
-    → left (drop i levels) r ≡ left (drop (i + 1) levels) (shifted r (bit_of_level (get_or levels i default)))
+    → left (drop i levels) r ≡ left (drop (i + 1) levels) (register_after r (bit_of_level (get_or levels i default)))
 left_more levels i r default h =
     ap (λ rest. left rest r) (drop-cons levels i default h)
     ∙ left_step (get_or levels i default) (drop (suc i) levels) r
-    ∙ ap (λ j. left (drop j levels) (shifted r (bit_of_level (get_or levels i default)))) (sym (add-one i))
+    ∙ ap (λ j. left (drop j levels) (register_after r (bit_of_level (get_or levels i default)))) (sym (add-one i))
 
 subtracted_zeros : (n : ℕ) (ds : List Bool) → subtracted (replicate n false) ds ≡ ds
 subtracted_zeros zero ds = refl
@@ -154,11 +152,8 @@ number_from (suc k) r acc =
     number_from k r (2 * acc + cond (bit_at r k == 1) 1 0)
     ∙ ap (λ c. (2 * acc + c) * 2 ^ k + r % 2 ^ k) (bit_number (bit_at r k) (bit_at-lt r k))
     ∙ regroup acc (bit_at r k) (2 ^ k) (r % 2 ^ k)
-    ∙ ap (λ p. acc * p + (bit_at r k * 2 ^ k + r % 2 ^ k)) (sym (twice k))
+    ∙ ap (λ p. acc * p + (bit_at r k * 2 ^ k + r % 2 ^ k)) (sym (pow-succ' 2 k))
     ∙ ap (λ m. acc * 2 ^ suc k + m) (sym (mod-pow-add r 1 k) ∙ ap (λ j. r % 2 ^ j) (one-add k))
-  where
-    twice : (k : ℕ) → 2 ^ suc k ≡ 2 * 2 ^ k
-    twice k = omega (arith, pow-suc 2 k)
 
 pub number_of_bits : (k r : ℕ) → number_of (register_bits k r) ≡ r % 2 ^ k
 number_of_bits k r = number_from k r 0 ∙ (let none : 0 * 2 ^ k + r % 2 ^ k ≡ r % 2 ^ k = omega arith in none)

@@ -1,7 +1,10 @@
 mod Rows
-pub mod Division
-pub mod Spelled
-pub mod Reading
-pub mod HeldFrames
-pub mod OneStuffing
-pub mod Stuffed
+mod Registers
+mod Division
+mod Spelled
+mod Fields
+mod Reading
+mod HeldFrames
+mod OneStuffing
+mod Stuffed
+pub mod Callers

@@ -4,12 +4,11 @@ use Rattle.std.specs.Prelude.{nat_le, MatchOption}
 use Rattle.std.proofs.Math.Seq.{take-length}
 use Rattle.std.proofs.lemmas.List.{take-append-drop, length-take-le, take_more, take_all}
 use Rattle.std.proofs.lemmas.Bool.{both_ways, cases_lt}
-use Rattle.wl_intervals.specs.declared.Level.{Level}
-use Rattle.wl_intervals.specs.declared.Level.TheVariants.{Dominant, Recessive}
-use Rattle.wl_intervals.specs.Levels.{same, opposite}
-use Rattle.wl_intervals.specs.Places.{at, before, run_at, IsFirst}
-use Rattle.wl_intervals.proofs.Places.{at_new, at_front, before_front, same_opposite, other_level}
-use Rattle.wl_intervals.proofs.FirstPlace.{first_none, first_is}
+use Rattle.wl_level.specs.declared.Level.{Level}
+use Rattle.wl_level.specs.declared.Level.TheVariants.{Dominant, Recessive}
+use Rattle.wl_level.specs.Levels.{same, opposite}
+use Rattle.wl_level.specs.Places.{at, before, run_at, IsFirstPlace}
+use Rattle.wl_level.proofs.Callers.{at_new, at_front, before_front, same_opposite, other_level, first_none, first_is}
 use Rattle.wl_frame.specs.Stuffing.{is_stuff, kept, destuffed, Stuffs, ends_six, first_six, IsStuffedFront}
 use Rattle.wl_frame.proofs.Stuffed.{stuff_run, stuff_front, kept_front, opposes_more, Opposes, run_more}
 
@@ -147,13 +146,14 @@ both_parts : (a b : Bool) → (a && b) ≡ true → (a ≡ true) × (b ≡ true)
 both_parts true b h = (refl, h)
 both_parts false b h = cc
 
-same_back : (l : Level) → same (opposite l) l ≡ false
+-- a level and its opposite
+pub same_back : (l : Level) → same (opposite l) l ≡ false
 same_back Dominant = refl
 same_back Recessive = refl
 
 six : (y : List Level) (k : ℕ) → first_six y ≡ Some k → ¬ IsStuffedFront y
 six y k found (more, x, s) =
-    let first : IsFirst (ends_six y) (length y) k = first_is (ends_six y) (length y) k found in
+    let first : IsFirstPlace (ends_six y) (length y) k = first_is (ends_six y) (length y) k found in
     let parts : (is_stuff y k ≡ true) × (same (at y k) (before y k) ≡ true) = both_parts (is_stuff y k) (same (at y k) (before y k)) first.passes in
     let inside : k < length y = first.inside in
     let turned : at y k ≡ opposite (before y k) =

@@ -1,10 +1,11 @@
--- Worked examples of the stuffing and of the checksum, by computation.
+-- Worked examples of the stuffing and of the CRC sequence, by computation.
 use Rattle.std.proofs.Common.{◌≡◌, List, [], ◌∷◌, true, false, refl}
-use Rattle.wl_intervals.specs.declared.Level.{Level}
-use Rattle.wl_intervals.specs.declared.Level.TheVariants.{Dominant, Recessive}
+use Rattle.wl_level.specs.declared.Level.{Level}
+use Rattle.wl_level.specs.declared.Level.TheVariants.{Dominant, Recessive}
 use Rattle.wl_frame.specs.Stuffing.{destuffed, is_stuff}
 use Rattle.wl_frame.specs.Crc.{crc_of}
-use Rattle.wl_frame.specs.Grammar.{Content, bits_of, number_bits, is_whole, is_crc_right, content_of}
+use Rattle.wl_frame.specs.Header.{sent_free}
+use Rattle.wl_frame.specs.Grammar.{Content, bits_of, number_bits, covered, with_crc, layout_of, is_whole, is_crc_right, content_of}
 
 abbrev d : Level
 d = Dominant
@@ -77,7 +78,7 @@ arbitrated_id_closed : is_stuff arbitrated_id_stuffed 36 ≡ false
 arbitrated_id_closed = refl
 
 abbrev zero_frame : Content
-zero_frame = record { id = 0; remote = false; dlc = 1; bytes = 0 ∷ [] }
+zero_frame = record { extended = false; id = 0; remote = false; dlc = 1; bytes = 0 ∷ [] }
 
 spelled : bits_of zero_frame ≡ destuffed zero_byte_stuffed
 unfolding bits_of number_bits
@@ -96,7 +97,7 @@ unfolding bits_of number_bits
 read = refl
 
 abbrev arbitrated : Content
-arbitrated = record { id = 257; remote = false; dlc = 0; bytes = [] }
+arbitrated = record { extended = false; id = 257; remote = false; dlc = 0; bytes = [] }
 
 arbitrated_spelled : bits_of arbitrated ≡ destuffed arbitrated_id_stuffed
 unfolding bits_of number_bits
@@ -105,3 +106,41 @@ arbitrated_spelled = refl
 arbitrated_read : content_of (bits_of arbitrated) ≡ arbitrated
 unfolding bits_of number_bits
 arbitrated_read = refl
+
+-- extended identifier 0, no byte: the CRC sequence is 0x4610
+abbrev extended_stuffed : List Level
+extended_stuffed = d ∷ d ∷ d ∷ d ∷ d ∷ r ∷ d ∷ d ∷ d ∷ d ∷ d ∷ r ∷ d ∷ d ∷ r ∷ r ∷ d ∷ d ∷ d ∷ d ∷ d ∷ r ∷ d ∷ d ∷ d ∷ d ∷ d ∷ r ∷ d ∷ d ∷ d ∷ d ∷ d ∷ r ∷ d ∷ d ∷ d ∷ d ∷ d ∷ r ∷ d ∷ d ∷ d ∷ d ∷ d ∷ r ∷ r ∷ d ∷ d ∷ d ∷ r ∷ r ∷ d ∷ d ∷ d ∷ d ∷ r ∷ d ∷ d ∷ d ∷ d ∷ []
+
+extended_closed : is_stuff extended_stuffed 61 ≡ false
+extended_closed = refl
+
+abbrev zero_extended : Content
+zero_extended = record { extended = true; id = 0; remote = false; dlc = 0; bytes = [] }
+
+extended_crc : crc_of (covered zero_extended sent_free) ≡ 17936
+unfolding number_bits
+extended_crc = refl
+
+extended_spelled : bits_of zero_extended ≡ destuffed extended_stuffed
+unfolding bits_of number_bits
+extended_spelled = refl
+
+extended_whole : is_whole (bits_of zero_extended) ≡ true
+unfolding bits_of number_bits
+extended_whole = refl
+
+-- an identifier whose both parts are not 0, and the free bits turned over
+abbrev other_extended : Content
+other_extended = record { extended = true; id = 357913677; remote = true; dlc = 9; bytes = [] }
+
+extended_read : content_of (bits_of other_extended) ≡ other_extended
+unfolding bits_of number_bits
+extended_read = refl
+
+free_read : content_of (with_crc (covered other_extended (record { srr = d; r1 = r; r0 = r }))) ≡ other_extended
+unfolding number_bits
+free_read = refl
+
+extended_arbitration : (layout_of (bits_of other_extended)).arbitration ≡ 33
+unfolding bits_of number_bits
+extended_arbitration = refl

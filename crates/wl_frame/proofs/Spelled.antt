@@ -3,12 +3,12 @@ use Rattle.std.proofs.Common.{◌≡◌, ℕ, zero, suc, ◌+◌, ◌*◌, ◌%�
 use Rattle.std.proofs.lemmas.List.{length-map, length-take}
 use Rattle.std.specs.Prelude.{◌==◌}
 use Rattle.std.specs.Int.{bit_at}
-use Rattle.std.proofs.Math.Nat.{pow-suc, mod-eq_of_lt, pow-le-pow_right}
-use Rattle.wl_intervals.specs.declared.Level.{Level}
-use Rattle.wl_intervals.specs.declared.Level.TheVariants.{Dominant, Recessive}
+use Rattle.std.proofs.Math.Nat.{mod-eq_of_lt, pow-le-pow_right, pow-succ'}
+use Rattle.wl_level.specs.declared.Level.{Level}
+use Rattle.wl_level.specs.declared.Level.TheVariants.{Dominant, Recessive}
 use Rattle.wl_frame.specs.Crc.{bit_of_level, level_of_bit, number_of, remainder, subtracted, generator, crc_bits, crc_of}
 use Rattle.wl_frame.specs.Grammar.{number_bits}
-use Rattle.wl_frame.specs.Register.{register_bits}
+use Rattle.wl_frame.proofs.Registers.{register_bits}
 use Rattle.wl_frame.proofs.Division.{number_of_bits}
 
 pub bit_level : (b : Bool) → bit_of_level (level_of_bit b) ≡ b
@@ -27,9 +27,6 @@ pub map_level_bit : (ls : List Level) → map level_of_bit (map bit_of_level ls)
 map_level_bit [] = refl
 map_level_bit (l ∷ ls) = ap (λ c. c ∷ map level_of_bit (map bit_of_level ls)) (level_bit l) ∙ ap (λ cs. l ∷ cs) (map_level_bit ls)
 
-twice : (k : ℕ) → 2 ^ suc k ≡ 2 * 2 ^ k
-twice k = omega (arith, pow-suc 2 k)
-
 step : (acc c p n : ℕ) → (2 * acc + c) * p + n ≡ acc * (2 * p) + ((2 * 0 + c) * p + n)
 step acc c p n = omega arith
 
@@ -38,7 +35,7 @@ number_from [] acc = omega arith
 number_from (b ∷ bs) acc =
     number_from bs (2 * acc + cond b 1 0)
     ∙ step acc (cond b 1 0) (2 ^ length bs) (number_of bs)
-    ∙ ap (λ p. acc * p + ((2 * 0 + cond b 1 0) * 2 ^ length bs + number_of bs)) (sym (twice (length bs)))
+    ∙ ap (λ p. acc * p + ((2 * 0 + cond b 1 0) * 2 ^ length bs + number_of bs)) (sym (pow-succ' 2 (length bs)))
     ∙ ap (λ n. acc * 2 ^ suc (length bs) + n) (sym (number_from bs (2 * 0 + cond b 1 0)))
 
 -- the first bit is worth all that follow, and one more
@@ -47,8 +44,8 @@ number_true bs = number_from bs 1 ∙ (let one : 1 * 2 ^ length bs + number_of b
 
 pub number_lt : (bs : List Bool) → number_of bs < 2 ^ length bs
 number_lt [] = omega arith
-number_lt (true ∷ bs) = omega (arith, number_true bs, number_lt bs, twice (length bs))
-number_lt (false ∷ bs) = omega (arith, number_lt bs, twice (length bs))
+number_lt (true ∷ bs) = omega (arith, number_true bs, number_lt bs, pow-succ' 2 (length bs))
+number_lt (false ∷ bs) = omega (arith, number_lt bs, pow-succ' 2 (length bs))
 
 -- lists of one length with the same number are the same
 pub number_injective : (bs cs : List Bool) → length bs ≡ length cs → number_of bs ≡ number_of cs → bs ≡ cs
@@ -117,10 +114,10 @@ length_crc levels =
     length_remainder (length levels) (map bit_of_level levels ++ replicate 15 false) 15
     (length-append (map bit_of_level levels) (replicate 15 false) ∙ ap (λ n. n + 15) (length-map levels bit_of_level))
 
--- so few levels spell a number of 15 bits
-pub taken_lt : (ls : List Level) (i : ℕ) → i < 16 → number_of (map bit_of_level (take i ls)) < 32768
+-- so few levels spell a number of 17 bits
+pub taken_lt : (ls : List Level) (i : ℕ) → i < 18 → number_of (map bit_of_level (take i ls)) < 131072
 taken_lt ls i h =
-    let short : length (take i ls) ≤ 15 = omega (arith, length-take i ls) in
+    let short : length (take i ls) ≤ 17 = omega (arith, length-take i ls) in
     omega (arith, levels_lt (take i ls), pow-le-pow_right {n = 2} (omega arith) short)
 
 -- one bit more of a number

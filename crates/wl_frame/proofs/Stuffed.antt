@@ -1,12 +1,12 @@
--- Stuff bits in a list: they do not change when the list grows behind them, and what one more bit does.
+-- Stuff bits in a list: they do not change when the list grows after them, and what one more bit does.
 use Rattle.std.proofs.Common.{◌≡◌, ℕ, zero, suc, ◌+◌, ◌*◌, ◌<◌, ◌≤◌, ◌∙◌, List, [], ◌∷◌, ◌++◌, length, Bool, true, false, cond, ◌&&◌, refl, sym, ap, arith, length-append, add-one, append-nil, inl, inr, subst}
 use Rattle.std.specs.Prelude.{nat_le}
 use Rattle.std.proofs.lemmas.Bool.{le-leb, lt-leb, both_ways, cases_lt}
-use Rattle.wl_intervals.specs.declared.Level.{Level}
-use Rattle.wl_intervals.specs.declared.Level.TheVariants.{Recessive}
-use Rattle.wl_intervals.specs.Levels.{same, opposite}
-use Rattle.wl_intervals.specs.Places.{at, before, run_at}
-use Rattle.wl_intervals.proofs.Places.{at_new, at_old, at_front, before_old, run_at_front, run_positive, run_le, same_opposite}
+use Rattle.wl_level.specs.declared.Level.{Level}
+use Rattle.wl_level.specs.declared.Level.TheVariants.{Recessive}
+use Rattle.wl_level.specs.Levels.{same, opposite}
+use Rattle.wl_level.specs.Places.{at, before, run_at}
+use Rattle.wl_level.proofs.Callers.{at_new, at_old, at_front, before_old, run_at_front, run_positive, run_le, same_opposite}
 use Rattle.wl_frame.specs.Stuffing.{is_stuff, kept, destuffed, Stuffs}
 
 five_run : (r : ℕ) (a b c d : Bool) → 0 < r
@@ -29,7 +29,7 @@ five_run r a b c false h = and_out (a && b && c)
     and_out true = refl
     and_out false = refl
 
--- a stuff bit is due exactly behind a run of five
+-- a stuff bit is due exactly after a run of five
 pub stuff_run : (y : List Level) (n : ℕ) → is_stuff y n ≡ nat_le 5 (run_at y n)
 stuff_run y zero = refl
 stuff_run y (suc zero) = refl
@@ -109,7 +109,7 @@ pushed y x b s h = record {
   closed = stuff_run (y ++ b ∷ []) (length (y ++ b ∷ [])) ∙ ap (nat_le 5) (run_more y b) ∙ lt-leb 5 _ h;
 }
 
--- the run behind a stuff bit
+-- the run after a stuff bit
 pub run_stuffed : (y : List Level) (b : Level) → run_at ((y ++ b ∷ []) ++ opposite b ∷ []) (length ((y ++ b ∷ []) ++ opposite b ∷ [])) ≡ 1
 run_stuffed y b =
     run_more (y ++ b ∷ []) (opposite b)

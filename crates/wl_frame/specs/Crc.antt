@@ -1,8 +1,8 @@
 -- The CRC sequence of a list of bits: the remainder of a long division of lists of bits.
 use Rattle.std.specs.Prelude.{ℕ, zero, suc, ◌+◌, ◌*◌, Bool, true, false, not, List, [], ◌∷◌, ◌++◌, length, replicate, map, fold, if◌then◌else◌}
-use Rattle.wl_intervals.specs.declared.Level.{Level}
-use Rattle.wl_intervals.specs.declared.Level.TheVariants.{Dominant, Recessive}
-use Rattle.wl_intervals.specs.Levels.{is_dominant}
+use Rattle.wl_level.specs.declared.Level.{Level}
+use Rattle.wl_level.specs.declared.Level.TheVariants.{Dominant, Recessive}
+use Rattle.wl_level.specs.Levels.{is_dominant}
 
 -- dominant is bit 0, recessive bit 1; Bosch CAN 2.0 part B, section 2
 abbrev pub bit_of_level : Level → Bool

@@ -1,7 +1,9 @@
 pub mod Stuffing
 pub mod Crc
 pub mod Register
+pub mod Header
 pub mod Grammar
 pub mod Padded
 pub mod Held
+pub mod Limits
 pub mod Same

@@ -1,8 +1,8 @@
 -- Bit stuffing, as a relation between the list on the line and the list that it stands for.
 use Rattle.std.specs.Prelude.{◌≡◌, ℕ, zero, suc, ◌<◌, ◌&&◌, Bool, true, false, List, [], ◌∷◌, ◌++◌, length, Option, if◌then◌else◌}
-use Rattle.wl_intervals.specs.declared.Level.{Level}
-use Rattle.wl_intervals.specs.Levels.{same, opposite}
-use Rattle.wl_intervals.specs.Places.{at, before, first_place}
+use Rattle.wl_level.specs.declared.Level.{Level}
+use Rattle.wl_level.specs.Levels.{same, opposite}
+use Rattle.wl_level.specs.Places.{at, before, first_place}
 
 -- the five bits from place k on are equal; Bosch CAN 2.0 part B, section 6
 abbrev pub five_equal : List Level → ℕ → Bool
@@ -25,7 +25,7 @@ abbrev pub destuffed : List Level → List Level
 destuffed y = kept y (length y)
 
 -- y is x with its stuff bits: without them it is x, each is the opposite of the bit before it, and none is due at the end;
--- Bosch CAN 2.0 part B, section 6, with the stuff bit due behind the last bit as this project's profile
+-- Bosch CAN 2.0 part B, section 6, with the stuff bit due after the last bit as this project's profile
 pub record Stuffs (y x : List Level) : Type 0 where
   pub content : destuffed y ≡ x
   pub opposite : (k : ℕ) → k < length y → is_stuff y k ≡ true → at y k ≡ opposite (before y k)
@@ -34,6 +34,10 @@ pub record Stuffs (y x : List Level) : Type 0 where
 -- six equal bits end at a place; Bosch CAN 2.0 part B, section 7.1 (stuff error)
 abbrev pub ends_six : List Level → ℕ → Bool
 ends_six y k = is_stuff y k && same (at y k) (before y k)
+
+-- no six equal bits end before a place; Bosch CAN 2.0 part B, section 7.1 (stuff error)
+abbrev pub NoSixBefore : List Level → ℕ → Type 0
+NoSixBefore y n = (k : ℕ) → k < n → ends_six y k ≡ false
 
 -- the first place at which six equal bits end; Bosch CAN 2.0 part B, section 7.1 (stuff error)
 abbrev pub first_six : List Level → Option ℕ

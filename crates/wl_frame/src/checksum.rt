@@ -2,9 +2,9 @@
 
 ghost use Rattle.std.specs.Prelude.{◌≡◌, ◌<◌, ◌^◌};
 ghost use Rattle.wl_frame.specs.Crc.{bit_of_level, crc_of};
-ghost use Rattle.wl_frame.specs.Register.{shifted};
+ghost use Rattle.wl_frame.specs.Register.{register_after};
 
-use wl_intervals::Level;
+use wl_level::Level;
 
 const TOP_BIT: u16 = 0x4000;
 
@@ -27,11 +27,11 @@ pub fn crc15(bits: &[Level]) -> u16
 }
 
 /// The register after one more bit.
-#[tactic(auto, unfolding(crate::specs::Register::shifted))]
+#[tactic(auto, unfolding(crate::specs::Register::register_after))]
 fn shifted_in(register: u16, bit: Level) -> u16
     requires { register < 2 ^ 15 }
     ensures below { result < 2 ^ 15 }
-    ensures value { result ≡ shifted register (bit_of_level bit) }
+    ensures value { result ≡ register_after register (bit_of_level bit) }
 {
     let is_top = register & TOP_BIT != 0;
     let moved = (register << 1) & LOW_BITS;

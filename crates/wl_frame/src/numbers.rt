@@ -4,13 +4,14 @@ ghost use Rattle.std.specs.Prelude.{◌≡◌, ◌+◌, ◌==◌, ◌<◌, ◌�
 ghost use Rattle.std.specs.Int.{bit_at};
 ghost use Rattle.wl_frame.specs.Crc.{bit_of_level, level_of_bit, number_of};
 ghost use Rattle.wl_frame.specs.Grammar.{number_bits};
+ghost use Rattle.wl_frame.specs.Limits.{most_bits};
 
 use crate::frame::FrameBits;
-use wl_intervals::Level;
+use wl_level::Level;
 
-/// The number that at most 16 bits spell.
+/// The number that at most 18 bits spell.
 pub(crate) fn number(bits: &[Level]) -> u32
-    requires { length bits.now ≤ 16 }
+    requires { length bits.now ≤ 18 }
     ensures { result ≡ number_of (map bit_of_level bits.now) }
 {
     let mut number = 0;
@@ -23,7 +24,7 @@ pub(crate) fn number(bits: &[Level]) -> u32
 /// Appends the `count` low bits of a number.
 pub(crate) fn push_number(bits: &mut FrameBits, number: u32, count: u32)
     requires small { count ≤ 32 }
-    requires room { length bits.old.items + count ≤ 160 }
+    requires room { length bits.old.items + count ≤ most_bits }
     ensures bits { bits.new.items ≡ bits.old.items ++ number_bits count number }
     ensures len { length bits.new.items ≡ length bits.old.items + count }
 {

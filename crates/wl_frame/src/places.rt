@@ -1,48 +1,100 @@
 //! Reading a frame by places, in the list of its bits without stuff bits: what a receiver does with
 //! the front that it has, and what is a whole frame (Bosch CAN 2.0 part B, section 3.2.1).
 
-ghost use Rattle.std.specs.Prelude.{◌≡◌, ◌↔◌, ◌≤◌, List, [], ◌++◌, true, length};
-ghost use Rattle.wl_intervals.specs.declared.Level.{Level};
-ghost use Rattle.wl_frame.specs.Grammar.{Content, IsFrame, IsReadAs, covered_length, is_arbitration, is_crc_right, is_whole, layout_of};
+ghost use Rattle.std.specs.Prelude.{◌≡◌, ◌≤◌, true, length};
+ghost use Rattle.wl_frame.specs.Grammar.{content_of, covered_length, is_arbitration, is_crc_right, is_whole, layout_of};
+ghost use Rattle.wl_frame.specs.Header.{is_extended};
 
 use crate::checksum::crc15;
 use crate::frame::byte_count;
 use crate::numbers::number;
-use wl_intervals::Level;
+use wl_level::Level;
 
-/// The place of the RTR bit.
-pub(crate) const RTR: usize = 12;
+/// Where the identifier begins, of which 11 bits stand together.
+const ID: usize = 1;
 
-/// The place of the data length code.
-pub(crate) const DLC: usize = 15;
+/// The place of the RTR bit of a base frame, and of the SRR bit of an extended one.
+const RTR: usize = 12;
 
-/// The place of the first byte, or of the CRC sequence where there is none.
-pub(crate) const BYTES: usize = 19;
+/// The place of the IDE bit.
+const IDE: usize = 13;
+
+/// The place of the last 18 bits of an extended frame's identifier.
+const EXTENDED_ID: usize = 14;
+
+/// The place of an extended frame's RTR bit.
+const EXTENDED_RTR: usize = 32;
+
+/// How many bits the header of a base frame has, from its start to its data length code.
+const HEADER: usize = 19;
+
+/// The same of an extended frame.
+const EXTENDED_HEADER: usize = 39;
+
+/// How many bits a data length code has.
+const DLC_LENGTH: usize = 4;
+
+/// How many numbers the last 18 bits of an extended frame's identifier spell.
+pub(crate) const ID_END: u32 = 0x4_0000;
 
 /// How many bits a CRC sequence has.
 const CRC_LENGTH: usize = 15;
+
+/// The IDE bit is there and recessive.
+pub(crate) fn is_extended(bits: &[Level]) -> bool
+    ensures { result ≡ is_extended bits.now }
+{
+    IDE < bits.len() && !bits[IDE].is_dominant()
+}
+
+/// How many bits the header has.
+pub(crate) fn header_length(bits: &[Level]) -> usize
+    ensures value { result ≡ (layout_of bits.now).header }
+    ensures least { 19 ≤ result }
+    ensures most { result ≤ 39 }
+{
+    if is_extended(bits) {
+        EXTENDED_HEADER
+    } else {
+        HEADER
+    }
+}
+
+/// The identifier.
+pub(crate) fn identifier(bits: &[Level]) -> u32
+    requires { (layout_of bits.now).header ≤ length bits.now }
+    ensures { result ≡ (content_of bits.now).id }
+{
+    let front = number(&bits[ID..RTR]);
+    if is_extended(bits) {
+        front * ID_END + number(&bits[EXTENDED_ID..EXTENDED_RTR])
+    } else {
+        front
+    }
+}
 
 /// The bits are those of a whole frame, by its own data length code. In constant time.
 pub fn is_whole(bits: &[Level]) -> bool
     ensures { result ≡ is_whole bits.now }
 {
-    bits.len() >= BYTES + CRC_LENGTH && bits.len() == places_covered(bits) + CRC_LENGTH
+    bits.len() >= header_length(bits) + CRC_LENGTH
+        && bits.len() == places_covered(bits) + CRC_LENGTH
 }
 
-/// The place is one of the arbitration, where a sender of these bits may lose: behind the start of
-/// frame, up to the RTR bit. In a base frame that is the same whatever the bits are.
-pub fn is_arbitration(_bits: &[Level], place: usize) -> bool
-    ensures { result ≡ is_arbitration _bits.now place }
+/// The place is one of the arbitration, where a sender of these bits may lose: after the start of
+/// frame, up to the RTR bit. Without an IDE bit they count as a base frame's.
+pub fn is_arbitration(bits: &[Level], place: usize) -> bool
+    ensures { result ≡ is_arbitration bits.now place }
 {
-    0 < place && place <= RTR
+    0 < place && place <= rtr_place(bits)
 }
 
-/// The place of the RTR bit, the last of the arbitration. In a base frame that is the same whatever
-/// the bits are.
-pub fn rtr_place(_bits: &[Level]) -> usize
-    ensures { result ≡ (layout_of _bits.now).rtr }
+/// The place of the RTR bit, the last of the arbitration. Bits without an IDE bit count as a base
+/// frame's.
+pub fn rtr_place(bits: &[Level]) -> usize
+    ensures { result ≡ (layout_of bits.now).rtr }
 {
-    RTR
+    if is_extended(bits) { EXTENDED_RTR } else { RTR }
 }
 
 /// The CRC sequence of a whole list is that of the bits before it. In time linear in the bits.
@@ -54,20 +106,28 @@ pub fn is_crc_right(bits: &[Level]) -> bool
     u32::from(crc15(&bits[..covered])) == number(&bits[covered..])
 }
 
-/// How many bits the CRC sequence covers.
-fn places_covered(bits: &[Level]) -> usize
-    requires { 19 ≤ length bits.now }
-    ensures value { result ≡ covered_length bits.now }
-    ensures most { result ≤ 83 }
+/// The RTR bit is recessive.
+pub(crate) fn is_remote(bits: &[Level]) -> bool
+    requires { (layout_of bits.now).header ≤ length bits.now }
+    ensures { result ≡ (content_of bits.now).remote }
 {
-    let remote = !bits[RTR].is_dominant();
-    BYTES + 8 * byte_count(remote, number(&bits[DLC..BYTES]))
+    !bits[rtr_place(bits)].is_dominant()
 }
 
-/// The law that reading by places is the grammar: a list is a frame of this content exactly where it
-/// begins with a dominant bit, is whole, has the right CRC sequence and is read as this content. And
-/// no other front of a whole list is whole, so that one who reads bit by bit stops at its end.
-pub fn reading_by_places_is_the_grammar()
-    ensures grammar { (bits : List Level) (c : Content) → IsFrame bits c ↔ IsReadAs bits c }
-    ensures end { (front rest : List Level) → is_whole front ≡ true → is_whole (front ++ rest) ≡ true → rest ≡ [] }
-{}
+/// The data length code.
+pub(crate) fn data_length_code(bits: &[Level]) -> u32
+    requires { (layout_of bits.now).header ≤ length bits.now }
+    ensures { result ≡ (content_of bits.now).dlc }
+{
+    let header = header_length(bits);
+    number(&bits[header - DLC_LENGTH..header])
+}
+
+/// How many bits the CRC sequence covers.
+fn places_covered(bits: &[Level]) -> usize
+    requires { (layout_of bits.now).header ≤ length bits.now }
+    ensures value { result ≡ covered_length bits.now }
+    ensures most { result ≤ 103 }
+{
+    header_length(bits) + 8 * byte_count(is_remote(bits), data_length_code(bits))
+}

@@ -1,23 +1,24 @@
 //! Bit stuffing (Bosch CAN 2.0 part B, section 6).
 
-ghost use Rattle.std.specs.Prelude.{◌≡◌, ◌≤◌, List, MatchOption, length};
-ghost use Rattle.wl_intervals.specs.declared.Level.{Level};
-ghost use Rattle.wl_frame.specs.Stuffing.{IsStuffedFront, Stuffs, first_six};
+ghost use Rattle.std.specs.Prelude.{◌≤◌, length};
+ghost use Rattle.wl_frame.specs.Limits.{most_unstuffed};
+ghost use Rattle.wl_frame.specs.Stuffing.{Stuffs};
 
+use crate::limits::MOST_BITS;
 use arrayvec::ArrayVec;
-use wl_intervals::Level;
+use wl_level::Level;
 
 /// Bits of which no six neighbours are equal.
-pub type StuffedBits = ArrayVec<Level, 160>;
+pub type StuffedBits = ArrayVec<Level, MOST_BITS>;
 
-/// The equal bits behind which a stuff bit stands.
+/// The equal bits after which a stuff bit stands.
 const LONGEST_RUN: usize = 5;
 
-/// The list with a bit of the other level behind each five equal ones, which counts as the first of
-/// the next run. Behind the last bit too, where one is due there: this project's profile. It takes at
-/// most 128 bits.
+/// The list with a bit of the other level after each five equal ones, which counts as the first of
+/// the next run. After the last bit too, where one is due there: this project's profile. It takes at
+/// most [`MOST_UNSTUFFED`](crate::limits::MOST_UNSTUFFED) bits.
 pub fn stuff(bits: &[Level]) -> StuffedBits
-    requires { length bits.now ≤ 128 }
+    requires { length bits.now ≤ most_unstuffed }
     ensures { Stuffs result.items bits.now }
 {
     let mut stuffed: StuffedBits = ArrayVec::new();
@@ -35,15 +36,3 @@ pub fn stuff(bits: &[Level]) -> StuffedBits
     }
     stuffed
 }
-
-/// The law that a list has one stuffing: so what [`stuff`] answers is the only right answer, and a
-/// receiver that takes the stuff bits out can have been sent one list alone.
-pub fn a_list_has_one_stuffing()
-    ensures { (x y z : List Level) → Stuffs y x → Stuffs z x → y ≡ z }
-{}
-
-/// The law of a stuff error: a list of samples either is the front of a list with its stuff bits, or
-/// has a first place at which six equal bits end, and not both.
-pub fn a_front_of_no_stuffing_ends_six_equal_bits()
-    ensures { (y : List Level) → MatchOption (first_six y) (IsStuffedFront y) (λ k. ¬ IsStuffedFront y) }
-{}

@@ -2,10 +2,10 @@
 use Rattle.std.proofs.Common.{◌≡◌, ◌⊎◌, inl, inr, ℕ, Bool, true, false, not, ◌&&◌, List, ◌++◌, append-nil, append_assoc, refl, sym, ◌∙◌, nat_lt, nat_le, if◌then◌else◌}
 use Rattle.std.specs.Prelude.{◌↔◌}
 use Rattle.std.proofs.lemmas.Bool.{cases_Bool, cond-false, lt-leb, le-leb, leb-true, ltb-true, and_parts, true≢false, false≢true}
-use Rattle.wl_record.specs.declared.record.Record.{Record}
+use Rattle.wl_record_core.specs.declared.record.Record.{Record}
 use Rattle.wl_replica.specs.Known.{place_horizon}
 use Rattle.wl_plan.specs.Line.{Line}
-use Rattle.wl_group.specs.Member.{due, can_run}
+use Rattle.wl_group.specs.Member.{next_tick, can_run}
 use Rattle.wl_group.specs.Party.{Party, slots}
 use Rattle.wl_group.specs.Advanced.{Reply, emitted, blocked, ended, can_advance, emission_of, reply_of, run_next, advanced, Steps, none, more}
 use Rattle.wl_group.specs.AdvanceLaws.{IsAtEnd, AdvanceLaws}
@@ -35,31 +35,31 @@ is_blocked true false true x h = (λ q. cc, λ q. absurd (true≢false q.0))
 is_blocked true false false x h = (λ q. (refl, λ w. false≢true w.1), λ q. refl)
 
 -- a quantum that may run is not at the end
-not_at_end : (l : Line) (p : Party) (i : ℕ) → can_run l i (p.members i) (slots p) ≡ true → nat_le l.stop (due l i (p.members i)) ≡ false
+not_at_end : (l : Line) (p : Party) (i : ℕ) → can_run l i (p.members i) (slots p) ≡ true → nat_le l.stop (next_tick l i (p.members i)) ≡ false
 not_at_end l p i h =
-    lt-leb l.stop (due l i (p.members i))
-    (ltb-true (due l i (p.members i)) l.stop (and_parts (nat_lt (due l i (p.members i)) l.stop) (nat_lt (due l i (p.members i)) (place_horizon l.nodes l.delay (slots p) i)) h).0)
+    lt-leb l.stop (next_tick l i (p.members i))
+    (ltb-true (next_tick l i (p.members i)) l.stop (and_parts (nat_lt (next_tick l i (p.members i)) l.stop) (nat_lt (next_tick l i (p.members i)) (place_horizon l.nodes l.delay (slots p) i)) h).0)
 
 module _ (l : Line) (belongs : ℕ → Bool) (p : Party) (i : ℕ) where
   emitted_iff : (reply_of l belongs p i ≡ emitted (emission_of l p i)) ↔ (can_advance l belongs p i ≡ true)
-  emitted_iff = is_emitted (belongs i) (nat_le l.stop (due l i (p.members i))) (can_run l i (p.members i) (slots p)) (emission_of l p i) (not_at_end l p i)
+  emitted_iff = is_emitted (belongs i) (nat_le l.stop (next_tick l i (p.members i))) (can_run l i (p.members i) (slots p)) (emission_of l p i) (not_at_end l p i)
 
-  tests_ended : (reply_of l belongs p i ≡ ended) ↔ ((belongs i ≡ true) × (nat_le l.stop (due l i (p.members i)) ≡ true))
-  tests_ended = is_ended (belongs i) (nat_le l.stop (due l i (p.members i))) (can_run l i (p.members i) (slots p)) (emission_of l p i)
+  tests_ended : (reply_of l belongs p i ≡ ended) ↔ ((belongs i ≡ true) × (nat_le l.stop (next_tick l i (p.members i)) ≡ true))
+  tests_ended = is_ended (belongs i) (nat_le l.stop (next_tick l i (p.members i))) (can_run l i (p.members i) (slots p)) (emission_of l p i)
 
   ended_iff : (reply_of l belongs p i ≡ ended) ↔ IsAtEnd l belongs p i
   ended_iff = (
-    λ q. (let t = tests_ended.0 q in (t.0, leb-true l.stop (due l i (p.members i)) t.1)),
-    λ q. tests_ended.1 (q.0, le-leb l.stop (due l i (p.members i)) q.1),
+    λ q. (let t = tests_ended.0 q in (t.0, leb-true l.stop (next_tick l i (p.members i)) t.1)),
+    λ q. tests_ended.1 (q.0, le-leb l.stop (next_tick l i (p.members i)) q.1),
   )
 
-  tests_blocked : (reply_of l belongs p i ≡ blocked) ↔ ((can_advance l belongs p i ≡ false) × ¬ ((belongs i ≡ true) × (nat_le l.stop (due l i (p.members i)) ≡ true)))
-  tests_blocked = is_blocked (belongs i) (nat_le l.stop (due l i (p.members i))) (can_run l i (p.members i) (slots p)) (emission_of l p i) (not_at_end l p i)
+  tests_blocked : (reply_of l belongs p i ≡ blocked) ↔ ((can_advance l belongs p i ≡ false) × ¬ ((belongs i ≡ true) × (nat_le l.stop (next_tick l i (p.members i)) ≡ true)))
+  tests_blocked = is_blocked (belongs i) (nat_le l.stop (next_tick l i (p.members i))) (can_run l i (p.members i) (slots p)) (emission_of l p i) (not_at_end l p i)
 
   blocked_iff : (reply_of l belongs p i ≡ blocked) ↔ ((can_advance l belongs p i ≡ false) × ¬ (IsAtEnd l belongs p i))
   blocked_iff = (
-    λ q. (let t = tests_blocked.0 q in (t.0, λ w. t.1 (w.0, le-leb l.stop (due l i (p.members i)) w.1))),
-    λ q. tests_blocked.1 (q.0, λ w. q.1 (w.0, leb-true l.stop (due l i (p.members i)) w.1)),
+    λ q. (let t = tests_blocked.0 q in (t.0, λ w. t.1 (w.0, le-leb l.stop (next_tick l i (p.members i)) w.1))),
+    λ q. tests_blocked.1 (q.0, λ w. q.1 (w.0, leb-true l.stop (next_tick l i (p.members i)) w.1)),
   )
 
   stays : can_advance l belongs p i ≡ false → advanced l belongs i p ≡ p

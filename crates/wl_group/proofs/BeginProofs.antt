@@ -5,13 +5,13 @@ use Rattle.std.specs.List.{range_with_len}
 use Rattle.std.proofs.lemmas.Bool.{cases_lt, cases_eq, cond-true, lt-ltb, le-ltb, ne_eqb, false≢true}
 use Rattle.std.proofs.lemmas.List.{get_or-set_same, get_or-set_other, get_or_past, get_or_default, map-append, length-map}
 use Rattle.std.proofs.lemmas.List.FromFn.{map-range_with_len_more, length-map-range_with_len}
-use Rattle.wl_record.specs.declared.record.Record.{Record}
-use Rattle.wl_record.specs.declared.record.Record.TheVariants.{Edge, Clash, Silence}
-use Rattle.wl_record.specs.Truth.{count_below, IsTrueOf}
+use Rattle.wl_record_core.specs.declared.record.Record.{Record}
+use Rattle.wl_record_core.specs.declared.record.Record.TheVariants.{Edge, Clash, Silence}
+use Rattle.wl_record_core.specs.Truth.{count_below, IsTrueOf}
 use Rattle.wl_node.specs.declared.setup.NodeSetup.{NodeSetup}
 use Rattle.wl_node.specs.declared.node.Node.{Node}
-use Rattle.wl_node.specs.Reached.{IsNode, setup_of, quanta_of}
-use Rattle.wl_replica.specs.State.{State, state_of, taken, joined, slots_of, Fits}
+use Rattle.wl_node.specs.Reached.{IsNode, node_setup, quanta_of}
+use Rattle.wl_replica.specs.State.{State, state_of, taken, states_joined, slots_of, Fits, IsOfRecords}
 use Rattle.wl_replica.specs.Slots.{HoldsTrue}
 use Rattle.wl_plan.specs.declared.plan.Plan.{Plan}
 use Rattle.wl_plan.specs.Line.{Line, reach}
@@ -21,10 +21,11 @@ use Rattle.wl_plan.specs.Sound.{IsSound}
 use Rattle.wl_plan.specs.SimulationLaws.{SimulationLaws}
 use Rattle.wl_plan.specs.Checked.{IsChecked}
 use Rattle.wl_group.specs.declared.cell.Cell.{Cell}
-use Rattle.wl_group.specs.GroupValue.{GroupValue, IsGroupValue, quanta_at, belongs, member_after, member_at, members_of, names, begun_of, with_records, with_state}
-use Rattle.wl_group.specs.Kept.{quanta_kept, ran_of, value_of, IsCell, AreCells, IsKept}
+use Rattle.wl_group.specs.GroupValue.{GroupValue, IsGroupValue, quanta_at, belongs, member_after, member_at, members_now, names, begun_of, with_records, with_state}
+use Rattle.wl_group.specs.Kept.{quanta_kept, ran_of, group_value, IsCell, AreCells, IsKept}
 use Rattle.wl_group.specs.Chosen.{is_chosen}
 use Rattle.wl_group.specs.ValueLaws.{ValueLaws}
+use Rattle.wl_replica.proofs.CallerLemmas.{some_is}
 
 -- ---- numbers that are chosen, one after another
 
@@ -92,27 +93,24 @@ cell_read cells i o cell b r e = get_or_default cells i None o b ∙ (sym r ∙ 
 
 -- where the value of a group has a member that it keeps
 pub kept_quanta : (plan : Plan) (cells : List (Option Cell)) (replica : State) (told : List Record) (i : ℕ) (cell : Cell)
-    → slice_index_or cells i None ≡ Some cell → quanta_at (value_of plan cells replica told) i ≡ Some (quanta_of cell.node)
+    → slice_index_or cells i None ≡ Some cell → quanta_at (group_value plan cells replica told) i ≡ Some (quanta_of cell.node)
 kept_quanta plan cells replica told i cell e = quanta_in cells i ∙ ap quanta_kept e
 
 pub kept_member : (plan : Plan) (cells : List (Option Cell)) (replica : State) (told : List Record) (i : ℕ) (cell : Cell)
-    → slice_index_or cells i None ≡ Some cell → members_of (value_of plan cells replica told) i ≡ member_after (line_of plan) i (quanta_of cell.node)
+    → slice_index_or cells i None ≡ Some cell → members_now (group_value plan cells replica told) i ≡ member_after (line_of plan) i (quanta_of cell.node)
 kept_member plan cells replica told i cell e = ap (member_at (line_of plan) i) (kept_quanta plan cells replica told i cell e)
 
 -- what the list of nodes holds at place i
 pub element_is : (plan : Plan) (i : ℕ) (x : NodeSetup) (xs : List NodeSetup) → xs ≡ plan.nodes → x ≡ get_or xs i x → i < length plan.nodes → x ≡ setup_at plan i
 element_is plan i x xs e is b = is ∙ (ap (λ ys. get_or ys i x) e ∙ get_or_default plan.nodes i x no_setup b)
 
-some_cell : (a b : Cell) → Some a ≡ Some b → a ≡ b
-some_cell a b h = cc
-
 -- ---- fresh nodes
 
 pub fresh_kept : (plan : Plan) (i : ℕ) (node : Node) → SimulationLaws → IsSound (line_of plan) → i < length plan.nodes
-    → setup_of node ≡ setup_at plan i → IsNode [] node → quanta_of node ≡ 0 → (member : Cell) → Some (record { node = node; changed = 0 }) ≡ Some member → IsCell plan i member
+    → node_setup node ≡ setup_at plan i → IsNode [] node → quanta_of node ≡ 0 → (member : Cell) → Some (record { node = node; changed = 0 }) ≡ Some member → IsCell plan i member
 unfolding seen
 fresh_kept plan i node laws sound b es is q member e =
-    let f : record { node = node; changed = 0 } ≡ member = some_cell (record { node = node; changed = 0 }) member e in
+    let f : record { node = node; changed = 0 } ≡ member = some_is (record { node = node; changed = 0 }) member e in
     subst (IsCell plan i) f (record {
       setup = es;
       node = subst (λ n. IsNode (seen (line_of plan) i n) node) (sym q) is;
@@ -173,7 +171,7 @@ first_taken l nodes old new told b i en et eb after before e =
 -- what begins makes the value that begins
 pub begun_value : (plan copy : Plan) (chosen given : ℕ → Bool) (cells : List (Option Cell)) (replica : State) (told : List Record) → copy ≡ plan
     → ((i : ℕ) → chosen i ≡ given i) → ran_of cells ≡ (begun_of plan chosen).ran → replica ≡ (begun_of plan chosen).replica → told ≡ []
-    → value_of copy cells replica told ≡ begun_of plan given
+    → group_value copy cells replica told ≡ begun_of plan given
 begun_value plan copy chosen given cells replica told ep ec er es et =
     (λ d. record { plan = ep d; ran = er d; replica = es d; told = et d }) ∙ ap (λ f. begun_of plan f) (λ d i. ec i d)
 
@@ -192,27 +190,28 @@ true_fits nodes n table (Silence i c u) h e = ((let b = h.0 in omega arith), h.2
 true_fits nodes n table (Clash i s) h e = absurd h
 
 pub taken_value : (plan : Plan) (cells : List (Option Cell)) (replica new : State) (told : List Record) (r : Record) (v : GroupValue)
-    → value_of plan cells replica told ≡ v → new ≡ taken replica r → value_of plan cells new told ≡ with_records (r ∷ []) v
-taken_value plan cells replica new told r v ev e = ap (λ s. value_of plan cells s told) e ∙ ap (with_records (r ∷ [])) ev
+    → group_value plan cells replica told ≡ v → new ≡ taken replica r → group_value plan cells new told ≡ with_records (r ∷ []) v
+taken_value plan cells replica new told r v ev e = ap (λ s. group_value plan cells s told) e ∙ ap (with_records (r ∷ [])) ev
 
 pub taken_kept : ValueLaws → (plan : Plan) (cells : List (Option Cell)) (replica new : State) (told : List Record) (r : Record) (v : GroupValue)
-    → value_of plan cells replica told ≡ v → IsKept plan cells replica told → IsTrueOfPlan v.plan r → new ≡ taken replica r → IsKept plan cells new told
+    → group_value plan cells replica told ≡ v → IsKept plan cells replica told → IsTrueOfPlan v.plan r → new ≡ taken replica r → IsKept plan cells new told
 taken_kept laws plan cells replica new told r v ev k t e = record {
-  value = subst (λ s. IsGroupValue (value_of plan cells s told)) (sym e)
-      (laws.takes (value_of plan cells replica told) k.value (r ∷ []) (subst (λ (x : GroupValue). IsTrueOfPlan x.plan r) (sym ev) t, tt));
+  value = subst (λ s. IsGroupValue (group_value plan cells s told)) (sym e)
+      (laws.takes (group_value plan cells replica told) k.value (r ∷ []) (subst (λ (x : GroupValue). IsTrueOfPlan x.plan r) (sym ev) t, tt));
   placed = k.placed;
 }
 
 pub joined_value : (plan : Plan) (cells : List (Option Cell)) (replica new : State) (told : List Record) (s : State) (v : GroupValue)
-    → value_of plan cells replica told ≡ v → new ≡ joined replica s → value_of plan cells new told ≡ with_state s v
-joined_value plan cells replica new told s v ev e = ap (λ x. value_of plan cells x told) e ∙ ap (with_state s) ev
+    → group_value plan cells replica told ≡ v → new ≡ states_joined replica s → group_value plan cells new told ≡ with_state s v
+joined_value plan cells replica new told s v ev e = ap (λ x. group_value plan cells x told) e ∙ ap (with_state s) ev
 
 pub joined_kept : ValueLaws → (plan : Plan) (cells : List (Option Cell)) (replica new : State) (told : List Record) (s : State) (v : GroupValue)
-    → value_of plan cells replica told ≡ v → IsKept plan cells replica told → HoldsTrue (length v.plan.nodes) (table_of v.plan) (slots_of s) → new ≡ joined replica s
-    → IsKept plan cells new told
-joined_kept laws plan cells replica new told s v ev k t e = record {
-  value = subst (λ x. IsGroupValue (value_of plan cells x told)) (sym e)
-      (laws.joins (value_of plan cells replica told) k.value s (subst (λ (x : GroupValue). HoldsTrue (length x.plan.nodes) (table_of x.plan) (slots_of s)) (sym ev) t));
+    → group_value plan cells replica told ≡ v → IsKept plan cells replica told → s.nodes ≡ length v.plan.nodes → IsOfRecords s
+    → HoldsTrue (length v.plan.nodes) (table_of v.plan) (slots_of s) → new ≡ states_joined replica s → IsKept plan cells new told
+joined_kept laws plan cells replica new told s v ev k n of t e = record {
+  value = subst (λ x. IsGroupValue (group_value plan cells x told)) (sym e)
+      (laws.joins (group_value plan cells replica told) k.value s (subst (λ (x : GroupValue). s.nodes ≡ length x.plan.nodes) (sym ev) n) of
+      (subst (λ (x : GroupValue). HoldsTrue (length x.plan.nodes) (table_of x.plan) (slots_of s)) (sym ev) t));
   placed = k.placed;
 }
 

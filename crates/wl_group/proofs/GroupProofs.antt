@@ -1,15 +1,16 @@
 -- Below its place horizon a member reads the line as it is, what it emits is true, and it stays where the simulation has it.
-use Rattle.std.proofs.Common.{◌≡◌, ℕ, zero, suc, ◌+◌, ◌-◌, ◌<◌, ◌≤◌, Bool, true, false, inl, inr, List, [], ◌∷◌, ◌++◌, length, refl, sym, ◌∙◌, ap, subst, arith, nat_lt, ◌==◌, length-append, add-one, Some, slice_get, if◌then◌else◌}
-use Rattle.std.specs.Prelude.{Contains, slice_index_or}
-use Rattle.std.proofs.lemmas.Bool.{cases_lt, cases_eq, cases_Bool, cond-true, cond-false, and_parts, ltb-true, eq-eqb, ne_eqb}
-use Rattle.wl_intervals.specs.declared.Level.{Level}
-use Rattle.wl_intervals.specs.Levels.{level_of}
-use Rattle.wl_record.specs.declared.record.Record.{Record}
-use Rattle.wl_record.specs.declared.record.Record.TheVariants.{Edge, Silence}
-use Rattle.wl_record.specs.Limits.{most_edges}
-use Rattle.wl_record.specs.Truth.{count_below, IsTrueOf, AreTrueOf}
-use Rattle.wl_record.specs.TableLaws.{TableLaws}
-use Rattle.wl_replica.specs.Slots.{Slots, slots_joined, slots_only, slots_of_records, HoldsTrue, IsBelow}
+use Rattle.std.proofs.Common.{◌≡◌, ℕ, zero, suc, ◌+◌, ◌-◌, ◌<◌, ◌≤◌, Bool, true, false, inl, inr, List, [], ◌∷◌, ◌++◌, length, refl, sym, ◌∙◌, ap, subst, arith, nat_lt, length-append, add-one, Some, slice_get, if◌then◌else◌}
+use Rattle.std.specs.Prelude.{Contains}
+use Rattle.std.proofs.lemmas.Bool.{cases_lt, cases_eq, cases_Bool, cond-true, cond-false, and_parts, ltb-true}
+use Rattle.std.proofs.lemmas.List.Elements.{Contains-append_left, Contains-append_right}
+use Rattle.wl_level.specs.declared.Level.{Level}
+use Rattle.wl_level.specs.Levels.{level_of}
+use Rattle.wl_record_core.specs.declared.record.Record.{Record}
+use Rattle.wl_record_core.specs.declared.record.Record.TheVariants.{Edge, Silence}
+use Rattle.wl_record_core.specs.Limits.{most_edges}
+use Rattle.wl_record_core.specs.Truth.{count_below, IsTrueOf, AreTrueOf}
+use Rattle.wl_record_core.specs.TableLaws.{TableLaws}
+use Rattle.wl_replica.specs.Slots.{Contents, slots_joined, slots_only, slots_of_records, HoldsTrue, IsBelow}
 use Rattle.wl_replica.specs.Known.{is_tick, horizon, place_horizon, wave_at}
 use Rattle.wl_replica.specs.KnownLaws.{SlotsLaws, KnownLaws}
 use Rattle.wl_plan.specs.Limits.{most_quiet}
@@ -17,28 +18,18 @@ use Rattle.wl_plan.specs.Line.{Line, found, reach}
 use Rattle.wl_plan.specs.Simulation.{history, level, seen, differs, changes, AreInside}
 use Rattle.wl_plan.specs.Sound.{IsSound}
 use Rattle.wl_plan.specs.SimulationLaws.{SimulationLaws}
-use Rattle.wl_group.specs.Member.{Member, fresh, due, can_run, turns, stepped, emission, level_read}
-use Rattle.wl_group.specs.Party.{Party, slots, put, firsts, begun, taking}
+use Rattle.wl_group.specs.Member.{Member, fresh, next_tick, can_run, turns, stepped, emission, level_read}
+use Rattle.wl_group.specs.Party.{Party, slots, firsts, begun, taking}
 use Rattle.wl_group.specs.Advanced.{emission_of, run_next, Steps, none, more}
 use Rattle.wl_group.specs.Holds.{IsMember, IsGroup, IsTold}
 use Rattle.wl_group.specs.GroupLaws.{WaveIsLevel, GroupLaws}
-
--- a written place, and another
-pub put_at : {A : Type 0} (f : ℕ → A) (i : ℕ) (a : A) (P : A → Type 0) (j : ℕ) → (j ≡ i → P a) → ((j ≡ i → ⊥) → P (f j)) → P (put f i a j)
-put_at f i a P j here_is other_is = elim (cases_eq j i) [
-  | inl e ↦ subst P (sym (cond-true (j == i) a (f j) (eq-eqb j i e))) (here_is e)
-  | inr n ↦ subst P (sym (cond-false (j == i) a (f j) (ne_eqb j i n))) (other_is n)
-]
+use Rattle.wl_group.proofs.CallerLemmas.{put_at, true_append}
 
 -- an entry that is there has a place of the list
 get_below : (xs : List ℕ) (s t : ℕ) → slice_get xs s ≡ Some t → s < length xs
 get_below [] s t h = cc
 get_below (x ∷ xs) zero t h = omega arith
 get_below (x ∷ xs) (suc s) t h = (let r = get_below xs s t h in omega arith)
-
-pub true_append : (nodes : ℕ) (table : ℕ → List ℕ) (qs rs : List Record) → AreTrueOf nodes table qs → AreTrueOf nodes table rs → AreTrueOf nodes table (qs ++ rs)
-true_append nodes table [] rs p q = q
-true_append nodes table (r ∷ qs) rs p q = (p.0, true_append nodes table qs rs p.1 q)
 
 -- an element of a list, by its place
 first_there : (r : Record) (rs : List Record) → Contains (r ∷ rs) r
@@ -47,25 +38,13 @@ first_there r rs = (0, omega arith, refl)
 later_there : (r q : Record) (rs : List Record) → Contains rs r → Contains (q ∷ rs) r
 later_there r q rs h = (suc h.0, (let b = h.1 in omega arith), h.2)
 
-there_right : (r : Record) (qs rs : List Record) → Contains rs r → Contains (qs ++ rs) r
-there_right r [] rs h = h
-there_right r (q ∷ qs) rs h = later_there r q (qs ++ rs) (there_right r qs rs h)
-
-there_left : (r : Record) (qs rs : List Record) → Contains qs r → Contains (qs ++ rs) r
-there_left r qs rs h = go qs h.0 h.1 h.2
-  where
-    go : (qs : List Record) (k : ℕ) → k < length qs → slice_index_or qs k r ≡ r → Contains (qs ++ rs) r
-    go [] k b e = absurd (omega arith)
-    go (q ∷ qs) zero b e = (0, omega arith, e)
-    go (q ∷ qs) (suc k) b e = later_there r q (qs ++ rs) (go qs k (omega arith) e)
-
 -- each node that passes has its first silence there
 first_in : (l : Line) (test : ℕ → Bool) (n i : ℕ) → i < n → test i ≡ true → Contains (firsts l test n) (Silence i 0 (reach l i []))
 first_in l test zero i h t = absurd (omega arith)
 first_in l test (suc n) i h t = elim (cases_eq i n) [
-  | inl e ↦ there_right _ (firsts l test n) _ (subst (λ v. Contains (if test v then Silence v 0 (reach l v []) ∷ [] else []) (Silence i 0 (reach l i []))) e
+  | inl e ↦ Contains-append_right (firsts l test n) _ _ (subst (λ v. Contains (if test v then Silence v 0 (reach l v []) ∷ [] else []) (Silence i 0 (reach l i []))) e
       (subst (λ rs. Contains rs (Silence i 0 (reach l i []))) (sym (cond-true (test i) (Silence i 0 (reach l i []) ∷ []) [] t)) (first_there _ [])))
-  | inr o ↦ there_left _ (firsts l test n) _ (first_in l test n i (omega arith) t)
+  | inr o ↦ Contains-append_left (firsts l test n) _ _ (first_in l test n i (omega arith) t)
 ]
 
 module _ (tables : TableLaws) (joins : SlotsLaws) (knows : KnownLaws) (sims : SimulationLaws) where
@@ -73,12 +52,12 @@ module _ (tables : TableLaws) (joins : SlotsLaws) (knows : KnownLaws) (sims : Si
   wave_is_level l s w h i t b p = knows.wave_agrees l.nodes (changes l) w i t (sims.changes_increase l i) h p ∙ sym (sims.level_odd l i t s.causal b)
 
   -- below the place horizon the line is read as it is
-  found_is : (l : Line) → IsSound l → (w : Slots) (j t : ℕ) → HoldsTrue l.nodes (changes l) w → t < place_horizon l.nodes l.delay w j → found l (wave_at w) j t ≡ found l (level l) j t
+  found_is : (l : Line) → IsSound l → (w : Contents) (j t : ℕ) → HoldsTrue l.nodes (changes l) w → t < place_horizon l.nodes l.delay w j → found l (wave_at w) j t ≡ found l (level l) j t
   found_is l s w j t h p =
       sims.found_same l (wave_at w) (level l) j t (λ i c early. let q = knows.place_known l.nodes l.delay w i j t c p in wave_is_level l s w h i (t - l.delay i j) c (omega arith))
 
   -- no place horizon falls
-  place_keeps : (l : Line) (a b : Slots) (j : ℕ) → 0 < l.nodes → HoldsTrue l.nodes (changes l) a → HoldsTrue l.nodes (changes l) b → IsBelow a b → (t : ℕ)
+  place_keeps : (l : Line) (a b : Contents) (j : ℕ) → 0 < l.nodes → HoldsTrue l.nodes (changes l) a → HoldsTrue l.nodes (changes l) b → IsBelow a b → (t : ℕ)
       → t < place_horizon l.nodes l.delay a j → t < place_horizon l.nodes l.delay b j
   place_keeps l a b j p ha hb up t h = knows.place_above l.nodes l.delay b j t p (λ i c.
       let q = knows.place_known l.nodes l.delay a i j t c h in
@@ -86,7 +65,7 @@ module _ (tables : TableLaws) (joins : SlotsLaws) (knows : KnownLaws) (sims : Si
       omega arith)
 
   -- a member stays one where more that is true is held
-  pub member_keeps : (l : Line) (i : ℕ) (m : Member) (a b : Slots) → i < l.nodes → HoldsTrue l.nodes (changes l) a → HoldsTrue l.nodes (changes l) b → IsBelow a b → IsMember l i m a → IsMember l i m b
+  pub member_keeps : (l : Line) (i : ℕ) (m : Member) (a b : Contents) → i < l.nodes → HoldsTrue l.nodes (changes l) a → HoldsTrue l.nodes (changes l) b → IsBelow a b → IsMember l i m a → IsMember l i m b
   member_keeps l i m a b p ha hb up h = record {
     state = h.state;
     inside = h.inside;
@@ -95,7 +74,7 @@ module _ (tables : TableLaws) (joins : SlotsLaws) (knows : KnownLaws) (sims : Si
     known = (let r = knows.horizon_keeps l.nodes (changes l) a b i (sims.changes_increase l i) ha hb up in let q = h.known in omega arith);
   }
 
-  pub group_joins : (l : Line) (belongs : ℕ → Bool) (members : ℕ → Member) (w x : Slots) → IsGroup l belongs members w → HoldsTrue l.nodes (changes l) x → IsGroup l belongs members (slots_joined w x)
+  pub group_joins : (l : Line) (belongs : ℕ → Bool) (members : ℕ → Member) (w x : Contents) → IsGroup l belongs members w → HoldsTrue l.nodes (changes l) x → IsGroup l belongs members (slots_joined w x)
   group_joins l belongs members w x g h =
       let t = knows.true_joined l.nodes (changes l) w x g.truth h in
       record { truth = t; each = λ i b m. member_keeps l i (members i) w (slots_joined w x) b g.truth t (joins.above_first w x) (g.each i b m) }
@@ -154,33 +133,33 @@ module _ (tables : TableLaws) (joins : SlotsLaws) (knows : KnownLaws) (sims : Si
             };
       }
 
-  member_history : (l : Line) → IsSound l → (i : ℕ) (m : Member) (w : Slots) → i < l.nodes → IsMember l i m w → m.saw ≡ (history l (due l i m)).seen i
+  member_history : (l : Line) → IsSound l → (i : ℕ) (m : Member) (w : Contents) → i < l.nodes → IsMember l i m w → m.saw ≡ (history l (next_tick l i m)).seen i
   member_history l s i m w b h =
-      h.state ∙ (ap (seen l i) (sym (sims.ran_now l i (length m.saw) s.causal b h.inside)) ∙ sym (sims.history_seen l i (due l i m) s.causal b))
+      h.state ∙ (ap (seen l i) (sym (sims.ran_now l i (length m.saw) s.causal b h.inside)) ∙ sym (sims.history_seen l i (next_tick l i m) s.causal b))
 
-  member_ended : (l : Line) → IsSound l → (i : ℕ) (m : Member) (w : Slots) → i < l.nodes → IsMember l i m w → l.stop ≤ due l i m
+  member_ended : (l : Line) → IsSound l → (i : ℕ) (m : Member) (w : Contents) → i < l.nodes → IsMember l i m w → l.stop ≤ next_tick l i m
       → (m.saw ≡ (history l l.stop).seen i) × (m.changed ≡ length (changes l i))
   member_ended l s i m w b h late = (
     h.state ∙ (ap (seen l i) (sym (sims.ran_at_end l i (length m.saw) s.causal b h.inside late)) ∙ sym (sims.history_seen l i l.stop s.causal b)),
-    h.count ∙ sims.all_at_end l i (due l i m) s.causal b late,
+    h.count ∙ sims.all_at_end l i (next_tick l i m) s.causal b late,
   )
 
   -- What the next quantum of a member does, where it can run.
-  module _ (l : Line) (s : IsSound l) (w : Slots) (truth : HoldsTrue l.nodes (changes l) w) (i : ℕ) (m : Member) (b : i < l.nodes) (can : can_run l i m w ≡ true) where
-    early : due l i m < l.stop
-    early = ltb-true (due l i m) l.stop (and_parts (nat_lt (due l i m) l.stop) (nat_lt (due l i m) (place_horizon l.nodes l.delay w i)) can).0
+  module _ (l : Line) (s : IsSound l) (w : Contents) (truth : HoldsTrue l.nodes (changes l) w) (i : ℕ) (m : Member) (b : i < l.nodes) (can : can_run l i m w ≡ true) where
+    early : next_tick l i m < l.stop
+    early = ltb-true (next_tick l i m) l.stop (and_parts (nat_lt (next_tick l i m) l.stop) (nat_lt (next_tick l i m) (place_horizon l.nodes l.delay w i)) can).0
 
-    place_is_known : due l i m < place_horizon l.nodes l.delay w i
-    place_is_known = ltb-true (due l i m) (place_horizon l.nodes l.delay w i) (and_parts (nat_lt (due l i m) l.stop) (nat_lt (due l i m) (place_horizon l.nodes l.delay w i)) can).1
+    place_is_known : next_tick l i m < place_horizon l.nodes l.delay w i
+    place_is_known = ltb-true (next_tick l i m) (place_horizon l.nodes l.delay w i) (and_parts (nat_lt (next_tick l i m) l.stop) (nat_lt (next_tick l i m) (place_horizon l.nodes l.delay w i)) can).1
 
-    read_is_found : level_read l i m w ≡ level_of (found l (level l) i (due l i m))
-    read_is_found = ap level_of (found_is l s w i (due l i m) truth place_is_known)
+    read_is_found : level_read l i m w ≡ level_of (found l (level l) i (next_tick l i m))
+    read_is_found = ap level_of (found_is l s w i (next_tick l i m) truth place_is_known)
 
     longer : length (stepped l i m (level_read l i m w)).saw ≡ suc (length m.saw)
     longer = length-append m.saw (level_read l i m w ∷ []) ∙ add-one (length m.saw)
 
     -- the tick after
-    due_next : due l i (stepped l i m (level_read l i m w)) ≡ l.instant i (suc (length m.saw))
+    due_next : next_tick l i (stepped l i m (level_read l i m w)) ≡ l.instant i (suc (length m.saw))
     due_next = ap (l.instant i) longer
 
     module _ (h : IsMember l i m w) where
@@ -221,22 +200,22 @@ module _ (tables : TableLaws) (joins : SlotsLaws) (knows : KnownLaws) (sims : Si
         ((let f = s.few_nodes in omega arith), changed_few, (let r = reach_most l s i (suc (length m.saw)) (stepped l i m (level_read l i m w)).saw b longer in let f = s.next_fits i (length m.saw) b early in omega arith)),
       )
 
-      edge_entry : turns l i m (level_read l i m w) ≡ true → slice_get (changes l i) m.changed ≡ Some (due l i m)
+      edge_entry : turns l i m (level_read l i m w) ≡ true → slice_get (changes l i) m.changed ≡ Some (next_tick l i m)
       edge_entry y = ap (slice_get (changes l i)) h.count ∙ (sims.turn l i (length m.saw) s.causal b inside_next (sym turns_is ∙ y)).0
 
-      edge_true : turns l i m (level_read l i m w) ≡ true → IsTrueOf l.nodes (changes l) (Edge i m.changed (due l i m))
+      edge_true : turns l i m (level_read l i m w) ≡ true → IsTrueOf l.nodes (changes l) (Edge i m.changed (next_tick l i m))
       edge_true y = (
         b,
         edge_entry y,
-        ((let f = s.few_nodes in omega arith), (let g = get_below (changes l i) m.changed (due l i m) (edge_entry y) in let f = s.few_changes i b in omega arith), (let e = early in let f = s.end_fits in omega arith)),
+        ((let f = s.few_nodes in omega arith), (let g = get_below (changes l i) m.changed (next_tick l i m) (edge_entry y) in let f = s.few_changes i b in omega arith), (let e = early in let f = s.end_fits in omega arith)),
       )
 
       -- what it emits, by whether its drive changed
-      emission_yes : turns l i m (level_read l i m w) ≡ true → emission l i m (level_read l i m w) ≡ Edge i m.changed (due l i m) ∷ Silence i (stepped l i m (level_read l i m w)).changed (reach l i (stepped l i m (level_read l i m w)).saw) ∷ []
-      emission_yes y = ap (λ v. v ++ Silence i (stepped l i m (level_read l i m w)).changed (reach l i (stepped l i m (level_read l i m w)).saw) ∷ []) (cond-true (turns l i m (level_read l i m w)) (Edge i m.changed (due l i m) ∷ []) [] y)
+      emission_yes : turns l i m (level_read l i m w) ≡ true → emission l i m (level_read l i m w) ≡ Edge i m.changed (next_tick l i m) ∷ Silence i (stepped l i m (level_read l i m w)).changed (reach l i (stepped l i m (level_read l i m w)).saw) ∷ []
+      emission_yes y = ap (λ v. v ++ Silence i (stepped l i m (level_read l i m w)).changed (reach l i (stepped l i m (level_read l i m w)).saw) ∷ []) (cond-true (turns l i m (level_read l i m w)) (Edge i m.changed (next_tick l i m) ∷ []) [] y)
 
       emission_no : turns l i m (level_read l i m w) ≡ false → emission l i m (level_read l i m w) ≡ Silence i (stepped l i m (level_read l i m w)).changed (reach l i (stepped l i m (level_read l i m w)).saw) ∷ []
-      emission_no n = ap (λ v. v ++ Silence i (stepped l i m (level_read l i m w)).changed (reach l i (stepped l i m (level_read l i m w)).saw) ∷ []) (cond-false (turns l i m (level_read l i m w)) (Edge i m.changed (due l i m) ∷ []) [] n)
+      emission_no n = ap (λ v. v ++ Silence i (stepped l i m (level_read l i m w)).changed (reach l i (stepped l i m (level_read l i m w)).saw) ∷ []) (cond-false (turns l i m (level_read l i m w)) (Edge i m.changed (next_tick l i m) ∷ []) [] n)
 
       emission_true : AreTrueOf l.nodes (changes l) (emission l i m (level_read l i m w))
       emission_true = elim (cases_Bool (turns l i m (level_read l i m w))) [
@@ -244,22 +223,22 @@ module _ (tables : TableLaws) (joins : SlotsLaws) (knows : KnownLaws) (sims : Si
         | inr n ↦ subst (AreTrueOf l.nodes (changes l)) (sym (emission_no n)) (silence_true, tt)
       ]
 
-      edge_emitted : turns l i m (level_read l i m w) ≡ true → Contains (emission l i m (level_read l i m w)) (Edge i m.changed (due l i m))
-      edge_emitted y = subst (λ rs. Contains rs (Edge i m.changed (due l i m))) (sym (emission_yes y)) (first_there (Edge i m.changed (due l i m)) ((Silence i (stepped l i m (level_read l i m w)).changed (reach l i (stepped l i m (level_read l i m w)).saw)) ∷ []))
+      edge_emitted : turns l i m (level_read l i m w) ≡ true → Contains (emission l i m (level_read l i m w)) (Edge i m.changed (next_tick l i m))
+      edge_emitted y = subst (λ rs. Contains rs (Edge i m.changed (next_tick l i m))) (sym (emission_yes y)) (first_there (Edge i m.changed (next_tick l i m)) ((Silence i (stepped l i m (level_read l i m w)).changed (reach l i (stepped l i m (level_read l i m w)).saw)) ∷ []))
 
       silence_emitted : Contains (emission l i m (level_read l i m w)) (Silence i (stepped l i m (level_read l i m w)).changed (reach l i (stepped l i m (level_read l i m w)).saw))
       silence_emitted = elim (cases_Bool (turns l i m (level_read l i m w))) [
-        | inl y ↦ subst (λ rs. Contains rs (Silence i (stepped l i m (level_read l i m w)).changed (reach l i (stepped l i m (level_read l i m w)).saw))) (sym (emission_yes y)) (later_there (Silence i (stepped l i m (level_read l i m w)).changed (reach l i (stepped l i m (level_read l i m w)).saw)) (Edge i m.changed (due l i m)) ((Silence i (stepped l i m (level_read l i m w)).changed (reach l i (stepped l i m (level_read l i m w)).saw)) ∷ []) (first_there (Silence i (stepped l i m (level_read l i m w)).changed (reach l i (stepped l i m (level_read l i m w)).saw)) []))
+        | inl y ↦ subst (λ rs. Contains rs (Silence i (stepped l i m (level_read l i m w)).changed (reach l i (stepped l i m (level_read l i m w)).saw))) (sym (emission_yes y)) (later_there (Silence i (stepped l i m (level_read l i m w)).changed (reach l i (stepped l i m (level_read l i m w)).saw)) (Edge i m.changed (next_tick l i m)) ((Silence i (stepped l i m (level_read l i m w)).changed (reach l i (stepped l i m (level_read l i m w)).saw)) ∷ []) (first_there (Silence i (stepped l i m (level_read l i m w)).changed (reach l i (stepped l i m (level_read l i m w)).saw)) []))
         | inr n ↦ subst (λ rs. Contains rs (Silence i (stepped l i m (level_read l i m w)).changed (reach l i (stepped l i m (level_read l i m w)).saw))) (sym (emission_no n)) (first_there (Silence i (stepped l i m (level_read l i m w)).changed (reach l i (stepped l i m (level_read l i m w)).saw)) [])
       ]
 
       -- slots above the emission, and above slots that hold the member's edges so far, hold all that it said
-      module _ (old new : Slots) (more : IsBelow old new) (said : IsBelow (slots_of_records (emission l i m (level_read l i m w))) new) (true_new : HoldsTrue l.nodes (changes l) new)
+      module _ (old new : Contents) (more : IsBelow old new) (said : IsBelow (slots_of_records (emission l i m (level_read l i m w))) new) (true_new : HoldsTrue l.nodes (changes l) new)
           (held : (n : ℕ) → n < m.changed → is_tick (old.edge i n) ≡ true) where
         edge_there : turns l i m (level_read l i m w) ≡ true → is_tick (new.edge i m.changed) ≡ true
         edge_there y =
-            ap is_tick (knows.edge_held l.nodes (changes l) new i m.changed (due l i m) true_new
-            (joins.transitive (slots_only (Edge i m.changed (due l i m))) (slots_of_records (emission l i m (level_read l i m w))) new (joins.of_a_record _ _ (edge_emitted y)) said))
+            ap is_tick (knows.edge_held l.nodes (changes l) new i m.changed (next_tick l i m) true_new
+            (joins.transitive (slots_only (Edge i m.changed (next_tick l i m))) (slots_of_records (emission l i m (level_read l i m w))) new (joins.of_a_record _ _ (edge_emitted y)) said))
 
         edges_there : (n : ℕ) → n < (stepped l i m (level_read l i m w)).changed → is_tick (new.edge i n) ≡ true
         edges_there n c = elim (cases_Bool (turns l i m (level_read l i m w))) [
@@ -272,14 +251,14 @@ module _ (tables : TableLaws) (joins : SlotsLaws) (knows : KnownLaws) (sims : Si
           | inr x ↦ (let e = changed_no x in knows.tick_stays l.nodes (changes l) old new i n more true_new (held n (omega arith)))
         ]
 
-        silence_there : due l i (stepped l i m (level_read l i m w)) ≤ new.silence i (stepped l i m (level_read l i m w)).changed
+        silence_there : next_tick l i (stepped l i m (level_read l i m w)) ≤ new.silence i (stepped l i m (level_read l i m w)).changed
         silence_there =
             let e = knows.silence_held new i (stepped l i m (level_read l i m w)).changed (reach l i (stepped l i m (level_read l i m w)).saw)
             (joins.transitive (slots_only (Silence i (stepped l i m (level_read l i m w)).changed (reach l i (stepped l i m (level_read l i m w)).saw))) (slots_of_records (emission l i m (level_read l i m w))) new (joins.of_a_record _ _ silence_emitted) said) in
             let f = reach_late l s i (stepped l i m (level_read l i m w)).saw b in
             omega arith
 
-      after : Slots
+      after : Contents
       after = slots_joined w (slots_of_records (emission l i m (level_read l i m w)))
 
       after_true : HoldsTrue l.nodes (changes l) after
@@ -295,7 +274,7 @@ module _ (tables : TableLaws) (joins : SlotsLaws) (knows : KnownLaws) (sims : Si
       said_after = joins.above_second w (slots_of_records (emission l i m (level_read l i m w)))
 
       held_now : (n : ℕ) → n < m.changed → is_tick (w.edge i n) ≡ true
-      held_now n c = knows.changes_held l.nodes (changes l) w i (due l i m) n (sims.changes_increase l i) truth h.known (let q = h.count in omega arith)
+      held_now n c = knows.changes_held l.nodes (changes l) w i (next_tick l i m) n (sims.changes_increase l i) truth h.known (let q = h.count in omega arith)
 
       -- the member is where the one-thread simulation has it after its next quantum
       member_next : IsMember l i (stepped l i m (level_read l i m w)) after
@@ -352,7 +331,7 @@ module _ (tables : TableLaws) (joins : SlotsLaws) (knows : KnownLaws) (sims : Si
   }
 
   -- what was told stays
-  told_above : (l : Line) (i : ℕ) (m : Member) (a b : Slots) → IsBelow a b → HoldsTrue l.nodes (changes l) b → IsTold l i m a → IsTold l i m b
+  told_above : (l : Line) (i : ℕ) (m : Member) (a b : Contents) → IsBelow a b → HoldsTrue l.nodes (changes l) b → IsTold l i m a → IsTold l i m b
   told_above l i m a b up h t = record {
     edges = λ n c. knows.tick_stays l.nodes (changes l) a b i n up h (t.edges n c);
     silence = (let x = t.silence in let y = up.silences i m.changed in omega arith);
@@ -361,28 +340,28 @@ module _ (tables : TableLaws) (joins : SlotsLaws) (knows : KnownLaws) (sims : Si
   told_more : (l : Line) (i : ℕ) (m : Member) (es rs : List Record) → AreTrueOf l.nodes (changes l) (es ++ rs)
       → IsTold l i m (slots_of_records es) → IsTold l i m (slots_of_records (es ++ rs))
   told_more l i m es rs h t =
-      told_above l i m (slots_of_records es) (slots_of_records (es ++ rs)) (joins.of_a_part es (es ++ rs) (λ r. there_left r es rs)) (knows.true_records l.nodes (changes l) (es ++ rs) h) t
+      told_above l i m (slots_of_records es) (slots_of_records (es ++ rs)) (joins.of_a_part es (es ++ rs) (Contains-append_left es rs)) (knows.true_records l.nodes (changes l) (es ++ rs) h) t
 
-  told_stepped : (l : Line) → IsSound l → (w : Slots) → HoldsTrue l.nodes (changes l) w → (i : ℕ) (m : Member) → i < l.nodes → IsMember l i m w → can_run l i m w ≡ true
+  told_stepped : (l : Line) → IsSound l → (w : Contents) → HoldsTrue l.nodes (changes l) w → (i : ℕ) (m : Member) → i < l.nodes → IsMember l i m w → can_run l i m w ≡ true
       → (es : List Record) → AreTrueOf l.nodes (changes l) (es ++ emission l i m (level_read l i m w)) → IsTold l i m (slots_of_records es)
       → IsTold l i (stepped l i m (level_read l i m w)) (slots_of_records (es ++ emission l i m (level_read l i m w)))
   told_stepped l s w truth i m b h can es ts t =
       let rs = emission l i m (level_read l i m w) in
-      let more = joins.of_a_part es (es ++ rs) (λ r. there_left r es rs) in
-      let said = joins.of_a_part rs (es ++ rs) (λ r. there_right r es rs) in
+      let more = joins.of_a_part es (es ++ rs) (Contains-append_left es rs) in
+      let said = joins.of_a_part rs (es ++ rs) (Contains-append_right es rs) in
       let tn = knows.true_records l.nodes (changes l) (es ++ rs) ts in
       record {
         edges = edges_there l s w truth i m b can h (slots_of_records es) (slots_of_records (es ++ rs)) more said tn t.edges;
         silence = silence_there l s w truth i m b can h (slots_of_records es) (slots_of_records (es ++ rs)) more said tn t.edges;
       }
 
-  told_known : (l : Line) → IsSound l → (i : ℕ) (m : Member) (w : Slots) → i < l.nodes → IsMember l i m w → (es taken : List Record)
+  told_known : (l : Line) → IsSound l → (i : ℕ) (m : Member) (w : Contents) → i < l.nodes → IsMember l i m w → (es taken : List Record)
       → HoldsTrue l.nodes (changes l) (slots_of_records taken) → ((r : Record) → Contains es r → Contains taken r)
-      → IsTold l i m (slots_of_records es) → due l i m ≤ horizon (slots_of_records taken) i
+      → IsTold l i m (slots_of_records es) → next_tick l i m ≤ horizon (slots_of_records taken) i
   told_known l s i m w b h es taken truth all t =
       let told = told_above l i m (slots_of_records es) (slots_of_records taken) (joins.of_a_part es taken all) truth t in
-      let few : m.changed ≤ most_edges = (let e = h.count in let c = count_most l s i (due l i m) b in omega arith) in
-      knows.horizon_reached l.nodes (changes l) (slots_of_records taken) i m.changed (due l i m) (sims.changes_increase l i) truth few told.edges told.silence
+      let few : m.changed ≤ most_edges = (let e = h.count in let c = count_most l s i (next_tick l i m) b in omega arith) in
+      knows.horizon_reached l.nodes (changes l) (slots_of_records taken) i m.changed (next_tick l i m) (sims.changes_increase l i) truth few told.edges told.silence
 
   pub group_laws : GroupLaws
   group_laws = record {

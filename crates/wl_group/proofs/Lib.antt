@@ -1,7 +1,9 @@
+pub mod CallerLemmas
 mod AdvanceProofs
 mod BeginProofs
+mod ChangesProofs
 mod GroupProofs
 mod Rows
 mod ValueProofs
-pub mod RunProofs
-pub mod AllProofs
+mod RunProofs
+mod AllProofs

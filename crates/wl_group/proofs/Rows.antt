@@ -1,8 +1,8 @@
 -- A member of a small line, computed: what it may do, what it emits, how it stands afterwards.
 use Rattle.std.proofs.Common.{◌≡◌, ℕ, zero, suc, ◌+◌, ◌*◌, Bool, true, false, List, [], ◌∷◌, refl}
-use Rattle.wl_intervals.specs.declared.Level.{Level}
-use Rattle.wl_intervals.specs.declared.Level.TheVariants.{Recessive}
-use Rattle.wl_record.specs.declared.record.Record.TheVariants.{Edge, Silence}
+use Rattle.wl_level.specs.declared.Level.{Level}
+use Rattle.wl_level.specs.declared.Level.TheVariants.{Recessive}
+use Rattle.wl_record_core.specs.declared.record.Record.TheVariants.{Edge, Silence}
 use Rattle.wl_plan.specs.Line.{Line}
 use Rattle.wl_group.specs.Member.{Member, fresh, stepped, emission}
 use Rattle.wl_group.specs.Party.{firsts, begun, stepping}

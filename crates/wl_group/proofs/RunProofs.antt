@@ -1,36 +1,35 @@
 -- One quantum of a member, from what a group keeps to what its contracts see.
-use Rattle.std.proofs.Common.{◌≡◌, ℕ, zero, suc, ◌+◌, ◌<◌, ◌≤◌, true, inl, inr, List, [], ◌∷◌, ◌++◌, length, get_or, All, Option, Some, None, is_some, Result, Ok, Err, OnErr, refl, sym, ◌∙◌, ap, subst, arith, nat_lt}
+use Rattle.std.proofs.Common.{◌≡◌, ℕ, zero, suc, ◌+◌, ◌<◌, ◌≤◌, true, inl, inr, List, [], ◌∷◌, ◌++◌, length, get_or, All, Option, Some, None, is_some, refl, sym, ◌∙◌, ap, subst, arith, nat_lt}
 use Rattle.std.proofs.Math.ListN.{set}
-use Rattle.std.proofs.lemmas.Bool.{cases_lt, cases_eq, false≢true}
+use Rattle.std.proofs.lemmas.Bool.{cases_lt, cases_eq}
 use Rattle.std.proofs.lemmas.List.{get_or_read, get_or_past, get_or-set_same, get_or-set_other}
 use Rattle.std.proofs.lemmas.List.Elements.{All-from_recursion, All-weaker}
 use Rattle.std.proofs.lemmas.List.Sums.{count_by-le-length}
-use Rattle.wl_intervals.specs.declared.Level.{Level}
-use Rattle.wl_intervals.specs.Levels.{level_of}
-use Rattle.wl_record.specs.declared.record.Record.{Record}
-use Rattle.wl_record.specs.declared.record.Record.TheVariants.{Edge, Clash, Silence}
-use Rattle.wl_record.specs.Limits.{most_edges, most_edges-is}
-use Rattle.wl_record.specs.Truth.{IsTrueOf, AreTrueOf}
+use Rattle.wl_level.specs.declared.Level.{Level}
+use Rattle.wl_level.specs.Levels.{level_of}
+use Rattle.wl_record_core.specs.declared.record.Record.{Record}
+use Rattle.wl_record_core.specs.declared.record.Record.TheVariants.{Edge, Clash, Silence}
+use Rattle.wl_record_core.specs.Limits.{most_edges}
+use Rattle.wl_record_core.specs.Truth.{IsTrueOf, AreTrueOf}
 use Rattle.wl_replica.specs.State.{State, slots_of, taken_all, Fits}
 use Rattle.wl_replica.specs.Known.{wave_at}
 use Rattle.wl_node.specs.Reached.{quanta_of}
 use Rattle.wl_plan.specs.declared.plan.Plan.{Plan}
-use Rattle.wl_plan.specs.Limits.{most_quanta, most_quanta-is}
+use Rattle.wl_plan.specs.Limits.{most_quanta}
 use Rattle.wl_plan.specs.Line.{found}
 use Rattle.wl_plan.specs.PlanLine.{line_of, table_of}
 use Rattle.wl_plan.specs.Simulation.{level, AreInside}
 use Rattle.wl_plan.specs.Checked.{CheckedIsSound}
 use Rattle.wl_group.specs.declared.cell.Cell.{Cell}
-use Rattle.wl_group.specs.Member.{Member, due, stepped, emission}
-use Rattle.wl_group.specs.GroupValue.{GroupValue, IsGroupValue, quanta_at, belongs, member_after, member_at, members_of, may_run, reads_at, emission_at, run_on}
-use Rattle.wl_group.specs.Kept.{quanta_kept, ran_of, value_of, IsCell, AreCells, IsKept}
-use Rattle.wl_group.specs.Running.{IsCellOf, left_of, quanta_left, HasRunNext}
+use Rattle.wl_group.specs.Member.{Member, next_tick, stepped, emission}
+use Rattle.wl_group.specs.GroupValue.{GroupValue, IsGroupValue, quanta_at, belongs, member_after, member_at, members_now, may_run, reads_at, emission_at, run_on}
+use Rattle.wl_group.specs.Kept.{quanta_kept, ran_of, group_value, IsCell, AreCells, IsKept}
+use Rattle.wl_group.specs.Running.{IsCellOf, MaySay, quanta_to_come, quanta_left, HasRunNext}
 use Rattle.wl_group.specs.ValueLaws.{ValueLaws}
+use Rattle.wl_group.proofs.CallerLemmas.{is_there}
+use Rattle.wl_replica.proofs.CallerLemmas.{some_is}
 
 -- ---- places of a list
-
-some_is : {A : Type 0} (x y : A) → Some x ≡ Some y → x ≡ y
-some_is x y h = cc
 
 pub ran_get : (cells : List (Option Cell)) (i : ℕ) → get_or (ran_of cells) i None ≡ quanta_kept (get_or cells i None)
 ran_get [] i = refl
@@ -59,13 +58,9 @@ same_length : (cells : List (Option Cell)) → length (ran_of cells) ≡ length 
 same_length [] = refl
 same_length (x ∷ xs) = ap suc (same_length xs)
 
-is_there : (o : Option ℕ) → is_some o ≡ true → (k : ℕ) × (o ≡ Some k)
-is_there None h = absurd (false≢true h)
-is_there (Some k) h = (k, refl)
-
 -- ---- how many quanta are left
 
-left_set : (xs : List (Option ℕ)) (i k : ℕ) → get_or xs i None ≡ Some k → k < most_quanta → left_of (set xs i (Some (suc k))) < left_of xs
+left_set : (xs : List (Option ℕ)) (i k : ℕ) → get_or xs i None ≡ Some k → k < most_quanta → quanta_to_come (set xs i (Some (suc k))) < quanta_to_come xs
 left_set [] i k h b = absurd cc
 left_set (None ∷ xs) zero k h b = absurd cc
 left_set (Some n ∷ xs) zero k h b = let e : n ≡ k = some_is n k h in omega arith
@@ -84,61 +79,56 @@ true_fits nodes table rs h = All-weaker (IsTrueOf nodes table) (Fits nodes) (fit
 
 -- ---- a member's cell
 
-pub on_err : {T E P : Type 0} (r : Result T E) → P → OnErr r P
-on_err (Ok x) p = tt
-on_err (Err e) p = p
-
 -- what was read of the list of cells
 pub cell_read : (cells : List (Option Cell)) (i : ℕ) (o : Option Cell) (cell : Cell) → i < length cells → o ≡ get_or cells i o → o ≡ Some cell → get_or cells i None ≡ Some cell
 cell_read cells i o cell b r is = sym (get_or_read cells i o b r None) ∙ is
 
 -- What the group keeps, the value that contracts see of it, and a member of it.
 module _ (laws : ValueLaws) (sound : CheckedIsSound) (plan : Plan) (cells : List (Option Cell)) (replica : State) (told : List Record) (kept : IsKept plan cells replica told)
-    (now : GroupValue) (view : ◌≡◌ {A = GroupValue} (value_of plan cells replica told) now) (i : ℕ) where
+    (now : GroupValue) (view : ◌≡◌ {A = GroupValue} (group_value plan cells replica told) now) (i : ℕ) where
   pub in_cells : belongs now i ≡ true → i < length cells
   in_cells o =
-      let here : belongs (value_of plan cells replica told) i ≡ true = subst (λ (v : GroupValue). belongs v i ≡ true) (sym view) o in
+      let here : belongs (group_value plan cells replica told) i ≡ true = subst (λ (v : GroupValue). belongs v i ≡ true) (sym view) o in
       let k = is_there (get_or (ran_of cells) i None) here in
       let b = some_there (ran_of cells) i k.0 k.1 in
       let e = same_length cells in
       omega arith
 
   module _ (cell : Cell) (is : get_or cells i None ≡ Some cell) where
-    ran_is : quanta_at (value_of plan cells replica told) i ≡ Some (quanta_of cell.node)
+    ran_is : quanta_at (group_value plan cells replica told) i ≡ Some (quanta_of cell.node)
     ran_is = ran_get cells i ∙ ap quanta_kept is
 
     few : (i < length plan.nodes) × (quanta_of cell.node ≤ most_quanta) × AreInside (line_of plan) i (quanta_of cell.node)
-    few = laws.quanta_few (value_of plan cells replica told) kept.value i (quanta_of cell.node) ran_is
+    few = laws.quanta_few (group_value plan cells replica told) kept.value i (quanta_of cell.node) ran_is
 
     pub in_plan : i < length plan.nodes
     in_plan = few.0
 
-    pub few_quanta : quanta_of cell.node ≤ 65536
-    few_quanta = subst (λ n. quanta_of cell.node ≤ n) most_quanta-is few.1
+    pub few_quanta : quanta_of cell.node ≤ most_quanta
+    few_quanta = few.1
 
-    pub few_changed : cell.changed ≤ 65536
+    pub few_changed : cell.changed ≤ most_edges
     few_changed =
         let c = (kept.placed i cell is).changed in
         let m = count_by-le-length (λ u. nat_lt u ((line_of plan).instant i (quanta_of cell.node))) (table_of plan i) in
         let f = (sound plan kept.value.checked).few_changes i in_plan in
-        let n : most_edges ≡ 65536 = most_edges-is in
         omega arith
 
-    member_is : members_of (value_of plan cells replica told) i ≡ member_after (line_of plan) i (quanta_of cell.node)
+    member_is : members_now (group_value plan cells replica told) i ≡ member_after (line_of plan) i (quanta_of cell.node)
     member_is = ap (member_at (line_of plan) i) ran_is
 
     -- it stands where the machine's member does
-    pub own : IsCellOf plan i (members_of (value_of plan cells replica told) i) cell
+    pub own : IsCellOf plan i (members_now (group_value plan cells replica told) i) cell
     own =
         let c = kept.placed i cell is in
         subst (λ m. IsCellOf plan i m cell) (sym member_is) (record { setup = c.setup; node = c.node; changed = c.changed })
 
     -- what it reads is what its value says
-    pub reads_is : (tick : ℕ) (level : Level) → tick ≡ due (line_of now.plan) i (members_of now i)
-        → level ≡ level_of (found (line_of plan) (wave_at (slots_of replica)) i tick) → level ≡ reads_at (value_of plan cells replica told) i
+    pub reads_is : (tick : ℕ) (level : Level) → tick ≡ next_tick (line_of now.plan) i (members_now now i)
+        → level ≡ level_of (found (line_of plan) (wave_at (slots_of replica)) i tick) → level ≡ reads_at (group_value plan cells replica told) i
     reads_is tick level et el =
         el ∙ ap (λ t. level_of (found (line_of plan) (wave_at (slots_of replica)) i t))
-        (et ∙ ap (λ (v : GroupValue). due (line_of v.plan) i (members_of v i)) (sym view))
+        (et ∙ ap (λ (v : GroupValue). next_tick (line_of v.plan) i (members_now v i)) (sym view))
 
     -- a list of cells in which it has another state
     module _ (new : Cell) where
@@ -156,7 +146,7 @@ module _ (laws : ValueLaws) (sound : CheckedIsSound) (plan : Plan) (cells : List
       -- no quantum was run
       module _ (quanta : quanta_of new.node ≡ quanta_of cell.node) (stays : (p : Plan) (j : ℕ) (m : Member) → IsCellOf p j m cell → IsCellOf p j m new)
           (replica_new : State) (told_new : List Record) (untaken : replica_new ≡ replica) (untold : told_new ≡ told) where
-        pub value_stays : ◌≡◌ {A = GroupValue} (value_of plan (set cells i (Some new)) replica_new told_new) (value_of plan cells replica told)
+        pub value_stays : ◌≡◌ {A = GroupValue} (group_value plan (set cells i (Some new)) replica_new told_new) (group_value plan cells replica told)
         value_stays =
             let ran : ran_of (set cells i (Some new)) ≡ ran_of cells = ran_new ∙ (ap (λ k. set (ran_of cells) i (Some k)) quanta ∙ set_own (ran_of cells) i (quanta_of cell.node) ran_is) in
             λ d. record { plan = plan; ran = ran d; replica = untaken d; told = untold d }
@@ -172,75 +162,78 @@ module _ (laws : ValueLaws) (sound : CheckedIsSound) (plan : Plan) (cells : List
             }
 
       -- one was run
-      module _ (may : may_run now i ≡ true) (level : Level) (read : level ≡ reads_at (value_of plan cells replica told) i) (said : List Record)
+      module _ (may : may_run now i ≡ true) (level : Level) (read : level ≡ reads_at (group_value plan cells replica told) i) (said : List Record)
           (says : (p : Plan) (m : Member) → IsCellOf p i m cell → said ≡ emission (line_of p) i m level)
           (quanta : quanta_of new.node ≡ quanta_of cell.node + 1)
           (after : (p : Plan) (j : ℕ) (m : Member) → IsCellOf p j m cell → IsCellOf p j (stepped (line_of p) j m level) new)
           (replica_new : State) (told_new : List Record) (taken : replica_new ≡ taken_all replica said) (appended : told_new ≡ told ++ said) where
-        may_here : may_run (value_of plan cells replica told) i ≡ true
+        may_here : may_run (group_value plan cells replica told) i ≡ true
         may_here = subst (λ (v : GroupValue). may_run v i ≡ true) (sym view) may
 
-        said_is : said ≡ emission_at (value_of plan cells replica told) i
-        said_is = says plan (members_of (value_of plan cells replica told) i) own ∙ ap (emission (line_of plan) i (members_of (value_of plan cells replica told) i)) read
+        said_is : said ≡ emission_at (group_value plan cells replica told) i
+        said_is = says plan (members_now (group_value plan cells replica told) i) own ∙ ap (emission (line_of plan) i (members_now (group_value plan cells replica told) i)) read
 
         quanta_is : quanta_of new.node ≡ suc (quanta_of cell.node)
         quanta_is = quanta ∙ omega arith
 
-        value_runs : ◌≡◌ {A = GroupValue} (value_of plan (set cells i (Some new)) replica_new told_new) (run_on i (quanta_of cell.node) (value_of plan cells replica told))
+        value_runs : ◌≡◌ {A = GroupValue} (group_value plan (set cells i (Some new)) replica_new told_new) (run_on i (quanta_of cell.node) (group_value plan cells replica told))
         value_runs =
             let ran : ran_of (set cells i (Some new)) ≡ set (ran_of cells) i (Some (suc (quanta_of cell.node))) = ran_new ∙ ap (λ k. set (ran_of cells) i (Some k)) quanta_is in
-            let known : replica_new ≡ taken_all replica (emission_at (value_of plan cells replica told) i) = taken ∙ ap (taken_all replica) said_is in
-            let more : told_new ≡ told ++ emission_at (value_of plan cells replica told) i = appended ∙ ap (λ rs. told ++ rs) said_is in
+            let known : replica_new ≡ taken_all replica (emission_at (group_value plan cells replica told) i) = taken ∙ ap (taken_all replica) said_is in
+            let more : told_new ≡ told ++ emission_at (group_value plan cells replica told) i = appended ∙ ap (λ rs. told ++ rs) said_is in
             λ d. record { plan = plan; ran = ran d; replica = known d; told = more d }
 
-        value_new : IsGroupValue (run_on i (quanta_of cell.node) (value_of plan cells replica told))
-        value_new = laws.runs (value_of plan cells replica told) kept.value i (quanta_of cell.node) ran_is may_here
+        value_new : IsGroupValue (run_on i (quanta_of cell.node) (group_value plan cells replica told))
+        value_new = laws.runs (group_value plan cells replica told) kept.value i (quanta_of cell.node) ran_is may_here
 
-        ran_on : quanta_at (run_on i (quanta_of cell.node) (value_of plan cells replica told)) i ≡ Some (suc (quanta_of cell.node))
+        ran_on : quanta_at (run_on i (quanta_of cell.node) (group_value plan cells replica told)) i ≡ Some (suc (quanta_of cell.node))
         ran_on = get_or-set_same (ran_of cells) i (Some (suc (quanta_of cell.node))) None (some_there (ran_of cells) i (quanta_of cell.node) ran_is)
 
-        new_is : stepped (line_of plan) i (members_of (value_of plan cells replica told) i) level ≡ member_after (line_of plan) i (quanta_of new.node)
+        new_is : stepped (line_of plan) i (members_now (group_value plan cells replica told) i) level ≡ member_after (line_of plan) i (quanta_of new.node)
         new_is =
-            ap (stepped (line_of plan) i (members_of (value_of plan cells replica told) i)) read
-            ∙ (laws.steps_to (value_of plan cells replica told) kept.value i (quanta_of cell.node) ran_is may_here
+            ap (stepped (line_of plan) i (members_now (group_value plan cells replica told) i)) read
+            ∙ (laws.steps_to (group_value plan cells replica told) kept.value i (quanta_of cell.node) ran_is may_here
             ∙ (ap (member_at (line_of plan) i) ran_on ∙ ap (member_after (line_of plan) i) (sym quanta_is)))
 
         cell_new : IsCell plan i new
         cell_new =
-            let s = after plan i (members_of (value_of plan cells replica told) i) own in
+            let s = after plan i (members_now (group_value plan cells replica told) i) own in
             let at : IsCellOf plan i (member_after (line_of plan) i (quanta_of new.node)) new = subst (λ m. IsCellOf plan i m new) new_is s in
             record { setup = at.setup; node = at.node; changed = at.changed }
 
         pub kept_runs : IsKept plan (set cells i (Some new)) replica_new told_new
         kept_runs = record { value = subst IsGroupValue (sym value_runs) value_new; placed = cells_new cell_new }
 
-        fewer : quanta_left (run_on i (quanta_of cell.node) (value_of plan cells replica told)) < quanta_left (value_of plan cells replica told)
+        fewer : quanta_left (run_on i (quanta_of cell.node) (group_value plan cells replica told)) < quanta_left (group_value plan cells replica told)
         fewer =
-            let q = (laws.quanta_few (run_on i (quanta_of cell.node) (value_of plan cells replica told)) value_new i (suc (quanta_of cell.node)) ran_on).1 in
+            let q = (laws.quanta_few (run_on i (quanta_of cell.node) (group_value plan cells replica told)) value_new i (suc (quanta_of cell.node)) ran_on).1 in
             left_set (ran_of cells) i (quanta_of cell.node) ran_is (omega arith)
 
-        ran_here : HasRunNext i (value_of plan cells replica told) (run_on i (quanta_of cell.node) (value_of plan cells replica told)) said
+        ran_here : HasRunNext i (group_value plan cells replica told) (run_on i (quanta_of cell.node) (group_value plan cells replica told)) said
         ran_here = record {
           node = in_plan;
           emits = said_is;
-          runs = λ k e. ap (λ n. run_on i n (value_of plan cells replica told)) (some_is (quanta_of cell.node) k (sym ran_is ∙ e));
-          told = λ p h. said_is ∙ laws.emits_as (value_of plan cells replica told) p i h (ap is_some ran_is);
-          after = λ p h. laws.runs_as (value_of plan cells replica told) kept.value p i (quanta_of cell.node) h ran_is may_here;
+          runs = λ k e. ap (λ n. run_on i n (group_value plan cells replica told)) (some_is (quanta_of cell.node) k (sym ran_is ∙ e));
+          told = λ p h. said_is ∙ laws.emits_as (group_value plan cells replica told) p i h (ap is_some ran_is);
+          after = λ p h. laws.runs_as (group_value plan cells replica told) kept.value p i (quanta_of cell.node) h ran_is may_here;
           plan = refl;
-          members = laws.runs_with (value_of plan cells replica told) i (quanta_of cell.node) ran_is;
+          members = laws.runs_with (group_value plan cells replica told) i (quanta_of cell.node) ran_is;
           fewer = fewer;
         }
 
-        pub has_run : HasRunNext i now (value_of plan (set cells i (Some new)) replica_new told_new) said
+        pub has_run : HasRunNext i now (group_value plan (set cells i (Some new)) replica_new told_new) said
         has_run =
-            subst (λ (v : GroupValue). HasRunNext i v (value_of plan (set cells i (Some new)) replica_new told_new) said) view
-            (subst (λ (v : GroupValue). HasRunNext i (value_of plan cells replica told) v said) (sym value_runs) ran_here)
+            subst (λ (v : GroupValue). HasRunNext i v (group_value plan (set cells i (Some new)) replica_new told_new) said) view
+            (subst (λ (v : GroupValue). HasRunNext i (group_value plan cells replica told) v said) (sym value_runs) ran_here)
 
-    -- what it says is true, and fits the replica
-    pub fits_replica : may_run now i ≡ true → (level : Level) → level ≡ reads_at (value_of plan cells replica told) i → (said : List Record)
-        → ((p : Plan) (m : Member) → IsCellOf p i m cell → said ≡ emission (line_of p) i m level) → All (Fits replica.nodes) said
-    fits_replica may level read said says =
-        let here : may_run (value_of plan cells replica told) i ≡ true = subst (λ (v : GroupValue). may_run v i ≡ true) (sym view) may in
-        let e : said ≡ emission_at (value_of plan cells replica told) i = says plan (members_of (value_of plan cells replica told) i) own ∙ ap (emission (line_of plan) i (members_of (value_of plan cells replica told) i)) read in
-        let t = laws.emits_true (value_of plan cells replica told) kept.value i here in
-        subst (λ n. All (Fits n) said) (sym kept.value.of_all) (subst (All (Fits (length plan.nodes))) (sym e) (true_fits (length plan.nodes) (table_of plan) (emission_at (value_of plan cells replica told) i) t))
+    -- what it may say at its next quantum
+    pub may_say : may_run now i ≡ true → (level : Level) → level ≡ reads_at (group_value plan cells replica told) i
+        → (p : Plan) × ((m : Member) × MaySay p i m cell level replica.nodes)
+    may_say may level read =
+        let here : may_run (group_value plan cells replica told) i ≡ true = subst (λ (v : GroupValue). may_run v i ≡ true) (sym view) may in
+        let m : Member = members_now (group_value plan cells replica told) i in
+        let e : emission (line_of plan) i m level ≡ emission_at (group_value plan cells replica told) i = ap (emission (line_of plan) i m) read in
+        let t = laws.emits_true (group_value plan cells replica told) kept.value i here in
+        let fit : All (Fits replica.nodes) (emission (line_of plan) i m level) =
+        subst (λ n. All (Fits n) (emission (line_of plan) i m level)) (sym kept.value.of_all) (subst (All (Fits (length plan.nodes))) (sym e) (true_fits (length plan.nodes) (table_of plan) (emission_at (group_value plan cells replica told) i) t)) in
+        (plan, (m, record { at = own; fits = fit }))

@@ -1,15 +1,15 @@
 -- When an advance replies what: `emitted` exactly where the node may run, `ended` exactly where it is a member at the end, `blocked` else;
 -- and what several of them leave. This project's profile.
 use Rattle.std.specs.Prelude.{◌≡◌, ◌⊎◌, ◌↔◌, ℕ, ◌≤◌, Bool, true, false, List, ◌++◌}
-use Rattle.wl_record.specs.declared.record.Record.{Record}
+use Rattle.wl_record_core.specs.declared.record.Record.{Record}
 use Rattle.wl_plan.specs.Line.{Line}
-use Rattle.wl_group.specs.Member.{due}
+use Rattle.wl_group.specs.Member.{next_tick}
 use Rattle.wl_group.specs.Party.{Party}
 use Rattle.wl_group.specs.Advanced.{emitted, blocked, ended, can_advance, emission_of, reply_of, advanced, Steps}
 
 -- node i is a member whose next quantum is not below the end
 abbrev pub IsAtEnd : Line → (ℕ → Bool) → Party → ℕ → Type 0
-IsAtEnd l belongs p i = (belongs i ≡ true) × (l.stop ≤ due l i (p.members i))
+IsAtEnd l belongs p i = (belongs i ≡ true) × (l.stop ≤ next_tick l i (p.members i))
 
 pub record AdvanceLaws : Type 0 where
   pub emitted_iff : (l : Line) (belongs : ℕ → Bool) (p : Party) (i : ℕ) → (reply_of l belongs p i ≡ emitted (emission_of l p i)) ↔ (can_advance l belongs p i ≡ true)

@@ -1,9 +1,9 @@
 -- What an advance of a group replies and leaves, one node at a time and over all. Chandy and Misra 1979; the replies are this project's profile.
 -- For a reader who knows simulation: the rule of the safe event, and running until no event is safe. They are definitions to cite: a body's group stands beside a `Party` by a relation `matches`, which the body's crate gives.
-use Rattle.std.specs.Prelude.{◌≡◌, ◌⊎◌, ℕ, ◌<◌, Bool, true, false, not, ◌&&◌, List, [], ◌++◌, nat_le, if◌then◌else◌}
-use Rattle.wl_record.specs.declared.record.Record.{Record}
+use Rattle.std.specs.Prelude.{◌≡◌, ◌⊎◌, ℕ, ◌<◌, Bool, true, not, ◌&&◌, List, [], ◌++◌, nat_le, if◌then◌else◌}
+use Rattle.wl_record_core.specs.declared.record.Record.{Record}
 use Rattle.wl_plan.specs.Line.{Line}
-use Rattle.wl_group.specs.Member.{due, can_run, emission, level_read}
+use Rattle.wl_group.specs.Member.{next_tick, can_run, emission, level_read}
 use Rattle.wl_group.specs.Party.{Party, slots, stepping}
 
 -- the reply: the node ran and this was emitted; it must wait, or is no member; it has come to the end
@@ -24,7 +24,7 @@ emission_of l p i = emission l i (p.members i) (level_read l i (p.members i) (sl
 abbrev pub reply_of : Line → (ℕ → Bool) → Party → ℕ → Reply
 reply_of l belongs p i =
     if not (belongs i) then blocked
-    else if nat_le l.stop (due l i (p.members i)) then ended
+    else if nat_le l.stop (next_tick l i (p.members i)) then ended
     else if can_run l i (p.members i) (slots p) then emitted (emission_of l p i)
     else blocked
 
@@ -47,15 +47,3 @@ pub data Steps (l : Line) (belongs : ℕ → Bool) : Party → List Record → P
   none : {p : Party} → Steps l belongs p [] p
   more : {p q : Party} {rs : List Record} (i : ℕ) → i < l.nodes → can_advance l belongs p i ≡ true
       → Steps l belongs (run_next l i p) rs q → Steps l belongs p (emission_of l p i ++ rs) q
-
--- no node may advance
-abbrev pub IsStuck : Line → (ℕ → Bool) → Party → Type 0
-IsStuck l belongs p = (i : ℕ) → i < l.nodes → can_advance l belongs p i ≡ false
-
--- all advances that are possible were made, in some order, and these records were emitted
-abbrev pub HasAdvancedAll : {G : Type 0} → (Party → G → Type 0) → Line → (ℕ → Bool) → G → G → List Record → Type 0
-HasAdvancedAll matches l belongs old new rs = (p : Party) → matches p old → (q : Party) × Steps l belongs p rs q × matches q new × IsStuck l belongs q
-
--- some of them were made, and then memory was refused: what they emitted stands in what the group has told
-abbrev pub HasAdvancedSome : {G : Type 0} → (Party → G → Type 0) → Line → (ℕ → Bool) → G → G → Type 0
-HasAdvancedSome matches l belongs old new = (p : Party) → matches p old → (q : Party) × (rs : List Record) × Steps l belongs p rs q × matches q new

@@ -1,17 +1,17 @@
 -- A group that runs, as the contracts of its calls see it, and when it is a group of the machine. This project's profile.
 -- A node's quanta tell all of it: it has seen what the one-thread simulation shows its node at as many, so its value needs no history.
-use Rattle.std.specs.Prelude.{◌≡◌, ℕ, suc, ◌==◌, ◌&&◌, Bool, true, List, [], ◌++◌, length, map, Option, None, Some, is_some, slice_index_or, slice_set, if◌then◌else◌}
-use Rattle.wl_intervals.specs.declared.Level.{Level}
+use Rattle.std.specs.Prelude.{◌≡◌, ℕ, suc, ◌==◌, ◌&&◌, Bool, true, List, [], ◌++◌, length, map, Option, None, Some, is_some, slice_index_or, slice_set, nat_le, if◌then◌else◌}
+use Rattle.wl_level.specs.declared.Level.{Level}
 use Rattle.std.specs.List.{list_any, range_with_len}
-use Rattle.wl_record.specs.declared.record.Record.{Record}
-use Rattle.wl_record.specs.Truth.{count_below, AreTrueOf}
-use Rattle.wl_replica.specs.State.{State, state_of, slots_of, taken_all, joined}
+use Rattle.wl_record_core.specs.declared.record.Record.{Record}
+use Rattle.wl_record_core.specs.Truth.{count_below, AreTrueOf}
+use Rattle.wl_replica.specs.State.{State, state_of, slots_of, taken_all, states_joined, IsOfRecords}
 use Rattle.wl_plan.specs.declared.plan.Plan.{Plan}
 use Rattle.wl_plan.specs.Line.{Line}
 use Rattle.wl_plan.specs.PlanLine.{line_of, table_of}
 use Rattle.wl_plan.specs.Simulation.{seen, changes}
 use Rattle.wl_plan.specs.Checked.{IsChecked}
-use Rattle.wl_group.specs.Member.{Member, fresh, can_run, emission, level_read}
+use Rattle.wl_group.specs.Member.{Member, fresh, next_tick, can_run, emission, level_read}
 use Rattle.wl_group.specs.Party.{Party, firsts}
 use Rattle.wl_group.specs.Holds.{IsGroup}
 
@@ -41,22 +41,23 @@ member_at l i None = fresh
 member_at l i (Some k) = member_after l i k
 
 -- the members, as the machine has them
-abbrev pub members_of : GroupValue → ℕ → Member
-members_of g i = member_at (line_of g.plan) i (quanta_at g i)
+abbrev pub members_now : GroupValue → ℕ → Member
+members_now g i = member_at (line_of g.plan) i (quanta_at g i)
 
--- What holds of every group: all that it knows is true of its plan, each member is where the simulation has it, by quanta at which
+-- What holds of every group: it knows what some records say, all of it is true of its plan, each member is where the simulation has it, by quanta at which
 -- the line at its place was known, and all that it told is true.
 pub record IsGroupValue (g : GroupValue) : Type 0 where
   pub checked : IsChecked g.plan
   pub one_each : length g.ran ≡ length g.plan.nodes
   pub of_all : g.replica.nodes ≡ length g.plan.nodes
-  pub holds : IsGroup (line_of g.plan) (belongs g) (members_of g) (slots_of g.replica)
+  pub of_records : IsOfRecords g.replica
+  pub holds : IsGroup (line_of g.plan) (belongs g) (members_now g) (slots_of g.replica)
   pub told_true : AreTrueOf (length g.plan.nodes) (table_of g.plan) g.told
 
 -- The group is this party of the machine: it knows what the party has taken, and its members are the party's.
 pub record Matches (p : Party) (g : GroupValue) : Type 0 where
   pub replica : g.replica ≡ state_of (length g.plan.nodes) p.taken
-  pub members : (i : ℕ) → belongs g i ≡ true → p.members i ≡ members_of g i
+  pub members : (i : ℕ) → belongs g i ≡ true → p.members i ≡ members_now g i
   pub told : g.told ≡ p.told
 
 -- whether a list names node i
@@ -74,23 +75,27 @@ begun_of plan chosen = record {
 
 -- whether node i may run its next quantum, for any number
 abbrev pub may_run : GroupValue → ℕ → Bool
-may_run g i = belongs g i && can_run (line_of g.plan) i (members_of g i) (slots_of g.replica)
+may_run g i = belongs g i && can_run (line_of g.plan) i (members_now g i) (slots_of g.replica)
+
+-- whether node i is a member whose next quantum is not below the end, for any number
+abbrev pub has_ended : GroupValue → ℕ → Bool
+has_ended g i = belongs g i && nat_le g.plan.end (next_tick (line_of g.plan) i (members_now g i))
 
 -- the group with these records taken, and with what another knows
 abbrev pub with_records : List Record → GroupValue → GroupValue
 with_records rs g = record { plan = g.plan; ran = g.ran; replica = taken_all g.replica rs; told = g.told }
 
 abbrev pub with_state : State → GroupValue → GroupValue
-with_state s g = record { plan = g.plan; ran = g.ran; replica = joined g.replica s; told = g.told }
+with_state s g = record { plan = g.plan; ran = g.ran; replica = states_joined g.replica s; told = g.told }
 
 -- ---- its next quanta
 
 -- the level that node i reads at its next quantum, and what it emits then
 abbrev pub reads_at : GroupValue → ℕ → Level
-reads_at g i = level_read (line_of g.plan) i (members_of g i) (slots_of g.replica)
+reads_at g i = level_read (line_of g.plan) i (members_now g i) (slots_of g.replica)
 
 abbrev pub emission_at : GroupValue → ℕ → List Record
-emission_at g i = emission (line_of g.plan) i (members_of g i) (reads_at g i)
+emission_at g i = emission (line_of g.plan) i (members_now g i) (reads_at g i)
 
 -- the group after node i, which has run k quanta, ran its next one
 abbrev pub run_on : ℕ → ℕ → GroupValue → GroupValue

@@ -1,9 +1,9 @@
 -- What a group keeps of its members: a node for each, which is where its plan's simulation has it. This project's profile.
 use Rattle.std.specs.Prelude.{◌≡◌, ℕ, List, map, Option, None, Some, slice_index_or}
-use Rattle.wl_record.specs.declared.record.Record.{Record}
-use Rattle.wl_record.specs.Truth.{count_below}
+use Rattle.wl_record_core.specs.declared.record.Record.{Record}
+use Rattle.wl_record_core.specs.Truth.{count_below}
 use Rattle.wl_replica.specs.State.{State}
-use Rattle.wl_node.specs.Reached.{IsNode, setup_of, quanta_of}
+use Rattle.wl_node.specs.Reached.{IsNode, node_setup, quanta_of}
 use Rattle.wl_plan.specs.declared.plan.Plan.{Plan}
 use Rattle.wl_plan.specs.PlanLine.{setup_at, line_of, table_of}
 use Rattle.wl_plan.specs.Simulation.{seen}
@@ -19,12 +19,12 @@ quanta_kept (Some cell) = Some (quanta_of cell.node)
 abbrev pub ran_of : List (Option Cell) → List (Option ℕ)
 ran_of cells = map quanta_kept cells
 
-abbrev pub value_of : Plan → List (Option Cell) → State → List Record → GroupValue
-value_of plan cells replica told = record { plan = plan; ran = ran_of cells; replica = replica; told = told }
+abbrev pub group_value : Plan → List (Option Cell) → State → List Record → GroupValue
+group_value plan cells replica told = record { plan = plan; ran = ran_of cells; replica = replica; told = told }
 
 -- The node of a member is node i of the plan after its quanta, and its changes were counted.
 pub record IsCell (plan : Plan) (i : ℕ) (cell : Cell) : Type 0 where
-  pub setup : setup_of cell.node ≡ setup_at plan i
+  pub setup : node_setup cell.node ≡ setup_at plan i
   pub node : IsNode (seen (line_of plan) i (quanta_of cell.node)) cell.node
   pub changed : cell.changed ≡ count_below ((line_of plan).instant i (quanta_of cell.node)) (table_of plan i)
 
@@ -33,5 +33,5 @@ AreCells plan cells = (i : ℕ) (cell : Cell) → slice_index_or cells i None �
 
 -- What a group keeps.
 pub record IsKept (plan : Plan) (cells : List (Option Cell)) (replica : State) (told : List Record) : Type 0 where
-  pub value : IsGroupValue (value_of plan cells replica told)
+  pub value : IsGroupValue (group_value plan cells replica told)
   pub placed : AreCells plan cells

@@ -1,10 +1,10 @@
 -- A group of nodes that runs by itself, as the machine has it: its members, what it has taken, what it has told. This project's profile,
 -- after Chandy and Misra 1979; for a reader who knows simulation: one logical process with several components.
 use Rattle.std.specs.Prelude.{ℕ, zero, suc, Bool, List, [], ◌∷◌, ◌++◌, ◌==◌, if◌then◌else◌}
-use Rattle.wl_intervals.specs.declared.Level.{Level}
-use Rattle.wl_record.specs.declared.record.Record.{Record}
-use Rattle.wl_record.specs.declared.record.Record.TheVariants.{Silence}
-use Rattle.wl_replica.specs.Slots.{Slots, slots_of_records}
+use Rattle.wl_level.specs.declared.Level.{Level}
+use Rattle.wl_record_core.specs.declared.record.Record.{Record}
+use Rattle.wl_record_core.specs.declared.record.Record.TheVariants.{Silence}
+use Rattle.wl_replica.specs.Slots.{Contents, slots_of_records}
 use Rattle.wl_plan.specs.Line.{Line, reach}
 use Rattle.wl_group.specs.Member.{Member, fresh, stepped, emission}
 
@@ -17,7 +17,7 @@ pub record Party : Type 0 where
   pub told : List Record
 
 -- what it knows
-abbrev pub slots : Party → Slots
+abbrev pub slots : Party → Contents
 slots p = slots_of_records p.taken
 
 -- f with this at i

@@ -1,31 +1,54 @@
 -- A member's next quantum, and the group's after it. This project's profile.
-use Rattle.std.specs.Prelude.{◌≡◌, ℕ, ◌+◌, ◌-◌, ◌<◌, List, [], ◌∷◌, length, Option, None, Some, true, false, not, nat_le, if◌then◌else◌}
-use Rattle.wl_record.specs.declared.record.Record.{Record}
-use Rattle.wl_replica.specs.State.{slots_of}
-use Rattle.wl_node.specs.Reached.{IsNode, setup_of}
+use Rattle.std.specs.Prelude.{◌≡◌, ℕ, ◌+◌, ◌-◌, ◌<◌, All, List, [], ◌∷◌, ◌++◌, length, Option, None, Some, true, false, not, nat_le, if◌then◌else◌}
+use Rattle.wl_level.specs.declared.Level.{Level}
+use Rattle.wl_record_core.specs.declared.record.Record.{Record}
+use Rattle.wl_record_core.specs.declared.record.Slot.{Slot}
+use Rattle.wl_record_core.specs.declared.record.Slot.TheVariants.{EdgeAt, SilenceAt}
+use Rattle.wl_record_core.specs.Truth.{AreTrueOf}
+use Rattle.wl_replica.specs.State.{Fits, slots_of}
+use Rattle.wl_node.specs.Reached.{IsNode, node_setup}
 use Rattle.wl_plan.specs.declared.plan.Plan.{Plan}
 use Rattle.wl_plan.specs.Limits.{most_quanta}
-use Rattle.wl_plan.specs.PlanLine.{setup_at, line_of}
+use Rattle.wl_plan.specs.PlanLine.{setup_at, line_of, table_of}
 use Rattle.wl_group.specs.declared.cell.Cell.{Cell}
-use Rattle.wl_group.specs.Member.{Member, due, can_run}
+use Rattle.wl_group.specs.Member.{Member, next_tick, can_run, stepped, emission}
 use Rattle.wl_group.specs.Party.{Party}
 use Rattle.wl_group.specs.Advanced.{Reply, emitted, blocked, ended, emission_of, run_next}
-use Rattle.wl_group.specs.GroupValue.{GroupValue, Matches, quanta_at, belongs, members_of, may_run, emission_at, run_on}
+use Rattle.wl_group.specs.GroupValue.{GroupValue, IsGroupValue, Matches, quanta_at, belongs, members_now, may_run, emission_at, run_on}
 
 -- What a group keeps of node i stands where this member of the machine does.
 pub record IsCellOf (plan : Plan) (i : ℕ) (m : Member) (cell : Cell) : Type 0 where
-  pub setup : setup_of cell.node ≡ setup_at plan i
+  pub setup : node_setup cell.node ≡ setup_at plan i
   pub node : IsNode m.saw cell.node
   pub changed : cell.changed ≡ m.changed
 
+-- One cell and a later one: it has run the next quantum, at which it read this level, or none; and what node i said then. Of every plan and member.
+abbrev pub StepsCell : Level → Cell → Cell → Type 0
+StepsCell level old new = (plan : Plan) (i : ℕ) (m : Member) → IsCellOf plan i m old → IsCellOf plan i (stepped (line_of plan) i m level) new
+
+abbrev pub KeepsCell : Cell → Cell → Type 0
+KeepsCell old new = (plan : Plan) (i : ℕ) (m : Member) → IsCellOf plan i m old → IsCellOf plan i m new
+
+abbrev pub SaysOf : ℕ → Level → Cell → List Record → Type 0
+SaysOf i level old rs = (plan : Plan) (m : Member) → IsCellOf plan i m old → rs ≡ emission (line_of plan) i m level
+
+-- the slots of which node i may say something at its next quantum, after so many changes
+abbrev pub slots_ahead : ℕ → ℕ → List Slot
+slots_ahead i changed = EdgeAt i changed ∷ SilenceAt i changed ∷ SilenceAt i (changed + 1) ∷ []
+
+-- What a member says at its next quantum, at which it reads this level, fits.
+pub record MaySay (plan : Plan) (i : ℕ) (m : Member) (cell : Cell) (level : Level) (nodes : ℕ) : Type 0 where
+  pub at : IsCellOf plan i m cell
+  pub fits : All (Fits nodes) (emission (line_of plan) i m level)
+
 -- how many quanta may still come
-abbrev pub left_of : List (Option ℕ) → ℕ
-left_of [] = 0
-left_of (None ∷ ran) = left_of ran
-left_of (Some k ∷ ran) = (most_quanta - k) + left_of ran
+abbrev pub quanta_to_come : List (Option ℕ) → ℕ
+quanta_to_come [] = 0
+quanta_to_come (None ∷ ran) = quanta_to_come ran
+quanta_to_come (Some k ∷ ran) = (most_quanta - k) + quanta_to_come ran
 
 abbrev pub quanta_left : GroupValue → ℕ
-quanta_left g = left_of g.ran
+quanta_left g = quanta_to_come g.ran
 
 -- Node i ran its next quantum and this was said, as in every party that the group was before; fewer quanta are left.
 pub record HasRunNext (i : ℕ) (old new : GroupValue) (said : List Record) : Type 0 where
@@ -42,8 +65,8 @@ pub record HasRunNext (i : ℕ) (old new : GroupValue) (said : List Record) : Ty
 abbrev pub reply_at : GroupValue → ℕ → Reply
 reply_at g i =
     if not (belongs g i) then blocked
-    else if nat_le g.plan.end (due (line_of g.plan) i (members_of g i)) then ended
-    else if can_run (line_of g.plan) i (members_of g i) (slots_of g.replica) then emitted (emission_at g i)
+    else if nat_le g.plan.end (next_tick (line_of g.plan) i (members_now g i)) then ended
+    else if can_run (line_of g.plan) i (members_now g i) (slots_of g.replica) then emitted (emission_at g i)
     else blocked
 
 -- An advance of node i replied a and made new of old, by their values alone: it ran the next quantum exactly where the node may run it.
@@ -51,3 +74,18 @@ pub record HasReplied (i : ℕ) (old new : GroupValue) (a : Reply) : Type 0 wher
   pub reply : a ≡ reply_at old i
   pub ran : may_run old i ≡ true → (k : ℕ) → quanta_at old i ≡ Some k → new ≡ run_on i k old
   pub stays : may_run old i ≡ false → new ≡ old
+
+-- ---- quanta that run one after another
+
+-- each of them may, and they emit these records
+pub data Ran : GroupValue → List Record → GroupValue → Type 0 where
+  none : {g : GroupValue} → Ran g [] g
+  more : {g h : GroupValue} {rs : List Record} (i k : ℕ) → quanta_at g i ≡ Some k → may_run g i ≡ true → Ran (run_on i k g) rs h → Ran g (emission_at g i ++ rs) h
+
+-- What such a run leaves: a group of the same plan and members, which has told what it had told and these records, all of them true.
+pub record HasRunOn (old new : GroupValue) (rs : List Record) : Type 0 where
+  pub value : IsGroupValue new
+  pub plan : new.plan ≡ old.plan
+  pub members : belongs new ≡ belongs old
+  pub told : new.told ≡ old.told ++ rs
+  pub said_true : AreTrueOf (length old.plan.nodes) (table_of old.plan) rs

@@ -1,9 +1,24 @@
--- The answer of an advance, as the machine's reply. This project's profile.
+-- The answer of an advance, as the machine's reply, and what calls say of every party that a group was. This project's profile.
 use Rattle.wl_group.specs.declared.answer.Advance.{Advance}
 use Rattle.wl_group.specs.declared.answer.Advance.TheVariants as answers
-use Rattle.wl_group.specs.Advanced.{Reply, emitted, blocked, ended}
+use Rattle.std.specs.Prelude.{◌≡◌, ℕ, List, length}
+use Rattle.wl_record_core.specs.declared.record.Record.{Record}
+use Rattle.wl_replica.specs.State.{State, state_of}
+use Rattle.wl_plan.specs.PlanLine.{line_of}
+use Rattle.wl_group.specs.Advanced.{Reply, emitted, blocked, ended, HasAdvanced}
+use Rattle.wl_group.specs.GroupValue.{GroupValue, Matches, belongs}
+use Rattle.wl_group.specs.Party.{Party, taking}
 
 abbrev pub said : Advance → Reply
 said (answers.Emitted records) = emitted records.items
 said answers.Blocked = blocked
 said answers.Ended = ended
+
+-- an advance of node i answered a: as the machine's advance of every party that the group was
+abbrev pub HasAnswered : ℕ → GroupValue → GroupValue → Advance → Type 0
+HasAnswered i old new a = HasAdvanced Matches (line_of old.plan) (belongs old) i old new (said a)
+
+-- what knew this and was joined in: every party that the group was has taken the records of it
+abbrev pub HasJoined : State → GroupValue → GroupValue → Type 0
+HasJoined other old new =
+    (p : Party) (rs : List Record) → Matches p old → other ≡ state_of (length old.plan.nodes) rs → Matches (taking rs p) new

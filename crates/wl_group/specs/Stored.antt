@@ -1,8 +1,8 @@
 -- How the value of a group is coded, so that a proof can tell two values apart.
 use Rattle.std.specs.Prelude.{ℕ, List, Option, refl}
 use Rattle.std.specs.Coded.{Coded, code_by, coded×, coded_ℕ, coded_list, coded_option}
-use Rattle.wl_record.specs.declared.record.Record.{Record}
-use Rattle.wl_record.specs.contracts.record.Record as record_contract
+use Rattle.wl_record_core.specs.declared.record.Record.{Record}
+use Rattle.wl_record_core.specs.contracts.record.Record as record_contract
 use Rattle.wl_replica.specs.State.{State}
 use Rattle.wl_replica.specs.Stored.{coded_state}
 use Rattle.wl_plan.specs.declared.plan.Plan.{Plan}

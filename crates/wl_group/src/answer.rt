@@ -1,7 +1,7 @@
 //! What an advance answers.
 
 use arrayvec::ArrayVec;
-use wl_record::Record;
+use wl_record_core::Record;
 
 /// The records that one advance emits: an edge, if the drive changed, and a silence.
 pub type Emission = ArrayVec<Record, 2>;

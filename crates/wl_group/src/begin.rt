@@ -1,10 +1,10 @@
 //! What a group begins with.
 ghost use Rattle.std.specs.Prelude.{◌≡◌, ◌<◌, ◌≤◌, ◌++◌, ℕ, Bool, true, if◌then◌else◌, Option, List, [], ◌∷◌, length, All, IfOk, OnOk, map, None, Some};
-ghost use Rattle.wl_record.specs.declared.record.Record.{Record as Told};
-ghost use Rattle.wl_record.specs.declared.record.Record.TheVariants.{Silence};
+ghost use Rattle.wl_record_core.specs.declared.record.Record.{Record as Told};
+ghost use Rattle.wl_record_core.specs.declared.record.Record.TheVariants.{Silence};
 ghost use Rattle.wl_replica.specs.State.{state_of};
 ghost use Rattle.wl_plan.specs.Line.{reach};
-ghost use Rattle.wl_plan.specs.PlanLine.{line_of};
+ghost use Rattle.wl_plan.specs.PlanLine.{line_of, IsTrueOfPlan};
 ghost use Rattle.wl_plan.specs.Checked.{IsChecked};
 ghost use Rattle.wl_group.specs.GroupValue.{names, begun_of};
 ghost use Rattle.wl_group.specs.Kept.{quanta_kept, ran_of, IsCell, AreCells};
@@ -15,7 +15,7 @@ use crate::cell::Cell;
 use std::alloc::{AllocError, Global};
 use wl_node::Node;
 use wl_plan::Plan;
-use wl_record::Record;
+use wl_record_core::Record;
 use wl_replica::Replica;
 use wl_topology::MOST_NODES;
 
@@ -28,7 +28,7 @@ pub(crate) fn chosen_of(members: &[u8]) -> Chosen
     ensures { (i : ℕ) → is_chosen result i ≡ names members.now i }
 {
     let mut chosen = [false; MOST_NODES];
-    for i in 0..16 {
+    for i in 0..MOST_NODES as u8 {
         chosen[i as usize] = is_named(members, i);
     }
     chosen
@@ -98,6 +98,25 @@ pub(crate) fn first_replica(
     Ok(replica)
 }
 
+/// What a node says before its first quantum: that it keeps its first drive up to then. It is true of
+/// the plan.
+pub fn first_silence(plan: &Plan, node: u8) -> Record
+    requires checked { IsChecked plan.now }
+    requires node { node < length plan.now.nodes }
+    ensures value { result ≡ Silence node 0 (reach (line_of plan.now) node []) }
+    ensures truth { IsTrueOfPlan plan.now result }
+{
+    wl_plan::simulation_laws();
+    wl_plan::checked_is_sound();
+    let setup = &plan.nodes.as_slice()[node as usize];
+    let until = setup.clock.at(setup.first_quiet() as u64);
+    Record::Silence {
+        node,
+        count: 0,
+        until,
+    }
+}
+
 /// Takes the first silence of node `i`, if it is chosen.
 fn take_first(replica: &mut Replica, plan: &Plan, chosen: &Chosen, i: u8) -> Result<(), AllocError>
     requires checked { IsChecked plan.now }
@@ -109,11 +128,6 @@ fn take_first(replica: &mut Replica, plan: &Plan, chosen: &Chosen, i: u8) -> Res
     if !chosen[i as usize] {
         return Ok(());
     }
-    let until = plan.nodes.as_slice()[i as usize].clock.at(0);
-    replica.take(Record::Silence {
-        node: i,
-        count: 0,
-        until,
-    })?;
+    replica.take(first_silence(plan, i))?;
     Ok(())
 }

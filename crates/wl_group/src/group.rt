@@ -9,7 +9,7 @@ use std::alloc::{AllocError, Global};
 use std::marker::Model;
 use wl_node::Node;
 use wl_plan::Plan;
-use wl_record::Record;
+use wl_record_core::Record;
 use wl_replica::Replica;
 use wl_topology::MOST_NODES;
 
@@ -35,25 +35,25 @@ impl Model for Group {
 
     ghost coded = { coded_group };
 
-    ghost use Rattle.wl_group.specs.Kept.{value_of, IsKept};
+    ghost use Rattle.wl_group.specs.Kept.{group_value, IsKept};
 
-    ghost view = { λ g. value_of g.plan g.cells.items g.replica g.told.items };
+    ghost view = { λ g. group_value g.plan g.cells.items g.replica g.told.items };
 
     ghost invariant = { λ g. IsKept g.plan g.cells.items g.replica g.told.items };
 }
 
 impl Group {
-    ghost use Rattle.wl_record.specs.declared.record.Record.{Record};
+    ghost use Rattle.wl_record_core.specs.declared.record.Record.{Record};
     ghost use Rattle.wl_replica.specs.State.{state_of, slots_of};
     ghost use Rattle.wl_replica.specs.Slots.{HoldsTrue};
-    ghost use Rattle.wl_node.specs.Reached.{IsNode, setup_of, quanta_of};
+    ghost use Rattle.wl_node.specs.Reached.{IsNode, node_setup, quanta_of};
     ghost use Rattle.wl_plan.specs.Checked.{IsChecked};
     ghost use Rattle.wl_plan.specs.PlanLine.{setup_at, line_of, table_of, IsTrueOfPlan};
     ghost use Rattle.wl_group.specs.Party.{Party, begun, taking};
-    ghost use Rattle.wl_group.specs.Advanced.{can_advance};
-    ghost use Rattle.wl_group.specs.Member.{due};
+    ghost use Rattle.wl_group.specs.Member.{next_tick};
     ghost use Rattle.wl_group.specs.Chosen.{is_chosen};
-    ghost use Rattle.wl_group.specs.GroupValue.{IsGroupValue, Matches, belongs, quanta_at, members_of, names, begun_of, may_run, with_records, with_state};
+    ghost use Rattle.wl_group.specs.Said.{HasJoined};
+    ghost use Rattle.wl_group.specs.GroupValue.{IsGroupValue, Matches, belongs, quanta_at, members_now, names, begun_of, may_run, has_ended, with_records, with_state};
 
     /// A group of these nodes of a plan that passed its check, before their first quanta. It knows no
     /// more than that each of them keeps its first drive up to its first quantum. A number that comes
@@ -115,10 +115,12 @@ impl Group {
         requires nodes { other.now.nodes ≡ length self.old.plan.nodes }
         requires truth { HoldsTrue (length self.old.plan.nodes) (table_of self.old.plan) (slots_of other.now) }
         ensures ok { OnOk result (self.new ≡ with_state other.now self.old) }
-        ensures after { OnOk result ((p : Party) (rs : List Record) → Matches p self.old → other.now ≡ state_of (length self.old.plan.nodes) rs → Matches (taking rs p) self.new) }
+        ensures after { OnOk result (HasJoined other.now self.old self.new) }
         ensures err { OnErr result (self.new ≡ self.old) }
     {
         value_laws();
+        // (what it knows is what some records say)
+        let _ = other.nodes();
         self.replica.join(other)?;
         Ok(())
     }
@@ -133,8 +135,7 @@ impl Group {
     /// Whether an advance of this node would run a quantum: it is a member, and its next quantum's
     /// tick is below the end and below what is known of the line at its place. Any number may be asked.
     pub fn can_advance(&self, node: u8) -> bool
-        ensures value { result ≡ may_run self.now node }
-        ensures party { (p : Party) → Matches p self.now → result ≡ can_advance (line_of self.now.plan) (belongs self.now) p node }
+        ensures { result ≡ may_run self.now node }
     {
         value_laws();
         if !self.has(node) {
@@ -144,12 +145,20 @@ impl Group {
         due < self.plan.end && due < self.replica.place_horizon(&self.plan.topology, node)
     }
 
+    /// Whether this node is at the end: it is a member, and its next quantum isn't below the end. A node
+    /// that is no member is not. Any number may be asked.
+    pub fn has_ended(&self, node: u8) -> bool
+        ensures { result ≡ has_ended self.now node }
+    {
+        self.has(node) && self.due(node) >= self.plan().end
+    }
+
     /// For each number that a node may have, whether it is a member.
     fn chosen(&self) -> Chosen
         ensures { (i : ℕ) → is_chosen result i ≡ belongs self.now i }
     {
         let mut chosen = [false; MOST_NODES];
-        for i in 0..16 {
+        for i in 0..MOST_NODES as u8 {
             chosen[i as usize] = self.has(i);
         }
         // (reading a part gives the proof what the type keeps)
@@ -160,7 +169,7 @@ impl Group {
     /// The tick of a member's next quantum.
     pub(crate) fn due(&self, node: u8) -> u64
         requires { belongs self.now node ≡ true }
-        ensures { result ≡ due (line_of self.now.plan) node (members_of self.now node) }
+        ensures { result ≡ next_tick (line_of self.now.plan) node (members_now self.now node) }
     {
         value_laws();
         wl_plan::simulation_laws();
@@ -179,8 +188,8 @@ impl Group {
     /// A member's node. It is where the one-thread simulation has it after as many quanta.
     pub fn node(&self, i: u8) -> &Node
         requires { belongs self.now i ≡ true }
-        ensures node { IsNode (members_of self.now i).saw result.now }
-        ensures setup { setup_of result.now ≡ setup_at self.now.plan i }
+        ensures node { IsNode (members_now self.now i).saw result.now }
+        ensures setup { node_setup result.now ≡ setup_at self.now.plan i }
         ensures quanta { quanta_at self.now i ≡ Some (quanta_of result.now) }
         ensures holds { IsGroupValue self.now }
     {

@@ -7,7 +7,7 @@ ghost use Rattle.wl_group.specs.ValueLaws.{ValueLaws};
 pub fn value_laws()
     ensures { ValueLaws }
 {
-    wl_record::table_laws();
+    wl_record_core::table_laws();
     wl_replica::slots_laws();
     wl_replica::known_laws();
     wl_replica::slots_of_states();

@@ -8,15 +8,14 @@ mod advance;
 mod answer;
 mod begin;
 mod cell;
+mod changes;
 mod group;
 mod laws;
 
 pub use answer::{Advance, Emission};
+pub use begin::first_silence;
 pub use group::Group;
 pub use laws::value_laws;
-
-#[cfg(test)]
-mod tests;
 
 /// Every replica of true records agrees with the one-thread simulation: below each node's horizon
 /// its wave is the node's level there. Workers and groups rest on this, whatever way records came.
@@ -32,7 +31,7 @@ pub fn true_replicas_agree()
 pub fn group_laws()
     ensures { GroupLaws }
 {
-    wl_record::table_laws();
+    wl_record_core::table_laws();
     wl_replica::slots_laws();
     wl_replica::known_laws();
     wl_plan::simulation_laws();

@@ -1,6 +1,4 @@
-pub mod Places
-pub mod FirstPlace
-pub mod PairLaws
+mod PairLaws
 mod SetLaws
 mod CutLaws
 mod JoinLaws

@@ -1,4 +1,4 @@
--- Sorted intervals: which of them holds a tick, and what stands at their ends.
+-- Sorted intervals: which of them holds a tick, and what is at their ends.
 use Rattle.std.proofs.Common.{◌≡◌, ℕ, zero, suc, ◌+◌, ◌-◌, ◌<◌, ◌≤◌, ◌&&◌, ◌||◌, cond, is_some, unwrap_or, IfSome, IfNone, IsSomeAnd, ◌∙◌, inl, inr, Bool, true, false, nat_lt, nat_le, List, [], ◌∷◌, ◌++◌, length, get_or, Option, Some, None, refl, sym, ap, subst, arith}
 use Rattle.std.proofs.lemmas.Bool.{cases_lt, ltb-false, lt-ltb, le-ltb, le-leb, lt-leb, and_left, and_right, or_from, ltb-true, both_ways}
 use Rattle.std.specs.Option.{option_map}
@@ -10,13 +10,13 @@ abbrev pub free : ℕ → List (ℕ × ℕ) → ℕ
 free low [] = low
 free low (p ∷ ps) = free (suc p.1) ps
 
+pub or_again : (a b c : Bool) → (a || (b || c)) ≡ ((a || b) || c)
+or_again true b c = refl
+or_again false b c = refl
+
 pub covers-append : (xs ys : List (ℕ × ℕ)) (t : ℕ) → covers (xs ++ ys) t ≡ (covers xs t || covers ys t)
 covers-append [] ys t = refl
 covers-append (p ∷ xs) ys t = ap (λ b. (nat_le p.0 t && nat_lt t p.1) || b) (covers-append xs ys t) ∙ or_again (nat_le p.0 t && nat_lt t p.1) (covers xs t) (covers ys t)
-  where
-    or_again : (a b c : Bool) → (a || (b || c)) ≡ ((a || b) || c)
-    or_again true b c = refl
-    or_again false b c = refl
 
 pub not_below : (low : ℕ) (ps : List (ℕ × ℕ)) (t : ℕ) → AreFrom low ps → t < low → covers ps t ≡ false
 not_below low [] t h lt = refl
@@ -175,7 +175,7 @@ pub is_some-mapped : {B : Type 0} (f : B → ℕ × ℕ) (r : Option B) → is_s
 is_some-mapped f None = refl
 is_some-mapped f (Some b) = refl
 
--- a pair behind the last end joins the list
+-- a pair after the last end joins the list
 pub pushed : (ps : List (ℕ × ℕ)) (from to : ℕ) (b : Bool) → AreIntervals ps → from < to → (IsSomeAnd (last_end ps) (λ end. from ≤ end) → ⊥)
     → AreIntervals (cond b (ps ++ (from, to) ∷ []) ps)
 pushed ps from to false h some behind = h
@@ -188,7 +188,7 @@ pushed ps from to true h some behind = AreFrom-append 0 ps ((from, to) ∷ []) h
       | inr not_below ↦ absurd (behind (subst (λ o. IsSomeAnd o (λ end. from ≤ end)) (sym e) not_below))
     ]
 
--- what stands at a place, if anything does
+-- what is at a place, if anything is
 pub found_first : (r : Option (ℕ × ℕ)) (ps : List (ℕ × ℕ)) (t k : ℕ) → AreIntervals ps → IsPlace ps t k → is_some r ≡ nat_lt k (length ps) → unwrap_or r (0, 0) ≡ pair_at ps k
     → IfSome r (IsFirstAfter ps t)
 found_first None ps t k h g some is = tt

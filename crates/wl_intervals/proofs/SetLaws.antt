@@ -1,7 +1,7 @@
 -- Lists of intervals as sets of ticks: two that hold the same ticks are one list; a shift and a cut.
 use Rattle.std.proofs.Common.{◌≡◌, ℕ, suc, ◌+◌, ◌<◌, ◌≤◌, ◌&&◌, ◌||◌, ◌∙◌, inl, inr, true, false, nat_lt, nat_le, List, [], ◌∷◌, refl, sym, ap, arith}
 use Rattle.std.proofs.lemmas.Bool.{cases_lt, lt-ltb, le-ltb, le-leb, lt-leb, and_right, and_from, or_from, or_left, both_ways}
-use Rattle.wl_intervals.specs.Pairs.{covers, AreFrom, AreIntervals, shifted}
+use Rattle.wl_intervals.specs.Pairs.{covers, AreFrom, AreIntervals, later_by}
 use Rattle.wl_intervals.proofs.PairLaws.{not_below, AreFrom-lower}
 
 -- its first tick is held by the first pair
@@ -25,7 +25,7 @@ ends_no_sooner p q ps qs some same h e =
       | inr after ↦ after
     ]
 
--- behind the first pair its list decides
+-- after the first pair its list decides
 behind : (p : ℕ × ℕ) (ps : List (ℕ × ℕ)) (t : ℕ) → p.1 ≤ t → covers (p ∷ ps) t ≡ covers ps t
 behind p ps t h = ap (λ b. b || covers ps t) (and_right (nat_le p.0 t) (nat_lt t p.1) (le-ltb t p.1 h))
 
@@ -52,10 +52,10 @@ same_set low next (p ∷ ps) (q ∷ qs) h g e =
     λ i. (starts i, ends i) ∷ rest i
 
 -- all ticks later by d
-pub shifted_from : (low d : ℕ) (ps : List (ℕ × ℕ)) → AreFrom low ps → AreFrom (low + d) (shifted d ps)
-shifted_from low d [] h = tt
-shifted_from low d (p ∷ ps) h =
-    (omega (arith, h.0), omega (arith, h.1), AreFrom-lower (suc (p.1 + d)) (suc p.1 + d) (shifted d ps) (omega arith) (shifted_from (suc p.1) d ps h.2))
+pub later_by_from : (low d : ℕ) (ps : List (ℕ × ℕ)) → AreFrom low ps → AreFrom (low + d) (later_by d ps)
+later_by_from low d [] h = tt
+later_by_from low d (p ∷ ps) h =
+    (omega (arith, h.0), omega (arith, h.1), AreFrom-lower (suc (p.1 + d)) (suc p.1 + d) (later_by d ps) (omega arith) (later_by_from (suc p.1) d ps h.2))
 
 leb_later : (a b d : ℕ) → nat_le (a + d) (b + d) ≡ nat_le a b
 leb_later a b d =
@@ -71,15 +71,15 @@ ltb_later a b d =
       | inr above ↦ le-ltb (a + d) (b + d) (omega arith) ∙ sym (le-ltb a b above)
     ]
 
-pub covers-shifted : (d : ℕ) (ps : List (ℕ × ℕ)) (t : ℕ) → covers (shifted d ps) (t + d) ≡ covers ps t
-covers-shifted d [] t = refl
-covers-shifted d (p ∷ ps) t =
-    ap (λ b. (b && nat_lt (t + d) (p.1 + d)) || covers (shifted d ps) (t + d)) (leb_later p.0 t d)
-    ∙ ap (λ b. (nat_le p.0 t && b) || covers (shifted d ps) (t + d)) (ltb_later t p.1 d)
-    ∙ ap (λ b. (nat_le p.0 t && nat_lt t p.1) || b) (covers-shifted d ps t)
+pub covers-later_by : (d : ℕ) (ps : List (ℕ × ℕ)) (t : ℕ) → covers (later_by d ps) (t + d) ≡ covers ps t
+covers-later_by d [] t = refl
+covers-later_by d (p ∷ ps) t =
+    ap (λ b. (b && nat_lt (t + d) (p.1 + d)) || covers (later_by d ps) (t + d)) (leb_later p.0 t d)
+    ∙ ap (λ b. (nat_le p.0 t && b) || covers (later_by d ps) (t + d)) (ltb_later t p.1 d)
+    ∙ ap (λ b. (nat_le p.0 t && nat_lt t p.1) || b) (covers-later_by d ps t)
 
-pub covers_before_shift : (d : ℕ) (ps : List (ℕ × ℕ)) (t : ℕ) → AreIntervals ps → t < d → covers (shifted d ps) t ≡ false
-covers_before_shift d ps t h lt = not_below (0 + d) (shifted d ps) t (shifted_from 0 d ps h) (omega arith)
+pub covers_before_shift : (d : ℕ) (ps : List (ℕ × ℕ)) (t : ℕ) → AreIntervals ps → t < d → covers (later_by d ps) t ≡ false
+covers_before_shift d ps t h lt = not_below (0 + d) (later_by d ps) t (later_by_from 0 d ps h) (omega arith)
 
-pub intervals_shifted : (d : ℕ) (ps : List (ℕ × ℕ)) → AreIntervals ps → AreIntervals (shifted d ps)
-intervals_shifted d ps h = AreFrom-lower 0 (0 + d) (shifted d ps) (omega arith) (shifted_from 0 d ps h)
+pub intervals_later_by : (d : ℕ) (ps : List (ℕ × ℕ)) → AreIntervals ps → AreIntervals (later_by d ps)
+intervals_later_by d ps h = AreFrom-lower 0 (0 + d) (later_by d ps) (omega arith) (later_by_from 0 d ps h)

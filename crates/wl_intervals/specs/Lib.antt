@@ -1,4 +1,2 @@
-pub mod Levels
-pub mod Places
 pub mod Pairs
 pub mod Search

@@ -20,10 +20,10 @@ pub record IsFirstAfter (ps : List (ℕ × ℕ)) (t : ℕ) (p : ℕ × ℕ) : Ty
   pub end_free : covers ps p.1 ≡ false
 
 -- the list with one more interval, which makes the last longer where it begins no later than that ends
-abbrev pub absorbed : List (ℕ × ℕ) → ℕ × ℕ → List (ℕ × ℕ)
-absorbed [] q = q ∷ []
-absorbed (p ∷ []) q = if nat_le q.0 p.1 then (p.0, max p.1 q.1) ∷ [] else p ∷ q ∷ []
-absorbed (p ∷ r ∷ ps) q = p ∷ absorbed (r ∷ ps) q
+abbrev pub with_pair : List (ℕ × ℕ) → ℕ × ℕ → List (ℕ × ℕ)
+with_pair [] q = q ∷ []
+with_pair (p ∷ []) q = if nat_le q.0 p.1 then (p.0, max p.1 q.1) ∷ [] else p ∷ q ∷ []
+with_pair (p ∷ r ∷ ps) q = p ∷ with_pair (r ∷ ps) q
 
 -- no interval begins after tick t
 abbrev pub BeginBy : ℕ → List (ℕ × ℕ) → Type 0
@@ -31,7 +31,7 @@ BeginBy t [] = Unit {0}
 BeginBy t (p ∷ ps) = (p.0 ≤ t) × BeginBy t ps
 
 -- The left list has a pair at place i, and the pair of the right one at place j, if it has one, begins no sooner.
-pub record IsNext (left right : List (ℕ × ℕ)) (i j : ℕ) : Type 0 where
+pub record IsNextPair (left right : List (ℕ × ℕ)) (i j : ℕ) : Type 0 where
   pub inside : i < length left
   pub no_later : j < length right → (pair_at left i).0 ≤ (pair_at right j).0
 

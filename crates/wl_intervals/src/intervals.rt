@@ -1,14 +1,14 @@
 //! Sets of dominant ticks as sorted intervals.
 
-ghost use Rattle.std.specs.Prelude.{◌≡◌, ℕ, ◌+◌, ◌^◌, ◌<◌, ◌≤◌, ◌↔◌, ◌&&◌, ◌||◌, nat_lt, false, [], ◌∷◌, ◌++◌, OnOk, OnErr, IfOk, IfSome, IfNone, IsSomeAnd, IsTrue, IsFalse, ◌⊎◌, length};
-ghost use Rattle.wl_intervals.specs.Levels.{level_of};
-ghost use Rattle.wl_intervals.specs.Pairs.{covers, AreIntervals, IsNextChange, IntervalLaws, last_end, shifted};
-ghost use Rattle.wl_intervals.specs.Search.{IsPlace, IsFirstAfter, IsNext, absorbed};
+ghost use Rattle.std.specs.Prelude.{◌≡◌, ℕ, ◌+◌, ◌^◌, ◌<◌, ◌≤◌, ◌↔◌, ◌&&◌, nat_lt, false, [], ◌∷◌, ◌++◌, OnOk, OnErr, IfOk, IfSome, IfNone, IsTrue, IsFalse, ◌⊎◌, length};
+ghost use Rattle.wl_level.specs.Levels.{level_of};
+ghost use Rattle.wl_intervals.specs.Pairs.{covers, AreIntervals, EndsFrom, IsNextChange, IsUnion, last_end, later_by};
+ghost use Rattle.wl_intervals.specs.Search.{IsPlace, IsFirstAfter, IsNextPair, with_pair};
 
-use crate::Level;
 use std::alloc::{AllocError, Global};
 use std::marker::Model;
 use thiserror::Error;
+use wl_level::Level;
 
 /// Why an interval is refused: the first that applies, in this order.
 #[derive(Clone, Copy, Debug, PartialEq, Eq, Error)]
@@ -53,7 +53,7 @@ impl Intervals {
         }
     }
 
-    /// The intervals in order, each as its first tick and the tick behind its last.
+    /// The intervals in order, each as its first tick and the tick after its last.
     pub fn as_slice(&self) -> &[(u64, u64)]
         ensures pairs { result.now ≡ self.now }
         ensures intervals { AreIntervals self.now }
@@ -61,7 +61,18 @@ impl Intervals {
         self.pairs.as_slice()
     }
 
-    /// The level at tick `t`: dominant where an interval holds it. It searches by halves, and takes no memory.
+    /// The tick after the last of the set, or `None` where it holds none.
+    pub fn end(&self) -> Option<u64>
+        ensures end { result ≡ last_end self.now }
+        ensures intervals { AreIntervals self.now }
+    {
+        match self.pairs.last() {
+            Some((_, end)) => Some(*end),
+            None => None,
+        }
+    }
+
+    /// The level at tick `t`: dominant where an interval holds it. It is a binary search, and takes no memory.
     pub fn at(&self, t: u64) -> Level
         ensures level { result ≡ level_of (covers self.now t) }
         ensures intervals { AreIntervals self.now }
@@ -72,7 +83,7 @@ impl Intervals {
         }
     }
 
-    /// The first tick after `t` at which the level is another than at `t`, or `None` where it stays. It searches by halves, and takes no
+    /// The first tick after `t` at which the level is another than at `t`, or `None` where it stays. It is a binary search, and takes no
     /// memory.
     pub fn next_change(&self, t: u64) -> Option<u64>
         ensures change { IfSome result (λ u. IsNextChange self.now t u) }
@@ -83,12 +94,12 @@ impl Intervals {
         Some(if t < from { from } else { to })
     }
 
-    /// Adds the ticks from `from` up to, and not with, `to` behind all others. `Empty` where there is no such tick, `NotAfterLast` where
+    /// Adds the ticks from `from` up to, and not with, `to` after all others. `Empty` where there is no such tick, `NotAfterLast` where
     /// `from` is not above the end of the last interval, and `Empty` where both hold; `Memory` where there is none. A refused call leaves the
     /// set as it was.
     pub fn push(&mut self, from: u64, to: u64) -> Result<(), IntervalsFault>
         ensures empty { (result ≡ Err IntervalsFault.Empty) ↔ (to ≤ from) }
-        ensures not_after_last { (result ≡ Err IntervalsFault.NotAfterLast) ↔ ((from < to) × IsSomeAnd (last_end self.old) (λ end. from ≤ end)) }
+        ensures not_after_last { (result ≡ Err IntervalsFault.NotAfterLast) ↔ ((from < to) × EndsFrom self.old from) }
         ensures ok { OnOk result (self.new ≡ self.old ++ (from, to) ∷ []) }
         ensures err { OnErr result (self.new ≡ self.old) }
     {
@@ -106,7 +117,7 @@ impl Intervals {
 
     /// Adds the ticks of `other`. Where there is no memory the set stays as it was.
     pub fn join(&mut self, other: &Intervals) -> Result<(), AllocError>
-        ensures union { OnOk result ((t : ℕ) → covers self.new t ≡ (covers self.old t || covers other.now t)) }
+        ensures union { OnOk result (IsUnion self.old other.now self.new) }
         ensures err { OnErr result (self.new ≡ self.old) }
     {
         let alloc = *self.pairs.allocator();
@@ -115,11 +126,11 @@ impl Intervals {
         Ok(())
     }
 
-    /// The set with each tick later by `d`. The end of its last interval, if there is one, plus `d` is below 2^64. Refused for want of memory
-    /// alone.
+    /// The set with each tick later by `d`. The end of its last interval, if there is one, plus `d` is below 2^64. Refused only when
+    /// out of memory.
     pub fn shift(&self, alloc: Global, d: u64) -> Result<Intervals, AllocError>
         requires { IfSome (last_end self.now) (λ end. end + d < 2 ^ 64) }
-        ensures pairs { IfOk result (λ later. later ≡ shifted d self.now) }
+        ensures pairs { IfOk result (λ later. later ≡ later_by d self.now) }
         ensures ticks { IfOk result (λ later. (t : ℕ) → covers later (t + d) ≡ covers self.now t) }
         ensures none_before { IfOk result (λ later. (t : ℕ) → t < d → covers later t ≡ false) }
     {
@@ -130,7 +141,7 @@ impl Intervals {
         Ok(Intervals { pairs })
     }
 
-    /// The ticks of the set that lie below tick `t`. Refused for want of memory alone.
+    /// The ticks of the set that lie below tick `t`. Refused only when out of memory.
     pub fn cut(&self, alloc: Global, t: u64) -> Result<Intervals, AllocError>
         ensures { IfOk result (λ part. (u : ℕ) → covers part u ≡ (covers self.now u && nat_lt u t)) }
     {
@@ -143,7 +154,7 @@ impl Intervals {
         Ok(Intervals { pairs })
     }
 
-    /// An equal set. Refused for want of memory alone.
+    /// An equal set. Refused only when out of memory.
     pub fn clone_in(&self, alloc: Global) -> Result<Intervals, AllocError>
         ensures { IfOk result (λ copy. copy ≡ self.now) }
     {
@@ -153,11 +164,11 @@ impl Intervals {
 
     /// True where the last interval ends at tick `t` or after it.
     fn ends_at_or_after(&self, t: u64) -> bool
-        ensures last { IsTrue result ↔ IsSomeAnd (last_end self.now) (λ end. t ≤ end) }
+        ensures last { IsTrue result ↔ EndsFrom self.now t }
         ensures intervals { AreIntervals self.now }
     {
-        match self.pairs.last() {
-            Some((_, end)) => t <= *end,
+        match self.end() {
+            Some(end) => t <= end,
             None => false,
         }
     }
@@ -189,7 +200,7 @@ fn merged(
     requires left { AreIntervals left.now }
     requires right { AreIntervals right.now }
     ensures intervals { IfOk result (λ joined. AreIntervals joined.items) }
-    ensures union { IfOk result (λ joined. (t : ℕ) → covers joined.items t ≡ (covers left.now t || covers right.now t)) }
+    ensures union { IfOk result (λ joined. IsUnion left.now right.now joined.items) }
 {
     let mut joined = Vec::new(alloc);
     let mut i = 0;
@@ -209,8 +220,8 @@ fn merged(
 /// True where the next interval of the left list begins no later than that of the right one, of which one may have none left.
 fn left_is_next(left: &[(u64, u64)], right: &[(u64, u64)], i: usize, j: usize) -> bool
     requires { (i < length left.now) ⊎ (j < length right.now) }
-    ensures left { IsTrue result → IsNext left.now right.now i j }
-    ensures right { IsFalse result → IsNext right.now left.now j i }
+    ensures left { IsTrue result → IsNextPair left.now right.now i j }
+    ensures right { IsFalse result → IsNextPair right.now left.now j i }
 {
     if i >= left.len() {
         return false;
@@ -223,7 +234,7 @@ fn left_is_next(left: &[(u64, u64)], right: &[(u64, u64)], i: usize, j: usize) -
 
 /// Adds an interval that begins no sooner than the last: it makes the last longer, where they touch or overlap.
 fn absorb(joined: &mut Vec<(u64, u64)>, next: (u64, u64)) -> Result<(), AllocError>
-    ensures { OnOk result (joined.new.items ≡ absorbed joined.old.items next) }
+    ensures { OnOk result (joined.new.items ≡ with_pair joined.old.items next) }
 {
     let count = joined.len();
     if count > 0 && next.0 <= joined[count - 1].1 {
@@ -234,11 +245,3 @@ fn absorb(joined: &mut Vec<(u64, u64)>, next: (u64, u64)) -> Result<(), AllocErr
     joined.push(next)?;
     Ok(())
 }
-
-/// What lists of intervals say as sets of ticks: two that hold the same ticks are one list.
-pub fn interval_laws()
-    ensures { IntervalLaws }
-{}
-
-#[cfg(test)]
-mod tests;

@@ -1,91 +1,9 @@
-//! The two levels of a bus line, places in lists of them, and sets of dominant ticks.
+//! Sets of dominant ticks, as intervals.
 #![tactic(auto)]
 
 mod intervals;
-mod listed;
+mod laws;
 
-ghost use Rattle.std.specs.Prelude.{◌≡◌};
-ghost use Rattle.wl_intervals.specs.Levels.{is_dominant, opposite, same};
-ghost use Rattle.wl_intervals.specs.Places.{PlaceLaws};
-
-pub use intervals::{Intervals, IntervalsFault, interval_laws};
-pub use listed::Listed;
-
-/// What a line carries: bit 0 is dominant, bit 1 recessive (Bosch CAN 2.0 part A, section 2).
-///
-/// A line that nobody drives is recessive, so that is the default.
-#[derive(Clone, Copy, Debug, PartialEq, Eq)]
-pub enum Level {
-    /// Bit 0: one node that drives it decides the line.
-    Dominant,
-    /// Bit 1: the line where no node drives dominant.
-    Recessive,
-}
-
-impl Default for Level {
-    ghost use Rattle.wl_intervals.specs.declared.Level.TheVariants.{Recessive};
-
-    ghost is_default = { λ l. l ≡ Recessive };
-
-    /// Recessive, as a line that nobody drives.
-    fn default() -> Self {
-        Self::Recessive
-    }
-}
-
-impl Level {
-    /// True of dominant.
-    pub fn is_dominant(self) -> bool
-        ensures { result ≡ is_dominant self }
-    {
-        match self {
-            Level::Dominant => true,
-            Level::Recessive => false,
-        }
-    }
-
-    /// The other level, as a stuff bit has it.
-    pub fn opposite(self) -> Level
-        ensures { result ≡ opposite self }
-    {
-        match self {
-            Level::Dominant => Level::Recessive,
-            Level::Recessive => Level::Dominant,
-        }
-    }
-
-    /// True where the two levels are the same.
-    pub fn is(self, other: Level) -> bool
-        ensures { result ≡ same self other }
-    {
-        self.is_dominant() == other.is_dominant()
-    }
-}
-
-/// What the words for places in lists of levels say: the first place that passes a test, counts, and runs of equal levels.
-pub fn place_laws()
-    ensures { PlaceLaws }
-{}
-
-#[cfg(test)]
-mod tests {
-    use super::*;
-
-    #[test]
-    fn two_levels(rt: HostRuntime) {
-        assert_eq!(rt; Level::default(), Level::Recessive);
-        assert_eq!(rt; Level::Dominant.opposite(), Level::Recessive);
-        assert_eq!(rt; Level::Recessive.opposite(), Level::Dominant);
-        assert!(rt; Level::Dominant.is_dominant());
-        assert!(rt; !Level::Recessive.is_dominant());
-        assert!(rt; Level::Dominant.is(Level::Dominant));
-        assert!(rt; Level::Recessive.is(Level::Recessive));
-        assert!(rt; !Level::Dominant.is(Level::Recessive));
-        assert!(rt; !Level::Recessive.is(Level::Dominant));
-    }
-
-    #[test]
-    fn laws() {
-        place_laws();
-    }
-}
+pub use intervals::{Intervals, IntervalsFault};
+pub use laws::interval_laws;
+pub use wl_level::Level;

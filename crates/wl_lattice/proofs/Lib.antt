@@ -1,4 +1,2 @@
 pub mod Lists
 pub mod OrderLaws
-pub mod MapLemmas
-pub mod MapProofs

@@ -4,3 +4,4 @@ pub mod Words
 pub mod Maps
 pub mod ProductLaws
 pub mod WordLaws
+pub mod KeyByKey

@@ -50,6 +50,12 @@ pub record MapLaws {K W : Type 0} (R : K → K → Ordering) (join : W → W →
   pub of_entries : (es : List (K × W)) (q : K) → get (map_of R join es) q ≡ words_at R join es q
   pub of_both : (es fs : List (K × W)) → map_of R join (es ++ fs) ≡ joined_maps join (map_of R join es) (map_of R join fs)
   pub of_members : (es fs : List (K × W)) → SameMembers es fs → map_of R join es ≡ map_of R join fs
+  -- what lists have at a key: two of them, and the entries of a map
+  pub words_of_both : (es fs : List (K × W)) (q : K) → words_at R join (es ++ fs) q ≡ joined_options join (words_at R join es q) (words_at R join fs q)
+  pub words_of_map : (m : FinMap R W) (q : K) → words_at R join (entries m) q ≡ get m q
+  -- where either word may be missing
+  pub options_commute : (a b : Option W) → joined_options join a b ≡ joined_options join b a
+  pub options_associate : (a b c : Option W) → joined_options join (joined_options join a b) c ≡ joined_options join a (joined_options join b c)
 
 -- of keys in a total order, in which no two are equal but a key and itself
 abbrev pub JoinsKeyByKey : (K : Type 0) {W : Type 0} → (W → W → W) → Type 0

@@ -4,7 +4,7 @@ use Rattle.std.proofs.Common.{ap, arith, sym, ◌∙◌, inl, inr}
 use Rattle.std.proofs.lemmas.Bool.{cases_eq}
 use Rattle.std.proofs.lemmas.Bool.Decides.{nat_tests}
 use Rattle.wl_lattice.specs.Laws.{JoinLaws}
-use Rattle.wl_lattice.specs.Words.{max_word, joined_max, joined_flat, ReadsBack}
+use Rattle.wl_lattice.specs.Words.{max_word, joined_max, joined_flat}
 use Rattle.wl_lattice.specs.declared.MaxWord.{MaxWord}
 use Rattle.wl_lattice.specs.declared.FlatWord.{FlatWord}
 use Rattle.wl_lattice.specs.declared.FlatWord.TheVariants.{Nothing, Value, Clash}
@@ -98,17 +98,3 @@ value_stays x Clash = inr refl
 
 pub value_kept : (x : ℕ) (b : FlatWord) → joined_flat (Value x) b ≡ b → ¬ (b ≡ Clash) → b ≡ Value x
 value_kept x b h n = elim (value_stays x b) [ inl e ↦ sym h ∙ e | inr e ↦ absurd (n (sym h ∙ e)) ]
-
-clash_right : (b : FlatWord) → joined_flat b Clash ≡ Clash
-clash_right Nothing = refl
-clash_right (Value x) = refl
-clash_right Clash = refl
-
-pub reads_back : ReadsBack
-reads_back = record {
-  value_from = value_from;
-  clash_from = clash_from;
-  value_stays = value_stays;
-  value_kept = value_kept;
-  clash_stays = λ b. (refl, clash_right b);
-}

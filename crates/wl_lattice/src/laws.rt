@@ -1,24 +1,24 @@
-// Laws of joins, each the contract of a function with an empty body: a caller that calls it may use
-// the law.
+//! Laws of joins, each the contract of a function with an empty body: a caller that calls it may use
+//! the law.
 ghost use Rattle.wl_lattice.specs.Laws.{IsJoinOrder};
 ghost use Rattle.wl_lattice.specs.Words.{ReadsBack};
 ghost use Rattle.wl_lattice.specs.Maps.{JoinsKeyByKey};
 
 use crate::Join;
 
-/// Words are in a partial order, where `a` is at most `b` if joining `b` to `a` gives `b`. In this
+/// Law: words are in a partial order, where `a` is at most `b` if joining `b` to `a` gives `b`. In this
 /// order the joined word is the least upper bound of the two, and the least word is below all.
 pub fn join_makes_an_order<W: Join>()
     ensures { IsJoinOrder W.is_word W.least W.joined }
 {}
 
-/// What a joined `FlatWord` tells of its two sides: where a value or a clash came from, and when a
-/// value stays.
+/// Law: of a joined `FlatWord` can be read from which side a value or a clash came, and when a value
+/// stays.
 pub fn flat_words_read_back()
     ensures { ReadsBack }
 {}
 
-/// Finite maps of words are joined key by key, where a key that a map lacks is below every word:
+/// Law: finite maps of words are joined key by key, where a key that a map lacks is below every word:
 /// this is a join again, and the map of a list of entries rests on its members alone, not on their
 /// order or number.
 pub fn maps_join_key_by_key<K, W: Join>()

@@ -121,6 +121,3 @@ impl Join for FlatWord {
         self == other
     }
 }
-
-#[cfg(test)]
-mod tests;

@@ -1,4 +1,4 @@
-// Pairs and arrays of words, joined part by part.
+//! Pairs and arrays of words, joined part by part.
 ghost use Rattle.std.specs.Prelude.{◌≡◌, ◌↔◌, IsTrue};
 
 use crate::Join;

@@ -1,7 +1,7 @@
 -- The machine with its counters, by computation.
 use Rattle.std.proofs.Common.{◌≡◌, ℕ, zero, suc, [], false, Option, Some, None, refl}
-use Rattle.wl_intervals.specs.declared.Level.{Level}
-use Rattle.wl_intervals.specs.declared.Level.TheVariants.{Dominant}
+use Rattle.wl_level.specs.declared.Level.{Level}
+use Rattle.wl_level.specs.declared.Level.TheVariants.{Dominant}
 use Rattle.wl_confine.specs.declared.ErrorKind.TheVariants.{Ack}
 use Rattle.wl_confine.specs.declared.Mode.{Mode}
 use Rattle.wl_confine.specs.declared.Mode.TheVariants.{Off}
@@ -59,7 +59,7 @@ passive = refl
 
 -- alone on the wire, with a frame
 abbrev zero_frame : Option Content
-zero_frame = Some (record { id = 0; remote = false; dlc = 0; bytes = [] })
+zero_frame = Some (record { extended = false; id = 0; remote = false; dlc = 0; bytes = [] })
 
 abbrev alone : ℕ → Confined
 alone zero = begin Integration

@@ -1,14 +1,14 @@
--- Flags and the wait behind them, one sample later.
+-- Flags and the wait after them, one sample later.
 use Rattle.std.proofs.Common.{◌≡◌, ◌≢◌, ℕ, suc, ◌+◌, ◌-◌, ◌<◌, ◌≤◌, ◌%◌, ◌∙◌, List, [], ◌∷◌, ◌++◌, length, Bool, true, false, not, cond, ◌&&◌, ◌||◌, refl, sym, ap, subst, arith, append-nil, append_assoc, inl, inr}
 use Rattle.std.specs.Prelude.{nat_eq}
 use Rattle.std.specs.List.{list_any}
 use Rattle.std.proofs.lemmas.List.Folds.{list_any-append}
 use Rattle.std.proofs.lemmas.Bool.{eq-eqb, ne_eqb, lt-ltb, le-ltb, le-leb, lt-leb, cases_lt}
-use Rattle.wl_intervals.specs.declared.Level.{Level}
-use Rattle.wl_intervals.specs.declared.Level.TheVariants.{Dominant, Recessive}
-use Rattle.wl_intervals.specs.Levels.{same, is_dominant, opposite}
-use Rattle.wl_intervals.specs.Places.{run_at_end}
-use Rattle.wl_intervals.proofs.Places.{run_more, length_more, dominant_from, recessive_from}
+use Rattle.wl_level.specs.declared.Level.{Level}
+use Rattle.wl_level.specs.declared.Level.TheVariants.{Dominant, Recessive}
+use Rattle.wl_level.specs.Levels.{same, is_dominant, opposite}
+use Rattle.wl_level.specs.Places.{run_at_end}
+use Rattle.wl_level.proofs.Callers.{run_more, length_more, dominant_from, recessive_from}
 use Rattle.wl_confine.specs.declared.Happened.{Happened}
 use Rattle.wl_confine.specs.declared.Happened.TheVariants as happens
 use Rattle.wl_machine.specs.declared.progress.Progress.{Progress}
@@ -18,11 +18,11 @@ use Rattle.wl_machine.specs.declared.state.Cause.TheVariants.{Error, Overload}
 use Rattle.wl_machine.specs.declared.state.Role.{Role}
 use Rattle.wl_machine.specs.declared.state.Role.TheVariants.{Tx, Rx}
 use Rattle.wl_machine.specs.declared.state.State.TheVariants as states
-use Rattle.wl_machine.specs.Stretch.{Flag, Sampled, Judgement, goes_on, begins}
+use Rattle.wl_machine.specs.Stretch.{Flag, Sampled, Judgement, continues, begins}
 use Rattle.wl_machine.specs.Stretch.Flag.{ActiveFlag, OverloadFlag, PassiveFlag}
 use Rattle.wl_machine.specs.Stretch.Sort.{Flagging, Waiting, Delimiting}
 use Rattle.wl_machine.specs.Flags.{flag_bit_of, long_of, flagging, dominant_flag, waiting, long_from, dominant_run, is_after_flag, is_each_eighth}
-use Rattle.wl_machine.specs.States.{IsAtState, IsPassive, IsWait, Meets, stretch, flag_of, until_long}
+use Rattle.wl_machine.specs.States.{IsAtState, IsPassive, IsWait, Meets, stretch_by, flag_of, until_long}
 use Rattle.wl_machine.proofs.Steps.{says, meets_on, meets_end}
 
 -- the dominant run one sample later
@@ -50,13 +50,13 @@ dominant_run_is Overload flagged own = refl
 pub flag_on : (m : Progress) (step : Step) (cause : Cause) (role : Role) (own : List Level) (x : Sampled) (count run : ℕ) (happened : Happened)
     → count ≡ length own → count < 5 → run_at_end Dominant (own ++ x.level ∷ []) ≡ run
     → happened ≡ cond (is_dominant x.level) happens.Nothing (flag_bit_of role) → step ≡ says happened
-    → m.state ≡ states.Flag cause role (count + 1) run → Meets m step (stretch (Flagging (flag_of cause) role) own) x
+    → m.state ≡ states.Flag cause role (count + 1) run → Meets m step (stretch_by (Flagging (flag_of cause) role) own) x
 flag_on m step cause role own x count run happened e below r h is at =
     meets_on m step _ x happened (states.Flag cause role (count + 1) run)
     (flagging_is cause role own x
     ∙ ap (λ b. cond b (begins (cond (is_dominant x.level) happens.Nothing (flag_bit_of role)) (Waiting (flag_of cause) role (own ++ x.level ∷ [])) [])
-    (goes_on (cond (is_dominant x.level) happens.Nothing (flag_bit_of role)))) (ne_eqb (length own) 5 (λ n. omega arith))
-    ∙ ap goes_on (sym h))
+    (continues (cond (is_dominant x.level) happens.Nothing (flag_bit_of role)))) (ne_eqb (length own) 5 (λ n. omega arith))
+    ∙ ap continues (sym h))
     is at (refl, record { is_length = omega (arith, length_more own x.level); below = omega arith }, sym r)
 
 wait_left : (cause : Cause) (flagged : List Level) (run : ℕ) → run_at_end Dominant flagged ≡ run → run ≤ 6
@@ -71,13 +71,13 @@ pub flag_ends : (m : Progress) (step : Step) (cause : Cause) (role : Role) (own 
     → count ≡ length own → count ≡ 5 → run_at_end Dominant (own ++ x.level ∷ []) ≡ run → run ≤ 6
     → late ≡ is_after_flag (flag_of cause) role []
     → happened ≡ cond (is_dominant x.level) happens.Nothing (flag_bit_of role) → step ≡ says happened
-    → m.state ≡ states.Wait role late (14 - run) → Meets m step (stretch (Flagging (flag_of cause) role) own) x
+    → m.state ≡ states.Wait role late (14 - run) → Meets m step (stretch_by (Flagging (flag_of cause) role) own) x
 flag_ends m step cause role own x count run late happened e five r small l h is at =
     let flagged : List Level = own ++ x.level ∷ [] in
     meets_end m step _ x happened (Waiting (flag_of cause) role flagged) []
     (flagging_is cause role own x
     ∙ ap (λ b. cond b (begins (cond (is_dominant x.level) happens.Nothing (flag_bit_of role)) (Waiting (flag_of cause) role (own ++ x.level ∷ [])) [])
-    (goes_on (cond (is_dominant x.level) happens.Nothing (flag_bit_of role)))) (eq-eqb (length own) 5 (omega arith))
+    (continues (cond (is_dominant x.level) happens.Nothing (flag_bit_of role)))) (eq-eqb (length own) 5 (omega arith))
     ∙ ap (λ a. begins a (Waiting (flag_of cause) role flagged) []) (sym h))
     is
     (subst (λ st. IsAtState st m.bits.items m.sent.items (Waiting (flag_of cause) role flagged) []) (sym at)
@@ -121,15 +121,15 @@ passive_happens unacknowledged owed own level happened o h =
 pub passive_on : (m : Progress) (step : Step) (role : Role) (own : List Level) (x : Sampled) (owed unacknowledged : Bool) (last : Level) (run next : ℕ) (still : Bool) (happened : Happened)
     → IsPassive owed unacknowledged last run own → next ≡ cond (same x.level last) (run + 1) 1 → next < 6
     → still ≡ (owed && not (is_dominant x.level)) → happened ≡ acknowledged (owed && is_dominant x.level) → step ≡ says happened
-    → m.state ≡ states.PassiveFlag role still x.level next → Meets m step (stretch (Flagging (PassiveFlag unacknowledged) role) own) x
+    → m.state ≡ states.PassiveFlag role still x.level next → Meets m step (stretch_by (Flagging (PassiveFlag unacknowledged) role) own) x
 passive_on m step role own x owed unacknowledged last run next still happened p n below s h is at =
     let run_now : run_at_end x.level (own ++ x.level ∷ []) ≡ next = passive_run x.level last own run p.run_is p.alone ∙ sym n in
     let says_so : acknowledged (unacknowledged && is_dominant x.level && not (list_any is_dominant own)) ≡ happened = passive_happens unacknowledged owed own x.level happened p.owed_is h in
     meets_on m step _ x happened (states.PassiveFlag role still x.level next)
     (ap (λ b. cond b
     (begins (acknowledged (unacknowledged && is_dominant x.level && not (list_any is_dominant own))) (Waiting (PassiveFlag unacknowledged) role (own ++ x.level ∷ [])) [])
-    (goes_on (acknowledged (unacknowledged && is_dominant x.level && not (list_any is_dominant own))))) (ne_eqb _ 6 (λ six. omega arith))
-    ∙ ap goes_on says_so)
+    (continues (acknowledged (unacknowledged && is_dominant x.level && not (list_any is_dominant own))))) (ne_eqb _ 6 (λ six. omega arith))
+    ∙ ap continues says_so)
     is at (
       unacknowledged,
       refl,
@@ -151,7 +151,7 @@ late_passive unacknowledged Rx = refl
 pub passive_ends : (m : Progress) (step : Step) (role : Role) (own : List Level) (x : Sampled) (owed unacknowledged : Bool) (last : Level) (run : ℕ) (late : Bool) (happened : Happened)
     → IsPassive owed unacknowledged last run own → 6 ≡ cond (same x.level last) (run + 1) 1
     → late ≡ is_after_flag ActiveFlag role [] → happened ≡ acknowledged (owed && is_dominant x.level) → step ≡ says happened
-    → m.state ≡ states.Wait role late 8 → Meets m step (stretch (Flagging (PassiveFlag unacknowledged) role) own) x
+    → m.state ≡ states.Wait role late 8 → Meets m step (stretch_by (Flagging (PassiveFlag unacknowledged) role) own) x
 passive_ends m step role own x owed unacknowledged last run late happened p n l h is at =
     let flagged : List Level = own ++ x.level ∷ [] in
     let run_now : run_at_end x.level (own ++ x.level ∷ []) ≡ 6 = passive_run x.level last own run p.run_is p.alone ∙ sym n in
@@ -159,7 +159,7 @@ passive_ends m step role own x owed unacknowledged last run late happened p n l 
     meets_end m step _ x happened (Waiting (PassiveFlag unacknowledged) role flagged) []
     (ap (λ b. cond b
     (begins (acknowledged (unacknowledged && is_dominant x.level && not (list_any is_dominant own))) (Waiting (PassiveFlag unacknowledged) role (own ++ x.level ∷ [])) [])
-    (goes_on (acknowledged (unacknowledged && is_dominant x.level && not (list_any is_dominant own))))) (eq-eqb _ 6 run_now)
+    (continues (acknowledged (unacknowledged && is_dominant x.level && not (list_any is_dominant own))))) (eq-eqb _ 6 run_now)
     ∙ ap (λ a. begins a (Waiting (PassiveFlag unacknowledged) role flagged) []) says_so)
     is
     (subst (λ st. IsAtState st m.bits.items m.sent.items (Waiting (PassiveFlag unacknowledged) role flagged) []) (sym at)
@@ -243,16 +243,16 @@ abbrev pub wait_happens : Bool → Bool → Role → Happened
 wait_happens late now role = cond late happens.RxAfterFlag (cond now (long_of role) happens.Nothing)
 
 abbrev wait_cond : Role → Judgement → Bool → Bool → Bool → Judgement
-wait_cond role over dominant late now = cond (not dominant) over (cond late (goes_on happens.RxAfterFlag) (cond now (goes_on (long_of role)) (goes_on happens.Nothing)))
+wait_cond role over dominant late now = cond (not dominant) over (cond late (continues happens.RxAfterFlag) (cond now (continues (long_of role)) (continues happens.Nothing)))
 
-wait_cases : (role : Role) (over : Judgement) (late now : Bool) → wait_cond role over true late now ≡ goes_on (wait_happens late now role)
+wait_cases : (role : Role) (over : Judgement) (late now : Bool) → wait_cond role over true late now ≡ continues (wait_happens late now role)
 wait_cases role over true now = refl
 wait_cases role over false true = refl
 wait_cases role over false false = refl
 
 wait_judged : (flag : Flag) (role : Role) (flagged own : List Level) (x : Sampled) (late now : Bool) → is_dominant x.level ≡ true
     → late ≡ is_after_flag flag role own → is_each_eighth (long_from flag) (dominant_run flag flagged (own ++ x.level ∷ [])) ≡ now
-    → waiting flag role flagged own x ≡ goes_on (wait_happens late now role)
+    → waiting flag role flagged own x ≡ continues (wait_happens late now role)
 wait_judged flag role flagged own x late now d l n =
     let over : Judgement = begins happens.Nothing (Delimiting role) (x.level ∷ []) in
     let long : Bool = is_each_eighth (long_from flag) (dominant_run flag flagged (own ++ x.level ∷ [])) in
@@ -265,11 +265,11 @@ wait_judged flag role flagged own x late now d l n =
 pub wait_on : (m : Progress) (step : Step) (flag : Flag) (role : Role) (flagged own : List Level) (x : Sampled) (late now : Bool) (left next : ℕ) (happened : Happened)
     → is_dominant x.level ≡ true → IsWait late left flag role flagged own → IsNextLong (long_from flag) (dominant_run flag flagged own) now next
     → happened ≡ wait_happens late now role → step ≡ says happened → m.state ≡ states.Wait role false next
-    → Meets m step (stretch (Waiting flag role flagged) own) x
+    → Meets m step (stretch_by (Waiting flag role flagged) own) x
 wait_on m step flag role flagged own x late now left next happened d w n h is at =
     let more : dominant_run flag flagged (own ++ x.level ∷ []) ≡ suc (dominant_run flag flagged own) = dominant_more flag flagged own x.level d in
     meets_on m step _ x happened (states.Wait role false next)
-    (wait_judged flag role flagged own x late now d w.late_is (ap (is_each_eighth (long_from flag)) more ∙ n.now_is) ∙ ap goes_on (sym h))
+    (wait_judged flag role flagged own x late now d w.late_is (ap (is_each_eighth (long_from flag)) more ∙ n.now_is) ∙ ap continues (sym h))
     is at
     (flag, flagged, refl, record { late_is = sym (late_over flag role own x.level); left_is = sym (ap (until_long (long_from flag)) more ∙ n.left_is) })
 
@@ -277,7 +277,7 @@ wait_on m step flag role flagged own x late now left next happened d w n h is at
 pub wait_one : (m : Progress) (step : Step) (flag : Flag) (role : Role) (flagged own : List Level) (x : Sampled) (late : Bool) (left next : ℕ) (happened : Happened)
     → is_dominant x.level ≡ true → IsWait late left flag role flagged own → left ≡ 1 → next ≡ 8
     → happened ≡ wait_happens late true role → step ≡ says happened → m.state ≡ states.Wait role false next
-    → Meets m step (stretch (Waiting flag role flagged) own) x
+    → Meets m step (stretch_by (Waiting flag role flagged) own) x
 wait_one m step flag role flagged own x late left next happened d w one n h is at =
     wait_on m step flag role flagged own x late true left 8 happened d w
     (long_now (long_from flag) (dominant_run flag flagged own) (sym w.left_is ∙ one)) h is (at ∙ ap (states.Wait role false) n)
@@ -285,7 +285,7 @@ wait_one m step flag role flagged own x late left next happened d w one n h is a
 pub wait_more : (m : Progress) (step : Step) (flag : Flag) (role : Role) (flagged own : List Level) (x : Sampled) (late : Bool) (left next : ℕ) (happened : Happened)
     → is_dominant x.level ≡ true → IsWait late left flag role flagged own → (left ≡ 1 → ⊥) → next ≡ left - 1
     → happened ≡ wait_happens late false role → step ≡ says happened → m.state ≡ states.Wait role false next
-    → Meets m step (stretch (Waiting flag role flagged) own) x
+    → Meets m step (stretch_by (Waiting flag role flagged) own) x
 wait_more m step flag role flagged own x late left next happened d w more n h is at =
     wait_on m step flag role flagged own x late false left (until_long (long_from flag) (dominant_run flag flagged own) - 1) happened d w
     (long_later (long_from flag) (dominant_run flag flagged own) (λ one. more (w.left_is ∙ one))) h is

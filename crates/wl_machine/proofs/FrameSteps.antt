@@ -2,10 +2,10 @@
 use Rattle.std.proofs.Common.{◌≡◌, ℕ, ◌+◌, ◌-◌, ◌<◌, ◌≤◌, ◌∙◌, List, [], ◌∷◌, ◌++◌, length, Bool, true, false, not, cond, ◌&&◌, Option, Some, None, refl, sym, ap, subst, arith, inl, inr, ◌⊎◌}
 use Rattle.std.specs.Prelude.{nat_le, nat_eq}
 use Rattle.std.proofs.lemmas.Bool.{le-leb, lt-leb, ne_eqb, and_from, and_right, cases_lt}
-use Rattle.wl_intervals.specs.declared.Level.{Level}
-use Rattle.wl_intervals.specs.declared.Level.TheVariants.{Dominant, Recessive}
-use Rattle.wl_intervals.specs.Levels.{same, is_dominant, opposite}
-use Rattle.wl_intervals.specs.Places.{at, before}
+use Rattle.wl_level.specs.declared.Level.{Level}
+use Rattle.wl_level.specs.declared.Level.TheVariants.{Dominant, Recessive}
+use Rattle.wl_level.specs.Levels.{same, is_dominant, opposite}
+use Rattle.wl_level.specs.Places.{at, before}
 use Rattle.wl_confine.specs.declared.ErrorKind.TheVariants.{Bit, Stuff, Form, Crc, Ack}
 use Rattle.wl_confine.specs.declared.Mode.{Mode}
 use Rattle.wl_confine.specs.declared.Mode.TheVariants.{Active, Passive, Off}
@@ -17,12 +17,12 @@ use Rattle.wl_machine.specs.declared.progress.Progress.{Progress}
 use Rattle.wl_machine.specs.declared.progress.Step.{Step}
 use Rattle.wl_machine.specs.declared.state.Role.TheVariants.{Tx, Rx}
 use Rattle.wl_machine.specs.declared.state.State.TheVariants as states
-use Rattle.wl_machine.specs.Stretch.{Sampled, Ended, Judgement, goes_on, begins}
+use Rattle.wl_machine.specs.Stretch.{Sampled, Ended, Judgement, continues, begins}
 use Rattle.wl_machine.specs.Stretch.Sort.{Framing, Flagging, Intermission}
 use Rattle.wl_machine.specs.Stretch.Ended.{Sent, Received}
 use Rattle.wl_machine.specs.Flags.{error_flag, fails}
 use Rattle.wl_machine.specs.Frames.{stuffed_end, sent_at, frame_role, framing, framing_by, framing_sent, framing_received, sending, differing, receiving, unanswered, acknowledging, last_bit, sent_tail, received_tail}
-use Rattle.wl_machine.specs.States.{IsIn, IsAtState, IsStuffedPart, IsTail, IsReceivedTail, Meets, stretch, done_of}
+use Rattle.wl_machine.specs.States.{IsIn, IsAtState, IsStuffedPart, IsTail, IsReceivedTail, Meets, stretch_by, done_of}
 use Rattle.wl_machine.proofs.Steps.{says, meets_by}
 use Rattle.wl_machine.proofs.Framed.{due_by_run, role_receives, lost_next, tail_next, tail_bits, tail_sends}
 
@@ -55,18 +55,18 @@ sent_tail_is head own x place end role t =
     sent_is head own x role ∙ ap (λ e. framing_sent head own e x) t.found ∙ ap (λ n. sent_tail head n x) here
 
 -- a frame goes on
-pub frame_on : (m : Progress) (step : Step) (head : Option Content) (own : List Level) (x : Sampled) (happened : Happened) → framing head own x ≡ goes_on happened
-    → step ≡ says happened → IsIn m (stretch (Framing head) (own ++ x.level ∷ [])) → Meets m step (stretch (Framing head) own) x
-frame_on m step head own x happened e is p = meets_by m step (stretch (Framing head) own) x (goes_on happened) e (ap (λ a. a.happened) is) (ap (λ a. a.done) is) p
+pub frame_on : (m : Progress) (step : Step) (head : Option Content) (own : List Level) (x : Sampled) (happened : Happened) → framing head own x ≡ continues happened
+    → step ≡ says happened → IsIn m (stretch_by (Framing head) (own ++ x.level ∷ [])) → Meets m step (stretch_by (Framing head) own) x
+frame_on m step head own x happened e is p = meets_by m step (stretch_by (Framing head) own) x (continues happened) e (ap (λ a. a.happened) is) (ap (λ a. a.done) is) p
 
 -- a receiver's tail goes on
 pub received_tail_on : (m : Progress) (step : Step) (head : Option Content) (own : List Level) (x : Sampled) (place end : ℕ) (right : Bool) (bits : List Level) (happened : Happened) (ended : Ended)
     → frame_role head own ≡ Rx → IsReceivedTail place end right bits own → place < 9
     → received_tail (kept own end) place x ≡ record { happened = happened; ended = ended; next = None }
     → step ≡ record { happened = happened; done = done_of ended } → m.state ≡ states.ReceivedTail (place + 1) right → m.bits.items ≡ bits
-    → Meets m step (stretch (Framing head) own) x
+    → Meets m step (stretch_by (Framing head) own) x
 received_tail_on m step head own x place end right bits happened ended role t below e is at b =
-    meets_by m step (stretch (Framing head) own) x (record { happened = happened; ended = ended; next = None })
+    meets_by m step (stretch_by (Framing head) own) x (record { happened = happened; ended = ended; next = None })
     (received_tail_is head own x place end role t.tail ∙ e) (ap (λ a. a.happened) is) (ap (λ a. a.done) is)
     (subst (λ st. IsAtState st m.bits.items m.sent.items (Framing head) (own ++ x.level ∷ [])) (sym at) (
       head,
@@ -82,8 +82,8 @@ received_tail_on m step head own x place end right bits happened ended role t be
 
 -- a transmitter's tail goes on
 pub sent_tail_on : (m : Progress) (step : Step) (head : Content) (own : List Level) (x : Sampled) (place end : ℕ)
-    → frame_role (Some head) own ≡ Tx → IsTail place end own → place < 9 → sent_tail head place x ≡ goes_on happens.Nothing
-    → step ≡ says happens.Nothing → m.state ≡ states.SentTail (place + 1) → Meets m step (stretch (Framing (Some head)) own) x
+    → frame_role (Some head) own ≡ Tx → IsTail place end own → place < 9 → sent_tail head place x ≡ continues happens.Nothing
+    → step ≡ says happens.Nothing → m.state ≡ states.SentTail (place + 1) → Meets m step (stretch_by (Framing (Some head)) own) x
 sent_tail_on m step head own x place end role t below e is at =
     frame_on m step (Some head) own x happens.Nothing (sent_tail_is head own x place end role t ∙ e) is
     (subst (λ st. IsAtState st m.bits.items m.sent.items (Framing (Some head)) (own ++ x.level ∷ [])) (sym at)
@@ -92,18 +92,18 @@ sent_tail_on m step head own x place end role t below e is at =
 -- a transmitter's tail, by its place
 
 pub sent_unanswered : (head : Content) (place : ℕ) (x : Sampled) → place ≡ 1 → is_dominant x.level ≡ false → sent_tail head place x ≡ unanswered x.mode
-sent_unanswered head place x one d = ap (λ n. sent_tail head n x) one ∙ ap (λ b. cond b (goes_on happens.Nothing) (unanswered x.mode)) d
+sent_unanswered head place x one d = ap (λ n. sent_tail head n x) one ∙ ap (λ b. cond b (continues happens.Nothing) (unanswered x.mode)) d
 
-pub sent_answered : (head : Content) (place : ℕ) (x : Sampled) → place ≡ 1 → is_dominant x.level ≡ true → sent_tail head place x ≡ goes_on happens.Nothing
-sent_answered head place x one d = ap (λ n. sent_tail head n x) one ∙ ap (λ b. cond b (goes_on happens.Nothing) (unanswered x.mode)) d
+pub sent_answered : (head : Content) (place : ℕ) (x : Sampled) → place ≡ 1 → is_dominant x.level ≡ true → sent_tail head place x ≡ continues happens.Nothing
+sent_answered head place x one d = ap (λ n. sent_tail head n x) one ∙ ap (λ b. cond b (continues happens.Nothing) (unanswered x.mode)) d
 
 abbrev sent_cond : Content → Sampled → Bool → Bool → Bool → Judgement
 sent_cond head x one dominant nine =
-    cond one (cond (is_dominant x.level) (goes_on happens.Nothing) (unanswered x.mode))
+    cond one (cond (is_dominant x.level) (continues happens.Nothing) (unanswered x.mode))
     (cond dominant (fails Tx x.mode Bit)
-    (cond nine (record { happened = happens.Sent; ended = Sent head; next = Some (stretch (Intermission Tx) []) }) (goes_on happens.Nothing)))
+    (cond nine (record { happened = happens.Sent; ended = Sent head; next = Some (stretch_by (Intermission Tx) []) }) (continues happens.Nothing)))
 
-pub sent_next : (head : Content) (place : ℕ) (x : Sampled) → (place ≡ 1 → ⊥) → is_dominant x.level ≡ false → (place ≡ 9 → ⊥) → sent_tail head place x ≡ goes_on happens.Nothing
+pub sent_next : (head : Content) (place : ℕ) (x : Sampled) → (place ≡ 1 → ⊥) → is_dominant x.level ≡ false → (place ≡ 9 → ⊥) → sent_tail head place x ≡ continues happens.Nothing
 sent_next head place x one d nine =
     ap (λ b. sent_cond head x b (is_dominant x.level) (nat_eq place 9)) (ne_eqb place 1 one)
     ∙ ap (λ b. sent_cond head x false b (nat_eq place 9)) d
@@ -112,14 +112,14 @@ sent_next head place x one d nine =
 -- a receiver's tail, by its place
 
 pub answered : (bits : List Level) (x : Sampled) (right : Bool) → right ≡ is_crc_right bits → right ≡ true → is_dominant x.level ≡ true
-    → received_tail bits 1 x ≡ goes_on happens.Acked
+    → received_tail bits 1 x ≡ continues happens.Acked
 answered bits x right e r d =
-    ap (λ b. cond (not b) (goes_on happens.Nothing) (cond (is_dominant x.level) (goes_on happens.Acked) (fails Rx x.mode Bit))) (sym e ∙ r)
-    ∙ ap (λ b. cond b (goes_on happens.Acked) (fails Rx x.mode Bit)) d
+    ap (λ b. cond (not b) (continues happens.Nothing) (cond (is_dominant x.level) (continues happens.Acked) (fails Rx x.mode Bit))) (sym e ∙ r)
+    ∙ ap (λ b. cond b (continues happens.Acked) (fails Rx x.mode Bit)) d
 
-pub not_answered : (bits : List Level) (x : Sampled) (right : Bool) → right ≡ is_crc_right bits → right ≡ false → received_tail bits 1 x ≡ goes_on happens.Nothing
+pub not_answered : (bits : List Level) (x : Sampled) (right : Bool) → right ≡ is_crc_right bits → right ≡ false → received_tail bits 1 x ≡ continues happens.Nothing
 not_answered bits x right e r =
-    ap (λ b. cond (not b) (goes_on happens.Nothing) (cond (is_dominant x.level) (goes_on happens.Acked) (fails Rx x.mode Bit))) (sym e ∙ r)
+    ap (λ b. cond (not b) (continues happens.Nothing) (cond (is_dominant x.level) (continues happens.Acked) (fails Rx x.mode Bit))) (sym e ∙ r)
 
 pub last_is : (bits : List Level) (place : ℕ) (x : Sampled) → place ≡ 9 → received_tail bits place x ≡ last_bit x
 last_is bits place x nine = ap (λ n. received_tail bits n x) nine
@@ -127,7 +127,7 @@ last_is bits place x nine = ap (λ n. received_tail bits n x) nine
 abbrev received_cond : List Level → Sampled → Bool → Bool → Bool → Bool → Bool → Judgement
 received_cond bits x one nine dominant wrong eight =
     cond one (acknowledging bits x) (cond nine (last_bit x) (cond dominant (fails Rx x.mode Form) (cond wrong (fails Rx x.mode Crc)
-    (cond eight (record { happened = happens.Nothing; ended = Received (content_of bits); next = None }) (goes_on happens.Nothing)))))
+    (cond eight (record { happened = happens.Nothing; ended = Received (content_of bits); next = None }) (continues happens.Nothing)))))
 
 received_by : (bits : List Level) (place : ℕ) (x : Sampled) → (place ≡ 1 → ⊥) → (place ≡ 9 → ⊥) → is_dominant x.level ≡ false
     → (nat_eq place 2 && not (is_crc_right bits)) ≡ false → received_tail bits place x ≡ received_cond bits x false false false false (nat_eq place 8)
@@ -144,7 +144,7 @@ received_now bits place x d eight =
     ∙ ap (λ b. received_cond bits x false false b false true) d
 
 pub received_next : (bits : List Level) (place : ℕ) (x : Sampled) → (place ≡ 1 → ⊥) → (place ≡ 9 → ⊥) → is_dominant x.level ≡ false
-    → (nat_eq place 2 && not (is_crc_right bits)) ≡ false → (place ≡ 8 → ⊥) → received_tail bits place x ≡ goes_on happens.Nothing
+    → (nat_eq place 2 && not (is_crc_right bits)) ≡ false → (place ≡ 8 → ⊥) → received_tail bits place x ≡ continues happens.Nothing
 received_next bits place x one nine d w eight = received_by bits place x one nine d w ∙ ap (received_cond bits x false false false false) (ne_eqb place 8 eight)
 
 -- the CRC sequence is not found wrong here
@@ -178,7 +178,7 @@ pub receiving_six : (head : Option Content) (own : List Level) (x : Sampled) (la
     → 5 ≤ run → same last x.level ≡ true → framing head own x ≡ fails Rx x.mode Stuff
 receiving_six head own x last run bits role p due six =
     receiving_is head own x role p.going_on
-    ∙ ap (λ b. cond b (fails Rx x.mode Stuff) (goes_on happens.Nothing)) (six_is own x.level last run bits p ∙ and_from (nat_le 5 run) (same last x.level) (le-leb 5 run due) six)
+    ∙ ap (λ b. cond b (fails Rx x.mode Stuff) (continues happens.Nothing)) (six_is own x.level last run bits p ∙ and_from (nat_le 5 run) (same last x.level) (le-leb 5 run due) six)
 
 no_six : (last x : Level) (run : ℕ) → (5 ≤ run → same last x ≡ false) → (nat_le 5 run && same last x) ≡ false
 no_six last x run h = elim (cases_lt run 5) [
@@ -187,10 +187,10 @@ no_six last x run h = elim (cases_lt run 5) [
 ]
 
 pub receiving_on : (head : Option Content) (own : List Level) (x : Sampled) (last : Level) (run : ℕ) (bits : List Level) → frame_role head own ≡ Rx → IsStuffedPart last run bits own
-    → (5 ≤ run → same last x.level ≡ false) → framing head own x ≡ goes_on happens.Nothing
+    → (5 ≤ run → same last x.level ≡ false) → framing head own x ≡ continues happens.Nothing
 receiving_on head own x last run bits role p h =
     receiving_is head own x role p.going_on
-    ∙ ap (λ b. cond b (fails Rx x.mode Stuff) (goes_on happens.Nothing)) (six_is own x.level last run bits p ∙ no_six last x.level run h)
+    ∙ ap (λ b. cond b (fails Rx x.mode Stuff) (continues happens.Nothing)) (six_is own x.level last run bits p ∙ no_six last x.level run h)
 
 -- the level that a transmitter sends
 pub sent_level_is : (head : Content) (own : List Level) (last : Level) (run : ℕ) (bits sent : List Level) → IsStuffedPart last run bits own → sent ≡ bits_of head
@@ -202,14 +202,14 @@ sent_level_is head own last run bits sent p s =
     ∙ ap (λ b. cond (is_stuff own (length own)) (opposite (before own (length own))) (at b (length (kept own (length own))))) s
 
 pub sending_same : (head : Content) (own : List Level) (x : Sampled) → frame_role (Some head) own ≡ Tx → stuffed_end own ≡ None
-    → same (sent_at head own (length own)) x.level ≡ true → framing (Some head) own x ≡ goes_on happens.Nothing
+    → same (sent_at head own (length own)) x.level ≡ true → framing (Some head) own x ≡ continues happens.Nothing
 sending_same head own x role going e =
-    sending_is head own x role going ∙ ap (λ b. cond b (goes_on happens.Nothing) (differing head own x)) e
+    sending_is head own x role going ∙ ap (λ b. cond b (continues happens.Nothing) (differing head own x)) e
 
 pub sending_differs : (head : Content) (own : List Level) (x : Sampled) → frame_role (Some head) own ≡ Tx → stuffed_end own ≡ None
     → same (sent_at head own (length own)) x.level ≡ false → framing (Some head) own x ≡ differing head own x
 sending_differs head own x role going e =
-    sending_is head own x role going ∙ ap (λ b. cond b (goes_on happens.Nothing) (differing head own x)) e
+    sending_is head own x role going ∙ ap (λ b. cond b (continues happens.Nothing) (differing head own x)) e
 
 -- an equal sample is no loss
 pub not_lost_same : (head : Content) (own : List Level) (x : Level) → same (sent_at head own (length own)) x ≡ true → lost_next head own x ≡ false
@@ -223,7 +223,7 @@ not_lost_same head own x e =
     no_loss true Recessive Recessive e = refl
     no_loss false sent x e = refl
 
--- behind five equal samples a transmitter sends the other level
+-- after five equal samples a transmitter sends the other level
 pub sent_opposite : (last x sent : Level) (bits : List Level) (run : ℕ) (place : ℕ) → sent ≡ cond (nat_le 5 run) (opposite last) (at bits place) → same sent x ≡ true → 5 ≤ run → same last x ≡ false
 sent_opposite last x sent bits run place s e due = other last x sent (s ∙ ap (λ b. cond b (opposite last) (at bits place)) (le-leb 5 run due)) e
   where
@@ -237,7 +237,7 @@ abbrev differ_cond : Content → Sampled → Bool → Bool → Bool → Bool →
 differ_cond head x dominant stuff early arbitration =
     cond dominant (fails Tx x.mode Bit)
     (cond stuff (cond early (begins happens.TxFree (Flagging (error_flag x.mode) Tx) []) (fails Tx x.mode Bit))
-    (cond arbitration (goes_on happens.Nothing) (fails Tx x.mode Bit)))
+    (cond arbitration (continues happens.Nothing) (fails Tx x.mode Bit)))
 
 -- the judgement of a difference, by what the code asks
 differing_is : (head : Content) (own : List Level) (x : Sampled) (last : Level) (run : ℕ) (bits : List Level) (sent : Level) → IsStuffedPart last run bits own → sent ≡ sent_at head own (length own)
@@ -268,7 +268,7 @@ module _ (head : Content) (own : List Level) (x : Sampled) (last : Level) (run :
       differing_is head own x last run bits sent p s ∙ ap (λ b. differ_cond head x b (nat_le 5 run) early arbitrates) d
       ∙ ap (λ b. differ_cond head x false b early arbitrates) (le-leb 5 run due) ∙ ap (λ b. differ_cond head x false true b arbitrates) (lt-leb _ _ e)
 
-  pub differ_lost : is_dominant sent ≡ false → run < 5 → is_arbitration (bits_of head) (length bits) ≡ true → differing head own x ≡ goes_on happens.Nothing
+  pub differ_lost : is_dominant sent ≡ false → run < 5 → is_arbitration (bits_of head) (length bits) ≡ true → differing head own x ≡ continues happens.Nothing
   differ_lost d short a =
       differing_is head own x last run bits sent p s ∙ ap (λ b. differ_cond head x b (nat_le 5 run) early arbitrates) d
       ∙ ap (λ b. differ_cond head x false b early arbitrates) (lt-leb 5 run short) ∙ ap (differ_cond head x false false early) a

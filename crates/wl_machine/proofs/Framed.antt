@@ -1,16 +1,14 @@
 -- The stretch of a frame, one sample later: who sends, what is kept, and where the stuffed part ends.
 use Rattle.std.proofs.Common.{◌≡◌, ℕ, zero, suc, ◌+◌, ◌<◌, ◌≤◌, ◌∙◌, List, [], ◌∷◌, ◌++◌, length, Bool, true, false, not, cond, ◌&&◌, Option, Some, None, is_some, refl, sym, ap, subst, arith, add-one, append-nil, length-append, inl, inr}
-use Rattle.std.specs.Prelude.{nat_le, nat_lt}
-use Rattle.std.proofs.lemmas.Bool.{le-leb, lt-leb, le-ltb, eqb-true, cases_lt, and_parts, and_right}
-use Rattle.wl_intervals.specs.declared.Level.{Level}
-use Rattle.wl_intervals.specs.Levels.{same, is_dominant, opposite}
-use Rattle.wl_intervals.specs.Places.{at, before, or_at, first_place, run_at, IsFirst}
-use Rattle.wl_intervals.proofs.Places.{at_new, at_old, before_old}
-use Rattle.wl_intervals.proofs.FirstPlace.{first_cong, first_none, first_is}
+use Rattle.std.specs.Prelude.{nat_le}
+use Rattle.std.proofs.lemmas.Bool.{le-leb, lt-leb, cases_lt, and_parts}
+use Rattle.wl_level.specs.declared.Level.{Level}
+use Rattle.wl_level.specs.Levels.{same, is_dominant, opposite}
+use Rattle.wl_level.specs.Places.{at, before, or_at, first_place, run_at, IsFirstPlace}
+use Rattle.wl_level.proofs.Callers.{at_new, at_old, before_old, first_cong, first_none, first_is}
 use Rattle.wl_frame.specs.Stuffing.{is_stuff, kept}
-use Rattle.wl_frame.specs.Grammar.{Content, bits_of, is_whole, is_front, is_arbitration, covered_length}
-use Rattle.wl_frame.proofs.Stuffed.{stuff_run, stuff_old, kept_old, length_more, run_more, before_more, destuffed_more}
-use Rattle.wl_frame.proofs.Reading.{front_more}
+use Rattle.wl_frame.specs.Grammar.{Content, bits_of, is_whole, is_front, is_arbitration}
+use Rattle.wl_frame.proofs.Callers.{front_more, arbitration_over as over, stuff_run, stuff_old, kept_old, length_more, run_more, before_more, destuffed_more}
 use Rattle.wl_machine.specs.declared.state.Role.{Role}
 use Rattle.wl_machine.specs.declared.state.Role.TheVariants.{Tx, Rx}
 use Rattle.wl_machine.specs.Frames.{stuffed_end, is_lost, frame_role}
@@ -74,6 +72,19 @@ role_sends head own x h e = ap role_at (lost_more head own x) ∙ not_lost (firs
 pub role_loses : (head : Content) (own : List Level) (x : Level) → lost_next head own x ≡ true → frame_role (Some head) (own ++ x ∷ []) ≡ Rx
 role_loses head own x e = ap role_at (lost_more head own x) ∙ now_lost (first_place (is_lost head own) (length own)) (lost_next head own x) (length own) e
 
+role_by_place : (o : Option ℕ) (b : Bool) (n : ℕ) → role_at (or_at o b n) ≡ cond b Rx (role_at o)
+role_by_place (Some k) true n = refl
+role_by_place (Some k) false n = refl
+role_by_place None true n = refl
+role_by_place None false n = refl
+
+-- the role after one more sample
+pub role_next : (head : Content) (own : List Level) (x : Level)
+    → frame_role (Some head) (own ++ x ∷ []) ≡ cond (is_lost head (own ++ x ∷ []) (length own)) Rx (frame_role (Some head) own)
+role_next head own x =
+    ap role_at (lost_more head own x) ∙ role_by_place (first_place (is_lost head own) (length own)) (lost_next head own x) (length own)
+    ∙ ap (λ b. cond b Rx (frame_role (Some head) own)) (sym (lost_new head own x))
+
 -- the end of the stuffed part
 
 abbrev ends_at : List Level → ℕ → Bool
@@ -84,7 +95,7 @@ ends_old own x n h =
     ap (λ ks. is_whole ks && not (is_stuff (own ++ x ∷ []) n)) (kept_old own x n h)
     ∙ ap (λ s. is_whole (kept own n) && not s) (stuff_old own x n h)
 
--- it is found where it was, or behind the new sample
+-- it is found where it was, or after the new sample
 pub end_more : (own : List Level) (x : Level)
     → stuffed_end (own ++ x ∷ []) ≡ or_at (stuffed_end own) (ends_at (own ++ x ∷ []) (length (own ++ x ∷ []))) (length (own ++ x ∷ []))
 end_more own x =
@@ -156,7 +167,7 @@ taken last run bits own x run' bits' p r b due =
           ∙ ap (λ s. or_at None (is_whole bits' && not s) (length (own ++ x ∷ []))) (stuff_run (own ++ x ∷ []) (length (own ++ x ∷ [])) ∙ ap (nat_le 5) (sym run_here));
     }
 
--- behind the end of the stuffed part
+-- after the end of the stuffed part
 
 pub end_stays : (own : List Level) (x : Level) (end : ℕ) → stuffed_end own ≡ Some end → stuffed_end (own ++ x ∷ []) ≡ Some end
 end_stays own x end h = end_more own x ∙ ap (λ o. or_at o (ends_at (own ++ x ∷ []) (length (own ++ x ∷ []))) (length (own ++ x ∷ []))) h
@@ -174,7 +185,7 @@ tail_bits place end own x t =
 -- what stands before the end is whole
 pub tail_whole : (place end : ℕ) (own : List Level) → IsTail place end own → is_whole (kept own end) ≡ true
 tail_whole place end own t =
-    let first : IsFirst (ends_at own) (suc (length own)) end = first_is (ends_at own) (suc (length own)) end t.found in
+    let first : IsFirstPlace (ends_at own) (suc (length own)) end = first_is (ends_at own) (suc (length own)) end t.found in
     (and_parts (is_whole (kept own end)) (not (is_stuff own end)) first.passes).0
 
 -- more places keep no fewer bits
@@ -188,13 +199,11 @@ kept_longer own n (suc m) h = elim (cases_lt m n) [
       omega arith)
 ]
 
--- the arbitration is over behind the end
+-- the arbitration is over after the end
 arbitration_over : (head : Content) (place end : ℕ) (own : List Level) → IsTail place end own → is_arbitration (bits_of head) (length (kept own (length own))) ≡ false
 arbitration_over head place end own t =
-    let whole : length (kept own end) ≡ covered_length (kept own end) + 15 = eqb-true _ _ (tail_whole place end own t) in
     let place_is : place + end ≡ length own = t.place_is in
-    let longer : length (kept own end) ≤ length (kept own (length own)) = kept_longer own end (length own) (omega arith) in
-    ap (λ b. nat_lt 0 (length (kept own (length own))) && b) (le-ltb (length (kept own (length own))) 13 (omega arith)) ∙ and_right (nat_lt 0 (length (kept own (length own)))) false refl
+    over (kept own end) (bits_of head) (length (kept own (length own))) (tail_whole place end own t) (kept_longer own end (length own) (omega arith))
 
 -- so its transmitter stays one
 pub tail_sends : (head : Content) (place end : ℕ) (own : List Level) (x : Level) → IsTail place end own → frame_role (Some head) own ≡ Tx → frame_role (Some head) (own ++ x ∷ []) ≡ Tx

@@ -1,6 +1,6 @@
 -- A judgement completes no frame but its stretch's head, and begins no stretch of a head but the one given.
 use Rattle.std.proofs.Common.{◌≡◌, ℕ, ◌-◌, List, [], length, Bool, true, false, cond, Option, Some, None, refl, ap, subst, inl, inr, ◌⊎◌}
-use Rattle.wl_intervals.specs.declared.Level.{Level}
+use Rattle.wl_level.specs.declared.Level.{Level}
 use Rattle.wl_confine.specs.declared.ErrorKind.{ErrorKind}
 use Rattle.wl_confine.specs.declared.ErrorKind.TheVariants.{Ack}
 use Rattle.wl_confine.specs.declared.Mode.{Mode}
@@ -11,23 +11,23 @@ use Rattle.wl_frame.specs.Stuffing.{kept}
 use Rattle.wl_frame.specs.Grammar.{Content}
 use Rattle.wl_machine.specs.declared.state.Role.{Role}
 use Rattle.wl_machine.specs.declared.state.Role.TheVariants.{Tx, Rx}
-use Rattle.wl_machine.specs.Stretch.{Flag, Sort, Stretch, Sampled, Judgement, goes_on, begins, free}
+use Rattle.wl_machine.specs.Stretch.{Flag, Sort, Stretch, Sampled, Judgement, continues, begins, free}
 use Rattle.wl_machine.specs.Stretch.Flag.{ActiveFlag, OverloadFlag, PassiveFlag}
 use Rattle.wl_machine.specs.Stretch.Sort.{Integration, Idle, Framing, Flagging, Waiting, Delimiting, Intermission, Suspension, OffBus}
 use Rattle.wl_machine.specs.Stretch.Ended.{Sent, Received}
 use Rattle.wl_machine.specs.Flags.{error_of, error_flag, fails, dominant_flag, flagging, waiting, delimiting}
 use Rattle.wl_machine.specs.Quiet.{integration, idle, idle_on, intermission, after_intermission, suspension, off_bus}
 use Rattle.wl_machine.specs.Frames.{stuffed_end, frame_role, differing, unanswered, sent_tail, received_tail, framing_sent, framing_received, framing_by}
-use Rattle.wl_machine.specs.States.{stretch}
+use Rattle.wl_machine.specs.States.{stretch_by}
 use Rattle.wl_machine.specs.Judged.{judged_by, judged, head_of}
 
 record Keeps (head given : Option Content) (j : Judgement) : Type 0 where
   sent : (f : Content) → j.ended ≡ Sent f → head ≡ Some f
-  over : (f : Content) → j.ended ≡ Sent f → j.next ≡ Some (stretch (Intermission Tx) [])
+  over : (f : Content) → j.ended ≡ Sent f → j.next ≡ Some (stretch_by (Intermission Tx) [])
   next : (n : Stretch) → j.next ≡ Some n → (head_of n.sort ≡ given) ⊎ (head_of n.sort ≡ None)
 
 module _ (head given : Option Content) where
-  keeps_on : (happened : Happened) → Keeps head given (goes_on happened)
+  keeps_on : (happened : Happened) → Keeps head given (continues happened)
   keeps_on happened = record { sent = λ f e. cc; over = λ f e. cc; next = λ n e. cc }
 
   keeps_begins : (happened : Happened) (sort : Sort) (own : List Level) → (head_of sort ≡ given) ⊎ (head_of sort ≡ None) → Keeps head given (begins happened sort own)
@@ -105,11 +105,11 @@ module _ (x : Sampled) where
   unanswered_keeps head Off = keeps_fails (Some head) x.head Tx Off Ack
 
   sent_keeps : (head : Content) (happened : Happened)
-      → Keeps (Some head) x.head (record { happened = happened; ended = Sent head; next = Some (stretch (Intermission Tx) []) })
+      → Keeps (Some head) x.head (record { happened = happened; ended = Sent head; next = Some (stretch_by (Intermission Tx) []) })
   sent_keeps head happened = record {
     sent = λ f e. cc;
     over = λ f e. refl;
-    next = λ m e. let same_one : stretch (Intermission Tx) [] ≡ m = cc in inr (subst (λ k. head_of k.sort ≡ None) same_one refl);
+    next = λ m e. let same_one : stretch_by (Intermission Tx) [] ≡ m = cc in inr (subst (λ k. head_of k.sort ≡ None) same_one refl);
   }
 
   sent_tail_keeps : (head : Content) (n : ℕ) → Keeps (Some head) x.head (sent_tail head n x)
@@ -162,5 +162,5 @@ sent_head s x frame h = headed s.sort frame ((all_keep x s.sort s.own).sent fram
 pub next_head : (s next : Stretch) (x : Sampled) → (judged s x).next ≡ Some next → (head_of next.sort ≡ x.head) ⊎ (head_of next.sort ≡ None)
 next_head s next x h = (all_keep x s.sort s.own).next next h
 
-pub sent_over : (s : Stretch) (x : Sampled) (frame : Content) → (judged s x).ended ≡ Sent frame → (judged s x).next ≡ Some (stretch (Intermission Tx) [])
+pub sent_over : (s : Stretch) (x : Sampled) (frame : Content) → (judged s x).ended ≡ Sent frame → (judged s x).next ≡ Some (stretch_by (Intermission Tx) [])
 sent_over s x frame h = (all_keep x s.sort s.own).over frame h

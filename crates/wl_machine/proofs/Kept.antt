@@ -3,14 +3,15 @@ use Rattle.std.proofs.Common.{◌≡◌, ℕ, ◌+◌, ◌-◌, ◌<◌, ◌≤�
 use Rattle.std.specs.Prelude.{nat_le, nat_eq}
 use denote.Struct.Props.{props}
 use Rattle.std.proofs.Math.Logic.{∥∥₁_elim}
-use Rattle.wl_intervals.specs.declared.Level.{Level}
-use Rattle.wl_intervals.specs.declared.Level.TheVariants.{Dominant, Recessive}
-use Rattle.wl_intervals.specs.Levels.{opposite}
-use Rattle.wl_intervals.specs.Places.{at, run_at_end}
-use Rattle.wl_intervals.proofs.Places.{run_before_le}
+use Rattle.wl_level.specs.declared.Level.{Level}
+use Rattle.wl_level.specs.declared.Level.TheVariants.{Dominant, Recessive}
+use Rattle.wl_level.specs.Levels.{opposite}
+use Rattle.wl_level.specs.Places.{at, run_at_end}
+use Rattle.wl_level.proofs.Callers.{run_before_le}
 use Rattle.wl_frame.specs.Stuffing.{kept}
 use Rattle.wl_frame.specs.Grammar.{Content, bits_of, is_whole, is_crc_right}
-use Rattle.wl_frame.proofs.Reading.{front_room}
+use Rattle.wl_frame.specs.Limits.{most_bits}
+use Rattle.wl_frame.proofs.Callers.{front_room}
 use Rattle.wl_machine.specs.declared.progress.Progress.{Progress}
 use Rattle.wl_machine.specs.declared.progress.Step.{Step}
 use Rattle.wl_machine.specs.declared.state.Cause.{Cause}
@@ -24,7 +25,7 @@ use Rattle.wl_machine.specs.Stretch.Sort.{Integration, Idle, Framing, Flagging}
 use Rattle.wl_machine.specs.Flags.{long_from, dominant_run}
 use Rattle.wl_machine.specs.Frames.{frame_role, frame_drive, drive_up_to, stuffed_drive, tail_drive}
 use Rattle.wl_machine.specs.Judged.{drive_by, drive_of, is_idle_sort}
-use Rattle.wl_machine.specs.States.{IsIn, IsAtState, IsStuffedPart, IsTail, Meets, stretch, flag_of, kept_drive, kept_idle}
+use Rattle.wl_machine.specs.States.{IsIn, IsAtState, IsStuffedPart, IsTail, Meets, stretch_by, flag_of, kept_drive, kept_idle}
 use Rattle.wl_machine.proofs.FlagSteps.{until_positive}
 use Rattle.wl_machine.proofs.Framed.{not_whole, tail_whole}
 use Rattle.wl_machine.proofs.FrameSteps.{sent_level_is}
@@ -38,8 +39,8 @@ pub at_state : (m : Progress) (state : State) (s : Stretch) → m.state ≡ stat
 at_state m state s e h = subst (λ st. IsAtState st m.bits.items m.sent.items s.sort s.own) e h
 
 -- a step in the stretch of a sort that is known
-pub by_sort : (m : Progress) (step : Step) (s : Stretch) (x : Sampled) (sort : Sort) → s.sort ≡ sort → Meets m step (stretch sort s.own) x → Meets m step s x
-by_sort m step s x sort e h = subst (λ k. Meets m step (stretch k s.own) x) (sym e) h
+pub by_sort : (m : Progress) (step : Step) (s : Stretch) (x : Sampled) (sort : Sort) → s.sort ≡ sort → Meets m step (stretch_by sort s.own) x → Meets m step s x
+by_sort m step s x sort e h = subst (λ k. Meets m step (stretch_by k s.own) x) (sym e) h
 
 -- the numbers of each state are small
 
@@ -49,18 +50,18 @@ integrating_small m run e t = ∥∥₁_elim t (hlevel props) (λ (s, h). (at_st
 pub sending_small : (m : Progress) (last : Level) (run : ℕ) → m.state ≡ states.Sending last run → IsSomewhere m → run ≤ 5
 sending_small m last run e t = ∥∥₁_elim t (hlevel props) (λ (s, h). (at_state m (states.Sending last run) s e h).4.run_small)
 
-room : (last : Level) (run : ℕ) (bits own : List Level) → IsStuffedPart last run bits own → run < 5 → length bits < 160
+room : (last : Level) (run : ℕ) (bits own : List Level) → IsStuffedPart last run bits own → run < 5 → length bits < most_bits
 room last run bits own p short =
-    let few : length bits < 98 = front_room bits p.front (not_whole last run bits own p short) in
+    let few : length bits < 118 = front_room bits p.front (not_whole last run bits own p short) in
     omega arith
 
-pub sending_room : (m : Progress) (last : Level) (run : ℕ) → m.state ≡ states.Sending last run → IsSomewhere m → run < 5 → length m.bits.items < 160
+pub sending_room : (m : Progress) (last : Level) (run : ℕ) → m.state ≡ states.Sending last run → IsSomewhere m → run < 5 → length m.bits.items < most_bits
 sending_room m last run e t short = ∥∥₁_elim t (hlevel props) (λ (s, h). room last run m.bits.items s.own (at_state m (states.Sending last run) s e h).4 short)
 
 pub receiving_small : (m : Progress) (last : Level) (run : ℕ) → m.state ≡ states.Receiving last run → IsSomewhere m → run ≤ 5
 receiving_small m last run e t = ∥∥₁_elim t (hlevel props) (λ (s, h). (at_state m (states.Receiving last run) s e h).3.run_small)
 
-pub receiving_room : (m : Progress) (last : Level) (run : ℕ) → m.state ≡ states.Receiving last run → IsSomewhere m → run < 5 → length m.bits.items < 160
+pub receiving_room : (m : Progress) (last : Level) (run : ℕ) → m.state ≡ states.Receiving last run → IsSomewhere m → run < 5 → length m.bits.items < most_bits
 receiving_room m last run e t short = ∥∥₁_elim t (hlevel props) (λ (s, h). room last run m.bits.items s.own (at_state m (states.Receiving last run) s e h).3 short)
 
 pub sent_tail_small : (m : Progress) (place : ℕ) → m.state ≡ states.SentTail place → IsSomewhere m → place < 10

@@ -1,12 +1,16 @@
-pub mod Steps
-pub mod Between
-pub mod FlagSteps
-pub mod Framed
-pub mod FrameSteps
-pub mod Kept
-pub mod Runs
-pub mod Stuffed
-pub mod Cut
-pub mod Heads
+pub mod Callers
+mod Steps
+mod Between
+mod FlagSteps
+mod Framed
+mod FrameSteps
+mod Kept
+mod KeptSilence
+mod Runs
+mod Stuffed
+mod Cut
+mod Heads
+mod RoleSteps
+mod Silent
 mod Rows
 mod Confined

@@ -1,7 +1,7 @@
 -- Worked examples of the machine, by computation.
-use Rattle.std.proofs.Common.{◌≡◌, ℕ, zero, suc, ◌-◌, List, [], ◌∷◌, ◌++◌, false, Option, Some, None, refl, replicate}
-use Rattle.wl_intervals.specs.declared.Level.{Level}
-use Rattle.wl_intervals.specs.declared.Level.TheVariants.{Dominant, Recessive}
+use Rattle.std.proofs.Common.{◌≡◌, ℕ, zero, suc, ◌-◌, List, [], ◌∷◌, ◌++◌, true, false, Option, Some, None, refl, replicate}
+use Rattle.wl_level.specs.declared.Level.{Level}
+use Rattle.wl_level.specs.declared.Level.TheVariants.{Dominant, Recessive}
 use Rattle.wl_confine.specs.declared.ErrorKind.TheVariants.{Stuff, Ack, Crc}
 use Rattle.wl_confine.specs.declared.Mode.TheVariants.{Active}
 use Rattle.wl_confine.specs.declared.Happened.{Happened}
@@ -34,7 +34,7 @@ stuff_error : stuck 11 5 ≡ happens.RxError Stuff
 unfolding bits_of number_bits
 stuff_error = refl
 
--- six flag bits, and a dominant sample behind them
+-- six flag bits, and a dominant sample after them
 in_flag : stuck 11 11 ≡ happens.Nothing
 unfolding bits_of number_bits
 in_flag = refl
@@ -65,7 +65,7 @@ alone_after head zero = record { sort = Integration; own = [] }
 alone_after head (suc n) = alone head (alone_after head n)
 
 abbrev zero_frame : Option Content
-zero_frame = Some (record { id = 0; remote = false; dlc = 0; bytes = [] })
+zero_frame = Some (record { extended = false; id = 0; remote = false; dlc = 0; bytes = [] })
 
 abbrev happens_alone : ℕ → Happened
 happens_alone n =
@@ -123,7 +123,7 @@ pair_after a b zero = record { first = record { sort = Integration; own = [] }; 
 pair_after a b (suc n) = let p = pair_after a b n in stepped p (level_on p)
 
 abbrev base : ℕ → Content
-base id = record { id = id; remote = false; dlc = 0; bytes = [] }
+base id = record { extended = false; id = id; remote = false; dlc = 0; bytes = [] }
 
 -- what is done at sample n, counted from 1, by the first and by the second
 abbrev first_done : Option Content → Option Content → ℕ → Ended
@@ -173,7 +173,38 @@ loses_24 : second_role 24 ≡ Rx
 unfolding bits_of number_bits
 loses_24 = refl
 
--- a frame with its last CRC bit turned over: no acknowledgement, and an error at the third sample behind it
+-- An extended frame and a base frame of identifier 0: the extended one loses at 26 to a data frame, whose RTR bit meets its SRR bit,
+-- and at 27 to a remote frame, whose IDE bit meets its own.
+abbrev extended : Option Content
+extended = Some (record { extended = true; id = 0; remote = false; dlc = 0; bytes = [] })
+
+abbrev remote : Option Content
+remote = Some (record { extended = false; id = 0; remote = true; dlc = 0; bytes = [] })
+
+abbrev extended_role : Option Content → ℕ → Role
+extended_role head n = role_of (pair_after extended head n).first
+
+extended_sends_25 : extended_role (Some (base 0)) 25 ≡ Tx
+unfolding bits_of number_bits
+extended_sends_25 = refl
+
+extended_loses_26 : extended_role (Some (base 0)) 26 ≡ Rx
+unfolding bits_of number_bits
+extended_loses_26 = refl
+
+extended_sends_26 : extended_role remote 26 ≡ Tx
+unfolding bits_of number_bits
+extended_sends_26 = refl
+
+extended_loses_27 : extended_role remote 27 ≡ Rx
+unfolding bits_of number_bits
+extended_loses_27 = refl
+
+extended_received_81 : second_done extended None 81 ≡ Received (record { extended = true; id = 0; remote = false; dlc = 0; bytes = [] })
+unfolding bits_of number_bits
+extended_received_81 = refl
+
+-- a frame with its last CRC bit turned over: no acknowledgement, and an error at the third sample after it
 abbrev d : Input
 d = Sample (heard Dominant)
 

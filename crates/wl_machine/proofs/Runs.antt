@@ -7,11 +7,11 @@ use Rattle.wl_machine.specs.Stretch.{Sampled, Input}
 use Rattle.wl_machine.specs.Stretch.Input.{Sample}
 use Rattle.wl_machine.specs.Stretch.Sort.{Integration}
 use Rattle.wl_machine.specs.Judged.{stretch_after, stretch_of}
-use Rattle.wl_machine.specs.States.{IsIn, IsReached, Meets, stretch}
+use Rattle.wl_machine.specs.States.{IsIn, IsReachedBy, Meets, stretch_by}
 
 -- the running stretch one input later
 pub stretch_next : (past : List Input) (input : Input) → stretch_of (past ++ input ∷ []) ≡ stretch_after (stretch_of past) input
-stretch_next past input = fold-append stretch_after (stretch Integration []) past (input ∷ [])
+stretch_next past input = fold-append stretch_after (stretch_by Integration []) past (input ∷ [])
 
-pub reached_next : (m : Progress) (step : Step) (past : List Input) (x : Sampled) → Meets m step (stretch_of past) x → IsReached m (past ++ Sample x ∷ [])
+pub reached_next : (m : Progress) (step : Step) (past : List Input) (x : Sampled) → Meets m step (stretch_of past) x → IsReachedBy m (past ++ Sample x ∷ [])
 reached_next m step past x h = subst (IsIn m) (sym (stretch_next past (Sample x))) h.place

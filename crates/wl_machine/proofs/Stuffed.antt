@@ -1,31 +1,26 @@
 -- What a transmitter sends, and what a receiver reads, is a stuffed list.
 use Rattle.std.proofs.Common.{◌≡◌, ℕ, zero, suc, ◌<◌, ◌≤◌, ◌∙◌, List, [], ◌∷◌, ◌++◌, length, take, Bool, true, false, not, cond, ◌&&◌, Some, refl, sym, ap, subst, arith, append-nil, append_assoc, inl, inr}
 use Rattle.std.proofs.Math.Seq.{get_or-append_seam}
-use Rattle.std.proofs.lemmas.Bool.{and_parts, and_right, both_ways, cases_lt, cases_Bool}
-use Rattle.wl_intervals.specs.declared.Level.{Level}
-use Rattle.wl_intervals.specs.declared.Level.TheVariants.{Dominant, Recessive}
-use Rattle.wl_intervals.specs.Levels.{same, opposite}
-use Rattle.wl_intervals.specs.Places.{at, before, IsFirst}
-use Rattle.wl_intervals.proofs.FirstPlace.{first_is, first_found}
+use Rattle.std.proofs.lemmas.Bool.{and_parts, and_right, both_ways, cases_lt, cases_Bool, not-true}
+use Rattle.wl_level.specs.declared.Level.{Level}
+use Rattle.wl_level.specs.declared.Level.TheVariants.{Dominant, Recessive}
+use Rattle.wl_level.specs.Levels.{same, opposite}
+use Rattle.wl_level.specs.Places.{at, before, IsFirstPlace}
+use Rattle.wl_level.proofs.Callers.{first_is, first_found}
 use Rattle.wl_frame.specs.Stuffing.{is_stuff, kept, Stuffs, ends_six}
 use Rattle.wl_frame.specs.Grammar.{Content, IsContent, IsFrame, bits_of, content_of, is_whole, is_crc_right}
-use Rattle.wl_frame.proofs.Reading.{sent_whole, whole_alone, frame_is_read}
-use Rattle.wl_frame.proofs.OneStuffing.{front_stuffs}
+use Rattle.wl_frame.proofs.Callers.{sent_whole, whole_alone, frame_is_read, front_stuffs, same_back}
 use Rattle.wl_machine.specs.Frames.{stuffed_end}
 use Rattle.wl_machine.specs.Laws.{FoundSent}
 
 abbrev ends_at : List Level → ℕ → Bool
 ends_at own n = is_whole (kept own n) && not (is_stuff own n)
 
-end_first : (own : List Level) (end : ℕ) → stuffed_end own ≡ Some end → IsFirst (ends_at own) (suc (length own)) end
+end_first : (own : List Level) (end : ℕ) → stuffed_end own ≡ Some end → IsFirstPlace (ends_at own) (suc (length own)) end
 end_first own end h = first_is (ends_at own) (suc (length own)) end h
 
 is_free : (own : List Level) (end : ℕ) → stuffed_end own ≡ Some end → is_stuff own end ≡ false
-is_free own end h = free (is_stuff own end) (and_parts (is_whole (kept own end)) (not (is_stuff own end)) (end_first own end h).passes).1
-  where
-    free : (b : Bool) → not b ≡ true → b ≡ false
-    free true h = sym h
-    free false h = refl
+is_free own end h = not-true (is_stuff own end) (and_parts (is_whole (kept own end)) (not (is_stuff own end)) (end_first own end h).passes).1
 
 is_whole_there : (own : List Level) (end : ℕ) → stuffed_end own ≡ Some end → is_whole (kept own end) ≡ true
 is_whole_there own end h = (and_parts (is_whole (kept own end)) (not (is_stuff own end)) (end_first own end h).passes).0
@@ -79,13 +74,9 @@ no_six_sent : (head : Content) (own : List Level) (end : ℕ) → FoundSent head
 no_six_sent head own end found k below = elim (cases_Bool (is_stuff own k)) [
   | inl due ↦
       (let turned : at own k ≡ opposite (before own k) = found k below ∙ ap (λ b. cond b (opposite (before own k)) (at (bits_of head) (length (kept own k)))) due in
-      and_right (is_stuff own k) (same (at own k) (before own k)) (ap (λ l. same l (before own k)) turned ∙ other (before own k)))
+      and_right (is_stuff own k) (same (at own k) (before own k)) (ap (λ l. same l (before own k)) turned ∙ same_back (before own k)))
   | inr free ↦ ap (λ b. b && same (at own k) (before own k)) free
 ]
-  where
-    other : (l : Level) → same (opposite l) l ≡ false
-    other Dominant = refl
-    other Recessive = refl
 
 pub read_stuffs : (own : List Level) (end : ℕ) → stuffed_end own ≡ Some end → ((k : ℕ) → k < end → ends_six own k ≡ false) → Stuffs (take end own) (kept own end)
 read_stuffs own end h no_six =

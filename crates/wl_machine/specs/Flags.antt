@@ -1,12 +1,12 @@
--- Flags, the wait behind a flag, and the delimiter: each by its own list of samples. (Bosch CAN 2.0 part B, sections 3.2.3 and
--- 3.2.4. Which recessive flag bits, late flags and long dominant runs are counted also behind overload flags and passive flags is this
+-- Flags, the wait after a flag, and the delimiter: each by its own list of samples. (Bosch CAN 2.0 part B, sections 3.2.3 and
+-- 3.2.4. Which recessive flag bits, late flags and long dominant runs are counted also after overload flags and passive flags is this
 -- project's profile of section 8, rules 2 and 4 to 6.)
 use Rattle.std.specs.Prelude.{ℕ, ◌-◌, ◌%◌, ◌==◌, ◌&&◌, nat_le, Bool, true, false, not, List, [], ◌∷◌, ◌++◌, length, if◌then◌else◌}
 use Rattle.std.specs.List.{list_any}
-use Rattle.wl_intervals.specs.declared.Level.{Level}
-use Rattle.wl_intervals.specs.declared.Level.TheVariants.{Dominant}
-use Rattle.wl_intervals.specs.Levels.{is_dominant}
-use Rattle.wl_intervals.specs.Places.{run_at_end}
+use Rattle.wl_level.specs.declared.Level.{Level}
+use Rattle.wl_level.specs.declared.Level.TheVariants.{Dominant}
+use Rattle.wl_level.specs.Levels.{is_dominant}
+use Rattle.wl_level.specs.Places.{run_at_end}
 use Rattle.wl_confine.specs.declared.ErrorKind.{ErrorKind}
 use Rattle.wl_confine.specs.declared.ErrorKind.TheVariants.{Bit, Form}
 use Rattle.wl_confine.specs.declared.Mode.{Mode}
@@ -15,7 +15,7 @@ use Rattle.wl_confine.specs.declared.Happened.{Happened}
 use Rattle.wl_confine.specs.declared.Happened.TheVariants as happens
 use Rattle.wl_machine.specs.declared.state.Role.{Role}
 use Rattle.wl_machine.specs.declared.state.Role.TheVariants.{Tx, Rx}
-use Rattle.wl_machine.specs.Stretch.{Flag, Sampled, Judgement, goes_on, begins}
+use Rattle.wl_machine.specs.Stretch.{Flag, Sampled, Judgement, continues, begins}
 use Rattle.wl_machine.specs.Stretch.Flag.{ActiveFlag, OverloadFlag, PassiveFlag}
 use Rattle.wl_machine.specs.Stretch.Sort.{Flagging, Waiting, Delimiting, Intermission}
 
@@ -46,7 +46,7 @@ fails role mode kind = begins (error_of role kind) (Flagging (error_flag mode) r
 abbrev pub dominant_flag : Flag → Role → List Level → Sampled → Judgement
 dominant_flag flag role own x =
     let happened = if is_dominant x.level then happens.Nothing else flag_bit_of role in
-    if length own == 5 then begins happened (Waiting flag role (own ++ x.level ∷ [])) [] else goes_on happened
+    if length own == 5 then begins happened (Waiting flag role (own ++ x.level ∷ [])) [] else continues happened
 
 -- A passive flag is over with six equal samples in a row. Where it is that of a missing acknowledgement, its first dominant sample
 -- makes the error count (section 8, rule 3, exception 1).
@@ -54,7 +54,7 @@ abbrev pub passive_flag : Bool → Role → List Level → Sampled → Judgement
 passive_flag unacknowledged role own x =
     let happened = if unacknowledged && is_dominant x.level && not (list_any is_dominant own) then happens.PassiveAck else happens.Nothing in
     if run_at_end x.level (own ++ x.level ∷ []) == 6 then begins happened (Waiting (PassiveFlag unacknowledged) role (own ++ x.level ∷ [])) []
-    else goes_on happened
+    else continues happened
 
 abbrev pub flagging : Flag → Role → List Level → Sampled → Judgement
 flagging ActiveFlag role own x = dominant_flag ActiveFlag role own x
@@ -65,7 +65,7 @@ flagging (PassiveFlag unacknowledged) role own x = passive_flag unacknowledged r
 abbrev pub is_each_eighth : ℕ → ℕ → Bool
 is_each_eighth first n = nat_le first n && ((n - first) % 8 == 0)
 
--- how many dominant samples in a row are too many behind a flag (section 8, rule 6)
+-- how many dominant samples in a row are too many after a flag (section 8, rule 6)
 abbrev pub long_from : Flag → ℕ
 long_from ActiveFlag = 14
 long_from OverloadFlag = 14
@@ -77,7 +77,7 @@ dominant_run ActiveFlag flagged own = run_at_end Dominant (flagged ++ own)
 dominant_run OverloadFlag flagged own = run_at_end Dominant (flagged ++ own)
 dominant_run (PassiveFlag unacknowledged) flagged own = run_at_end Dominant own
 
--- a dominant first sample counts for a receiver, behind the flag of an error (section 8, rule 2)
+-- a dominant first sample counts for a receiver, after the flag of an error (section 8, rule 2)
 abbrev pub is_after_flag : Flag → Role → List Level → Bool
 is_after_flag ActiveFlag Rx [] = true
 is_after_flag (PassiveFlag unacknowledged) Rx [] = true
@@ -87,9 +87,9 @@ is_after_flag flag role own = false
 abbrev pub waiting : Flag → Role → List Level → List Level → Sampled → Judgement
 waiting flag role flagged own x =
     if not (is_dominant x.level) then begins happens.Nothing (Delimiting role) (x.level ∷ [])
-    else if is_after_flag flag role own then goes_on happens.RxAfterFlag
-    else if is_each_eighth (long_from flag) (dominant_run flag flagged (own ++ x.level ∷ [])) then goes_on (long_of role)
-    else goes_on happens.Nothing
+    else if is_after_flag flag role own then continues happens.RxAfterFlag
+    else if is_each_eighth (long_from flag) (dominant_run flag flagged (own ++ x.level ∷ [])) then continues (long_of role)
+    else continues happens.Nothing
 
 -- an error in a delimiter: a bit that a transmitter sends otherwise, or a field of fixed form (section 7.1)
 abbrev pub delimiter_error : Role → ErrorKind
@@ -99,6 +99,6 @@ delimiter_error Rx = Form
 -- Eight recessive bits. A dominant one is an error, but for the last, which is an overload (section 3.2.4).
 abbrev pub delimiting : Role → List Level → Sampled → Judgement
 delimiting role own x =
-    if not (is_dominant x.level) then (if length own == 7 then begins happens.Nothing (Intermission role) [] else goes_on happens.Nothing)
+    if not (is_dominant x.level) then (if length own == 7 then begins happens.Nothing (Intermission role) [] else continues happens.Nothing)
     else if length own == 7 then begins happens.Nothing (Flagging OverloadFlag role) []
     else fails role x.mode (delimiter_error role)

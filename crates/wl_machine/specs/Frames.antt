@@ -1,9 +1,9 @@
 -- The stretch of a frame, from its start to its last bit, by its own list of samples.
 use Rattle.std.specs.Prelude.{ℕ, suc, ◌-◌, ◌==◌, ◌&&◌, nat_le, Bool, true, not, List, [], length, Option, Some, None, is_some, if◌then◌else◌}
-use Rattle.wl_intervals.specs.declared.Level.{Level}
-use Rattle.wl_intervals.specs.declared.Level.TheVariants.{Dominant, Recessive}
-use Rattle.wl_intervals.specs.Levels.{same, is_dominant, opposite}
-use Rattle.wl_intervals.specs.Places.{at, before, first_place}
+use Rattle.wl_level.specs.declared.Level.{Level}
+use Rattle.wl_level.specs.declared.Level.TheVariants.{Dominant, Recessive}
+use Rattle.wl_level.specs.Levels.{same, is_dominant, opposite}
+use Rattle.wl_level.specs.Places.{at, before, first_place}
 use Rattle.wl_confine.specs.declared.ErrorKind.TheVariants.{Bit, Stuff, Form, Crc, Ack}
 use Rattle.wl_confine.specs.declared.Mode.{Mode}
 use Rattle.wl_confine.specs.declared.Mode.TheVariants as modes
@@ -12,14 +12,14 @@ use Rattle.wl_frame.specs.Stuffing.{is_stuff, kept}
 use Rattle.wl_frame.specs.Grammar.{Content, bits_of, layout_of, is_whole, is_arbitration, is_crc_right, content_of}
 use Rattle.wl_machine.specs.declared.state.Role.{Role}
 use Rattle.wl_machine.specs.declared.state.Role.TheVariants.{Tx, Rx}
-use Rattle.wl_machine.specs.Stretch.{Sampled, Judgement, goes_on, begins}
+use Rattle.wl_machine.specs.Stretch.{Sampled, Judgement, continues, begins}
 use Rattle.wl_machine.specs.Stretch.Sort.{Intermission, Flagging}
 use Rattle.wl_machine.specs.Stretch.Flag.{OverloadFlag, PassiveFlag}
 use Rattle.wl_machine.specs.Stretch.Ended.{Sent, Received}
 use Rattle.wl_machine.specs.Flags.{fails, error_flag}
 
--- The place behind the last bit that is stuffed: the first one before which a whole list of a frame's bits stands and at which no
--- stuff bit is due. (Bosch CAN 2.0 part B, section 6. That a stuff bit due after the checksum is sent is this project's profile.)
+-- The place after the last bit that is stuffed: the first one before which a whole list of a frame's bits stands and at which no
+-- stuff bit is due. (Bosch CAN 2.0 part B, section 6. That a stuff bit due after the CRC sequence is sent is this project's profile.)
 abbrev pub stuffed_end : List Level → Option ℕ
 stuffed_end own = first_place (λ n. is_whole (kept own n) && not (is_stuff own n)) (suc (length own))
 
@@ -45,12 +45,12 @@ differing head own x =
     if is_dominant (sent_at head own (length own)) then fails Tx x.mode Bit
     else if is_stuff own (length own)
     then (if nat_le (length bits) (layout_of (bits_of head)).rtr then begins happens.TxFree (Flagging (error_flag x.mode) Tx) [] else fails Tx x.mode Bit)
-    else if is_arbitration (bits_of head) (length bits) then goes_on happens.Nothing
+    else if is_arbitration (bits_of head) (length bits) then continues happens.Nothing
     else fails Tx x.mode Bit
 
 -- a transmitter, up to the end of what is stuffed
 abbrev pub sending : Content → List Level → Sampled → Judgement
-sending head own x = if same (sent_at head own (length own)) x.level then goes_on happens.Nothing else differing head own x
+sending head own x = if same (sent_at head own (length own)) x.level then continues happens.Nothing else differing head own x
 
 -- a transmitter finds its acknowledgement slot recessive (sections 7.1 and 8, rule 3: an error passive one counts nothing yet)
 abbrev pub unanswered : Mode → Judgement
@@ -58,25 +58,25 @@ unanswered modes.Passive = begins happens.TxFree (Flagging (PassiveFlag true) Tx
 unanswered modes.Active = fails Tx modes.Active Ack
 unanswered modes.Off = fails Tx modes.Off Ack
 
--- The ten bits behind what is stuffed go by their place: 0 is the checksum delimiter, 1 the acknowledgement slot, 2 its delimiter, and 3 to 9
+-- The ten bits after what is stuffed go by their place: 0 is the CRC delimiter, 1 the acknowledgement slot, 2 its delimiter, and 3 to 9
 -- are the end of frame. A transmitter sends them recessive (section 3.2.1; section 5: the frame is sent with the last one).
 abbrev pub sent_tail : Content → ℕ → Sampled → Judgement
 sent_tail head n x =
-    if n == 1 then (if is_dominant x.level then goes_on happens.Nothing else unanswered x.mode)
+    if n == 1 then (if is_dominant x.level then continues happens.Nothing else unanswered x.mode)
     else if is_dominant x.level then fails Tx x.mode Bit
     else if n == 9 then record { happened = happens.Sent; ended = Sent head; next = Some (record { sort = Intermission Tx; own = [] }) }
-    else goes_on happens.Nothing
+    else continues happens.Nothing
 
 -- a receiver, up to the end of what is stuffed: the sixth equal bit is an error (section 7.1)
 abbrev pub receiving : List Level → Sampled → Judgement
 receiving own x =
-    if is_stuff own (length own) && same x.level (before own (length own)) then fails Rx x.mode Stuff else goes_on happens.Nothing
+    if is_stuff own (length own) && same x.level (before own (length own)) then fails Rx x.mode Stuff else continues happens.Nothing
 
--- a receiver in the acknowledgement slot, which it drives dominant where the checksum is right (section 3.2.1)
+-- a receiver in the acknowledgement slot, which it drives dominant where the CRC sequence is right (section 3.2.1)
 abbrev pub acknowledging : List Level → Sampled → Judgement
 acknowledging bits x =
-    if not (is_crc_right bits) then goes_on happens.Nothing
-    else if is_dominant x.level then goes_on happens.Acked
+    if not (is_crc_right bits) then continues happens.Nothing
+    else if is_dominant x.level then continues happens.Acked
     else fails Rx x.mode Bit
 
 -- a receiver at the last bit of the end of frame, where a dominant sample is an overload (sections 3.2.4 and 5)
@@ -92,7 +92,7 @@ received_tail bits n x =
     else if is_dominant x.level then fails Rx x.mode Form
     else if n == 2 && not (is_crc_right bits) then fails Rx x.mode Crc
     else if n == 8 then record { happened = happens.Nothing; ended = Received (content_of bits); next = None }
-    else goes_on happens.Nothing
+    else continues happens.Nothing
 
 abbrev pub framing_sent : Content → List Level → Option ℕ → Sampled → Judgement
 framing_sent head own None x = sending head own x

@@ -1,7 +1,7 @@
 -- The machine over all that reached it: what each sample does, the running stretch, its role, and what it drives.
 use Rattle.std.specs.Prelude.{Bool, true, false, List, [], ◌∷◌, ◌++◌, fold, Option, Some, None}
-use Rattle.wl_intervals.specs.declared.Level.{Level}
-use Rattle.wl_intervals.specs.declared.Level.TheVariants.{Dominant, Recessive}
+use Rattle.wl_level.specs.declared.Level.{Level}
+use Rattle.wl_level.specs.declared.Level.TheVariants.{Dominant, Recessive}
 use Rattle.wl_frame.specs.Grammar.{Content}
 use Rattle.wl_machine.specs.declared.state.Role.{Role}
 use Rattle.wl_machine.specs.declared.state.Role.TheVariants.{Rx}

@@ -3,6 +3,8 @@ pub mod Flags
 pub mod Quiet
 pub mod Frames
 pub mod Judged
+pub mod Silence
 pub mod States
 pub mod Reached
+pub mod Roles
 pub mod Laws

@@ -1,10 +1,10 @@
 -- Where the running stretch puts what a machine keeps, and what one sample owes.
 use Rattle.std.specs.Prelude.{◌≡◌, ℕ, ◌+◌, ◌-◌, ◌%◌, ◌<◌, ◌≤◌, ◌==◌, ◌&&◌, nat_lt, nat_le, Bool, true, false, not, List, length, Option, Some, None, if◌then◌else◌}
 use Rattle.std.specs.List.{list_any}
-use Rattle.wl_intervals.specs.declared.Level.{Level}
-use Rattle.wl_intervals.specs.declared.Level.TheVariants.{Dominant, Recessive}
-use Rattle.wl_intervals.specs.Levels.{is_dominant, opposite}
-use Rattle.wl_intervals.specs.Places.{at, before, or_at, run_at, run_at_end}
+use Rattle.wl_level.specs.declared.Level.{Level}
+use Rattle.wl_level.specs.declared.Level.TheVariants.{Dominant, Recessive}
+use Rattle.wl_level.specs.Levels.{is_dominant, opposite}
+use Rattle.wl_level.specs.Places.{at, before, or_at, run_at, run_at_end}
 use Rattle.wl_confine.specs.declared.Mode.{Mode}
 use Rattle.wl_frame.specs.Stuffing.{kept}
 use Rattle.wl_frame.specs.Grammar.{Content, bits_of, is_whole, is_crc_right}
@@ -43,7 +43,7 @@ pub record IsStuffedPart (last : Level) (run : ℕ) (bits own : List Level) : Ty
   pub front : is_front bits ≡ true
   pub going_on : stuffed_end own ≡ None
 
--- the same right behind a sample of the stuffed part, which may be its last
+-- the same right after a sample of the stuffed part, which may be its last
 pub record IsTaken (last : Level) (run : ℕ) (bits own : List Level) : Type 0 where
   pub last_is : last ≡ before own (length own)
   pub run_is : run ≡ run_at own (length own)
@@ -52,7 +52,7 @@ pub record IsTaken (last : Level) (run : ℕ) (bits own : List Level) : Type 0 w
   pub front : is_front bits ≡ true
   pub end_is : stuffed_end own ≡ or_at None (is_whole bits && not (nat_le 5 run)) (length own)
 
--- a place behind the end of what is stuffed
+-- a place after the end of what is stuffed
 pub record IsTail (place end : ℕ) (own : List Level) : Type 0 where
   pub found : stuffed_end own ≡ Some end
   pub place_is : place + end ≡ length own
@@ -78,7 +78,7 @@ pub record IsWait (late : Bool) (left : ℕ) (flag : Flag) (role : Role) (flagge
   pub late_is : late ≡ is_after_flag flag role own
   pub left_is : left ≡ until_long (long_from flag) (dominant_run flag flagged own)
 
--- the runs of eleven recessive samples, and the recessive samples behind the last of them
+-- the runs of eleven recessive samples, and the recessive samples after the last of them
 pub record IsBusOff (runs run : ℕ) (own : List Level) : Type 0 where
   pub runs_are : runs ≡ recessive_runs own
   pub runs_small : runs < 128
@@ -116,8 +116,8 @@ abbrev pub IsIn : Progress → Stretch → Type 0
 IsIn kept s = IsAtState kept.state kept.bits.items kept.sent.items s.sort s.own
 
 -- a machine is where all that reached it puts it
-abbrev pub IsReached : Progress → List Input → Type 0
-IsReached kept past = IsIn kept (stretch_of past)
+abbrev pub IsReachedBy : Progress → List Input → Type 0
+IsReachedBy kept past = IsIn kept (stretch_of past)
 
 -- what the code answers of a completed frame
 abbrev pub done_of : Ended → Done
@@ -128,8 +128,8 @@ done_of (Received frame) = dones.Received frame
 abbrev pub sample_of : Level → Option Content → Mode → Sampled
 sample_of level head mode = record { level = level; head = head; mode = mode }
 
-abbrev pub stretch : Sort → List Level → Stretch
-stretch sort own = record { sort = sort; own = own }
+abbrev pub stretch_by : Sort → List Level → Stretch
+stretch_by sort own = record { sort = sort; own = own }
 
 -- what a step answers, and where it leaves the machine
 pub record Meets (kept : Progress) (step : Step) (s : Stretch) (x : Sampled) : Type 0 where

@@ -1,6 +1,6 @@
 -- The stretches that the samples of a machine are cut into, and what a sample does to one.
 use Rattle.std.specs.Prelude.{Bool, List, Option, Some, None}
-use Rattle.wl_intervals.specs.declared.Level.{Level}
+use Rattle.wl_level.specs.declared.Level.{Level}
 use Rattle.wl_confine.specs.declared.Mode.{Mode}
 use Rattle.wl_confine.specs.declared.Happened.{Happened}
 use Rattle.wl_frame.specs.Grammar.{Content}
@@ -54,8 +54,8 @@ pub record Judgement : Type 0 where
   pub next : Option Stretch
 
 -- the stretch goes on
-abbrev pub goes_on : Happened → Judgement
-goes_on happened = record { happened = happened; ended = NoFrame; next = None }
+abbrev pub continues : Happened → Judgement
+continues happened = record { happened = happened; ended = NoFrame; next = None }
 
 -- The stretch ends, and this one begins. Its samples are none, or the last one where that is the first bit of what begins.
 abbrev pub begins : Happened → Sort → List Level → Judgement

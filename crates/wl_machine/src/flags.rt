@@ -1,27 +1,27 @@
-//! Flags, the wait behind a flag, and the delimiter.
+//! Flags, the wait after a flag, and the delimiter.
 
 ghost use Rattle.std.specs.Prelude.{◌≡◌, ◌<◌, Bool, List, [], Option, if◌then◌else◌};
-ghost use Rattle.wl_intervals.specs.declared.Level.{Level};
-ghost use Rattle.wl_intervals.specs.Levels.{is_dominant};
-ghost use Rattle.wl_intervals.specs.Places.{run_at_end};
+ghost use Rattle.wl_level.specs.declared.Level.{Level};
+ghost use Rattle.wl_level.specs.Levels.{is_dominant};
+ghost use Rattle.wl_level.specs.Places.{run_at_end};
 ghost use Rattle.wl_confine.specs.declared.Mode.{Mode};
 ghost use Rattle.wl_frame.specs.Grammar.{Content};
 ghost use Rattle.wl_machine.specs.Flags.{flag_bit_of, long_of, is_after_flag};
 ghost use Rattle.wl_machine.specs.Stretch.{Flag as FlagSort};
 ghost use Rattle.wl_machine.specs.Stretch.Flag.{PassiveFlag as PassiveSort};
 ghost use Rattle.wl_machine.specs.Stretch.Sort.{Flagging as FlaggingSort, Waiting as WaitingSort, Delimiting as DelimitingSort};
-ghost use Rattle.wl_machine.specs.States.{Meets, IsCount, IsPassive, IsWait, flag_of, stretch, sample_of};
+ghost use Rattle.wl_machine.specs.States.{Meets, IsCount, IsPassive, IsWait, flag_of, stretch_by, sample_of};
 
 use crate::progress::{Progress, Step, error_of, plain};
 use crate::state::{Cause, Role, State};
 use wl_confine::{ErrorKind, Happened, Mode};
-use wl_intervals::Level;
+use wl_level::Level;
 
 /// With so many dominant samples in a row, those of the flag among them, a wait is long.
-const LONG_BEHIND_FLAG: u8 = 14;
+const LONG_AFTER_FLAG: u8 = 14;
 
-/// With so many behind a passive flag.
-const LONG_BEHIND_PASSIVE_FLAG: u8 = 8;
+/// With so many after a passive flag.
+const LONG_AFTER_PASSIVE_FLAG: u8 = 8;
 
 /// And with each so many more.
 const LONG_AGAIN: u8 = 8;
@@ -49,7 +49,7 @@ fn flag_happens(role: Role, level: Level) -> Happened
     }
 }
 
-/// A dominant sample right behind this flag is late.
+/// A dominant sample right after this flag is late.
 fn is_late(cause: Cause, role: Role) -> bool
     ensures { result ≡ is_after_flag (flag_of cause) role [] }
 {
@@ -71,8 +71,9 @@ impl Progress {
     ) -> Step
         requires within { count < 6 }
         requires short { run < 6 }
-        ensures { (own : List Level) (head : Option Content) (mode : Mode) → IsCount count own 6 → run ≡ run_at_end Level.Dominant own
-            → Meets self.new result (stretch (FlaggingSort (flag_of cause) role) own) (sample_of level head mode) }
+        ensures { (own : List Level) (head : Option Content) (mode : Mode) → IsCount count own 6
+            → run ≡ run_at_end Level.Dominant own
+            → Meets self.new result (stretch_by (FlaggingSort (flag_of cause) role) own) (sample_of level head mode) }
     {
         let run = if level.is_dominant() { run + 1 } else { 0 };
         self.state = if count < 5 {
@@ -86,7 +87,7 @@ impl Progress {
             State::Wait {
                 role,
                 is_late: is_late(cause, role),
-                until_long: LONG_BEHIND_FLAG - run,
+                until_long: LONG_AFTER_FLAG - run,
             }
         };
         plain(flag_happens(role, level))
@@ -102,8 +103,9 @@ impl Progress {
         level: Level,
     ) -> Step
         requires { run < 6 }
-        ensures { (own : List Level) (head : Option Content) (mode : Mode) (unacknowledged : Bool) → IsPassive is_owed unacknowledged last run own
-            → Meets self.new result (stretch (FlaggingSort (PassiveSort unacknowledged) role) own) (sample_of level head mode) }
+        ensures { (own : List Level) (head : Option Content) (mode : Mode) (unacknowledged : Bool)
+            → IsPassive is_owed unacknowledged last run own
+            → Meets self.new result (stretch_by (FlaggingSort (PassiveSort unacknowledged) role) own) (sample_of level head mode) }
     {
         let run = if level.is(last) { run + 1 } else { 1 };
         self.state = if run < 6 {
@@ -117,7 +119,7 @@ impl Progress {
             State::Wait {
                 role,
                 is_late: is_late(Cause::Error, role),
-                until_long: LONG_BEHIND_PASSIVE_FLAG,
+                until_long: LONG_AFTER_PASSIVE_FLAG,
             }
         };
         let counts = is_owed & level.is_dominant();
@@ -128,11 +130,12 @@ impl Progress {
         })
     }
 
-    /// One sample of the wait behind a flag.
+    /// One sample of the wait after a flag.
     pub fn waiting(&mut self, role: Role, is_late: bool, until_long: u8, level: Level) -> Step
         requires { 0 < until_long }
-        ensures { (own : List Level) (head : Option Content) (mode : Mode) (flag : FlagSort) (flagged : List Level) → IsWait is_late until_long flag role flagged own
-            → Meets self.new result (stretch (WaitingSort flag role flagged) own) (sample_of level head mode) }
+        ensures { (own : List Level) (head : Option Content) (mode : Mode) (flag : FlagSort) (flagged : List Level)
+            → IsWait is_late until_long flag role flagged own
+            → Meets self.new result (stretch_by (WaitingSort flag role flagged) own) (sample_of level head mode) }
     {
         if !level.is_dominant() {
             self.state = State::Delimiter { role, count: 1 };
@@ -157,7 +160,7 @@ impl Progress {
     pub fn delimiting(&mut self, role: Role, count: u8, level: Level, mode: Mode) -> Step
         requires { count < 8 }
         ensures { (own : List Level) (head : Option Content) → IsCount count own 8
-            → Meets self.new result (stretch (DelimitingSort role) own) (sample_of level head mode) }
+            → Meets self.new result (stretch_by (DelimitingSort role) own) (sample_of level head mode) }
     {
         if level.is_dominant() {
             if count == 7 {

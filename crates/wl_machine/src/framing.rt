@@ -1,17 +1,18 @@
-//! Frames: transmitter and receiver, up to the end of what is stuffed and behind it.
+//! Frames: transmitter and receiver, up to the end of what is stuffed and after it.
 
 ghost use Rattle.std.specs.Prelude.{◌≡◌, ◌+◌, ◌<◌, ◌≤◌, ◌++◌, [], ◌∷◌, ℕ, nat_le, true, false, length, List, Option, Some, if◌then◌else◌};
-ghost use Rattle.wl_intervals.specs.declared.Level.{Level};
-ghost use Rattle.wl_intervals.specs.Levels.{same, opposite};
-ghost use Rattle.wl_intervals.specs.Places.{at};
+ghost use Rattle.wl_level.specs.declared.Level.{Level};
+ghost use Rattle.wl_level.specs.Levels.{same, opposite};
+ghost use Rattle.wl_level.specs.Places.{at};
 ghost use Rattle.wl_confine.specs.declared.Mode.{Mode};
 ghost use Rattle.wl_frame.specs.Grammar.{Content, bits_of, is_whole};
+ghost use Rattle.wl_frame.specs.Limits.{most_bits};
 ghost use Rattle.wl_machine.specs.Flags.{fails};
 ghost use Rattle.wl_machine.specs.Frames.{frame_role, sent_at, unanswered, last_bit};
 ghost use Rattle.wl_machine.specs.Judged.{judged};
 ghost use Rattle.wl_machine.specs.Stretch.{Stretch, Sampled};
 ghost use Rattle.wl_machine.specs.Stretch.Sort.{Framing as FramingSort};
-ghost use Rattle.wl_machine.specs.States.{IsIn, Meets, IsStuffedPart, IsTaken, IsTail, IsReceivedTail, stretch, sample_of};
+ghost use Rattle.wl_machine.specs.States.{IsIn, Meets, IsStuffedPart, IsTaken, IsTail, IsReceivedTail, stretch_by, sample_of};
 
 use crate::Done;
 use crate::progress::{Progress, Step, plain};
@@ -19,12 +20,12 @@ use crate::state::{Role, State};
 use wl_confine::{ErrorKind, Happened, Mode};
 use wl_frame::frame::Frame;
 use wl_frame::places::{is_arbitration, is_crc_right, is_whole, rtr_place};
-use wl_intervals::Level;
+use wl_level::Level;
 
 /// Behind so many equal bits a stuff bit is due.
 const STUFF_RUN: u8 = 5;
 
-/// The acknowledgement slot, by its place behind the end of what is stuffed.
+/// The acknowledgement slot, by its place after the end of what is stuffed.
 pub const ACKNOWLEDGEMENT: u8 = 1;
 
 const ACKNOWLEDGEMENT_DELIMITER: u8 = 2;
@@ -38,7 +39,8 @@ const LAST: u8 = 9;
 impl Progress {
     /// The level that the transmitter of a stuffed part sends next.
     pub fn sent_level(&self, last: Level, run: u8) -> Level
-        ensures { result ≡ (if nat_le 5 run then opposite last else at self.now.sent.items (length self.now.bits.items)) }
+        ensures { result
+            ≡ (if nat_le 5 run then opposite last else at self.now.sent.items (length self.now.bits.items)) }
     {
         if run >= STUFF_RUN {
             last.opposite()
@@ -51,9 +53,10 @@ impl Progress {
     /// Keeps one more bit of a stuffed part, unless it is a stuff bit. Answers the run of equal bits that it ends.
     fn take_bit(&mut self, last: Level, run: u8, level: Level) -> u8
         requires small { run ≤ 5 }
-        requires room { run < 5 → length self.old.bits.items < 160 }
+        requires room { run < 5 → length self.old.bits.items < most_bits }
         ensures run { result ≡ (if same last level then run + 1 else 1) }
-        ensures bits { self.new.bits.items ≡ (if nat_le 5 run then self.old.bits.items else self.old.bits.items ++ level ∷ []) }
+        ensures bits { self.new.bits.items
+            ≡ (if nat_le 5 run then self.old.bits.items else self.old.bits.items ++ level ∷ []) }
         ensures sent { self.new.sent.items ≡ self.old.sent.items }
     {
         if run < STUFF_RUN {
@@ -62,10 +65,11 @@ impl Progress {
         if last.is(level) { run + 1 } else { 1 }
     }
 
-    /// A receiver after a sample that ends this run: behind the end of what is stuffed, or still before it.
+    /// A receiver after a sample that ends this run: after the end of what is stuffed, or still before it.
     fn received_bit(&mut self, level: Level, run: u8)
-        ensures { (head : Option Content) (own : List Level) → frame_role head own ≡ Role.Rx → IsTaken level run self.old.bits.items own
-            → IsIn self.new (stretch (FramingSort head) own) }
+        ensures { (head : Option Content) (own : List Level) → frame_role head own ≡ Role.Rx
+            → IsTaken level run self.old.bits.items own
+            → IsIn self.new (stretch_by (FramingSort head) own) }
     {
         self.state = if run < STUFF_RUN && is_whole(&self.bits) {
             State::ReceivedTail {
@@ -79,8 +83,9 @@ impl Progress {
 
     /// A transmitter, likewise.
     fn sent_bit(&mut self, level: Level, run: u8)
-        ensures { (head : Content) (own : List Level) → frame_role (Some head) own ≡ Role.Tx → self.old.sent.items ≡ bits_of head
-            → IsTaken level run self.old.bits.items own → IsIn self.new (stretch (FramingSort (Some head)) own) }
+        ensures { (head : Content) (own : List Level) → frame_role (Some head) own ≡ Role.Tx
+            → self.old.sent.items ≡ bits_of head
+            → IsTaken level run self.old.bits.items own → IsIn self.new (stretch_by (FramingSort (Some head)) own) }
     {
         self.state = if run < STUFF_RUN && is_whole(&self.bits) {
             State::SentTail { place: 0 }
@@ -92,9 +97,10 @@ impl Progress {
     /// One sample of a receiver, up to the end of what is stuffed.
     pub fn receiving(&mut self, last: Level, run: u8, level: Level, mode: Mode) -> Step
         requires small { run ≤ 5 }
-        requires room { run < 5 → length self.old.bits.items < 160 }
-        ensures { (head given : Option Content) (own : List Level) → frame_role head own ≡ Role.Rx → IsStuffedPart last run self.old.bits.items own
-            → Meets self.new result (stretch (FramingSort head) own) (sample_of level given mode) }
+        requires room { run < 5 → length self.old.bits.items < most_bits }
+        ensures { (head given : Option Content) (own : List Level) → frame_role head own ≡ Role.Rx
+            → IsStuffedPart last run self.old.bits.items own
+            → Meets self.new result (stretch_by (FramingSort head) own) (sample_of level given mode) }
     {
         if run >= STUFF_RUN && last.is(level) {
             self.fail(Role::Rx, mode);
@@ -108,10 +114,11 @@ impl Progress {
     /// One sample of a transmitter, up to the end of what is stuffed.
     pub fn sending(&mut self, last: Level, run: u8, level: Level, mode: Mode) -> Step
         requires small { run ≤ 5 }
-        requires room { run < 5 → length self.old.bits.items < 160 }
-        ensures { (head : Content) (given : Option Content) (own : List Level) → frame_role (Some head) own ≡ Role.Tx → self.old.sent.items ≡ bits_of head
+        requires room { run < 5 → length self.old.bits.items < most_bits }
+        ensures { (head : Content) (given : Option Content) (own : List Level) → frame_role (Some head) own ≡ Role.Tx
+            → self.old.sent.items ≡ bits_of head
             → IsStuffedPart last run self.old.bits.items own
-            → Meets self.new result (stretch (FramingSort (Some head)) own) (sample_of level given mode) }
+            → Meets self.new result (stretch_by (FramingSort (Some head)) own) (sample_of level given mode) }
     {
         let sent = self.sent_level(last, run);
         if !sent.is(level) {
@@ -125,10 +132,11 @@ impl Progress {
     /// A transmitter samples a level that it did not send.
     fn differing(&mut self, sent: Level, last: Level, run: u8, level: Level, mode: Mode) -> Step
         requires small { run ≤ 5 }
-        requires room { run < 5 → length self.old.bits.items < 160 }
-        ensures { (head : Content) (given : Option Content) (own : List Level) → frame_role (Some head) own ≡ Role.Tx → self.old.sent.items ≡ bits_of head
+        requires room { run < 5 → length self.old.bits.items < most_bits }
+        ensures { (head : Content) (given : Option Content) (own : List Level) → frame_role (Some head) own ≡ Role.Tx
+            → self.old.sent.items ≡ bits_of head
             → IsStuffedPart last run self.old.bits.items own → sent ≡ sent_at head own (length own) → same sent level ≡ false
-            → Meets self.new result (stretch (FramingSort (Some head)) own) (sample_of level given mode) }
+            → Meets self.new result (stretch_by (FramingSort (Some head)) own) (sample_of level given mode) }
     {
         if sent.is_dominant() {
             return self.bit_error(mode);
@@ -149,19 +157,21 @@ impl Progress {
         plain(Happened::Nothing)
     }
 
-    /// A transmitter found another level than it sent, and has no excuse.
+    /// A transmitter sampled a level that it did not send, outside the exceptions of section 8, rule 3: a bit error.
     fn bit_error(&mut self, mode: Mode) -> Step
-        ensures { (s : Stretch) (x : Sampled) → judged s x ≡ fails Role.Tx mode ErrorKind.Bit → Meets self.new result s x }
+        ensures { (s : Stretch) (x : Sampled) → judged s x ≡ fails Role.Tx mode ErrorKind.Bit
+            → Meets self.new result s x }
     {
         self.fail(Role::Tx, mode);
         plain(Happened::TxError(ErrorKind::Bit))
     }
 
-    /// One sample of a transmitter behind the end of what is stuffed.
+    /// One sample of a transmitter after the end of what is stuffed.
     pub fn sent_tail(&mut self, place: u8, level: Level, mode: Mode) -> Step
         requires { place < 10 }
-        ensures { (head : Content) (given : Option Content) (own : List Level) (end : ℕ) → frame_role (Some head) own ≡ Role.Tx → IsTail place end own
-            → Meets self.new result (stretch (FramingSort (Some head)) own) (sample_of level given mode) }
+        ensures { (head : Content) (given : Option Content) (own : List Level) (end : ℕ)
+            → frame_role (Some head) own ≡ Role.Tx → IsTail place end own
+            → Meets self.new result (stretch_by (FramingSort (Some head)) own) (sample_of level given mode) }
     {
         if place == ACKNOWLEDGEMENT {
             if !level.is_dominant() {
@@ -205,12 +215,13 @@ impl Progress {
         }
     }
 
-    /// One sample of a receiver behind the end of what is stuffed.
+    /// One sample of a receiver after the end of what is stuffed.
     pub fn received_tail(&mut self, place: u8, is_crc_right: bool, level: Level, mode: Mode) -> Step
         requires within { place < 10 }
         requires whole { is_whole self.old.bits.items ≡ true }
-        ensures { (head given : Option Content) (own : List Level) (end : ℕ) → frame_role head own ≡ Role.Rx → IsReceivedTail place end is_crc_right self.old.bits.items own
-            → Meets self.new result (stretch (FramingSort head) own) (sample_of level given mode) }
+        ensures { (head given : Option Content) (own : List Level) (end : ℕ) → frame_role head own ≡ Role.Rx
+            → IsReceivedTail place end is_crc_right self.old.bits.items own
+            → Meets self.new result (stretch_by (FramingSort head) own) (sample_of level given mode) }
     {
         if place == ACKNOWLEDGEMENT {
             return self.acknowledging(is_crc_right, level, mode);
@@ -246,8 +257,9 @@ impl Progress {
 
     /// A receiver samples the acknowledgement slot, which it drives dominant if the CRC sequence is right.
     fn acknowledging(&mut self, is_crc_right: bool, level: Level, mode: Mode) -> Step
-        ensures { (head given : Option Content) (own : List Level) (end : ℕ) → frame_role head own ≡ Role.Rx → IsReceivedTail 1 end is_crc_right self.old.bits.items own
-            → Meets self.new result (stretch (FramingSort head) own) (sample_of level given mode) }
+        ensures { (head given : Option Content) (own : List Level) (end : ℕ) → frame_role head own ≡ Role.Rx
+            → IsReceivedTail 1 end is_crc_right self.old.bits.items own
+            → Meets self.new result (stretch_by (FramingSort head) own) (sample_of level given mode) }
     {
         if is_crc_right && !level.is_dominant() {
             self.fail(Role::Rx, mode);

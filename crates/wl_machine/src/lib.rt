@@ -4,24 +4,22 @@
 
 ghost use Rattle.std.specs.Prelude.{◌≡◌, ◌++◌, [], ◌∷◌, List};
 ghost use Rattle.wl_machine.specs.Stretch.{Input};
-ghost use Rattle.wl_machine.specs.States.{IsReached};
+ghost use Rattle.wl_machine.specs.States.{IsReachedBy};
 
 use wl_confine::{Happened, Mode};
 use wl_frame::frame::{Frame, FrameBits};
-use wl_intervals::Level;
+use wl_level::Level;
 
 mod flags;
 mod framing;
 pub mod laws;
 mod progress;
 mod quiet;
+mod silence;
 mod state;
 
 use progress::Progress;
 use state::State;
-
-#[cfg(test)]
-mod tests;
 
 /// A frame that one sample completed (Bosch CAN 2.0 part B, section 5).
 #[derive(Clone, Copy, Debug, PartialEq, Eq)]
@@ -50,11 +48,12 @@ pub struct Turn {
 /// and 8).
 ///
 /// Each machine is where some list of samples and calls of [`Machine::bus_off`] puts it. A call
-/// takes no memory, and no loop but at a frame's start and at its last stuffed bit.
+/// takes no memory. It goes over a frame's bits where the frame begins, at its last stuffed bit and
+/// where it has been received, and over no more than the data length code elsewhere.
 #[derive(Drop)]
 pub struct Machine {
     progress: Progress,
-    ghost reached: { ∥ ((past : List Input) × IsReached progress past) ∥₁ },
+    ghost reached: { ∥ ((past : List Input) × IsReachedBy progress past) ∥₁ },
 }
 
 impl Machine {
@@ -62,6 +61,7 @@ impl Machine {
     ghost use Rattle.wl_machine.specs.Stretch.Input.{Sample, SwitchedOff};
     ghost use Rattle.wl_machine.specs.Judged.{judged, stretch_of, drive_of, is_idle_sort};
     ghost use Rattle.wl_machine.specs.States.{sample_of, done_of};
+    ghost use Rattle.wl_machine.specs.Silence.{silence_of};
     ghost use Rattle.wl_machine.specs.Reached.{IsMachine};
 
     /// A machine before its first sample. It takes part in the traffic only once it has sampled
@@ -80,7 +80,8 @@ impl Machine {
     /// bus becomes free, and a frame that has begun is sent to its end or to its first error,
     /// whatever is handed in later. `mode` is the mode before this sample.
     pub fn bit(&mut self, sample: Level, head: Option<&Frame>, mode: Mode) -> Turn
-        ensures machine { (past : List Input) → IsMachine self.old past → IsMachine self.new (past ++ Sample (sample_of sample (option_copied head.entry) mode) ∷ []) }
+        ensures machine { (past : List Input) → IsMachine self.old past
+            → IsMachine self.new (past ++ Sample (sample_of sample (option_copied head.entry) mode) ∷ []) }
         ensures drive { (past : List Input) → IsMachine self.old past
             → result.drive ≡ drive_of (stretch_of (past ++ Sample (sample_of sample (option_copied head.entry) mode) ∷ [])) }
         ensures happened { (past : List Input) → IsMachine self.old past
@@ -112,5 +113,15 @@ impl Machine {
         ensures { (past : List Input) → IsMachine self.now past → result ≡ is_idle_sort (stretch_of past).sort }
     {
         self.progress.is_idle()
+    }
+
+    /// For how many samples more the machine is sure to drive recessive, whatever it samples, and also
+    /// where it goes off the bus; with `heads` whatever frame it is handed, and without as long as it is
+    /// handed none. At most 1,407; 0 where it may drive dominant after its next sample, or does so
+    /// now (the lookahead of Chandy and Misra, 1979).
+    pub fn silence(&self, heads: bool) -> u16
+        ensures { (past : List Input) → IsMachine self.now past → result ≡ silence_of heads (stretch_of past) }
+    {
+        self.progress.silence(heads)
     }
 }

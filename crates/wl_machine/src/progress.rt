@@ -2,21 +2,21 @@
 
 ghost use Rattle.std.specs.Prelude.{◌≡◌, [], ◌∷◌};
 ghost use Rattle.std.specs.Option.{option_copied};
-ghost use Rattle.wl_intervals.specs.declared.Level.{Level};
+ghost use Rattle.wl_level.specs.declared.Level.{Level};
 ghost use Rattle.wl_machine.specs.Stretch.{free};
 ghost use Rattle.wl_machine.specs.Stretch.Sort.{Framing as FramingSort, Flagging as FlaggingSort};
 ghost use Rattle.wl_machine.specs.Stretch.Flag.{OverloadFlag as OverloadSort};
 ghost use Rattle.wl_machine.specs.Flags.{error_of, error_flag};
 ghost use Rattle.wl_machine.specs.Stretch.{Stretch};
 ghost use Rattle.wl_machine.specs.Stretch.Sort.{OffBus};
-ghost use Rattle.wl_machine.specs.States.{IsIn, IsReached, Meets, kept_drive, kept_idle, sample_of, stretch};
+ghost use Rattle.wl_machine.specs.States.{IsIn, IsReachedBy, Meets, kept_drive, kept_idle, sample_of, stretch_by};
 
 use crate::Done;
 use crate::framing::ACKNOWLEDGEMENT;
 use crate::state::{Cause, Role, State};
 use wl_confine::{ErrorKind, Happened, Mode};
 use wl_frame::frame::{Frame, FrameBits};
-use wl_intervals::Level;
+use wl_level::Level;
 
 /// What one sample did.
 #[derive(Drop)]
@@ -56,7 +56,7 @@ pub fn error_of(role: Role, kind: ErrorKind) -> Happened
 impl Progress {
     /// The bus is free: the head is sent from its start of frame on, if there is one.
     pub fn free(&mut self, head: Option<&Frame>)
-        ensures { IsIn self.new (stretch (free (option_copied head.entry)) []) }
+        ensures { IsIn self.new (stretch_by (free (option_copied head.entry)) []) }
     {
         match head {
             Some(frame) => {
@@ -73,7 +73,7 @@ impl Progress {
 
     /// A start of frame was sampled.
     pub fn receive(&mut self)
-        ensures { IsIn self.new (stretch (FramingSort None) (Level.Dominant ∷ [])) }
+        ensures { IsIn self.new (stretch_by (FramingSort None) (Level.Dominant ∷ [])) }
     {
         self.bits.clear();
         self.bits.push(Level::Dominant);
@@ -85,7 +85,7 @@ impl Progress {
 
     /// The flag of an overload begins with the next bit.
     pub fn overload(&mut self, role: Role)
-        ensures { IsIn self.new (stretch (FlaggingSort OverloadSort role) []) }
+        ensures { IsIn self.new (stretch_by (FlaggingSort OverloadSort role) []) }
     {
         self.state = State::Flag {
             cause: Cause::Overload,
@@ -97,7 +97,7 @@ impl Progress {
 
     /// The flag of an error begins with the next bit.
     pub fn fail(&mut self, role: Role, mode: Mode)
-        ensures { IsIn self.new (stretch (FlaggingSort (error_flag mode) role) []) }
+        ensures { IsIn self.new (stretch_by (FlaggingSort (error_flag mode) role) []) }
     {
         self.state = if mode == Mode::Active {
             State::Flag {
@@ -118,7 +118,7 @@ impl Progress {
 
     /// Before the first sample.
     pub fn new() -> Progress
-        ensures { IsReached result [] }
+        ensures { IsReachedBy result [] }
     {
         Progress {
             state: State::Integrating { run: 0 },
@@ -130,7 +130,8 @@ impl Progress {
     /// One sample, in the stretch that runs.
     pub fn step(&mut self, level: Level, head: Option<&Frame>, mode: Mode) -> Step
         requires { ∥ ((s : Stretch) × IsIn self.old s) ∥₁ }
-        ensures { (s : Stretch) → IsIn self.old s → Meets self.new result s (sample_of level (option_copied head.entry) mode) }
+        ensures { (s : Stretch) → IsIn self.old s
+            → Meets self.new result s (sample_of level (option_copied head.entry) mode) }
     {
         match self.state {
             State::Integrating { run } => self.integrating(run, level, head),
@@ -201,7 +202,7 @@ impl Progress {
 
     /// Off the bus, with no recessive sample yet.
     pub fn switch_off(&mut self)
-        ensures { IsIn self.new (stretch OffBus []) }
+        ensures { IsIn self.new (stretch_by OffBus []) }
     {
         self.state = State::BusOff { runs: 0, run: 0 };
     }

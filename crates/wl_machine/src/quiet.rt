@@ -2,24 +2,24 @@
 
 ghost use Rattle.std.specs.Prelude.{◌≡◌, ◌<◌, List, []};
 ghost use Rattle.std.specs.Option.{option_copied};
-ghost use Rattle.wl_intervals.specs.declared.Level.{Level};
-ghost use Rattle.wl_intervals.specs.Places.{run_at_end};
+ghost use Rattle.wl_level.specs.declared.Level.{Level};
+ghost use Rattle.wl_level.specs.Places.{run_at_end};
 ghost use Rattle.wl_confine.specs.declared.Mode.{Mode};
 ghost use Rattle.wl_machine.specs.Stretch.Sort.{Integration as IntegrationSort, Idle as IdleSort, Intermission as IntermissionSort, Suspension as SuspensionSort, OffBus as OffBusSort};
-ghost use Rattle.wl_machine.specs.States.{Meets, IsCount, IsBusOff, stretch, sample_of};
+ghost use Rattle.wl_machine.specs.States.{Meets, IsCount, IsBusOff, stretch_by, sample_of};
 
 use crate::progress::{Progress, Step, plain};
 use crate::state::{Role, State};
 use wl_confine::{Happened, Mode};
 use wl_frame::frame::Frame;
-use wl_intervals::Level;
+use wl_level::Level;
 
 impl Progress {
     /// One sample of an integration.
     pub fn integrating(&mut self, run: u8, level: Level, head: Option<&Frame>) -> Step
         requires { run < 11 }
         ensures { (own : List Level) (mode : Mode) → run ≡ run_at_end Level.Recessive own
-            → Meets self.new result (stretch IntegrationSort own) (sample_of level (option_copied head.entry) mode) }
+            → Meets self.new result (stretch_by IntegrationSort own) (sample_of level (option_copied head.entry) mode) }
     {
         if level.is_dominant() {
             self.state = State::Integrating { run: 0 };
@@ -33,7 +33,8 @@ impl Progress {
 
     /// One sample of an idle bus.
     pub fn idle_bit(&mut self, level: Level, head: Option<&Frame>) -> Step
-        ensures { (own : List Level) (mode : Mode) → Meets self.new result (stretch IdleSort own) (sample_of level (option_copied head.entry) mode) }
+        ensures { (own : List Level) (mode : Mode)
+            → Meets self.new result (stretch_by IdleSort own) (sample_of level (option_copied head.entry) mode) }
     {
         if level.is_dominant() {
             self.receive();
@@ -54,7 +55,7 @@ impl Progress {
     ) -> Step
         requires { count < 3 }
         ensures { (own : List Level) → IsCount count own 3
-            → Meets self.new result (stretch (IntermissionSort role) own) (sample_of level (option_copied head.entry) mode) }
+            → Meets self.new result (stretch_by (IntermissionSort role) own) (sample_of level (option_copied head.entry) mode) }
     {
         if level.is_dominant() {
             if count == 2 {
@@ -79,7 +80,7 @@ impl Progress {
     pub fn suspended(&mut self, count: u8, level: Level, head: Option<&Frame>) -> Step
         requires { count < 8 }
         ensures { (own : List Level) (mode : Mode) → IsCount count own 8
-            → Meets self.new result (stretch SuspensionSort own) (sample_of level (option_copied head.entry) mode) }
+            → Meets self.new result (stretch_by SuspensionSort own) (sample_of level (option_copied head.entry) mode) }
     {
         if level.is_dominant() {
             self.receive();
@@ -96,7 +97,7 @@ impl Progress {
         requires few { runs < 128 }
         requires short { run < 11 }
         ensures { (own : List Level) (mode : Mode) → IsBusOff runs run own
-            → Meets self.new result (stretch OffBusSort own) (sample_of level (option_copied head.entry) mode) }
+            → Meets self.new result (stretch_by OffBusSort own) (sample_of level (option_copied head.entry) mode) }
     {
         if level.is_dominant() {
             self.state = State::BusOff { runs, run: 0 };

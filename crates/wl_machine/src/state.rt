@@ -1,6 +1,6 @@
 //! Where a machine is: its states, and what it keeps in each.
 
-use wl_intervals::Level;
+use wl_level::Level;
 
 /// Whether a node is the transmitter of the frame of the moment (Bosch CAN 2.0 part B, section 3.4).
 #[derive(Clone, Copy, Debug, PartialEq, Eq)]
@@ -36,7 +36,7 @@ pub enum State {
         last: Level,
         run: u8,
     },
-    /// Transmitter behind the stuffed bits: 0 is the checksum delimiter, 9 the last bit of the end of frame.
+    /// Transmitter after the stuffed bits: 0 is the CRC delimiter, 9 the last bit of the end of frame.
     SentTail {
         place: u8,
     },
@@ -59,7 +59,7 @@ pub enum State {
         last: Level,
         run: u8,
     },
-    /// The wait for a recessive sample: whether a dominant one now comes right behind an error flag of a receiver, and how many
+    /// The wait for a recessive sample: whether a dominant one now comes right after an error flag of a receiver, and how many
     /// more dominant ones make the run too long.
     Wait {
         role: Role,
@@ -80,7 +80,7 @@ pub enum State {
     Suspended {
         count: u8,
     },
-    /// `runs`: of eleven recessive samples, below 128; `run`: recessive samples in a row behind the last of them, below 11.
+    /// `runs`: of eleven recessive samples, below 128; `run`: recessive samples in a row after the last of them, below 11.
     BusOff {
         runs: u8,
         run: u8,

@@ -1,16 +1,16 @@
 -- A node of bits of 1 + 3 + 3 + 3 quanta with a frame to send, on a silent line: by computation.
 use Rattle.std.proofs.Common.{◌≡◌, ℕ, [], ◌∷◌, false, refl}
 use Rattle.std.specs.Prelude.{replicate}
-use Rattle.wl_intervals.specs.declared.Level.TheVariants.{Dominant, Recessive}
+use Rattle.wl_level.specs.declared.Level.TheVariants.{Dominant, Recessive}
 use Rattle.wl_frame.specs.Grammar.{bits_of, number_bits}
 use Rattle.wl_node.specs.declared.setup.NodeSetup.{NodeSetup}
 use Rattle.wl_node.specs.History.{History, history_of, unsent_count}
 
 abbrev setup : NodeSetup
 setup = record {
-  clock = record { offset = 0; num = 100; den = 1 };
+  clock = record { offset = 0; rates = record { from = 0; num = 100; den = 1 } ∷ [] };
   segments = record { prop = 3; ps1 = 3; ps2 = 3; sjw = 2 };
-  queue = record { frame = record { id = 0; remote = false; dlc = 0; bytes = [] }; ready = 0 } ∷ [];
+  queue = record { frame = record { extended = false; id = 0; remote = false; dlc = 0; bytes = [] }; ready = 0 } ∷ [];
 }
 
 abbrev after : ℕ → History

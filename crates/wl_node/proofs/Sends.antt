@@ -11,17 +11,14 @@ use Rattle.wl_machine.specs.Stretch.Sort.{Framing, Intermission, Integration}
 use Rattle.wl_machine.specs.Stretch.Input.{Sample, SwitchedOff}
 use Rattle.wl_machine.specs.Stretch.Ended.{NoFrame, Sent, Received}
 use Rattle.wl_machine.specs.Judged.{judged, or_next, stretch_after, stretch_of, head_of}
-use Rattle.wl_machine.specs.States.{stretch}
+use Rattle.wl_machine.specs.Laws.{HeadLaws}
+use Rattle.wl_machine.proofs.Callers.{stretch_next}
 use Rattle.wl_node.specs.declared.setup.Queued.{Queued}
 use Rattle.wl_node.specs.History.{ready_head, passed, is_sent, switched_off}
 use Rattle.wl_node.specs.Kept.{first_frame}
 
 pub count_append : {X : Type 0} (p : X → Bool) (xs ys : List X) → count_by p (xs ++ ys) ≡ count_by p xs + count_by p ys
 count_append p xs ys = sum_by-append (λ x. cond (p x) 1 0) xs ys
-
--- the running stretch one input later
-pub stretch_next : (past : List Input) (input : Input) → stretch_of (past ++ input ∷ []) ≡ stretch_after (stretch_of past) input
-stretch_next past input = fold-append stretch_after (stretch Integration []) past (input ∷ [])
 
 -- a head that is ready is the first unsent frame
 ready_first : (unsent : List Queued) (quantum : ℕ) (frame : Content) → ready_head unsent quantum ≡ Some frame → first_frame unsent ≡ Some frame
@@ -32,7 +29,7 @@ ready_first (q ∷ qs) quantum frame e = first_if (nat_le q.ready quantum) e
     first_if true f = f
     first_if false f = cc
 
-off_or_not : (before after : Mode) → (switched_off before after ≡ []) ⊎ (switched_off before after ≡ SwitchedOff ∷ [])
+pub off_or_not : (before after : Mode) → (switched_off before after ≡ []) ⊎ (switched_off before after ≡ SwitchedOff ∷ [])
 off_or_not Active Active = inl refl
 off_or_not Active Passive = inl refl
 off_or_not Active Off = inr refl
@@ -41,14 +38,7 @@ off_or_not Passive Passive = inl refl
 off_or_not Passive Off = inr refl
 off_or_not Off after = inl refl
 
--- what the law of the machine says of the frames that it sends
-pub record SendLaws : Type 0 where
-  pub sent : (s : Stretch) (x : Sampled) (frame : Content) → (judged s x).ended ≡ Sent frame → s.sort ≡ Framing (Some frame)
-  pub over : (s : Stretch) (x : Sampled) (frame : Content) → (judged s x).ended ≡ Sent frame → (judged s x).next ≡ Some (stretch (Intermission Tx) [])
-  pub head : (s next : Stretch) (x : Sampled) → (judged s x).next ≡ Some next → (head_of next.sort ≡ x.head) ⊎ (head_of next.sort ≡ None)
-  pub on : (s : Stretch) (x : Sampled) → (judged s x).next ≡ None → (stretch_after s (Sample x)).sort ≡ s.sort
-
-module _ (laws : SendLaws) where
+module _ (laws : HeadLaws) where
   module _ (s : Stretch) (x : Sampled) (unsent : List Queued) (quantum : ℕ)
       (before : (frame : Content) → head_of s.sort ≡ Some frame → first_frame unsent ≡ Some frame)
       (ready : x.head ≡ ready_head unsent quantum) where
@@ -73,12 +63,12 @@ module _ (laws : SendLaws) where
           | inr h ↦ cc
         ]
 
-    -- the first unsent frame behind a sample that leaves a head
+    -- the first unsent frame after a sample that leaves a head
     sends_on : (frame : Content) → head_of (stretch_after s (Sample x)).sort ≡ Some frame
         → (first_frame unsent ≡ Some frame) × (count_by is_sent (passed quantum (judged s x).ended) ≡ 0)
     sends_on frame e = (still_first frame e (judged s x).next refl, none_sent frame e (judged s x).ended refl)
 
-  -- the same over all that reached the machine, with the order to go off the bus behind the sample
+  -- the same over all that reached the machine, with the order to go off the bus after the sample
   sends_off : (past : List Input) (frame : Content) (off : List Input) → (off ≡ []) ⊎ (off ≡ SwitchedOff ∷ [])
       → head_of (stretch_of (past ++ off)).sort ≡ Some frame → head_of (stretch_of past).sort ≡ Some frame
   sends_off past frame off (inl n) e =

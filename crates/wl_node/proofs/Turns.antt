@@ -1,8 +1,8 @@
 -- A node's history, one level longer.
 use Rattle.std.proofs.Common.{◌≡◌, ◌≢◌, ◌∙◌, Bool, List, [], ◌∷◌, ◌++◌, refl, ap, sym}
 use Rattle.std.proofs.lemmas.List.Sums.{fold-append}
-use Rattle.wl_intervals.specs.declared.Level.{Level}
-use Rattle.wl_intervals.specs.Levels.{is_dominant}
+use Rattle.wl_level.specs.declared.Level.{Level}
+use Rattle.wl_level.specs.Levels.{is_dominant}
 use Rattle.wl_sync.specs.declared.Beat.{Beat}
 use Rattle.wl_sync.specs.declared.Beat.TheVariants.{Plain, Sample, Start}
 use Rattle.wl_sync.specs.Bits.{Seen, beat_of}

@@ -1,9 +1,9 @@
 -- A node as a function of its setup and of all levels that it has seen, one for each quantum, the oldest first.
 use Rattle.std.specs.Prelude.{ℕ, nat_le, ℤ, Bool, true, false, List, [], ◌∷◌, ◌++◌, length, drop, count_by, fold, Option, Some, None, if◌then◌else◌}
 use Rattle.std.specs.List.{flat_map}
-use Rattle.wl_intervals.specs.declared.Level.{Level}
-use Rattle.wl_intervals.specs.declared.Level.TheVariants.{Recessive}
-use Rattle.wl_intervals.specs.Levels.{is_dominant}
+use Rattle.wl_level.specs.declared.Level.{Level}
+use Rattle.wl_level.specs.declared.Level.TheVariants.{Recessive}
+use Rattle.wl_level.specs.Levels.{is_dominant}
 use Rattle.wl_sync.specs.declared.Sync.{Sync}
 use Rattle.wl_sync.specs.declared.Sync.TheVariants.{Hard, Error}
 use Rattle.wl_sync.specs.declared.Beat.{Beat}
@@ -55,7 +55,7 @@ passed quantum NoFrame = []
 passed quantum (Sent frame) = record { sent = true; quantum = quantum; frame = frame } ∷ []
 passed quantum (Received frame) = record { sent = false; quantum = quantum; frame = frame } ∷ []
 
--- where the mode becomes bus off, the machine goes off the bus at once (Bosch CAN 2.0 part B, section 8, rule 11)
+-- where the mode becomes bus off, the machine goes off the bus at once (Bosch CAN 2.0 part B, section 8, rule 10)
 abbrev pub switched_off : Mode → Mode → List Input
 switched_off Active Off = SwitchedOff ∷ []
 switched_off Passive Off = SwitchedOff ∷ []
@@ -73,7 +73,7 @@ sampled_next setup h level = record {
   mode = mode_of (counts_of h.happened);
 }
 
--- the history behind a sample that the machine judged so
+-- the history after a sample that the machine judged so
 abbrev pub judged_so : History → Sampled → Judgement → History
 judged_so h x judgement =
     record {
@@ -132,8 +132,8 @@ abbrev pub hards_of : History → ℕ
 hards_of h = count_by is_hard h.syncs
 
 -- the number of errors, those that leave the counters alone too
-abbrev pub errors_of : History → ℕ
-errors_of h = count_by is_error h.happened
+abbrev pub error_count : History → ℕ
+error_count h = count_by is_error h.happened
 
 -- the number of frames that were not sent yet
 abbrev pub unsent_count : NodeSetup → History → ℕ

@@ -1,7 +1,8 @@
 -- Where its history puts what a node keeps.
-use Rattle.std.specs.Prelude.{◌≡◌, ℕ, ◌<◌, List, [], ◌∷◌, length, count_by, Option, Some, None, vec_len, vec_capacity}
+use Rattle.std.specs.Prelude.{◌≡◌, ℕ, ◌<◌, List, [], ◌∷◌, ◌++◌, length, count_by, Option, Some, None, vec_len, vec_capacity}
 use Rattle.std.specs.List.{flat_map}
-use Rattle.wl_intervals.specs.declared.Level.{Level}
+use Rattle.wl_level.specs.declared.Level.{Level}
+use Rattle.wl_segments.specs.Lengths.{Lengths}
 use Rattle.wl_sync.specs.declared.Sync.{Sync}
 use Rattle.wl_sync.specs.Running.{clock_after}
 use Rattle.wl_confine.specs.Counts.{counts_of}
@@ -13,7 +14,7 @@ use Rattle.wl_node.specs.declared.setup.NodeSetup.{NodeSetup}
 use Rattle.wl_node.specs.declared.syncs.Syncs.{Syncs}
 use Rattle.wl_node.specs.declared.traffic.Traffic.{Traffic}
 use Rattle.wl_node.specs.declared.progress.Progress.{Progress}
-use Rattle.wl_node.specs.History.{History, history_of, is_sent, unsent_of, errors_of, phase_of, is_hard}
+use Rattle.wl_node.specs.History.{History, history_of, is_sent, unsent_of, error_count, phase_of, is_hard}
 
 -- the frame of the first one in a queue
 abbrev pub first_frame : List Queued → Option Content
@@ -31,13 +32,13 @@ pub record IsTraffic (setup : NodeSetup) (kept : Traffic) (h : History) : Type 0
   pub counters : kept.counters ≡ counts_of h.happened
   pub pending : kept.pending ≡ drive_of (stretch_of h.inputs)
   pub sent : kept.sent ≡ count_by is_sent h.frames
-  pub errors : kept.errors ≡ errors_of h
+  pub errors : kept.errors ≡ error_count h
   pub samples : kept.samples.items ≡ h.samples
   pub frames : kept.frames.items ≡ h.frames
   pub sends : (frame : Content) → head_of (stretch_of h.inputs).sort ≡ Some frame → first_frame (unsent_of setup h) ≡ Some frame
 
 -- a node is where its history puts it
-pub record IsAt (setup : NodeSetup) (kept : Progress) (h : History) : Type 0 where
+pub record FitsHistory (setup : NodeSetup) (kept : Progress) (h : History) : Type 0 where
   pub clock : kept.clock ≡ clock_after setup.segments h.seen
   pub drive : kept.drive ≡ h.drive
   pub quanta : kept.quanta ≡ length h.seen
@@ -47,7 +48,19 @@ pub record IsAt (setup : NodeSetup) (kept : Progress) (h : History) : Type 0 whe
 -- a node is where these levels put it, one for each of its quanta
 pub record IsProgress (setup : NodeSetup) (kept : Progress) (levels : List Level) : Type 0 where
   pub counted : length (history_of setup levels).seen ≡ length levels
-  pub place : IsAt setup kept (history_of setup levels)
+  pub place : FitsHistory setup kept (history_of setup levels)
+
+-- the same of every setup with these segments, before any level
+abbrev pub HasSeenNothing : Lengths → Progress → Type 0
+HasSeenNothing segments kept = (setup : NodeSetup) → setup.segments ≡ segments → IsProgress setup kept []
+
+-- whatever setup and levels put the old one where it is, put the new one where that is
+abbrev pub IsSameProgress : Progress → Progress → Type 0
+IsSameProgress old new = (setup : NodeSetup) (levels : List Level) → IsProgress setup old levels → IsProgress setup new levels
+
+-- at one quantum more, a node of this setup has seen this level
+abbrev pub HasProgressed : NodeSetup → Level → Progress → Progress → Type 0
+HasProgressed setup level old new = (levels : List Level) → IsProgress setup old levels → IsProgress setup new (levels ++ level ∷ [])
 
 -- there is room for what one more quantum stores
 pub record IsRoomy (kept : Progress) : Type 0 where

@@ -1,7 +1,13 @@
 -- What holds of every node.
-use Rattle.std.specs.Prelude.{◌≡◌, List, length}
-use Rattle.wl_intervals.specs.declared.Level.{Level}
+use Rattle.std.specs.Prelude.{◌≡◌, ℕ, suc, ◌+◌, ◌/◌, ◌≤◌, List, ◌++◌, length, Some}
+use Rattle.wl_level.specs.declared.Level.{Level}
+use Rattle.wl_segments.specs.Lengths.{AreLengths, sample_at}
+use Rattle.wl_sync.specs.SampleLaws.{way}
+use Rattle.wl_node.specs.declared.setup.NodeSetup.{NodeSetup}
 use Rattle.wl_node.specs.declared.node.Node.{Node}
+use Rattle.wl_node.specs.History.{history_of}
+use Rattle.wl_node.specs.Limits.{most_quiet}
+use Rattle.wl_node.specs.Quiet.{pending_of, floor_at, quiet_of, changes_of}
 use Rattle.wl_node.specs.Reached.{IsNode, quanta_of}
 
 pub record NodeLaws : Type 0 where
@@ -9,3 +15,17 @@ pub record NodeLaws : Type 0 where
   pub reached : (node : Node) → ∥ ((levels : List Level) × IsNode levels node) ∥₁
   -- and those are as many as it has run quanta
   pub counted : (node : Node) (levels : List Level) → IsNode levels node → quanta_of node ≡ length levels
+
+-- What holds of the drive of a node, whatever it sees.
+pub record DriveLaws : Type 0 where
+  -- between the start of a bit and its sample a node drives what its machine wants
+  pub settled : (setup : NodeSetup) (levels : List Level) (n : ℕ) → way setup.segments (history_of setup levels).seen ≡ Some n
+      → (history_of setup levels).drive ≡ pending_of (history_of setup levels)
+  -- no list of at most so many levels as it is quiet for changes its drive
+  pub quiet : (setup : NodeSetup) (levels more : List Level) → length more ≤ quiet_of setup levels
+      → (history_of setup (levels ++ more)).drive ≡ (history_of setup levels).drive
+  -- it is quiet up to its next sample at least, and for no more than what may be told
+  pub floor : (setup : NodeSetup) (levels : List Level) → AreLengths setup.segments → floor_at setup (history_of setup levels) ≤ quiet_of setup levels
+  pub most : (setup : NodeSetup) (levels : List Level) → quiet_of setup levels ≤ most_quiet
+  -- two changes are as far apart as a start and its sample: the quanta of that part of a bit give room for one change, and there is one more
+  pub few_changes : (setup : NodeSetup) (levels : List Level) → changes_of setup levels ≤ length levels / suc (sample_at setup.segments) + 1

@@ -1,13 +1,14 @@
--- What others say of a node: its setup, its quanta, where levels put it, and whether it has room.
-use Rattle.std.specs.Prelude.{ℕ, List}
-use Rattle.wl_intervals.specs.declared.Level.{Level}
+-- What others say of a node: its setup, its quanta, where levels put it, what it has done, and whether it has room.
+use Rattle.std.specs.Prelude.{ℕ, List, [], ◌∷◌, ◌++◌}
+use Rattle.wl_level.specs.declared.Level.{Level}
 use Rattle.wl_node.specs.declared.setup.NodeSetup.{NodeSetup}
 use Rattle.wl_node.specs.declared.node.Node.{Node}
+use Rattle.wl_node.specs.History.{History, history_of}
 use Rattle.wl_node.specs.Kept.{IsProgress, IsRoomy}
 
 -- the setup that the node was made of
-abbrev pub setup_of : Node → NodeSetup
-setup_of node = node.setup
+abbrev pub node_setup : Node → NodeSetup
+node_setup node = node.setup
 
 -- the number of quanta that the node has run
 abbrev pub quanta_of : Node → ℕ
@@ -16,6 +17,18 @@ quanta_of node = node.progress.quanta
 -- the node is where these levels put it, one for each quantum that it has run, the oldest first
 abbrev pub IsNode : List Level → Node → Type 0
 IsNode levels node = IsProgress node.setup node.progress levels
+
+-- this holds of what the node has done, whatever levels led to it
+abbrev pub Shows : Node → (History → Type 0) → Type 0
+Shows node holds = (levels : List Level) → IsNode levels node → holds (history_of (node_setup node) levels)
+
+-- at one quantum more, the node has seen this level
+abbrev pub HasSeen : Level → Node → Node → Type 0
+HasSeen level old new = (levels : List Level) → IsNode levels old → IsNode (levels ++ level ∷ []) new
+
+-- the node is where it was
+abbrev pub IsSameNode : Node → Node → Type 0
+IsSameNode old new = (levels : List Level) → IsNode levels old → IsNode levels new
 
 -- the node can store what its next quantum brings, without memory
 abbrev pub HasRoom : Node → Type 0

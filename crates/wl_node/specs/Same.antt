@@ -3,15 +3,12 @@ use Rattle.std.specs.Prelude.{◌≡◌, ◌==◌, ◌&&◌, Bool}
 use Rattle.std.specs.Bool.{Decides}
 use Rattle.std.specs.Cmp.{IsEquivalence, IsPartialEquivalence, decided, partial_equiv_from_equiv, unsigned_Decides}
 use Rattle.std.specs.Cmp.Lexicographic.{pointwise, pointwise_decides}
-use Rattle.std.proofs.lemmas.Bool.Decides.{Decides-and}
-use Rattle.wl_clock.specs.Timing.{Timing}
+use Rattle.std.proofs.lemmas.Bool.Decides.{Decides-and, Decides-like}
+use Rattle.wl_clock.specs.Same.{same_timing, timing_decides}
 use Rattle.wl_segments.specs.Lengths.{Lengths}
 use Rattle.wl_frame.specs.Same.{same_content, content_decides}
 use Rattle.wl_node.specs.declared.setup.Queued.{Queued}
 use Rattle.wl_node.specs.declared.setup.NodeSetup.{NodeSetup}
-
-abbrev pub same_timing : Timing → Timing → Bool
-same_timing a b = a.offset == b.offset && (a.num == b.num && a.den == b.den)
 
 abbrev pub same_lengths : Lengths → Lengths → Bool
 same_lengths a b = a.prop == b.prop && (a.ps1 == b.ps1 && (a.ps2 == b.ps2 && a.sjw == b.sjw))
@@ -23,42 +20,30 @@ same_queued a b = same_content a.frame b.frame && a.ready == b.ready
 abbrev pub same_setup : NodeSetup → NodeSetup → Bool
 same_setup a b = same_timing a.clock b.clock && (same_lengths a.segments b.segments && pointwise same_queued a.queue b.queue)
 
--- a test of one fact is a test of another one that says the same
-test_of : {P Q : Type 0} → (x : Bool) → Decides x P → (P → Q) → (Q → P) → Decides x Q
-test_of x d there back = (λ h. there (d.0 h), λ q. d.1 (back q))
-
-timing_decides : (a b : Timing) → Decides (same_timing a b) (a ≡ b)
-timing_decides a b =
-    test_of (same_timing a b)
-    (Decides-and (a.offset == b.offset) (a.num == b.num && a.den == b.den) (unsigned_Decides a.offset b.offset)
-    (Decides-and (a.num == b.num) (a.den == b.den) (unsigned_Decides a.num b.num) (unsigned_Decides a.den b.den)))
-    (λ e i. record { offset = e.0 i; num = e.1.0 i; den = e.1.1 i })
-    (λ e. (λ i. (e i).offset, (λ i. (e i).num, λ i. (e i).den)))
-
 lengths_decides : (a b : Lengths) → Decides (same_lengths a b) (a ≡ b)
 lengths_decides a b =
-    test_of (same_lengths a b)
+    Decides-like (same_lengths a b)
+    (λ e i. record { prop = e.0 i; ps1 = e.1.0 i; ps2 = e.1.1.0 i; sjw = e.1.1.1 i })
+    (λ e. (λ i. (e i).prop, (λ i. (e i).ps1, (λ i. (e i).ps2, λ i. (e i).sjw))))
     (Decides-and (a.prop == b.prop) (a.ps1 == b.ps1 && (a.ps2 == b.ps2 && a.sjw == b.sjw)) (unsigned_Decides a.prop b.prop)
     (Decides-and (a.ps1 == b.ps1) (a.ps2 == b.ps2 && a.sjw == b.sjw) (unsigned_Decides a.ps1 b.ps1)
     (Decides-and (a.ps2 == b.ps2) (a.sjw == b.sjw) (unsigned_Decides a.ps2 b.ps2) (unsigned_Decides a.sjw b.sjw))))
-    (λ e i. record { prop = e.0 i; ps1 = e.1.0 i; ps2 = e.1.1.0 i; sjw = e.1.1.1 i })
-    (λ e. (λ i. (e i).prop, (λ i. (e i).ps1, (λ i. (e i).ps2, λ i. (e i).sjw))))
 
 pub queued_decides : (a b : Queued) → Decides (same_queued a b) (a ≡ b)
 queued_decides a b =
-    test_of (same_queued a b)
-    (Decides-and (same_content a.frame b.frame) (a.ready == b.ready) (content_decides a.frame b.frame) (unsigned_Decides a.ready b.ready))
+    Decides-like (same_queued a b)
     (λ e i. record { frame = e.0 i; ready = e.1 i })
     (λ e. (λ i. (e i).frame, λ i. (e i).ready))
+    (Decides-and (same_content a.frame b.frame) (a.ready == b.ready) (content_decides a.frame b.frame) (unsigned_Decides a.ready b.ready))
 
 pub setup_decides : (a b : NodeSetup) → Decides (same_setup a b) (a ≡ b)
 setup_decides a b =
-    test_of (same_setup a b)
+    Decides-like (same_setup a b)
+    (λ e i. record { clock = e.0 i; segments = e.1.0 i; queue = e.1.1 i })
+    (λ e. (λ i. (e i).clock, (λ i. (e i).segments, λ i. (e i).queue)))
     (Decides-and (same_timing a.clock b.clock) (same_lengths a.segments b.segments && pointwise same_queued a.queue b.queue) (timing_decides a.clock b.clock)
     (Decides-and (same_lengths a.segments b.segments) (pointwise same_queued a.queue b.queue) (lengths_decides a.segments b.segments)
     (pointwise_decides queued_decides a.queue b.queue)))
-    (λ e i. record { clock = e.0 i; segments = e.1.0 i; queue = e.1.1 i })
-    (λ e. (λ i. (e i).clock, (λ i. (e i).segments, λ i. (e i).queue)))
 
 pub same_setup_equiv : IsEquivalence same_setup
 same_setup_equiv = decided same_setup setup_decides

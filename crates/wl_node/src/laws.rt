@@ -1,8 +1,19 @@
 //! Laws of nodes, as the contract of a function that does nothing.
 
-ghost use Rattle.wl_node.specs.Laws.{NodeLaws};
+ghost use Rattle.wl_node.specs.Laws.{NodeLaws, DriveLaws};
 
 /// Each node is where some levels put it, and those are as many as it has run quanta.
 pub fn node_laws()
     ensures { NodeLaws }
 {}
+
+/// What a node promises of its drive is kept, whatever it sees; between the start of a bit and its
+/// sample it drives what its machine wants; and in `n` quanta its drive changes `n / (sample_at + 1) + 1`
+/// times at most, rounded down.
+pub fn drive_laws()
+    ensures { DriveLaws }
+{
+    wl_level::place_laws();
+    wl_machine::laws::a_silence_is_kept();
+    wl_sync::the_sample_comes_near();
+}

@@ -2,14 +2,17 @@
 #![tactic(auto)]
 
 mod laws;
+mod limits;
 mod node;
 mod progress;
+mod quiet;
 pub mod setup;
 mod syncs;
 #[cfg(test)]
 mod tests;
 mod traffic;
 
-pub use laws::node_laws;
+pub use laws::{drive_laws, node_laws};
+pub use limits::{MOST_QUIET, MOST_RUN_QUANTA};
 pub use node::{Node, NodeLists};
 pub use setup::{NodeSetup, Passed, Queue, Queued};

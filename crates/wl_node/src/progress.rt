@@ -1,17 +1,16 @@
 //! One quantum of a node.
 
-ghost use Rattle.std.specs.Prelude.{◌≡◌, ◌+◌, ◌<◌, ◌≤◌, ◌^◌, ◌++◌, [], ◌∷◌, length, List, OnOk, IfOk, vec_len, vec_capacity};
-ghost use Rattle.wl_intervals.specs.declared.Level.{Level};
-ghost use Rattle.wl_node.specs.declared.setup.NodeSetup.{NodeSetup};
-ghost use Rattle.wl_node.specs.History.{History, history_of, by_beat};
-ghost use Rattle.wl_node.specs.Kept.{IsTraffic, IsProgress, IsRoomy};
+ghost use Rattle.std.specs.Prelude.{◌≡◌, ◌+◌, ◌<◌, ◌≤◌, length, OnOk, IfOk, vec_len, vec_capacity};
+ghost use Rattle.wl_node.specs.History.{History, by_beat};
+ghost use Rattle.wl_node.specs.Kept.{IsTraffic, IsRoomy, HasSeenNothing, IsSameProgress, HasProgressed};
+ghost use Rattle.wl_node.specs.Limits.{most_run_quanta};
 
 use crate::setup::NodeSetup;
 use crate::syncs::Syncs;
 use crate::traffic::Traffic;
 use std::alloc::{AllocError, Global};
 use wl_confine::Counters;
-use wl_intervals::Level;
+use wl_level::Level;
 use wl_machine::Machine;
 use wl_segments::Segments;
 use wl_sync::{Beat, BitClock};
@@ -32,7 +31,7 @@ const FIRST_ROOM: usize = 8;
 impl Progress {
     /// Before the first quantum: the node drives recessive.
     pub fn new(alloc: Global, segments: Segments) -> Result<Progress, AllocError>
-        ensures place { IfOk result (λ kept. (setup : NodeSetup) → setup.segments ≡ segments → IsProgress setup kept []) }
+        ensures place { IfOk result (HasSeenNothing segments) }
         ensures none { IfOk result (λ kept. (kept.syncs.hards ≡ 0) × (kept.traffic.errors ≡ 0)) }
     {
         Ok(Progress {
@@ -58,7 +57,7 @@ impl Progress {
     /// Makes room for what the next quantum stores.
     pub fn prepare(&mut self) -> Result<(), AllocError>
         ensures room { OnOk result (IsRoomy self.new) }
-        ensures same { (setup : NodeSetup) (levels : List Level) → IsProgress setup self.old levels → IsProgress setup self.new levels }
+        ensures same { IsSameProgress self.old self.new }
         ensures quanta { self.new.quanta ≡ self.old.quanta }
         ensures hards { self.new.syncs.hards ≡ self.old.syncs.hards }
         ensures errors { self.new.traffic.errors ≡ self.old.traffic.errors }
@@ -67,27 +66,14 @@ impl Progress {
         self.traffic.prepare()
     }
 
-    /// What the node drives once it has seen this level at its next quantum.
-    pub fn drive_after(&self, level: Level) -> Level
-        ensures { (setup : NodeSetup) (levels : List Level) → IsProgress setup self.now levels → result ≡ (history_of setup (levels ++ level ∷ [])).drive }
-    {
-        let mut clock = self.clock;
-        let idle = self.traffic.machine.idle();
-        let (beat, _) = clock.step(level, idle, self.drive.is_dominant());
-        match beat {
-            Beat::Start => self.traffic.pending,
-            _ => self.drive,
-        }
-    }
-
     /// The next quantum, at which the node sees this level: first the bit clock, and then what its
     /// beat asks for.
     pub fn run(&mut self, setup: &NodeSetup, level: Level)
         requires room { IsRoomy self.old }
-        requires short { self.old.quanta < 2 ^ 21 }
+        requires short { self.old.quanta < most_run_quanta }
         requires hards { self.old.syncs.hards ≤ self.old.quanta }
         requires errors { self.old.traffic.errors ≤ self.old.quanta }
-        ensures place { (levels : List Level) → IsProgress setup.now self.old levels → IsProgress setup.now self.new (levels ++ level ∷ []) }
+        ensures place { HasProgressed setup.now level self.old self.new }
         ensures quanta { self.new.quanta ≡ self.old.quanta + 1 }
         ensures hards { self.new.syncs.hards ≤ self.old.syncs.hards + 1 }
         ensures errors { self.new.traffic.errors ≤ self.old.traffic.errors + 1 }
@@ -119,9 +105,11 @@ fn obey(
 )
     requires samples { vec_len traffic.old.samples < vec_capacity traffic.old.samples }
     requires frames { vec_len traffic.old.frames < vec_capacity traffic.old.frames }
-    requires fits { traffic.old.errors < 2 ^ 21 }
-    ensures drive { (h : History) → drive.old ≡ h.drive → IsTraffic setup.now traffic.old h → drive.new ≡ (by_beat setup.now h level beat).drive }
-    ensures traffic { (h : History) → length h.seen ≡ quantum → IsTraffic setup.now traffic.old h → IsTraffic setup.now traffic.new (by_beat setup.now h level beat) }
+    requires fits { traffic.old.errors < most_run_quanta }
+    ensures drive { (h : History) → drive.old ≡ h.drive → IsTraffic setup.now traffic.old h
+        → drive.new ≡ (by_beat setup.now h level beat).drive }
+    ensures traffic { (h : History) → length h.seen ≡ quantum → IsTraffic setup.now traffic.old h
+        → IsTraffic setup.now traffic.new (by_beat setup.now h level beat) }
     ensures errors { traffic.new.errors ≤ traffic.old.errors + 1 }
 {
     match beat {

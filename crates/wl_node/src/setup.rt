@@ -4,7 +4,7 @@ ghost use Rattle.std.specs.Prelude.{◌≡◌, ◌↔◌, IsTrue, IfOk};
 use std::alloc::{AllocError, Global};
 use wl_clock::Clock;
 use wl_frame::frame::Frame;
-use wl_intervals::Listed;
+use wl_level::Listed;
 use wl_segments::Segments;
 
 /// A frame that waits to be sent, from quantum `ready` of its node on.
@@ -43,7 +43,7 @@ pub struct NodeSetup {
 }
 
 impl NodeSetup {
-    /// An equal setup. Refused for want of memory alone.
+    /// An equal setup. Refused only where memory runs out.
     pub fn clone_in(&self, alloc: Global) -> Result<NodeSetup, AllocError>
         ensures { IfOk result (λ copy. copy ≡ self.now) }
     {

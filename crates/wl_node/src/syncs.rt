@@ -1,9 +1,10 @@
 //! What a node keeps of its synchronisations.
 
-ghost use Rattle.std.specs.Prelude.{◌≡◌, ◌+◌, ◌<◌, ◌≤◌, ◌^◌, ◌++◌, [], ◌∷◌, ℕ, List, Option, OnOk, vec_len, vec_capacity};
+ghost use Rattle.std.specs.Prelude.{◌≡◌, ◌+◌, ◌<◌, ◌≤◌, ◌++◌, ℕ, List, OnOk, vec_len, vec_capacity};
 ghost use Rattle.wl_sync.specs.declared.Sync.{Sync};
 ghost use Rattle.wl_node.specs.History.{syncs_at};
 ghost use Rattle.wl_node.specs.Kept.{AreSyncs};
+ghost use Rattle.wl_node.specs.Limits.{most_run_quanta};
 
 use std::alloc::AllocError;
 use wl_sync::Sync;
@@ -32,8 +33,9 @@ impl Syncs {
     /// Keeps how a quantum synchronised its bit, if it did.
     pub fn note(&mut self, quantum: u64, sync: Option<Sync>)
         requires room { vec_len self.old.phases < vec_capacity self.old.phases }
-        requires fits { self.old.hards < 2 ^ 21 }
-        ensures syncs { (syncs : List (ℕ × Sync)) → AreSyncs self.old syncs → AreSyncs self.new (syncs ++ syncs_at quantum sync) }
+        requires fits { self.old.hards < most_run_quanta }
+        ensures syncs { (syncs : List (ℕ × Sync)) → AreSyncs self.old syncs
+            → AreSyncs self.new (syncs ++ syncs_at quantum sync) }
         ensures few { self.new.hards ≤ self.old.hards + 1 }
     {
         match sync {

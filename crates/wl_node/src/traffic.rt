@@ -12,12 +12,13 @@ ghost use Rattle.wl_machine.specs.States.{done_of};
 ghost use Rattle.wl_node.specs.declared.setup.NodeSetup.{NodeSetup};
 ghost use Rattle.wl_node.specs.History.{History, ready_head, passed, is_sent, switched_off, sampled};
 ghost use Rattle.wl_node.specs.Kept.{IsTraffic, first_frame};
+ghost use Rattle.wl_node.specs.Limits.{most_run_quanta};
 
 use crate::setup::{Passed, Queued};
 use std::alloc::AllocError;
 use wl_confine::{Counters, Happened, Mode};
 use wl_frame::frame::Frame;
-use wl_intervals::Level;
+use wl_level::Level;
 use wl_machine::{Done, Machine};
 
 /// What a node keeps of its samples, and of what came of them.
@@ -47,7 +48,8 @@ fn ready_head(queue: &[Queued], sent: usize, quantum: u64) -> Option<&Frame>
 /// Keeps the frame that a sample completed: one that was sent is the first unsent one.
 fn pass(frames: &mut Vec<Passed>, sent: &mut usize, done: Done, queue: &[Queued], quantum: u64)
     requires { vec_len frames.old < vec_capacity frames.old }
-    ensures { (ended : Ended) → done ≡ done_of ended → ((frame : Content) → ended ≡ SentFrame frame → first_frame (drop sent.old queue.now) ≡ Some frame)
+    ensures { (ended : Ended) → done ≡ done_of ended
+        → ((frame : Content) → ended ≡ SentFrame frame → first_frame (drop sent.old queue.now) ≡ Some frame)
         → (frames.new.items ≡ frames.old.items ++ passed quantum ended) × (sent.new ≡ sent.old + count_by is_sent (passed quantum ended)) }
 {
     match done {
@@ -72,7 +74,7 @@ fn pass(frames: &mut Vec<Passed>, sent: &mut usize, done: Done, queue: &[Queued]
 
 /// Counts an error.
 fn count(errors: &mut u64, happened: Happened)
-    requires { errors.old < 2 ^ 21 }
+    requires { errors.old < most_run_quanta }
     ensures { errors.new ≡ errors.old + count_by is_error (happened ∷ []) }
 {
     if happened.is_error() {
@@ -112,7 +114,7 @@ impl Traffic {
     pub fn sample(&mut self, queue: &[Queued], quantum: u64, level: Level)
         requires samples { vec_len self.old.samples < vec_capacity self.old.samples }
         requires frames { vec_len self.old.frames < vec_capacity self.old.frames }
-        requires fits { self.old.errors < 2 ^ 21 }
+        requires fits { self.old.errors < most_run_quanta }
         ensures traffic { (setup : NodeSetup) (h : History) → setup.queue ≡ queue.now → length h.seen ≡ quantum
             → IsTraffic setup self.old h → IsTraffic setup self.new (sampled setup h level) }
         ensures errors { self.new.errors ≤ self.old.errors + 1 }

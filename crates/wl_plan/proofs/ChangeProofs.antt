@@ -2,12 +2,12 @@
 use Rattle.std.proofs.Common.{◌≡◌, ℕ, zero, suc, ◌+◌, ◌-◌, ◌<◌, ◌≤◌, Bool, true, false, inl, inr, List, [], ◌∷◌, ◌++◌, length, refl, sym, ◌∙◌, ap, subst, arith, length-append, add-zero, not, add-one, add-suc, Some, slice_get}
 use Rattle.std.proofs.lemmas.Bool.{cases_lt, cases_Bool, cond-true, cond-false, true≢false}
 use Rattle.wl_topology.specs.Driven.{DrivenLaws}
-use Rattle.wl_record.specs.Truth.{count_below, IsIncreasing, AllAbove, odd}
-use Rattle.wl_record.specs.TableLaws.{TableLaws}
+use Rattle.wl_record_core.specs.Truth.{count_below, IsIncreasing, AllAbove, odd}
+use Rattle.wl_record_core.specs.TableLaws.{TableLaws}
 use Rattle.wl_plan.specs.Line.{Line}
 use Rattle.wl_plan.specs.Simulation.{level, level_before, seen, differs, changes_below, changes, ran}
 use Rattle.wl_plan.specs.Sound.{IsCausal}
-use Rattle.wl_plan.proofs.LineProofs.{next_no, level_is, level_before_is, here, elsewhere, stands, next_yes}
+use Rattle.wl_plan.proofs.LineProofs.{next_no, level_is, level_before_is}
 
 -- how many changes of node i lie below tick t
 abbrev pub count : Line → ℕ → ℕ → ℕ
@@ -190,15 +190,3 @@ module _ (lines : DrivenLaws) (tables : TableLaws) where
 
   pub level_odd : (l : Line) (i t : ℕ) → IsCausal l → i < l.nodes → level l i t ≡ odd (count_below (suc t) (changes l i))
   level_odd l i t s b = sym (ap odd (count_is l i s b (suc t)) ∙ odd_step l i t (level_before_odd l i t))
-
-  -- no more changes than quanta
-  pub count_ran : (l : Line) (i : ℕ) → IsCausal l → i < l.nodes → (t : ℕ) → count l i t ≤ ran l i t
-  unfolding changes_below
-  count_ran l i s b zero = omega arith
-  count_ran l i s b (suc t) = (let r = count_ran l i s b t in elim (stands l i t) [
-    | here h e ↦ (let n = next_yes l i t h e in elim (cases_Bool (differs (level l i t) (level_before l i t))) [
-      | inl y ↦ (let c = count_yes l i t y in omega arith)
-      | inr x ↦ (let c : count l i (suc t) ≡ count l i t = ap length (change_no l i t x) in omega arith)
-    ])
-    | elsewhere h ↦ (let n = next_no l i t h in let c : count l i (suc t) ≡ count l i t = ap length (still l i s b t n) in omega arith)
-  ])

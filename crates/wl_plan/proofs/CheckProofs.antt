@@ -1,28 +1,22 @@
 -- Which plans have no fault.
 use Rattle.std.proofs.Common.{◌≡◌, ℕ, zero, suc, ◌<◌, ◌≤◌, ◌==◌, ◌∙◌, ◌⊎◌, Bool, true, false, ◌||◌, not, List, length, get_or, All, Option, Some, None, cond, inl, inr, refl, sym, ap, arith, nat_lt, nat_le}
 use Rattle.std.specs.List.{position, position_or_len, enumerate_from}
-use Rattle.std.proofs.lemmas.Bool.{cases_lt, lt-ltb, le-ltb, ltb-false, leb-false, lt-leb, eqb-true, eq-eqb, eqb-false, ne_eqb, not-false, not_from_true, or_left, or_right, or_parts, or_from}
+use Rattle.std.proofs.lemmas.Bool.{cases_lt, lt-ltb, le-ltb, ltb-false, leb-false, lt-leb, eqb-true, eq-eqb, eqb-false, ne_eqb, not-false, not_from_true, or_parts, or_from}
 use Rattle.std.proofs.lemmas.List.Sums.{position_or_len_is, fails_before_first}
 use Rattle.std.proofs.lemmas.List.FromFn.{length-enumerate_from, get_or-enumerate_from}
+use Rattle.std.proofs.Math.Nat.{pos_of_ne-zero}
+use Rattle.wl_topology.proofs.CallerLemmas.{any_none}
+use Rattle.wl_segments.specs.Lengths.{AreLengths}
 use Rattle.wl_clock.specs.Timing.{Timing, IsTiming, tick_of}
 use Rattle.wl_topology.specs.Delays.{IsTopology, disturbance_delay}
 use Rattle.wl_topology.specs.Driven.{any_below}
-use Rattle.wl_topology.specs.Limits.{most_nodes, longest_delay}
+use Rattle.wl_topology.specs.Limits.{most_places, longest_delay}
 use Rattle.wl_plan.specs.declared.plan.Disturbance.{Disturbance}
 use Rattle.wl_plan.specs.declared.plan.Plan.{Plan}
 use Rattle.wl_plan.specs.declared.check.PlanFault.TheVariants as faults
 use Rattle.wl_plan.specs.Limits.{latest_end, most_quanta, most_disturbances}
 use Rattle.wl_plan.specs.PlanLine.{no_setup}
 use Rattle.wl_plan.specs.Checked.{IsChecked, IsDisturbance, first_fault, has_wrong_nodes, has_many_quanta, has_long_queue, is_refused, is_far, FaultlessIsChecked}
-
--- one that passes is enough
-pub any_from : (n i : ℕ) (p : ℕ → Bool) → i < n → p i ≡ true → any_below n p ≡ true
-any_from zero i p b h = absurd (omega arith)
-any_from (suc n) i p b h =
-    elim (cases_lt i n) [
-      | inl below ↦ or_left _ _ (any_from n i p below h)
-      | inr last ↦ (let same : n ≡ i = omega arith in or_right _ _ (ap p same ∙ h))
-    ]
 
 -- where numbers grow, the first that is not below the end is above `most` exactly where that of `most` is below the end
 pub many_below : (q : ℕ → ℕ) → ((j k : ℕ) → j < k → q j < q k) → (most last r : ℕ) → last ≤ q r → ((k : ℕ) → k < r → q k < last)
@@ -56,11 +50,6 @@ none_position p xs none k d b = go (nat_lt (position_or_len p xs) (length xs)) r
     go : (v : Bool) → nat_lt (position_or_len p xs) (length xs) ≡ v → cond v (Some (position_or_len p xs)) None ≡ None → p (get_or xs k d) ≡ false
     go true e h = cc
     go false e h = fails_before_first p xs k d (let far = ltb-false _ _ e in omega arith)
-
--- none passes where none does below
-pub any_none : (n : ℕ) (p : ℕ → Bool) → ((i : ℕ) → i < n → p i ≡ false) → any_below n p ≡ false
-any_none zero p h = refl
-any_none (suc n) p h = or_from _ _ (any_none n p (λ i b. h i (omega arith))) (h n (omega arith))
 
 none_any : (n : ℕ) (p : ℕ → Bool) → any_below n p ≡ false → (i : ℕ) → i < n → p i ≡ false
 none_any zero p h i b = absurd (omega arith)
@@ -149,21 +138,17 @@ module _ (plan : Plan) where
 -- ---- a plan without a fault is checked, and the other way round
 
 module _ (later : (t : Timing) → IsTiming t → (j k : ℕ) → j < k → tick_of t j < tick_of t k) (plan : Plan) where
-  right_nodes : has_wrong_nodes plan ≡ false → (0 < length plan.nodes) × (length plan.nodes ≤ most_nodes) × (length plan.nodes ≡ length plan.topology.places)
+  right_nodes : has_wrong_nodes plan ≡ false → (0 < length plan.nodes) × (length plan.nodes ≤ most_places) × (length plan.nodes ≡ length plan.topology.places)
   right_nodes h =
-      let some = or_parts (length plan.nodes == 0) (nat_lt most_nodes (length plan.nodes) || not (length plan.nodes == length plan.topology.places)) h in
-      let few = or_parts (nat_lt most_nodes (length plan.nodes)) (not (length plan.nodes == length plan.topology.places)) some.1 in
-      (above (length plan.nodes) some.0, ltb-false _ _ few.0, eqb-true _ _ (not-false _ few.1))
-    where
-      above : (n : ℕ) → (n == 0) ≡ false → 0 < n
-      above zero e = absurd (eqb-false 0 0 e refl)
-      above (suc n) e = omega arith
+      let some = or_parts (length plan.nodes == 0) (nat_lt most_places (length plan.nodes) || not (length plan.nodes == length plan.topology.places)) h in
+      let few = or_parts (nat_lt most_places (length plan.nodes)) (not (length plan.nodes == length plan.topology.places)) some.1 in
+      (pos_of_ne-zero (eqb-false (length plan.nodes) 0 some.0), ltb-false _ _ few.0, eqb-true _ _ (not-false _ few.1))
 
-  wrong_nodes : 0 < length plan.nodes → length plan.nodes ≤ most_nodes → length plan.nodes ≡ length plan.topology.places → has_wrong_nodes plan ≡ false
+  wrong_nodes : 0 < length plan.nodes → length plan.nodes ≤ most_places → length plan.nodes ≡ length plan.topology.places → has_wrong_nodes plan ≡ false
   wrong_nodes some few placed =
-      or_from (length plan.nodes == 0) (nat_lt most_nodes (length plan.nodes) || not (length plan.nodes == length plan.topology.places))
+      or_from (length plan.nodes == 0) (nat_lt most_places (length plan.nodes) || not (length plan.nodes == length plan.topology.places))
       (ne_eqb (length plan.nodes) 0 (λ e. omega arith))
-      (or_from (nat_lt most_nodes (length plan.nodes)) (not (length plan.nodes == length plan.topology.places)) (le-ltb _ _ few) (not_from_true _ (eq-eqb _ _ placed)))
+      (or_from (nat_lt most_places (length plan.nodes)) (not (length plan.nodes == length plan.topology.places)) (le-ltb _ _ few) (not_from_true _ (eq-eqb _ _ placed)))
 
   -- what is not refused
   accepted : (n : ℕ) (d : Disturbance) → is_refused plan (n, d) ≡ false → IsDisturbance plan d × (n < most_disturbances)
@@ -194,15 +179,16 @@ module _ (later : (t : Timing) → IsTiming t → (j k : ℕ) → j < k → tick
         | inr fine ↦ fine
       ]
 
-  pub checked_from : All (λ node. IsTiming node.clock) plan.nodes → IsTopology plan.topology
+  pub checked_from : All (λ node. IsTiming node.clock) plan.nodes → All (λ node. AreLengths node.segments) plan.nodes → IsTopology plan.topology
       → IsFaultless (has_wrong_nodes plan) (nat_lt latest_end plan.end) (position (has_many_quanta plan.end) plan.nodes) (position has_long_queue plan.nodes)
       (position (is_refused plan) (enumerate_from 0 plan.disturbances))
       → IsChecked plan
-  checked_from clocks cable h =
+  checked_from clocks segments cable h =
       let nodes = right_nodes h.right in
       let accepts = none_refused plan h.accepted in
       record {
         clocks = clocks;
+        segments = segments;
         cable = cable;
         some_node = nodes.0;
         few_nodes = nodes.1;
@@ -230,8 +216,8 @@ module _ (later : (t : Timing) → IsTiming t → (j k : ℕ) → j < k → tick
   }
 
 pub faultless_is_checked : ((t : Timing) → IsTiming t → (j k : ℕ) → j < k → tick_of t j < tick_of t k) → FaultlessIsChecked
-faultless_is_checked later plan clocks cable = (
-  (λ h. checked_from later plan clocks cable (faultless_by _ _ _ _ _ h)),
+faultless_is_checked later plan clocks segments cable = (
+  (λ h. checked_from later plan clocks segments cable (faultless_by _ _ _ _ _ h)),
   (λ h. faultless _ _ _ _ _ (faultless_from later plan h)),
 )
 

@@ -1,8 +1,8 @@
 -- Where each node of the one-thread simulation is before a tick.
 use Rattle.std.proofs.Common.{◌≡◌, ℕ, zero, suc, ◌+◌, ◌-◌, ◌<◌, ◌≤◌, Bool, ◌&&◌, ◌||◌, ◌⊎◌, inl, inr, List, [], ◌∷◌, ◌++◌, length, refl, sym, ◌∙◌, ap, subst, arith, nat_lt, ◌==◌, length-append, add-suc, add-zero, add-one, append_assoc, append-nil}
 use Rattle.std.proofs.lemmas.Bool.{cases_eq, cases_lt, cases_order, lt-ltb, eq-eqb, ne_eqb, cond-true, cond-false, ltb-true, eqb-true, and_parts, and_from, false_from_ne_true}
-use Rattle.wl_intervals.specs.declared.Level.{Level}
-use Rattle.wl_intervals.specs.Levels.{level_of}
+use Rattle.wl_level.specs.declared.Level.{Level}
+use Rattle.wl_level.specs.Levels.{level_of}
 use Rattle.wl_topology.specs.Driven.{DrivenLaws}
 use Rattle.wl_plan.specs.Line.{Line, found}
 use Rattle.wl_plan.specs.Simulation.{history, level, level_before, seen, ran, AreInside}

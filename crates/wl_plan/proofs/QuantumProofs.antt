@@ -1,16 +1,16 @@
 -- What a quantum adds to the changes, and that a node that is said to be quiet is.
-use Rattle.std.proofs.Common.{◌≡◌, ℕ, zero, suc, ◌+◌, ◌-◌, ◌<◌, ◌≤◌, true, false, inl, inr, length, refl, sym, ◌∙◌, ap, arith, add-zero, add-suc, Some, slice_get}
-use Rattle.std.proofs.lemmas.Bool.{cases_lt}
+use Rattle.std.proofs.Common.{◌≡◌, ℕ, zero, suc, ◌+◌, ◌-◌, ◌<◌, ◌≤◌, true, false, inl, inr, length, refl, sym, ◌∙◌, ap, arith, add-zero, add-suc, Some, slice_get, if◌then◌else◌}
+use Rattle.std.proofs.lemmas.Bool.{cases_lt, cases_Bool, cond-true, cond-false}
+use Rattle.wl_level.specs.Places.{count_places}
 use Rattle.wl_topology.specs.Driven.{DrivenLaws}
-use Rattle.wl_record.specs.Truth.{count_below}
-use Rattle.wl_record.specs.TableLaws.{TableLaws}
-use Rattle.wl_plan.specs.Limits.{most_quanta}
+use Rattle.wl_record_core.specs.Truth.{count_below}
+use Rattle.wl_record_core.specs.TableLaws.{TableLaws}
 use Rattle.wl_plan.specs.Line.{Line, reach}
 use Rattle.wl_plan.specs.Simulation.{level, level_before, seen, differs, changes_below, changes, ran, AreInside}
 use Rattle.wl_plan.specs.Sound.{IsCausal}
 use Rattle.wl_plan.specs.SimulationLaws.{SimulationLaws}
 use Rattle.wl_plan.proofs.LineProofs.{IsRan, drove_stays, clock_later, ran_once, ran_yes, ran_is, ran_next, ran_now, ran_at_end, length_seen, seen_more, found_same, history_seen, level_is, level_before_is}
-use Rattle.wl_plan.proofs.ChangeProofs.{changes_inside, count, change_no, same_same, count_yes, change_at, changes_increase, level_before_odd, step_is, still, after_stop, count_is, level_odd, count_ran}
+use Rattle.wl_plan.proofs.ChangeProofs.{changes_inside, count, change_no, same_same, count_yes, change_at, changes_increase, level_before_odd, step_is, still, after_stop, count_is, level_odd}
 
 module _ (lines : DrivenLaws) (tables : TableLaws) where
   still_for : (l : Line) (i : ℕ) → IsCausal l → i < l.nodes → (t k d : ℕ) → ((u : ℕ) → t ≤ u → u ≤ t + d → ran l i u ≡ k) → changes_below l i (t + d) ≡ changes_below l i t
@@ -130,9 +130,22 @@ module _ (lines : DrivenLaws) (tables : TableLaws) where
       ap (l.drives i) r.2 ∙ s.quiet_stays i (seen l i k) r.0 b (let z = r.1 in omega arith))
       ∙ sym (count_is lines tables l i s b (l.instant i k))))
 
-  few_quanta : (l : Line) (i n : ℕ) → AreInside l i n → ((k : ℕ) → l.instant i k < l.stop → k < most_quanta) → n ≤ most_quanta
-  few_quanta l i zero h f = omega arith
-  few_quanta l i (suc n) h f = f n (h n (omega arith))
+  -- the quanta that change what a node drives are counted one by one
+  changes_counted : (l : Line) (i k : ℕ) → IsCausal l → i < l.nodes → AreInside l i k
+      → count_below (l.instant i k) (changes l i) ≡ count_places (λ j. differs (l.drives i (seen l i (suc j))) (l.drives i (seen l i j))) k
+  changes_counted l i zero s b h = count_is lines tables l i s b (l.instant i 0) ∙ count_first l i s b
+  changes_counted l i (suc k) s b h =
+      let before = changes_counted l i k s b (λ j c. h j (omega arith)) in
+      elim (cases_Bool (differs (l.drives i (seen l i (suc k))) (l.drives i (seen l i k)))) [
+        | inl y ↦
+            let t = (turn l i k s b h y).1 in
+            let one : ◌≡◌ {A = ℕ} (if differs (l.drives i (seen l i (suc k))) (l.drives i (seen l i k)) then 1 else 0) 1 = cond-true _ _ _ y in
+            omega arith
+        | inr n ↦
+            let t = no_turn l i k s b h n in
+            let none : ◌≡◌ {A = ℕ} (if differs (l.drives i (seen l i (suc k))) (l.drives i (seen l i k)) then 1 else 0) 0 = cond-false _ _ _ n in
+            omega arith
+      ]
 
   pub simulation_laws : SimulationLaws
   simulation_laws = record {
@@ -140,6 +153,7 @@ module _ (lines : DrivenLaws) (tables : TableLaws) where
     drove_stays = drove_stays;
     clock_later = clock_later;
     length_seen = length_seen;
+    seen_more = λ l i k n b. (let m = seen_more l i k (n - k) in (m.0, ap (seen l i) (omega arith) ∙ m.2));
     ran_before = λ l i t j s b. (ran_is l i s b t).before j;
     ran_inside = λ l i t s b. (ran_is l i s b t).inside;
     ran_all = λ l i t s b. (ran_is l i s b t).after;
@@ -158,5 +172,5 @@ module _ (lines : DrivenLaws) (tables : TableLaws) where
     turn = turn;
     no_turn = no_turn;
     reach_count = reach_count;
-    few_changes = λ l i s b f. (let c = count_ran lines tables l i s b l.stop in let q = few_quanta l i (ran l i l.stop) (ran_is l i s b l.stop).inside f in omega arith);
+    changes_counted = changes_counted;
   }

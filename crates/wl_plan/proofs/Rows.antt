@@ -1,10 +1,11 @@
 -- The simulation of a small line of two nodes, computed.
 use Rattle.std.proofs.Common.{◌<◌, ◌≤◌, ◌++◌, length, ap, arith, append-nil, ◌≡◌, ℕ, zero, suc, ◌+◌, ◌*◌, Bool, true, false, List, [], ◌∷◌, refl}
-use Rattle.wl_intervals.specs.declared.Level.{Level}
-use Rattle.wl_intervals.specs.declared.Level.TheVariants.{Dominant, Recessive}
-use Rattle.wl_intervals.specs.Levels.{is_dominant}
-use Rattle.wl_record.specs.Limits.{most_nodes-is, most_edges, most_edges-is, tick_end-is}
+use Rattle.wl_level.specs.declared.Level.{Level}
+use Rattle.wl_level.specs.declared.Level.TheVariants.{Dominant, Recessive}
+use Rattle.wl_level.specs.Levels.{is_dominant}
+use Rattle.wl_record_core.specs.Limits.{most_nodes-is, most_edges, most_edges-is, tick_end-is}
 use Rattle.wl_plan.specs.Limits.{latest_end, most_quanta, most_quanta-is, most_quiet, most_quiet-is, most_queued, most_disturbances}
+use Rattle.wl_plan.specs.Groupings.{most_groups}
 use Rattle.wl_plan.specs.Sound.{IsSound}
 use Rattle.wl_plan.specs.Line.{Line, reach}
 use Rattle.wl_plan.specs.Simulation.{changes, changes_below, level, seen, history, ran}
@@ -84,6 +85,7 @@ few zero b = (let e = most_edges-is in omega arith)
 few (suc zero) b = (let e = most_edges-is in omega arith)
 few (suc (suc n)) b = absurd (omega arith)
 
+-- a list with none more is the same
 nothing_more : (levels more : List Level) → length more ≤ 0 → levels ++ more ≡ levels
 nothing_more levels [] h = append-nil levels
 nothing_more levels (x ∷ xs) h = absurd (omega arith)
@@ -111,7 +113,7 @@ small_is_sound = record {
 end_is : latest_end ≡ 68719476736
 end_is = refl
 
-quanta_are : most_quanta ≡ 65536
+quanta_are : most_quanta ≡ 1048576
 unfolding most_quanta
 quanta_are = refl
 
@@ -124,3 +126,6 @@ queued_are = refl
 
 disturbances_are : most_disturbances ≡ 64
 disturbances_are = refl
+
+groups_are : most_groups ≡ 16
+groups_are = refl

@@ -1,15 +1,22 @@
 -- The line of a checked plan is sound.
-use Rattle.std.proofs.Common.{◌≡◌, ℕ, suc, ◌+◌, ◌*◌, ◌<◌, ◌≤◌, List, [], ◌∷◌, ◌++◌, length, refl, ap, arith, false}
-use Rattle.std.proofs.Common.{append-nil}
-use Rattle.wl_intervals.specs.declared.Level.{Level}
-use Rattle.wl_intervals.specs.Levels.{is_dominant}
-use Rattle.wl_clock.specs.Timing.{Timing, IsTiming, tick_of, slowest_rate}
-use Rattle.wl_record.specs.Limits.{most_nodes-is, most_edges-is, tick_end, tick_end-is}
+use Rattle.std.proofs.Common.{◌≡◌, ℕ, zero, suc, ◌+◌, ◌*◌, ◌/◌, ◌<◌, ◌≤◌, List, [], ◌++◌, length, take, refl, sym, ◌∙◌, ap, arith, false, not, inl, inr}
+use Rattle.std.proofs.Math.Nat.{div-mul-le_self, mul-le-mul_left}
+use Rattle.std.proofs.Math.Seq.{take-append_seam}
+use Rattle.wl_level.specs.declared.Level.{Level}
+use Rattle.wl_level.specs.declared.Level.TheVariants.{Dominant, Recessive}
+use Rattle.wl_level.specs.Levels.{is_dominant, same}
+use Rattle.wl_level.specs.Places.{count_places, PlaceLaws}
+use Rattle.wl_segments.specs.Lengths.{sample_at}
+use Rattle.wl_clock.specs.Timing.{Timing, IsTiming, tick_of, slowest_rate, largest_offset}
+use Rattle.wl_record_core.specs.Limits.{most_nodes-is, most_edges, most_edges-is, tick_end, tick_end-is}
 use Rattle.wl_node.specs.declared.setup.NodeSetup.{NodeSetup}
 use Rattle.wl_node.specs.History.{history_of}
+use Rattle.wl_node.specs.Quiet.{quiet_of, drive_at, changes_of}
+use Rattle.wl_node.specs.declared.limits.TheConstants.{MOST_QUIET}
 use Rattle.wl_plan.specs.declared.plan.Plan.{Plan}
-use Rattle.wl_plan.specs.Limits.{most_quanta, most_quanta-is, most_quiet, most_quiet-is}
-use Rattle.wl_plan.specs.PlanLine.{line_of, setup_at, no_setup}
+use Rattle.wl_plan.specs.Limits.{latest_end, most_quanta, most_quanta-is, most_quiet, most_quiet-is}
+use Rattle.wl_plan.specs.PlanLine.{line_of, setup_at, no_setup, table_of}
+use Rattle.wl_plan.specs.Simulation.{seen, differs, ran, AreInside}
 use Rattle.wl_plan.specs.SimulationLaws.{SimulationLaws}
 use Rattle.wl_plan.specs.Sound.{IsCausal, IsSound}
 use Rattle.wl_plan.specs.Checked.{IsChecked, CheckedIsSound}
@@ -20,16 +27,33 @@ pub record ClockLaws : Type 0 where
   pub first : (t : Timing) → tick_of t 0 ≡ t.offset
   pub high : (t : Timing) → IsTiming t → (k n : ℕ) → tick_of t (k + n) ≤ tick_of t k + n * slowest_rate
 
+-- What the laws of nodes give: a promise is kept, and isn't too long to be told; and a drive changes few times.
+pub record QuietLaws : Type 0 where
+  pub stays : (setup : NodeSetup) (levels more : List Level) → length more ≤ quiet_of setup levels
+      → (history_of setup (levels ++ more)).drive ≡ (history_of setup levels).drive
+  pub most : (setup : NodeSetup) (levels : List Level) → quiet_of setup levels ≤ most_quiet
+  pub few : (setup : NodeSetup) (levels : List Level) → changes_of setup levels ≤ length levels / suc (sample_at setup.segments) + 1
+
 -- a node that has seen nothing drives recessive
 begins : (setup : NodeSetup) → is_dominant (history_of setup []).drive ≡ false
 unfolding history_of
 begins setup = refl
 
-nothing_more : (levels more : List Level) → length more ≤ 0 → levels ++ more ≡ levels
-nothing_more levels [] h = append-nil levels
-nothing_more levels (x ∷ xs) h = absurd (omega arith)
+-- two drives differ as their levels do
+differs_as : (now before : Level) → differs (is_dominant now) (is_dominant before) ≡ not (same before now)
+differs_as Dominant Dominant = refl
+differs_as Dominant Recessive = refl
+differs_as Recessive Dominant = refl
+differs_as Recessive Recessive = refl
 
-module _ (clocks : ClockLaws) (laws : SimulationLaws) (plan : Plan) (h : IsChecked plan) where
+-- so many quanta give room for so many parts of bits from a start to its sample, the shortest of which has four quanta
+few_parts : (n place : ℕ) → n ≤ most_quanta → 3 ≤ place → n / suc place + 1 ≤ most_edges
+few_parts n place few long =
+    let d : n / suc place * suc place ≤ n = div-mul-le_self n (suc place) in
+    let m : n / suc place * 4 ≤ n / suc place * suc place = mul-le-mul_left (n / suc place) (omega arith) in
+    omega (arith, most_quanta-is, most_edges-is)
+
+module _ (places : PlaceLaws) (clocks : ClockLaws) (drives : QuietLaws) (laws : SimulationLaws) (plan : Plan) (h : IsChecked plan) where
   timed : (i : ℕ) → i < length plan.nodes → IsTiming (setup_at plan i).clock
   timed i b = h.clocks i no_setup b
 
@@ -37,12 +61,51 @@ module _ (clocks : ClockLaws) (laws : SimulationLaws) (plan : Plan) (h : IsCheck
   causal = record {
     delays = λ i j b d. h.cable.positive i j (let e = h.placed in omega arith) (let e = h.placed in omega arith);
     clocks = λ i k b. clocks.later (setup_at plan i).clock (timed i b) k (suc k) (omega arith);
-    quiet_stays = λ i levels more b e. ap (λ seen. is_dominant (history_of (setup_at plan i) seen).drive) (nothing_more levels more e);
+    quiet_stays = λ i levels more b e. ap is_dominant (drives.stays (setup_at plan i) levels more e);
     begins = λ i b. begins (setup_at plan i);
   }
 
   few : (i k : ℕ) → i < length plan.nodes → tick_of (setup_at plan i).clock k < plan.end → k < most_quanta
   few i k b below = h.few_quanta i no_setup b k below
+
+  -- all that a node sees, and the first levels of it
+  abbrev all_seen : ℕ → List Level
+  all_seen i = seen (line_of plan) i (ran (line_of plan) i plan.end)
+
+  first_seen : (i k n : ℕ) → k ≤ n → take k (seen (line_of plan) i n) ≡ seen (line_of plan) i k
+  first_seen i k n b =
+      let more = laws.seen_more (line_of plan) i k n b in
+      ap (take k) more.1 ∙ (ap (λ m. take m (seen (line_of plan) i k ++ more.0)) (sym (laws.length_seen (line_of plan) i k)) ∙ take-append_seam (seen (line_of plan) i k) more.0)
+
+  -- its changes are as many as the node's own count of them
+  changes_are : (i : ℕ) → i < length plan.nodes → length (table_of plan i) ≡ changes_of (setup_at plan i) (all_seen i)
+  changes_are i b =
+      let l = line_of plan in
+      let n = ran l i plan.end in
+      let inside = laws.ran_inside l i plan.end causal b in
+      let past : plan.end ≤ l.instant i n = elim (laws.ran_all l i plan.end causal b) [ inl e ↦ e | inr e ↦ e ] in
+      sym (laws.all_at_end l i (l.instant i n) causal b past)
+      ∙ (laws.changes_counted l i n causal b inside
+      ∙ (places.counted_below _ _ n (λ k c.
+      differs_as (history_of (setup_at plan i) (seen l i (suc k))).drive (history_of (setup_at plan i) (seen l i k)).drive
+      ∙ (λ d. not (same (history_of (setup_at plan i) (sym (first_seen i k n (omega arith)) d)).drive (history_of (setup_at plan i) (sym (first_seen i (suc k) n (omega arith)) d)).drive)))
+      ∙ ap (count_places (λ k. not (same (drive_at (setup_at plan i) (all_seen i) k) (drive_at (setup_at plan i) (all_seen i) (suc k))))) (sym (laws.length_seen l i n))))
+
+  -- no more quanta than may be
+  quanta_few : (i n : ℕ) → i < length plan.nodes → AreInside (line_of plan) i n → n ≤ most_quanta
+  quanta_few i zero b inside = omega arith
+  quanta_few i (suc n) b inside = few i n b (inside n (omega arith))
+
+  changes_few : (i : ℕ) → i < length plan.nodes → length (table_of plan i) ≤ most_edges
+  changes_few i b =
+      let n = ran (line_of plan) i plan.end in
+      let lengths = h.segments i no_setup b in
+      let least : 3 ≤ sample_at (setup_at plan i).segments = (let p = lengths.prop_low in let q = lengths.ps1_low in omega arith) in
+      let room = few_parts n (sample_at (setup_at plan i).segments) (quanta_few i n b (laws.ran_inside (line_of plan) i plan.end causal b)) least in
+      let counted = drives.few (setup_at plan i) (all_seen i) in
+      let all = ap (λ k. k / suc (sample_at (setup_at plan i).segments) + 1) (laws.length_seen (line_of plan) i n) in
+      let are = changes_are i b in
+      omega arith
 
   -- the ticks that a silence can name
   first_near : (t : Timing) → IsTiming t → tick_of t most_quiet < tick_end
@@ -51,17 +114,17 @@ module _ (clocks : ClockLaws) (laws : SimulationLaws) (plan : Plan) (h : IsCheck
       let near : tick_of t (0 + most_quiet) ≤ tick_of t 0 + most_quiet * slowest_rate = clocks.high t timing 0 most_quiet in
       far (tick_of t most_quiet) (tick_of t (0 + most_quiet)) (tick_of t 0) t.offset (ap (tick_of t) (omega arith)) start near timing.near
     where
-      far : (a b c d : ℕ) → a ≡ b → c ≡ d → b ≤ c + most_quiet * slowest_rate → d ≤ 1048576 → a < tick_end
-      far a b c d e f g l = (let q = most_quiet-is in let m : most_quiet * 1048576 ≡ 65536 * 1048576 = ap (λ n. n * 1048576) q in let r = tick_end-is in omega arith)
+      far : (a b c d : ℕ) → a ≡ b → c ≡ d → b ≤ c + most_quiet * slowest_rate → d ≤ largest_offset → a < tick_end
+      far a b c d e f g l = (let m : most_quiet * slowest_rate ≡ MOST_QUIET * slowest_rate = ap (λ n. n * slowest_rate) most_quiet-is in let r = tick_end-is in omega arith)
 
   next_near : (t : Timing) → IsTiming t → (k : ℕ) → tick_of t k < plan.end → tick_of t (suc k + most_quiet) < tick_end
   next_near t timing k below =
       let near : tick_of t (k + (1 + most_quiet)) ≤ tick_of t k + (1 + most_quiet) * slowest_rate = clocks.high t timing k (1 + most_quiet) in
       far (tick_of t (suc k + most_quiet)) (tick_of t (k + (1 + most_quiet))) (tick_of t k) (ap (tick_of t) (omega arith)) near below h.ends
     where
-      far : (a b c : ℕ) → a ≡ b → b ≤ c + (1 + most_quiet) * slowest_rate → c < plan.end → plan.end ≤ 68719476736 → a < tick_end
+      far : (a b c : ℕ) → a ≡ b → b ≤ c + (1 + most_quiet) * slowest_rate → c < plan.end → plan.end ≤ latest_end → a < tick_end
       far a b c e g l m =
-          (let q = most_quiet-is in let n : (1 + most_quiet) * 1048576 ≡ (1 + 65536) * 1048576 = ap (λ n. (1 + n) * 1048576) q in let r = tick_end-is in omega arith)
+          (let n : (1 + most_quiet) * slowest_rate ≡ (1 + MOST_QUIET) * slowest_rate = ap (λ n. (1 + n) * slowest_rate) most_quiet-is in let r = tick_end-is in omega arith)
 
   pub sound : IsSound (line_of plan)
   sound = record {
@@ -69,12 +132,12 @@ module _ (clocks : ClockLaws) (laws : SimulationLaws) (plan : Plan) (h : IsCheck
     some_node = h.some_node;
     few_nodes = (let e = most_nodes-is in let f = h.few_nodes in omega arith);
     few_quanta = few;
-    few_changes = λ i b. (let e = laws.few_changes (line_of plan) i causal b (λ k below. few i k b below) in let f = most_quanta-is in let g = most_edges-is in omega arith);
-    little_quiet = λ i levels b. omega arith;
+    few_changes = changes_few;
+    little_quiet = λ i levels b. drives.most (setup_at plan i) levels;
     first_fits = λ i b. first_near (setup_at plan i).clock (timed i b);
     next_fits = λ i k b below. next_near (setup_at plan i).clock (timed i b) k below;
     end_fits = (let e = tick_end-is in let f = h.ends in omega arith);
   }
 
-pub checked_is_sound : ClockLaws → SimulationLaws → CheckedIsSound
-checked_is_sound clocks laws plan h = sound clocks laws plan h
+pub checked_is_sound : PlaceLaws → ClockLaws → QuietLaws → SimulationLaws → CheckedIsSound
+checked_is_sound places clocks drives laws plan h = sound places clocks drives laws plan h

@@ -2,9 +2,10 @@
 use Rattle.std.specs.Prelude.{◌≡◌, ℕ, ◌<◌, ◌≤◌, ◌==◌, ◌||◌, ◌↔◌, nat_le, nat_lt, not, Bool, true, false, length, position, All, Option, None, Some}
 use Rattle.std.specs.List.{enumerate_from}
 use Rattle.wl_clock.specs.Timing.{IsTiming, tick_of}
+use Rattle.wl_segments.specs.Lengths.{AreLengths}
 use Rattle.wl_topology.specs.Delays.{IsTopology, disturbance_delay}
 use Rattle.wl_topology.specs.Driven.{any_below}
-use Rattle.wl_topology.specs.Limits.{most_nodes, longest_delay}
+use Rattle.wl_topology.specs.Limits.{most_places, longest_delay}
 use Rattle.wl_node.specs.declared.setup.NodeSetup.{NodeSetup}
 use Rattle.wl_plan.specs.declared.check.PlanFault.{PlanFault}
 use Rattle.wl_plan.specs.declared.check.PlanFault.TheVariants as faults
@@ -24,12 +25,13 @@ pub record IsDisturbance (plan : Plan) (d : Disturbance) : Type 0 where
   pub ends : d.to ≤ latest_end
   pub near : (j : ℕ) → j < length plan.nodes → disturbance_delay plan.topology d.x j ≤ longest_delay
 
--- A plan can be run: its clocks and its cable are some, and it keeps the limits.
+-- A plan can be run: its clocks, its segments and its cable are some, and it keeps the limits.
 pub record IsChecked (plan : Plan) : Type 0 where
   pub clocks : All (λ node. IsTiming node.clock) plan.nodes
+  pub segments : All (λ node. AreLengths node.segments) plan.nodes
   pub cable : IsTopology plan.topology
   pub some_node : 0 < length plan.nodes
-  pub few_nodes : length plan.nodes ≤ most_nodes
+  pub few_nodes : length plan.nodes ≤ most_places
   pub placed : length plan.nodes ≡ length plan.topology.places
   pub ends : plan.end ≤ latest_end
   pub few_quanta : All (HasFewQuanta plan.end) plan.nodes
@@ -40,7 +42,7 @@ pub record IsChecked (plan : Plan) : Type 0 where
 -- no node, too many, or not as many as places
 abbrev pub has_wrong_nodes : Plan → Bool
 has_wrong_nodes plan =
-    (length plan.nodes == 0) || (nat_lt most_nodes (length plan.nodes) || not (length plan.nodes == length plan.topology.places))
+    (length plan.nodes == 0) || (nat_lt most_places (length plan.nodes) || not (length plan.nodes == length plan.topology.places))
 
 -- one quantum more than allowed begins before the end
 abbrev pub has_many_quanta : ℕ → NodeSetup → Bool
@@ -72,9 +74,10 @@ fault_of plan =
     first_fault (has_wrong_nodes plan) (nat_lt latest_end plan.end) (position (has_many_quanta plan.end) plan.nodes) (position has_long_queue plan.nodes)
     (position (is_refused plan) (enumerate_from 0 plan.disturbances))
 
--- a plan of clocks and a cable has no fault exactly where it can be run
+-- a plan of clocks, segments and a cable has no fault exactly where it can be run
 abbrev pub FaultlessIsChecked : Type 0
-FaultlessIsChecked = (plan : Plan) → All (λ node. IsTiming node.clock) plan.nodes → IsTopology plan.topology → (fault_of plan ≡ None) ↔ IsChecked plan
+FaultlessIsChecked = (plan : Plan) → All (λ node. IsTiming node.clock) plan.nodes → All (λ node. AreLengths node.segments) plan.nodes
+    → IsTopology plan.topology → (fault_of plan ≡ None) ↔ IsChecked plan
 
 -- what a plan that can be run means keeps all on which its simulation rests
 abbrev pub CheckedIsSound : Type 0

@@ -1,6 +1,9 @@
 -- The limits of a plan (this project's profile), each that of the constant of its name.
 use Rattle.std.specs.Prelude.{◌≡◌, ℕ, refl}
-use Rattle.wl_plan.specs.declared.limits.TheConstants.{LATEST_END, MOST_QUANTA, MOST_QUIET, MOST_QUEUED, MOST_DISTURBANCES}
+use Rattle.wl_plan.specs.declared.limits.TheConstants.{LATEST_END, MOST_QUANTA, MOST_QUEUED, MOST_DISTURBANCES}
+-- the most quanta for which a node is said to keep its drive
+pub use Rattle.wl_node.specs.Limits.{most_quiet-is}
+unfoldable pub use Rattle.wl_node.specs.Limits.{most_quiet}
 
 -- the latest tick at which a plan or a disturbance may end
 abbrev pub latest_end : ℕ
@@ -9,10 +12,6 @@ latest_end = LATEST_END
 -- the most quanta of a node before the end of a plan
 unfoldable pub most_quanta : ℕ
 most_quanta = MOST_QUANTA
-
--- the most quanta for which a node is said to keep its drive
-unfoldable pub most_quiet : ℕ
-most_quiet = MOST_QUIET
 
 -- the most frames that wait at a node
 abbrev pub most_queued : ℕ
@@ -26,7 +25,3 @@ most_disturbances = MOST_DISTURBANCES
 pub most_quanta-is : most_quanta ≡ MOST_QUANTA
 unfolding most_quanta
 most_quanta-is = refl
-
-pub most_quiet-is : most_quiet ≡ MOST_QUIET
-unfolding most_quiet
-most_quiet-is = refl

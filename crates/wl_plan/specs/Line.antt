@@ -2,7 +2,7 @@
 -- is proved of lines holds of every plan that gives one. This project's profile. A level is a `Bool` where it is driven: true is dominant.
 -- For a reader who knows simulation: a model of components with local clocks and delayed, wired-AND signals.
 use Rattle.std.specs.Prelude.{ℕ, ◌+◌, Bool, ◌||◌, List, length}
-use Rattle.wl_intervals.specs.declared.Level.{Level}
+use Rattle.wl_level.specs.declared.Level.{Level}
 use Rattle.wl_topology.specs.Driven.{driven}
 
 pub record Line : Type 0 where

@@ -1,13 +1,14 @@
 -- The line that a plan means, and the truth of records of a plan. This project's profile.
-use Rattle.std.specs.Prelude.{ℕ, ◌+◌, ◌&&◌, ◌↔◌, nat_le, nat_lt, Bool, IsTrue, List, [], length, slice_index_or}
+use Rattle.std.specs.Prelude.{ℕ, ◌+◌, ◌&&◌, ◌↔◌, nat_le, nat_lt, Bool, IsTrue, List, [], ◌∷◌, length, slice_index_or}
 use Rattle.std.specs.List.{list_any}
-use Rattle.wl_intervals.specs.Levels.{is_dominant}
+use Rattle.wl_level.specs.Levels.{is_dominant}
 use Rattle.wl_clock.specs.Timing.{tick_of}
 use Rattle.wl_topology.specs.Delays.{delay_of, disturbance_delay}
-use Rattle.wl_record.specs.declared.record.Record.{Record}
-use Rattle.wl_record.specs.Truth.{IsTrueOf, is_true_of}
+use Rattle.wl_record_core.specs.declared.record.Record.{Record}
+use Rattle.wl_record_core.specs.Truth.{IsTrueOf, is_true_of}
 use Rattle.wl_node.specs.declared.setup.NodeSetup.{NodeSetup}
 use Rattle.wl_node.specs.History.{history_of}
+use Rattle.wl_node.specs.Quiet.{quiet_of}
 use Rattle.wl_plan.specs.declared.plan.Disturbance.{Disturbance}
 use Rattle.wl_plan.specs.declared.plan.Plan.{Plan}
 use Rattle.wl_plan.specs.Line.{Line}
@@ -16,7 +17,7 @@ use Rattle.wl_plan.specs.Simulation.{changes}
 -- where there is no node
 abbrev pub no_setup : NodeSetup
 no_setup = record {
-  clock = record { offset = 0; num = 1; den = 1 };
+  clock = record { offset = 0; rates = record { from = 0; num = 1; den = 1 } ∷ [] };
   segments = record { prop = 1; ps1 = 1; ps2 = 2; sjw = 1 };
   queue = [];
 }
@@ -33,13 +34,13 @@ is_at plan j t d =
 abbrev pub disturbed : Plan → ℕ → ℕ → Bool
 disturbed plan j t = list_any (is_at plan j t) plan.disturbances
 
--- What of a plan its simulation rests on. Until a node gives longer promises, it is never said to keep its drive.
+-- what of a plan its simulation rests on
 abbrev pub line_of : Plan → Line
 line_of plan = record {
   nodes = length plan.nodes;
   instant = λ i k. tick_of (setup_at plan i).clock k;
   drives = λ i levels. is_dominant (history_of (setup_at plan i) levels).drive;
-  quiet = λ i levels. 0;
+  quiet = λ i levels. quiet_of (setup_at plan i) levels;
   delay = delay_of plan.topology;
   disturbed = disturbed plan;
   stop = plan.end;

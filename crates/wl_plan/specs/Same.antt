@@ -21,12 +21,12 @@ same_plan a b =
     && (same_cable a.topology b.topology && (pointwise same_disturbance a.disturbances b.disturbances && a.end == b.end))
 
 -- a test of one fact is a test of another one that says the same
-test_of : {P Q : Type 0} → (x : Bool) → Decides x P → (P → Q) → (Q → P) → Decides x Q
-test_of x d there back = (λ h. there (d.0 h), λ q. d.1 (back q))
+decided_by : {P Q : Type 0} → (x : Bool) → Decides x P → (P → Q) → (Q → P) → Decides x Q
+decided_by x d there back = (λ h. there (d.0 h), λ q. d.1 (back q))
 
 place_decides : (a b : Place) → Decides (same_place a b) (a ≡ b)
 place_decides a b =
-    test_of (same_place a b)
+    decided_by (same_place a b)
     (Decides-and (a.x == b.x) (a.out_delay == b.out_delay && a.in_delay == b.in_delay) (unsigned_Decides a.x b.x)
     (Decides-and (a.out_delay == b.out_delay) (a.in_delay == b.in_delay) (unsigned_Decides a.out_delay b.out_delay) (unsigned_Decides a.in_delay b.in_delay)))
     (λ e i. record { x = e.0 i; out_delay = e.1.0 i; in_delay = e.1.1 i })
@@ -34,14 +34,14 @@ place_decides a b =
 
 cable_decides : (a b : Cable) → Decides (same_cable a b) (a ≡ b)
 cable_decides a b =
-    test_of (same_cable a b)
+    decided_by (same_cable a b)
     (Decides-and (pointwise same_place a.places b.places) (a.per == b.per) (pointwise_decides place_decides a.places b.places) (unsigned_Decides a.per b.per))
     (λ e i. record { places = e.0 i; per = e.1 i })
     (λ e. (λ i. (e i).places, λ i. (e i).per))
 
 pub disturbance_decides : (a b : Disturbance) → Decides (same_disturbance a b) (a ≡ b)
 disturbance_decides a b =
-    test_of (same_disturbance a b)
+    decided_by (same_disturbance a b)
     (Decides-and (a.x == b.x) (a.from == b.from && a.to == b.to) (unsigned_Decides a.x b.x)
     (Decides-and (a.from == b.from) (a.to == b.to) (unsigned_Decides a.from b.from) (unsigned_Decides a.to b.to)))
     (λ e i. record { x = e.0 i; from = e.1.0 i; to = e.1.1 i })
@@ -49,7 +49,7 @@ disturbance_decides a b =
 
 pub plan_decides : (a b : Plan) → Decides (same_plan a b) (a ≡ b)
 plan_decides a b =
-    test_of (same_plan a b)
+    decided_by (same_plan a b)
     (Decides-and (pointwise same_setup a.nodes b.nodes)
     (same_cable a.topology b.topology && (pointwise same_disturbance a.disturbances b.disturbances && a.end == b.end))
     (pointwise_decides setup_decides a.nodes b.nodes)

@@ -1,8 +1,8 @@
 -- The one-thread simulation of a line, tick by tick from 0: the yardstick for every other way to run it. This project's profile.
 -- At a tick each node whose next quantum stands there sees the line, which rests on earlier ticks alone; what it drives holds from then on.
 use Rattle.std.specs.Prelude.{ℕ, zero, suc, ◌<◌, Bool, true, false, ◌&&◌, List, [], ◌∷◌, ◌++◌, length, nat_lt, ◌==◌, if◌then◌else◌}
-use Rattle.wl_intervals.specs.declared.Level.{Level}
-use Rattle.wl_intervals.specs.Levels.{level_of}
+use Rattle.wl_level.specs.declared.Level.{Level}
+use Rattle.wl_level.specs.Levels.{level_of}
 use Rattle.wl_plan.specs.Line.{Line, found}
 
 -- The simulation before some tick: what each node has seen, and whether it drove dominant at each tick so far.

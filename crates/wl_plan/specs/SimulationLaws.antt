@@ -1,9 +1,10 @@
 -- What holds of the one-thread simulation of every line: where its nodes are, when they change, and what stays. This project's profile.
 -- For a reader who knows simulation: a component's state before a tick rests on its own events before it, and each event on the past alone.
-use Rattle.std.specs.Prelude.{◌≡◌, ℕ, suc, ◌-◌, ◌<◌, ◌≤◌, ◌⊎◌, Bool, true, false, length, Some, slice_get}
-use Rattle.wl_record.specs.declared.record.Record.TheVariants.{Edge, Silence}
-use Rattle.wl_record.specs.Truth.{count_below, odd, IsIncreasing, IsTrueOf}
-use Rattle.wl_plan.specs.Limits.{most_quanta}
+use Rattle.std.specs.Prelude.{◌≡◌, ℕ, suc, ◌-◌, ◌<◌, ◌≤◌, ◌⊎◌, Bool, true, false, List, ◌++◌, length, Some, slice_get}
+use Rattle.wl_level.specs.declared.Level.{Level}
+use Rattle.wl_record_core.specs.declared.record.Record.TheVariants.{Edge, Silence}
+use Rattle.wl_record_core.specs.Truth.{count_below, odd, IsIncreasing, IsTrueOf}
+use Rattle.wl_level.specs.Places.{count_places}
 use Rattle.wl_plan.specs.Line.{Line, found, reach}
 use Rattle.wl_plan.specs.Simulation.{history, level, level_before, seen, differs, changes_below, changes, ran, AreInside}
 use Rattle.wl_plan.specs.Sound.{IsCausal, IsSound}
@@ -17,6 +18,7 @@ pub record SimulationLaws : Type 0 where
   pub drove_stays : (l : Line) (t i u : ℕ) → u < t → (history l t).drove i u ≡ level l i u
   pub clock_later : (l : Line) (i k m : ℕ) → IsCausal l → i < l.nodes → k ≤ m → l.instant i k ≤ l.instant i m
   pub length_seen : (l : Line) (i k : ℕ) → length (seen l i k) ≡ k
+  pub seen_more : (l : Line) (i k n : ℕ) → k ≤ n → (more : List Level) × (seen l i n ≡ seen l i k ++ more)
   -- as many quanta have run before tick t as stand before it and below the end
   pub ran_before : (l : Line) (i t j : ℕ) → IsCausal l → i < l.nodes → j < ran l i t → l.instant i j < t
   pub ran_inside : (l : Line) (i t : ℕ) → IsCausal l → i < l.nodes → AreInside l i (ran l i t)
@@ -48,8 +50,9 @@ pub record SimulationLaws : Type 0 where
   -- up to its reach a node has no more changes
   pub reach_count : (l : Line) (i k : ℕ) → IsCausal l → i < l.nodes → AreInside l i k
       → count_below (reach l i (seen l i k)) (changes l i) ≡ count_below (l.instant i k) (changes l i)
-  -- and no more of them than quanta
-  pub few_changes : (l : Line) (i : ℕ) → IsCausal l → i < l.nodes → ((k : ℕ) → l.instant i k < l.stop → k < most_quanta) → length (changes l i) ≤ most_quanta
+  -- before a quantum there are as many as quanta before it changed what the node drives
+  pub changes_counted : (l : Line) (i k : ℕ) → IsCausal l → i < l.nodes → AreInside l i k
+      → count_below (l.instant i k) (changes l i) ≡ count_places (λ j. differs (l.drives i (seen l i (suc j))) (l.drives i (seen l i j))) k
 
 -- The records of an outcome are true: each change as an edge with its number, and all of them with the silence up to the end.
 abbrev pub OutcomeIsTrue : Type 0

@@ -1,8 +1,8 @@
 -- What every checked plan keeps, as a fact on its line. This project's profile; that each delay is positive is Chandy and Misra 1979.
 -- For a reader who knows simulation: there is lookahead between any two components, and no number overflows.
 use Rattle.std.specs.Prelude.{◌≡◌, ℕ, suc, ◌+◌, ◌<◌, ◌≤◌, false, List, [], ◌++◌, length}
-use Rattle.wl_intervals.specs.declared.Level.{Level}
-use Rattle.wl_record.specs.Limits.{most_nodes, most_edges, tick_end}
+use Rattle.wl_level.specs.declared.Level.{Level}
+use Rattle.wl_record_core.specs.Limits.{most_nodes, most_edges, tick_end}
 use Rattle.wl_plan.specs.Limits.{most_quanta, most_quiet}
 use Rattle.wl_plan.specs.Line.{Line}
 use Rattle.wl_plan.specs.Simulation.{changes}

@@ -3,6 +3,7 @@ ghost use Rattle.std.specs.Prelude.{◌≡◌, ◌<◌, ◌≤◌, length, nat_l
 ghost use Rattle.std.specs.Result.{result_err};
 ghost use Rattle.std.specs.List.{enumerate_from};
 ghost use Rattle.wl_clock.specs.Timing.{IsTiming, tick_of};
+ghost use Rattle.wl_segments.specs.Lengths.{AreLengths};
 ghost use Rattle.wl_topology.specs.Delays.{IsTopology};
 ghost use Rattle.wl_plan.specs.Checked.{IsChecked, fault_of, has_wrong_nodes, has_many_quanta, has_long_queue, is_refused, is_far, FaultlessIsChecked, CheckedIsSound};
 ghost use Rattle.wl_plan.specs.Limits.{latest_end, most_quanta};
@@ -24,7 +25,7 @@ pub enum PlanFault {
     /// The end is above 2^36 ticks.
     #[error("End")]
     End,
-    /// More than 65,536 quanta of this node begin before the end.
+    /// More than 1,048,576 quanta of this node begin before the end.
     #[error("Quanta({0})")]
     Quanta(u64),
     /// More than 64 frames wait at this node.
@@ -129,8 +130,11 @@ fn first_with_many_quanta(nodes: &[NodeSetup], end: u64) -> Option<usize>
     requires { end ≤ latest_end }
     ensures first { result ≡ position (has_many_quanta end) nodes.now }
     ensures clocks { IfNone result (All (λ node. IsTiming node.clock) nodes.now) }
+    ensures segments { IfNone result (All (λ node. AreLengths node.segments) nodes.now) }
 {
     for (i, node) in nodes.iter().enumerate() {
+        // each node's segments are some
+        let _ = node.segments.sample_at();
         if has_many_quanta(&node.clock, end) {
             return Some(i);
         }
@@ -145,7 +149,7 @@ fn first_with_long_queue(nodes: &[NodeSetup]) -> Option<usize>
     nodes.iter().position(|node| node.queue.len() > MOST_QUEUED)
 }
 
-/// Law: a plan, whose clocks and cable are what their types keep, has no fault exactly where it can be run.
+/// Law: a plan, whose clocks, segments and cable are what their types keep, has no fault exactly where it can be run.
 pub fn faultless_is_checked()
     ensures { FaultlessIsChecked }
 {
@@ -156,6 +160,8 @@ pub fn faultless_is_checked()
 pub fn checked_is_sound()
     ensures { CheckedIsSound }
 {
+    wl_level::place_laws();
     wl_clock::ticks_increase();
+    wl_node::drive_laws();
     simulation_laws();
 }

@@ -6,7 +6,7 @@ use crate::plan::Plan;
 use std::alloc::{AllocError, Global};
 use std::marker::Model;
 use thiserror::Error;
-use wl_intervals::Listed;
+use wl_level::Listed;
 
 /// The most groups of a grouping: they count from 0.
 pub const MOST_GROUPS: u8 = 16;

@@ -4,10 +4,7 @@
 pub const LATEST_END: u64 = 68_719_476_736;
 
 /// The most quanta of a node before the end of a plan.
-pub const MOST_QUANTA: u64 = 65_536;
-
-/// The most quanta for which a node is said to keep its drive, whatever it sees.
-pub const MOST_QUIET: u64 = 65_536;
+pub const MOST_QUANTA: u64 = 1_048_576;
 
 /// The most frames that wait at a node.
 pub const MOST_QUEUED: usize = 64;

@@ -4,7 +4,7 @@ ghost use Rattle.wl_topology.specs.Delays.{disturbance_delay};
 ghost use Rattle.wl_plan.specs.PlanLine.{TestOfTruth};
 
 use std::alloc::{AllocError, Global};
-use wl_intervals::Listed;
+use wl_level::Listed;
 use wl_node::NodeSetup;
 use wl_topology::Topology;
 
@@ -95,7 +95,8 @@ impl Eq for Plan {
 /// Whether the disturbance has come to node `j` by tick `t` and is not yet over there.
 fn is_at(topology: &Topology, d: Disturbance, j: u8, t: u64) -> bool
     requires { j < length topology.now.places }
-    ensures { result ≡ (nat_le (d.from + disturbance_delay topology.now d.x j) t && nat_lt t (d.to + disturbance_delay topology.now d.x j)) }
+    ensures { result ≡ (nat_le (d.from + disturbance_delay topology.now d.x j) t
+        && nat_lt t (d.to + disturbance_delay topology.now d.x j)) }
 {
     let delay = topology.place_delay(d.x, j);
     let now = t as u128;

@@ -8,7 +8,7 @@ pub fn simulation_laws()
     ensures { SimulationLaws }
 {
     wl_topology::driven_laws();
-    wl_record::table_laws();
+    wl_record_core::table_laws();
 }
 
 /// The records that an outcome gives are true and within: each change of a node with its number,

@@ -2,15 +2,16 @@
 use Rattle.std.specs.Prelude.{◌≡◌, ◌≢◌, ℕ, ◌+◌, ◌<◌, ◌≤◌, ◌⊎◌, List, [], ◌∷◌, ◌++◌, length, refl, Result, Ok, Err}
 use Rattle.std.specs.List.{AllByRecursion}
 use Rattle.std.proofs.Common.{inl, inr, sym, ap, ◌∙◌, subst, arith, length-append, append_assoc}
-use Rattle.wl_record.specs.declared.record.Record.{Record}
+use Rattle.std.proofs.lemmas.List.{append-nil}
+use Rattle.wl_record_core.specs.declared.record.Record.{Record}
 use Rattle.wl_record.specs.declared.fault.TextFault.{TextFault}
 use Rattle.wl_record.specs.declared.fault.TextFault.TheVariants.{Line, Range, Truncated, Read, TooLong, Memory}
-use Rattle.wl_record.specs.Limits.{most_bytes, most_line}
-use Rattle.wl_record.specs.Within.{IsWithin}
+use Rattle.wl_record.specs.Limits.{most_record_bytes, most_line}
+use Rattle.wl_record_core.specs.Within.{IsWithin}
 use Rattle.wl_record.specs.Grammar.{Spells, Lines, IsText}
-use Rattle.wl_record.specs.Faults.{Ending, at_end, broken_off, going_on, HasNoNewline, Stands, EndsLine, GoesPast, FaultThere, IsFirstFault, IsAnswer}
+use Rattle.wl_device.specs.Readings.{Ending, at_end, broken_off, going_on}
+use Rattle.wl_record.specs.Faults.{HasNoNewline, Stands, EndsLine, GoesPast, FaultThere, IsFirstFault, IsTextAnswer}
 use Rattle.wl_record.proofs.GrammarLemmas.{spelled_one_line, spelled_once, spelled_short}
-use Rattle.wl_record.proofs.Runs.{nothing_after}
 
 -- two pieces without newlines before a newline are one
 pub lines_split : (x y more others : List ℕ) → HasNoNewline x → HasNoNewline y → x ++ (10 ∷ more) ≡ y ++ (10 ∷ others) → (x ≡ y) × (more ≡ others)
@@ -49,7 +50,7 @@ pub one_line_back : (x y : List ℕ) → HasNoNewline (x ++ y) → HasNoNewline 
 one_line_back [] y h = h
 one_line_back (c ∷ x) y h = one_line_back x y h.1
 
--- what reading can stand before when it ends there
+-- what reading can be before when it ends there
 abbrev pub Final : List ℕ → List ℕ → List ℕ → Type 0
 Final text begun rest = (EndsLine text rest × ((r : Record) → Spells begun r → ¬ (IsWithin r))) ⊎ ((rest ≡ []) ⊎ GoesPast text begun rest)
 
@@ -61,38 +62,38 @@ pub record Place (text xs : List ℕ) (rs : List Record) (begun rest : List ℕ)
   pub within : AllByRecursion IsWithin rs
   pub one_line : HasNoNewline begun
   pub short_line : length begun ≤ most_line
-  pub short_text : length text ≤ most_bytes + length rest
+  pub short_text : length text ≤ most_record_bytes + length rest
   pub final : Final text begun rest
 
 -- nothing of a line comes after a place where reading ends
-ends_before : (text begun rest back sest : List ℕ) (d : ℕ) → Final text begun rest → rest ≡ (d ∷ back) ++ sest → d ≢ 10 → length begun < most_line → length text ≤ most_bytes + length sest → ⊥
+ends_before : (text begun rest back sest : List ℕ) (d : ℕ) → Final text begun rest → rest ≡ (d ∷ back) ++ sest → d ≢ 10 → length begun < most_line → length text ≤ most_record_bytes + length sest → ⊥
 ends_before text begun rest back sest d (inl h) e n short few = let head : 10 ≡ d = let both : 10 ∷ h.0.0 ≡ d ∷ (back ++ sest) = sym h.0.1 ∙ e in cc in n (sym head)
 ends_before text begun rest back sest d (inr (inl h)) e n short few = let both : [] ≡ d ∷ (back ++ sest) = sym h ∙ e in absurd (cc)
 ends_before text begun rest back sest d (inr (inr (next, more, is, inl h))) e n short few = omega (arith, ap length e, length-append back sest, h, few)
 ends_before text begun rest back sest d (inr (inr (next, more, is, inr h))) e n short few = omega (arith, h.0, short)
 
 one_begun : (text begun rest cegun sest : List ℕ) → begun ++ rest ≡ cegun ++ sest → HasNoNewline begun → HasNoNewline cegun → length begun ≤ most_line → length cegun ≤ most_line
-    → length text ≤ most_bytes + length rest → length text ≤ most_bytes + length sest → Final text begun rest → Final text cegun sest → (begun ≡ cegun) × (rest ≡ sest)
+    → length text ≤ most_record_bytes + length rest → length text ≤ most_record_bytes + length sest → Final text begun rest → Final text cegun sest → (begun ≡ cegun) × (rest ≡ sest)
 one_begun text begun rest cegun sest e nb nc sb sc fb fc hb hc =
     elim (append_split begun cegun rest sest e) [
       | inl h ↦ first_longer begun rest cegun sest h.0 h.1 h.2 nc sc fc hb
       | inr h ↦ let both = first_longer cegun sest begun rest h.0 h.1 h.2 nb sb fb hc in (sym both.0, sym both.1)
     ]
   where
-    first_longer : (begun rest cegun sest back : List ℕ) → cegun ≡ begun ++ back → rest ≡ back ++ sest → HasNoNewline cegun → length cegun ≤ most_line → length text ≤ most_bytes + length sest → Final text begun rest → (begun ≡ cegun) × (rest ≡ sest)
-    first_longer begun rest cegun sest [] is es nc sc fc hb = (sym (is ∙ nothing_after begun), es)
+    first_longer : (begun rest cegun sest back : List ℕ) → cegun ≡ begun ++ back → rest ≡ back ++ sest → HasNoNewline cegun → length cegun ≤ most_line → length text ≤ most_record_bytes + length sest → Final text begun rest → (begun ≡ cegun) × (rest ≡ sest)
+    first_longer begun rest cegun sest [] is es nc sc fc hb = (sym (is ∙ append-nil begun), es)
     first_longer begun rest cegun sest (d ∷ back) is es nc sc fc hb =
         absurd (ends_before text begun rest back sest d hb es (one_line_back begun (d ∷ back) (subst HasNoNewline is nc)).0 (omega (arith, ap length is, length-append begun (d ∷ back), sc)) fc)
 
 -- reading doesn't end before a line that is in order
-no_end_before : (text xs begun rest line more : List ℕ) (q : Record) → Final text begun rest → xs ≡ begun ++ rest → HasNoNewline begun → xs ≡ line ++ (10 ∷ more) → Spells line q → IsWithin q → (sest : List ℕ) → length sest ≤ length more → length text ≤ most_bytes + length sest → ⊥
+no_end_before : (text xs begun rest line more : List ℕ) (q : Record) → Final text begun rest → xs ≡ begun ++ rest → HasNoNewline begun → xs ≡ line ++ (10 ∷ more) → Spells line q → IsWithin q → (sest : List ℕ) → length sest ≤ length more → length text ≤ most_record_bytes + length sest → ⊥
 no_end_before text xs begun rest line more q final e nb is spelled within sest fits few =
     let cut = begun_split begun rest line more nb (sym e ∙ is) in
     by_back cut.0 cut.1 cut.2
   where
     by_back : (back : List ℕ) → line ≡ begun ++ back → rest ≡ back ++ (10 ∷ more) → ⊥
     by_back [] le re = elim final [
-      | inl h ↦ h.1 q (subst (λ z. Spells z q) (le ∙ nothing_after begun) spelled) within
+      | inl h ↦ h.1 q (subst (λ z. Spells z q) (le ∙ append-nil begun) spelled) within
       | inr (inl h) ↦ let bad : [] ≡ 10 ∷ more = sym h ∙ re in absurd (cc)
       | inr (inr (next, others, ie, inl h)) ↦ omega (arith, ap length re, h, few, fits)
       | inr (inr (next, others, ie, inr h)) ↦ h.1 (let both : next ∷ others ≡ 10 ∷ more = sym ie ∙ re in cc)
@@ -145,7 +146,7 @@ place_of_fault text rs begun rest h final = record {
 place_of_text : (text : List ℕ) (rs : List Record) → IsText text rs → Place text text rs [] []
 place_of_text text rs h = record {
   front = text;
-  parts = sym (nothing_after text);
+  parts = sym (append-nil text);
   lines = h.lines;
   within = h.within;
   one_line = tt;
@@ -203,7 +204,7 @@ fault_and_text text e rs fault h is (qs, begun, rest, stands, there) =
     let P : List Record → List ℕ → List ℕ → Type 0 = λ us bs xs. FaultThere text us bs xs e fault in
     no_fault_at_end text rs e fault is (subst (λ us. P us [] []) (sym same.0) (subst (λ bs. P qs bs []) (sym same.1) (subst (λ xs. P qs begun xs) (sym same.2) there)))
 
-pub one_answer : (text : List ℕ) (e : Ending) (a b : Result (List Record) TextFault) → IsAnswer text e a → IsAnswer text e b → a ≡ b
+pub one_answer : (text : List ℕ) (e : Ending) (a b : Result (List Record) TextFault) → IsTextAnswer text e a → IsTextAnswer text e b → a ≡ b
 one_answer text e (Ok rs) (Ok qs) h k = ap Ok (one_place text text rs qs [] [] [] [] (place_of_text text rs h.0) (place_of_text text qs k.0)).0
 one_answer text e (Ok rs) (Err g) h k = absurd (fault_and_text text e rs g h.0 h.1 k)
 one_answer text e (Err f) (Ok qs) h k = absurd (fault_and_text text e qs f k.0 k.1 h)

@@ -8,15 +8,16 @@ use Rattle.std.proofs.Common.{rules, inl, inr, sym, ap, ◌∙◌, subst, arith,
 use Rattle.std.proofs.lemmas.Fmt.{decimal_is_IsNumeral, decimal_digit, first_decimal, decimal-digits_value, length-decimal-le}
 use Rattle.std.proofs.lemmas.Str.Parse.{numerals_by_value, IsNumeralModel}
 use Rattle.std.proofs.lemmas.Bool.Decides.{eqb_tells}
-use Rattle.wl_record.specs.declared.record.Record.{Record}
-use Rattle.wl_record.specs.declared.record.Record.TheVariants.{Edge, Clash, Silence}
-use Rattle.wl_record.specs.Limits.{most_nodes, most_nodes-is, most_edges, most_edges-is, tick_end, tick_end-is, most_line, most_line-is}
-use Rattle.wl_record.specs.Within.{IsWithin}
-use Rattle.wl_record.specs.Text.{words_of, text_of}
+use Rattle.std.proofs.lemmas.List.{append-nil}
+use Rattle.wl_record_core.specs.declared.record.Record.{Record}
+use Rattle.wl_record_core.specs.declared.record.Record.TheVariants.{Edge, Clash, Silence}
+use Rattle.wl_record.specs.Limits.{most_line, most_line-is}
+use Rattle.wl_record_core.specs.Limits.{most_nodes, most_nodes-is, most_edges, most_edges-is, tick_end, tick_end-is}
+use Rattle.wl_record_core.specs.Within.{IsWithin}
+use Rattle.wl_record_core.specs.Text.{words_of, text_of}
 use Rattle.wl_record.specs.Grammar.{IsNumber, Fields, letter_of, numbers_of, Spells, Lines}
 use Rattle.wl_record.specs.Faults.{HasNoNewline}
 use Rattle.wl_record.specs.Parsing.{Stops}
-use Rattle.wl_record.proofs.Runs.{nothing_after}
 
 -- ---- where a number stops
 pub digits_split : (x y more others : List ℕ) → AllDigits 10 x → AllDigits 10 y → Stops more → Stops others → x ++ more ≡ y ++ others → (x ≡ y) × (more ≡ others)
@@ -125,9 +126,9 @@ written_are_fields [] s = refl
 written_are_fields (n ∷ ns) s = (decimal n, written ns, decimal_is_number n s.0, refl, written_are_fields ns s.1)
 
 pub words_are_written : (r : Record) → words_of r ≡ letter_of r ∷ written (numbers_of r)
-words_are_written (Edge a b c) = ap (λ z. 69 ∷ 32 ∷ z) (append_assoc (decimal a) (32 ∷ decimal b) (32 ∷ decimal c) ∙ ap (λ z. decimal a ++ (32 ∷ (decimal b ++ (32 ∷ z)))) (sym (nothing_after (decimal c))))
-words_are_written (Clash a b) = ap (λ z. 67 ∷ 32 ∷ (decimal a ++ (32 ∷ z))) (sym (nothing_after (decimal b)))
-words_are_written (Silence a b c) = ap (λ z. 83 ∷ 32 ∷ z) (append_assoc (decimal a) (32 ∷ decimal b) (32 ∷ decimal c) ∙ ap (λ z. decimal a ++ (32 ∷ (decimal b ++ (32 ∷ z)))) (sym (nothing_after (decimal c))))
+words_are_written (Edge a b c) = ap (λ z. 69 ∷ 32 ∷ z) (append_assoc (decimal a) (32 ∷ decimal b) (32 ∷ decimal c) ∙ ap (λ z. decimal a ++ (32 ∷ (decimal b ++ (32 ∷ z)))) (sym (append-nil (decimal c))))
+words_are_written (Clash a b) = ap (λ z. 67 ∷ 32 ∷ (decimal a ++ (32 ∷ z))) (sym (append-nil (decimal b)))
+words_are_written (Silence a b c) = ap (λ z. 83 ∷ 32 ∷ z) (append_assoc (decimal a) (32 ∷ decimal b) (32 ∷ decimal c) ∙ ap (λ z. decimal a ++ (32 ∷ (decimal b ++ (32 ∷ z)))) (sym (append-nil (decimal c))))
 
 within_small : (r : Record) → IsWithin r → AllSmall (numbers_of r)
 within_small (Edge a b c) h = (omega (arith, h.0, most_nodes-is), (omega (arith, h.1, most_edges-is), (omega (arith, h.2, tick_end-is), tt)))
@@ -150,17 +151,17 @@ length_two a b k l ha hb = omega (arith, length-append (decimal a) (32 ∷ (deci
 node_digits : (n : ℕ) → n < most_nodes → length (decimal n) ≤ 2
 node_digits n h = length-decimal-le 2 n (omega arith) (omega (arith, h, most_nodes-is)) (omega (arith, h, most_nodes-is))
 
-place_digits : (n : ℕ) → n ≤ most_edges → length (decimal n) ≤ 5
-place_digits n h = length-decimal-le 5 n (omega arith) (omega (arith, h, most_edges-is)) (omega (arith, h, most_edges-is))
+place_digits : (n : ℕ) → n ≤ most_edges → length (decimal n) ≤ 6
+place_digits n h = length-decimal-le 6 n (omega arith) (omega (arith, h, most_edges-is)) (omega (arith, h, most_edges-is))
 
 tick_digits : (n : ℕ) → n < tick_end → length (decimal n) ≤ 15
 tick_digits n h = length-decimal-le 15 n (omega arith) (omega (arith, h, tick_end-is)) (omega (arith, h, tick_end-is))
 
 -- ten less than a line may have
-pub words_short : (r : Record) → IsWithin r → length (words_of r) < 27
-words_short (Edge a b c) w = omega (arith, ap length (words_are_written (Edge a b c)), length_three a b c 2 5 15 (node_digits a w.0) (place_digits b (omega (arith, w.1))) (tick_digits c w.2))
-words_short (Clash a b) w = omega (arith, ap length (words_are_written (Clash a b)), length_two a b 2 5 (node_digits a w.0) (place_digits b (omega (arith, w.1))))
-words_short (Silence a b c) w = omega (arith, ap length (words_are_written (Silence a b c)), length_three a b c 2 5 15 (node_digits a w.0) (place_digits b w.1) (tick_digits c w.2))
+pub words_short : (r : Record) → IsWithin r → length (words_of r) < 28
+words_short (Edge a b c) w = omega (arith, ap length (words_are_written (Edge a b c)), length_three a b c 2 6 15 (node_digits a w.0) (place_digits b (omega (arith, w.1))) (tick_digits c w.2))
+words_short (Clash a b) w = omega (arith, ap length (words_are_written (Clash a b)), length_two a b 2 6 (node_digits a w.0) (place_digits b (omega (arith, w.1))))
+words_short (Silence a b c) w = omega (arith, ap length (words_are_written (Silence a b c)), length_three a b c 2 6 15 (node_digits a w.0) (place_digits b w.1) (tick_digits c w.2))
 
 pub spelled_short : (line : List ℕ) (r : Record) → IsWithin r → Spells line r → length line ≤ most_line
 spelled_short line r w h = omega (arith, ap length (spelled_is_written line r w h), words_short r w, most_line-is)

@@ -3,19 +3,18 @@ use Rattle.std.specs.Prelude.{◌≡◌, ◌≢◌, ℕ, ◌+◌, ◌-◌, ◌<�
 use Rattle.std.specs.List.{AllByRecursion}
 use Rattle.std.proofs.Common.{inl, inr, sym, ap, ◌∙◌, subst, arith, append_assoc, get_or, take-append-drop, length-append}
 use Rattle.std.proofs.Math.Seq.{take-suc, drop-cons}
-use Rattle.std.proofs.lemmas.List.{length-take-le}
+use Rattle.std.proofs.lemmas.List.{length-take-le, take_all}
 use Prim.Native.Nat.{suc}
-use Rattle.wl_record.specs.declared.record.Record.{Record}
+use Rattle.wl_record_core.specs.declared.record.Record.{Record}
 use Rattle.wl_record.specs.declared.parse.Stop.TheVariants.{Open, Long}
 use Rattle.wl_record.specs.Limits.{most_line}
-use Rattle.wl_record.specs.Within.{IsWithin}
+use Rattle.wl_record_core.specs.Within.{IsWithin}
 use Rattle.wl_record.specs.Grammar.{Spells, Lines}
 use Rattle.wl_record.specs.Faults.{HasNoNewline}
 use Rattle.wl_record.specs.Parsing.{Begins, IsRecordFront, IsStop, TakesLine, TakesLines, HasLine}
 use Rattle.wl_record.proofs.ParseLemmas.{begins_once, begins_spelled, spelled_begins}
 use Rattle.std.proofs.lemmas.Bool.Decides.{leb_tells}
 use Rattle.wl_record.proofs.AnswerLemmas.{one_line_back}
-use Rattle.wl_record.proofs.Runs.{take_all}
 
 pub one_line_front : (x y : List ℕ) → HasNoNewline (x ++ y) → HasNoNewline x
 one_line_front [] y h = tt
@@ -26,14 +25,14 @@ pub no_newline_to : (bytes : List ℕ) (at n : ℕ) → at ≤ min (length bytes
 no_newline_to bytes at n low high h =
     elim (leb_tells n (length bytes)) [
       | inl w ↦ let same : at ≡ n = omega (arith, w.1) in subst (λ z. HasNoNewline (take z bytes)) same h
-      | inr w ↦ let all = take_all bytes at (omega (arith, w.1)) in let more = take_all bytes n (omega (arith, w.1)) in subst HasNoNewline (all ∙ sym more) h
+      | inr w ↦ let all = take_all at bytes (omega (arith, w.1)) in let more = take_all n bytes (omega (arith, w.1)) in subst HasNoNewline (all ∙ sym more) h
     ]
 
 pub no_line_before : (line : List ℕ) (told : Option Record) (rest : List ℕ) → IsRecordFront line told rest → rest ≢ [] → (r : Record) → ¬ (Spells line r)
 no_line_before line None rest h some r s = some (begins_once line h.0 r rest [] h.1 (spelled_begins line r s))
 no_line_before line (Some q) rest h some r s = some (begins_once line q r rest [] h.0 (spelled_begins line r s))
 
--- the newline at a place, and what stands round it
+-- the newline at a place, and what is round it
 pub line_at : (bytes : List ℕ) (at : ℕ) → at < length bytes → get_or bytes at 0 ≡ 10 → bytes ≡ take at bytes ++ (10 ∷ drop (at + 1) bytes)
 line_at bytes at within is =
     let one : at + 1 ≡ suc at = omega arith in
@@ -53,7 +52,7 @@ long_line bytes h long =
     )
 
 pub open_line : (bytes : List ℕ) → HasNoNewline (take (most_line + 1) bytes) → length bytes ≤ most_line → IsStop bytes Open
-open_line bytes h short = (subst HasNoNewline (take_all bytes (most_line + 1) (omega (arith, short))) h, short)
+open_line bytes h short = (subst HasNoNewline (take_all (most_line + 1) bytes (omega (arith, short))) h, short)
 
 pub told_line : (bytes : List ℕ) (at : ℕ) (r : Record) (line rest : List ℕ) → at < length bytes → get_or bytes at 0 ≡ 10 → line ≡ take at bytes → rest ≡ drop (at + 1) bytes → Spells line r → IsWithin r → TakesLine bytes r rest
 told_line bytes at r line rest within is el er s w = record {
@@ -78,7 +77,7 @@ front_line bytes r rest more h w e =
 -- a first byte, and the slice after it
 pub first_and_rest : (xs : List ℕ) (b : ℕ) → 0 < length xs → get_or xs 0 0 ≡ b → xs ≡ b ∷ take (length xs - 1) (drop 1 xs)
 first_and_rest [] b some is = absurd (omega (arith, some))
-first_and_rest (x ∷ xs) b some is = (λ i. is i ∷ sym (take_all xs (length (x ∷ xs) - 1) (omega arith)) i)
+first_and_rest (x ∷ xs) b some is = (λ i. is i ∷ sym (take_all (length (x ∷ xs) - 1) xs (omega arith)) i)
 
 pub lines_more : (front line : List ℕ) (rs : List Record) (r : Record) → Lines front rs → Spells line r → Lines (front ++ (line ++ (10 ∷ []))) (rs ++ r ∷ [])
 lines_more front line [] r h s = (line, [], s, ap (λ z. z ++ (line ++ (10 ∷ []))) h, refl)

@@ -2,11 +2,11 @@
 use Rattle.std.specs.Prelude.{◌≡◌, ℕ, ◌+◌, ◌^◌, ◌<◌, List, [], ◌∷◌, ◌++◌, length, refl, Option, Some, None, MatchOption}
 use Rattle.std.specs.Str.Parse.{digits_value}
 use Rattle.std.proofs.Common.{sym, ap, ◌∙◌, subst, arith, append_assoc}
-use Rattle.wl_record.specs.declared.record.Record.{Record}
-use Rattle.wl_record.specs.declared.record.Record.TheVariants.{Edge, Clash, Silence}
+use Rattle.wl_record_core.specs.declared.record.Record.{Record}
+use Rattle.wl_record_core.specs.declared.record.Record.TheVariants.{Edge, Clash, Silence}
 use Rattle.wl_record.specs.Grammar.{Fields, letter_of, numbers_of, Spells}
-use Rattle.wl_record.specs.Limits.{most_nodes, most_nodes-is, most_edges, most_edges-is, tick_end, tick_end-is}
-use Rattle.wl_record.specs.Within.{IsWithin}
+use Rattle.wl_record_core.specs.Limits.{most_nodes, most_nodes-is, most_edges, most_edges-is, tick_end, tick_end-is}
+use Rattle.wl_record_core.specs.Within.{IsWithin}
 use Rattle.wl_record.specs.Parsing.{capped, IsField, FieldsThen, Begins, IsFront}
 use Rattle.wl_record.proofs.GrammarLemmas.{digits_split, fields_stop}
 
@@ -17,7 +17,7 @@ field_once bytes n m rest more h g =
     let both = digits_split h.number g.number rest more h.is_number.digits.1 g.is_number.digits.1 h.stops g.stops tails in
     (sym h.is_number.value ∙ (ap (digits_value 10) both.0 ∙ g.is_number.value), both.1)
 
--- after the first field the others stand in what follows it
+-- after the first field the others are in what follows it
 pub fields_after : (bytes : List ℕ) (n m : ℕ) (ms : List ℕ) (rest more : List ℕ) → IsField bytes n rest → FieldsThen bytes (m ∷ ms) more → FieldsThen rest ms more
 fields_after bytes n m ms rest more h g = subst (λ z. FieldsThen z ms more) (sym (field_once bytes n m rest g.0 h g.1).1) g.2
 

@@ -7,12 +7,13 @@ use Rattle.std.proofs.lemmas.Slice.{put_mid-paste}
 use Rattle.std.proofs.lemmas.List.Edits.{take-paste}
 use borrow.Rule.Slice.PartMut.{put_mid}
 use Prim.Native.Nat.{suc}
-use Rattle.wl_record.specs.Devices.{Answer, failed, moved_bytes, WentOut, BrokeOff}
-use Rattle.wl_record.proofs.Runs.{SoFar, no_length, run_on, goes_on, moved_bytes-append, nothing_after, take_all}
+use Rattle.wl_device.specs.Devices.{Answer, GoesOn, failed, moved_bytes, WentOut, BrokeOff}
+use Rattle.wl_device.proofs.Runs.{SoFar, run_on, all_append, moved_bytes-append}
 use Rattle.std.proofs.lemmas.Fmt.{length-decimal-le}
-use Rattle.wl_record.specs.declared.record.Record.{Record}
-use Rattle.wl_record.specs.declared.record.Record.TheVariants.{Edge, Clash, Silence}
-use Rattle.wl_record.specs.Text.{line_of, text_of}
+use Rattle.std.proofs.lemmas.List.{append-nil, nil_from_length, take_all}
+use Rattle.wl_record_core.specs.declared.record.Record.{Record}
+use Rattle.wl_record_core.specs.declared.record.Record.TheVariants.{Edge, Clash, Silence}
+use Rattle.wl_record_core.specs.Text.{text_line, text_of}
 
 pub byte_length : (n : ℕ) → n < 256 → length (decimal n) ≤ 3
 byte_length n h = length-decimal-le 3 n (omega arith) (omega (arith, h)) (omega (arith, h))
@@ -24,32 +25,32 @@ pub long_length : (n : ℕ) → n < 18446744073709551616 → length (decimal n) 
 long_length n h = length-decimal-le 20 n (omega arith) (omega (arith, h)) (omega (arith, h))
 
 -- the parts of a line as they are put
-pub line_of_edge : (a b k : ℕ) → line_of (Edge a b k) ≡ 69 ∷ (32 ∷ decimal a ++ (32 ∷ decimal b ++ (32 ∷ decimal k ++ 10 ∷ [])))
+pub line_of_edge : (a b k : ℕ) → text_line (Edge a b k) ≡ 69 ∷ (32 ∷ decimal a ++ (32 ∷ decimal b ++ (32 ∷ decimal k ++ 10 ∷ [])))
 line_of_edge a b k = simp append_assoc
 
-pub line_of_clash : (a b : ℕ) → line_of (Clash a b) ≡ 67 ∷ (32 ∷ decimal a ++ (32 ∷ decimal b ++ 10 ∷ []))
+pub line_of_clash : (a b : ℕ) → text_line (Clash a b) ≡ 67 ∷ (32 ∷ decimal a ++ (32 ∷ decimal b ++ 10 ∷ []))
 line_of_clash a b = simp append_assoc
 
-pub line_of_silence : (a b k : ℕ) → line_of (Silence a b k) ≡ 83 ∷ (32 ∷ decimal a ++ (32 ∷ decimal b ++ (32 ∷ decimal k ++ 10 ∷ [])))
+pub line_of_silence : (a b k : ℕ) → text_line (Silence a b k) ≡ 83 ∷ (32 ∷ decimal a ++ (32 ∷ decimal b ++ (32 ∷ decimal k ++ 10 ∷ [])))
 line_of_silence a b k = simp append_assoc
 
 pub drop_whole : (n : ℕ) (xs : List ℕ) → length xs ≡ n → drop n xs ≡ []
-drop_whole n xs e = no_length (drop n xs) (omega (arith, length-drop n xs, e))
+drop_whole n xs e = nil_from_length (drop n xs) (omega (arith, length-drop n xs, e))
 
 pub edge_line : (r : Record) (a b k : ℕ) (line one_on two_on new : List ℕ) → r ≡ Edge a b k → length line ≡ 40 → one_on ≡ 10 ∷ drop 40 line → two_on ≡ 32 ∷ decimal k ++ one_on
-    → new ≡ 69 ∷ (32 ∷ decimal a ++ (32 ∷ decimal b ++ two_on)) → new ≡ line_of r
+    → new ≡ 69 ∷ (32 ∷ decimal a ++ (32 ∷ decimal b ++ two_on)) → new ≡ text_line r
 edge_line r a b k line one_on two_on new is len one two three =
-    three ∙ (ap (λ z. 69 ∷ (32 ∷ decimal a ++ (32 ∷ decimal b ++ z))) (two ∙ ap (λ z. 32 ∷ decimal k ++ z) (one ∙ ap (λ z. 10 ∷ z) (drop_whole 40 line len))) ∙ (sym (line_of_edge a b k) ∙ ap line_of (sym is)))
+    three ∙ (ap (λ z. 69 ∷ (32 ∷ decimal a ++ (32 ∷ decimal b ++ z))) (two ∙ ap (λ z. 32 ∷ decimal k ++ z) (one ∙ ap (λ z. 10 ∷ z) (drop_whole 40 line len))) ∙ (sym (line_of_edge a b k) ∙ ap text_line (sym is)))
 
 pub silence_line : (r : Record) (a b k : ℕ) (line one_on two_on new : List ℕ) → r ≡ Silence a b k → length line ≡ 40 → one_on ≡ 10 ∷ drop 40 line → two_on ≡ 32 ∷ decimal k ++ one_on
-    → new ≡ 83 ∷ (32 ∷ decimal a ++ (32 ∷ decimal b ++ two_on)) → new ≡ line_of r
+    → new ≡ 83 ∷ (32 ∷ decimal a ++ (32 ∷ decimal b ++ two_on)) → new ≡ text_line r
 silence_line r a b k line one_on two_on new is len one two three =
-    three ∙ (ap (λ z. 83 ∷ (32 ∷ decimal a ++ (32 ∷ decimal b ++ z))) (two ∙ ap (λ z. 32 ∷ decimal k ++ z) (one ∙ ap (λ z. 10 ∷ z) (drop_whole 40 line len))) ∙ (sym (line_of_silence a b k) ∙ ap line_of (sym is)))
+    three ∙ (ap (λ z. 83 ∷ (32 ∷ decimal a ++ (32 ∷ decimal b ++ z))) (two ∙ ap (λ z. 32 ∷ decimal k ++ z) (one ∙ ap (λ z. 10 ∷ z) (drop_whole 40 line len))) ∙ (sym (line_of_silence a b k) ∙ ap text_line (sym is)))
 
 pub clash_line : (r : Record) (a b : ℕ) (line one_on new : List ℕ) → r ≡ Clash a b → length line ≡ 40 → one_on ≡ 10 ∷ drop 40 line
-    → new ≡ 67 ∷ (32 ∷ decimal a ++ (32 ∷ decimal b ++ one_on)) → new ≡ line_of r
+    → new ≡ 67 ∷ (32 ∷ decimal a ++ (32 ∷ decimal b ++ one_on)) → new ≡ text_line r
 clash_line r a b line one_on new is len one three =
-    three ∙ (ap (λ z. 67 ∷ (32 ∷ decimal a ++ (32 ∷ decimal b ++ z))) (one ∙ ap (λ z. 10 ∷ z) (drop_whole 40 line len)) ∙ (sym (line_of_clash a b) ∙ ap line_of (sym is)))
+    three ∙ (ap (λ z. 67 ∷ (32 ∷ decimal a ++ (32 ∷ decimal b ++ z))) (one ∙ ap (λ z. 10 ∷ z) (drop_whole 40 line len)) ∙ (sym (line_of_clash a b) ∙ ap text_line (sym is)))
 
 -- ---- one piece after another
 pub sent_more : {S : Type 0} (takes : S → Answer → S → Type 0) (s : S) (sent : List ℕ) (n : ℕ) (t : S) (answers : List Answer) (bytes : List ℕ) (u : S) (more : List Answer) (made : ℕ)
@@ -57,7 +58,7 @@ pub sent_more : {S : Type 0} (takes : S → Answer → S → Type 0) (s : S) (se
 sent_more takes s sent n t answers bytes u more made h w e = record {
   run = run_on takes s answers t more u h.run w.run;
   bytes_are = moved_bytes-append answers more ∙ (λ i. h.bytes_are i ++ w.bytes_are i);
-  goes = goes_on answers more h.goes w.goes;
+  goes = all_append GoesOn answers more h.goes w.goes;
   calls = omega (arith, length-append answers more, h.calls, e);
 }
 
@@ -78,35 +79,35 @@ broke_off_after takes s sent n t answers bytes later whole u more h b e = record
     not_empty b.left.0 later b.left.2,
   );
   ends = elim b.ends [
-    | inl f ↦ inl (answers ++ f.0, ap (λ z. answers ++ z) f.1 ∙ sym (append_assoc answers f.0 (failed ∷ [])), goes_on answers f.0 h.goes f.2)
-    | inr f ↦ inr (omega (arith, length-append answers more, h.calls, f.0), goes_on answers more h.goes f.1)
+    | inl f ↦ inl (answers ++ f.0, ap (λ z. answers ++ z) f.1 ∙ sym (append_assoc answers f.0 (failed ∷ [])), all_append GoesOn answers f.0 h.goes f.2)
+    | inr f ↦ inr (omega (arith, length-append answers more, h.calls, f.0), all_append GoesOn answers more h.goes f.1)
   ];
   few = omega (arith, length-append answers more, h.calls, b.few);
 }
 
 pub text_of-append : (rs qs : List Record) → text_of (rs ++ qs) ≡ text_of rs ++ text_of qs
 text_of-append [] qs = refl
-text_of-append (r ∷ rs) qs = ap (λ z. line_of r ++ z) (text_of-append rs qs) ∙ sym (append_assoc (line_of r) (text_of rs) (text_of qs))
+text_of-append (r ∷ rs) qs = ap (λ z. text_line r ++ z) (text_of-append rs qs) ∙ sym (append_assoc (text_line r) (text_of rs) (text_of qs))
 
 -- the text of some records and of those that are left
 pub text_of-cut : (n : ℕ) (rs : List Record) → text_of (take n rs) ++ text_of (drop n rs) ≡ text_of rs
 text_of-cut n rs = sym (text_of-append (take n rs) (drop n rs)) ∙ ap text_of (take-append-drop n rs)
 
-pub text_of-one : (n : ℕ) (rs : List Record) (d : Record) → n < length rs → text_of (take (n + 1) rs) ≡ text_of (take n rs) ++ line_of (get_or rs n d)
+pub text_of-one : (n : ℕ) (rs : List Record) (d : Record) → n < length rs → text_of (take (n + 1) rs) ≡ text_of (take n rs) ++ text_line (get_or rs n d)
 text_of-one n rs d within =
     let one : n + 1 ≡ suc n = omega arith in
-    ap (λ z. text_of (take z rs)) one ∙ (ap text_of (take-suc rs n d within) ∙ (text_of-append (take n rs) (get_or rs n d ∷ []) ∙ ap (λ z. text_of (take n rs) ++ z) (nothing_after (line_of (get_or rs n d)))))
+    ap (λ z. text_of (take z rs)) one ∙ (ap text_of (take-suc rs n d within) ∙ (text_of-append (take n rs) (get_or rs n d ∷ []) ∙ ap (λ z. text_of (take n rs) ++ z) (append-nil (text_line (get_or rs n d)))))
 
--- a line put behind the first bytes
+-- a line put after the first bytes
 pub put_behind : (a n : ℕ) (xs ys zs : List ℕ) (m : ℕ) → m ≡ a + n → a ≤ length xs → ys ≡ zs → length zs ≡ n → take m (put_mid a (a + n - a) xs ys) ≡ take a xs ++ zs
 put_behind a n xs ys zs m em within is len =
     let count : n ≡ a + n - a = omega arith in
-    (λ i. take (em i) (put_mid-paste a (a + n - a) xs ys zs n is count (sym len) i)) ∙ (take-paste xs a zs n within (omega (arith, len)) ∙ ap (λ z. take a xs ++ z) (take_all zs n (omega (arith, len))))
+    (λ i. take (em i) (put_mid-paste a (a + n - a) xs ys zs n is count (sym len) i)) ∙ (take-paste xs a zs n within (omega (arith, len)) ∙ ap (λ z. take a xs ++ z) (take_all n zs (omega (arith, len))))
 
 pub went_out_after : {S : Type 0} (takes : S → Answer → S → Type 0) (s : S) (sent : List ℕ) (n : ℕ) (t : S) (answers : List Answer) (bytes whole : List ℕ) (u : S) (more : List Answer)
     → SoFar takes s sent n t answers → WentOut takes t bytes u more → sent ++ bytes ≡ whole → WentOut takes s whole u (answers ++ more)
 went_out_after takes s sent n t answers bytes whole u more h w e = record {
   run = run_on takes s answers t more u h.run w.run;
   bytes_are = moved_bytes-append answers more ∙ ((λ i. h.bytes_are i ++ w.bytes_are i) ∙ e);
-  goes = goes_on answers more h.goes w.goes;
+  goes = all_append GoesOn answers more h.goes w.goes;
 }

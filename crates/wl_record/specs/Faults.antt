@@ -1,18 +1,13 @@
 -- The first fault of what is no record text (this project's profile).
 use Rattle.std.specs.Prelude.{◌≡◌, ◌≢◌, ℕ, ◌+◌, ◌<◌, ◌≤◌, ◌⊎◌, List, [], ◌∷◌, ◌++◌, length, Result, MatchResult}
 use Rattle.std.specs.List.{AllByRecursion}
-use Rattle.wl_record.specs.declared.record.Record.{Record}
+use Rattle.wl_record_core.specs.declared.record.Record.{Record}
 use Rattle.wl_record.specs.declared.fault.TextFault.{TextFault}
 use Rattle.wl_record.specs.declared.fault.TextFault.TheVariants.{Line, Range, Truncated, Read, TooLong, Memory}
-use Rattle.wl_record.specs.Limits.{most_bytes, most_line}
-use Rattle.wl_record.specs.Within.{IsWithin}
+use Rattle.wl_record.specs.Limits.{most_record_bytes, most_line}
+use Rattle.wl_record_core.specs.Within.{IsWithin}
 use Rattle.wl_record.specs.Grammar.{Spells, Lines, IsText}
-
--- how the bytes ended: at the end, or the reader broke off, or they go on
-pub data Ending : Type 0 where
-  at_end : Ending
-  broken_off : Ending
-  going_on : Ending
+use Rattle.wl_device.specs.Readings.{Ending, at_end, broken_off, going_on}
 
 abbrev pub HasNoNewline : List ℕ → Type 0
 HasNoNewline bytes = AllByRecursion (λ b. b ≢ 10) bytes
@@ -25,15 +20,15 @@ pub record Stands (text : List ℕ) (rs : List Record) (begun rest : List ℕ) :
   pub within : AllByRecursion IsWithin rs
   pub one_line : HasNoNewline begun
   pub short_line : length begun ≤ most_line
-  pub short_text : length text ≤ most_bytes + length rest
+  pub short_text : length text ≤ most_record_bytes + length rest
 
 -- the next byte ends the line, and is one that a text may have
 abbrev pub EndsLine : List ℕ → List ℕ → Type 0
-EndsLine text rest = (more : List ℕ) × (rest ≡ 10 ∷ more) × (length text < most_bytes + length rest)
+EndsLine text rest = (more : List ℕ) × (rest ≡ 10 ∷ more) × (length text < most_record_bytes + length rest)
 
 -- the next byte is the first past those of a text, or past those of a line
 abbrev pub GoesPast : List ℕ → List ℕ → List ℕ → Type 0
-GoesPast text begun rest = (next : ℕ) × (more : List ℕ) × (rest ≡ next ∷ more) × ((length text ≡ most_bytes + length rest) ⊎ ((length begun ≡ most_line) × (next ≢ 10)))
+GoesPast text begun rest = (next : ℕ) × (more : List ℕ) × (rest ≡ next ∷ more) × ((length text ≡ most_record_bytes + length rest) ⊎ ((length begun ≡ most_line) × (next ≢ 10)))
 
 -- the fault that comes there, by the next byte or, where there is none, by the ending
 abbrev pub FaultThere : List ℕ → List Record → List ℕ → List ℕ → Ending → TextFault → Type 0
@@ -49,5 +44,5 @@ abbrev pub IsFirstFault : List ℕ → Ending → TextFault → Type 0
 IsFirstFault text e fault = (rs : List Record) × (begun rest : List ℕ) × Stands text rs begun rest × FaultThere text rs begun rest e fault
 
 -- what is to be answered of the bytes and their ending: the records of a text, or the first fault
-abbrev pub IsAnswer : List ℕ → Ending → Result (List Record) TextFault → Type 0
-IsAnswer text e answer = MatchResult answer (λ rs. IsText text rs × (e ≡ at_end)) (λ fault. IsFirstFault text e fault)
+abbrev pub IsTextAnswer : List ℕ → Ending → Result (List Record) TextFault → Type 0
+IsTextAnswer text e answer = MatchResult answer (λ rs. IsText text rs × (e ≡ at_end)) (λ fault. IsFirstFault text e fault)

@@ -2,10 +2,10 @@
 use Rattle.std.specs.Prelude.{◌≡◌, ℕ, ◌≤◌, List, [], ◌∷◌, ◌++◌, length, slice_index}
 use Rattle.std.specs.List.{AllByRecursion}
 use Rattle.std.specs.Str.Parse.{IsNumeral, digits_value}
-use Rattle.wl_record.specs.declared.record.Record.{Record}
-use Rattle.wl_record.specs.declared.record.Record.TheVariants.{Edge, Clash, Silence}
-use Rattle.wl_record.specs.Limits.{most_bytes}
-use Rattle.wl_record.specs.Within.{IsWithin}
+use Rattle.wl_record_core.specs.declared.record.Record.{Record}
+use Rattle.wl_record_core.specs.declared.record.Record.TheVariants.{Edge, Clash, Silence}
+use Rattle.wl_record.specs.Limits.{most_record_bytes}
+use Rattle.wl_record_core.specs.Within.{IsWithin}
 
 -- decimal digits without a leading zero; 0 alone is zero
 pub record IsNumber (text : List ℕ) (n : ℕ) : Type 0 where
@@ -43,4 +43,4 @@ Lines text (r ∷ rs) = (line more : List ℕ) × Spells line r × (text ≡ lin
 pub record IsText (text : List ℕ) (rs : List Record) : Type 0 where
   pub lines : Lines text rs
   pub within : AllByRecursion IsWithin rs
-  pub short : length text ≤ most_bytes
+  pub short : length text ≤ most_record_bytes

@@ -1,13 +1,5 @@
-pub mod Devices
 pub mod Faults
 pub mod Grammar
-pub mod HostLaws
 pub mod Limits
 pub mod Parsing
 pub mod Reading
-pub mod Scripts
-pub mod Slots
-pub mod TableLaws
-pub mod Text
-pub mod Truth
-pub mod Within

@@ -3,7 +3,7 @@ use Rattle.std.specs.Prelude.{◌≡◌, ◌≢◌, ℕ, ◌+◌, ◌≤◌, Lis
 use Rattle.std.specs.List.{AllByRecursion}
 use Rattle.std.specs.Char.{digit_value}
 use Rattle.std.specs.Str.Parse.{AllDigits, digits_value}
-use Rattle.wl_record.specs.declared.record.Record.{Record}
+use Rattle.wl_record_core.specs.declared.record.Record.{Record}
 use Rattle.wl_record.specs.declared.parse.LineFault.{LineFault}
 use Rattle.wl_record.specs.declared.parse.LineFault.TheVariants.{Grammar, Limits}
 use Rattle.wl_record.specs.declared.parse.Stop.{Stop}
@@ -11,11 +11,15 @@ use Rattle.wl_record.specs.declared.parse.Stop.TheVariants.{Open, Long, Refused}
 use Rattle.wl_record.specs.declared.fault.TextFault.{TextFault}
 use Rattle.wl_record.specs.declared.fault.TextFault.TheVariants.{Line, Range, TooLong, Memory}
 use Rattle.wl_record.specs.Limits.{most_line}
-use Rattle.wl_record.specs.Within.{IsWithin}
+use Rattle.wl_record_core.specs.Within.{IsWithin}
 use Rattle.wl_record.specs.Grammar.{IsNumber, letter_of, numbers_of, Spells, Lines}
 use Rattle.wl_record.specs.Faults.{HasNoNewline}
 
--- no digit stands at the front
+-- the record where it is within, none where it is not
+abbrev pub IsOnlyWithin : Record → Option Record → Type 0
+IsOnlyWithin r answer = MatchOption answer (¬ (IsWithin r)) (λ s. (s ≡ r) × IsWithin s)
+
+-- there is no digit at the front
 abbrev pub Stops : List ℕ → Type 0
 Stops [] = Unit {0}
 Stops (b ∷ bytes) = 10 ≤ digit_value b
@@ -48,7 +52,7 @@ FieldsThen bytes (n ∷ ns) rest = (more : List ℕ) × IsField bytes n more × 
 abbrev pub Begins : List ℕ → Record → List ℕ → Type 0
 Begins bytes r rest = (fields : List ℕ) × (bytes ≡ letter_of r ∷ fields) × FieldsThen fields (numbers_of r) rest
 
--- after this letter, the fields of a record and what follows them; the record is told where it is within
+-- after this letter, the fields of a record and what follows them; the record is answered where it is within
 abbrev pub IsFront : ℕ → List ℕ → Option Record → List ℕ → Type 0
 IsFront letter fields told rest = MatchOption told
     ((r : Record) × (letter_of r ≡ letter) × FieldsThen fields (numbers_of r) rest × ¬ (IsWithin r))
@@ -78,13 +82,13 @@ pub record TakesLine (bytes : List ℕ) (r : Record) (rest : List ℕ) : Type 0 
   pub spelled : Spells line r
   pub within : IsWithin r
 
--- why no record's line stands at the front
+-- why there is no record's line at the front
 abbrev pub IsStop : List ℕ → Stop → Type 0
 IsStop bytes Open = HasNoNewline bytes × (length bytes ≤ most_line)
 IsStop bytes Long = (begun : List ℕ) × (next : ℕ) × (more : List ℕ) × (bytes ≡ begun ++ (next ∷ more)) × HasNoNewline begun × (length begun ≡ most_line) × (next ≢ 10)
 IsStop bytes (Refused fault) = (line rest : List ℕ) × HasLine bytes line rest × IsLineFault line fault
 
--- the lines of these records stand at the front, and what follows them has none
+-- the lines of these records are at the front, and what follows them has none
 pub record TakesLines (bytes : List ℕ) (rs : List Record) (rest : List ℕ) : Type 0 where
   pub front : List ℕ
   pub parts : bytes ≡ front ++ rest
@@ -102,7 +106,7 @@ stop_fault (Refused Limits) n = Range n
 abbrev pub past_len : Bool → ℕ
 past_len b = if b then 1 else 0
 
--- A fault in some bytes: lines of records, and then the stop. It is one in an open line where a byte stands past those of a text.
+-- A fault in some bytes: lines of records, and then the stop. It is one in an open line where there is a byte past those of a text.
 pub record StopsAt (bytes : List ℕ) (past : Bool) (rs : List Record) (stop : Stop) : Type 0 where
   pub allowed : List ℕ
   pub beyond : List ℕ

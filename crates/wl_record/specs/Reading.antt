@@ -2,45 +2,28 @@
 use Rattle.std.specs.Prelude.{◌≡◌, ℕ, ◌+◌, ◌++◌, ◌≤◌, List, [], length, refl}
 use Rattle.std.specs.List.{AllByRecursion}
 use Rattle.std.proofs.Common.{arith}
-use Rattle.wl_record.specs.declared.record.Record.{Record}
+use Rattle.wl_record_core.specs.declared.record.Record.{Record}
 use Rattle.wl_record.specs.declared.fault.TextFault.{TextFault}
 use Rattle.wl_record.specs.declared.fault.TextFault.TheVariants.{Memory}
 use Rattle.wl_record.specs.declared.read.Came.{Came}
 use Rattle.wl_record.specs.declared.read.Came.TheVariants.{More, All}
-use Rattle.wl_record.specs.Limits.{most_calls}
-use Rattle.wl_record.specs.Within.{IsWithin}
-use Rattle.wl_record.specs.Devices.{Answer, ended, Run, moved_bytes, AllGoOn, EndsWith, GaveOut}
+use Rattle.wl_device.specs.Limits.{most_calls}
+use Rattle.wl_record.specs.Limits.{most_record_bytes}
+use Rattle.wl_record_core.specs.Within.{IsWithin}
+use Rattle.wl_device.specs.Devices.{Answer, Run, moved_bytes, AllGoOn}
 use Rattle.wl_record.specs.Grammar.{IsText}
-use Rattle.wl_record.specs.Faults.{Ending, at_end, broken_off, going_on, IsFirstFault, Stands}
-
--- how the answers of a reader end
-abbrev pub EndsAs : Ending → List Answer → Type 0
-EndsAs at_end answers = EndsWith answers ended
-EndsAs broken_off answers = GaveOut 0 answers
-EndsAs going_on answers = AllGoOn answers
-
--- A reading: the reader made these answers, and the bytes are what it gave.
-pub record ReadsBy {S : Type 0} (gives : S → Answer → S → Type 0) (s : S) (bytes : List ℕ) (e : Ending) (t : S) (answers : List Answer) : Type 0 where
-  pub run : Run gives s answers t
-  pub bytes_are : moved_bytes answers ≡ bytes
-  pub ends : EndsAs e answers
-  pub few : length answers ≤ most_calls
-
-abbrev pub Reads : {S : Type 0} → (S → Answer → S → Type 0) → S → List ℕ → Ending → S → Type 0
-Reads gives s bytes e t = (answers : List Answer) × ReadsBy gives s bytes e t answers
-
--- before the first call nothing has been given
-pub nothing_given : {S : Type 0} (gives : S → Answer → S → Type 0) (s : S) → Reads gives s [] going_on s
-nothing_given gives s = ([], record { run = refl; bytes_are = refl; ends = tt; few = omega arith })
+use Rattle.wl_device.specs.Readings.{Ending, at_end, going_on, Reads}
+use Rattle.wl_record.specs.Faults.{IsFirstFault, Stands}
 
 -- the records of all that the reader gave up to its end
 abbrev pub RecordsOf : {S : Type 0} → (S → Answer → S → Type 0) → S → List Record → S → Type 0
 RecordsOf gives s rs t = (text : List ℕ) × Reads gives s text at_end t × IsText text rs
 
--- the fault is the first one of what the reader gave; want of memory comes while it goes on
+-- the fault is the first one of what the reader gave, of which no more is read than a text has and one byte; out of memory comes
+-- while it goes on
 abbrev pub FaultOf : {S : Type 0} → (S → Answer → S → Type 0) → S → TextFault → S → Type 0
-FaultOf gives s Memory t = (text : List ℕ) × Reads gives s text going_on t
-FaultOf gives s fault t = (text : List ℕ) × (e : Ending) × Reads gives s text e t × IsFirstFault text e fault
+FaultOf gives s Memory t = (text : List ℕ) × Reads gives s text going_on t × (length text ≤ most_record_bytes + 1)
+FaultOf gives s fault t = (text : List ℕ) × (e : Ending) × Reads gives s text e t × (length text ≤ most_record_bytes + 1) × IsFirstFault text e fault
 
 -- what a reading by pieces keeps between its steps: the calls, bytes and lines so far, and the part of a line
 pub record Progress : Type 0 where
@@ -89,6 +72,6 @@ abbrev pub IsSpent : Progress → Type 0
 IsSpent p = p.calls ≡ most_calls
 
 -- a step after which reading goes on makes one call, and the last one leaves none
-abbrev pub IsNext : Came → Progress → Progress → Type 0
-IsNext More p q = (q.calls ≡ p.calls + 1) × (q.calls ≤ most_calls)
-IsNext All p q = IsSpent q
+abbrev pub CountsCalls : Came → Progress → Progress → Type 0
+CountsCalls More p q = (q.calls ≡ p.calls + 1) × (q.calls ≤ most_calls)
+CountsCalls All p q = IsSpent q

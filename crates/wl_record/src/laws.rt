@@ -1,30 +1,31 @@
 //! Laws of record text: each is the contract of a function that does nothing.
 ghost use Rattle.std.specs.Prelude.{◌≡◌, ◌++◌, ◌↔◌, List, ℕ, Result};
-ghost use Rattle.wl_record.specs.declared.record.Record.{Record};
+ghost use Rattle.wl_record_core.specs.declared.record.Record.{Record};
 ghost use Rattle.wl_record.specs.declared.fault.TextFault.{TextFault};
-ghost use Rattle.wl_record.specs.Within.{IsWithin};
-ghost use Rattle.wl_record.specs.Text.{words_of, text_of};
+ghost use Rattle.wl_record_core.specs.Within.{IsWithin};
+ghost use Rattle.wl_record_core.specs.Text.{words_of, text_of};
 ghost use Rattle.wl_record.specs.Grammar.{Spells, IsText};
-ghost use Rattle.wl_record.specs.Faults.{Ending, going_on, IsFirstFault, IsAnswer};
+ghost use Rattle.wl_device.specs.Readings.{Ending, going_on};
+ghost use Rattle.wl_record.specs.Faults.{IsFirstFault, IsTextAnswer};
 
-/// Some bytes and their ending have one answer: the records of a text, or one fault.
+/// Law: some bytes and their ending have at most one answer: the records of a text, or one fault.
 pub fn one_answer_law()
     ensures { (text : List ℕ) (e : Ending) (a b : Result (List Record) TextFault)
-        → IsAnswer text e a → IsAnswer text e b → a ≡ b }
+        → IsTextAnswer text e a → IsTextAnswer text e b → a ≡ b }
 {}
 
-/// A fault of bytes that go on is that of all the bytes, whatever comes after them and however they end.
+/// Law: a fault of bytes that go on is that of all the bytes, whatever comes after them and however they end.
 pub fn fault_stays_law()
     ensures { (text more : List ℕ) (e : Ending) (fault : TextFault)
         → IsFirstFault text going_on fault → IsFirstFault (text ++ more) e fault }
 {}
 
-/// A record that is within is spelled exactly as it is written.
+/// Law: a record that is within is spelled exactly as it is written.
 pub fn spelling_law()
     ensures { (line : List ℕ) (r : Record) → IsWithin r → Spells line r ↔ (line ≡ words_of r) }
 {}
 
-/// The text of records is that in which they are written, and no other.
+/// Law: the text of records is that in which they are written, and no other.
 pub fn text_law()
     ensures { (text : List ℕ) (rs : List Record) → IsText text rs → text ≡ text_of rs }
 {}

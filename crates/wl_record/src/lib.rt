@@ -1,27 +1,25 @@
 //! Records of the changes of nodes, and their text.
 #![tactic(auto)]
 
-mod device;
 mod fault;
-mod host;
 mod laws;
 mod limits;
 mod parse;
 mod read;
-mod record;
-mod script;
 #[cfg(test)]
 mod tests;
-mod truth;
 mod write;
 
-pub use device::{Got, Put, Sink, Source, WriteFault, send, write_all};
 pub use fault::TextFault;
-pub use host::{Host, host_laws};
 pub use laws::{fault_stays_law, one_answer_law, spelling_law, text_law};
-pub use limits::{MOST_BYTES, MOST_CALLS, MOST_EDGES, MOST_LINE, MOST_NODES, TICK_END};
+pub use limits::{MOST_BYTES, MOST_LINE};
 pub use read::{Came, RecordReader, read_records};
-pub use record::{Record, Slot};
-pub use script::{ScriptedReader, ScriptedWriter, Then};
-pub use truth::{clash_is_never_true, one_tick_a_slot, table_laws, truth_is_its_test};
+pub use wl_device::{
+    Ended, Got, Host, MOST_CALLS, Put, ScriptedReader, ScriptedWriter, Sink, Source, Then,
+    WriteFault, host_laws, read_up_to, send, write_all,
+};
+pub use wl_record_core::{
+    MOST_EDGES, MOST_NODES, Record, Slot, TICK_END, clash_is_never_true, one_tick_a_slot,
+    table_laws, truth_is_its_test,
+};
 pub use write::{text_of, write_records};

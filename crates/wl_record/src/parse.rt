@@ -2,9 +2,9 @@
 ghost use Rattle.std.specs.Prelude.{◌≡◌, ◌↔◌, ◌+◌, ◌<◌, ◌≤◌, ℕ, List, length, take, slice_index, IfSome, IfNone, IfOk, IfErr, MatchOption, IsTrue, [], ◌∷◌, ◌++◌};
 ghost use Rattle.std.specs.Char.{digit_value};
 
-use crate::limits::{MOST_EDGES, MOST_LINE, MOST_NODES, TICK_END};
-use crate::record::Record;
+use crate::limits::MOST_LINE;
 use std::alloc::AllocError;
+use wl_record_core::{MOST_EDGES, MOST_NODES, Record, TICK_END};
 
 /// Why a line is refused.
 #[derive(Clone, Copy, Debug, PartialEq, Eq)]
@@ -20,7 +20,7 @@ pub enum LineFault {
 pub enum Stop {
     /// They end before a newline, and a line may still come of them.
     Open,
-    /// More bytes stand before a newline than a line has.
+    /// There are more bytes before a newline than a line has.
     Long,
     /// A line that is refused.
     Refused(LineFault),
@@ -28,7 +28,7 @@ pub enum Stop {
 
 ghost use Rattle.wl_record.specs.Parsing.{IsDigits, IsField, FieldsThen, capped};
 
-/// More than any number that is within. Greater numbers in a text are told as this one.
+/// More than any number that is within. Greater numbers in a text are read as this one.
 const CAP: u64 = 1_000_000_000_000_000_000;
 
 fn is_digit(byte: u8) -> bool
@@ -98,18 +98,18 @@ fn three_fields(bytes: &[u8]) -> Option<(u64, u64, u64, &[u8])>
     Some((first, second, third, rest))
 }
 
-ghost use Rattle.wl_record.specs.declared.record.Record.{Record};
-ghost use Rattle.wl_record.specs.declared.record.Record.TheVariants.{Edge, Clash, Silence};
+ghost use Rattle.wl_record_core.specs.declared.record.Record.{Record};
+ghost use Rattle.wl_record_core.specs.declared.record.Record.TheVariants.{Edge, Clash, Silence};
 ghost use Rattle.wl_record.specs.Grammar.{letter_of, numbers_of, Spells};
 ghost use Rattle.wl_record.specs.Limits.{most_line};
-ghost use Rattle.wl_record.specs.Within.{IsWithin};
+ghost use Rattle.wl_record_core.specs.Within.{IsWithin};
 ghost use Rattle.wl_record.specs.Faults.{HasNoNewline};
-ghost use Rattle.wl_record.specs.Parsing.{IsFront, IsRecordFront, Begins, IsLineFault, TakesLine, IsStop};
+ghost use Rattle.wl_record.specs.Parsing.{IsFront, IsOnlyWithin, IsRecordFront, Begins, IsLineFault, TakesLine, IsStop};
 
 /// The edge with these numbers, if it is within.
-#[tactic(auto, unfolding(crate::specs::Limits::most_nodes, crate::specs::Limits::most_edges, crate::specs::Limits::tick_end))]
+#[tactic(auto, unfolding(wl_record_core::specs::Limits::most_nodes, wl_record_core::specs::Limits::most_edges, wl_record_core::specs::Limits::tick_end))]
 fn edge(node: u64, seq: u64, tick: u64) -> Option<Record>
-    ensures { MatchOption result (¬ (IsWithin (Edge node seq tick))) (λ r. (r ≡ Edge node seq tick) × IsWithin r) }
+    ensures { IsOnlyWithin (Edge node seq tick) result }
 {
     if node < u64::from(MOST_NODES) && seq < u64::from(MOST_EDGES) && tick < TICK_END {
         let (node, seq) = (node as u8, seq as u32);
@@ -120,9 +120,9 @@ fn edge(node: u64, seq: u64, tick: u64) -> Option<Record>
 }
 
 /// The clash with these numbers, if it is within.
-#[tactic(auto, unfolding(crate::specs::Limits::most_nodes, crate::specs::Limits::most_edges, crate::specs::Limits::tick_end))]
+#[tactic(auto, unfolding(wl_record_core::specs::Limits::most_nodes, wl_record_core::specs::Limits::most_edges, wl_record_core::specs::Limits::tick_end))]
 fn clash(node: u64, seq: u64) -> Option<Record>
-    ensures { MatchOption result (¬ (IsWithin (Clash node seq))) (λ r. (r ≡ Clash node seq) × IsWithin r) }
+    ensures { IsOnlyWithin (Clash node seq) result }
 {
     if node < u64::from(MOST_NODES) && seq < u64::from(MOST_EDGES) {
         let (node, seq) = (node as u8, seq as u32);
@@ -133,9 +133,9 @@ fn clash(node: u64, seq: u64) -> Option<Record>
 }
 
 /// The silence with these numbers, if it is within.
-#[tactic(auto, unfolding(crate::specs::Limits::most_nodes, crate::specs::Limits::most_edges, crate::specs::Limits::tick_end))]
+#[tactic(auto, unfolding(wl_record_core::specs::Limits::most_nodes, wl_record_core::specs::Limits::most_edges, wl_record_core::specs::Limits::tick_end))]
 fn silence(node: u64, count: u64, until: u64) -> Option<Record>
-    ensures { MatchOption result (¬ (IsWithin (Silence node count until))) (λ r. (r ≡ Silence node count until) × IsWithin r) }
+    ensures { IsOnlyWithin (Silence node count until) result }
 {
     if node < u64::from(MOST_NODES) && count <= u64::from(MOST_EDGES) && until < TICK_END {
         let (node, count) = (node as u8, count as u32);
@@ -145,7 +145,7 @@ fn silence(node: u64, count: u64, until: u64) -> Option<Record>
     }
 }
 
-/// The fields of an edge, and what follows them. The edge is told where it is within.
+/// The fields of an edge, and what follows them. The edge is answered where it is within.
 fn edge_front(fields: &[u8]) -> Option<(Option<Record>, &[u8])>
     ensures found { IfSome result (λ f. IsFront 69 fields.now f.0 f.1.now) }
     ensures none { IfNone result ((r : Record) (rest : List ℕ)
@@ -181,7 +181,7 @@ fn silence_front(fields: &[u8]) -> Option<(Option<Record>, &[u8])>
     Some((silence(node, count, until), rest))
 }
 
-/// A record's letter and fields at the front, and what follows them. The record is told where it is within.
+/// A record's letter and fields at the front, and what follows them. The record is answered where it is within.
 fn record_front(bytes: &[u8]) -> Option<(Option<Record>, &[u8])>
     ensures found { IfSome result (λ f. IsRecordFront bytes.now f.0 f.1.now) }
     ensures none { IfNone result ((r : Record) (rest : List ℕ) → ¬ (Begins bytes.now r rest)) }
@@ -211,7 +211,7 @@ fn parse_line(line: &[u8]) -> Result<Record, LineFault>
     }
 }
 
-/// Where the first newline stands, if it does among the bytes of a line and the one after.
+/// Where the first newline is, if it is among the bytes of a line and the one after.
 fn newline_at(bytes: &[u8]) -> Option<usize>
     ensures found { IfSome result (λ at. (at ≤ most_line) × (at < length bytes.now)
         × HasNoNewline (take at bytes.now) × (slice_index bytes.now at ≡ 10)) }
@@ -225,7 +225,7 @@ fn newline_at(bytes: &[u8]) -> Option<usize>
     None
 }
 
-/// The record whose line stands at the front, and what follows its newline; or why there is none.
+/// The record whose line is at the front, and what follows its newline; or why there is none.
 #[cold]
 #[inline(never)]
 fn slow_line(bytes: &[u8]) -> Result<(Record, &[u8]), Stop>
@@ -260,7 +260,7 @@ fn take_line(bytes: &[u8]) -> Result<(Record, &[u8]), Stop>
 
 ghost use Rattle.wl_record.specs.Parsing.{TakesLines, Appends};
 
-/// Appends the records of the whole lines at the front. Answers what follows them, and why no line stands there.
+/// Appends the records of the whole lines at the front. Answers what follows them, and why there is no line.
 pub fn take_lines<'a>(
     bytes: &'a [u8],
     records: &mut Vec<Record>,

@@ -1,21 +1,21 @@
 //! Reading records from a reader, piece by piece.
 ghost use Rattle.std.specs.Prelude.{◌≡◌, ◌↔◌, ◌<◌, ◌≤◌, ◌+◌, ◌++◌, ◌-◌, ◌^◌, length, take, drop, List, IfOk, IfErr, Err, IsTrue};
 
-use crate::device::{Got, Source};
 use crate::fault::TextFault;
-use crate::limits::{MOST_BYTES, MOST_CALLS};
+use crate::limits::MOST_BYTES;
 use crate::parse::{LineFault, Stop, take_lines};
-use crate::record::Record;
 use std::alloc::{AllocError, Global};
 use std::marker::Model;
 use std::vec;
+use wl_device::{Got, MOST_CALLS, Source};
+use wl_record_core::Record;
 
 /// How many bytes are asked for in one call.
 const PIECE: usize = 65_536;
 
-ghost use Rattle.wl_record.specs.Devices.{read_answer, FitsBuffer};
+ghost use Rattle.wl_device.specs.Devices.{read_answer, FitsBuffer};
 
-/// One call that asks for at most `most` bytes, behind the first `have` of the buffer.
+/// One call that asks for at most `most` bytes, after the first `have` of the buffer.
 fn read_behind<R: Source>(reader: &mut R, buffer: &mut Vec<u8>, have: usize, most: usize) -> Got
     requires room { have < length buffer.old.items }
     requires some { 0 < most }
@@ -28,7 +28,7 @@ fn read_behind<R: Source>(reader: &mut R, buffer: &mut Vec<u8>, have: usize, mos
     reader.read(&mut buffer[have..end])
 }
 
-ghost use Rattle.wl_record.specs.declared.record.Record.{Record};
+ghost use Rattle.wl_record_core.specs.declared.record.Record.{Record};
 ghost use Rattle.wl_record.specs.declared.parse.Stop.TheVariants.{Open};
 ghost use Rattle.wl_record.specs.Parsing.{TakesPiece, IsPieceFault, Appends, stop_fault};
 
@@ -108,7 +108,8 @@ pub struct RecordReader {
 
 impl Model for RecordReader {
     ghost use Rattle.std.specs.Prelude.{◌+◌, ◌^◌, ◌<◌, ◌≤◌, length, take};
-    ghost use Rattle.wl_record.specs.Limits.{most_bytes, most_calls, most_line};
+    ghost use Rattle.wl_device.specs.Limits.{most_calls};
+    ghost use Rattle.wl_record.specs.Limits.{most_record_bytes, most_line};
     ghost use Rattle.wl_record.specs.Reading.{Progress};
 
     ghost Value = { Progress };
@@ -121,15 +122,15 @@ impl Model for RecordReader {
     } };
 
     ghost invariant = { λ r. (r.begun ≤ most_line) × (most_line < length r.buffer.items)
-        × (length r.buffer.items < 2 ^ 32) × (r.calls ≤ most_calls) × (r.bytes ≤ most_bytes)
+        × (length r.buffer.items < 2 ^ 32) × (r.calls ≤ most_calls) × (r.bytes ≤ most_record_bytes)
         × (r.lines + r.begun ≤ r.bytes) };
 }
 
 impl RecordReader {
-    ghost use Rattle.wl_record.specs.Reading.{beginning, GoesOnWith, FaultsWith, IsNext, IsSpent};
+    ghost use Rattle.wl_record.specs.Reading.{beginning, GoesOnWith, FaultsWith, CountsCalls, IsSpent};
     ghost use Rattle.wl_record.specs.declared.fault.TextFault.TheVariants.{Read};
 
-    /// A reading that has made no call yet. Takes memory for one piece, and is refused for want of it alone.
+    /// A reading that has made no call yet. Takes memory for one piece, and is refused only when out of memory.
     pub fn new(alloc: Global) -> Result<RecordReader, AllocError>
         ensures { IfOk result (λ r. r ≡ beginning) }
     {
@@ -152,7 +153,7 @@ impl RecordReader {
     ) -> Result<Came, TextFault>
         ensures came { IfOk result (λ came. (rs : List Record) × (records.new.items ≡ records.old.items ++ rs)
             × GoesOnWith R.gives self.old reader.old came rs self.new reader.new) }
-        ensures steps { IfOk result (λ came. IsNext came self.old self.new) }
+        ensures steps { IfOk result (λ came. CountsCalls came self.old self.new) }
         ensures fault { IfErr result (λ fault. FaultsWith R.gives self.old reader.old fault reader.new) }
         ensures grows { IfErr result (λ _. Appends records.old.items records.new.items) }
         ensures spent { IfErr result (λ _. IsSpent self.new) }

@@ -1,12 +1,12 @@
 //! Records as text.
 ghost use Rattle.std.specs.Prelude.{◌≡◌, ◌+◌, ◌++◌, ◌<◌, ◌≤◌, ◌∷◌, length, take, drop, IfOk};
 ghost use Rattle.std.specs.Fmt.{decimal};
-ghost use Rattle.wl_record.specs.Text.{line_of, text_of};
+ghost use Rattle.wl_record_core.specs.Text.{text_line, text_of};
 
-use crate::device::{Sink, WriteFault, send};
-use crate::record::Record;
 use itoa::write_digits;
 use std::alloc::{AllocError, Global};
+use wl_device::{Sink, WriteFault, send};
+use wl_record_core::Record;
 
 /// Enough for the line of any record, with its newline.
 const LINE_ROOM: usize = 40;
@@ -53,7 +53,7 @@ fn place_before(line: &mut [u8], end: usize, letter: u8, node: u8, place: u32) -
 #[tactic(auto, using(crate::proofs::WriteLemmas::long_length))]
 fn line_at_end(line: &mut [u8; LINE_ROOM], told: &Record) -> usize
     ensures within { result ≤ 40 }
-    ensures put { drop result line.new ≡ line_of told.now }
+    ensures put { drop result line.new ≡ text_line told.now }
 {
     let end = put_before(line, LINE_ROOM, b'\n');
     match *told {
@@ -69,7 +69,7 @@ fn line_at_end(line: &mut [u8; LINE_ROOM], told: &Record) -> usize
     }
 }
 
-/// The text of the records, within their limits or not. Refused for want of memory alone.
+/// The text of the records, within their limits or not. Refused only when out of memory.
 pub fn text_of(alloc: Global, records: &[Record]) -> Result<Vec<u8>, AllocError>
     ensures { IfOk result (λ text. text.items ≡ text_of records.now) }
 {
@@ -85,11 +85,11 @@ pub fn text_of(alloc: Global, records: &[Record]) -> Result<Vec<u8>, AllocError>
 /// How many bytes go out in one piece.
 const CHUNK: usize = 4_096;
 
-/// Puts the line of a record behind the first `filled` bytes. Answers how many are filled then.
+/// Puts the line of a record after the first `filled` bytes. Answers how many are filled then.
 fn push_line(chunk: &mut [u8], filled: usize, told: &Record) -> usize
     requires { filled + 40 ≤ length chunk.old }
     ensures within { result ≤ length chunk.new }
-    ensures put { take result chunk.new ≡ take filled chunk.old ++ line_of told.now }
+    ensures put { take result chunk.new ≡ take filled chunk.old ++ text_line told.now }
     ensures len { length chunk.new ≡ length chunk.old }
 {
     let mut line = [0u8; LINE_ROOM];
@@ -99,10 +99,10 @@ fn push_line(chunk: &mut [u8], filled: usize, told: &Record) -> usize
     end
 }
 
-ghost use Rattle.wl_record.specs.Devices.{Writes};
+ghost use Rattle.wl_device.specs.Devices.{Writes};
 
-/// Writes the text of the records, by pieces and without memory, in at most `MOST_CALLS` calls. On a fault a front of
-/// the text has gone out, and not all.
+/// Writes the text of the records, by pieces and without memory, in at most `MOST_CALLS` calls. On a fault a prefix of
+/// the text has been written, and not all.
 pub fn write_records<W: Sink>(records: &[Record], writer: &mut W) -> Result<(), WriteFault>
     ensures { Writes W.takes writer.old (text_of records.now) result writer.new }
 {

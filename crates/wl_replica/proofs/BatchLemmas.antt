@@ -1,5 +1,5 @@
 -- Several records taken at once: their slots, and what they join in.
-use Rattle.std.specs.Prelude.{◌≡◌, ℕ, zero, suc, ◌<◌, ◌≤◌, ◌+◌, Bool, true, false, cond, List, [], ◌∷◌, ◌++◌, Option, None, Some, IsSome, length, drop, refl}
+use Rattle.std.specs.Prelude.{◌≡◌, ℕ, suc, ◌<◌, ◌+◌, Bool, true, false, cond, List, [], ◌∷◌, ◌++◌, Option, None, Some, IsSome, length, drop, refl}
 use Rattle.std.specs.List.{filter_map, cons_option, AllByRecursion}
 use Rattle.std.specs.Ordering.{eq_by_cmp}
 use Rattle.std.specs.FinMap.{same_map}
@@ -10,15 +10,16 @@ use Rattle.std.proofs.Math.Seq.{drop-cons}
 use Rattle.wl_lattice.specs.declared.FlatWord.{FlatWord}
 use Rattle.wl_lattice.specs.declared.FlatWord.TheVariants as flat
 use Rattle.wl_lattice.specs.declared.MaxWord.{MaxWord}
-use Rattle.wl_lattice.specs.Laws.{JoinLaws}
 use Rattle.wl_lattice.specs.Words.{joined_flat, joined_max, max_word}
-use Rattle.wl_lattice.specs.Maps.{joined_options, joined_maps, map_of, words_at}
-use Rattle.wl_lattice.proofs.MapLemmas.{options_commute, options_associate, get-joined_maps, get-map_of}
-use Rattle.wl_record.specs.declared.record.Record.{Record}
-use Rattle.wl_record.specs.declared.record.Record.TheVariants.{Edge, Clash, Silence}
+use Rattle.wl_lattice.specs.Maps.{joined_options, joined_maps, map_of, words_at, MapLaws}
+use Rattle.wl_record_core.specs.declared.record.Record.{Record}
+use Rattle.wl_record_core.specs.declared.record.Slot.{Slot}
+use Rattle.wl_record_core.specs.declared.record.Slot.TheVariants.{EdgeAt, SilenceAt}
+use Rattle.wl_record_core.specs.Slots.{slot_of}
+use Rattle.wl_replica.proofs.CallerLemmas.{nothing_more}
 use Rattle.wl_replica.specs.Keys.{Key, key_cmp}
-use Rattle.wl_lattice.specs.WordLaws.{flat_laws, max_laws}
-use Rattle.wl_replica.specs.Kept.{word_in, joined_all, shown, holds_edge, holds_silence, AreKept, HasSlot, HasSlots}
+use Rattle.wl_replica.proofs.States.{edge_maps, silence_maps}
+use Rattle.wl_replica.specs.Kept.{word_in, joined_all, words_shown, holds_edge, holds_silence, AreKept, HasSlot, HaveSlots}
 use Rattle.wl_replica.specs.State.{State, edge_word, silence_word, taken_all, Fits, FitsEdge, FitsSilence}
 use Rattle.wl_replica.proofs.RoundTrip.{edge_words_held, silence_words_held}
 use Rattle.wl_replica.proofs.States.{same_parts}
@@ -33,26 +34,19 @@ abbrev pub HasKeysOf : {W : Type 0} → BTreeMap Key W → BTreeMap Key W → Ty
 HasKeysOf m n = (q : Key) → IsSome (tree.get key_cmp m q) → IsSome (tree.get key_cmp n q)
 
 pub slot_stays : (edges new_edges : BTreeMap Key FlatWord) (silences new_silences : BTreeMap Key MaxWord) → HasKeysOf edges new_edges → HasKeysOf silences new_silences
-    → (r : Record) → HasSlot edges silences r → HasSlot new_edges new_silences r
-slot_stays edges new_edges silences new_silences p q (Edge i s t) h = p (i, s) h
-slot_stays edges new_edges silences new_silences p q (Clash i s) h = p (i, s) h
-slot_stays edges new_edges silences new_silences p q (Silence i n u) h = q (i, n) h
+    → (slot : Slot) → HasSlot edges silences slot → HasSlot new_edges new_silences slot
+slot_stays edges new_edges silences new_silences p q (EdgeAt i s) h = p (i, s) h
+slot_stays edges new_edges silences new_silences p q (SilenceAt i n) h = q (i, n) h
 
-pub slots_stay : (edges new_edges : BTreeMap Key FlatWord) (silences new_silences : BTreeMap Key MaxWord) → HasKeysOf edges new_edges → HasKeysOf silences new_silences
-    → (rs : List Record) → HasSlots edges silences rs → HasSlots new_edges new_silences rs
-slots_stay edges new_edges silences new_silences p q [] h = tt
-slots_stay edges new_edges silences new_silences p q (r ∷ rs) h =
-    (slot_stays edges new_edges silences new_silences p q r h.0, slots_stay edges new_edges silences new_silences p q rs h.1)
+pub have_slots_stay : (edges new_edges : BTreeMap Key FlatWord) (silences new_silences : BTreeMap Key MaxWord) → HasKeysOf edges new_edges → HasKeysOf silences new_silences
+    → (rs : List Record) → HaveSlots edges silences rs → HaveSlots new_edges new_silences rs
+have_slots_stay edges new_edges silences new_silences p q [] h = tt
+have_slots_stay edges new_edges silences new_silences p q (r ∷ rs) h =
+    (slot_stays edges new_edges silences new_silences p q (slot_of r) h.0, have_slots_stay edges new_edges silences new_silences p q rs h.1)
 
--- one record and those behind it
-pub next_record : (rs : List Record) (i : ℕ) (d : Record) → i < length rs → drop i rs ≡ get_or rs i d ∷ drop (i + 1) rs
-next_record rs i d lt = drop-cons rs i d lt ∙ ap (λ k. get_or rs i d ∷ drop k rs) (let next : suc i ≡ i + 1 = omega arith in next)
-
-pub none_left : (rs : List Record) (i : ℕ) → length rs ≤ i → drop i rs ≡ []
-none_left [] zero h = refl
-none_left [] (suc i) h = refl
-none_left (r ∷ rs) zero h = absurd (omega arith)
-none_left (r ∷ rs) (suc i) h = none_left rs i (omega arith)
+-- one place of a list and those after it
+pub next_one : {X : Type 0} (xs : List X) (i : ℕ) (d : X) → i < length xs → drop i xs ≡ get_or xs i d ∷ drop (i + 1) xs
+next_one xs i d lt = drop-cons xs i d lt ∙ ap (λ k. get_or xs i d ∷ drop k xs) (let next : suc i ≡ i + 1 = omega arith in next)
 
 -- entries of one more, in two steps
 pub joined_all-append : {W : Type 0} (join : W → W → W) (v : W) (es fs : List (Key × W)) (q : Key) → joined_all join v (es ++ fs) q ≡ joined_all join (joined_all join v es q) fs q
@@ -67,30 +61,26 @@ joined_all-first {W} join f v r rs q = first (f r) where
   first (Some e) = refl
 
 -- ---- what a map shows once all that some entries have is joined in
-module _ {W : Type 0} {is_word : W → Type 0} {least : W} {join : W → W → W} {holds : W → Bool} (laws : JoinLaws is_word least join) (tells : Tells least join holds) where
-  nothing_more : (a : Option W) → a ≡ joined_options join a None
-  nothing_more None = refl
-  nothing_more (Some v) = refl
-
+module _ {W : Type 0} {least : W} {join : W → W → W} {holds : W → Bool} (laws : MapLaws {K = Key} key_cmp join) (tells : Tells least join holds) where
   one_first : (b : Bool) (v w : W) (rest : Option W) → holds w ≡ true
       → joined_options join (seen laws tells (cond b (join v w) v)) rest ≡ joined_options join (seen laws tells v) (cond b (joined_options join rest (Some w)) rest)
   one_first true v w rest h =
       ap (λ o. joined_options join o rest) (seen-join laws tells v w ∙ ap (λ c. joined_options join (seen laws tells v) (cond c (Some w) None)) h)
-      ∙ (options_associate laws (seen laws tells v) (Some w) rest ∙ ap (joined_options join (seen laws tells v)) (options_commute laws (Some w) rest))
+      ∙ (laws.options_associate (seen laws tells v) (Some w) rest ∙ ap (joined_options join (seen laws tells v)) (laws.options_commute (Some w) rest))
   one_first false v w rest h = refl
 
   seen_joined_all : (es : List (Key × W)) → AllByRecursion (λ e. holds e.1 ≡ true) es → (v : W) (q : Key)
       → seen laws tells (joined_all join v es q) ≡ joined_options join (seen laws tells v) (words_at key_cmp join es q)
-  seen_joined_all [] h v q = nothing_more (seen laws tells v)
+  seen_joined_all [] h v q = sym (nothing_more join (seen laws tells v))
   seen_joined_all (e ∷ es) h v q =
       seen_joined_all es h.1 (cond (eq_by_cmp key_cmp q e.0) (join v e.1) v) q ∙ one_first (eq_by_cmp key_cmp q e.0) v e.1 (words_at key_cmp join es q) h.0
 
   pub shown_all : (m n : BTreeMap Key W) (es : List (Key × W)) → IsOrdered key_cmp m → IsOrdered key_cmp n → AllByRecursion (λ e. holds e.1 ≡ true) es
       → ((q : Key) → word_in least n q ≡ joined_all join (word_in least m q) es q)
-      → shown holds n.entries ≡ joined_maps join (shown holds m.entries) (map_of key_cmp join es)
+      → words_shown holds n.entries ≡ joined_maps join (words_shown holds m.entries) (map_of key_cmp join es)
   shown_all m n es h l held is = same_map key_cmp_total exact_keys _ _ (λ q.
       get-shown laws tells n l q ∙ (ap (seen laws tells) (is q) ∙ (seen_joined_all es held (word_in least m q) q
-      ∙ ((λ i. joined_options join (sym (get-shown laws tells m h q) i) (sym (get-map_of laws key_cmp_total es q) i)) ∙ sym (get-joined_maps laws key_cmp_total (shown holds m.entries) _ q)))))
+      ∙ ((λ i. joined_options join (sym (get-shown laws tells m h q) i) (sym (laws.of_entries es q) i)) ∙ sym (laws.key_by_key (words_shown holds m.entries) _ q)))))
 
 -- what holds of a word and of each entry holds of them joined
 pub all_keep : {W : Type 0} (P : Key × W → Type 0) (join : W → W → W) → ((k : Key) (v w : W) → P (k, v) → P (k, w) → P (k, join v w))
@@ -115,9 +105,9 @@ module _ (nodes : ℕ) (edges new_edges : BTreeMap Key FlatWord) (silences new_s
     silences_fit = λ k. subst (λ w. FitsSilence nodes (k, w)) (sym (s k)) (all_keep (FitsSilence nodes) joined_max (silence_fits nodes) (filter_map silence_word rs) (silence_words_fit nodes rs fit) k _ (kept.silences_fit k));
   }
 
-  pub all_shown : (t : State) → ◌≡◌ {A = State} (record { nodes = nodes; edges = shown holds_edge edges.entries; silences = shown holds_silence silences.entries }) t
-      → ◌≡◌ {A = State} (record { nodes = nodes; edges = shown holds_edge new_edges.entries; silences = shown holds_silence new_silences.entries }) (taken_all t rs)
+  pub all_shown : (t : State) → ◌≡◌ {A = State} (record { nodes = nodes; edges = words_shown holds_edge edges.entries; silences = words_shown holds_silence silences.entries }) t
+      → ◌≡◌ {A = State} (record { nodes = nodes; edges = words_shown holds_edge new_edges.entries; silences = words_shown holds_silence new_silences.entries }) (taken_all t rs)
   all_shown t is =
-      same_parts _ _ _ _ _ _ refl (shown_all flat_laws tells_edge edges new_edges (filter_map edge_word rs) kept.edges_ordered p (edge_words_held rs) e)
-      (shown_all max_laws tells_silence silences new_silences (filter_map silence_word rs) kept.silences_ordered q (silence_words_held rs) s)
+      same_parts _ _ _ _ _ _ refl (shown_all edge_maps tells_edge edges new_edges (filter_map edge_word rs) kept.edges_ordered p (edge_words_held rs) e)
+      (shown_all silence_maps tells_silence silences new_silences (filter_map silence_word rs) kept.silences_ordered q (silence_words_held rs) s)
       ∙ ap (λ u. taken_all u rs) is

@@ -4,14 +4,15 @@ use Rattle.std.specs.List.{filter_map, cons_option, flat_map, range_with_len}
 use Rattle.std.specs.BTreeMap.{BTreeMap, IsOrdered}
 use Rattle.std.specs.FinMap.{entries-from_sorted}
 use Rattle.std.proofs.Common.{sym, ap, ◌∙◌, arith}
+use Rattle.std.proofs.lemmas.List.{append-nil}
 use Rattle.std.proofs.lemmas.Grind.{flat_map-append}
 use Prim.Native.Nat.{zero, suc}
 use Rattle.wl_lattice.specs.declared.FlatWord.{FlatWord}
 use Rattle.wl_lattice.specs.declared.FlatWord.TheVariants as flat
 use Rattle.wl_lattice.specs.declared.MaxWord.{MaxWord}
-use Rattle.wl_record.specs.declared.record.Record.{Record}
+use Rattle.wl_record_core.specs.declared.record.Record.{Record}
 use Rattle.wl_replica.specs.Keys.{Key, key_cmp}
-use Rattle.wl_replica.specs.Kept.{shown}
+use Rattle.wl_replica.specs.Kept.{words_shown}
 use Rattle.wl_replica.specs.Canonical.{edge_record, silence_record, of_node, records_of_node, canonical}
 use Rattle.wl_replica.specs.Kept.{holds_edge, holds_silence}
 use Rattle.wl_replica.proofs.Shown.{sorted_filter}
@@ -41,17 +42,13 @@ no_silence e h = zero_is (e.1.word == 0) _ h where
   zero_is true o g = refl
   zero_is false o g = cc
 
-pub nothing_after : {A : Type 0} (xs : List A) → xs ++ [] ≡ xs
-nothing_after [] = refl
-nothing_after (x ∷ xs) = ap (λ ys. x ∷ ys) (nothing_after xs)
-
 pub same_of_each : {A B : Type 0} (f g : A → List B) → ((x : A) → f x ≡ g x) → (xs : List A) → flat_map f xs ≡ flat_map g xs
 same_of_each f g h [] = refl
 same_of_each f g h (x ∷ xs) = λ i. h x i ++ same_of_each f g h xs i
 
 pub canonical_of_kept : (nodes : ℕ) (edges : BTreeMap Key FlatWord) (silences : BTreeMap Key MaxWord) → IsOrdered key_cmp edges → IsOrdered key_cmp silences
     → flat_map (records_of_node edges.entries silences.entries) (range_with_len 0 nodes)
-    ≡ canonical (record { nodes = nodes; edges = shown holds_edge edges.entries; silences = shown holds_silence silences.entries })
+    ≡ canonical (record { nodes = nodes; edges = words_shown holds_edge edges.entries; silences = words_shown holds_silence silences.entries })
 canonical_of_kept nodes edges silences h k =
     let es = entries-from_sorted key_cmp (filter (λ f. holds_edge f.1) edges.entries) (sorted_filter holds_edge edges.entries h) in
     let ss = entries-from_sorted key_cmp (filter (λ f. holds_silence f.1) silences.entries) (sorted_filter holds_silence silences.entries k) in
@@ -70,7 +67,7 @@ pub flat_map-range_last : {A : Type 0} (f : ℕ → List A) (n : ℕ) → flat_m
 flat_map-range_last f n =
     let last : 0 + n ≡ n = omega arith in
     ap (flat_map f) (range_last 0 n) ∙ (flat_map-append f (range_with_len 0 n) ((0 + n) ∷ [])
-    ∙ (ap (λ m. flat_map f (range_with_len 0 n) ++ (f m ++ [])) last ∙ ap (λ z. flat_map f (range_with_len 0 n) ++ z) (nothing_after (f n))))
+    ∙ (ap (λ m. flat_map f (range_with_len 0 n) ++ (f m ++ [])) last ∙ ap (λ z. flat_map f (range_with_len 0 n) ++ z) (append-nil (f n))))
 
 -- the records of one node more
 pub one_node_more : (f : ℕ → List Record) (n : ℕ) → flat_map f (range_with_len 0 (n + 1)) ≡ flat_map f (range_with_len 0 n) ++ f n

@@ -1,8 +1,9 @@
 -- A tick is in the intervals of an increasing list where an odd number of its edges lies at it or before.
-use Rattle.std.proofs.Common.{◌≡◌, ℕ, suc, ◌<◌, Bool, true, false, not, ◌&&◌, ◌||◌, inl, inr, List, [], ◌∷◌, refl, sym, ◌∙◌, ap, arith, nat_lt, nat_le}
+use Rattle.std.proofs.Math.Bool.{not-not}
+use Rattle.std.proofs.Common.{◌≡◌, ℕ, suc, ◌<◌, Bool, true, false, ◌&&◌, ◌||◌, inl, inr, List, [], ◌∷◌, refl, sym, ◌∙◌, ap, arith, nat_lt, nat_le}
 use Rattle.std.proofs.lemmas.Bool.{cases_lt, le-leb, lt-leb, lt-ltb, le-ltb, and_left, and_right, and_from}
-use Rattle.wl_record.specs.Truth.{count_below, IsIncreasing, odd}
-use Rattle.wl_record.specs.TableLaws.{TableLaws}
+use Rattle.wl_record_core.specs.Truth.{count_below, IsIncreasing, odd}
+use Rattle.wl_record_core.specs.TableLaws.{TableLaws}
 use Rattle.wl_intervals.specs.Pairs.{covers}
 use Rattle.wl_replica.specs.Known.{intervals}
 
@@ -11,10 +12,6 @@ or_true a b h = ap (λ v. v || b) h
 
 or_false : (a b : Bool) → a ≡ false → (a || b) ≡ b
 or_false a b h = ap (λ v. v || b) h
-
-not_not : (b : Bool) → not (not b) ≡ b
-not_not true = refl
-not_not false = refl
 
 module _ (tables : TableLaws) where
   open tables use {count_first, skip_first, count_none, count_less}
@@ -54,6 +51,6 @@ module _ (tables : TableLaws) where
               let c = count_first (suc t) y xs (omega arith) in
               let n : count_below (suc t) (x ∷ y ∷ xs) ≡ suc (suc (count_below (suc t) xs)) = omega arith in
               or_false (nat_le x t && nat_lt t y) (covers (intervals xs h) t) (and_right _ _ (le-ltb t y past))
-              ∙ (r ∙ sym (ap odd n ∙ not_not (odd (count_below (suc t) xs))))
+              ∙ (r ∙ sym (ap odd n ∙ not-not (odd (count_below (suc t) xs))))
         ]
       ]

@@ -1,5 +1,5 @@
 -- The entries of the map that a list of entries makes: what holds of each, and what they come to.
-use Rattle.std.specs.Prelude.{◌≡◌, ℕ, ◌+◌, ◌≤◌, Bool, true, false, cond, T, ◌&&◌, List, [], ◌∷◌, Option, None, Some, unwrap_or, length, refl}
+use Rattle.std.specs.Prelude.{◌≡◌, ℕ, ◌+◌, ◌≤◌, Bool, true, false, cond, T, ◌&&◌, List, [], ◌∷◌, Option, None, Some, unwrap_or, refl}
 use Rattle.std.specs.Option.{option_map}
 use Rattle.std.specs.List.{AllByRecursion}
 use Rattle.std.specs.declared.cmp.Ordering.{Ordering}
@@ -9,7 +9,9 @@ use Rattle.std.specs.Cmp.{IsTotalOrder}
 use Rattle.std.specs.FinMap.{entries, entries-insert, get-entries, entries_sorted, empty, len-entries, len-empty, IsAntisymmetric}
 use Rattle.std.specs.FinMap.Entries.{find, put, by_order, is_sorted, below_all}
 use Rattle.std.proofs.Common.{sym, ap, subst, ◌∙◌, arith}
+use Rattle.std.proofs.lemmas.List.{nil_from_length}
 use Rattle.wl_lattice.specs.Maps.{map_of}
+use Rattle.wl_replica.proofs.KeptLemmas.{tied_by}
 
 -- a word with what was found joined in before it
 abbrev pub grown : {W : Type 0} → (W → W → W) → Option W → W → W
@@ -20,22 +22,13 @@ abbrev pub listed : {K W : Type 0} → (K → K → Ordering) → (W → W → W
 listed R join [] = []
 listed R join (e ∷ es) = let rest = listed R join es in put R e.0 (grown join (find R e.0 rest) e.1) rest
 
-empty_list : {A : Type 0} (xs : List A) → length xs ≡ 0 → xs ≡ []
-empty_list [] e = refl
-empty_list (x ∷ xs) e = absurd (omega arith)
-
 pub entries-map_of : {K W : Type 0} {R : K → K → Ordering} (o : IsTotalOrder R) (join : W → W → W) (es : List (K × W)) → entries (map_of R join es) ≡ listed R join es
-entries-map_of {W = W} {R = R} o join [] = empty_list (entries (empty {X = W} {R = R})) (sym (len-entries (empty {X = W} {R = R})) ∙ len-empty R W)
+entries-map_of {W = W} {R = R} o join [] = nil_from_length (entries (empty {X = W} {R = R})) (sym (len-entries (empty {X = W} {R = R})) ∙ len-empty R W)
 entries-map_of {R = R} o join (e ∷ es) =
     let is = entries-map_of o join es in
     entries-insert o (map_of R join es) e.0 _
     ∙ (ap (λ g. put R e.0 (grown join g e.1) (entries (map_of R join es))) (get-entries (map_of R join es) e.0)
     ∙ ap (λ fs. put R e.0 (grown join (find R e.0 fs) e.1) fs) is)
-
-equal_by : (r : Ordering) → is_eq r ≡ true → r ≡ Equal
-equal_by Less e = cc
-equal_by Equal e = refl
-equal_by Greater e = cc
 
 less_by : (r : Ordering) → T (is_lt r) → r ≡ Less
 less_by Less h = refl
@@ -71,7 +64,7 @@ module _ {K W : Type 0} {R : K → K → Ordering} (o : IsTotalOrder R) (exact :
     grown_keeps k w [] p h = p
     grown_keeps k w (e ∷ es) p h =
         elim (eq_by_cmp R k e.0) as (λ b. eq_by_cmp R k e.0 ≡ b → P (k, grown join (cond b (Some e.1) (find R k es)) w)) [
-          | true ↦ λ is. keeps k e.1 w (subst (λ x. P (x, e.1)) (sym (exact k e.0 (equal_by (R k e.0) is))) h.0) p
+          | true ↦ λ is. keeps k e.1 w (subst (λ x. P (x, e.1)) (sym (exact k e.0 (tied_by (R k e.0) is))) h.0) p
           | false ↦ λ is. grown_keeps k w es p h.1
         ] refl
 

@@ -10,14 +10,14 @@ use Rattle.wl_lattice.specs.declared.FlatWord.{FlatWord}
 use Rattle.wl_lattice.specs.declared.FlatWord.TheVariants as flat
 use Rattle.wl_lattice.specs.declared.MaxWord.{MaxWord}
 use Rattle.wl_lattice.specs.Words.{max_word}
-use Rattle.wl_lattice.specs.WordLaws.{flat_laws, max_laws}
-use Rattle.wl_record.specs.Limits.{most_edges, tick_end}
-use Rattle.wl_record.specs.declared.record.Record.{Record}
-use Rattle.wl_record.specs.Truth.{IsIncreasing, AreTrueOf}
+use Rattle.wl_replica.proofs.States.{edge_maps, silence_maps}
+use Rattle.wl_record_core.specs.Limits.{most_edges, tick_end}
+use Rattle.wl_record_core.specs.declared.record.Record.{Record}
+use Rattle.wl_record_core.specs.Truth.{IsIncreasing, AreTrueOf}
 use Rattle.wl_replica.specs.Keys.{Key, key_cmp}
-use Rattle.wl_replica.specs.State.{State, state_of, joined, taken_all, slots_of, Fits, FitsEdge, FitsSilence}
+use Rattle.wl_replica.specs.State.{State, state_of, states_joined, taken_all, slots_of, Fits, FitsEdge, FitsSilence}
 use Rattle.wl_replica.specs.Canonical.{records_of_node}
-use Rattle.wl_replica.specs.Kept.{word_in, edges_in, silences_in, holds_edge, holds_silence, shown, AreKept, TicksAreWithin}
+use Rattle.wl_replica.specs.Kept.{word_in, edges_in, silences_in, holds_edge, holds_silence, words_shown, AreKept, TicksAreWithin}
 use Rattle.wl_replica.specs.Known.{is_run, greatest, promised, after_edges, known_by, ticks, intervals, run_length, horizon, wave}
 use Rattle.wl_replica.specs.KnownLaws.{KnownLaws}
 use Rattle.wl_replica.specs.Slots.{HoldsTrue, IsBelow, slots_joined}
@@ -30,7 +30,7 @@ use Rattle.wl_replica.proofs.Tells.{tells_edge, tells_silence}
 use Rattle.wl_replica.proofs.TextLengths.{nodes_fit}
 
 -- what holds of the word at each key holds of each entry
-entries_have : {W : Type 0} (least : W) (P : Key × W → Type 0) (m : BTreeMap Key W) → IsOrdered key_cmp m → ((k : Key) → P (k, word_in least m k)) → AllByRecursion P m.entries
+pub entries_have : {W : Type 0} (least : W) (P : Key × W → Type 0) (m : BTreeMap Key W) → IsOrdered key_cmp m → ((k : Key) → P (k, word_in least m k)) → AllByRecursion P m.entries
 entries_have {W} least P m h each = recursion_from_All P m.entries
     (All-weaker (λ e. get key_cmp m e.0 ≡ Some e.1) P (λ e is. subst (λ (w : W). P (e.0, w)) (ap (λ o. unwrap_or o least) is) (each e.0)) m.entries (All-found key_cmp_total m h))
 
@@ -41,7 +41,7 @@ kept_fits nodes edges silences h =
     (entries_have flat.Nothing (FitsEdge nodes) edges h.edges_ordered h.edges_fit) (entries_have (max_word 0) (FitsSilence nodes) silences h.silences_ordered h.silences_fit)
 
 module _ (laws : KnownLaws) where
-  pub joined_keeps : (s u t : State) → t ≡ joined s u → (table : ℕ → List ℕ) → ((i : ℕ) → IsIncreasing (table i))
+  pub joined_keeps : (s u t : State) → t ≡ states_joined s u → (table : ℕ → List ℕ) → ((i : ℕ) → IsIncreasing (table i))
       → HoldsTrue s.nodes table (slots_of s) → HoldsTrue s.nodes table (slots_of u) → NoHorizonFalls s t
   joined_keeps s u t is table order p q i =
       let e : slots_of t ≡ slots_joined (slots_of s) (slots_of u) = ap slots_of is ∙ slots_of-joined s u in
@@ -69,12 +69,12 @@ promise_within s zero h = h 0
 promise_within s (suc m) h = omega (arith, promise_within s m h, h (suc m))
 
 module _ (nodes : ℕ) (edges : BTreeMap Key FlatWord) (silences : BTreeMap Key MaxWord) (h : AreKept nodes edges silences) (t : State)
-    (is : ◌≡◌ {A = State} (record { nodes = nodes; edges = shown holds_edge edges.entries; silences = shown holds_silence silences.entries }) t) (node : ℕ) where
+    (is : ◌≡◌ {A = State} (record { nodes = nodes; edges = words_shown holds_edge edges.entries; silences = words_shown holds_silence silences.entries }) t) (node : ℕ) where
   pub edges_shown : edges_in edges node ≡ (slots_of t).edge node
-  edges_shown = (λ i n. sym (word_shown flat_laws tells_edge edges h.edges_ordered (node, n)) i) ∙ ap (λ (s : State). (slots_of s).edge node) is
+  edges_shown = (λ i n. sym (word_shown edge_maps tells_edge edges h.edges_ordered (node, n)) i) ∙ ap (λ (s : State). (slots_of s).edge node) is
 
   pub silences_shown : silences_in silences node ≡ (slots_of t).silence node
-  silences_shown = (λ i n. (sym (word_shown max_laws tells_silence silences h.silences_ordered (node, n)) i).word) ∙ ap (λ (s : State). (slots_of s).silence node) is
+  silences_shown = (λ i n. (sym (word_shown silence_maps tells_silence silences h.silences_ordered (node, n)) i).word) ∙ ap (λ (s : State). (slots_of s).silence node) is
 
   pub run_shown : greatest most_edges (is_run (edges_in edges node) (silences_in silences node)) ≡ run_length (slots_of t) node
   run_shown = λ i. greatest most_edges (is_run (edges_shown i) (silences_shown i))

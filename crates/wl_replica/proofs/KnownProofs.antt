@@ -1,16 +1,17 @@
 -- Slots that hold what is true of one table agree with it below each horizon, and no horizon falls.
 use Rattle.std.proofs.Common.{◌≡◌, ℕ, zero, suc, pred, ◌+◌, ◌-◌, ◌<◌, ◌≤◌, Bool, true, inl, inr, List, [], ◌∷◌, ◌++◌, take, refl, sym, ◌∙◌, ap, subst, arith, add-zero, add-suc, Some, slice_get}
-use Rattle.std.proofs.lemmas.Bool.{cases_lt, cases_eq, cases_Bool, true≢false, false≢true, le-leb, lt-ltb, and_parts, and_from, cond-true, cond-false}
+use Rattle.std.proofs.lemmas.Bool.{cases_lt, cases_eq, cases_Bool, true≢false, le-leb, lt-ltb, and_parts, and_from, cond-true, cond-false}
 use Rattle.wl_lattice.specs.declared.FlatWord.{FlatWord}
 use Rattle.wl_lattice.specs.declared.FlatWord.TheVariants as flat
 use Rattle.wl_lattice.specs.Words.{joined_flat}
 use Rattle.wl_lattice.specs.WordLaws.{value_kept}
 use Rattle.wl_intervals.specs.Pairs.{covers}
-use Rattle.wl_record.specs.Limits.{most_edges}
-use Rattle.wl_record.specs.Truth.{count_below, IsIncreasing, odd}
-use Rattle.wl_record.specs.TableLaws.{TableLaws}
-use Rattle.wl_replica.specs.Slots.{Slots, HoldsTrue, IsBelow}
-use Rattle.wl_replica.specs.Known.{is_tick, tick_in, goes_on, is_run, greatest, run_length, promised, after_edges, known_by, horizon, ticks, intervals, wave_at, least_of, place_horizon}
+use Rattle.wl_record_core.specs.Limits.{most_edges}
+use Rattle.wl_record_core.specs.Truth.{count_below, IsIncreasing, odd}
+use Rattle.wl_record_core.specs.TableLaws.{TableLaws}
+use Rattle.wl_replica.proofs.CallerLemmas.{run_part, tick_is}
+use Rattle.wl_replica.specs.Slots.{Contents, HoldsTrue, IsBelow}
+use Rattle.wl_replica.specs.Known.{is_tick, tick_in, run_goes_on, is_run, greatest, run_length, promised, after_edges, known_by, horizon, ticks, intervals, wave_at, least_up_to, place_horizon}
 use Rattle.wl_replica.proofs.Covers.{covers_odd}
 
 -- Of one node: edge words, ends of silences, and its list in the table.
@@ -19,22 +20,10 @@ record Fits (e : ℕ → FlatWord) (s : ℕ → ℕ) (xs : List ℕ) : Type 0 wh
   edges : (n t : ℕ) → e n ≡ flat.Value t → slice_get xs n ≡ Some t
   silences : (n : ℕ) → 0 < s n → count_below (s n) xs ≡ n
 
-is_value : (w : FlatWord) → is_tick w ≡ true → w ≡ flat.Value (tick_in w)
-is_value (flat.Value t) h = refl
-is_value flat.Nothing h = absurd (false≢true h)
-is_value flat.Clash h = absurd (false≢true h)
-
 -- an edge of a run holds its tick
-goes_tick : (e : ℕ → FlatWord) (s : ℕ → ℕ) (n : ℕ) → goes_on e s n ≡ true → e n ≡ flat.Value (tick_in (e n))
-goes_tick e s zero h = is_value (e 0) (and_parts _ _ h).0
-goes_tick e s (suc n) h = is_value (e (suc n)) (and_parts _ _ (and_parts _ _ h).0).0
-
-run_part : (e : ℕ → FlatWord) (s : ℕ → ℕ) (m n : ℕ) → is_run e s m ≡ true → n < m → goes_on e s n ≡ true
-run_part e s zero n h b = absurd (omega arith)
-run_part e s (suc m) n h b = elim (cases_eq n m) [
-  | inl same ↦ subst (λ v. goes_on e s v ≡ true) (sym same) (and_parts _ _ h).1
-  | inr other ↦ run_part e s m n (and_parts _ _ h).0 (omega arith)
-]
+goes_tick : (e : ℕ → FlatWord) (s : ℕ → ℕ) (n : ℕ) → run_goes_on e s n ≡ true → e n ≡ flat.Value (tick_in (e n))
+goes_tick e s zero h = tick_is (e 0) (and_parts _ _ h).0
+goes_tick e s (suc n) h = tick_is (e (suc n)) (and_parts _ _ (and_parts _ _ h).0).0
 
 run_tick : (e : ℕ → FlatWord) (s : ℕ → ℕ) (m n : ℕ) → is_run e s m ≡ true → n < m → is_tick (e n) ≡ true
 run_tick e s m n h b = ap is_tick (goes_tick e s n (run_part e s m n h b))
@@ -80,7 +69,7 @@ greatest_within (suc b) test = elim (cases_Bool (test (suc b))) [
   | inr n ↦ (let e : greatest (suc b) test ≡ greatest b test = cond-false (test (suc b)) _ _ n in let r = greatest_within b test in omega arith)
 ]
 
-is_run_length : (w : Slots) (i : ℕ) → is_run (w.edge i) (w.silence i) (run_length w i) ≡ true
+is_run_length : (w : Contents) (i : ℕ) → is_run (w.edge i) (w.silence i) (run_length w i) ≡ true
 is_run_length w i = greatest_passes most_edges (is_run (w.edge i) (w.silence i)) refl
 
 -- silences that grow promise more
@@ -102,33 +91,33 @@ promised_slot s n m h = (let a = own n in let b = promised_slot_up s n m h in om
     own zero = omega arith
     own (suc n) = omega arith
 
-pub tick_stays : (nodes : ℕ) (table : ℕ → List ℕ) (a b : Slots) (i n : ℕ) → IsBelow a b → HoldsTrue nodes table b → is_tick (a.edge i n) ≡ true → is_tick (b.edge i n) ≡ true
+pub tick_stays : (nodes : ℕ) (table : ℕ → List ℕ) (a b : Contents) (i n : ℕ) → IsBelow a b → HoldsTrue nodes table b → is_tick (a.edge i n) ≡ true → is_tick (b.edge i n) ≡ true
 tick_stays nodes table a b i n up h e =
-    let v = is_value (a.edge i n) e in
+    let v = tick_is (a.edge i n) e in
     ap is_tick (value_kept (tick_in (a.edge i n)) (b.edge i n) (subst (λ x. joined_flat x (b.edge i n) ≡ b.edge i n) v (up.edges i n)) (h.no_clash i n))
 
 -- the least of some numbers
-least_le : (f : ℕ → ℕ) (n i : ℕ) → i ≤ n → least_of f n ≤ f i
+least_le : (f : ℕ → ℕ) (n i : ℕ) → i ≤ n → least_up_to f n ≤ f i
 least_le f zero i h = (let e : i ≡ 0 = omega arith in let r : f 0 ≡ f i = ap f (sym e) in omega arith)
 least_le f (suc n) i h = elim (cases_eq i (suc n)) [
   | inl e ↦ (let r : f i ≡ f (suc n) = ap f e in omega arith)
   | inr n' ↦ (let r = least_le f n i (omega arith) in omega arith)
 ]
 
-least_above : (f : ℕ → ℕ) (n t : ℕ) → ((i : ℕ) → i ≤ n → t < f i) → t < least_of f n
+least_above : (f : ℕ → ℕ) (n t : ℕ) → ((i : ℕ) → i ≤ n → t < f i) → t < least_up_to f n
 least_above f zero t h = h 0 (omega arith)
 least_above f (suc n) t h = (let r = least_above f n t (λ i b. h i (omega arith)) in let q = h (suc n) (omega arith) in omega arith)
 
-pub place_known : (nodes : ℕ) (delay : ℕ → ℕ → ℕ) (w : Slots) (i j t : ℕ) → i < nodes → t < place_horizon nodes delay w j → t < horizon w i + delay i j
+pub place_known : (nodes : ℕ) (delay : ℕ → ℕ → ℕ) (w : Contents) (i j t : ℕ) → i < nodes → t < place_horizon nodes delay w j → t < horizon w i + delay i j
 place_known nodes delay w i j t b h = (let r = least_le (λ v. horizon w v + delay v j) (pred nodes) i (omega arith) in omega arith)
 
-pub place_above : (nodes : ℕ) (delay : ℕ → ℕ → ℕ) (w : Slots) (j t : ℕ) → 0 < nodes → ((i : ℕ) → i < nodes → t < horizon w i + delay i j) → t < place_horizon nodes delay w j
+pub place_above : (nodes : ℕ) (delay : ℕ → ℕ → ℕ) (w : Contents) (j t : ℕ) → 0 < nodes → ((i : ℕ) → i < nodes → t < horizon w i + delay i j) → t < place_horizon nodes delay w j
 place_above nodes delay w j t p h = least_above (λ v. horizon w v + delay v j) (pred nodes) t (λ i b. h i (omega arith))
 
 module _ (tables : TableLaws) where
   open tables use {count_zero, count_less, entry_is_step, entries_grow, count_front, front_increases}
 
-  fits_of : (nodes : ℕ) (table : ℕ → List ℕ) (w : Slots) (i : ℕ) → IsIncreasing (table i) → HoldsTrue nodes table w → Fits (w.edge i) (w.silence i) (table i)
+  fits_of : (nodes : ℕ) (table : ℕ → List ℕ) (w : Contents) (i : ℕ) → IsIncreasing (table i) → HoldsTrue nodes table w → Fits (w.edge i) (w.silence i) (table i)
   fits_of nodes table w i o h = record { order = o; edges = λ n t e. (h.edges i n t e).1; silences = λ n b. (h.silences i n b).1 }
 
   -- no more than n changes lie below silence slot n
@@ -148,7 +137,7 @@ module _ (tables : TableLaws) where
   edge_bound : (e : ℕ → FlatWord) (s : ℕ → ℕ) (xs : List ℕ) → Fits e s xs → (m u : ℕ) → is_run e s m ≡ true → u ≤ after_edges e m → count_below u xs ≤ m
   edge_bound e s xs f zero u r h = (let z = count_zero xs in let w = count_less u 0 xs (omega arith) in omega arith)
   edge_bound e s xs f (suc m) u r h =
-      let q = (entry_is_step xs m (tick_in (e m)) f.order (f.edges m (tick_in (e m)) (goes_tick e s m (and_parts (is_run e s m) (goes_on e s m) r).1))).1 in
+      let q = (entry_is_step xs m (tick_in (e m)) f.order (f.edges m (tick_in (e m)) (goes_tick e s m (and_parts (is_run e s m) (run_goes_on e s m) r).1))).1 in
       let w = count_less u (suc (tick_in (e m))) xs h in
       omega arith
 
@@ -168,7 +157,7 @@ module _ (tables : TableLaws) where
       ∙ (ap (λ v. odd (count_below (suc t) v)) same
       ∙ ap odd (count_front xs (suc t) m f.order (known_bound e s xs f m (suc t) r h)))
 
-  pub wave_agrees : (nodes : ℕ) (table : ℕ → List ℕ) (w : Slots) (i t : ℕ) → IsIncreasing (table i)
+  pub wave_agrees : (nodes : ℕ) (table : ℕ → List ℕ) (w : Contents) (i t : ℕ) → IsIncreasing (table i)
       → HoldsTrue nodes table w → t < horizon w i → wave_at w i t ≡ odd (count_below (suc t) (table i))
   wave_agrees nodes table w i t o h b =
       run_agrees (w.edge i) (w.silence i) (table i) (fits_of nodes table w i o h) (run_length w i) t (is_run_length w i) b
@@ -190,11 +179,11 @@ module _ (tables : TableLaws) where
   fits_run e s xs f zero h = refl
   fits_run e s xs f (suc m) h = and_from _ _ (fits_run e s xs f m (λ n b. h n (omega arith))) (step m h)
     where
-      step : (m : ℕ) → ((n : ℕ) → n < suc m → is_tick (e n) ≡ true) → goes_on e s m ≡ true
-      step zero h = and_from _ _ (h 0 (omega arith)) (le-leb _ _ (slot_low e s xs f 0 (tick_in (e 0)) (is_value _ (h 0 (omega arith)))))
+      step : (m : ℕ) → ((n : ℕ) → n < suc m → is_tick (e n) ≡ true) → run_goes_on e s m ≡ true
+      step zero h = and_from _ _ (h 0 (omega arith)) (le-leb _ _ (slot_low e s xs f 0 (tick_in (e 0)) (tick_is _ (h 0 (omega arith)))))
       step (suc m) h =
-          let p = is_value (e m) (h m (omega arith)) in
-          let q = is_value (e (suc m)) (h (suc m) (omega arith)) in
+          let p = tick_is (e m) (h m (omega arith)) in
+          let q = tick_is (e (suc m)) (h (suc m) (omega arith)) in
           and_from _ _ (and_from _ _ (h (suc m) (omega arith)) (le-leb _ _ (slot_low e s xs f (suc m) (tick_in (e (suc m))) q)))
           (lt-ltb _ _ (entries_grow xs m (suc m) (tick_in (e m)) (tick_in (e (suc m))) f.order (f.edges m _ p) (f.edges (suc m) _ q) (omega arith)))
 
@@ -206,11 +195,11 @@ module _ (tables : TableLaws) where
       let o : tick_in (e' m) ≡ tick_in (e m) = ap tick_in (same m (omega arith)) in
       elim (cases_eq m m') [
         | inl e1 ↦ (let c : tick_in (e' m) ≡ tick_in (e' m') = ap (λ v. tick_in (e' v)) e1 in omega arith)
-        | inr less ↦ (let g = entries_grow xs m m' (tick_in (e' m)) (tick_in (e' m')) f.order (f.edges m _ (is_value _ (t m (omega arith)))) (f.edges m' _ (is_value _ (t m' (omega arith)))) (omega arith) in omega arith)
+        | inr less ↦ (let g = entries_grow xs m m' (tick_in (e' m)) (tick_in (e' m')) f.order (f.edges m _ (tick_is _ (t m (omega arith)))) (f.edges m' _ (tick_is _ (t m' (omega arith)))) (omega arith) in omega arith)
       ]
 
   -- No horizon falls where what is held is true of one table.
-  pub horizon_keeps : (nodes : ℕ) (table : ℕ → List ℕ) (a b : Slots) (i : ℕ) → IsIncreasing (table i)
+  pub horizon_keeps : (nodes : ℕ) (table : ℕ → List ℕ) (a b : Contents) (i : ℕ) → IsIncreasing (table i)
       → HoldsTrue nodes table a → HoldsTrue nodes table b → IsBelow a b → horizon a i ≤ horizon b i
   horizon_keeps nodes table a b i o ha hb up =
       let ea = a.edge i in
@@ -230,7 +219,7 @@ module _ (tables : TableLaws) where
       let z = promised_slot_up (b.silence i) m m' up_m in
       omega arith
 
-  pub horizon_reached : (nodes : ℕ) (table : ℕ → List ℕ) (w : Slots) (i m u : ℕ) → IsIncreasing (table i) → HoldsTrue nodes table w
+  pub horizon_reached : (nodes : ℕ) (table : ℕ → List ℕ) (w : Contents) (i m u : ℕ) → IsIncreasing (table i) → HoldsTrue nodes table w
       → m ≤ most_edges → ((n : ℕ) → n < m → is_tick (w.edge i n) ≡ true) → u ≤ w.silence i m → u ≤ horizon w i
   horizon_reached nodes table w i m u o h few edges silence =
       let r = fits_run (w.edge i) (w.silence i) (table i) (fits_of nodes table w i o h) m edges in
@@ -238,7 +227,7 @@ module _ (tables : TableLaws) where
       let p = promised_slot (w.silence i) m (run_length w i) g in
       omega arith
 
-  pub changes_held : (nodes : ℕ) (table : ℕ → List ℕ) (w : Slots) (i u n : ℕ) → IsIncreasing (table i)
+  pub changes_held : (nodes : ℕ) (table : ℕ → List ℕ) (w : Contents) (i u n : ℕ) → IsIncreasing (table i)
       → HoldsTrue nodes table w → u ≤ horizon w i → n < count_below u (table i) → is_tick (w.edge i n) ≡ true
   changes_held nodes table w i u n o h k b =
       let r = is_run_length w i in

@@ -1,9 +1,9 @@
 -- Worked texts: up to when a node is known, and in which intervals it drives dominant. Computed, with a bound on the run that is enough here.
 use Rattle.std.proofs.Common.{◌≡◌, ℕ, zero, suc, ◌+◌, List, [], ◌∷◌, refl}
-use Rattle.wl_record.specs.declared.record.Record.{Record}
-use Rattle.wl_record.specs.declared.record.Record.TheVariants.{Edge, Clash, Silence}
+use Rattle.wl_record_core.specs.declared.record.Record.{Record}
+use Rattle.wl_record_core.specs.declared.record.Record.TheVariants.{Edge, Clash, Silence}
 use Rattle.wl_replica.specs.Slots.{slots_of_records}
-use Rattle.wl_replica.specs.Known.{is_run, greatest, known_by, ticks, intervals, least_of}
+use Rattle.wl_replica.specs.Known.{is_run, greatest, known_by, ticks, intervals, least_up_to}
 
 run_of : ℕ → List Record → ℕ
 run_of i rs = greatest 5 (is_run ((slots_of_records rs).edge i) ((slots_of_records rs).silence i))
@@ -69,6 +69,6 @@ delay zero (suc j) = 51
 delay (suc i) zero = 51
 delay (suc i) (suc j) = 1
 
-place_waits_for_the_other : least_of (λ i. known_of i (Silence 0 0 100 ∷ []) + delay i 0) 1 ≡ 51
+place_waits_for_the_other : least_up_to (λ i. known_of i (Silence 0 0 100 ∷ []) + delay i 0) 1 ≡ 51
 unfolding known_of run_of delay
 place_waits_for_the_other = refl

@@ -1,4 +1,5 @@
 pub mod KeyLaws
+pub mod CallerLemmas
 pub mod States
 pub mod SlotBySlot
 pub mod KeptLemmas
@@ -10,6 +11,7 @@ pub mod RoundTrip
 pub mod TextLengths
 mod Rows
 mod Members
+mod SameWords
 mod SlotsProofs
 mod Covers
 mod KnownProofs
@@ -17,6 +19,8 @@ mod KnownRows
 mod TrueSlots
 pub mod SlotsOfProofs
 mod KeptFits
+mod OfRecords
+mod ChangesStand
 mod WalkLemmas
 mod PromiseLemmas
 mod WaveLemmas

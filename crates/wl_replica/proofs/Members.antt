@@ -1,7 +1,7 @@
 -- Members of a list of records, by recursion on the list.
 use Rattle.std.proofs.Common.{◌≡◌, ℕ, zero, suc, ◌<◌, List, [], ◌∷◌, length, refl, subst, sym, arith}
 use Rattle.std.specs.Prelude.{Contains, slice_index_or}
-use Rattle.wl_record.specs.declared.record.Record.{Record}
+use Rattle.wl_record_core.specs.declared.record.Record.{Record}
 
 pub data IsIn (r : Record) : List Record → Type 0 where
   here : {rs : List Record} → IsIn r (r ∷ rs)

@@ -1,27 +1,27 @@
 -- The least of some numbers, and whether one of some tests passes.
 use Rattle.std.proofs.Common.{◌≡◌, ℕ, zero, suc, pred, ◌+◌, ◌-◌, ◌<◌, ◌≤◌, min, Bool, true, false, ◌||◌, inl, inr, refl, sym, ◌∙◌, ap, subst, arith}
 use Rattle.std.proofs.lemmas.Bool.{cases_eq}
-use Rattle.wl_intervals.specs.declared.Level.TheVariants.{Dominant, Recessive}
-use Rattle.wl_intervals.specs.Levels.{level_of}
+use Rattle.wl_level.specs.declared.Level.TheVariants.{Dominant, Recessive}
+use Rattle.wl_level.specs.Levels.{level_of}
 use Rattle.wl_topology.specs.Driven.{any_below}
-use Rattle.wl_replica.specs.Known.{least_of}
+use Rattle.wl_replica.specs.Known.{least_up_to}
 
-pub least_more : (f : ℕ → ℕ) (i : ℕ) → 1 ≤ i → min (least_of f (i - 1)) (f i) ≡ least_of f ((i + 1) - 1)
+pub least_more : (f : ℕ → ℕ) (i : ℕ) → 1 ≤ i → min (least_up_to f (i - 1)) (f i) ≡ least_up_to f ((i + 1) - 1)
 least_more f zero h = absurd (omega arith)
 least_more f (suc k) h =
     let before : suc k - 1 ≡ k = omega arith in
     let here : (suc k + 1) - 1 ≡ suc k = omega arith in
-    ap (λ n. min (least_of f n) (f (suc k))) before ∙ sym (ap (least_of f) here)
+    ap (λ n. min (least_up_to f n) (f (suc k))) before ∙ sym (ap (least_up_to f) here)
 
 -- what is below the least is below each
-below_least : (f : ℕ → ℕ) (n i t : ℕ) → i ≤ n → t < least_of f n → t < f i
+below_least : (f : ℕ → ℕ) (n i t : ℕ) → i ≤ n → t < least_up_to f n → t < f i
 below_least f zero i t le lt = subst (λ k. t < f k) (let same : 0 ≡ i = omega arith in same) lt
 below_least f (suc n) i t le lt = elim (cases_eq i (suc n)) [
   | inl same ↦ subst (λ k. t < f k) (sym same) (omega arith)
   | inr other ↦ below_least f n i t (omega arith) (omega arith)
 ]
 
-pub below_each : (f : ℕ → ℕ) (nodes i t : ℕ) → i < nodes → t < least_of f (pred nodes) → t < f i
+pub below_each : (f : ℕ → ℕ) (nodes i t : ℕ) → i < nodes → t < least_up_to f (pred nodes) → t < f i
 below_each f zero i t le lt = absurd (omega arith)
 below_each f (suc n) i t le lt = below_least f n i t (omega arith) lt
 

@@ -1,8 +1,9 @@
 -- The canonical list of a state makes that state again.
+use Rattle.std.proofs.lemmas.List.{append-nil}
 use Rattle.std.specs.Prelude.{◌≡◌, ℕ, ◌<◌, ◌==◌, nat_lt, ◌||◌, Bool, true, false, cond, not, List, [], ◌∷◌, ◌++◌, Option, None, Some, IfSome, unwrap_or, if◌then◌else◌, refl}
 use Rattle.std.specs.List.{filter_map, cons_option, flat_map, range_with_len, AllByRecursion}
 use Rattle.std.specs.Ordering.{eq_by_cmp}
-use Rattle.std.specs.FinMap.{FinMap, get, entries, get-entries, entries_sorted, same_map}
+use Rattle.std.specs.FinMap.{FinMap, get, entries, get-entries, same_map}
 use Rattle.std.specs.FinMap.Entries.{find}
 use Rattle.std.proofs.Common.{sym, ap, ◌∙◌, arith}
 use Rattle.std.proofs.lemmas.Bool.Decides.{nat_tests}
@@ -11,22 +12,21 @@ use Prim.Native.Nat.{zero, suc}
 use Rattle.wl_lattice.specs.declared.FlatWord.{FlatWord}
 use Rattle.wl_lattice.specs.declared.FlatWord.TheVariants as flat
 use Rattle.wl_lattice.specs.declared.MaxWord.{MaxWord}
-use Rattle.wl_lattice.specs.Laws.{JoinLaws}
 use Rattle.wl_lattice.specs.Words.{joined_flat, joined_max, max_word}
-use Rattle.wl_lattice.specs.WordLaws.{flat_laws, max_laws}
-use Rattle.wl_lattice.specs.Maps.{joined_options, map_of, words_at}
-use Rattle.wl_lattice.proofs.MapLemmas.{words_at-append, words_at-sorted, get-map_of}
-use Rattle.wl_record.specs.declared.record.Record.{Record}
-use Rattle.wl_record.specs.declared.record.Record.TheVariants.{Edge, Clash, Silence}
+use Rattle.wl_replica.proofs.CallerLemmas.{nothing_more, none_below, below_next, not_same}
+use Rattle.wl_replica.proofs.States.{edge_maps, silence_maps}
+use Rattle.wl_lattice.specs.Maps.{joined_options, map_of, words_at, MapLaws}
+use Rattle.wl_record_core.specs.declared.record.Record.{Record}
+use Rattle.wl_record_core.specs.declared.record.Record.TheVariants.{Edge, Clash, Silence}
 use Rattle.wl_replica.specs.Keys.{Key, key_cmp}
-use Rattle.wl_replica.specs.State.{edge_word, silence_word, state_of, joined, node_of}
+use Rattle.wl_replica.specs.State.{State, edge_word, silence_word, state_of, states_joined, node_of}
 use Rattle.wl_replica.specs.Canonical.{edge_record, silence_record, of_node, records_of_node, canonical}
 use Rattle.wl_replica.specs.Kept.{holds_edge, holds_silence}
 use Rattle.wl_replica.specs.Laws.{CanonicalDeterminesTheState, MergingIsAppending, JoinsSlotBySlot}
 use Rattle.wl_replica.proofs.SlotBySlot.{edge_at-joined, silence_at-joined, edge_at-none, silence_at-none}
 use Rattle.wl_replica.proofs.KeyLaws.{key_cmp_total, exact_keys}
 use Rattle.wl_replica.proofs.KeptLemmas.{same_key}
-use Rattle.wl_replica.proofs.CanonicalLemmas.{same_of_each, flat_map-range_last, nothing_after}
+use Rattle.wl_replica.proofs.CanonicalLemmas.{same_of_each, flat_map-range_last}
 use Rattle.wl_replica.proofs.EntryLemmas.{All-entries}
 use Rattle.wl_replica.proofs.States.{same_parts, state_of-append, filter_map-append}
 use Rattle.wl_replica.proofs.Tells.{tells_edge, tells_silence}
@@ -37,11 +37,7 @@ filter_map-flat_map : {A B C : Type 0} (f : B → Option C) (g : A → List B) (
 filter_map-flat_map f g [] = refl
 filter_map-flat_map f g (x ∷ xs) = filter_map-append f (g x) (flat_map g xs) ∙ ap (λ ys. filter_map f (g x) ++ ys) (filter_map-flat_map f g xs)
 
-module _ {W : Type 0} {is_word : W → Type 0} {least : W} {join : W → W → W} (laws : JoinLaws is_word least join) where
-  nothing_more : (a : Option W) → joined_options join a None ≡ a
-  nothing_more None = refl
-  nothing_more (Some v) = refl
-
+module _ {W : Type 0} {join : W → W → W} (laws : MapLaws {K = Key} key_cmp join) where
   -- the words of one node
   node_step : (a b c : Bool) (u w : Option W) (v : W) → (a ≡ true → b ≡ c) → w ≡ cond c u None
       → cond b (cond a (joined_options join w (Some v)) w) w ≡ cond c (cond a (joined_options join u (Some v)) u) None
@@ -65,25 +61,16 @@ module _ {W : Type 0} {is_word : W → Type 0} {least : W} {join : W → W → W
   -- the words of the nodes below n
   both_nodes : (a b c : Bool) (u : Option W) → c ≡ (a || b) → (a ≡ true → b ≡ false) → joined_options join (cond a u None) (cond b u None) ≡ cond c u None
   both_nodes true true c u e apart = absurd (let f : true ≡ false = apart refl in cc)
-  both_nodes true false c u e apart = nothing_more u ∙ ap (λ x. cond x u None) (sym e)
+  both_nodes true false c u e apart = nothing_more join u ∙ ap (λ x. cond x u None) (sym e)
   both_nodes false b c u e apart = ap (λ x. cond x u None) (sym e)
 
   words_at-nodes : (es : List (Key × W)) (n : ℕ) (q : Key) → words_at key_cmp join (flat_map (λ node. of_node node es) (range_with_len 0 n)) q ≡ cond (nat_lt q.0 n) (words_at key_cmp join es q) None
   words_at-nodes es zero q = ap (λ b. cond b (words_at key_cmp join es q) None) (none_below q.0)
-    where
-      none_below : (m : ℕ) → false ≡ nat_lt m 0
-      none_below m = grind (arith, nat_tests)
   words_at-nodes es (suc n) q =
       ap (λ fs. words_at key_cmp join fs q) (flat_map-range_last (λ node. of_node node es) n)
-      ∙ (words_at-append laws key_cmp_total (flat_map (λ node. of_node node es) (range_with_len 0 n)) (of_node n es) q
+      ∙ (laws.words_of_both (flat_map (λ node. of_node node es) (range_with_len 0 n)) (of_node n es) q
       ∙ ((λ i. joined_options join (words_at-nodes es n q i) (words_at-node es n q i))
       ∙ both_nodes (nat_lt q.0 n) (q.0 == n) (nat_lt q.0 (suc n)) (words_at key_cmp join es q) (below_next q.0 n) (not_same q.0 n)))
-    where
-      below_next : (m n : ℕ) → nat_lt m (suc n) ≡ (nat_lt m n || (m == n))
-      below_next m n = grind (arith, nat_tests)
-
-      not_same : (m n : ℕ) → nat_lt m n ≡ true → (m == n) ≡ false
-      not_same m n h = grind (arith, nat_tests)
 
   -- ---- records and words
   module _ (holds : W → Bool) (record_of : Key × W → Option Record) (word_of : Record → Option (Key × W))
@@ -121,9 +108,9 @@ module _ {W : Type 0} {is_word : W → Type 0} {least : W} {join : W → W → W
   pub map_again : (m : FinMap key_cmp W) (n : ℕ) → AllByRecursion (λ e. e.0.0 < n) (entries m)
       → map_of key_cmp join (flat_map (λ node. of_node node (entries m)) (range_with_len 0 n)) ≡ m
   map_again m n h = same_map key_cmp_total exact_keys _ _ (λ q.
-      get-map_of laws key_cmp_total (flat_map (λ node. of_node node (entries m)) (range_with_len 0 n)) q
+      laws.of_entries (flat_map (λ node. of_node node (entries m)) (range_with_len 0 n)) q
       ∙ (words_at-nodes (entries m) n q ∙ (all_below (entries m) n q h
-      ∙ (words_at-sorted laws key_cmp_total (entries m) q (entries_sorted m) ∙ sym (get-entries m q)))))
+      ∙ (laws.words_of_map m q))))
 
 -- ---- the two kinds
 edge_back : (e : Key × FlatWord) → holds_edge e.1 ≡ true → (r : Record) × (edge_record e ≡ Some r) × (edge_word r ≡ Some e)
@@ -149,7 +136,7 @@ no_silence_word ((k, flat.Clash) ∷ es) = no_silence_word es
 
 -- ---- the entries of a state of records
 -- of each: it holds something, and its node is below n
-abbrev IsHeld : {W : Type 0} → (W → Bool) → Key × W → Type 0
+abbrev pub IsHeld : {W : Type 0} → (W → Bool) → Key × W → Type 0
 IsHeld holds e = holds e.1 ≡ true
 
 joined_edge_held : (k : Key) (v w : FlatWord) → holds_edge v ≡ true → holds_edge w ≡ true → holds_edge (joined_flat v w) ≡ true
@@ -198,32 +185,40 @@ silences_held nodes rs = All-entries key_cmp_total exact_keys joined_max (IsHeld
 edge_words_again : (es : List (Key × FlatWord)) (ss : List (Key × MaxWord)) → AllByRecursion (IsHeld holds_edge) es → (node : ℕ) → filter_map edge_word (records_of_node es ss node) ≡ of_node node es
 edge_words_again es ss h node =
     filter_map-append edge_word (filter_map edge_record (of_node node es)) (filter_map silence_record (of_node node ss))
-    ∙ ((λ i. words_back flat_laws holds_edge edge_record edge_word edge_back (of_node node es) (held_of_node flat_laws holds_edge node es h) i ++ no_edge_word (of_node node ss) i)
-    ∙ nothing_after (of_node node es))
+    ∙ ((λ i. words_back edge_maps holds_edge edge_record edge_word edge_back (of_node node es) (held_of_node edge_maps holds_edge node es h) i ++ no_edge_word (of_node node ss) i)
+    ∙ append-nil (of_node node es))
 
 silence_words_again : (es : List (Key × FlatWord)) (ss : List (Key × MaxWord)) → AllByRecursion (IsHeld holds_silence) ss → (node : ℕ) → filter_map silence_word (records_of_node es ss node) ≡ of_node node ss
 silence_words_again es ss h node =
     filter_map-append silence_word (filter_map edge_record (of_node node es)) (filter_map silence_record (of_node node ss))
-    ∙ (λ i. no_silence_word (of_node node es) i ++ words_back max_laws holds_silence silence_record silence_word silence_back (of_node node ss) (held_of_node max_laws holds_silence node ss h) i)
+    ∙ (λ i. no_silence_word (of_node node es) i ++ words_back silence_maps holds_silence silence_record silence_word silence_back (of_node node ss) (held_of_node silence_maps holds_silence node ss h) i)
+
+-- a state that holds something in each slot that it has, of its nodes
+pub state_from : (s : State) → AllByRecursion (IsHeld holds_edge) (entries s.edges) → AllByRecursion (IsHeld holds_silence) (entries s.silences)
+    → AllByRecursion (λ (e : Key × FlatWord). e.0.0 < s.nodes) (entries s.edges) → AllByRecursion (λ (e : Key × MaxWord). e.0.0 < s.nodes) (entries s.silences)
+    → state_of s.nodes (canonical s) ≡ s
+state_from s edges_hold silences_hold edges_below silences_below =
+    let es = entries s.edges in
+    let ss = entries s.silences in
+    let range = range_with_len 0 s.nodes in
+    let edges : map_of key_cmp joined_flat (filter_map edge_word (canonical s)) ≡ s.edges =
+    ap (map_of key_cmp joined_flat) (filter_map-flat_map edge_word (records_of_node es ss) range ∙ same_of_each _ _ (edge_words_again es ss edges_hold) range)
+    ∙ map_again edge_maps s.edges s.nodes edges_below in
+    let silences : map_of key_cmp joined_max (filter_map silence_word (canonical s)) ≡ s.silences =
+    ap (map_of key_cmp joined_max) (filter_map-flat_map silence_word (records_of_node es ss) range ∙ same_of_each _ _ (silence_words_again es ss silences_hold) range)
+    ∙ map_again silence_maps s.silences s.nodes silences_below in
+    same_parts _ _ _ _ _ _ refl edges silences
 
 pub state_again : CanonicalDeterminesTheState
 state_again nodes rs h =
-    let s = state_of nodes rs in
-    let es = entries s.edges in
-    let ss = entries s.silences in
-    let range = range_with_len 0 nodes in
     let below = recursion_from_All (λ r. node_of r < nodes) rs h in
-    let edges : map_of key_cmp joined_flat (filter_map edge_word (canonical s)) ≡ s.edges =
-    ap (map_of key_cmp joined_flat) (filter_map-flat_map edge_word (records_of_node es ss) range ∙ same_of_each _ _ (edge_words_again es ss (edges_held nodes rs)) range)
-    ∙ map_again flat_laws s.edges nodes (All-entries key_cmp_total exact_keys joined_flat (λ e. e.0.0 < nodes) (λ k v w p q. p) (filter_map edge_word rs) (edge_words_below nodes rs below)) in
-    let silences : map_of key_cmp joined_max (filter_map silence_word (canonical s)) ≡ s.silences =
-    ap (map_of key_cmp joined_max) (filter_map-flat_map silence_word (records_of_node es ss) range ∙ same_of_each _ _ (silence_words_again es ss (silences_held nodes rs)) range)
-    ∙ map_again max_laws s.silences nodes (All-entries key_cmp_total exact_keys joined_max (λ e. e.0.0 < nodes) (λ k v w p q. p) (filter_map silence_word rs) (silence_words_below nodes rs below)) in
-    same_parts _ _ _ _ _ _ refl edges silences
+    state_from (state_of nodes rs) (edges_held nodes rs) (silences_held nodes rs)
+    (All-entries key_cmp_total exact_keys joined_flat (λ e. e.0.0 < nodes) (λ k v w p q. p) (filter_map edge_word rs) (edge_words_below nodes rs below))
+    (All-entries key_cmp_total exact_keys joined_max (λ e. e.0.0 < nodes) (λ k v w p q. p) (filter_map silence_word rs) (silence_words_below nodes rs below))
 
 pub merging : MergingIsAppending
 merging nodes xs ys h =
-    ap canonical (sym (state_of-append nodes (canonical (state_of nodes xs)) ys) ∙ (ap (λ s. joined s (state_of nodes ys)) (state_again nodes xs h) ∙ state_of-append nodes xs ys))
+    ap canonical (sym (state_of-append nodes (canonical (state_of nodes xs)) ys) ∙ (ap (λ s. states_joined s (state_of nodes ys)) (state_again nodes xs h) ∙ state_of-append nodes xs ys))
 
 -- ---- states are told apart by their slots
 module _ {W : Type 0} {least : W} {join : W → W → W} {holds : W → Bool} (tells : Tells least join holds) where

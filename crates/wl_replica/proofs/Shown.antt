@@ -12,12 +12,11 @@ use Rattle.std.specs.FinMap.Entries.{find, is_sorted, below_all}
 use Rattle.std.proofs.lemmas.Map.Entries.{lookup-filter-values, option_filter}
 use Rattle.std.proofs.lemmas.Map.Keys.{IsDistinct-from_sorted}
 use Rattle.std.proofs.Common.{sym, ap, ◌∙◌, subst}
-use Rattle.wl_lattice.specs.Laws.{JoinLaws}
-use Rattle.wl_lattice.specs.Maps.{joined_options, joined_maps, map_of, words_at}
-use Rattle.wl_lattice.proofs.MapLemmas.{get-joined_maps, get-map_of}
+use Rattle.wl_lattice.specs.Maps.{joined_options, joined_maps, map_of, words_at, MapLaws}
+use Rattle.wl_replica.proofs.CallerLemmas.{nothing_more}
 use Rattle.wl_replica.specs.Keys.{Key, key_cmp}
 use Rattle.wl_replica.proofs.KeyLaws.{key_cmp_total, exact_keys}
-use Rattle.wl_replica.specs.Kept.{word_in, joined_all, shown}
+use Rattle.wl_replica.specs.Kept.{word_in, joined_all, words_shown}
 use Rattle.wl_replica.proofs.KeptLemmas.{tied_by}
 
 both : (a b : Bool) → T a → T b → T (a && b)
@@ -50,7 +49,7 @@ pub record Tells {W : Type 0} (least : W) (join : W → W → W) (holds : W → 
   pub left : (w : W) → join least w ≡ w
   pub right : (w : W) → join w least ≡ w
 
-module _ {W : Type 0} {is_word : W → Type 0} {least : W} {join : W → W → W} {holds : W → Bool} (laws : JoinLaws is_word least join) (tells : Tells least join holds) where
+module _ {W : Type 0} {least : W} {join : W → W → W} {holds : W → Bool} (laws : MapLaws {K = Key} key_cmp join) (tells : Tells least join holds) where
   abbrev pub seen : W → Option W
   seen w = cond (holds w) (Some w) None
 
@@ -58,7 +57,7 @@ module _ {W : Type 0} {is_word : W → Type 0} {least : W} {join : W → W → W
   filtered None = ap (λ b. cond b (Some least) None) (sym tells.none)
   filtered (Some w) = refl
 
-  pub get-shown : (m : BTreeMap Key W) → IsOrdered key_cmp m → (q : Key) → get (shown holds m.entries) q ≡ seen (word_in least m q)
+  pub get-shown : (m : BTreeMap Key W) → IsOrdered key_cmp m → (q : Key) → get (words_shown holds m.entries) q ≡ seen (word_in least m q)
   get-shown m h q =
       get-from_sorted key_cmp (filter (λ e. holds e.1) m.entries) q (sorted_filter holds m.entries h)
       ∙ (find_is_lookup q (filter (λ e. holds e.1) m.entries)
@@ -66,7 +65,7 @@ module _ {W : Type 0} {is_word : W → Type 0} {least : W} {join : W → W → W
       ∙ filtered (lookup (eq_by_cmp key_cmp q) m.entries)))
 
   -- maps that have the same words show the same
-  pub shown_same : (m n : BTreeMap Key W) → IsOrdered key_cmp m → IsOrdered key_cmp n → ((q : Key) → word_in least n q ≡ word_in least m q) → shown holds n.entries ≡ shown holds m.entries
+  pub shown_same : (m n : BTreeMap Key W) → IsOrdered key_cmp m → IsOrdered key_cmp n → ((q : Key) → word_in least n q ≡ word_in least m q) → words_shown holds n.entries ≡ words_shown holds m.entries
   shown_same m n h k same = same_map key_cmp_total exact_keys _ _ (λ q. get-shown n k q ∙ (ap seen (same q) ∙ sym (get-shown m h q)))
 
   seen_both : (a b : Bool) (v w : W) → holds v ≡ a → holds w ≡ b → seen (join v w) ≡ joined_options join (cond a (Some v) None) (cond b (Some w) None)
@@ -101,14 +100,10 @@ module _ {W : Type 0} {is_word : W → Type 0} {least : W} {join : W → W → W
   -- a map with another's words joined in shows both, joined
   pub shown_joined : (m n other : BTreeMap Key W) → IsOrdered key_cmp m → IsOrdered key_cmp n → IsOrdered key_cmp other
       → ((q : Key) → word_in least n q ≡ joined_all join (word_in least m q) other.entries q)
-      → shown holds n.entries ≡ joined_maps join (shown holds m.entries) (shown holds other.entries)
+      → words_shown holds n.entries ≡ joined_maps join (words_shown holds m.entries) (words_shown holds other.entries)
   shown_joined m n other h k l is = same_map key_cmp_total exact_keys _ _ (λ q.
       get-shown n k q ∙ (ap seen (is q ∙ joined_all-is other.entries l (word_in least m q) q) ∙ (seen-join (word_in least m q) (word_in least other q)
-      ∙ ((λ i. joined_options join (sym (get-shown m h q) i) (sym (get-shown other l q) i)) ∙ sym (get-joined_maps laws key_cmp_total (shown holds m.entries) (shown holds other.entries) q)))))
-
-  nothing_more : (a : Option W) → joined_options join a None ≡ a
-  nothing_more None = refl
-  nothing_more (Some v) = refl
+      ∙ ((λ i. joined_options join (sym (get-shown m h q) i) (sym (get-shown other l q) i)) ∙ sym (laws.key_by_key (words_shown holds m.entries) (words_shown holds other.entries) q)))))
 
   -- with one word raised
   single : (b c : Bool) (k q : Key) (v w : W) → eq_by_cmp key_cmp q k ≡ b → holds w ≡ c
@@ -116,29 +111,29 @@ module _ {W : Type 0} {is_word : W → Type 0} {least : W} {join : W → W → W
   single true true k q v w e f =
       ap (λ x. seen (cond x (join v w) v)) e ∙ (seen-join v w ∙ (ap (λ x. joined_options join (seen v) (cond x (Some w) None)) f ∙ sym (ap (λ x. joined_options join (seen v) (cond x (Some w) None)) e)))
   single true false k q v w e f = ap (λ x. seen (cond x (join v w) v)) e ∙ (seen-join v w ∙ ap (λ x. joined_options join (seen v) (cond x (Some w) None)) f)
-  single false true k q v w e f = ap (λ x. seen (cond x (join v w) v)) e ∙ (sym (nothing_more (seen v)) ∙ sym (ap (λ x. joined_options join (seen v) (cond x (Some w) None)) e))
-  single false false k q v w e f = ap (λ x. seen (cond x (join v w) v)) e ∙ sym (nothing_more (seen v))
+  single false true k q v w e f = ap (λ x. seen (cond x (join v w) v)) e ∙ (sym (nothing_more join (seen v)) ∙ sym (ap (λ x. joined_options join (seen v) (cond x (Some w) None)) e))
+  single false false k q v w e f = ap (λ x. seen (cond x (join v w) v)) e ∙ sym (nothing_more join (seen v))
 
   pub shown_raised : (m n : BTreeMap Key W) (k : Key) (w : W) → IsOrdered key_cmp m → IsOrdered key_cmp n
       → ((q : Key) → word_in least n q ≡ joined_all join (word_in least m q) ((k, w) ∷ []) q)
-      → shown holds n.entries ≡ joined_maps join (shown holds m.entries) (map_of key_cmp join (cond (holds w) ((k, w) ∷ []) []))
+      → words_shown holds n.entries ≡ joined_maps join (words_shown holds m.entries) (map_of key_cmp join (cond (holds w) ((k, w) ∷ []) []))
   shown_raised m n k w h l is = same_map key_cmp_total exact_keys _ _ (λ q.
       get-shown n l q ∙ (ap seen (is q) ∙ (single _ _ k q (word_in least m q) w refl refl
-      ∙ ((λ i. joined_options join (sym (get-shown m h q) i) (sym (get-map_of laws key_cmp_total (cond (holds w) ((k, w) ∷ []) []) q) i)) ∙ sym (get-joined_maps laws key_cmp_total (shown holds m.entries) _ q)))))
+      ∙ ((λ i. joined_options join (sym (get-shown m h q) i) (sym (laws.of_entries (cond (holds w) ((k, w) ∷ []) []) q) i)) ∙ sym (laws.key_by_key (words_shown holds m.entries) _ q)))))
 
   pub joined_nothing : (m : FinMap key_cmp W) → joined_maps join m (map_of key_cmp join []) ≡ m
-  joined_nothing m = same_map key_cmp_total exact_keys _ _ (λ q. get-joined_maps laws key_cmp_total m _ q ∙ (ap (joined_options join (get m q)) (get-map_of laws key_cmp_total [] q) ∙ nothing_more (get m q)))
+  joined_nothing m = same_map key_cmp_total exact_keys _ _ (λ q. laws.key_by_key m _ q ∙ (ap (joined_options join (get m q)) (laws.of_entries [] q) ∙ nothing_more join (get m q)))
 
   -- a map joined into an empty one
   pub joined_into_nothing : (m : FinMap key_cmp W) → joined_maps join (map_of key_cmp join []) m ≡ m
-  joined_into_nothing m = same_map key_cmp_total exact_keys _ _ (λ q. get-joined_maps laws key_cmp_total _ m q ∙ ap (λ g. joined_options join g (get m q)) (get-map_of laws key_cmp_total [] q))
+  joined_into_nothing m = same_map key_cmp_total exact_keys _ _ (λ q. laws.key_by_key _ m q ∙ ap (λ g. joined_options join g (get m q)) (laws.of_entries [] q))
 
   held : (b : Bool) (w : W) → holds w ≡ b → unwrap_or (cond b (Some w) None) least ≡ w
   held true w e = refl
   held false w e = sym (tells.empty w e)
 
   -- the word that is shown is the one kept
-  pub word_shown : (m : BTreeMap Key W) → IsOrdered key_cmp m → (q : Key) → unwrap_or (get (shown holds m.entries) q) least ≡ word_in least m q
+  pub word_shown : (m : BTreeMap Key W) → IsOrdered key_cmp m → (q : Key) → unwrap_or (get (words_shown holds m.entries) q) least ≡ word_in least m q
   word_shown m h q = ap (λ o. unwrap_or o least) (get-shown m h q) ∙ held (holds (word_in least m q)) (word_in least m q) refl
 
 -- a fact that holds anyway holds at an error

@@ -10,20 +10,17 @@ use Rattle.wl_lattice.specs.declared.FlatWord.TheVariants as flat
 use Rattle.wl_lattice.specs.declared.MaxWord.{MaxWord}
 use Rattle.wl_lattice.specs.Words.{joined_flat, joined_max, max_word}
 use Rattle.wl_lattice.specs.Maps.{map_of}
-use Rattle.wl_record.specs.declared.record.Record.{Record}
-use Rattle.wl_record.specs.declared.record.Record.TheVariants.{Edge, Clash, Silence}
+use Rattle.wl_record_core.specs.declared.record.Record.{Record}
+use Rattle.wl_record_core.specs.declared.record.Record.TheVariants.{Edge, Clash, Silence}
 use Rattle.wl_replica.specs.Keys.{Key, key_cmp}
-use Rattle.wl_replica.specs.State.{State, silence_word, joined, taken, state_of, slots_of}
-use Rattle.wl_replica.specs.Slots.{Slots, slots_joined, slots_only, slots_of_records}
+use Rattle.wl_replica.specs.State.{State, silence_word, states_joined, taken, state_of, slots_of}
+use Rattle.wl_replica.specs.Slots.{slots_joined, slots_only, slots_of_records}
 use Rattle.wl_replica.specs.SlotsOf.{SlotsOfStates}
 use Rattle.wl_replica.proofs.SlotBySlot.{edge_at-joined, silence_at-joined, edge_at-none, silence_at-none}
-use Rattle.wl_replica.proofs.SlotsProofs.{slots_laws}
+use Rattle.wl_replica.proofs.SlotsProofs.{slots_laws, slots_same}
 use Rattle.wl_replica.proofs.States.{edge_maps, silence_maps, state_of-append}
 
-slots_same : (a b : Slots) → ((i s : ℕ) → a.edge i s ≡ b.edge i s) → ((i n : ℕ) → a.silence i n ≡ b.silence i n) → a ≡ b
-slots_same a b e s = λ k. record { edge = λ i n. e i n k; silence = λ i n. s i n k }
-
-pub slots_of-joined : (s t : State) → slots_of (joined s t) ≡ slots_joined (slots_of s) (slots_of t)
+pub slots_of-joined : (s t : State) → slots_of (states_joined s t) ≡ slots_joined (slots_of s) (slots_of t)
 slots_of-joined s t = slots_same _ _ (λ i n. edge_at-joined s t (i, n)) (λ i n. silence_at-joined s t (i, n))
 
 -- keys are equal where both numbers are

@@ -8,12 +8,12 @@ use Rattle.wl_lattice.specs.declared.MaxWord.{MaxWord}
 use Rattle.wl_lattice.specs.Words.{joined_flat, joined_max}
 use Rattle.wl_lattice.specs.WordLaws.{flat_laws, max_laws}
 use Rattle.wl_lattice.specs.Maps.{joined_maps, map_of, MapLaws}
-use Rattle.wl_lattice.proofs.MapLemmas.{map_of-same_members}
-use Rattle.wl_lattice.proofs.MapProofs.{map_laws}
-use Rattle.wl_record.specs.declared.record.Record.{Record}
+use Rattle.wl_replica.proofs.SameWords.{same_words}
+use Rattle.wl_lattice.specs.KeyByKey.{map_laws}
+use Rattle.wl_record_core.specs.declared.record.Record.{Record}
 use Rattle.wl_replica.specs.Keys.{Key, key_cmp}
 use Rattle.wl_replica.proofs.KeyLaws.{key_cmp_total, exact_keys}
-use Rattle.wl_replica.specs.State.{State, edge_word, silence_word, state_of, joined, taken_all}
+use Rattle.wl_replica.specs.State.{State, edge_word, silence_word, state_of, states_joined, taken_all}
 use Rattle.wl_replica.specs.Laws.{SameRecordsSameState, TakingIsJoining, IsJoining}
 
 -- the maps of edges, and of silences, are joined key by key
@@ -29,8 +29,8 @@ same_parts m n e f s t p q r = λ i. record { nodes = p i; edges = q i; silences
 
 pub same_state : SameRecordsSameState
 same_state nodes xs ys h =
-    let edges = map_of-same_members flat_laws key_cmp_total edge_word exact_keys xs ys (λ r. (h r).0) (λ r. (h r).1) in
-    let silences = map_of-same_members max_laws key_cmp_total silence_word exact_keys xs ys (λ r. (h r).0) (λ r. (h r).1) in
+    let edges = edge_maps.of_members (filter_map edge_word xs) (filter_map edge_word ys) (same_words edge_word xs ys h) in
+    let silences = silence_maps.of_members (filter_map silence_word xs) (filter_map silence_word ys) (same_words silence_word xs ys h) in
     same_parts _ _ _ _ _ _ refl edges silences
 
 -- a map with nothing joined in is as it was
@@ -53,7 +53,7 @@ filter_map-append {A} {B} f (x ∷ xs) ys = ap (cons_option (f x)) (filter_map-a
   cons_append (Some y) = refl
 
 -- the states of two lists, joined
-pub state_of-append : (nodes : ℕ) (xs ys : List Record) → joined (state_of nodes xs) (state_of nodes ys) ≡ state_of nodes (xs ++ ys)
+pub state_of-append : (nodes : ℕ) (xs ys : List Record) → states_joined (state_of nodes xs) (state_of nodes ys) ≡ state_of nodes (xs ++ ys)
 state_of-append nodes xs ys =
     let edges = sym (ap (map_of key_cmp joined_flat) (filter_map-append edge_word xs ys) ∙ edge_maps.of_both (filter_map edge_word xs) (filter_map edge_word ys)) in
     let silences = sym (ap (map_of key_cmp joined_max) (filter_map-append silence_word xs ys) ∙ silence_maps.of_both (filter_map silence_word xs) (filter_map silence_word ys)) in
@@ -63,12 +63,12 @@ pub taking : TakingIsJoining
 taking = record {
   both = state_of-append;
   more = state_of-append;
-  in_parts = λ s xs ys. joining.associates s (state_of s.nodes xs) (state_of s.nodes ys) ∙ ap (joined s) (state_of-append s.nodes xs ys);
+  in_parts = λ s xs ys. joining.associates s (state_of s.nodes xs) (state_of s.nodes ys) ∙ ap (states_joined s) (state_of-append s.nodes xs ys);
 }
 
 -- what took some records, and takes more, took all of them
 pub taken_after : (s t : State) (more : List Record) → t ≡ taken_all s more → (rs : List Record) → s ≡ state_of s.nodes rs → t ≡ state_of s.nodes (rs ++ more)
-taken_after s t more is rs before = is ∙ (ap (λ u. joined u (state_of s.nodes more)) before ∙ state_of-append s.nodes rs more)
+taken_after s t more is rs before = is ∙ (ap (λ u. states_joined u (state_of s.nodes more)) before ∙ state_of-append s.nodes rs more)
 
-pub joined_after : (s t u : State) → u ≡ joined s t → (mine theirs : List Record) → s ≡ state_of s.nodes mine → t ≡ state_of s.nodes theirs → u ≡ state_of s.nodes (mine ++ theirs)
-joined_after s t u is mine theirs p q = is ∙ ((λ i. joined (p i) (q i)) ∙ state_of-append s.nodes mine theirs)
+pub joined_after : (s t u : State) → u ≡ states_joined s t → (mine theirs : List Record) → s ≡ state_of s.nodes mine → t ≡ state_of s.nodes theirs → u ≡ state_of s.nodes (mine ++ theirs)
+joined_after s t u is mine theirs p q = is ∙ ((λ i. states_joined (p i) (q i)) ∙ state_of-append s.nodes mine theirs)

@@ -7,7 +7,7 @@ use Rattle.wl_lattice.specs.declared.FlatWord.{FlatWord}
 use Rattle.wl_lattice.specs.declared.FlatWord.TheVariants.{Nothing, Value, Clash}
 use Rattle.wl_lattice.specs.Words.{joined_flat, joined_max, max_word}
 use Rattle.std.specs.FinMap.{empty, same_map, get-from_sorted, get-empty}
-use Rattle.wl_replica.specs.Kept.{shown}
+use Rattle.wl_replica.specs.Kept.{words_shown}
 use Rattle.wl_replica.specs.Keys.{Key, key_cmp}
 use Rattle.wl_replica.proofs.KeyLaws.{key_cmp_total, exact_keys}
 use Rattle.wl_replica.specs.Kept.{holds_edge, holds_silence}
@@ -52,8 +52,8 @@ tells_silence = record {
   right = λ w. ap max_word (omega arith);
 }
 
-pub shown_nothing : {W : Type 0} (holds : W → Bool) (es : List (Key × W)) → es ≡ [] → shown holds es ≡ empty {R = key_cmp}
-shown_nothing holds es e = ap (shown holds) e ∙ same_map key_cmp_total exact_keys _ _ (λ q. get-from_sorted key_cmp [] q tt ∙ sym (get-empty key_cmp q))
+pub shown_nothing : {W : Type 0} (holds : W → Bool) (es : List (Key × W)) → es ≡ [] → words_shown holds es ≡ empty {R = key_cmp}
+shown_nothing holds es e = ap (words_shown holds) e ∙ same_map key_cmp_total exact_keys _ _ (λ q. get-from_sorted key_cmp [] q tt ∙ sym (get-empty key_cmp q))
 
 pub one_silence : {A : Type 0} (b : Bool) (x : A) → cond (not b) (x ∷ []) [] ≡ cons_option (if b then None else Some x) []
 one_silence true x = refl

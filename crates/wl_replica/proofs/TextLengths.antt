@@ -1,8 +1,8 @@
 -- The canonical list of records that fit has records that fit, and its text is not longer than theirs.
-use Rattle.std.specs.Prelude.{◌≡◌, ℕ, ◌+◌, ◌≤◌, ◌==◌, nat_lt, ◌||◌, max, Bool, true, false, cond, if◌then◌else◌, List, [], ◌∷◌, ◌++◌, Option, None, Some, length, All, refl, ◌<◌}
+use Rattle.std.specs.Prelude.{◌≡◌, ℕ, ◌+◌, ◌≤◌, ◌==◌, nat_lt, ◌||◌, Bool, true, false, cond, if◌then◌else◌, List, [], ◌∷◌, ◌++◌, Option, None, Some, length, All, refl, ◌<◌}
 use Rattle.std.specs.List.{filter_map, cons_option, flat_map, range_with_len, AllByRecursion}
 use Rattle.std.specs.FinMap.{entries}
-use Rattle.std.proofs.Common.{sym, ap, ◌∙◌, arith, subst, length-append, ◌⊎◌, inl, inr}
+use Rattle.std.proofs.Common.{sym, ap, ◌∙◌, arith, subst, length-append, inl, inr}
 use Rattle.std.proofs.lemmas.Bool.Decides.{nat_tests}
 use Rattle.std.proofs.lemmas.List.Elements.{recursion_from_All, All-from_recursion, All-append, All-nil}
 use Prim.Native.Nat.{zero, suc}
@@ -10,9 +10,10 @@ use Rattle.wl_lattice.specs.declared.FlatWord.{FlatWord}
 use Rattle.wl_lattice.specs.declared.FlatWord.TheVariants as flat
 use Rattle.wl_lattice.specs.declared.MaxWord.{MaxWord}
 use Rattle.wl_lattice.specs.Words.{joined_flat, joined_max, max_word}
-use Rattle.wl_record.specs.declared.record.Record.{Record}
-use Rattle.wl_record.specs.declared.record.Record.TheVariants.{Edge, Clash, Silence}
-use Rattle.wl_record.specs.Text.{line_of, text_of}
+use Rattle.wl_record_core.specs.declared.record.Record.{Record}
+use Rattle.wl_record_core.specs.declared.record.Record.TheVariants.{Edge, Clash, Silence}
+use Rattle.wl_record_core.specs.Text.{text_line, text_of}
+use Rattle.wl_replica.proofs.CallerLemmas.{max_cases, none_below, below_next, not_same}
 use Rattle.wl_replica.specs.Keys.{Key}
 use Rattle.wl_replica.specs.State.{edge_word, silence_word, state_of, Fits, FitsEdge, FitsSilence}
 use Rattle.wl_replica.specs.Canonical.{edge_record, silence_record, of_node, records_of_node, canonical}
@@ -25,16 +26,16 @@ use Rattle.wl_replica.proofs.EntryLemmas.{All-entries, total, total-entries}
 text_of-append : (xs ys : List Record) → length (text_of (xs ++ ys)) ≡ length (text_of xs) + length (text_of ys)
 text_of-append [] ys = omega arith
 text_of-append (x ∷ xs) ys =
-    omega (arith, length-append (line_of x) (text_of (xs ++ ys)), length-append (line_of x) (text_of xs), text_of-append xs ys)
+    omega (arith, length-append (text_line x) (text_of (xs ++ ys)), length-append (text_line x) (text_of xs), text_of-append xs ys)
 
 -- what a record adds, if there is one
 abbrev weight : Option Record → ℕ
 weight None = 0
-weight (Some r) = length (line_of r)
+weight (Some r) = length (text_line r)
 
 text_of-cons_option : (o : Option Record) (rs : List Record) → length (text_of (cons_option o rs)) ≡ weight o + length (text_of rs)
 text_of-cons_option None rs = omega arith
-text_of-cons_option (Some r) rs = length-append (line_of r) (text_of rs)
+text_of-cons_option (Some r) rs = length-append (text_line r) (text_of rs)
 
 -- ---- an edge's word, and a silence's
 abbrev edge_weight : Key × FlatWord → ℕ
@@ -43,7 +44,7 @@ edge_weight e = weight (edge_record e)
 abbrev silence_weight : Key × MaxWord → ℕ
 silence_weight e = weight (silence_record e)
 
-clash_is_shorter : (i s t : ℕ) → length (line_of (Clash i s)) ≤ length (line_of (Edge i s t))
+clash_is_shorter : (i s t : ℕ) → length (text_line (Clash i s)) ≤ length (text_line (Edge i s t))
 clash_is_shorter i s t = simp length-append (omega arith)
 
 edge_adds : (k : Key) (v w : FlatWord) → edge_weight (k, joined_flat v w) ≤ edge_weight (k, v) + edge_weight (k, w)
@@ -55,11 +56,8 @@ edge_adds k (flat.Value x) (flat.Value y) =
 edge_adds k (flat.Value x) flat.Clash = omega arith
 edge_adds k flat.Clash w = omega arith
 
-greater_is_one : (a b : ℕ) → (max a b ≡ a) ⊎ (max a b ≡ b)
-greater_is_one a b = grind arith
-
 silence_adds : (k : Key) (v w : MaxWord) → silence_weight (k, joined_max v w) ≤ silence_weight (k, v) + silence_weight (k, w)
-silence_adds k v w = elim (greater_is_one v.word w.word) [
+silence_adds k v w = elim (max_cases v.word w.word) [
   | inl e ↦ let same : silence_weight (k, joined_max v w) ≡ silence_weight (k, v) = ap (λ n. silence_weight (k, max_word n)) e in omega arith
   | inr e ↦ let same : silence_weight (k, joined_max v w) ≡ silence_weight (k, w) = ap (λ n. silence_weight (k, max_word n)) e in omega arith
 ]
@@ -73,15 +71,15 @@ silence_total es = total silence_weight es
 
 words_weigh : (rs : List Record) → edge_total (filter_map edge_word rs) + silence_total (filter_map silence_word rs) ≤ length (text_of rs)
 words_weigh [] = omega arith
-words_weigh (Edge i s t ∷ rs) = omega (arith, length-append (line_of (Edge i s t)) (text_of rs), words_weigh rs)
-words_weigh (Clash i s ∷ rs) = omega (arith, length-append (line_of (Clash i s)) (text_of rs), words_weigh rs)
+words_weigh (Edge i s t ∷ rs) = omega (arith, length-append (text_line (Edge i s t)) (text_of rs), words_weigh rs)
+words_weigh (Clash i s ∷ rs) = omega (arith, length-append (text_line (Clash i s)) (text_of rs), words_weigh rs)
 words_weigh (Silence i c u ∷ rs) =
-    let line : length (text_of (Silence i c u ∷ rs)) ≡ length (line_of (Silence i c u)) + length (text_of rs) = length-append (line_of (Silence i c u)) (text_of rs) in
+    let line : length (text_of (Silence i c u ∷ rs)) ≡ length (text_line (Silence i c u)) + length (text_of rs) = length-append (text_line (Silence i c u)) (text_of rs) in
     let rest = words_weigh rs in
     elim (u == 0) as (λ b. (u == 0) ≡ b → edge_total (filter_map edge_word rs) + silence_total (cons_option (if b then None else Some ((i, c), max_word u)) (filter_map silence_word rs)) ≤ length (text_of (Silence i c u ∷ rs))) [
       | true ↦ λ is. omega (arith, rest, line)
       | false ↦ λ is.
-          let one : silence_weight ((i, c), max_word u) ≡ length (line_of (Silence i c u)) = ap (λ b. weight (if b then None else Some (Silence i c u))) is in
+          let one : silence_weight ((i, c), max_word u) ≡ length (text_line (Silence i c u)) = ap (λ b. weight (if b then None else Some (Silence i c u))) is in
           omega (arith, rest, line, one)
     ] refl
 
@@ -134,16 +132,9 @@ once true false c w e apart = (let f : w + 0 ≡ w = omega arith in f) ∙ ap (�
 once false b c w e apart = (let f : 0 + cond b w 0 ≡ cond b w 0 = omega arith in f) ∙ ap (λ x. cond x w 0) (sym e)
 
 over_nodes-one : (i w n : ℕ) → over_nodes n (λ node. cond (i == node) w 0) ≡ cond (nat_lt i n) w 0
-over_nodes-one i w zero = ap (λ b. cond b w 0) (none_below i) where
-  none_below : (m : ℕ) → false ≡ nat_lt m 0
-  none_below m = grind (arith, nat_tests)
+over_nodes-one i w zero = ap (λ b. cond b w 0) (none_below i)
 over_nodes-one i w (suc n) =
-    ap (λ u. u + cond (i == n) w 0) (over_nodes-one i w n) ∙ once (nat_lt i n) (i == n) (nat_lt i (suc n)) w (below_next i n) (not_same i n) where
-      below_next : (m n : ℕ) → nat_lt m (suc n) ≡ (nat_lt m n || (m == n))
-      below_next m n = grind (arith, nat_tests)
-
-      not_same : (m n : ℕ) → nat_lt m n ≡ true → (m == n) ≡ false
-      not_same m n h = grind (arith, nat_tests)
+    ap (λ u. u + cond (i == n) w 0) (over_nodes-one i w n) ∙ once (nat_lt i n) (i == n) (nat_lt i (suc n)) w (below_next i n) (not_same i n)
 
 at_most : (b : Bool) (w : ℕ) → cond b w 0 ≤ w
 at_most true w = omega arith
@@ -185,7 +176,7 @@ module _ (nodes : ℕ) where
   edge_fits k flat.Clash w p q = p
 
   pub silence_fits : (k : Key) (v w : MaxWord) → FitsSilence nodes (k, v) → FitsSilence nodes (k, w) → FitsSilence nodes (k, joined_max v w)
-  silence_fits k v w p q = elim (greater_is_one v.word w.word) [
+  silence_fits k v w p q = elim (max_cases v.word w.word) [
     | inl e ↦ subst (λ n. 0 < n → Fits nodes (Silence k.0 k.1 n)) (sym e) p
     | inr e ↦ subst (λ n. 0 < n → Fits nodes (Silence k.0 k.1 n)) (sym e) q
   ]

@@ -1,29 +1,24 @@
 -- Records that are true of a table make slots that hold what is true of it, and so do joined ones.
-use Rattle.std.proofs.Common.{◌≡◌, ℕ, ◌<◌, ◌≤◌, max, Bool, true, false, ◌&&◌, ◌⊎◌, inl, inr, List, [], ◌∷◌, refl, sym, ◌∙◌, subst, arith, ◌==◌, Some, if◌then◌else◌}
-use Rattle.std.proofs.lemmas.Bool.{cases_lt, cases_Bool, eqb-true, eq-eqb, and_parts, and_from, cond-true, cond-false}
+use Rattle.std.proofs.Common.{◌≡◌, ℕ, ◌<◌, ◌≤◌, Bool, true, false, ◌&&◌, ◌⊎◌, inl, inr, List, [], ◌∷◌, refl, sym, ◌∙◌, subst, arith, ◌==◌, if◌then◌else◌}
+use Rattle.std.proofs.lemmas.Bool.{cases_Bool, eqb-true, eq-eqb, and_parts, and_from, cond-true, cond-false}
 use Rattle.wl_lattice.specs.declared.FlatWord.{FlatWord}
 use Rattle.wl_lattice.specs.declared.FlatWord.TheVariants as flat
 use Rattle.wl_lattice.specs.Words.{joined_flat}
 use Rattle.wl_lattice.specs.WordLaws.{value_from, clash_from, value_kept}
-use Rattle.wl_record.specs.declared.record.Record.{Record}
-use Rattle.wl_record.specs.declared.record.Record.TheVariants.{Edge, Clash, Silence}
-use Rattle.wl_record.specs.Truth.{IsTrueOf, AreTrueOf}
-use Rattle.wl_record.specs.TableLaws.{TableLaws}
-use Rattle.wl_replica.specs.Slots.{Slots, no_slots, slots_joined, silence_in, slots_only, slots_of_records, HoldsTrue, IsBelow}
+use Rattle.wl_record_core.specs.declared.record.Record.{Record}
+use Rattle.wl_record_core.specs.declared.record.Record.TheVariants.{Edge, Clash, Silence}
+use Rattle.wl_record_core.specs.Truth.{IsTrueOf, AreTrueOf}
+use Rattle.wl_record_core.specs.TableLaws.{TableLaws}
+use Rattle.wl_replica.proofs.CallerLemmas.{max_cases, some_is}
+use Rattle.wl_replica.specs.Slots.{Contents, no_slots, slots_joined, silence_in, slots_only, slots_of_records, HoldsTrue, IsBelow}
 use Rattle.wl_replica.specs.KnownLaws.{KnownLaws}
 use Rattle.wl_replica.proofs.KnownProofs.{tick_stays, place_known, place_above, wave_agrees, horizon_keeps, horizon_reached, changes_held}
 
-max_cases : (a b : ℕ) → (max a b ≡ a) ⊎ (max a b ≡ b)
-max_cases a b = elim (cases_lt a b) [ inl l ↦ inr (omega arith) | inr g ↦ inl (omega arith) ]
-
-some_same : (a b : ℕ) → Some a ≡ Some b → a ≡ b
-some_same a b h = cc
-
 -- two true ticks of one slot are one
 ticks_same : (nodes : ℕ) (table : ℕ → List ℕ) (i s x y : ℕ) → IsTrueOf nodes table (Edge i s x) → IsTrueOf nodes table (Edge i s y) → x ≡ y
-ticks_same nodes table i s x y p q = some_same x y (sym p.1 ∙ q.1)
+ticks_same nodes table i s x y p q = some_is x y (sym p.1 ∙ q.1)
 
-true_joined : (nodes : ℕ) (table : ℕ → List ℕ) (a b : Slots) → HoldsTrue nodes table a → HoldsTrue nodes table b → HoldsTrue nodes table (slots_joined a b)
+true_joined : (nodes : ℕ) (table : ℕ → List ℕ) (a b : Contents) → HoldsTrue nodes table a → HoldsTrue nodes table b → HoldsTrue nodes table (slots_joined a b)
 true_joined nodes table a b p q = record {
   edges = λ i s t h. elim (value_from (a.edge i s) (b.edge i s) t h) [ inl x ↦ p.edges i s t x | inr y ↦ q.edges i s t y ];
   no_clash = λ i s h. elim (clash_from (a.edge i s) (b.edge i s) h) [
@@ -89,13 +84,13 @@ true_records nodes table [] h = true_nothing nodes table
 true_records nodes table (r ∷ rs) h = true_joined nodes table (slots_of_records rs) (slots_only r) (true_records nodes table rs h.1) (true_only nodes table r h.0)
 
 -- what a record says stands in slots above it
-edge_held : (nodes : ℕ) (table : ℕ → List ℕ) (w : Slots) (i s t : ℕ) → HoldsTrue nodes table w → IsBelow (slots_only (Edge i s t)) w → w.edge i s ≡ flat.Value t
+edge_held : (nodes : ℕ) (table : ℕ → List ℕ) (w : Contents) (i s t : ℕ) → HoldsTrue nodes table w → IsBelow (slots_only (Edge i s t)) w → w.edge i s ≡ flat.Value t
 edge_held nodes table w i s t h b =
     value_kept t (w.edge i s)
     (subst (λ v. joined_flat v (w.edge i s) ≡ w.edge i s) (cond-true (i == i && (s == s)) (flat.Value t) flat.Nothing (and_from _ _ (eq-eqb i i refl) (eq-eqb s s refl))) (b.edges i s))
     (h.no_clash i s)
 
-silence_held : (w : Slots) (i n u : ℕ) → IsBelow (slots_only (Silence i n u)) w → u ≤ w.silence i n
+silence_held : (w : Contents) (i n u : ℕ) → IsBelow (slots_only (Silence i n u)) w → u ≤ w.silence i n
 silence_held w i n u b =
     let e : silence_in (Silence i n u) i n ≡ u = cond-true (i == i && (n == n)) u 0 (and_from _ _ (eq-eqb i i refl) (eq-eqb n n refl)) in
     let f : silence_in (Silence i n u) i n ≤ w.silence i n = b.silences i n in

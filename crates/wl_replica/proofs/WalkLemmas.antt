@@ -16,7 +16,7 @@ use Rattle.wl_lattice.specs.declared.FlatWord.TheVariants as flat
 use Rattle.wl_replica.specs.Keys.{Key, key_cmp}
 use Rattle.wl_replica.specs.Canonical.{of_node}
 use Rattle.wl_replica.specs.Kept.{edges_in}
-use Rattle.wl_replica.specs.Known.{is_tick, tick_in, goes_on, is_run, greatest, after_edges}
+use Rattle.wl_replica.specs.Known.{is_tick, tick_in, run_goes_on, is_run, greatest, after_edges}
 use Rattle.wl_replica.proofs.KeptLemmas.{found}
 
 -- ---- the greatest number that passes
@@ -36,18 +36,18 @@ longest_passes e s (suc b) = elim (is_run e s (suc b)) as (λ v. is_run e s (suc
 ] refl
 
 -- no run goes past a number that does not go on
-run_stops : (e : ℕ → FlatWord) (s : ℕ → ℕ) (m n : ℕ) → goes_on e s m ≡ false → m < n → is_run e s n ≡ false
+run_stops : (e : ℕ → FlatWord) (s : ℕ → ℕ) (m n : ℕ) → run_goes_on e s m ≡ false → m < n → is_run e s n ≡ false
 run_stops e s m zero stop lt = absurd (omega arith)
 run_stops e s m (suc n) stop lt = elim (cases_eq m n) [
-  | inl same ↦ and_right (is_run e s n) (goes_on e s n) (sym (ap (goes_on e s) same) ∙ stop)
-  | inr other ↦ and_left (is_run e s n) (goes_on e s n) (run_stops e s m n stop (omega arith))
+  | inl same ↦ and_right (is_run e s n) (run_goes_on e s n) (sym (ap (run_goes_on e s) same) ∙ stop)
+  | inr other ↦ and_left (is_run e s n) (run_goes_on e s n) (run_stops e s m n stop (omega arith))
 ]
 
-pub longest_run : (e : ℕ → FlatWord) (s : ℕ → ℕ) (b m : ℕ) → m ≤ b → is_run e s m ≡ true → goes_on e s m ≡ false → m ≡ greatest b (is_run e s)
+pub longest_run : (e : ℕ → FlatWord) (s : ℕ → ℕ) (b m : ℕ) → m ≤ b → is_run e s m ≡ true → run_goes_on e s m ≡ false → m ≡ greatest b (is_run e s)
 longest_run e s b m h run stop = sym (greatest_is b m (is_run e s) h run (λ n lt. run_stops e s m n stop lt))
 
 -- what does not go on: no tick, one inside a silence, or one not above the last
-no_tick : (e : ℕ → FlatWord) (s : ℕ → ℕ) (m : ℕ) → is_tick (e m) ≡ false → goes_on e s m ≡ false
+no_tick : (e : ℕ → FlatWord) (s : ℕ → ℕ) (m : ℕ) → is_tick (e m) ≡ false → run_goes_on e s m ≡ false
 no_tick e s zero h = and_left _ _ h
 no_tick e s (suc n) h = and_left _ _ (and_left _ _ h)
 
@@ -56,7 +56,7 @@ no_value flat.Nothing h = refl
 no_value (flat.Value t) h = absurd (h t refl)
 no_value flat.Clash h = refl
 
-pub no_more : (e : ℕ → FlatWord) (s : ℕ → ℕ) (m : ℕ) → is_tick (e m) ≡ false → goes_on e s m ≡ false
+pub no_more : (e : ℕ → FlatWord) (s : ℕ → ℕ) (m : ℕ) → is_tick (e m) ≡ false → run_goes_on e s m ≡ false
 no_more = no_tick
 
 above : (a b t : ℕ) → a ≡ t → t < suc b → nat_lt b a ≡ false
@@ -73,15 +73,15 @@ outside-is a b t e h = grind (arith, nat_tests)
 
 module _ (e : ℕ → FlatWord) (s : ℕ → ℕ) (t : ℕ) where
   -- edge m is not above the one before, or lies inside the silence before it
-  pub not_above : (m : ℕ) → e m ≡ flat.Value t → t < after_edges e m → goes_on e s m ≡ false
+  pub not_above : (m : ℕ) → e m ≡ flat.Value t → t < after_edges e m → run_goes_on e s m ≡ false
   not_above zero is lt = absurd (omega arith)
   not_above (suc n) is lt = and_right _ _ (above (tick_in (e (suc n))) (tick_in (e n)) t (ap tick_in is) lt)
 
-  pub inside : (m : ℕ) → e m ≡ flat.Value t → t < s m → goes_on e s m ≡ false
+  pub inside : (m : ℕ) → e m ≡ flat.Value t → t < s m → run_goes_on e s m ≡ false
   inside zero is lt = and_right _ _ (outside (tick_in (e 0)) (s 0) t (ap tick_in is) lt)
   inside (suc n) is lt = and_left _ _ (and_right _ _ (outside (tick_in (e (suc n))) (s (suc n)) t (ap tick_in is) lt))
 
-  goes : (m : ℕ) → e m ≡ flat.Value t → after_edges e m ≤ t → s m ≤ t → goes_on e s m ≡ true
+  goes : (m : ℕ) → e m ≡ flat.Value t → after_edges e m ≤ t → s m ≤ t → run_goes_on e s m ≡ true
   goes zero is a b = and_from _ _ (ap is_tick is) (outside-is (tick_in (e 0)) (s 0) t (ap tick_in is) b)
   goes (suc n) is a b =
       and_from _ _ (and_from _ _ (ap is_tick is) (outside-is (tick_in (e (suc n))) (s (suc n)) t (ap tick_in is) b)) (above-is (tick_in (e (suc n))) (tick_in (e n)) t (ap tick_in is) a)
@@ -90,7 +90,7 @@ module _ (e : ℕ → FlatWord) (s : ℕ → ℕ) (t : ℕ) where
   pub run_more : (m n : ℕ) → n ≡ m → is_run e s m ≡ true → e m ≡ flat.Value t → after_edges e m ≤ t → s m ≤ t → is_run e s (n + 1) ≡ true
   run_more m n same run is a b =
       let next : suc m ≡ n + 1 = omega arith in
-      subst (λ k. is_run e s k ≡ true) next (and_from (is_run e s m) (goes_on e s m) run (goes m is a b))
+      subst (λ k. is_run e s k ≡ true) next (and_from (is_run e s m) (run_goes_on e s m) run (goes m is a b))
 
   pub end_more : (m n : ℕ) → n ≡ m → e m ≡ flat.Value t → t + 1 ≡ after_edges e (n + 1)
   end_more m n same is =

@@ -9,12 +9,15 @@ use Rattle.std.specs.BTreeMap.Range.{range_contains, entries_between}
 use Rattle.std.proofs.lemmas.Bool.{cases_eq, cases_lt, and_parts, and_right, false≢true, le-leb, lt-leb, lt-ltb, le-ltb}
 use Rattle.std.proofs.lemmas.Bool.Decides.{nat_tests}
 use Rattle.std.proofs.lemmas.Map.Entries.{lookup-filter-keys}
+use Rattle.std.proofs.Math.Bool.{not-not}
+use Rattle.std.proofs.lemmas.List.{append-nil}
 use Rattle.wl_intervals.specs.Pairs.{covers, last_end}
 use Rattle.wl_lattice.specs.declared.FlatWord.{FlatWord}
 use Rattle.wl_lattice.specs.declared.FlatWord.TheVariants as flat
 use Rattle.wl_replica.specs.Keys.{Key, key_cmp}
 use Rattle.wl_replica.specs.Kept.{edges_in}
-use Rattle.wl_replica.specs.Known.{is_tick, tick_in, goes_on, is_run, after_edges, known_by, ticks, intervals}
+use Rattle.wl_replica.specs.Known.{is_tick, tick_in, run_goes_on, is_run, after_edges, known_by, ticks, intervals}
+use Rattle.wl_replica.proofs.CallerLemmas.{run_part}
 use Rattle.wl_replica.proofs.KeptLemmas.{found}
 use Rattle.wl_replica.proofs.WalkLemmas.{Rising, none_before, number_at_is, number_after, rising_part}
 
@@ -24,11 +27,7 @@ ticks_from e m zero = []
 ticks_from e m (suc d) = tick_in (e m) ∷ ticks_from e (suc m) d
 
 ticks_both : (e : ℕ → FlatWord) (m d : ℕ) → ticks e m ++ ticks_from e m d ≡ ticks e (m + d)
-ticks_both e m zero = nothing_after (ticks e m) ∙ ap (ticks e) (let same : m ≡ m + 0 = omega arith in same)
-  where
-    nothing_after : (xs : List ℕ) → xs ++ [] ≡ xs
-    nothing_after [] = refl
-    nothing_after (x ∷ xs) = ap (λ ys. x ∷ ys) (nothing_after xs)
+ticks_both e m zero = append-nil (ticks e m) ∙ ap (ticks e) (let same : m ≡ m + 0 = omega arith in same)
 ticks_both e m (suc d) =
     sym (append_assoc (ticks e m) (tick_in (e m) ∷ []) (ticks_from e (suc m) d)) ∙ (ticks_both e (suc m) d ∙ ap (ticks e) (let same : suc m + d ≡ m + suc d = omega arith in same))
 
@@ -41,18 +40,11 @@ abbrev pub Climbs : ℕ → List ℕ → ℕ → Type 0
 Climbs low [] h = low ≤ h
 Climbs low (t ∷ ts) h = (low ≤ t) × Climbs (suc t) ts h
 
-run_part : (e : ℕ → FlatWord) (s : ℕ → ℕ) (m n : ℕ) → is_run e s m ≡ true → n < m → goes_on e s n ≡ true
-run_part e s zero n h lt = absurd (omega arith)
-run_part e s (suc m) n h lt = elim (cases_eq n m) [
-  | inl same ↦ subst (λ k. goes_on e s k ≡ true) (sym same) (and_parts _ _ h).1
-  | inr other ↦ run_part e s m n (and_parts _ _ h).0 (omega arith)
-]
-
-goes_tick : (e : ℕ → FlatWord) (s : ℕ → ℕ) (n : ℕ) → goes_on e s n ≡ true → is_tick (e n) ≡ true
+goes_tick : (e : ℕ → FlatWord) (s : ℕ → ℕ) (n : ℕ) → run_goes_on e s n ≡ true → is_tick (e n) ≡ true
 goes_tick e s zero h = (and_parts _ _ h).0
 goes_tick e s (suc n) h = (and_parts _ _ (and_parts _ _ h).0).0
 
-goes_above : (e : ℕ → FlatWord) (s : ℕ → ℕ) (n : ℕ) → goes_on e s n ≡ true → after_edges e n ≤ tick_in (e n)
+goes_above : (e : ℕ → FlatWord) (s : ℕ → ℕ) (n : ℕ) → run_goes_on e s n ≡ true → after_edges e n ≤ tick_in (e n)
 goes_above e s zero h = omega arith
 goes_above e s (suc n) h = above (tick_in (e n)) (tick_in (e (suc n))) (and_parts _ _ h).1 where
   above : (a b : ℕ) → nat_lt a b ≡ true → suc a ≤ b
@@ -84,10 +76,6 @@ none_flips : (low h t : ℕ) (ts : List ℕ) → Climbs low ts h → t < low →
 none_flips low h t [] c lt = refl
 none_flips low h t (x ∷ ts) c lt = ap (λ b. cond b (not (flips ts t)) false) (lt-leb x t (omega (arith, c.0)))
 
-not_not : (b : Bool) → not (not b) ≡ b
-not_not true = refl
-not_not false = refl
-
 pub covers_flips : (low h t : ℕ) (ts : List ℕ) → Climbs low ts h → t < h → covers (intervals ts h) t ≡ flips ts t
 covers_flips low h t [] c lt = refl
 covers_flips low h t (x ∷ []) c lt = ap (λ b. (nat_le x t && b) || false) (lt-ltb t h lt) ∙ last (nat_le x t) where
@@ -103,7 +91,7 @@ covers_flips low h t (x ∷ y ∷ ts) c lt = elim (cases_lt t x) [
     | inr past ↦
         ap (λ b. b || covers (intervals ts h) t) (and_right (nat_le x t) (nat_lt t y) (le-ltb t y past))
         ∙ (covers_flips (suc y) h t ts c.1.1 lt
-        ∙ sym ((λ i. cond (le-leb x t late i) (not (cond (le-leb y t past i) (not (flips ts t)) false)) false) ∙ not_not (flips ts t)))
+        ∙ sym ((λ i. cond (le-leb x t late i) (not (cond (le-leb y t past i) (not (flips ts t)) false)) false) ∙ not-not (flips ts t)))
   ]
 ]
 
@@ -225,10 +213,7 @@ module _ (all : List ℕ) (h : ℕ) (set : List (ℕ × ℕ)) where
   made_more (Some a) after new t left m p q = subst (λ s. IsMade all h s after left) (sym q.0) (subst (λ o. IsMade all h (set ++ (a, t) ∷ []) o left) (sym q.1) (made_closed a t left m))
 
   pub all_made : IsMade all h set None [] → set ≡ intervals all h
-  all_made m = sym (m.makes ∙ nothing_after set) where
-    nothing_after : {A : Type 0} (xs : List A) → xs ++ [] ≡ xs
-    nothing_after [] = refl
-    nothing_after (x ∷ xs) = ap (λ ys. x ∷ ys) (nothing_after xs)
+  all_made m = sym (m.makes ∙ append-nil set)
 
   pub all_ended : (a : ℕ) → IsMade all h set (Some a) [] → set ++ (a, h) ∷ [] ≡ intervals all h
   all_ended a m = sym m.makes
@@ -237,17 +222,12 @@ module _ (all : List ℕ) (h : ℕ) (set : List (ℕ × ℕ)) where
 pub first_tick : (es : List (Key × FlatWord)) (f : Key × FlatWord) (rest : List (Key × FlatWord)) → es ≡ f ∷ rest → AllTicks es → (is_tick f.1 ≡ true) × AllTicks rest
 first_tick es f rest is h = subst AllTicks is h
 
-pub tick_is : (w : FlatWord) → is_tick w ≡ true → w ≡ flat.Value (tick_in w)
-tick_is (flat.Value t) h = refl
-tick_is flat.Nothing h = absurd (false≢true h)
-tick_is flat.Clash h = absurd (false≢true h)
-
 -- the level by the ticks so far, and those to come
 abbrev pub flipped : Bool → List ℕ → ℕ → Bool
 flipped dominant left t = cond dominant (not (flips left t)) (flips left t)
 
 pub flipped_more : (b : Bool) (a t : ℕ) (left : List ℕ) → a ≤ t → flipped (not b) left t ≡ flipped b (a ∷ left) t
-flipped_more true a t left h = sym (not_not (flips left t)) ∙ ap (λ c. not (cond c (not (flips left t)) false)) (sym (le-leb a t h))
+flipped_more true a t left h = sym (not-not (flips left t)) ∙ ap (λ c. not (cond c (not (flips left t)) false)) (sym (le-leb a t h))
 flipped_more false a t left h = ap (λ c. cond c (not (flips left t)) false) (sym (le-leb a t h))
 
 pub flipped_end : (b : Bool) (a t : ℕ) (left : List ℕ) → t < a → b ≡ flipped b (a ∷ left) t

@@ -6,8 +6,8 @@ use Rattle.std.specs.FinMap.{entries}
 use Rattle.wl_lattice.specs.declared.FlatWord.{FlatWord}
 use Rattle.wl_lattice.specs.declared.FlatWord.TheVariants as flat
 use Rattle.wl_lattice.specs.declared.MaxWord.{MaxWord}
-use Rattle.wl_record.specs.declared.record.Record.{Record}
-use Rattle.wl_record.specs.declared.record.Record.TheVariants.{Edge, Clash, Silence}
+use Rattle.wl_record_core.specs.declared.record.Record.{Record}
+use Rattle.wl_record_core.specs.declared.record.Record.TheVariants.{Edge, Clash, Silence}
 use Rattle.wl_replica.specs.Keys.{Key}
 use Rattle.wl_replica.specs.State.{State}
 

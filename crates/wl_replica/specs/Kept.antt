@@ -8,9 +8,11 @@ use Rattle.wl_lattice.specs.declared.FlatWord.{FlatWord}
 use Rattle.wl_lattice.specs.declared.FlatWord.TheVariants as flat
 use Rattle.wl_lattice.specs.declared.MaxWord.{MaxWord}
 use Rattle.wl_lattice.specs.Words.{max_word}
-use Rattle.wl_record.specs.declared.record.Record.{Record}
-use Rattle.wl_record.specs.declared.record.Record.TheVariants.{Edge, Clash, Silence}
-use Rattle.wl_record.specs.Limits.{most_edges, tick_end}
+use Rattle.wl_record_core.specs.declared.record.Record.{Record}
+use Rattle.wl_record_core.specs.declared.record.Slot.{Slot}
+use Rattle.wl_record_core.specs.declared.record.Slot.TheVariants.{EdgeAt, SilenceAt}
+use Rattle.wl_record_core.specs.Slots.{slot_of}
+use Rattle.wl_record_core.specs.Limits.{most_edges, tick_end}
 use Rattle.wl_replica.specs.Keys.{Key, key_cmp}
 use Rattle.wl_replica.specs.State.{FitsEdge, FitsSilence}
 
@@ -38,8 +40,8 @@ abbrev pub HasKeys : {W : Type 0} → BTreeMap Key W → List (Key × W) → Typ
 HasKeys m es = AllByRecursion (λ e. IsSome (get key_cmp m e.0)) es
 
 -- what a kept map shows: the entries that hold something
-abbrev pub shown : {W : Type 0} → (W → Bool) → List (Key × W) → FinMap key_cmp W
-shown holds es = from_sorted (filter (λ e. holds e.1) es)
+abbrev pub words_shown : {W : Type 0} → (W → Bool) → List (Key × W) → FinMap key_cmp W
+words_shown holds es = from_sorted (filter (λ e. holds e.1) es)
 
 -- the edge words of a node by number, and the ends of its silences by count
 abbrev pub edges_in : BTreeMap Key FlatWord → ℕ → ℕ → FlatWord
@@ -70,12 +72,20 @@ pub record JoinsIn {W : Type 0} (least : W) (join : W → W → W) (old new : BT
   pub words : (q : Key) → word_in least new q ≡ joined_all join (word_in least old q) es q
   pub stay : (q : Key) → IsSome (get key_cmp old q) → IsSome (get key_cmp new q)
 
--- the maps have a key for what a record tells
-abbrev pub HasSlot : BTreeMap Key FlatWord → BTreeMap Key MaxWord → Record → Type 0
-HasSlot edges silences (Edge node seq tick) = IsSome (get key_cmp edges (node, seq))
-HasSlot edges silences (Clash node seq) = IsSome (get key_cmp edges (node, seq))
-HasSlot edges silences (Silence node count until) = IsSome (get key_cmp silences (node, count))
+-- the maps have a key for a slot
+abbrev pub HasSlot : BTreeMap Key FlatWord → BTreeMap Key MaxWord → Slot → Type 0
+HasSlot edges silences (EdgeAt node seq) = IsSome (get key_cmp edges (node, seq))
+HasSlot edges silences (SilenceAt node count) = IsSome (get key_cmp silences (node, count))
+
+-- for each slot
+abbrev pub HasSlots : BTreeMap Key FlatWord → BTreeMap Key MaxWord → List Slot → Type 0
+HasSlots edges silences slots = AllByRecursion (HasSlot edges silences) slots
 
 -- and for what each record tells
-abbrev pub HasSlots : BTreeMap Key FlatWord → BTreeMap Key MaxWord → List Record → Type 0
-HasSlots edges silences rs = AllByRecursion (HasSlot edges silences) rs
+abbrev pub HaveSlots : BTreeMap Key FlatWord → BTreeMap Key MaxWord → List Record → Type 0
+HaveSlots edges silences rs = AllByRecursion (λ r. HasSlot edges silences (slot_of r)) rs
+
+-- What the maps of a prepared replica keep: those of a replica, with a key for each slot.
+pub record ArePrepared (nodes : ℕ) (edges : BTreeMap Key FlatWord) (silences : BTreeMap Key MaxWord) (slots : List Slot) : Type 0 where
+  pub kept : AreKept nodes edges silences
+  pub room : HasSlots edges silences slots

@@ -4,8 +4,8 @@ use Rattle.std.specs.Prelude.{ℕ, zero, suc, pred, ◌+◌, min, max, Bool, tru
 use Rattle.wl_lattice.specs.declared.FlatWord.{FlatWord}
 use Rattle.wl_lattice.specs.declared.FlatWord.TheVariants as flat
 use Rattle.wl_intervals.specs.Pairs.{covers}
-use Rattle.wl_record.specs.Limits.{most_edges}
-use Rattle.wl_replica.specs.Slots.{Slots}
+use Rattle.wl_record_core.specs.Limits.{most_edges}
+use Rattle.wl_replica.specs.Slots.{Contents}
 
 -- ---- of one node: edge words e by number, and ends of silences s by count
 
@@ -21,15 +21,15 @@ tick_in flat.Nothing = 0
 tick_in flat.Clash = 0
 
 -- edge n is a tick, not below the silence of count n, and above the edge before
-abbrev pub goes_on : (ℕ → FlatWord) → (ℕ → ℕ) → ℕ → Bool
-goes_on e s zero = is_tick (e 0) && nat_le (s 0) (tick_in (e 0))
-goes_on e s (suc n) =
+abbrev pub run_goes_on : (ℕ → FlatWord) → (ℕ → ℕ) → ℕ → Bool
+run_goes_on e s zero = is_tick (e 0) && nat_le (s 0) (tick_in (e 0))
+run_goes_on e s (suc n) =
     is_tick (e (suc n)) && nat_le (s (suc n)) (tick_in (e (suc n))) && nat_lt (tick_in (e n)) (tick_in (e (suc n)))
 
 -- each edge below m goes on
 abbrev pub is_run : (ℕ → FlatWord) → (ℕ → ℕ) → ℕ → Bool
 is_run e s zero = true
-is_run e s (suc m) = is_run e s m && goes_on e s m
+is_run e s (suc m) = is_run e s m && run_goes_on e s m
 
 -- the greatest number up to a bound that passes, or 0
 abbrev pub greatest : ℕ → (ℕ → Bool) → ℕ
@@ -64,26 +64,26 @@ intervals (a ∷ b ∷ ts) h = (a, b) ∷ intervals ts h
 -- ---- of all nodes
 
 -- how many of node i's first changes are known without a gap
-abbrev pub run_length : Slots → ℕ → ℕ
+abbrev pub run_length : Contents → ℕ → ℕ
 run_length w i = greatest most_edges (is_run (w.edge i) (w.silence i))
 
 -- the tick below which node i is known
-abbrev pub horizon : Slots → ℕ → ℕ
+abbrev pub horizon : Contents → ℕ → ℕ
 horizon w i = known_by (w.edge i) (w.silence i) (run_length w i)
 
 -- the least of f 0, .., f n
-abbrev pub least_of : (ℕ → ℕ) → ℕ → ℕ
-least_of f zero = f 0
-least_of f (suc n) = min (least_of f n) (f (suc n))
+abbrev pub least_up_to : (ℕ → ℕ) → ℕ → ℕ
+least_up_to f zero = f 0
+least_up_to f (suc n) = min (least_up_to f n) (f (suc n))
 
 -- the tick below which the line at node j's place is known, where there are nodes: what a node drives comes a delay later
-abbrev pub place_horizon : ℕ → (ℕ → ℕ → ℕ) → Slots → ℕ → ℕ
-place_horizon nodes delay w j = least_of (λ i. horizon w i + delay i j) (pred nodes)
+abbrev pub place_horizon : ℕ → (ℕ → ℕ → ℕ) → Contents → ℕ → ℕ
+place_horizon nodes delay w j = least_up_to (λ i. horizon w i + delay i j) (pred nodes)
 
 -- the intervals in which node i drives dominant, as far as it is known
-abbrev pub wave : Slots → ℕ → List (ℕ × ℕ)
+abbrev pub wave : Contents → ℕ → List (ℕ × ℕ)
 wave w i = intervals (ticks (w.edge i) (run_length w i)) (horizon w i)
 
 -- whether node i drives dominant at t, by its wave
-abbrev pub wave_at : Slots → ℕ → ℕ → Bool
+abbrev pub wave_at : Contents → ℕ → ℕ → Bool
 wave_at w i t = covers (wave w i) t

@@ -4,10 +4,10 @@ use Rattle.std.specs.Prelude.{◌≡◌, ℕ, ◌<◌, ◌≤◌, max, List, [],
 use Rattle.wl_lattice.specs.Words.{joined_flat}
 use Rattle.wl_lattice.specs.declared.FlatWord.TheVariants as flat
 use Rattle.wl_lattice.specs.Maps.{SameMembers}
-use Rattle.wl_record.specs.declared.record.Record.{Record}
-use Rattle.wl_record.specs.Text.{text_of}
+use Rattle.wl_record_core.specs.declared.record.Record.{Record}
+use Rattle.wl_record_core.specs.Text.{text_of}
 use Rattle.wl_replica.specs.Keys.{Key}
-use Rattle.wl_replica.specs.State.{State, state_of, joined, taken_all, edge_at, silence_at, node_of, Fits}
+use Rattle.wl_replica.specs.State.{State, state_of, states_joined, taken_all, edge_at, silence_at, node_of, Fits}
 use Rattle.wl_replica.specs.Canonical.{canonical}
 
 -- the same records, in any order and however often each, make the same state
@@ -16,21 +16,21 @@ SameRecordsSameState = (nodes : ℕ) (xs ys : List Record) → SameMembers xs ys
 
 -- the states of two lists, joined, are the state of both; so is what one list adds to the state of the other
 pub record TakingIsJoining : Type 0 where
-  pub both : (nodes : ℕ) (xs ys : List Record) → joined (state_of nodes xs) (state_of nodes ys) ≡ state_of nodes (xs ++ ys)
+  pub both : (nodes : ℕ) (xs ys : List Record) → states_joined (state_of nodes xs) (state_of nodes ys) ≡ state_of nodes (xs ++ ys)
   pub more : (nodes : ℕ) (xs ys : List Record) → taken_all (state_of nodes xs) ys ≡ state_of nodes (xs ++ ys)
   pub in_parts : (s : State) (xs ys : List Record) → taken_all (taken_all s xs) ys ≡ taken_all s (xs ++ ys)
 
 -- joining is commutative, associative and idempotent, and a state that knows nothing is neutral
 pub record IsJoining : Type 0 where
-  pub commutes : (a b : State) → a.nodes ≡ b.nodes → joined a b ≡ joined b a
-  pub associates : (a b c : State) → joined (joined a b) c ≡ joined a (joined b c)
-  pub idempotent : (a : State) → joined a a ≡ a
-  pub neutral : (a : State) → joined a (state_of a.nodes []) ≡ a
+  pub commutes : (a b : State) → a.nodes ≡ b.nodes → states_joined a b ≡ states_joined b a
+  pub associates : (a b c : State) → states_joined (states_joined a b) c ≡ states_joined a (states_joined b c)
+  pub idempotent : (a : State) → states_joined a a ≡ a
+  pub neutral : (a : State) → states_joined a (state_of a.nodes []) ≡ a
 
 -- at each slot a joined state has the join of the two words, and a state of no records has nothing
 pub record JoinsSlotBySlot : Type 0 where
-  pub edges : (a b : State) (q : Key) → edge_at (joined a b) q ≡ joined_flat (edge_at a q) (edge_at b q)
-  pub silences : (a b : State) (q : Key) → (silence_at (joined a b) q).word ≡ max (silence_at a q).word (silence_at b q).word
+  pub edges : (a b : State) (q : Key) → edge_at (states_joined a b) q ≡ joined_flat (edge_at a q) (edge_at b q)
+  pub silences : (a b : State) (q : Key) → (silence_at (states_joined a b) q).word ≡ max (silence_at a q).word (silence_at b q).word
   pub no_edges : (nodes : ℕ) (q : Key) → edge_at (state_of nodes []) q ≡ flat.Nothing
   pub no_silences : (nodes : ℕ) (q : Key) → (silence_at (state_of nodes []) q).word ≡ 0
   -- states that have the same word at each slot are equal, where no slot holds a word that says nothing

@@ -5,6 +5,7 @@ pub mod Canonical
 pub mod Laws
 pub mod Kept
 pub mod Stored
+pub mod Prepared
 pub mod Known
 pub mod KnownLaws
 pub mod Slots

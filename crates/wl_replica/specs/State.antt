@@ -1,5 +1,5 @@
 -- What is known of all nodes: the state of a list of records. This project's profile.
-use Rattle.std.specs.Prelude.{ℕ, ◌==◌, ◌<◌, if◌then◌else◌, List, [], ◌∷◌, Option, None, Some, unwrap_or}
+use Rattle.std.specs.Prelude.{◌≡◌, ℕ, ◌==◌, ◌<◌, if◌then◌else◌, List, [], ◌∷◌, Option, None, Some, unwrap_or, All}
 use Rattle.std.specs.List.{filter_map}
 use Rattle.std.specs.FinMap.{FinMap, get}
 use Rattle.wl_lattice.specs.declared.FlatWord.{FlatWord}
@@ -7,11 +7,11 @@ use Rattle.wl_lattice.specs.declared.FlatWord.TheVariants as flat
 use Rattle.wl_lattice.specs.declared.MaxWord.{MaxWord}
 use Rattle.wl_lattice.specs.Words.{max_word, joined_max, joined_flat}
 use Rattle.wl_lattice.specs.Maps.{joined_maps, map_of}
-use Rattle.wl_record.specs.declared.record.Record.{Record}
-use Rattle.wl_record.specs.declared.record.Record.TheVariants.{Edge, Clash, Silence}
-use Rattle.wl_record.specs.Within.{IsWithin}
+use Rattle.wl_record_core.specs.declared.record.Record.{Record}
+use Rattle.wl_record_core.specs.declared.record.Record.TheVariants.{Edge, Clash, Silence}
+use Rattle.wl_record_core.specs.Within.{IsWithin}
 use Rattle.wl_replica.specs.Keys.{Key, key_cmp}
-use Rattle.wl_replica.specs.Slots.{Slots}
+use Rattle.wl_replica.specs.Slots.{Contents}
 
 -- of so many nodes, the words of edges by node and number, and of silences by node and count
 pub record State : Type 0 where
@@ -48,8 +48,8 @@ abbrev pub silence_at : State → Key → MaxWord
 silence_at s q = unwrap_or (get s.silences q) (max_word 0)
 
 -- two states joined, slot by slot
-abbrev pub joined : State → State → State
-joined s t = record {
+abbrev pub states_joined : State → State → State
+states_joined s t = record {
   nodes = s.nodes;
   edges = joined_maps joined_flat s.edges t.edges;
   silences = joined_maps joined_max s.silences t.silences;
@@ -57,7 +57,7 @@ joined s t = record {
 
 -- the state with some records more
 abbrev pub taken_all : State → List Record → State
-taken_all s rs = joined s (state_of s.nodes rs)
+taken_all s rs = states_joined s (state_of s.nodes rs)
 
 -- the state with one record more
 abbrev pub taken : State → Record → State
@@ -73,6 +73,10 @@ node_of (Silence node count until) = node
 abbrev pub Fits : ℕ → Record → Type 0
 Fits nodes r = (node_of r < nodes) × IsWithin r
 
+-- the state of some records that fit
+abbrev pub IsOfRecords : State → Type 0
+IsOfRecords s = (rs : List Record) × All (Fits s.nodes) rs × (s ≡ state_of s.nodes rs)
+
 -- the record that an edge's word makes, if it makes one, fits
 abbrev pub FitsEdge : ℕ → Key × FlatWord → Type 0
 FitsEdge nodes (k, flat.Nothing) = Unit {0}
@@ -84,5 +88,5 @@ abbrev pub FitsSilence : ℕ → Key × MaxWord → Type 0
 FitsSilence nodes (k, word) = 0 < word.word → Fits nodes (Silence k.0 k.1 word.word)
 
 -- the slots of a state, as functions of node and number
-abbrev pub slots_of : State → Slots
+abbrev pub slots_of : State → Contents
 slots_of s = record { edge = λ i n. edge_at s (i, n); silence = λ i n. (silence_at s (i, n)).word }

@@ -1,52 +1,53 @@
-// Several records taken at once, all or none: first room for each, then the words.
+// Several records taken at once, all or none: first room in their slots, then the words.
 ghost use Rattle.std.specs.Prelude.{◌≡◌, ◌∷◌, [], OnOk};
 ghost use Rattle.std.specs.List.{filter_map};
 ghost use Rattle.std.specs.BTreeMap.{IsOrdered};
 ghost use Rattle.wl_lattice.specs.declared.FlatWord.{FlatWord};
 ghost use Rattle.wl_lattice.specs.Words.{joined_flat, joined_max, max_word};
 ghost use Rattle.wl_replica.specs.Keys.{key_cmp};
-ghost use Rattle.wl_replica.specs.Kept.{SameWords, JoinsIn, HasSlot, HasSlots};
+ghost use Rattle.wl_record_core.specs.Slots.{slot_of};
+ghost use Rattle.wl_replica.specs.Kept.{SameWords, JoinsIn, HasSlot, HasSlots, HaveSlots};
 ghost use Rattle.wl_replica.specs.State.{edge_word, silence_word};
 
 use crate::kept::{join_at, make_room_at};
 use std::alloc::AllocError;
 use std::collections::BTreeMap;
 use wl_lattice::{FlatWord, MaxWord};
-use wl_record::{Record, Slot};
+use wl_record_core::{Record, Slot};
 
-/// Makes room for each record's slot. No word is seen to change.
+/// Makes room in each slot. No word is seen to change.
 pub fn make_slots(
     edges: &mut BTreeMap<(u8, u32), FlatWord>,
     silences: &mut BTreeMap<(u8, u32), MaxWord>,
-    told: &[Record],
+    slots: &[Slot],
 ) -> Result<(), AllocError>
     ensures edges_ordered { IsOrdered key_cmp edges.new }
     ensures silences_ordered { IsOrdered key_cmp silences.new }
     ensures edges_same { SameWords FlatWord.Nothing edges.old edges.new }
     ensures silences_same { SameWords (max_word 0) silences.old silences.new }
-    ensures room { OnOk result (HasSlots edges.new silences.new told.now) }
+    ensures room { OnOk result (HasSlots edges.new silences.new slots.now) }
 {
-    for record in told {
-        make_slot(edges, silences, record)?;
+    for slot in slots {
+        make_slot(edges, silences, *slot)?;
     }
     let _ = (edges.len(), silences.len());
     Ok(())
 }
 
-/// Makes room for a record's slot. No word is seen to change.
+/// Makes room in a slot. No word is seen to change.
 fn make_slot(
     edges: &mut BTreeMap<(u8, u32), FlatWord>,
     silences: &mut BTreeMap<(u8, u32), MaxWord>,
-    told: &Record,
+    slot: Slot,
 ) -> Result<(), AllocError>
     ensures edges_ordered { IsOrdered key_cmp edges.new }
     ensures silences_ordered { IsOrdered key_cmp silences.new }
     ensures edges_same { SameWords FlatWord.Nothing edges.old edges.new }
     ensures silences_same { SameWords (max_word 0) silences.old silences.new }
-    ensures room { OnOk result (HasSlot edges.new silences.new told.now) }
+    ensures room { OnOk result (HasSlot edges.new silences.new slot) }
 {
     let _ = (edges.len(), silences.len());
-    match told.slot() {
+    match slot {
         Slot::EdgeAt { node, seq } => make_room_at(edges, (node, seq)),
         Slot::SilenceAt { node, count } => make_room_at(silences, (node, count)),
     }
@@ -58,11 +59,12 @@ pub fn join_slots(
     silences: &mut BTreeMap<(u8, u32), MaxWord>,
     told: &[Record],
 )
-    requires { HasSlots edges.old silences.old told.now }
+    requires { HaveSlots edges.old silences.old told.now }
     ensures edges_ordered { IsOrdered key_cmp edges.new }
     ensures silences_ordered { IsOrdered key_cmp silences.new }
     ensures edges_joined { JoinsIn FlatWord.Nothing joined_flat edges.old edges.new (filter_map edge_word told.now) }
-    ensures silences_joined { JoinsIn (max_word 0) joined_max silences.old silences.new (filter_map silence_word told.now) }
+    ensures silences_joined { JoinsIn (max_word 0) joined_max silences.old silences.new
+        (filter_map silence_word told.now) }
 {
     for record in told {
         join_slot(edges, silences, record);
@@ -76,11 +78,13 @@ fn join_slot(
     silences: &mut BTreeMap<(u8, u32), MaxWord>,
     told: &Record,
 )
-    requires { HasSlot edges.old silences.old told.now }
+    requires { HasSlot edges.old silences.old (slot_of told.now) }
     ensures edges_ordered { IsOrdered key_cmp edges.new }
     ensures silences_ordered { IsOrdered key_cmp silences.new }
-    ensures edges_joined { JoinsIn FlatWord.Nothing joined_flat edges.old edges.new (filter_map edge_word (told.now ∷ [])) }
-    ensures silences_joined { JoinsIn (max_word 0) joined_max silences.old silences.new (filter_map silence_word (told.now ∷ [])) }
+    ensures edges_joined { JoinsIn FlatWord.Nothing joined_flat edges.old edges.new
+        (filter_map edge_word (told.now ∷ [])) }
+    ensures silences_joined { JoinsIn (max_word 0) joined_max silences.old silences.new
+        (filter_map silence_word (told.now ∷ [])) }
 {
     let _ = (edges.len(), silences.len());
     match *told {

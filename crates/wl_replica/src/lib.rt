@@ -17,7 +17,7 @@ pub use laws::{
     merging_is_appending, same_records_same_state, slots_of_states, states_join_slot_by_slot,
     taking_is_joining,
 };
-pub use replica::{Replica, Word};
+pub use replica::{PREPARED_SLOTS, Prepared, Replica, Word};
 
 #[cfg(test)]
 mod tests;

@@ -6,7 +6,7 @@ ghost use Rattle.wl_replica.specs.Canonical.{edge_record, silence_record, of_nod
 use std::alloc::AllocError;
 use std::collections::BTreeMap;
 use wl_lattice::{FlatWord, MaxWord};
-use wl_record::Record;
+use wl_record_core::Record;
 
 /// Appends the edges and clashes of a node, by number.
 pub fn push_edges(
@@ -41,7 +41,8 @@ pub fn push_silences(
     node: u8,
 ) -> Result<(), AllocError>
     requires { node < 255 }
-    ensures { OnOk result (all.new.items ≡ all.old.items ++ filter_map silence_record (of_node node silences.now.entries)) }
+    ensures { OnOk result (all.new.items
+        ≡ all.old.items ++ filter_map silence_record (of_node node silences.now.entries)) }
 {
     for (key, word) in silences.range((node, 0)..(node + 1, 0)) {
         if word.word != 0 {

@@ -1,5 +1,5 @@
 // A replica: what is known of all nodes.
-ghost use Rattle.std.specs.Prelude.{◌≡◌, ◌↔◌, ℕ, IsTrue, IfOk, OnOk, OnErr};
+ghost use Rattle.std.specs.Prelude.{◌≡◌, ◌↔◌, ℕ, IsTrue, IfOk, IfErr, OnOk, OnErr};
 
 use crate::batch::{join_slots, make_slots};
 use crate::kept::{join_in, make_room, raise};
@@ -10,9 +10,10 @@ use crate::waves::{is_dominant_at, wave_of};
 use std::alloc::{AllocError, Global};
 use std::collections::BTreeMap;
 use std::marker::Model;
-use wl_intervals::{Intervals, Level};
+use wl_intervals::Intervals;
 use wl_lattice::{FlatWord, MaxWord};
-use wl_record::{Record, Slot};
+use wl_level::Level;
+use wl_record_core::{Record, Slot};
 use wl_topology::Topology;
 
 /// What a replica has in one slot.
@@ -39,27 +40,28 @@ pub struct Replica {
 impl Model for Replica {
     ghost use Rattle.wl_replica.specs.State.{State};
     ghost use Rattle.wl_replica.specs.Stored.{coded_state};
-    ghost use Rattle.wl_replica.specs.Kept.{shown, holds_edge, holds_silence, AreKept};
+    ghost use Rattle.wl_replica.specs.Kept.{words_shown, holds_edge, holds_silence, AreKept};
 
     ghost Value = { State };
 
     ghost coded = { coded_state };
 
-    ghost view = { λ r. record { nodes = r.nodes; edges = shown holds_edge r.edges.entries; silences = shown holds_silence r.silences.entries } };
+    ghost view = { λ r. record { nodes = r.nodes; edges = words_shown holds_edge r.edges.entries; silences = words_shown holds_silence r.silences.entries } };
 
     ghost invariant = { λ r. AreKept r.nodes r.edges r.silences };
 }
 
 impl Replica {
-    ghost use Rattle.wl_replica.specs.State.{state_of, taken, taken_all, joined, Fits};
+    ghost use Rattle.std.specs.Prelude.{◌<◌, ◌≤◌};
+    ghost use Rattle.wl_replica.specs.State.{state_of, taken, states_joined, Fits, IsOfRecords};
     ghost use Rattle.wl_replica.specs.Canonical.{canonical};
     ghost use Rattle.wl_replica.specs.Words.{word_at};
     ghost use Rattle.std.specs.Prelude.{List, [], ◌∷◌, ◌++◌, All};
-    ghost use Rattle.wl_record.specs.declared.record.Record.{Record};
-    ghost use Rattle.wl_record.specs.Truth.{IsIncreasing, IsTrueOf, AreTrueOf};
+    ghost use Rattle.wl_record_core.specs.declared.record.Record.{Record};
+    ghost use Rattle.wl_record_core.specs.Truth.{IsIncreasing, IsTrueOf};
     ghost use Rattle.wl_replica.specs.State.{slots_of};
     ghost use Rattle.wl_replica.specs.Slots.{HoldsTrue};
-    ghost use Rattle.wl_replica.specs.SlotsOf.{NoHorizonFalls};
+    ghost use Rattle.wl_replica.specs.SlotsOf.{NoHorizonFalls, ChangesStand};
 
     /// A replica of so many nodes that knows nothing. Refused for want of memory alone.
     pub fn new(alloc: Global, nodes: u8) -> Result<Replica, AllocError>
@@ -72,9 +74,10 @@ impl Replica {
         })
     }
 
-    /// The number of nodes that it knows of.
+    /// The number of nodes that it knows of. What it knows of them is what some records say.
     pub fn nodes(&self) -> u8
-        ensures { result ≡ self.now.nodes }
+        ensures value { result ≡ self.now.nodes }
+        ensures records { IsOfRecords self.now }
     {
         self.nodes
     }
@@ -119,29 +122,30 @@ impl Replica {
         Ok(())
     }
 
-    /// Takes each of the records, which fit, or none of them: refused where memory is wanted, and the
-    /// replica is then as it was.
-    pub fn take_all(&mut self, told: &[Record]) -> Result<(), AllocError>
-        requires { All (Fits self.old.nodes) told.now }
-        ensures ok { OnOk result (self.new ≡ taken_all self.old told.now) }
-        // What took some records, and takes these, took all of them.
-        ensures after { OnOk result ((before : List Record) → self.old ≡ state_of self.old.nodes before
-            → self.new ≡ state_of self.old.nodes (before ++ told.now)) }
-        ensures err { OnErr result (self.new ≡ self.old) }
-        ensures keeps { OnOk result ((table : ℕ → List ℕ) → ((i : ℕ) → IsIncreasing (table i))
-            → HoldsTrue self.old.nodes table (slots_of self.old) → AreTrueOf self.old.nodes table told.now → NoHorizonFalls self.old self.new) }
+    /// Makes room in these slots, so that records of them can be taken without memory. Refused where
+    /// memory is wanted; it then gives the replica back as it was.
+    pub fn prepare(self, slots: [Slot; PREPARED_SLOTS]) -> Result<Prepared, Replica>
+        ensures known { IfOk result (λ prepared. prepared.known ≡ self) }
+        ensures slots { IfOk result (λ prepared. prepared.slots ≡ slots) }
+        ensures err { IfErr result (λ replica. replica ≡ self) }
     {
-        known_laws();
-        make_slots(&mut self.edges, &mut self.silences, told)?;
-        join_slots(&mut self.edges, &mut self.silences, told);
-        Ok(())
+        let mut replica = self;
+        match make_slots(&mut replica.edges, &mut replica.silences, &slots) {
+            Ok(()) => Ok(Prepared {
+                nodes: replica.nodes,
+                edges: replica.edges,
+                silences: replica.silences,
+                slots,
+            }),
+            Err(_) => Err(replica),
+        }
     }
 
     /// Joins in what the other replica, of as many nodes, knows. It puts nothing at every slot that it
     /// lacks, and then joins; so where it is refused for want of memory, the replica is as it was.
     pub fn join(&mut self, other: &Replica) -> Result<(), AllocError>
         requires { self.old.nodes ≡ other.now.nodes }
-        ensures ok { OnOk result (self.new ≡ joined self.old other.now) }
+        ensures ok { OnOk result (self.new ≡ states_joined self.old other.now) }
         // What took some records, joined with what took others, took all of them.
         ensures after { OnOk result ((mine theirs : List Record) → self.old ≡ state_of self.old.nodes mine
             → other.now ≡ state_of self.old.nodes theirs → self.new ≡ state_of self.old.nodes (mine ++ theirs)) }
@@ -200,9 +204,8 @@ impl Replica {
         Ok(all)
     }
 
-    ghost use Rattle.wl_record.specs.Limits.{most_edges, tick_end};
+    ghost use Rattle.wl_record_core.specs.Limits.{most_edges, tick_end};
     ghost use Rattle.wl_replica.specs.Known.{run_length, horizon};
-    ghost use Rattle.std.specs.Prelude.{◌<◌, ◌≤◌};
 
     /// How many of the node's first changes are known without a gap: their ticks strictly
     /// increase, and none lies inside a silence before it.
@@ -221,24 +224,30 @@ impl Replica {
         requires { node < self.now.nodes }
         ensures tick { result ≡ horizon (slots_of self.now) node }
         ensures early { result ≤ tick_end }
+        // If all that was taken is true, each of the node's changes before that tick stands in its slot.
+        ensures changes { (table : ℕ → List ℕ) → IsIncreasing (table node)
+            → HoldsTrue self.now.nodes table (slots_of self.now) → ChangesStand (slots_of self.now) node (table node) result }
     {
+        known_laws();
+        wl_record_core::table_laws();
         let run = run_of(&self.edges, &self.silences, node);
         run.end.max(promise_of(&self.silences, node, run.length))
     }
 
     ghost use Rattle.wl_replica.specs.Known.{wave, wave_at, place_horizon};
-    ghost use Rattle.wl_intervals.specs.Levels.{level_of};
-    ghost use Rattle.wl_intervals.specs.Pairs.{covers};
+    ghost use Rattle.wl_level.specs.Levels.{level_of};
+    ghost use Rattle.wl_intervals.specs.Pairs.{covers, last_end};
     ghost use Rattle.wl_topology.specs.Delays.{delay_of};
     ghost use Rattle.wl_topology.specs.Driven.{driven};
-    ghost use Rattle.std.specs.Prelude.{◌+◌, ◌-◌, ◌&&◌, length, nat_le};
+    ghost use Rattle.std.specs.Prelude.{◌+◌, ◌-◌, ◌&&◌, length, nat_le, IfSome};
 
     /// The ticks below the node's horizon at which it drives dominant, as far as its run tells:
     /// from each first to each second change, an open last one up to the horizon. Refused for want of
     /// memory alone.
     pub fn wave(&self, alloc: Global, node: u8) -> Result<Intervals, AllocError>
         requires { node < self.now.nodes }
-        ensures { IfOk result (λ set. set ≡ wave (slots_of self.now) node) }
+        ensures set { IfOk result (λ set. set ≡ wave (slots_of self.now) node) }
+        ensures early { IfOk result (λ set. IfSome (last_end set) (λ end. end ≤ tick_end)) }
     {
         wave_of(alloc, &self.edges, &self.silences, node)
     }
@@ -290,9 +299,73 @@ impl Replica {
         requires from { i < self.now.nodes }
         requires to { j < self.now.nodes }
         requires known { t < horizon (slots_of self.now) i + delay_of topology.now i j }
-        ensures { result ≡ (nat_le (delay_of topology.now i j) t && wave_at (slots_of self.now) i (t - delay_of topology.now i j)) }
+        ensures { let delay = delay_of topology.now i j in
+            result ≡ (nat_le delay t && wave_at (slots_of self.now) i (t - delay)) }
     {
         let delay = topology.delay(i, j);
         delay <= t && is_dominant_at(&self.edges, &self.silences, i, t - delay)
+    }
+}
+
+/// In how many slots a replica is prepared to take records: as many as a node's next quantum may be
+/// about, which are its next change, and the silence without it and with it.
+pub const PREPARED_SLOTS: usize = 3;
+
+/// A replica that has room in some slots, made by [`Replica::prepare`]: it takes records of those
+/// without memory, and gives the replica.
+///
+/// It is for an owner who can't take back what the records tell of, and so has to have all memory
+/// before that happens.
+#[derive(Drop)]
+pub struct Prepared {
+    nodes: u8,
+    edges: BTreeMap<(u8, u32), FlatWord>,
+    silences: BTreeMap<(u8, u32), MaxWord>,
+    slots: [Slot; PREPARED_SLOTS],
+}
+
+impl Model for Prepared {
+    ghost use Rattle.wl_replica.specs.Prepared.{PreparedState, coded_prepared};
+    ghost use Rattle.wl_replica.specs.Kept.{words_shown, holds_edge, holds_silence, ArePrepared};
+
+    ghost Value = { PreparedState };
+
+    ghost coded = { coded_prepared };
+
+    ghost view = { λ p. record { known = record { nodes = p.nodes; edges = words_shown holds_edge p.edges.entries; silences = words_shown holds_silence p.silences.entries }; slots = p.slots } };
+
+    ghost invariant = { λ p. ArePrepared p.nodes p.edges p.silences p.slots };
+}
+
+impl Prepared {
+    ghost use Rattle.std.specs.Prelude.{List, ◌++◌, All, Contains};
+    ghost use Rattle.wl_record_core.specs.declared.record.Record.{Record};
+    ghost use Rattle.wl_record_core.specs.Slots.{slot_of};
+    ghost use Rattle.wl_record_core.specs.Truth.{IsIncreasing, AreTrueOf};
+    ghost use Rattle.wl_replica.specs.State.{state_of, slots_of, taken_all, Fits};
+    ghost use Rattle.wl_replica.specs.Slots.{HoldsTrue};
+    ghost use Rattle.wl_replica.specs.SlotsOf.{NoHorizonFalls};
+
+    /// Takes each of the records, which fit and are of its slots: joins what they say into these. It
+    /// takes no memory.
+    pub fn take_all(self, told: &[Record]) -> Replica
+        requires fits { All (Fits self.known.nodes) told.now }
+        requires room { All (λ r. Contains self.slots (slot_of r)) told.now }
+        ensures value { result ≡ taken_all self.known told.now }
+        // What took some records, and takes these, took all of them.
+        ensures after { (before : List Record) → self.known ≡ state_of self.known.nodes before
+            → result ≡ state_of self.known.nodes (before ++ told.now) }
+        ensures keeps { (table : ℕ → List ℕ) → ((i : ℕ) → IsIncreasing (table i))
+            → HoldsTrue self.known.nodes table (slots_of self.known) → AreTrueOf self.known.nodes table told.now
+            → NoHorizonFalls self.known result }
+    {
+        known_laws();
+        let mut prepared = self;
+        join_slots(&mut prepared.edges, &mut prepared.silences, told);
+        Replica {
+            nodes: prepared.nodes,
+            edges: prepared.edges,
+            silences: prepared.silences,
+        }
     }
 }

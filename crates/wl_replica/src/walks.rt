@@ -1,6 +1,6 @@
 // Walks over the words of one node, in the order of their numbers.
 ghost use Rattle.std.specs.Prelude.{◌≡◌, ◌<◌, ◌≤◌};
-ghost use Rattle.wl_record.specs.Limits.{most_edges, tick_end};
+ghost use Rattle.wl_record_core.specs.Limits.{most_edges, tick_end};
 ghost use Rattle.wl_replica.specs.Kept.{edges_in, silences_in, TicksAreWithin};
 ghost use Rattle.wl_replica.specs.Known.{greatest, is_run, after_edges, promised};
 
@@ -25,7 +25,8 @@ pub fn run_of(
 ) -> Run
     requires node { node < 255 }
     requires within { TicksAreWithin edges.now }
-    ensures length { result.length ≡ greatest most_edges (is_run (edges_in edges.now node) (silences_in silences.now node)) }
+    ensures length { result.length
+        ≡ greatest most_edges (is_run (edges_in edges.now node) (silences_in silences.now node)) }
     ensures end { result.end ≡ after_edges (edges_in edges.now node) result.length }
     ensures few { result.length ≤ most_edges }
     ensures early { result.end ≤ tick_end }

@@ -1,6 +1,6 @@
 // The dominant intervals of a node's run.
 ghost use Rattle.std.specs.Prelude.{◌≡◌, ◌<◌, max, [], ◌∷◌, ◌++◌, OnOk, IfOk, IfSome, IfNone, Some, None};
-ghost use Rattle.wl_record.specs.Limits.{most_edges};
+ghost use Rattle.wl_record_core.specs.Limits.{most_edges};
 ghost use Rattle.wl_intervals.specs.Pairs.{covers, last_end};
 ghost use Rattle.wl_replica.specs.Kept.{edges_in, silences_in, TicksAreWithin};
 ghost use Rattle.wl_replica.specs.Known.{greatest, is_run, known_by, ticks, intervals};
@@ -30,7 +30,8 @@ fn flip(set: &mut Intervals, since: Option<u64>, tick: u64) -> Result<Option<u64
     requires since { IfSome since (λ from. from < tick) }
     requires behind { IfSome since (λ from. IfSome (last_end set.old) (λ end. end < from)) }
     ensures opened { IfOk result (λ after. IfNone since ((set.new ≡ set.old) × (after ≡ Some tick))) }
-    ensures closed { IfOk result (λ after. IfSome since (λ from. (set.new ≡ set.old ++ (from, tick) ∷ []) × (after ≡ None))) }
+    ensures closed { IfOk result (λ after.
+        IfSome since (λ from. (set.new ≡ set.old ++ (from, tick) ∷ []) × (after ≡ None))) }
 {
     match since {
         None => Ok(Some(tick)),

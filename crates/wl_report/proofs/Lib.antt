@@ -2,4 +2,5 @@ pub mod Hexadecimal
 pub mod Numbered
 pub mod Passing
 pub mod Picking
+pub mod Rows
 pub mod Sums

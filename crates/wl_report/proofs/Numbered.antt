@@ -18,7 +18,7 @@ number_front xs i d within =
     rw add-one (number_more 0 xs i d within
     ∙ ap (λ (m : ℕ). enumerate_from 0 (take i xs) ++ (m, get_or xs i d) ∷ []) {x = 0 + i} {y = i} (omega arith))
 
--- one more piece of text behind the text of those before
+-- one more piece of text after the text of those before
 pub piece_more : {X : Type 0} (f : ℕ × X → List ℕ) (old text : List ℕ) (xs : List X) (i : ℕ) (d : X) → i < length xs
     → text ≡ old ++ flat_map f (enumerate_from 0 (take i xs))
     → text ++ f (i, get_or xs i d) ≡ old ++ flat_map f (enumerate_from 0 (take (i + 1) xs))

@@ -6,8 +6,9 @@ use Rattle.std.specs.List.{find, list_all, All, Contains}
 use Rattle.std.proofs.lemmas.List.{append-nil, map_more, take_all}
 use Rattle.std.proofs.lemmas.List.Elements.{All-head, All-tail, All-nil, All-push, All-same, All-weaker, All-contains, All-contains_itself, Contains-push, Contains-append_left}
 use Rattle.std.proofs.lemmas.Int.{ints}
+use Rattle.std.proofs.lemmas.Bool.{not-true}
 use Rattle.wl_report.proofs.Passing.{all_pass, passes_each}
-use Rattle.wl_report.specs.Extremes.{first_unbeaten, least_of, greatest_of, errors_of, IsLeast, IsGreatest, ExtremesAreExtreme}
+use Rattle.wl_report.specs.Extremes.{first_unbeaten, least_phase_error, greatest_phase_error, phase_errors, IsLeast, IsGreatest, ExtremesAreExtreme}
 
 -- one of them that none beats
 pub record Unbeaten (beats : ℤ → ℤ → Bool) (errors : List ℤ) (e : ℤ) : Type 0 where
@@ -42,10 +43,6 @@ find_only p (x ∷ xs) e among passes only =
     (tail_contains x e xs among (λ same. let bad : p e ≡ false = (ap p (sym same) ∙ fails) in let no : true ≡ false = sym passes ∙ bad in cc))
     passes (All-tail (λ y. p y ≡ true → y ≡ e) x xs only))
 
-not_true : (b : Bool) → not b ≡ true → b ≡ false
-not_true true h = sym h
-not_true false h = refl
-
 module _ (beats : ℤ → ℤ → Bool) (ranks : Ranks beats) where
   unbeaten_test : (errors : List ℤ) (e : ℤ) → All (λ x. beats x e ≡ false) errors → list_all (λ x. not (beats x e)) errors ≡ true
   unbeaten_test errors e best = all_pass (λ x. not (beats x e)) errors
@@ -54,7 +51,7 @@ module _ (beats : ℤ → ℤ → Bool) (ranks : Ranks beats) where
   one_only : (errors : List ℤ) (e y : ℤ) → Unbeaten beats errors e → Contains errors y → list_all (λ x. not (beats x y)) errors ≡ true → y ≡ e
   one_only errors e y u among passes =
       ranks.same y e (All-contains (λ x. beats x e ≡ false) errors y u.best among)
-      (not_true (beats e y) (All-contains (λ x. not (beats x y) ≡ true) errors e (passes_each (λ x. not (beats x y)) errors passes) u.among))
+      (not-true (beats e y) (All-contains (λ x. not (beats x y) ≡ true) errors e (passes_each (λ x. not (beats x y)) errors passes) u.among))
 
   -- what is kept is what the definition says
   pub settled : (errors : List ℤ) (o : Option ℤ) → Kept beats errors o → o ≡ first_unbeaten beats errors
@@ -105,9 +102,9 @@ module _ (beats : ℤ → ℤ → Bool) (ranks : Ranks beats) where
       let P : Option ℤ → Type 0 = λ o. Kept beats errors o in subst P (settled errors some.0 some.1) some.1
 
   grown : (phases : List (ℕ × ℤ)) (i : ℕ) (e : ℤ) (p : Option ℤ) → i < length phases → p ≡ Some e
-      → Unbeaten beats (errors_of (take i phases) ++ (get_or phases i (0, pos 0)).1 ∷ []) e → Kept beats (errors_of (take (i + 1) phases)) p
+      → Unbeaten beats (phase_errors (take i phases) ++ (get_or phases i (0, pos 0)).1 ∷ []) e → Kept beats (phase_errors (take (i + 1) phases)) p
   grown phases i e p within p_is u =
-      let P : Option ℤ → Type 0 = λ q. Kept beats (errors_of (take (i + 1) phases)) q in
+      let P : Option ℤ → Type 0 = λ q. Kept beats (phase_errors (take (i + 1) phases)) q in
       let Q : List ℤ → Type 0 = λ l. Unbeaten beats l e in
       subst P (sym p_is) (subst Q (sym (map_more (λ x. x.1) phases i (0, pos 0) within)) u)
 
@@ -122,32 +119,32 @@ module _ (beats : ℤ → ℤ → Bool) (ranks : Ranks beats) where
 
   -- one more error: where nothing was kept, where what was kept stays, and where it goes
   pub first_step : (phases : List (ℕ × ℤ)) (i : ℕ) (error : ℤ) (o p : Option ℤ) → i < length phases → error ≡ (get_or phases i (0, pos 0)).1
-      → o ≡ None → p ≡ Some error → Kept beats (errors_of (take i phases)) o → Kept beats (errors_of (take (i + 1) phases)) p
+      → o ≡ None → p ≡ Some error → Kept beats (phase_errors (take i phases)) o → Kept beats (phase_errors (take (i + 1) phases)) p
   first_step phases i error o p within is none p_is kept =
       grown phases i (get_or phases i (0, pos 0)).1 p within (p_is ∙ ap Some is)
-      (begins (errors_of (take i phases)) (get_or phases i (0, pos 0)).1 (kept_none (errors_of (take i phases)) o none kept))
+      (begins (phase_errors (take i phases)) (get_or phases i (0, pos 0)).1 (kept_none (phase_errors (take i phases)) o none kept))
 
   pub keeps_step : (phases : List (ℕ × ℤ)) (i : ℕ) (error e f : ℤ) (o p : Option ℤ) → i < length phases → error ≡ (get_or phases i (0, pos 0)).1
       → e ≡ f → o ≡ Some f → p ≡ Some e → beats error e ≡ false
-      → Kept beats (errors_of (take i phases)) o → Kept beats (errors_of (take (i + 1) phases)) p
+      → Kept beats (phase_errors (take i phases)) o → Kept beats (phase_errors (take (i + 1) phases)) p
   keeps_step phases i error e f o p within is same one p_is loses kept =
       grown phases i f p within (p_is ∙ ap Some same)
-      (keeps (errors_of (take i phases)) (get_or phases i (0, pos 0)).1 f (kept_one (errors_of (take i phases)) o f one kept)
+      (keeps (phase_errors (take i phases)) (get_or phases i (0, pos 0)).1 f (kept_one (phase_errors (take i phases)) o f one kept)
       (same_loss error (get_or phases i (0, pos 0)).1 e f is same loses))
 
   pub takes_step : (phases : List (ℕ × ℤ)) (i : ℕ) (error e f : ℤ) (o p : Option ℤ) → i < length phases → error ≡ (get_or phases i (0, pos 0)).1
       → e ≡ f → o ≡ Some f → p ≡ Some error → beats e error ≡ false
-      → Kept beats (errors_of (take i phases)) o → Kept beats (errors_of (take (i + 1) phases)) p
+      → Kept beats (phase_errors (take i phases)) o → Kept beats (phase_errors (take (i + 1) phases)) p
   takes_step phases i error e f o p within is same one p_is loses kept =
       grown phases i (get_or phases i (0, pos 0)).1 p within (p_is ∙ ap Some is)
-      (takes (errors_of (take i phases)) (get_or phases i (0, pos 0)).1 f (kept_one (errors_of (take i phases)) o f one kept)
+      (takes (phase_errors (take i phases)) (get_or phases i (0, pos 0)).1 f (kept_one (phase_errors (take i phases)) o f one kept)
       (same_loss e f error (get_or phases i (0, pos 0)).1 same is loses))
 
-  pub all_seen : (phases : List (ℕ × ℤ)) (i : ℕ) (o : Option ℤ) → length phases ≤ i → Kept beats (errors_of (take i phases)) o
-      → o ≡ first_unbeaten beats (errors_of phases)
+  pub all_seen : (phases : List (ℕ × ℤ)) (i : ℕ) (o : Option ℤ) → length phases ≤ i → Kept beats (phase_errors (take i phases)) o
+      → o ≡ first_unbeaten beats (phase_errors phases)
   all_seen phases i o past kept =
-      let P : List (ℕ × ℤ) → Type 0 = λ l. Kept beats (errors_of l) o in
-      settled (errors_of phases) o (subst P (take_all i phases past) kept)
+      let P : List (ℕ × ℤ) → Type 0 = λ l. Kept beats (phase_errors l) o in
+      settled (phase_errors phases) o (subst P (take_all i phases past) kept)
 
 -- the less one wins, or the greater one
 abbrev pub less : ℤ → ℤ → Bool
@@ -186,6 +183,6 @@ greatest_named errors (Some e) u =
 
 pub extremes : ExtremesAreExtreme
 extremes errors = (
-  least_named errors (least_of errors) (kept_of less less_ranks errors),
-  greatest_named errors (greatest_of errors) (kept_of greater greater_ranks errors),
+  least_named errors (least_phase_error errors) (kept_of less less_ranks errors),
+  greatest_named errors (greatest_phase_error errors) (kept_of greater greater_ranks errors),
 )

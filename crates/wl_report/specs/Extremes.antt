@@ -4,20 +4,20 @@ use Rattle.std.specs.List.{find, list_all, All, Contains}
 use Rattle.std.specs.Option.{MatchOption}
 
 -- the errors of resynchronising edges, each with its quantum
-abbrev pub errors_of : List (ℕ × ℤ) → List ℤ
-errors_of phases = map (λ p. p.1) phases
+abbrev pub phase_errors : List (ℕ × ℤ) → List ℤ
+phase_errors phases = map (λ p. p.1) phases
 
 -- the first one that none of them beats
 abbrev pub first_unbeaten : (ℤ → ℤ → Bool) → List ℤ → Option ℤ
 first_unbeaten beats errors = find (λ e. list_all (λ x. not (beats x e)) errors) errors
 
 -- one of them that is above none
-abbrev pub least_of : List ℤ → Option ℤ
-least_of errors = first_unbeaten (λ x e. int_lt x e) errors
+abbrev pub least_phase_error : List ℤ → Option ℤ
+least_phase_error errors = first_unbeaten (λ x e. int_lt x e) errors
 
 -- one of them that is below none
-abbrev pub greatest_of : List ℤ → Option ℤ
-greatest_of errors = first_unbeaten (λ x e. int_lt e x) errors
+abbrev pub greatest_phase_error : List ℤ → Option ℤ
+greatest_phase_error errors = first_unbeaten (λ x e. int_lt e x) errors
 
 -- among the errors, and not above any
 pub record IsLeast (errors : List ℤ) (e : ℤ) : Type 0 where
@@ -32,5 +32,5 @@ pub record IsGreatest (errors : List ℤ) (e : ℤ) : Type 0 where
 -- the two are what their names say, and are there wherever there is an error
 abbrev pub ExtremesAreExtreme : Type 0
 ExtremesAreExtreme =
-    (errors : List ℤ) → MatchOption (least_of errors) (errors ≡ []) (IsLeast errors)
-    × MatchOption (greatest_of errors) (errors ≡ []) (IsGreatest errors)
+    (errors : List ℤ) → MatchOption (least_phase_error errors) (errors ≡ []) (IsLeast errors)
+    × MatchOption (greatest_phase_error errors) (errors ≡ []) (IsGreatest errors)

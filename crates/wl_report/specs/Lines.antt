@@ -1,18 +1,22 @@
 -- Lines of words, and the words that a report spells (this project's profile).
-use Rattle.std.specs.Prelude.{ℕ, zero, suc, ◌/◌, ◌%◌, Bool, true, false, ℤ, List, [], ◌∷◌, ◌++◌, codes, Option, None, Some}
+use Rattle.std.specs.Prelude.{◌≡◌, String, string_bytes, ℕ, zero, suc, ◌/◌, ◌%◌, Bool, true, false, ℤ, List, [], ◌∷◌, ◌++◌, codes, Option, None, Some}
 use Rattle.std.specs.List.{flat_map}
 use Rattle.std.specs.Fmt.{digit_glyph, signed_decimal}
 use Rattle.wl_confine.specs.declared.Mode.{Mode}
 use Rattle.wl_confine.specs.declared.Mode.TheVariants.{Active, Passive, Off}
 
+-- a text has grown by these bytes
+abbrev pub GrowsBy : {Z : Type 0} → String Z → String Z → List ℕ → Type 0
+GrowsBy old new more = string_bytes new ≡ string_bytes old ++ more
+
 -- words parted by one space, and a last byte
-abbrev pub joined : ℕ → List ℕ → List (List ℕ) → List ℕ
-joined last word [] = word ++ last ∷ []
-joined last word (next ∷ more) = word ++ 32 ∷ joined last next more
+abbrev pub spaced_words : ℕ → List ℕ → List (List ℕ) → List ℕ
+spaced_words last word [] = word ++ last ∷ []
+spaced_words last word (next ∷ more) = word ++ 32 ∷ spaced_words last next more
 
 -- a line ends with one newline
 abbrev pub line : List ℕ → List (List ℕ) → List ℕ
-line = joined 10
+line = spaced_words 10
 
 -- so many lower-case hexadecimal digits of a number, leading zeros too
 abbrev pub hexadecimal : ℕ → ℕ → List ℕ

@@ -1,5 +1,5 @@
 -- The report of an outcome as text (this project's profile).
-use Rattle.std.specs.Prelude.{ℕ, Bool, ◌==◌, ◌&&◌, if◌then◌else◌, List, [], ◌∷◌, ◌++◌, length, codes}
+use Rattle.std.specs.Prelude.{ℕ, Bool, true, false, ◌==◌, ◌&&◌, if◌then◌else◌, List, [], ◌∷◌, ◌++◌, length, codes}
 use Rattle.std.specs.List.{flat_map, list_all, enumerate_from, sum_by}
 use Rattle.std.specs.Fmt.{decimal}
 use Rattle.wl_confine.specs.Counts.{mode_of}
@@ -7,12 +7,12 @@ use Rattle.wl_node.specs.declared.setup.Passed.{Passed}
 use Rattle.wl_serial.specs.declared.outcome.NodeOutcome.{NodeOutcome}
 use Rattle.wl_serial.specs.declared.outcome.Outcome.{Outcome}
 use Rattle.wl_report.specs.Lines.{line, hexadecimal, bytes_word, mode_word, way_word, kind_word, error_word}
-use Rattle.wl_report.specs.Extremes.{errors_of, least_of, greatest_of}
+use Rattle.wl_report.specs.Extremes.{phase_errors, least_phase_error, greatest_phase_error}
 
--- what stands of a node: its counters and mode, how many errors, samples and synchronisations there were, and the
+-- what is reported of a node: its counters and mode, how many errors, samples and synchronisations there were, and the
 -- least and the greatest phase error
-abbrev pub node_line : ℕ → NodeOutcome → List ℕ
-node_line i n =
+abbrev pub node_report_line : ℕ → NodeOutcome → List ℕ
+node_report_line i n =
     line (codes "node") (decimal i
     ∷ codes "tec" ∷ decimal n.counters.tec
     ∷ codes "rec" ∷ decimal n.counters.rec
@@ -21,21 +21,26 @@ node_line i n =
     ∷ codes "samples" ∷ decimal (length n.samples)
     ∷ codes "hard" ∷ decimal n.hards
     ∷ codes "sync" ∷ decimal (length n.phases)
-    ∷ codes "least" ∷ error_word (least_of (errors_of n.phases))
-    ∷ codes "greatest" ∷ error_word (greatest_of (errors_of n.phases)) ∷ [])
+    ∷ codes "least" ∷ error_word (least_phase_error (phase_errors n.phases))
+    ∷ codes "greatest" ∷ error_word (greatest_phase_error (phase_errors n.phases)) ∷ [])
+
+-- how many hexadecimal digits an identifier of 11 bits has, and one of 29
+abbrev pub id_digits : Bool → ℕ
+id_digits true = 8
+id_digits false = 3
 
 -- a frame that passed through a node: which way, the quantum of the sample that completed it, and what it carries
 abbrev pub frame_words : ℕ → Passed → List (List ℕ)
 frame_words i p =
-    decimal i ∷ way_word p.sent ∷ decimal p.quantum ∷ hexadecimal 3 p.frame.id ∷ kind_word p.frame.remote
+    decimal i ∷ way_word p.sent ∷ decimal p.quantum ∷ hexadecimal (id_digits p.frame.extended) p.frame.id ∷ kind_word p.frame.remote
     ∷ decimal p.frame.dlc ∷ []
 
 abbrev pub frame_line : ℕ → Passed → List ℕ
 frame_line i p = line (codes "frame") (frame_words i p ++ bytes_word p.frame.bytes ∷ [])
 
 -- the line of a numbered node, and then its frames as they passed
-abbrev pub node_lines : ℕ × NodeOutcome → List ℕ
-node_lines n = node_line n.0 n.1 ++ flat_map (frame_line n.0) n.1.frames
+abbrev pub node_report_lines : ℕ × NodeOutcome → List ℕ
+node_report_lines n = node_report_line n.0 n.1 ++ flat_map (frame_line n.0) n.1.frames
 
 -- no error, and no frame left to send
 abbrev pub is_clean : NodeOutcome → Bool
@@ -54,4 +59,4 @@ verdict_line nodes = if list_all is_clean nodes then line (codes "verdict") (cod
 
 -- the report: node by node in order, and last the verdict
 abbrev pub report_text : Outcome → List ℕ
-report_text outcome = flat_map node_lines (enumerate_from 0 outcome.nodes) ++ verdict_line outcome.nodes
+report_text outcome = flat_map node_report_lines (enumerate_from 0 outcome.nodes) ++ verdict_line outcome.nodes

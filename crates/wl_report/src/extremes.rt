@@ -1,12 +1,12 @@
 //! The least and the greatest phase error of a node.
 ghost use Rattle.std.specs.Prelude.{◌≡◌};
-ghost use Rattle.wl_report.specs.Extremes.{errors_of, least_of, greatest_of, ExtremesAreExtreme};
+ghost use Rattle.wl_report.specs.Extremes.{phase_errors, least_phase_error, greatest_phase_error};
 
 use std::fmt;
 
 /// The least of the phase errors, in quanta.
 pub(crate) fn least_error(phases: &[(u64, i8)]) -> Option<i8>
-    ensures { result ≡ least_of (errors_of phases.now) }
+    ensures { result ≡ least_phase_error (phase_errors phases.now) }
 {
     let mut least = None;
     for (_, error) in phases {
@@ -20,7 +20,7 @@ pub(crate) fn least_error(phases: &[(u64, i8)]) -> Option<i8>
 
 /// The greatest of the phase errors, in quanta.
 pub(crate) fn greatest_error(phases: &[(u64, i8)]) -> Option<i8>
-    ensures { result ≡ greatest_of (errors_of phases.now) }
+    ensures { result ≡ greatest_phase_error (phase_errors phases.now) }
 {
     let mut greatest = None;
     for (_, error) in phases {
@@ -49,9 +49,3 @@ impl fmt::Display for ErrorWord {
         }
     }
 }
-
-/// Law: the least and the greatest phase error of a report are among the errors, none is less and none is greater, and
-/// they are there wherever there is an error.
-pub fn extremes_are_extreme()
-    ensures { ExtremesAreExtreme }
-{}

@@ -1,10 +1,11 @@
 //! The line of a frame.
-ghost use Rattle.std.specs.Prelude.{◌≡◌, ◌++◌, OnOk, string_bytes, codes};
+ghost use Rattle.std.specs.Prelude.{◌≡◌, OnOk, codes};
 ghost use Rattle.std.specs.List.{flat_map};
-ghost use Rattle.wl_report.specs.Lines.{bytes_word, hexadecimal, joined, kind_word, way_word};
-ghost use Rattle.wl_report.specs.Report.{frame_line, frame_words};
+ghost use Rattle.wl_report.specs.Lines.{GrowsBy, bytes_word, hexadecimal, spaced_words, kind_word, way_word};
+ghost use Rattle.wl_report.specs.Report.{frame_line, frame_words, id_digits};
 
 use std::alloc::AllocError;
+use wl_frame::frame::Frame;
 use wl_node::Passed;
 
 /// Whether a node sent a frame or received it.
@@ -24,14 +25,14 @@ fn kind_word(remote: bool) -> &'static str
 /// Adds a byte as two lower-case hexadecimal digits.
 #[tactic(auto, using(crate::proofs::Hexadecimal::byte_digits))]
 fn push_byte(text: &mut String, byte: u8) -> Result<(), AllocError>
-    ensures { OnOk result (string_bytes text.new ≡ string_bytes text.old ++ hexadecimal 2 byte) }
+    ensures { OnOk result (GrowsBy text.old text.new (hexadecimal 2 byte)) }
 {
     write!(text, "{byte:02x}")
 }
 
 /// Adds bytes as two lower-case hexadecimal digits each.
 fn push_each_byte(text: &mut String, bytes: &[u8]) -> Result<(), AllocError>
-    ensures { OnOk result (string_bytes text.new ≡ string_bytes text.old ++ flat_map (hexadecimal 2) bytes.now) }
+    ensures { OnOk result (GrowsBy text.old text.new (flat_map (hexadecimal 2) bytes.now)) }
 {
     for byte in bytes {
         push_byte(text, *byte)?;
@@ -41,7 +42,7 @@ fn push_each_byte(text: &mut String, bytes: &[u8]) -> Result<(), AllocError>
 
 /// Adds the word of a frame's bytes.
 fn push_bytes(text: &mut String, bytes: &[u8]) -> Result<(), AllocError>
-    ensures { OnOk result (string_bytes text.new ≡ string_bytes text.old ++ bytes_word bytes.now) }
+    ensures { OnOk result (GrowsBy text.old text.new (bytes_word bytes.now)) }
 {
     if bytes.is_empty() {
         text.push_str("-")
@@ -50,10 +51,21 @@ fn push_bytes(text: &mut String, bytes: &[u8]) -> Result<(), AllocError>
     }
 }
 
-/// Adds the words of a frame that stand before its bytes, and a space.
-#[tactic(auto, using(crate::proofs::Hexadecimal::identifier_digits))]
+/// Adds an identifier: 3 lower-case hexadecimal digits, or 8 of an extended frame.
+fn push_id(text: &mut String, frame: &Frame) -> Result<(), AllocError>
+    ensures { OnOk result (GrowsBy text.old text.new (hexadecimal (id_digits frame.now.extended) frame.now.id)) }
+{
+    let id = frame.id();
+    if frame.is_extended() {
+        write!(text, "{id:08x}")
+    } else {
+        write!(text, "{id:03x}")
+    }
+}
+
+/// Adds the words of a frame that come before its bytes, and a space.
 fn push_frame_words(text: &mut String, node: usize, passed: &Passed) -> Result<(), AllocError>
-    ensures { OnOk result (string_bytes text.new ≡ string_bytes text.old ++ joined 32 (codes "frame") (frame_words node passed.now)) }
+    ensures { OnOk result (GrowsBy text.old text.new (spaced_words 32 (codes "frame") (frame_words node passed.now))) }
 {
     let Passed {
         sent,
@@ -61,15 +73,16 @@ fn push_frame_words(text: &mut String, node: usize, passed: &Passed) -> Result<(
         frame,
     } = *passed;
     let way = way_word(sent);
-    let id = frame.id();
     let kind = kind_word(frame.remote());
     let dlc = frame.dlc();
-    write!(text, "frame {node} {way} {quantum} {id:03x} {kind} {dlc} ")
+    write!(text, "frame {node} {way} {quantum} ")?;
+    push_id(text, &frame)?;
+    write!(text, " {kind} {dlc} ")
 }
 
 /// Adds the line of a frame that passed through a node.
 pub(crate) fn push_frame(text: &mut String, node: usize, passed: &Passed) -> Result<(), AllocError>
-    ensures { OnOk result (string_bytes text.new ≡ string_bytes text.old ++ frame_line node passed.now) }
+    ensures { OnOk result (GrowsBy text.old text.new (frame_line node passed.now)) }
 {
     push_frame_words(text, node, passed)?;
     push_bytes(text, passed.frame.bytes())?;

@@ -3,12 +3,12 @@
 
 mod extremes;
 mod frames;
+mod laws;
 mod nodes;
 #[cfg(test)]
 mod tests;
 mod verdict;
 mod whole;
 
-pub use extremes::extremes_are_extreme;
-pub use verdict::clean_is_clean;
+pub use laws::{clean_is_clean, extremes_are_extreme};
 pub use whole::report;

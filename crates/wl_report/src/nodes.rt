@@ -1,8 +1,8 @@
 //! The lines of a node.
-ghost use Rattle.std.specs.Prelude.{◌≡◌, ◌++◌, OnOk, string_bytes};
+ghost use Rattle.std.specs.Prelude.{◌≡◌, OnOk};
 ghost use Rattle.std.specs.List.{flat_map};
-ghost use Rattle.wl_report.specs.Lines.{mode_word};
-ghost use Rattle.wl_report.specs.Report.{frame_line, node_line, node_lines};
+ghost use Rattle.wl_report.specs.Lines.{GrowsBy, mode_word};
+ghost use Rattle.wl_report.specs.Report.{frame_line, node_report_line, node_report_lines};
 
 use crate::extremes::{ErrorWord, greatest_error, least_error};
 use crate::frames::push_frame;
@@ -24,7 +24,7 @@ fn mode_word(mode: Mode) -> &'static str
 
 /// Adds the line of a node.
 fn push_node_line(text: &mut String, number: usize, node: &NodeOutcome) -> Result<(), AllocError>
-    ensures { OnOk result (string_bytes text.new ≡ string_bytes text.old ++ node_line number node.now) }
+    ensures { OnOk result (GrowsBy text.old text.new (node_report_line number node.now)) }
 {
     let tec = node.counters.tec();
     let rec = node.counters.rec();
@@ -47,7 +47,7 @@ fn push_node_line(text: &mut String, number: usize, node: &NodeOutcome) -> Resul
 
 /// Adds the lines of frames that passed through a node.
 fn push_frames(text: &mut String, number: usize, frames: &[Passed]) -> Result<(), AllocError>
-    ensures { OnOk result (string_bytes text.new ≡ string_bytes text.old ++ flat_map (frame_line number) frames.now) }
+    ensures { OnOk result (GrowsBy text.old text.new (flat_map (frame_line number) frames.now)) }
 {
     for passed in frames {
         push_frame(text, number, passed)?;
@@ -61,7 +61,7 @@ pub(crate) fn push_node(
     number: usize,
     node: &NodeOutcome,
 ) -> Result<(), AllocError>
-    ensures { OnOk result (string_bytes text.new ≡ string_bytes text.old ++ node_lines (number, node.now)) }
+    ensures { OnOk result (GrowsBy text.old text.new (node_report_lines (number, node.now))) }
 {
     push_node_line(text, number, node)?;
     push_frames(text, number, node.frames.as_slice())

@@ -1,8 +1,8 @@
 //! The verdict on all nodes.
-ghost use Rattle.std.specs.Prelude.{◌≡◌, ◌++◌, OnOk, string_bytes};
+ghost use Rattle.std.specs.Prelude.{◌≡◌, OnOk};
 ghost use Rattle.std.specs.List.{sum_by};
+ghost use Rattle.wl_report.specs.Lines.{GrowsBy};
 ghost use Rattle.wl_report.specs.Report.{verdict_line};
-ghost use Rattle.wl_report.specs.Verdict.{CleanIsClean};
 
 use std::alloc::AllocError;
 use wl_serial::NodeOutcome;
@@ -32,7 +32,7 @@ fn all_unsent(nodes: &[NodeOutcome]) -> u128
 /// Adds the verdict.
 #[tactic(auto, using(crate::proofs::Sums::verdict_clean, crate::proofs::Sums::verdict_faulty))]
 pub(crate) fn push_verdict(text: &mut String, nodes: &[NodeOutcome]) -> Result<(), AllocError>
-    ensures { OnOk result (string_bytes text.new ≡ string_bytes text.old ++ verdict_line nodes.now) }
+    ensures { OnOk result (GrowsBy text.old text.new (verdict_line nodes.now)) }
 {
     let errors = all_errors(nodes);
     let unsent = all_unsent(nodes);
@@ -42,8 +42,3 @@ pub(crate) fn push_verdict(text: &mut String, nodes: &[NodeOutcome]) -> Result<(
         writeln!(text, "verdict faulty errors {errors} unsent {unsent}")
     }
 }
-
-/// Law: a verdict is clean exactly where no node has an error and none has an unsent frame.
-pub fn clean_is_clean()
-    ensures { CleanIsClean }
-{}

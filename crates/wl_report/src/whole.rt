@@ -1,7 +1,8 @@
 //! The report of an outcome.
-ghost use Rattle.std.specs.Prelude.{◌≡◌, ◌++◌, OnOk, IfOk, string_bytes};
+ghost use Rattle.std.specs.Prelude.{◌≡◌, OnOk, IfOk};
 ghost use Rattle.std.specs.List.{enumerate_from, flat_map};
-ghost use Rattle.wl_report.specs.Report.{node_lines, report_text};
+ghost use Rattle.wl_report.specs.Lines.{GrowsBy};
+ghost use Rattle.wl_report.specs.Report.{node_report_lines, report_text};
 
 use crate::nodes::push_node;
 use crate::verdict::push_verdict;
@@ -10,7 +11,7 @@ use wl_serial::{NodeOutcome, Outcome};
 
 /// Adds the lines of all nodes.
 fn push_nodes(text: &mut String, nodes: &[NodeOutcome]) -> Result<(), AllocError>
-    ensures { OnOk result (string_bytes text.new ≡ string_bytes text.old ++ flat_map node_lines (enumerate_from 0 nodes.now)) }
+    ensures { OnOk result (GrowsBy text.old text.new (flat_map node_report_lines (enumerate_from 0 nodes.now))) }
 {
     for (number, node) in nodes.iter().enumerate() {
         push_node(text, number, node)?;
@@ -25,7 +26,7 @@ fn push_nodes(text: &mut String, nodes: &[NodeOutcome]) -> Result<(), AllocError
 /// phase errors in quanta and `-` where there are none, and then a line for each frame in the order in which they passed,
 /// `frame {i} {sent|received} {quantum} {id} {data|remote} {dlc} {bytes}`, identifier and bytes in hexadecimal digits, `-`
 /// for no byte. Last `verdict clean`, where no node has an error and none has an unsent frame, or
-/// `verdict faulty errors {sum} unsent {sum}`. Refused for want of memory alone.
+/// `verdict faulty errors {sum} unsent {sum}`. Refused only when out of memory.
 pub fn report(alloc: Global, outcome: &Outcome) -> Result<Vec<u8>, AllocError>
     ensures { IfOk result (λ text. text.items ≡ report_text outcome.now) }
 {

@@ -1,1 +1,2 @@
 pub mod Tolerance
+mod Rows

@@ -10,7 +10,7 @@ pub record Lengths : Type 0 where
   pub ps2 : ℕ
   pub sjw : ℕ
 
--- the place of the sample in a bit that nothing moved: behind SYNC_SEG of 1 quantum, PROP_SEG and PHASE_SEG1
+-- the place of the sample in a bit that nothing moved: after SYNC_SEG of 1 quantum, PROP_SEG and PHASE_SEG1
 -- (Bosch CAN 2.0 part B, section 10)
 abbrev pub sample_at : Lengths → ℕ
 sample_at l = 1 + l.prop + l.ps1

@@ -2,8 +2,8 @@
 use Rattle.std.proofs.Common.{◌≡◌, ℕ, zero, suc, ◌+◌, ◌%◌, ◌<◌, ◌≤◌, ◌==◌, ◌⊎◌, Bool, ◌&&◌, not, inl, inr, List, length, get_or, refl, sym, ◌∙◌, ap, arith, nat_le}
 use Rattle.std.proofs.lemmas.Bool.{cases_lt, le-leb}
 use Rattle.std.proofs.lemmas.Option.{slice_get-get_or}
-use Rattle.wl_record.specs.Truth.{count_below, odd, IsIncreasing}
-use Rattle.wl_record.specs.TableLaws.{TableLaws}
+use Rattle.wl_record_core.specs.Truth.{count_below, odd, IsIncreasing}
+use Rattle.wl_record_core.specs.TableLaws.{TableLaws}
 
 -- a change that is not after the tick counts, with those before it
 pub reached : TableLaws → (xs : List ℕ) (g tick : ℕ) → IsIncreasing xs → g < length xs → get_or xs g 0 ≤ tick → suc g ≤ count_below (tick + 1) xs

@@ -1,10 +1,11 @@
 -- What has come from each node by a tick that all have reached is what the simulation says.
 use Rattle.std.proofs.Common.{◌≡◌, ℕ, zero, suc, ◌+◌, ◌-◌, ◌<◌, ◌≤◌, Bool, true, false, ◌&&◌, ◌||◌, ◌⊎◌, inl, inr, length, take, sym, ◌∙◌, ap, subst, arith, nat_le, add-one}
 use Rattle.std.proofs.lemmas.Bool.{cases_lt, lt-leb, or_left, or_right}
+use Rattle.wl_topology.proofs.CallerLemmas.{any_from}
 use Rattle.wl_topology.specs.Delays.{delay_of}
 use Rattle.wl_topology.specs.Driven.{any_below, driven}
-use Rattle.wl_record.specs.Truth.{count_below, odd, IsIncreasing}
-use Rattle.wl_record.specs.TableLaws.{TableLaws}
+use Rattle.wl_record_core.specs.Truth.{count_below, odd, IsIncreasing}
+use Rattle.wl_record_core.specs.TableLaws.{TableLaws}
 use Rattle.wl_plan.specs.declared.plan.Plan.{Plan}
 use Rattle.wl_plan.specs.PlanLine.{line_of, table_of}
 use Rattle.wl_plan.specs.Simulation.{level}
@@ -45,14 +46,6 @@ come plan i j t delay r drove laws table sound b run reached is positive told =
     same (inr late) = ap (λ v. nat_le delay t && v) (level_told plan i (t - delay) r laws table sound b run (omega arith))
 
 -- one node that drove dominant is enough, and without one there is none
-any_from : (n i : ℕ) (p : ℕ → Bool) → i < n → p i ≡ true → any_below n p ≡ true
-any_from zero i p b h = absurd (omega arith)
-any_from (suc n) i p b h =
-    elim (cases_lt i n) [
-      | inl below ↦ or_left _ _ (any_from n i p below h)
-      | inr last ↦ (let same : n ≡ i = omega arith in or_right _ _ (ap p same ∙ h))
-    ]
-
 pub driven_from : (n : ℕ) (delay : ℕ → ℕ → ℕ) (drove : ℕ → ℕ → Bool) (i j t : ℕ) (v : Bool) → i < n → v ≡ (nat_le (delay i j) t && drove i (t - delay i j)) → v ≡ true
     → driven n delay drove j t ≡ true
 driven_from n delay drove i j t v b is h = any_from n i (λ k. nat_le (delay k j) t && drove k (t - delay k j)) b (sym is ∙ h)

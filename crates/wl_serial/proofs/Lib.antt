@@ -1,5 +1,6 @@
 mod Counts
 mod Found
+mod Rows
 mod Runners
 mod Steps
 mod Told

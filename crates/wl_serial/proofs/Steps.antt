@@ -4,12 +4,12 @@ use Rattle.std.proofs.lemmas.Bool.{cases_lt}
 use Rattle.std.proofs.lemmas.List.{get_or_default}
 use Rattle.std.proofs.lemmas.Option.{get_or_from_slice_get, slice_get_within}
 use Rattle.std.proofs.Math.Seq.{take-suc, take-length}
-use Rattle.wl_intervals.specs.declared.Level.{Level}
-use Rattle.wl_intervals.specs.declared.Level.TheVariants.{Dominant, Recessive}
-use Rattle.wl_intervals.specs.Levels.{is_dominant, same}
+use Rattle.wl_level.specs.declared.Level.{Level}
+use Rattle.wl_level.specs.declared.Level.TheVariants.{Dominant, Recessive}
+use Rattle.wl_level.specs.Levels.{is_dominant, same}
 use Rattle.wl_node.specs.declared.setup.NodeSetup.{NodeSetup}
-use Rattle.wl_node.specs.History.{history_of, counters_of, phases_of, hards_of, errors_of, unsent_count}
-use Rattle.wl_record.specs.Truth.{count_below}
+use Rattle.wl_node.specs.History.{history_of, counters_of, phases_of, hards_of, error_count, unsent_count}
+use Rattle.wl_record_core.specs.Truth.{count_below}
 use Rattle.wl_plan.specs.declared.plan.Plan.{Plan}
 use Rattle.wl_plan.specs.Limits.{most_quanta, most_quanta-is}
 use Rattle.wl_plan.specs.Line.{Line}
@@ -17,7 +17,7 @@ use Rattle.wl_plan.specs.PlanLine.{no_setup, setup_at, line_of, table_of}
 use Rattle.wl_plan.specs.Simulation.{seen, changes, differs, ran, AreInside}
 use Rattle.wl_plan.specs.SimulationLaws.{SimulationLaws}
 use Rattle.wl_plan.specs.Sound.{IsSound}
-use Rattle.wl_node.specs.Reached.{IsNode, setup_of}
+use Rattle.wl_node.specs.Reached.{IsNode, node_setup}
 use Rattle.wl_node.specs.declared.node.Node.{Node}
 use Rattle.wl_serial.specs.declared.running.Running.{Running}
 use Rattle.wl_serial.specs.declared.outcome.NodeOutcome.{NodeOutcome}
@@ -30,7 +30,7 @@ element_is plan i x xs e is b = is ∙ (ap (λ ys. get_or ys i x) e ∙ get_or_d
 
 -- before its first quantum
 pub begins : (plan : Plan) (i : ℕ) (r : Running) → SimulationLaws → IsSound (line_of plan) → i < length plan.nodes
-    → r.next ≡ (line_of plan).instant i 0 → setup_of r.node ≡ setup_at plan i → IsNode [] r.node → r.changes ≡ [] → IsRunning plan i r
+    → r.next ≡ (line_of plan).instant i 0 → node_setup r.node ≡ setup_at plan i → IsNode [] r.node → r.changes ≡ [] → IsRunning plan i r
 unfolding seen
 begins plan i r laws sound b next setup node empty = (
   0,
@@ -79,9 +79,9 @@ pub record IsStep (plan : Plan) (i : ℕ) (r s : Running) (level before after : 
   pub below : r.next < plan.end
   pub found : level ≡ finds plan i r.next
   pub node : (levels : List Level) → IsNode levels r.node → IsNode (levels ++ level ∷ []) s.node
-  pub setup : setup_of s.node ≡ setup_of r.node
-  pub before_is : (levels : List Level) → IsNode levels r.node → before ≡ (history_of (setup_of r.node) levels).drive
-  pub after_is : (levels : List Level) → IsNode levels s.node → after ≡ (history_of (setup_of s.node) levels).drive
+  pub setup : node_setup s.node ≡ node_setup r.node
+  pub before_is : (levels : List Level) → IsNode levels r.node → before ≡ (history_of (node_setup r.node) levels).drive
+  pub after_is : (levels : List Level) → IsNode levels s.node → after ≡ (history_of (node_setup s.node) levels).drive
   pub kept : s.changes ≡ (if same after before then r.changes else r.changes ++ r.next ∷ [])
 
 seen_more : (plan : Plan) (i k : ℕ) → seen (line_of plan) i (suc k) ≡ seen (line_of plan) i k ++ finds plan i ((line_of plan).instant i k) ∷ []
@@ -103,7 +103,7 @@ steps plan i r s level before after k laws sound b run step next = record {
     inside : AreInside (line_of plan) i (suc k)
     inside = inside_more (line_of plan) i k run.inside (let e = run.next in let h = step.below in subst (λ v. v < plan.end) e h)
 
-    setup : setup_of s.node ≡ setup_at plan i
+    setup : node_setup s.node ≡ setup_at plan i
     setup = step.setup ∙ run.setup
 
     node : IsNode (seen (line_of plan) i (suc k)) s.node
@@ -135,12 +135,11 @@ pub quanta_are : (plan : Plan) (i : ℕ) (r : Running) (n : ℕ) → SimulationL
 quanta_are plan i r n laws run count = count (seen (line_of plan) i run.0) run.1.node ∙ laws.length_seen (line_of plan) i run.0
 
 pub quanta_few : (plan : Plan) (i : ℕ) (r : Running) (n : ℕ) → SimulationLaws → IsSound (line_of plan) → i < length plan.nodes → (run : IsRunning plan i r)
-    → r.next < plan.end → ((levels : List Level) → IsNode levels r.node → n ≡ length levels) → n < 65536
+    → r.next < plan.end → ((levels : List Level) → IsNode levels r.node → n ≡ length levels) → n < most_quanta
 quanta_few plan i r n laws sound b run below count =
     let e : n ≡ run.0 = quanta_are plan i r n laws run count in
     let h : (line_of plan).instant i run.0 < plan.end = subst (λ v. v < plan.end) run.1.next below in
     let f : run.0 < most_quanta = sound.few_quanta i run.0 b h in
-    let g : run.0 < 65536 = subst (λ v. run.0 < v) most_quanta-is f in
     omega arith
 
 -- each quantum begins after the one before
@@ -162,15 +161,15 @@ ends plan i r laws sound b run past =
 
 -- What the readers of a node answer where these levels put it.
 pub record AreRead (node : Node) (o : NodeOutcome) : Type 0 where
-  pub samples : (levels : List Level) → IsNode levels node → o.samples ≡ (history_of (setup_of node) levels).samples
-  pub frames : (levels : List Level) → IsNode levels node → o.frames ≡ (history_of (setup_of node) levels).frames
-  pub counters : (levels : List Level) → IsNode levels node → o.counters ≡ counters_of (history_of (setup_of node) levels)
-  pub phases : (levels : List Level) → IsNode levels node → o.phases ≡ phases_of (history_of (setup_of node) levels)
-  pub hards : (levels : List Level) → IsNode levels node → o.hards ≡ hards_of (history_of (setup_of node) levels)
-  pub errors : (levels : List Level) → IsNode levels node → o.errors ≡ errors_of (history_of (setup_of node) levels)
-  pub unsent : (levels : List Level) → IsNode levels node → o.unsent ≡ unsent_count (setup_of node) (history_of (setup_of node) levels)
+  pub samples : (levels : List Level) → IsNode levels node → o.samples ≡ (history_of (node_setup node) levels).samples
+  pub frames : (levels : List Level) → IsNode levels node → o.frames ≡ (history_of (node_setup node) levels).frames
+  pub counters : (levels : List Level) → IsNode levels node → o.counters ≡ counters_of (history_of (node_setup node) levels)
+  pub phases : (levels : List Level) → IsNode levels node → o.phases ≡ phases_of (history_of (node_setup node) levels)
+  pub hards : (levels : List Level) → IsNode levels node → o.hards ≡ hards_of (history_of (node_setup node) levels)
+  pub errors : (levels : List Level) → IsNode levels node → o.errors ≡ error_count (history_of (node_setup node) levels)
+  pub unsent : (levels : List Level) → IsNode levels node → o.unsent ≡ unsent_count (node_setup node) (history_of (node_setup node) levels)
 
-told_as : (node : Node) (levels : List Level) (o : NodeOutcome) → IsNode levels node → AreRead node o → o ≡ told_of (setup_of node) o.changes (history_of (setup_of node) levels)
+told_as : (node : Node) (levels : List Level) (o : NodeOutcome) → IsNode levels node → AreRead node o → o ≡ told_of (node_setup node) o.changes (history_of (node_setup node) levels)
 told_as node levels o is read = λ i. record {
   changes = o.changes;
   samples = read.samples levels is i;

@@ -5,10 +5,10 @@ use Rattle.std.proofs.Math.Seq.{take-suc}
 use Rattle.std.proofs.lemmas.List.{length-take-le}
 use Rattle.std.proofs.lemmas.List.Elements.{All-from_get_or, All-map, All-append, All-cons}
 use Rattle.std.proofs.lemmas.List.FromFn.{length-range_with_len, length-map-range_with_len, get_or-range_with_len}
-use Rattle.wl_record.specs.declared.record.Record.{Record}
-use Rattle.wl_record.specs.declared.record.Record.TheVariants.{Edge, Silence}
-use Rattle.wl_record.specs.Limits.{most_edges}
-use Rattle.wl_record.specs.Within.{IsWithin}
+use Rattle.wl_record_core.specs.declared.record.Record.{Record}
+use Rattle.wl_record_core.specs.declared.record.Record.TheVariants.{Edge, Silence}
+use Rattle.wl_record_core.specs.Limits.{most_edges}
+use Rattle.wl_record_core.specs.Within.{IsWithin}
 use Rattle.wl_plan.specs.PlanLine.{line_of, table_of, IsTrueOfPlan}
 use Rattle.wl_plan.specs.Checked.{CheckedIsSound}
 use Rattle.wl_plan.specs.SimulationLaws.{OutcomeIsTrue}

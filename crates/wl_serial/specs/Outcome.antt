@@ -2,7 +2,7 @@
 use Rattle.std.specs.Prelude.{ℕ, List, length, map}
 use Rattle.std.specs.List.{range_with_len}
 use Rattle.wl_node.specs.declared.setup.NodeSetup.{NodeSetup}
-use Rattle.wl_node.specs.History.{History, history_of, counters_of, phases_of, hards_of, errors_of, unsent_count}
+use Rattle.wl_node.specs.History.{History, history_of, counters_of, phases_of, hards_of, error_count, unsent_count}
 use Rattle.wl_plan.specs.declared.plan.Plan.{Plan}
 use Rattle.wl_plan.specs.PlanLine.{setup_at, line_of, table_of}
 use Rattle.wl_plan.specs.Simulation.{history}
@@ -18,7 +18,7 @@ told_of setup changes h = record {
   counters = counters_of h;
   phases = phases_of h;
   hards = hards_of h;
-  errors = errors_of h;
+  errors = error_count h;
   unsent = unsent_count setup h;
 }
 

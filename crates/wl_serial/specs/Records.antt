@@ -2,10 +2,10 @@
 -- is a promise of no change before a tick is Chandy and Misra 1979.
 use Rattle.std.specs.Prelude.{ℕ, suc, ◌<◌, ◌≤◌, List, [], ◌∷◌, ◌++◌, length, All}
 use Rattle.std.specs.List.{flat_map, enumerate_from}
-use Rattle.wl_record.specs.declared.record.Record.{Record}
-use Rattle.wl_record.specs.declared.record.Record.TheVariants.{Edge, Silence}
-use Rattle.wl_record.specs.Limits.{most_nodes, most_edges, tick_end}
-use Rattle.wl_record.specs.Within.{IsWithin}
+use Rattle.wl_record_core.specs.declared.record.Record.{Record}
+use Rattle.wl_record_core.specs.declared.record.Record.TheVariants.{Edge, Silence}
+use Rattle.wl_record_core.specs.Limits.{most_nodes, most_edges, tick_end}
+use Rattle.wl_record_core.specs.Within.{IsWithin}
 use Rattle.wl_plan.specs.declared.plan.Plan.{Plan}
 use Rattle.wl_plan.specs.PlanLine.{IsTrueOfPlan}
 use Rattle.wl_plan.specs.Checked.{IsChecked}

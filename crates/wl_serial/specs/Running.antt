@@ -1,13 +1,13 @@
 -- Where each node of a plan is while the engine goes from quantum to quantum.
 use Rattle.std.specs.Prelude.{◌≡◌, ℕ, ◌+◌, ◌-◌, ◌<◌, ◌≤◌, List, [], ◌∷◌, length, slice_index_or, take}
-use Rattle.wl_intervals.specs.declared.Level.{Level}
-use Rattle.wl_intervals.specs.Levels.{level_of}
-use Rattle.wl_record.specs.Truth.{count_below}
+use Rattle.wl_level.specs.declared.Level.{Level}
+use Rattle.wl_level.specs.Levels.{level_of}
+use Rattle.wl_record_core.specs.Truth.{count_below}
 use Rattle.wl_plan.specs.declared.plan.Plan.{Plan}
 use Rattle.wl_plan.specs.PlanLine.{setup_at, line_of, table_of}
 use Rattle.wl_plan.specs.Line.{found}
 use Rattle.wl_plan.specs.Simulation.{level, seen, AreInside}
-use Rattle.wl_node.specs.Reached.{IsNode, setup_of}
+use Rattle.wl_node.specs.Reached.{IsNode, node_setup}
 use Rattle.wl_serial.specs.declared.running.Running.{Running}
 
 -- what node j finds on the line at tick t
@@ -19,7 +19,7 @@ finds plan j t = level_of (found (line_of plan) (level (line_of plan)) j t)
 pub record HasRun (plan : Plan) (i : ℕ) (r : Running) (k : ℕ) : Type 0 where
   pub inside : AreInside (line_of plan) i k
   pub next : r.next ≡ (line_of plan).instant i k
-  pub setup : setup_of r.node ≡ setup_at plan i
+  pub setup : node_setup r.node ≡ setup_at plan i
   pub node : IsNode (seen (line_of plan) i k) r.node
   pub changes : r.changes ≡ take (count_below ((line_of plan).instant i k) (table_of plan i)) (table_of plan i)
 
@@ -41,8 +41,3 @@ pub record IsNext (end : ℕ) (rs : List Running) (j : ℕ) : Type 0 where
   pub is_node : j < length rs
   pub before : (d : Running) → (slice_index_or rs j d).next < end
   pub first : (d : Running) → NoneBefore (slice_index_or rs j d).next rs
-
--- how many ticks the nodes together have before them
-abbrev pub ticks_left : ℕ → List Running → ℕ
-ticks_left end [] = 0
-ticks_left end (r ∷ rs) = (end - r.next) + ticks_left end rs

@@ -6,10 +6,9 @@ mod outcome;
 mod records;
 mod run;
 mod running;
+mod so_far;
 
 pub use outcome::{Changes, Frames, NodeOutcome, NodeOutcomes, Outcome, Phases, Samples};
 pub use records::{outcome_is_recordable, records_are_true, records_of};
 pub use run::run_serial;
-
-#[cfg(test)]
-mod tests;
+pub use so_far::node_outcome;

@@ -1,6 +1,6 @@
 //! What a node finds on the line, by how far the nodes have run.
 ghost use Rattle.std.specs.Prelude.{◌≡◌, ◌+◌, ◌-◌, ◌<◌, ◌≤◌, ◌&&◌, nat_le, length};
-ghost use Rattle.wl_record.specs.Truth.{count_below, odd, IsIncreasing};
+ghost use Rattle.wl_record_core.specs.Truth.{count_below, odd, IsIncreasing};
 ghost use Rattle.wl_topology.specs.Delays.{delay_of};
 ghost use Rattle.wl_topology.specs.Driven.{driven};
 ghost use Rattle.wl_plan.specs.Checked.{IsChecked};
@@ -9,7 +9,7 @@ ghost use Rattle.wl_plan.specs.Simulation.{level};
 ghost use Rattle.wl_serial.specs.Running.{AreRunning, NoneBefore, finds};
 
 use crate::running::Running;
-use wl_intervals::Level;
+use wl_level::Level;
 use wl_plan::Plan;
 use wl_topology::MOST_NODES;
 
@@ -43,7 +43,7 @@ fn is_driven(plan: &Plan, running: &[Running], j: usize, t: u64, come: &mut Come
 {
     wl_plan::checked_is_sound();
     wl_plan::simulation_laws();
-    wl_record::table_laws();
+    wl_record_core::table_laws();
     for i in 0..running.len() {
         let delay = plan.topology.delay(i as u8, j as u8);
         if drove(running[i].changes.as_slice(), delay, t, &mut come[i]) {
@@ -70,7 +70,7 @@ fn count_until(changes: &[u64], tick: u64, guess: usize) -> usize
     requires { IsIncreasing changes.now }
     ensures { result ≡ count_below (tick + 1) changes.now }
 {
-    wl_record::table_laws();
+    wl_record_core::table_laws();
     let mut count = sure(changes, tick, guess);
     while count < changes.len() && changes[count] <= tick {
         count += 1;
@@ -83,7 +83,7 @@ fn sure(changes: &[u64], tick: u64, guess: usize) -> usize
     requires { IsIncreasing changes.now }
     ensures { result ≤ count_below (tick + 1) changes.now }
 {
-    wl_record::table_laws();
+    wl_record_core::table_laws();
     if guess == 0 || guess > changes.len() {
         return 0;
     }

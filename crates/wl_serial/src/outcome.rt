@@ -1,7 +1,7 @@
 //! What a simulation comes to.
 
 use wl_confine::Counters;
-use wl_intervals::{Level, Listed};
+use wl_level::{Level, Listed};
 use wl_node::Passed;
 
 /// Ticks, in order. At the first one the drive becomes dominant.

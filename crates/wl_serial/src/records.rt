@@ -1,17 +1,17 @@
 //! The records of an outcome.
 ghost use Rattle.std.specs.Prelude.{◌≡◌, ◌≤◌, ◌++◌, ◌↔◌, IsTrue, IfOk, OnOk, All, length};
-ghost use Rattle.wl_record.specs.Limits.{most_edges};
+ghost use Rattle.wl_record_core.specs.Limits.{most_edges};
 ghost use Rattle.wl_serial.specs.Records.{IsRecordable, OutcomeIsRecordable, RecordsAreTrue, node_records, outcome_records};
 
 use crate::outcome::{NodeOutcome, Outcome};
 use std::alloc::{AllocError, Global};
-use wl_record::{MOST_EDGES, MOST_NODES, Record, TICK_END};
+use wl_record_core::{MOST_EDGES, MOST_NODES, Record, TICK_END};
 
 impl Outcome {
-    /// Whether records can tell all of it: there are at most 16 nodes and at most 65,536 changes of each, and the end is below 2^48.
+    /// Whether records can tell all of it: there are at most 16 nodes and at most 262,145 changes of each, and the end is below 2^48.
     ///
     /// What a plan that passed its check comes to is recordable.
-    #[tactic(auto, unfolding(wl_record::specs::Limits::most_nodes, wl_record::specs::Limits::tick_end))]
+    #[tactic(auto, unfolding(wl_record_core::specs::Limits::most_nodes, wl_record_core::specs::Limits::tick_end))]
     pub fn recordable(&self) -> bool
         ensures { IsTrue result ↔ IsRecordable self.now }
     {
@@ -21,8 +21,8 @@ impl Outcome {
     }
 }
 
-/// Whether each of the nodes has at most 65,536 changes.
-#[tactic(auto, unfolding(wl_record::specs::Limits::most_edges))]
+/// Whether each of the nodes has at most 262,145 changes.
+#[tactic(auto, unfolding(wl_record_core::specs::Limits::most_edges))]
 fn have_few_changes(nodes: &[NodeOutcome]) -> bool
     ensures { IsTrue result ↔ All (λ node. length node.changes ≤ most_edges) nodes.now }
 {

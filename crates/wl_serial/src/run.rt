@@ -9,7 +9,7 @@ use crate::line::level_at;
 use crate::outcome::{NodeOutcomes, Outcome};
 use crate::running::Running;
 use std::alloc::{AllocError, Global};
-use wl_intervals::Listed;
+use wl_level::Listed;
 use wl_plan::Plan;
 use wl_topology::MOST_NODES;
 

@@ -1,6 +1,6 @@
 //! One node as far as the engine has run it.
 ghost use Rattle.std.specs.Prelude.{◌≡◌, ℕ, ◌<◌, ◌≤◌, ◌++◌, [], ◌∷◌, if◌then◌else◌, IfOk, OnOk, length};
-ghost use Rattle.wl_intervals.specs.Levels.{same};
+ghost use Rattle.wl_level.specs.Levels.{same};
 ghost use Rattle.wl_plan.specs.Checked.{IsChecked};
 ghost use Rattle.wl_plan.specs.declared.plan.Plan.{Plan as GivenPlan};
 ghost use Rattle.wl_serial.specs.Outcome.{node_outcome_of};
@@ -8,7 +8,7 @@ ghost use Rattle.wl_serial.specs.Running.{IsRunning, finds};
 
 use crate::outcome::{Changes, NodeOutcome};
 use std::alloc::{AllocError, Global};
-use wl_intervals::{Level, Listed};
+use wl_level::{Level, Listed};
 use wl_node::Node;
 use wl_plan::Plan;
 
@@ -60,8 +60,8 @@ impl Running {
 
     /// What the node did, where it has run all its quanta before the end.
     pub(crate) fn finish(self) -> NodeOutcome
-        ensures { (plan : GivenPlan) (i : ℕ) → IsChecked plan → i < length plan.nodes → IsRunning plan i self → plan.end ≤ self.next
-            → result ≡ node_outcome_of plan i }
+        ensures { (plan : GivenPlan) (i : ℕ) → IsChecked plan → i < length plan.nodes → IsRunning plan i self
+            → plan.end ≤ self.next → result ≡ node_outcome_of plan i }
     {
         wl_plan::checked_is_sound();
         wl_plan::simulation_laws();

@@ -9,9 +9,8 @@ use Rattle.wl_setup.specs.declared.fault.SetupFault.{SetupFault}
 use Rattle.wl_setup.specs.declared.fault.SetupFault.TheVariants.{Unknown, Version, Toml}
 use Rattle.wl_setup.specs.declared.plan_text.PlanText.{PlanText}
 use Rattle.wl_setup.specs.Keys.{kind_of, TableKeys, top_keys, frame_keys, disturbance_keys}
-use Rattle.wl_setup.specs.Limits.{known_version}
 use Rattle.wl_setup.specs.Kinds.{has_kind, value_at, number_at, tables_at}
-use Rattle.wl_setup.specs.Faults.{first_some, kind_fault, required_fault_of, required_fault, optional_fault_of, optional_fault, unknown_fault, table_fault, node_keys, version_fault, node_fault}
+use Rattle.wl_setup.specs.Faults.{first_some, kind_fault, required_fault_of, required_fault, optional_fault_of, optional_fault, unknown_fault, table_fault, node_keys, rate_keys, rate_fault, is_known_version, version_fault, node_fault}
 use Rattle.wl_setup.specs.Names.{has_repeat, names_of, same_name_fault}
 use Rattle.wl_setup.specs.Texts.{plan_of}
 use Rattle.wl_setup.specs.Document.{document_fault, is_document_fault, unless, OnlyDocumentFaults}
@@ -58,21 +57,21 @@ table_of_document keys table = first_some_of (
     first_some (map (required_fault table) keys.required) ∷ first_some (map (optional_fault table) keys.optional) ∷ unknown_fault keys table ∷ []
     ) (each_of (required_fault table) (λ k. required_of_document k (value_at k table)) keys.required, (each_of (optional_fault table) (λ k. optional_of_document k (value_at k table)) keys.optional, (unknown_of_document _, tt)))
 
-node_of_document : (node : Members) → IsOfDocument (node_fault node)
-node_of_document node = first_some_of (
-    table_fault (node_keys node) node ∷ first_some (map (table_fault frame_keys) (tables_at key.Frame node)) ∷ []
-    ) (table_of_document (node_keys node) node, (each_of (table_fault frame_keys) (table_of_document frame_keys) (tables_at key.Frame node), tt))
+node_of_document : (version : ℕ) (node : Members) → IsOfDocument (node_fault version node)
+node_of_document version node = first_some_of (
+    table_fault (node_keys version node) node ∷ first_some (map rate_fault (tables_at key.Rates node)) ∷ first_some (map (table_fault frame_keys) (tables_at key.Frame node)) ∷ []
+    ) (table_of_document (node_keys version node) node, (each_of rate_fault (λ r. table_of_document (rate_keys r) r) (tables_at key.Rates node), (each_of (table_fault frame_keys) (table_of_document frame_keys) (tables_at key.Frame node), tt)))
 
-known_of_document : (version : ℕ) → IsOfDocument (if version == known_version then None else Some Version)
+known_of_document : (version : ℕ) → IsOfDocument (if is_known_version version then None else Some Version)
 known_of_document version =
-    elim (cases_Bool (version == known_version)) [
+    elim (cases_Bool (is_known_version version)) [
       | inl known ↦ rw known tt
       | inr other ↦ rw other refl
     ]
 
 version_of_document : (top : Members) → IsOfDocument (version_fault top)
 version_of_document top = first_some_of (
-    required_fault top key.Version ∷ (if number_at key.Version top == known_version then None else Some Version) ∷ []
+    required_fault top key.Version ∷ (if is_known_version (number_at key.Version top) then None else Some Version) ∷ []
     ) (required_of_document key.Version (value_at key.Version top), (known_of_document (number_at key.Version top), tt))
 
 names_of_document : (plan : PlanText) → IsOfDocument (same_name_fault plan)
@@ -86,10 +85,10 @@ document_of_document : (top : Members) → IsOfDocument (document_fault top)
 document_of_document top = first_some_of (
     version_fault top
     ∷ table_fault top_keys top
-    ∷ first_some (map node_fault (tables_at key.Node top))
+    ∷ first_some (map (node_fault (number_at key.Version top)) (tables_at key.Node top))
     ∷ first_some (map (table_fault disturbance_keys) (tables_at key.Disturbance top))
     ∷ same_name_fault (plan_of top) ∷ []
-    ) (version_of_document top, (table_of_document top_keys top, (each_of node_fault node_of_document (tables_at key.Node top), (each_of (table_fault disturbance_keys) (table_of_document disturbance_keys) (tables_at key.Disturbance top), (names_of_document (plan_of top), tt)))))
+    ) (version_of_document top, (table_of_document top_keys top, (each_of (node_fault (number_at key.Version top)) (node_of_document (number_at key.Version top)) (tables_at key.Node top), (each_of (table_fault disturbance_keys) (table_of_document disturbance_keys) (tables_at key.Disturbance top), (names_of_document (plan_of top), tt)))))
 
 -- the fault of a document is one that documents have
 pub only_document_faults : OnlyDocumentFaults

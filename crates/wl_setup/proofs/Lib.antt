@@ -1,4 +1,5 @@
 pub mod Loops
+pub mod TableLemmas
 pub mod ValueLemmas
 pub mod UnknownLemmas
 pub mod NameLemmas

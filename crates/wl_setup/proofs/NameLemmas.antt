@@ -5,6 +5,7 @@ use Rattle.std.specs.Str.{bytes_eq}
 use Rattle.std.specs.String.{string_eq}
 use Rattle.std.proofs.lemmas.List.Folds.{list_any-append}
 use Rattle.std.proofs.lemmas.Cmp.{nat_list_eq_equiv}
+use Rattle.std.proofs.lemmas.Bool.{not-true}
 use Rattle.wl_setup.specs.Names.{has_repeat}
 use Rattle.wl_setup.specs.declared.plan_text.NodeText.{NodeText}
 use Rattle.wl_setup.proofs.Loops.{drop-at}
@@ -71,10 +72,6 @@ distinct_no_repeat (k ∷ ks) distinct = rw (not_among k ks distinct.0) (distinc
 abbrev pub IsPart : List (List ℕ) → List NodeText → List (List ℕ) → Type 0
 IsPart before left all = (before ++ map (λ node. node.name) left ≡ all) × (repeats_left before (map (λ node. node.name) left) ≡ has_repeat all)
 
-not_true : (b : Bool) → not b ≡ true → b ≡ false
-not_true true h = sym h
-not_true false h = refl
-
 -- one more node whose name is new
 pub one_more : (nodes : List NodeText) (i : ℕ) (node : NodeText) (before new all : List (List ℕ)) (text : List ℕ) (added : Bool)
     → i < length nodes → node ≡ get_or nodes i node → text ≡ node.name → added ≡ not (list_any (bytes_eq text) before) → added ≡ true
@@ -82,6 +79,6 @@ pub one_more : (nodes : List NodeText) (i : ℕ) (node : NodeText) (before new a
 one_more nodes i node before new all text added within is named flag yes_added changed part =
     let next = drop-at nodes i node within is in
     let now_is : new ≡ before ++ text ∷ [] = changed ∙ rw yes_added in
-    let absent : list_any (bytes_eq text) before ≡ false = not_true (list_any (bytes_eq text) before) (sym flag ∙ yes_added) in
+    let absent : list_any (bytes_eq text) before ≡ false = not-true (list_any (bytes_eq text) before) (sym flag ∙ yes_added) in
     let before_that = rw (next, ← named) at part in
     rw now_is (append_assoc before (text ∷ []) _ ∙ before_that.0, repeats_left-new before text _ absent ∙ before_that.1)

@@ -1,23 +1,13 @@
 -- What is made of a list element by element, beside what is made of the whole list.
-use Rattle.std.proofs.Common.{◌≡◌, ◌≢◌, ℕ, ◌+◌, ◌<◌, ◌≤◌, List, [], ◌∷◌, ◌++◌, length, get_or, drop, Result, Ok, Err, refl, sym, ap, ◌∙◌, append_assoc, map, Option, Some, None}
+use Rattle.std.proofs.Common.{◌≡◌, ◌≢◌, ℕ, ◌+◌, ◌<◌, ◌≤◌, List, [], ◌∷◌, ◌++◌, length, get_or, drop, Result, Ok, Err, refl, sym, ap, ◌∙◌, append_assoc}
 use Rattle.std.specs.List.{enumerate_from}
 use Rattle.std.proofs.lemmas.List.{append-nil, drop_all}
-use Rattle.toml.specs.Data.{Members}
-use Rattle.wl_record.specs.Devices.{Answer}
+use Rattle.wl_device.specs.Devices.{Answer}
 use Rattle.wl_plan.specs.declared.plan.Plan.{Plan}
 use Rattle.wl_setup.specs.declared.fault.SetupFault.{SetupFault}
 use Rattle.wl_setup.specs.declared.fault.SetupFault.TheVariants.{Memory}
 use Rattle.wl_setup.specs.declared.plan_text.PlanText.{PlanText}
-use Rattle.wl_setup.specs.declared.read.Ending.{Ending}
-use Rattle.wl_setup.specs.declared.read.Ending.TheVariants as ending
-use Rattle.wl_setup.specs.declared.keys.Key.TheVariants as key
-use Rattle.wl_setup.specs.Keys.{top_keys, disturbance_keys}
-use Rattle.wl_setup.specs.Kinds.{tables_at}
-use Rattle.wl_setup.specs.Faults.{first_some, version_fault, table_fault, node_fault}
-use Rattle.wl_setup.specs.Names.{same_name_fault}
-use Rattle.wl_setup.specs.Texts.{plan_of}
-use Rattle.wl_setup.specs.Document.{document_fault, unless}
-use Rattle.wl_setup.specs.Reading.{document_of, document_answer, reading_answer, ReadsPlan}
+use Rattle.wl_setup.specs.Reading.{ReadsPlan}
 use Rattle.wl_setup.specs.Plans.{after, each, named_plan_of, GivesPlan, IsAnswer}
 use Rattle.wl_setup.proofs.Loops.{drop-at}
 
@@ -68,65 +58,45 @@ pub made_all : {T U : Type 0} (make : ℕ × T → Result U SetupFault) (front :
 made_all make front n xs past part =
     let before = rw (drop_all n xs past, append-nil front) at part in sym before
 
--- of several faults that may be there, none is
-later_none : (o : Option SetupFault) (os : List (Option SetupFault)) → first_some (o ∷ os) ≡ None → first_some os ≡ None
-later_none None os none = none
-later_none (Some fault) os none = cc
+-- the same of values without a number
+abbrev pub IsMadeSoFar : {T U : Type 0} → (T → Result U SetupFault) → List U → ℕ → List T → Type 0
+IsMadeSoFar make front n xs = joined front (each make (drop n xs)) ≡ each make xs
 
-last_none : (o : Option SetupFault) → first_some (o ∷ []) ≡ None → o ≡ None
-last_none None none = refl
-last_none (Some fault) none = cc
+pub none_made : {T U : Type 0} (make : T → Result U SetupFault) (xs : List T) → IsMadeSoFar make [] 0 xs
+none_made make xs = joined-none (each make xs)
 
-last_of_five : (a b c d e : Option SetupFault) → first_some (a ∷ b ∷ c ∷ d ∷ e ∷ []) ≡ None → e ≡ None
-last_of_five a b c d e none =
-    last_none e (later_none d (e ∷ []) (later_none c (d ∷ e ∷ []) (later_none b (c ∷ d ∷ e ∷ []) (later_none a (b ∷ c ∷ d ∷ e ∷ []) none))))
+one_made : {T U : Type 0} (make : T → Result U SetupFault) (x : T) (rest : List T) (y : U) → make x ≡ Ok y → each make (x ∷ rest) ≡ after (each make rest) (λ ys. Ok (y ∷ ys))
+one_made make x rest y made = rw made refl
 
-names_differ : (top : Members) → document_fault top ≡ None → same_name_fault (plan_of top) ≡ None
-names_differ top none =
-    last_of_five (version_fault top) (table_fault top_keys top) (first_some (map node_fault (tables_at key.Node top)))
-    (first_some (map (table_fault disturbance_keys) (tables_at key.Disturbance top))) (same_name_fault (plan_of top)) none
+one_refused : {T U : Type 0} (make : T → Result U SetupFault) (x : T) (rest : List T) (e : SetupFault) → make x ≡ Err e → each make (x ∷ rest) ≡ Err e
+one_refused make x rest e refused = rw refused refl
 
-not_refused : (o : Option SetupFault) (plan text : PlanText) → Ok text ≡ unless o plan → (o ≡ None) × (text ≡ plan)
-not_refused None plan text is = (refl, cc)
-not_refused (Some fault) plan text is = cc
+pub made_another : {T U : Type 0} (make : T → Result U SetupFault) (front new : List U) (n : ℕ) (xs : List T) (x : T) (y : U) → n < length xs
+    → x ≡ get_or xs n x → make x ≡ Ok y → new ≡ front ++ y ∷ [] → IsMadeSoFar make front n xs → IsMadeSoFar make new (n + 1) xs
+made_another make front new n xs x y within is made grown part =
+    let before = rw (drop-at xs n x within is, one_made make x (drop (n + 1) xs) y made) at part in
+    rw grown (joined-more front y (each make (drop (n + 1) xs)) ∙ before)
 
-of_document : (o : Option Members) (text : PlanText) → Ok text ≡ document_answer o → same_name_fault text ≡ None
-of_document None text is = cc
-of_document (Some top) text is = let good = not_refused (document_fault top) (plan_of top) text is in rw good.1 (names_differ top good.0)
+pub refused_another : {T U : Type 0} (make : T → Result U SetupFault) (front : List U) (n : ℕ) (xs : List T) (x : T) (e : SetupFault) → n < length xs
+    → x ≡ get_or xs n x → make x ≡ Err e → IsMadeSoFar make front n xs → each make xs ≡ Err e
+refused_another make front n xs x e within is refused part =
+    let before = rw (drop-at xs n x within is, one_refused make x (drop (n + 1) xs) e refused) at part in sym before
 
-of_reading : (e : Ending) (bytes : List ℕ) (text : PlanText) → Ok text ≡ reading_answer e bytes → same_name_fault text ≡ None
-of_reading ending.End bytes text is = of_document (document_of bytes) text is
-of_reading ending.Broken bytes text is = cc
-of_reading ending.Full bytes text is = cc
-
--- no two nodes of a text that was read have one name
-read_names_differ : {S : Type 0} (gives : S → Answer → S → Type 0) (s : S) (text : PlanText) (t : S) → ReadsPlan gives s (Ok text) t → same_name_fault text ≡ None
-read_names_differ gives s text t reads = of_reading reads.1 reads.0 text reads.3
-
-ok_differs : {T : Type 0} (x : T) (e : SetupFault) → Ok x ≢ Err e
-ok_differs x e same = cc
+pub made_each : {T U : Type 0} (make : T → Result U SetupFault) (front : List U) (n : ℕ) (xs : List T) → length xs ≤ n
+    → IsMadeSoFar make front n xs → each make xs ≡ Ok front
+made_each make front n xs past part =
+    let before = rw (drop_all n xs past, append-nil front) at part in sym before
 
 -- an answer that is no want of memory is the one that was wanted
 answered : {T : Type 0} (wanted answer : Result T SetupFault) → IsAnswer wanted answer → answer ≢ Err Memory → answer ≡ wanted
 answered wanted (Ok x) given not_memory = sym given
 answered wanted (Err e) given not_memory = sym (given (λ memory. not_memory (ap (λ f. Err f) memory)))
 
--- the plan of a text that was read
-pub planned : {S : Type 0} (gives : S → Answer → S → Type 0) (s t : S) (text : PlanText) (answer : Result (Plan × List (List ℕ)) SetupFault)
-    → (Ok text ≢ Err Memory → ReadsPlan gives s (Ok text) t) → IsAnswer (named_plan_of text) answer → answer ≢ Err Memory → GivesPlan gives s answer t
-planned gives s t text answer reads given not_memory = (Ok text, reads (ok_differs text Memory), answered (named_plan_of text) answer given not_memory)
+module _ {S : Type 0} (gives : S → Answer → S → Type 0) (s t : S) where
+  -- the plan of a text that was read
+  pub planned : (text : PlanText) (answer : Result (Plan × List (List ℕ)) SetupFault) → ReadsPlan gives s (Ok text) t → IsAnswer (named_plan_of text) answer → answer ≢ Err Memory → GivesPlan gives s answer t
+  planned text answer reads given not_memory = (Ok text, reads, answered (named_plan_of text) answer given not_memory)
 
-abbrev pub refused_text : SetupFault → Result PlanText SetupFault
-refused_text e = Err e
-
-same_refusal : (e f : SetupFault) → refused_text e ≡ refused_text f → e ≡ f
-same_refusal e f same = cc
-
--- a fault of the text itself
-pub not_planned : {S : Type 0} (gives : S → Answer → S → Type 0) (s t : S) (e : SetupFault) (answer : Result (Plan × List (List ℕ)) SetupFault)
-    → (refused_text e ≢ refused_text Memory → ReadsPlan gives s (refused_text e) t) → answer ≡ Err e → answer ≢ Err Memory → GivesPlan gives s answer t
-not_planned gives s t e answer reads is not_memory =
-    (refused_text e, reads (λ same. not_memory (is ∙ ap (λ f. Err f) (same_refusal e Memory same))), is)
-
-pub names_of_read : {S : Type 0} (gives : S → Answer → S → Type 0) (s t : S) (text : PlanText) → (Ok text ≢ Err Memory → ReadsPlan gives s (Ok text) t) → same_name_fault text ≡ None
-names_of_read gives s t text reads = read_names_differ gives s text t (reads (ok_differs text Memory))
+  -- a fault of the text itself
+  pub not_planned : (e : SetupFault) (answer : Result (Plan × List (List ℕ)) SetupFault) → (e ≢ Memory → ReadsPlan gives s (Err e) t) → answer ≡ Err e → answer ≢ Err Memory → GivesPlan gives s answer t
+  not_planned e answer reads is not_memory = (Err e, reads (λ same. not_memory (is ∙ ap (λ f. Err f) same)), is)

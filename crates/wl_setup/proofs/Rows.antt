@@ -1,7 +1,8 @@
 -- The worked rows of a text's plan, as the definition gives them.
-use Rattle.std.proofs.Common.{◌≡◌, ℕ, List, [], ◌∷◌, false, Ok, Err, refl}
+use Rattle.std.proofs.Common.{◌≡◌, ℕ, List, [], ◌∷◌, true, false, Ok, Err, refl}
 use Rattle.std.specs.Prelude.{codes}
-use Rattle.wl_frame.specs.declared.frame.FrameFault.TheVariants.{Id}
+use Rattle.wl_clock.specs.Timing.{tick_of}
+use Rattle.wl_frame.specs.declared.frame.FrameFault.TheVariants.{Id, Dlc, ExtendedId}
 use Rattle.wl_topology.specs.Delays.{Cable}
 use Rattle.wl_topology.specs.declared.TopologyFault.TheVariants.{ZeroDelay}
 use Rattle.wl_plan.specs.Limits.{most_quanta}
@@ -9,22 +10,25 @@ use Rattle.wl_plan.specs.declared.check.PlanFault.TheVariants as refusal
 use Rattle.wl_node.specs.declared.setup.Queued.{Queued}
 use Rattle.wl_node.specs.declared.setup.NodeSetup.{NodeSetup}
 use Rattle.wl_plan.specs.declared.plan.Plan.{Plan}
+use Rattle.std.specs.Fmt.{digits}
+use Rattle.std.specs.Char.{encode_utf8}
+use Rattle.wl_setup.specs.Shown.{shown_letter}
 use Rattle.wl_setup.specs.declared.fault.SetupFault.TheVariants as fault
 use Rattle.wl_setup.specs.declared.plan_text.PlanText.{PlanText}
 use Rattle.wl_setup.specs.declared.plan_text.NodeText.{NodeText}
 use Rattle.wl_setup.specs.declared.plan_text.FrameText.{FrameText}
 use Rattle.wl_setup.specs.declared.plan_text.ClockText.TheVariants.{Rate}
-use Rattle.wl_setup.specs.Limits.{most_bytes, largest_number, largest_small, largest_ppm, largest_byte, longest_name, known_version}
-use Rattle.wl_setup.specs.Plans.{plan_of_text}
+use Rattle.wl_setup.specs.Limits.{most_bytes, largest_number, largest_small, largest_ppm, largest_byte, longest_name, first_version, version_of_rates}
+use Rattle.wl_setup.specs.Plans.{plan_of_text, queued_of}
 
 abbrev frame_text : ℕ → FrameText
-frame_text id = record { id = id; dlc = 0; remote = false; bytes = []; ready = 0 }
+frame_text id = record { id = id; dlc = 0; remote = false; bytes = []; ready = 0; extended = false }
 
 abbrev node_text : List ℕ → ℕ → ℕ → List FrameText → NodeText
 node_text name x in_delay frames = record {
   name = name;
   offset = 0;
-  clock = Rate 100 1;
+  rates = record { from = 0; clock = Rate 100 1 } ∷ [];
   prop = 3;
   ps1 = 3;
   ps2 = 3;
@@ -47,7 +51,7 @@ text_with id in_delay end = record {
 
 abbrev setup_with : List Queued → NodeSetup
 setup_with queue = record {
-  clock = record { offset = 0; num = 100; den = 1 };
+  clock = record { offset = 0; rates = record { from = 0; num = 100; den = 1 } ∷ [] };
   segments = record { prop = 3; ps1 = 3; ps2 = 3; sjw = 2 };
   queue = queue;
 }
@@ -60,18 +64,32 @@ cable = record {
 
 abbrev two_nodes : Plan
 two_nodes = record {
-  nodes = setup_with (record { frame = record { id = 0; remote = false; dlc = 0; bytes = [] }; ready = 0 } ∷ []) ∷ setup_with [] ∷ [];
+  nodes = setup_with (record { frame = record { extended = false; id = 0; remote = false; dlc = 0; bytes = [] }; ready = 0 } ∷ []) ∷ setup_with [] ∷ [];
   topology = cable;
   disturbances = [];
   end = 70000;
 }
 
 plan-two_nodes : plan_of_text (text_with 0 1 70000) ≡ Ok two_nodes
-unfolding most_quanta
+unfolding most_quanta tick_of
 plan-two_nodes = refl
 
 plan-id : plan_of_text (text_with 2048 0 68719476737) ≡ Err (fault.NodeFrame 0 0 Id)
 plan-id = refl
+
+abbrev extended_with : ℕ → ℕ → FrameText
+extended_with id dlc = record { id = id; dlc = dlc; remote = false; bytes = []; ready = 0; extended = true }
+
+plan-extended_id : queued_of 0 (0, extended_with 536870912 0) ≡ Err (fault.NodeFrame 0 0 ExtendedId)
+plan-extended_id = refl
+
+-- the data length code comes first
+plan-extended_dlc : queued_of 0 (0, extended_with 536870912 16) ≡ Err (fault.NodeFrame 0 0 Dlc)
+plan-extended_dlc = refl
+
+plan-extended : queued_of 0 (0, extended_with 536870911 0)
+    ≡ Ok (record { frame = record { extended = true; id = 536870911; remote = false; dlc = 0; bytes = [] }; ready = 0 })
+plan-extended = refl
 
 plan-zero_delay : plan_of_text (text_with 0 0 68719476737) ≡ Err (fault.Topology (ZeroDelay 0 0))
 plan-zero_delay = refl
@@ -79,8 +97,8 @@ plan-zero_delay = refl
 plan-late : plan_of_text (text_with 0 1 68719476737) ≡ Err (fault.Plan refusal.End)
 plan-late = refl
 
-plan-quanta : plan_of_text (text_with 0 1 6553601) ≡ Err (fault.Plan (refusal.Quanta 0))
-unfolding most_quanta
+plan-quanta : plan_of_text (text_with 0 1 104857601) ≡ Err (fault.Plan (refusal.Quanta 0))
+unfolding most_quanta tick_of
 plan-quanta = refl
 
 -- the limits, in numbers
@@ -106,5 +124,37 @@ byte_is = refl
 name_is : longest_name ≡ 32
 name_is = refl
 
-version_is : known_version ≡ 1
-version_is = refl
+first_version_is : first_version ≡ 1
+first_version_is = refl
+
+version_of_rates_is : version_of_rates ≡ 2
+version_of_rates_is = refl
+
+-- control characters are shown by TOML's escapes, and no other letter is
+shown_escape : shown_letter 27 ≡ codes "\\u001B"
+unfolding digits encode_utf8
+shown_escape = refl
+
+shown_bell : shown_letter 7 ≡ codes "\\u0007"
+unfolding digits encode_utf8
+shown_bell = refl
+
+shown_line_end : shown_letter 10 ≡ codes "\\n"
+unfolding digits encode_utf8
+shown_line_end = refl
+
+shown_delete : shown_letter 127 ≡ codes "\\u007F"
+unfolding digits encode_utf8
+shown_delete = refl
+
+shown_last_control : shown_letter 31 ≡ codes "\\u001F"
+unfolding digits encode_utf8
+shown_last_control = refl
+
+shown_space : shown_letter 32 ≡ codes " "
+unfolding digits encode_utf8
+shown_space = refl
+
+shown_backslash : shown_letter 92 ≡ codes "\\"
+unfolding digits encode_utf8
+shown_backslash = refl

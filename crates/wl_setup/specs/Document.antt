@@ -1,23 +1,24 @@
 -- Which plan text or first fault belongs to a document (this project's profile).
-use Rattle.std.specs.Prelude.{◌≡◌, ◌≢◌, Bool, true, false, [], ◌∷◌, map, Option, Some, None, Result, Ok, Err, MatchResult}
-use Rattle.toml.specs.Data.{Members}
+use Rattle.std.specs.Prelude.{◌≡◌, ◌≢◌, ℕ, Bool, true, false, List, [], ◌∷◌, map, Option, Some, None, Result, Ok, Err, MatchResult}
+use Rattle.std.specs.List.{filter_map}
+use Rattle.toml.specs.Data.{Data, Members, as_table}
 use Rattle.wl_setup.specs.declared.keys.Key.TheVariants as key
 use Rattle.wl_setup.specs.declared.fault.SetupFault.{SetupFault}
 use Rattle.wl_setup.specs.declared.fault.SetupFault.TheVariants.{Version, Missing, Kind, Unknown, SameName, Memory}
 use Rattle.wl_setup.specs.declared.plan_text.PlanText.{PlanText}
 use Rattle.wl_setup.specs.Keys.{top_keys, disturbance_keys}
-use Rattle.wl_setup.specs.Kinds.{tables_at}
+use Rattle.wl_setup.specs.Kinds.{number_at, tables_at}
 use Rattle.wl_setup.specs.Texts.{plan_of}
 use Rattle.wl_setup.specs.Faults.{first_some, version_fault, table_fault, node_fault}
-use Rattle.wl_setup.specs.Names.{same_name_fault}
+use Rattle.wl_setup.specs.Names.{names_of, same_name_fault}
 
--- the first fault: of the version, the top table, each node followed by its frames, the disturbances, the names
+-- the first fault: of the version, the top table, each node followed by its rates and its frames, the disturbances, the names
 abbrev pub document_fault : Members → Option SetupFault
 document_fault top =
     first_some (
     version_fault top
     ∷ table_fault top_keys top
-    ∷ first_some (map node_fault (tables_at key.Node top))
+    ∷ first_some (map (node_fault (number_at key.Version top)) (tables_at key.Node top))
     ∷ first_some (map (table_fault disturbance_keys) (tables_at key.Disturbance top))
     ∷ same_name_fault (plan_of top) ∷ [])
 
@@ -30,9 +31,29 @@ unless (Some fault) value = Err fault
 abbrev pub plan_text_of : Members → Result PlanText SetupFault
 plan_text_of top = unless (document_fault top) (plan_of top)
 
+-- the plan text of a document without fault, and the names of its nodes
+abbrev pub named_text_of : Members → PlanText × List (List ℕ)
+named_text_of top = (plan_of top, names_of (plan_of top))
+
 -- an answer is this value, or this fault if there is one, unless memory was refused
 abbrev pub Answers : {T : Type 0} → Option SetupFault → T → Result T SetupFault → Type 0
 Answers fault value answer = MatchResult answer (λ v. (fault ≡ None) × (v ≡ value)) (λ e. e ≢ Memory → fault ≡ Some e)
+
+-- the answer of a test: there is no fault, or it is this one, unless memory was refused
+abbrev pub Passes : Option SetupFault → Result (Unit {0}) SetupFault → Type 0
+Passes fault answer = Answers fault tt answer
+
+-- the answer to one table
+abbrev pub AnswersTable : {T : Type 0} → (Members → Option SetupFault) → (Members → T) → Members → Result T SetupFault → Type 0
+AnswersTable fault make table answer = Answers (fault table) (make table) answer
+
+-- the tables in an array: what is no table is passed over
+abbrev pub tables_in : List Data → List Members
+tables_in values = filter_map as_table values
+
+-- an answer is what is made of each table in an array, or the first fault of one
+abbrev pub AnswersEach : {T : Type 0} → (Members → Option SetupFault) → (Members → T) → List Data → Result (List T) SetupFault → Type 0
+AnswersEach fault make values answer = Answers (first_some (map fault (tables_in values))) (map make (tables_in values)) answer
 
 -- the faults that a document can have
 abbrev pub is_document_fault : SetupFault → Bool

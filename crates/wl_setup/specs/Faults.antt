@@ -1,5 +1,5 @@
 -- The faults of a plan's tables, in the order in which they are answered (this project's profile).
-use Rattle.std.specs.Prelude.{ℕ, ◌==◌, Bool, not, ◌||◌, if◌then◌else◌, List, [], ◌∷◌, map, filter, Option, Some, None, option_map, is_some}
+use Rattle.std.specs.Prelude.{ℕ, ◌==◌, Bool, not, ◌||◌, if◌then◌else◌, List, [], ◌∷◌, map, filter, find, Option, Some, None, option_map, is_some}
 use Rattle.std.specs.List.{list_any}
 use Rattle.std.specs.Ordering.{nat_cmp, is_lt}
 use Rattle.std.specs.Str.{bytes_eq}
@@ -9,9 +9,9 @@ use Rattle.wl_setup.specs.declared.keys.Key.{Key}
 use Rattle.wl_setup.specs.declared.keys.Key.TheVariants as key
 use Rattle.wl_setup.specs.declared.fault.SetupFault.{SetupFault}
 use Rattle.wl_setup.specs.declared.fault.SetupFault.TheVariants.{Version, Missing, Kind, Unknown}
-use Rattle.wl_setup.specs.Keys.{key_text, kind_of, TableKeys, node_keys_by_rate, node_keys_by_ppm, frame_keys}
+use Rattle.wl_setup.specs.Keys.{key_text, kind_of, TableKeys, node_keys_by_rate, node_keys_by_ppm, node_keys_by_rates, rate_keys_by_fraction, rate_keys_by_ppm, frame_keys}
 use Rattle.wl_setup.specs.Kinds.{has_kind, value_at, number_at, tables_at}
-use Rattle.wl_setup.specs.Limits.{known_version}
+use Rattle.wl_setup.specs.Limits.{first_version, version_of_rates}
 
 -- the first of those that are there
 abbrev pub first_some : {A : Type 0} → List (Option A) → Option A
@@ -50,6 +50,10 @@ is_among keys text = list_any (λ k. bytes_eq (key_text k) text) keys
 abbrev pub is_known : TableKeys → List ℕ → Bool
 is_known keys text = is_among keys.required text || is_among keys.optional text
 
+-- the first of some texts that is no key
+abbrev pub first_unknown : TableKeys → List (List ℕ) → Option (List ℕ)
+first_unknown keys texts = find (λ text. not (is_known keys text)) texts
+
 -- the lesser of a text and another, if there is another, in the order of their bytes
 abbrev pub lesser : List ℕ → Option (List ℕ) → List ℕ
 lesser text None = text
@@ -72,16 +76,37 @@ table_fault keys table =
     ∷ first_some (map (optional_fault table) keys.optional)
     ∷ unknown_fault keys table ∷ [])
 
--- the keys of a node go by whether `quantum` is there
-abbrev pub node_keys : Members → TableKeys
-node_keys table = if is_some (value_at key.Quantum table) then node_keys_by_ppm else node_keys_by_rate
+-- the keys of a node go by the version, and in the first one by whether `quantum` is there
+abbrev pub node_keys : ℕ → Members → TableKeys
+node_keys version table =
+    if version == version_of_rates then node_keys_by_rates
+    else if is_some (value_at key.Quantum table) then node_keys_by_ppm
+    else node_keys_by_rate
+
+-- and so do those of a rate
+abbrev pub rate_keys : Members → TableKeys
+rate_keys table = if is_some (value_at key.Quantum table) then rate_keys_by_ppm else rate_keys_by_fraction
+
+abbrev pub rate_fault : Members → Option SetupFault
+rate_fault table = table_fault (rate_keys table) table
+
+-- the first fault of a node's rates
+abbrev pub rates_fault : Members → Option SetupFault
+rates_fault node = first_some (map rate_fault (tables_at key.Rates node))
+
+-- whether a version is known
+abbrev pub is_known_version : ℕ → Bool
+is_known_version version = (version == first_version) || (version == version_of_rates)
 
 -- a version that is missing, of another kind, or not known
 abbrev pub version_fault : Members → Option SetupFault
 version_fault top =
-    first_some (required_fault top key.Version ∷ (if number_at key.Version top == known_version then None else Some Version) ∷ [])
+    first_some (required_fault top key.Version ∷ (if is_known_version (number_at key.Version top) then None else Some Version) ∷ [])
 
--- of a node: its own table, then its frames
-abbrev pub node_fault : Members → Option SetupFault
-node_fault node =
-    first_some (table_fault (node_keys node) node ∷ first_some (map (table_fault frame_keys) (tables_at key.Frame node)) ∷ [])
+-- of a node: its own table, then its rates, which the first version doesn't know, then its frames
+abbrev pub node_fault : ℕ → Members → Option SetupFault
+node_fault version node =
+    first_some (
+    table_fault (node_keys version node) node
+    ∷ rates_fault node
+    ∷ first_some (map (table_fault frame_keys) (tables_at key.Frame node)) ∷ [])

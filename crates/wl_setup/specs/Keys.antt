@@ -1,7 +1,7 @@
 -- The keys of a plan's tables (this project's profile).
 use Rattle.std.specs.Prelude.{ℕ, List, [], ◌∷◌, codes}
 use Rattle.wl_setup.specs.declared.keys.Key.{Key}
-use Rattle.wl_setup.specs.declared.keys.Key.TheVariants.{Version, End, Per, Node, Disturbance, Name, Offset, Num, Den, Quantum, Ppm, Prop, Ps1, Ps2, Sjw, X, Out, In, Frame, Id, Dlc, Remote, Bytes, Ready, From, To}
+use Rattle.wl_setup.specs.declared.keys.Key.TheVariants.{Version, End, Per, Node, Disturbance, Name, Offset, Num, Den, Quantum, Ppm, Rates, Prop, Ps1, Ps2, Sjw, X, Out, In, Frame, Id, Dlc, Remote, Bytes, Ready, Extended, From, To}
 use Rattle.wl_setup.specs.declared.keys.Kind.{Kind}
 use Rattle.wl_setup.specs.declared.keys.Kind.TheVariants as kind
 
@@ -18,6 +18,7 @@ key_text Num = codes "num"
 key_text Den = codes "den"
 key_text Quantum = codes "quantum"
 key_text Ppm = codes "ppm"
+key_text Rates = codes "rates"
 key_text Prop = codes "prop"
 key_text Ps1 = codes "ps1"
 key_text Ps2 = codes "ps2"
@@ -31,12 +32,14 @@ key_text Dlc = codes "dlc"
 key_text Remote = codes "remote"
 key_text Bytes = codes "bytes"
 key_text Ready = codes "ready"
+key_text Extended = codes "extended"
 key_text From = codes "from"
 key_text To = codes "to"
 
 -- what its value has to be
 abbrev pub kind_of : Key → Kind
 kind_of Node = kind.Tables
+kind_of Rates = kind.Tables
 kind_of Frame = kind.Tables
 kind_of Disturbance = kind.Tables
 kind_of X = kind.Small
@@ -45,6 +48,7 @@ kind_of Dlc = kind.Small
 kind_of Name = kind.Name
 kind_of Ppm = kind.Ppm
 kind_of Remote = kind.Truth
+kind_of Extended = kind.Truth
 kind_of Bytes = kind.Bytes
 kind_of _ = kind.Number
 
@@ -70,8 +74,22 @@ node_keys_by_ppm = record {
   optional = Frame ∷ [];
 }
 
+-- of a node whose rates are tables of their own
+abbrev pub node_keys_by_rates : TableKeys
+node_keys_by_rates = record {
+  required = Name ∷ Offset ∷ Rates ∷ Prop ∷ Ps1 ∷ Ps2 ∷ Sjw ∷ X ∷ Out ∷ In ∷ [];
+  optional = Frame ∷ [];
+}
+
+-- of a rate that is written as a fraction, and of one that is a whole number of ticks and an error in parts per million
+abbrev pub rate_keys_by_fraction : TableKeys
+rate_keys_by_fraction = record { required = From ∷ Num ∷ Den ∷ []; optional = [] }
+
+abbrev pub rate_keys_by_ppm : TableKeys
+rate_keys_by_ppm = record { required = From ∷ Quantum ∷ Ppm ∷ []; optional = [] }
+
 abbrev pub frame_keys : TableKeys
-frame_keys = record { required = Id ∷ Dlc ∷ []; optional = Remote ∷ Bytes ∷ Ready ∷ [] }
+frame_keys = record { required = Id ∷ Dlc ∷ []; optional = Remote ∷ Bytes ∷ Ready ∷ Extended ∷ [] }
 
 abbrev pub disturbance_keys : TableKeys
 disturbance_keys = record { required = X ∷ From ∷ To ∷ []; optional = [] }

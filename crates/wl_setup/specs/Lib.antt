@@ -2,6 +2,7 @@ pub mod Limits
 pub mod Keys
 pub mod Kinds
 pub mod Texts
+pub mod Shown
 pub mod Faults
 pub mod Names
 pub mod Document

@@ -1,6 +1,6 @@
 -- The limits of a plan's text (this project's profile), each that of the constant of its name.
 use Rattle.std.specs.Prelude.{◌≡◌, ℕ, refl}
-use Rattle.wl_setup.specs.declared.limits.TheConstants.{MOST_BYTES, LARGEST_NUMBER, LARGEST_SMALL, LARGEST_PPM, LARGEST_BYTE, LONGEST_NAME, KNOWN_VERSION}
+use Rattle.wl_setup.specs.declared.limits.TheConstants.{MOST_BYTES, LARGEST_NUMBER, LARGEST_SMALL, LARGEST_PPM, LARGEST_BYTE, LONGEST_NAME, FIRST_VERSION, VERSION_OF_RATES}
 
 -- the most bytes of a plan's text
 unfoldable pub most_bytes : ℕ
@@ -26,9 +26,13 @@ largest_byte = LARGEST_BYTE
 abbrev pub longest_name : ℕ
 longest_name = LONGEST_NAME
 
--- the version that is known
-abbrev pub known_version : ℕ
-known_version = KNOWN_VERSION
+-- the first version, in which a node has one rate
+abbrev pub first_version : ℕ
+first_version = FIRST_VERSION
+
+-- and the last that is known, in which it has a list of them
+abbrev pub version_of_rates : ℕ
+version_of_rates = VERSION_OF_RATES
 
 -- what each large name stands for, for proofs
 pub most_bytes-is : most_bytes ≡ MOST_BYTES

@@ -1,12 +1,13 @@
 -- Which plan, or which fault, belongs to a plan's text (this project's profile).
 use Rattle.std.specs.Prelude.{◌≡◌, ◌≢◌, ℕ, List, [], ◌∷◌, map, Option, Some, None, Result, Ok, Err, MatchResult}
 use Rattle.std.specs.List.{enumerate_from}
-use Rattle.wl_record.specs.Devices.{Answer}
-use Rattle.wl_clock.specs.Timing.{Timing, timing_of, timing_of_ppm}
+use Rattle.wl_device.specs.Devices.{Answer}
+use Rattle.wl_clock.specs.Timing.{Timing, timing_of_rates, rate_of_ppm}
+use Rattle.wl_clock.specs.declared.Rate.{Rate}
 use Rattle.wl_clock.specs.declared.ClockFault.{ClockFault}
 use Rattle.wl_segments.specs.Lengths.{Lengths, segments_of}
 use Rattle.wl_segments.specs.declared.SegmentsFault.{SegmentsFault}
-use Rattle.wl_frame.specs.Grammar.{frame_of}
+use Rattle.wl_frame.specs.Grammar.{frame_of_numbers}
 use Rattle.wl_topology.specs.declared.Place.{Place}
 use Rattle.wl_topology.specs.Delays.{Cable, topology_of}
 use Rattle.wl_node.specs.declared.setup.Queued.{Queued}
@@ -22,7 +23,8 @@ use Rattle.wl_setup.specs.declared.plan_text.NodeText.{NodeText}
 use Rattle.wl_setup.specs.declared.plan_text.FrameText.{FrameText}
 use Rattle.wl_setup.specs.declared.plan_text.DisturbanceText.{DisturbanceText}
 use Rattle.wl_setup.specs.declared.plan_text.ClockText.{ClockText}
-use Rattle.wl_setup.specs.declared.plan_text.ClockText.TheVariants.{Rate, Ppm}
+use Rattle.wl_setup.specs.declared.plan_text.ClockText.TheVariants as text
+use Rattle.wl_setup.specs.declared.plan_text.RateText.{RateText}
 use Rattle.wl_setup.specs.Names.{names_of}
 use Rattle.wl_setup.specs.Reading.{ReadsPlan}
 
@@ -41,28 +43,33 @@ abbrev pub each : {T U : Type 0} → (T → Result U SetupFault) → List T → 
 each make [] = Ok []
 each make (x ∷ xs) = after (make x) (λ y. after (each make xs) (λ ys. Ok (y ∷ ys)))
 
--- the clock that a node's keys make, or its fault
-abbrev pub clock_timing : ℕ → ClockText → Result Timing ClockFault
-clock_timing offset (Rate num den) = timing_of offset num den
-clock_timing offset (Ppm quantum ppm) = timing_of_ppm offset quantum ppm
+-- the rate from a quantum on that the clock keys say, or its fault
+abbrev pub rate_from : ℕ → ClockText → Result Rate ClockFault
+rate_from from (text.Rate num den) = Ok (record { from = from; num = num; den = den })
+rate_from from (text.Ppm quantum ppm) = rate_of_ppm from quantum ppm
 
-abbrev pub timing_of_node : NodeText → Result Timing ClockFault
-timing_of_node node = clock_timing node.offset node.clock
+-- a rate of node i
+abbrev pub rate_in : ℕ → RateText → Result Rate SetupFault
+rate_in i text = named (fault.NodeClock i) (rate_from text.from text.clock)
+
+-- the clock of node i: each of its rates in order, then all of them together with the offset
+abbrev pub clock_in : ℕ → NodeText → Result Timing SetupFault
+clock_in i node = after (each (rate_in i) node.rates) (λ rates. named (fault.NodeClock i) (timing_of_rates node.offset rates))
 
 -- the bit segments that they make, or their fault
 abbrev pub segments_of_node : NodeText → Result Lengths SegmentsFault
 segments_of_node node = segments_of node.prop node.ps1 node.ps2 node.sjw
 
--- a numbered frame of node i: a base frame that waits from its quantum `ready` on
+-- a numbered frame of node i: a frame that waits from its quantum `ready` on
 abbrev pub queued_of : ℕ → ℕ × FrameText → Result Queued SetupFault
 queued_of i (n, text) =
-    after (named (fault.NodeFrame i n) (frame_of text.id text.remote text.dlc text.bytes))
+    after (named (fault.NodeFrame i n) (frame_of_numbers text.extended text.id text.remote text.dlc text.bytes))
     (λ frame. Ok (record { frame = frame; ready = text.ready }))
 
 -- a numbered node: its clock, then its segments, then its frames in order
 abbrev pub setup_of : ℕ × NodeText → Result NodeSetup SetupFault
 setup_of (i, node) =
-    after (named (fault.NodeClock i) (timing_of_node node))
+    after (clock_in i node)
     (λ clock. after (named (fault.NodeSegments i) (segments_of_node node))
     (λ segments. after (each (queued_of i) (enumerate_from 0 node.frame))
     (λ queue. Ok (record { clock = clock; segments = segments; queue = queue }))))

@@ -1,13 +1,15 @@
 -- What the tables of a plan say (this project's profile).
-use Rattle.std.specs.Prelude.{map, if◌then◌else◌, is_some}
+use Rattle.std.specs.Prelude.{ℕ, ◌==◌, List, [], ◌∷◌, map, if◌then◌else◌, is_some}
 use Rattle.toml.specs.Data.{Members}
 use Rattle.wl_setup.specs.declared.keys.Key.TheVariants as key
 use Rattle.wl_setup.specs.declared.plan_text.PlanText.{PlanText}
 use Rattle.wl_setup.specs.declared.plan_text.NodeText.{NodeText}
 use Rattle.wl_setup.specs.declared.plan_text.FrameText.{FrameText}
 use Rattle.wl_setup.specs.declared.plan_text.DisturbanceText.{DisturbanceText}
+use Rattle.wl_setup.specs.declared.plan_text.RateText.{RateText}
 use Rattle.wl_setup.specs.declared.plan_text.ClockText.{ClockText}
 use Rattle.wl_setup.specs.declared.plan_text.ClockText.TheVariants.{Rate, Ppm}
+use Rattle.wl_setup.specs.Limits.{version_of_rates}
 use Rattle.wl_setup.specs.Kinds.{value_at, number_at, small_at, ppm_at, truth_at, name_at, bytes_at, tables_at}
 
 abbrev pub frame_of : Members → FrameText
@@ -17,6 +19,7 @@ frame_of table = record {
   remote = truth_at key.Remote table;
   bytes = bytes_at key.Bytes table;
   ready = number_at key.Ready table;
+  extended = truth_at key.Extended table;
 }
 
 abbrev pub disturbance_of : Members → DisturbanceText
@@ -26,17 +29,26 @@ disturbance_of table = record {
   to = number_at key.To table;
 }
 
--- the rate of a node's clock goes by whether `quantum` is there
+-- how a rate is written goes by whether `quantum` is there
 abbrev pub clock_of : Members → ClockText
 clock_of table =
     if is_some (value_at key.Quantum table) then Ppm (number_at key.Quantum table) (ppm_at key.Ppm table)
     else Rate (number_at key.Num table) (number_at key.Den table)
 
-abbrev pub node_of : Members → NodeText
-node_of table = record {
+abbrev pub rate_of : Members → RateText
+rate_of table = record { from = number_at key.From table; clock = clock_of table }
+
+-- the rates of a node's clock: its tables, or in the first version the one that its own keys say, from quantum 0 on
+abbrev pub rates_of : ℕ → Members → List RateText
+rates_of version table =
+    if version == version_of_rates then map rate_of (tables_at key.Rates table)
+    else record { from = 0; clock = clock_of table } ∷ []
+
+abbrev pub node_text_of : ℕ → Members → NodeText
+node_text_of version table = record {
   name = name_at key.Name table;
   offset = number_at key.Offset table;
-  clock = clock_of table;
+  rates = rates_of version table;
   prop = number_at key.Prop table;
   ps1 = number_at key.Ps1 table;
   ps2 = number_at key.Ps2 table;
@@ -52,6 +64,6 @@ plan_of top = record {
   version = number_at key.Version top;
   end = number_at key.End top;
   per = number_at key.Per top;
-  node = map node_of (tables_at key.Node top);
+  node = map (node_text_of (number_at key.Version top)) (tables_at key.Node top);
   disturbance = map disturbance_of (tables_at key.Disturbance top);
 }

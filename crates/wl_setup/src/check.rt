@@ -1,9 +1,8 @@
 //! What a check of a plan prints.
 ghost use Rattle.std.specs.Prelude.{◌≡◌, ◌<◌, ◌++◌, ◌∷◌, [], length, string_bytes, IfOk, IfErr};
-ghost use Rattle.std.specs.List.{enumerate_from, filter, flat_map};
-ghost use Rattle.wl_topology.specs.Delays.{row};
+ghost use Rattle.std.specs.List.{enumerate_from};
 ghost use Rattle.wl_plan.specs.Checked.{IsChecked};
-ghost use Rattle.wl_setup.specs.Check.{name_of, line_words, pair_words, pair_line, is_upward, pair_lines, IsNodeLine, AreNodeLines, IsPlanCheck};
+ghost use Rattle.wl_setup.specs.Check.{name_of, node_words, pair_words, pair_line, pair_lines_of, pair_lines, IsNodeLine, AreNodeLines, IsPlanCheck};
 
 use crate::names::Names;
 use std::alloc::{AllocError, Global};
@@ -26,9 +25,9 @@ struct NodeLine<'a> {
 
 impl fmt::Display for NodeLine<'_> {
     ghost use Rattle.std.specs.Prelude.{Some};
-    ghost use Rattle.wl_setup.specs.Check.{line_words};
+    ghost use Rattle.wl_setup.specs.Check.{node_words};
 
-    ghost output = { λ l. Some (line_words l.number l.name.now l.quanta l.sample l.jump l.ppm) };
+    ghost output = { λ l. Some (node_words l) };
 
     fn fmt<W: fmt::Write>(&self, f: &mut fmt::Formatter<W>) -> fmt::Result {
         let NodeLine {
@@ -59,7 +58,7 @@ impl fmt::Display for PairLine {
     ghost use Rattle.std.specs.Prelude.{Some};
     ghost use Rattle.wl_setup.specs.Check.{pair_words};
 
-    ghost output = { λ l. Some (pair_words l.i l.j l.there l.back) };
+    ghost output = { λ l. Some (pair_words l) };
 
     fn fmt<W: fmt::Write>(&self, f: &mut fmt::Formatter<W>) -> fmt::Result {
         let PairLine { i, j, there, back } = *self;
@@ -68,13 +67,13 @@ impl fmt::Display for PairLine {
 }
 
 fn spelled_node(alloc: Global, line: &NodeLine) -> Result<String, AllocError>
-    ensures { IfOk result (λ text. string_bytes text ≡ line_words line.now.number line.now.name.now line.now.quanta line.now.sample line.now.jump line.now.ppm ++ 10 ∷ []) }
+    ensures { IfOk result (λ text. string_bytes text ≡ node_words line.now ++ 10 ∷ []) }
 {
     format!(in alloc; "{line}\n")
 }
 
 fn spelled_pair(alloc: Global, line: &PairLine) -> Result<String, AllocError>
-    ensures { IfOk result (λ text. string_bytes text ≡ pair_words line.now.i line.now.j line.now.there line.now.back ++ 10 ∷ []) }
+    ensures { IfOk result (λ text. string_bytes text ≡ pair_words line.now ++ 10 ∷ []) }
 {
     format!(in alloc; "{line}\n")
 }
@@ -137,7 +136,7 @@ fn push_pairs_of(
     text: &mut String,
 ) -> Result<(), AllocError>
     requires { i < length topology.now.places }
-    ensures { IfOk result (λ _. string_bytes text.new ≡ string_bytes text.old ++ flat_map (pair_line topology.now) (filter is_upward (row i (length topology.now.places)))) }
+    ensures { IfOk result (λ _. string_bytes text.new ≡ string_bytes text.old ++ pair_lines_of topology.now i) }
 {
     for j in 0..topology.nodes() {
         if i < j {

@@ -1,86 +1,97 @@
 //! The plan text of a parsed document.
 ghost use Rattle.std.specs.Prelude.{◌≡◌, map};
-ghost use Rattle.std.specs.List.{filter_map};
-ghost use Rattle.toml.specs.Data.{as_table};
 ghost use Rattle.toml.specs.View.{view, table_view};
 ghost use Rattle.wl_setup.specs.Keys.{frame_keys, disturbance_keys};
-ghost use Rattle.wl_setup.specs.Faults.{first_some, table_fault, node_fault, version_fault};
-ghost use Rattle.wl_setup.specs.Texts.{frame_of, disturbance_of, clock_of, node_of, plan_of};
-ghost use Rattle.wl_setup.specs.Document.{Answers, document_fault};
+ghost use Rattle.wl_setup.specs.Faults.{table_fault, rate_fault, rates_fault, node_fault, version_fault};
+ghost use Rattle.wl_setup.specs.Texts.{frame_of, disturbance_of, clock_of, rate_of, rates_of, node_text_of};
+ghost use Rattle.wl_setup.specs.Document.{Answers, AnswersTable, AnswersEach, Passes, document_fault, named_text_of};
 
 use crate::fault::SetupFault;
 use crate::keys::{self, Key};
-use crate::limits::KNOWN_VERSION;
-use crate::plan_text::{ClockText, DisturbanceText, FrameText, NodeText, PlanText};
-use crate::sequence::Sequence;
+use crate::limits::{FIRST_VERSION, VERSION_OF_RATES};
+use crate::names::Names;
+use crate::plan_text::{ClockText, DisturbanceText, FrameText, NodeText, PlanText, RateText};
 use crate::tables::{check_required, check_table};
 use crate::values::{
     bytes_at, elements_at, name_at, number_at, ppm_at, small_at, truth_at, value_at,
 };
 use std::alloc::Global;
 use toml::{Table, Value};
+use wl_level::Listed;
 
 fn check_version(alloc: Global, top: &Table) -> Result<(), SetupFault>
-    ensures { Answers (version_fault (table_view top.now)) tt result }
+    ensures { Passes (version_fault (table_view top.now)) result }
 {
     check_required(alloc, top, Key::Version)?;
-    if number_at(top, Key::Version) == KNOWN_VERSION {
-        Ok(())
-    } else {
-        Err(SetupFault::Version)
+    match number_at(top, Key::Version) {
+        FIRST_VERSION | VERSION_OF_RATES => Ok(()),
+        _ => Err(SetupFault::Version),
     }
 }
 
-fn frame(alloc: Global, table: &Table) -> Result<FrameText, SetupFault>
-    ensures { Answers (table_fault frame_keys (table_view table.now)) (frame_of (table_view table.now)) result }
-{
-    check_table(alloc, table, keys::frame_keys())?;
-    Ok(FrameText {
-        id: small_at(table, Key::Id),
-        dlc: small_at(table, Key::Dlc),
-        remote: truth_at(table, Key::Remote),
-        bytes: bytes_at(alloc, table, Key::Bytes)?,
-        ready: number_at(table, Key::Ready),
-    })
+/// What the tables of an array are read as.
+trait Row: Drop {
+    ghost use Rattle.std.specs.Prelude.{ℕ, Option};
+    ghost use Rattle.toml.specs.Data.{Members};
+    ghost use Rattle.wl_setup.specs.declared.fault.SetupFault.{SetupFault};
+
+    /// The first fault of such a table, by the version of the text.
+    ghost fault: { ℕ → Members → Option SetupFault };
+
+    /// What such a table says.
+    ghost make: { ℕ → Members → Self };
+
+    fn read(alloc: Global, version: u64, table: &Table) -> Result<Self, SetupFault>
+        ensures { AnswersTable (Self.fault version) (Self.make version) (table_view table.now) result };
 }
 
-/// The frames in an array. What is no table is passed over.
-fn frames(alloc: Global, values: &[Value]) -> Result<Sequence<FrameText>, SetupFault>
-    ensures { Answers (first_some (map (table_fault frame_keys) (filter_map as_table (map view values.now)))) (map frame_of (filter_map as_table (map view values.now))) result }
+/// The tables in an array. What is no table is passed over.
+fn rows<T: Row>(alloc: Global, version: u64, values: &[Value]) -> Result<Listed<T>, SetupFault>
+    ensures { AnswersEach (T.fault version) (T.make version) (map view values.now) result }
 {
-    let mut frames = Sequence::new(alloc);
+    let mut rows = Listed::new(alloc);
     for value in values {
         if let Some(table) = value.as_table() {
-            frames.push(frame(alloc, table)?)?;
+            rows.push(T::read(alloc, version, table)?)?;
         }
     }
-    Ok(frames)
+    Ok(rows)
 }
 
-fn disturbance(alloc: Global, table: &Table) -> Result<DisturbanceText, SetupFault>
-    ensures { Answers (table_fault disturbance_keys (table_view table.now)) (disturbance_of (table_view table.now)) result }
-{
-    check_table(alloc, table, keys::disturbance_keys())?;
-    Ok(DisturbanceText {
-        x: small_at(table, Key::X),
-        from: number_at(table, Key::From),
-        to: number_at(table, Key::To),
-    })
-}
+impl Row for FrameText {
+    ghost fault = { λ _. table_fault frame_keys };
 
-/// The disturbances in an array. What is no table is passed over.
-fn disturbances(alloc: Global, values: &[Value]) -> Result<Sequence<DisturbanceText>, SetupFault>
-    ensures { Answers (first_some (map (table_fault disturbance_keys) (filter_map as_table (map view values.now)))) (map disturbance_of (filter_map as_table (map view values.now))) result }
-{
-    let mut disturbances = Sequence::new(alloc);
-    for value in values {
-        if let Some(table) = value.as_table() {
-            disturbances.push(disturbance(alloc, table)?)?;
-        }
+    ghost make = { λ _. frame_of };
+
+    fn read(alloc: Global, _version: u64, table: &Table) -> Result<FrameText, SetupFault> {
+        check_table(alloc, table, keys::frame_keys())?;
+        Ok(FrameText {
+            id: small_at(table, Key::Id),
+            dlc: small_at(table, Key::Dlc),
+            remote: truth_at(table, Key::Remote),
+            bytes: bytes_at(alloc, table, Key::Bytes)?,
+            ready: number_at(table, Key::Ready),
+            extended: truth_at(table, Key::Extended),
+        })
     }
-    Ok(disturbances)
 }
 
+impl Row for DisturbanceText {
+    ghost fault = { λ _. table_fault disturbance_keys };
+
+    ghost make = { λ _. disturbance_of };
+
+    fn read(alloc: Global, _version: u64, table: &Table) -> Result<DisturbanceText, SetupFault> {
+        check_table(alloc, table, keys::disturbance_keys())?;
+        Ok(DisturbanceText {
+            x: small_at(table, Key::X),
+            from: number_at(table, Key::From),
+            to: number_at(table, Key::To),
+        })
+    }
+}
+
+/// How fast a clock goes, by the keys of this table.
 fn clock(table: &Table) -> ClockText
     ensures { result ≡ clock_of (table_view table.now) }
 {
@@ -97,52 +108,75 @@ fn clock(table: &Table) -> ClockText
     }
 }
 
-fn node(alloc: Global, table: &Table) -> Result<NodeText, SetupFault>
-    ensures { Answers (node_fault (table_view table.now)) (node_of (table_view table.now)) result }
-{
-    check_table(alloc, table, keys::node_keys(table))?;
-    let frame = frames(alloc, elements_at(table, Key::Frame))?;
-    Ok(NodeText {
-        name: name_at(alloc, table, Key::Name)?,
-        offset: number_at(table, Key::Offset),
-        clock: clock(table),
-        prop: number_at(table, Key::Prop),
-        ps1: number_at(table, Key::Ps1),
-        ps2: number_at(table, Key::Ps2),
-        sjw: number_at(table, Key::Sjw),
-        x: small_at(table, Key::X),
-        out_delay: number_at(table, Key::Out),
-        in_delay: number_at(table, Key::In),
-        frame,
-    })
-}
+impl Row for RateText {
+    ghost fault = { λ _. rate_fault };
 
-/// The nodes in an array. What is no table is passed over.
-fn nodes(alloc: Global, values: &[Value]) -> Result<Sequence<NodeText>, SetupFault>
-    ensures { Answers (first_some (map node_fault (filter_map as_table (map view values.now)))) (map node_of (filter_map as_table (map view values.now))) result }
-{
-    let mut nodes = Sequence::new(alloc);
-    for value in values {
-        if let Some(table) = value.as_table() {
-            nodes.push(node(alloc, table)?)?;
-        }
+    ghost make = { λ _. rate_of };
+
+    fn read(alloc: Global, _version: u64, table: &Table) -> Result<RateText, SetupFault> {
+        check_table(alloc, table, keys::rate_keys(table))?;
+        Ok(RateText {
+            from: number_at(table, Key::From),
+            clock: clock(table),
+        })
     }
-    Ok(nodes)
 }
 
-/// The plan text of a document's top table.
-pub(crate) fn plan_text(alloc: Global, top: &Table) -> Result<PlanText, SetupFault>
-    ensures { Answers (document_fault (table_view top.now)) (plan_of (table_view top.now)) result }
+/// The rates of a node whose table has the keys that it should have.
+fn rates(alloc: Global, version: u64, table: &Table) -> Result<Listed<RateText>, SetupFault>
+    ensures { AnswersTable rates_fault (rates_of version) (table_view table.now) result }
+{
+    let written = rows(alloc, version, elements_at(table, Key::Rates))?;
+    if version == VERSION_OF_RATES {
+        return Ok(written);
+    }
+    let mut rates = Listed::new(alloc);
+    rates.push(RateText {
+        from: 0,
+        clock: clock(table),
+    })?;
+    Ok(rates)
+}
+
+impl Row for NodeText {
+    ghost fault = { node_fault };
+
+    ghost make = { node_text_of };
+
+    fn read(alloc: Global, version: u64, table: &Table) -> Result<NodeText, SetupFault> {
+        check_table(alloc, table, keys::node_keys(version, table))?;
+        let rates = rates(alloc, version, table)?;
+        let frame = rows(alloc, version, elements_at(table, Key::Frame))?;
+        Ok(NodeText {
+            name: name_at(alloc, table, Key::Name)?,
+            offset: number_at(table, Key::Offset),
+            rates,
+            prop: number_at(table, Key::Prop),
+            ps1: number_at(table, Key::Ps1),
+            ps2: number_at(table, Key::Ps2),
+            sjw: number_at(table, Key::Sjw),
+            x: small_at(table, Key::X),
+            out_delay: number_at(table, Key::Out),
+            in_delay: number_at(table, Key::In),
+            frame,
+        })
+    }
+}
+
+/// The plan text of a document's top table, and the names of its nodes.
+pub(crate) fn plan_text(alloc: Global, top: &Table) -> Result<(PlanText, Names), SetupFault>
+    ensures { Answers (document_fault (table_view top.now)) (named_text_of (table_view top.now)) result }
 {
     check_version(alloc, top)?;
     check_table(alloc, top, keys::top_keys())?;
+    let version = number_at(top, Key::Version);
     let plan = PlanText {
-        version: number_at(top, Key::Version),
+        version,
         end: number_at(top, Key::End),
         per: number_at(top, Key::Per),
-        node: nodes(alloc, elements_at(top, Key::Node))?,
-        disturbance: disturbances(alloc, elements_at(top, Key::Disturbance))?,
+        node: rows(alloc, version, elements_at(top, Key::Node))?,
+        disturbance: rows(alloc, version, elements_at(top, Key::Disturbance))?,
     };
-    plan.names(alloc)?;
-    Ok(plan)
+    let names = plan.names(alloc)?;
+    Ok((plan, names))
 }

@@ -11,7 +11,7 @@ use wl_topology::TopologyFault;
 /// Why a text gives no plan. A key is named as it is written in its table, without a path.
 #[derive(Debug, Drop, Error)]
 pub enum SetupFault {
-    /// The text is no TOML, or not UTF-8.
+    /// The text is no TOML, or not UTF-8, or nests deeper than the parser's limit of 80.
     #[error("Toml")]
     Toml,
     /// The version is none that is known.
@@ -23,7 +23,7 @@ pub enum SetupFault {
     /// The value of a key has another type, or lies outside its bounds.
     #[error("Kind({0})")]
     Kind(Text),
-    /// A table has a key that no such table has.
+    /// A table has a key that no such table has. It is shown in one line, its control characters as TOML escapes them.
     #[error("Unknown({0})")]
     Unknown(Text),
     /// Two nodes have one name.

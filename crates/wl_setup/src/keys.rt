@@ -1,9 +1,10 @@
 //! The keys of each table, and what their values have to be.
 ghost use Rattle.std.specs.Prelude.{◌≡◌};
 ghost use Rattle.toml.specs.View.{table_view};
-ghost use Rattle.wl_setup.specs.Keys.{key_text, kind_of, top_keys, node_keys_by_rate, node_keys_by_ppm, frame_keys, disturbance_keys};
-ghost use Rattle.wl_setup.specs.Faults.{node_keys};
+ghost use Rattle.wl_setup.specs.Keys.{key_text, kind_of, top_keys, node_keys_by_rate, node_keys_by_ppm, node_keys_by_rates, frame_keys, disturbance_keys};
+ghost use Rattle.wl_setup.specs.Faults.{node_keys, rate_keys};
 
+use crate::limits::VERSION_OF_RATES;
 use crate::values::value_at;
 use toml::Table;
 
@@ -40,6 +41,7 @@ pub enum Key {
     Den,
     Quantum,
     Ppm,
+    Rates,
     Prop,
     Ps1,
     Ps2,
@@ -53,6 +55,7 @@ pub enum Key {
     Remote,
     Bytes,
     Ready,
+    Extended,
     From,
     To,
 }
@@ -74,6 +77,7 @@ impl Key {
             Key::Den => "den",
             Key::Quantum => "quantum",
             Key::Ppm => "ppm",
+            Key::Rates => "rates",
             Key::Prop => "prop",
             Key::Ps1 => "ps1",
             Key::Ps2 => "ps2",
@@ -87,6 +91,7 @@ impl Key {
             Key::Remote => "remote",
             Key::Bytes => "bytes",
             Key::Ready => "ready",
+            Key::Extended => "extended",
             Key::From => "from",
             Key::To => "to",
         }
@@ -97,11 +102,11 @@ impl Key {
         ensures { result ≡ kind_of self }
     {
         match self {
-            Key::Node | Key::Frame | Key::Disturbance => Kind::Tables,
+            Key::Node | Key::Rates | Key::Frame | Key::Disturbance => Kind::Tables,
             Key::X | Key::Id | Key::Dlc => Kind::Small,
             Key::Name => Kind::Name,
             Key::Ppm => Kind::Ppm,
-            Key::Remote => Kind::Truth,
+            Key::Remote | Key::Extended => Kind::Truth,
             Key::Bytes => Kind::Bytes,
             _ => Kind::Number,
         }
@@ -172,15 +177,57 @@ fn node_keys_by_ppm() -> Keys
     }
 }
 
-/// The keys of a node's table, by whether it has `quantum`.
-pub(crate) fn node_keys(table: &Table) -> Keys
-    ensures required { result.required.now ≡ (node_keys (table_view table.now)).required }
-    ensures optional { result.optional.now ≡ (node_keys (table_view table.now)).optional }
+/// The keys of a node whose rates are tables of their own.
+fn node_keys_by_rates() -> Keys
+    ensures required { result.required.now ≡ node_keys_by_rates.required }
+    ensures optional { result.optional.now ≡ node_keys_by_rates.optional }
 {
-    if value_at(table, Key::Quantum).is_some() {
+    Keys {
+        required: &[
+            Key::Name,
+            Key::Offset,
+            Key::Rates,
+            Key::Prop,
+            Key::Ps1,
+            Key::Ps2,
+            Key::Sjw,
+            Key::X,
+            Key::Out,
+            Key::In,
+        ],
+        optional: &[Key::Frame],
+    }
+}
+
+/// The keys of a node's table, by the version of the text, and in the first one by whether the table has `quantum`.
+pub(crate) fn node_keys(version: u64, table: &Table) -> Keys
+    ensures required { result.required.now ≡ (node_keys version (table_view table.now)).required }
+    ensures optional { result.optional.now ≡ (node_keys version (table_view table.now)).optional }
+{
+    if version == VERSION_OF_RATES {
+        node_keys_by_rates()
+    } else if value_at(table, Key::Quantum).is_some() {
         node_keys_by_ppm()
     } else {
         node_keys_by_rate()
+    }
+}
+
+/// The keys of a rate's table, by whether it has `quantum`.
+pub(crate) fn rate_keys(table: &Table) -> Keys
+    ensures required { result.required.now ≡ (rate_keys (table_view table.now)).required }
+    ensures optional { result.optional.now ≡ (rate_keys (table_view table.now)).optional }
+{
+    if value_at(table, Key::Quantum).is_some() {
+        Keys {
+            required: &[Key::From, Key::Quantum, Key::Ppm],
+            optional: &[],
+        }
+    } else {
+        Keys {
+            required: &[Key::From, Key::Num, Key::Den],
+            optional: &[],
+        }
     }
 }
 
@@ -191,7 +238,7 @@ pub(crate) fn frame_keys() -> Keys
 {
     Keys {
         required: &[Key::Id, Key::Dlc],
-        optional: &[Key::Remote, Key::Bytes, Key::Ready],
+        optional: &[Key::Remote, Key::Bytes, Key::Ready, Key::Extended],
     }
 }
 

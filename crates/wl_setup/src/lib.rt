@@ -10,7 +10,6 @@ mod names;
 mod plan;
 mod plan_text;
 mod read;
-mod sequence;
 mod tables;
 #[cfg(test)]
 mod tests;
@@ -21,7 +20,6 @@ pub use check::check_plan;
 pub use fault::SetupFault;
 pub use names::Names;
 pub use plan::read_plan;
-pub use plan_text::{ClockText, DisturbanceText, FrameText, NodeText, PlanText};
+pub use plan_text::{ClockText, DisturbanceText, FrameText, NodeText, PlanText, RateText};
 pub use read::{faults_of_texts, read_text};
-pub use sequence::Sequence;
 pub use text::Text;

@@ -18,5 +18,8 @@ pub const LARGEST_BYTE: u64 = 255;
 /// The most letters of a name.
 pub const LONGEST_NAME: usize = 32;
 
-/// The version that is known.
-pub const KNOWN_VERSION: u64 = 1;
+/// The first version: a node has one rate.
+pub const FIRST_VERSION: u64 = 1;
+
+/// The version in which a node has a list of rates. It is the last that is known.
+pub const VERSION_OF_RATES: u64 = 2;

@@ -1,21 +1,21 @@
 //! Plans from their texts.
-ghost use Rattle.std.specs.Prelude.{◌≡◌, ◌≢◌, None, Err, map, length, IfOk};
+ghost use Rattle.std.specs.Prelude.{◌≡◌, ◌≢◌, Err, map, length, IfOk};
 ghost use Rattle.std.specs.List.{enumerate_from};
 ghost use Rattle.wl_plan.specs.Checked.{IsChecked};
-ghost use Rattle.wl_setup.specs.Names.{same_name_fault};
-ghost use Rattle.wl_setup.specs.Plans.{named, each, timing_of_node, segments_of_node, queued_of, setup_of, place_of, cable_of, disturbance_in, plan_of_text, named_plan_of, GivesPlan, IsAnswer};
+ghost use Rattle.wl_setup.specs.Names.{names_of};
+ghost use Rattle.wl_setup.specs.Plans.{named, each, rate_from, rate_in, clock_in, segments_of_node, queued_of, setup_of, place_of, cable_of, disturbance_in, plan_of_text, named_plan_of, GivesPlan, IsAnswer};
 
 use crate::fault::SetupFault;
 use crate::names::Names;
-use crate::plan_text::{ClockText, DisturbanceText, FrameText, NodeText, PlanText};
-use crate::read::read_text;
+use crate::plan_text::{ClockText, DisturbanceText, FrameText, NodeText, PlanText, RateText};
+use crate::read::read_named;
 use std::alloc::{AllocError, Global};
-use wl_clock::{Clock, ClockFault};
+use wl_clock::{Clock, ClockFault, Rate};
+use wl_device::Source;
 use wl_frame::frame::Frame;
-use wl_intervals::Listed;
+use wl_level::Listed;
 use wl_node::{NodeSetup, Queue, Queued};
 use wl_plan::{Disturbance, Disturbances, Nodes, Plan};
-use wl_record::Source;
 use wl_segments::{Segments, SegmentsFault};
 use wl_topology::{Place, Topology};
 
@@ -24,7 +24,13 @@ impl FrameText {
     fn queued(&self, i: u64, n: u64) -> Result<Queued, SetupFault>
         ensures { result ≡ queued_of i (n, self.now) }
     {
-        match Frame::base(self.id, self.remote, self.dlc, self.bytes.as_slice()) {
+        let bytes = self.bytes.as_slice();
+        let made = if self.extended {
+            Frame::extended(self.id, self.remote, self.dlc, bytes)
+        } else {
+            Frame::base(self.id, self.remote, self.dlc, bytes)
+        };
+        match made {
             Ok(frame) => Ok(Queued {
                 frame,
                 ready: self.ready,
@@ -45,14 +51,46 @@ fn queue(alloc: Global, i: u64, frames: &[FrameText]) -> Result<Queue, SetupFaul
     Ok(queue)
 }
 
-impl NodeText {
-    /// The clock that the keys `offset`, `num` and `den`, or `offset`, `quantum` and `ppm`, make.
-    fn make_clock(&self) -> Result<Clock, ClockFault>
-        ensures { result ≡ timing_of_node self.now }
+impl RateText {
+    /// The rate that the keys make, or what refuses it.
+    fn rate(&self) -> Result<Rate, ClockFault>
+        ensures { result ≡ rate_from self.now.from self.now.clock }
     {
         match self.clock {
-            ClockText::Rate { num, den } => Clock::new(self.offset, num, den),
-            ClockText::Ppm { quantum, ppm } => Clock::from_ppm(self.offset, quantum, ppm),
+            ClockText::Rate { num, den } => Ok(Rate {
+                from: self.from,
+                num: num as u128,
+                den,
+            }),
+            ClockText::Ppm { quantum, ppm } => Rate::from_ppm(self.from, quantum, ppm),
+        }
+    }
+}
+
+/// The rates of node `i`, or the first that is none.
+fn rates(alloc: Global, i: u64, texts: &[RateText]) -> Result<Listed<Rate>, SetupFault>
+    ensures { IsAnswer (each (rate_in i) texts.now) result }
+{
+    let mut rates = Listed::new(alloc);
+    for text in texts {
+        match text.rate() {
+            Ok(rate) => rates.push(rate)?,
+            Err(fault) => return Err(SetupFault::NodeClock(i, fault)),
+        }
+    }
+    Ok(rates)
+}
+
+impl NodeText {
+    /// The clock of node `i` that the keys `offset` and `rates`, or `offset` and the clock keys, make: the first rate
+    /// that is none, or what refuses all of them together.
+    fn make_clock(&self, alloc: Global, i: u64) -> Result<Clock, SetupFault>
+        ensures { IsAnswer (clock_in i self.now) result }
+    {
+        let rates = rates(alloc, i, self.rates.as_slice())?;
+        match Clock::with_rates(self.offset, rates.as_slice()) {
+            Ok(clock) => Ok(clock),
+            Err(fault) => Err(SetupFault::NodeClock(i, fault)),
         }
     }
 
@@ -67,10 +105,7 @@ impl NodeText {
     fn setup(&self, alloc: Global, i: u64) -> Result<NodeSetup, SetupFault>
         ensures { IsAnswer (setup_of (i, self.now)) result }
     {
-        let clock = match self.make_clock() {
-            Ok(clock) => clock,
-            Err(fault) => return Err(SetupFault::NodeClock(i, fault)),
-        };
+        let clock = self.make_clock(alloc, i)?;
         let segments = match self.make_segments() {
             Ok(segments) => segments,
             Err(fault) => return Err(SetupFault::NodeSegments(i, fault)),
@@ -159,15 +194,14 @@ impl PlanText {
         }
     }
 
-    /// The plan and the names of its nodes, of which no two are equal.
-    fn named_plan(&self, alloc: Global) -> Result<(Plan, Names), SetupFault>
-        requires { same_name_fault self.now ≡ None }
+    /// The plan, and with it these names, which are those of its nodes.
+    fn named_plan(&self, alloc: Global, names: Names) -> Result<(Plan, Names), SetupFault>
+        requires { names ≡ names_of self.now }
         ensures answer { IsAnswer (named_plan_of self.now) result }
         ensures checked { IfOk result (λ r. IsChecked r.0) }
         ensures names { IfOk result (λ r. length r.1 ≡ length r.0.nodes) }
     {
         let plan = self.plan(alloc)?;
-        let names = self.names(alloc)?;
         Ok((plan, names))
     }
 
@@ -193,6 +227,6 @@ pub fn read_plan<R: Source>(alloc: Global, reader: &mut R) -> Result<(Plan, Name
     ensures checked { IfOk result (λ r. IsChecked r.0) }
     ensures names { IfOk result (λ r. length r.1 ≡ length r.0.nodes) }
 {
-    let text = read_text(alloc, reader)?;
-    text.named_plan(alloc)
+    let (text, names) = read_named(alloc, reader)?;
+    text.named_plan(alloc, names)
 }

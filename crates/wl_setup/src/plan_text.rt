@@ -1,25 +1,25 @@
 //! What a plan's text says, key by key, with the numbers as they are written.
-use crate::sequence::Sequence;
 use crate::text::Text;
+use wl_level::Listed;
 
 /// A plan as it is written: one field for each key of the top table.
 ///
 /// Nothing is known of the numbers but the bounds of their keys: whole numbers are below 2^48.
 #[derive(Debug, Drop)]
 pub struct PlanText {
-    /// The version of the text: 1.
+    /// The version of the text: 1 or 2.
     pub version: u64,
     /// The tick at which the plan ends.
     pub end: u64,
     /// Ticks that a level takes along one unit of length.
     pub per: u64,
     /// The nodes, in the order of their tables.
-    pub node: Sequence<NodeText>,
+    pub node: Listed<NodeText>,
     /// The disturbances, none where the key is absent.
-    pub disturbance: Sequence<DisturbanceText>,
+    pub disturbance: Listed<DisturbanceText>,
 }
 
-/// The rate of a node's clock as it is written.
+/// How fast a clock goes, as it is written.
 #[derive(Clone, Copy, Debug, PartialEq, Eq)]
 pub enum ClockText {
     /// A quantum takes `num / den` ticks.
@@ -28,15 +28,25 @@ pub enum ClockText {
     Ppm { quantum: u64, ppm: i64 },
 }
 
-/// A node as it is written: one field for each key, and one for its two clock keys.
+/// A rate of a node's clock as it is written.
+#[derive(Clone, Copy, Debug, PartialEq, Eq)]
+pub struct RateText {
+    /// The first quantum at this rate, counted from 0.
+    pub from: u64,
+    /// The keys `num` and `den`, or `quantum` and `ppm`.
+    pub clock: ClockText,
+}
+
+/// A node as it is written: one field for each key, and in version 1 one for its two clock keys.
 #[derive(Debug, Drop)]
 pub struct NodeText {
     /// 1 to 32 ASCII letters, digits, `_` or `-`.
     pub name: Text,
     /// The tick at which quantum 0 begins.
     pub offset: u64,
-    /// The keys `num` and `den`, or `quantum` and `ppm`.
-    pub clock: ClockText,
+    /// The rates of the clock, in the order of their tables; in version 1 the one, from quantum 0 on, that the keys
+    /// `num` and `den`, or `quantum` and `ppm`, say.
+    pub rates: Listed<RateText>,
     /// Quanta of PROP_SEG.
     pub prop: u64,
     /// Quanta of PHASE_SEG1.
@@ -52,7 +62,7 @@ pub struct NodeText {
     /// The key `in`: ticks that it takes from the cable to the node.
     pub in_delay: u64,
     /// The frames that wait at the node, in the order of their tables, none where the key is absent.
-    pub frame: Sequence<FrameText>,
+    pub frame: Listed<FrameText>,
 }
 
 /// A frame that waits at a node, as it is written.
@@ -65,9 +75,11 @@ pub struct FrameText {
     /// Whether it is a remote frame, false where the key is absent.
     pub remote: bool,
     /// The data bytes, none where the key is absent.
-    pub bytes: Sequence<u8>,
+    pub bytes: Listed<u8>,
     /// The quantum of the node from which on the frame may be sent, 0 where the key is absent.
     pub ready: u64,
+    /// Whether it is an extended frame, false where the key is absent.
+    pub extended: bool,
 }
 
 /// A disturbance as it is written: at a place of the cable something drives dominant for a while.

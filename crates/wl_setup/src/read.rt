@@ -1,49 +1,18 @@
 //! A plan's text from a reader.
-ghost use Rattle.std.specs.Prelude.{◌≡◌, ◌≢◌, Err, Some, None, IfOk, IfErr};
+ghost use Rattle.std.specs.Prelude.{◌≡◌, ◌≢◌, Ok, Err, Some, None, IfOk, IfErr};
 ghost use Rattle.toml.specs.View.{table_view};
-ghost use Rattle.wl_setup.specs.Reading.{Reads, document_of, text_answer, ReadsPlan, TomlHasNoDocument};
+ghost use Rattle.wl_setup.specs.Names.{names_of};
+ghost use Rattle.wl_setup.specs.Reading.{document_of, text_answer, ReadsPlan, TomlHasNoDocument};
 ghost use Rattle.wl_setup.specs.Document.{OnlyDocumentFaults};
 
 use crate::document::plan_text;
 use crate::fault::SetupFault;
 use crate::limits::MOST_BYTES;
+use crate::names::Names;
 use crate::plan_text::PlanText;
-use std::alloc::{AllocError, Global};
+use std::alloc::Global;
 use toml::Table;
-use wl_record::{Got, MOST_CALLS, Source};
-
-/// How a reading ended.
-#[derive(Clone, Copy)]
-pub enum Ending {
-    /// The reader said that there is no more.
-    End,
-    /// The reader failed, or its calls ran out.
-    Broken,
-    /// More came than a plan's text may have.
-    Full,
-}
-
-/// Reads all that there is, up to the first piece that makes it more than a plan's text may have.
-fn read_bytes<R: Source>(alloc: Global, reader: &mut R) -> Result<(Vec<u8>, Ending), AllocError>
-    ensures { IfOk result (λ r. Reads R.gives reader.old r.0.items r.1 reader.new) }
-{
-    let mut text = Vec::new(alloc);
-    let mut buffer = [0u8; 16_384];
-    for _ in 0..MOST_CALLS {
-        match reader.read(&mut buffer) {
-            Got::Bytes(n) => {
-                text.extend_from_slice(&buffer[..n])?;
-                if text.len() > MOST_BYTES {
-                    return Ok((text, Ending::Full));
-                }
-            }
-            Got::End => return Ok((text, Ending::End)),
-            Got::Again => {}
-            Got::Failed => return Ok((text, Ending::Broken)),
-        }
-    }
-    Ok((text, Ending::Broken))
-}
+use wl_device::{Ended, Source, read_up_to};
 
 /// The document of a text.
 fn document(alloc: Global, text: &[u8]) -> Result<Table, SetupFault>
@@ -62,12 +31,29 @@ fn document(alloc: Global, text: &[u8]) -> Result<Table, SetupFault>
     }
 }
 
-/// The plan text of a text.
-fn parse(alloc: Global, text: &[u8]) -> Result<PlanText, SetupFault>
-    ensures { result ≢ Err SetupFault.Memory → result ≡ text_answer text.now }
+/// The plan text of a text, and the names of its nodes.
+fn parse(alloc: Global, text: &[u8]) -> Result<(PlanText, Names), SetupFault>
+    ensures ok { IfOk result (λ r. (text_answer text.now ≡ Ok r.0) × (r.1 ≡ names_of r.0)) }
+    ensures fault { IfErr result (λ e. e ≢ SetupFault.Memory → text_answer text.now ≡ Err e) }
 {
     let top = document(alloc, text)?;
     plan_text(alloc, &top)
+}
+
+/// Reads a plan's text as `read_text` does. Answers with it the names of its nodes.
+pub(crate) fn read_named<R: Source>(
+    alloc: Global,
+    reader: &mut R,
+) -> Result<(PlanText, Names), SetupFault>
+    ensures ok { IfOk result (λ r. ReadsPlan R.gives reader.old (Ok r.0) reader.new × (r.1 ≡ names_of r.0)) }
+    ensures fault { IfErr result (λ e. e ≢ SetupFault.Memory → ReadsPlan R.gives reader.old (Err e) reader.new) }
+{
+    let (text, ended) = read_up_to(alloc, reader, MOST_BYTES)?;
+    match ended {
+        Ended::End => parse(alloc, text.as_slice()),
+        Ended::Broken => Err(SetupFault::Read),
+        Ended::Full => Err(SetupFault::Size),
+    }
 }
 
 /// Reads a plan's text: TOML of at most 1,048,576 bytes, with the tables and keys of a plan.
@@ -79,12 +65,8 @@ fn parse(alloc: Global, text: &[u8]) -> Result<PlanText, SetupFault>
 pub fn read_text<R: Source>(alloc: Global, reader: &mut R) -> Result<PlanText, SetupFault>
     ensures { result ≢ Err SetupFault.Memory → ReadsPlan R.gives reader.old result reader.new }
 {
-    let (text, ending) = read_bytes(alloc, reader)?;
-    match ending {
-        Ending::End => parse(alloc, text.as_slice()),
-        Ending::Broken => Err(SetupFault::Read),
-        Ending::Full => Err(SetupFault::Size),
-    }
+    let (text, _) = read_named(alloc, reader)?;
+    Ok(text)
 }
 
 /// A law of the answers: `Toml` is answered to a text that is no document, and a document's own faults are those of the

@@ -1,11 +1,11 @@
 //! The faults of one table.
-ghost use Rattle.std.specs.Prelude.{◌≡◌, ◌||◌, not, map, Some, None, find, option_map, string_bytes};
+ghost use Rattle.std.specs.Prelude.{◌≡◌, ◌||◌, map, Some, None, option_map, string_bytes};
 ghost use Rattle.std.specs.BTreeMap.{keys, IsOrdered};
 ghost use Rattle.std.specs.String.{string_cmp};
 ghost use Rattle.toml.specs.View.{view, table_view};
 ghost use Rattle.wl_setup.specs.Keys.{key_text, table_keys};
-ghost use Rattle.wl_setup.specs.Faults.{first_some, kind_fault, required_fault, optional_fault, is_among, is_known, keys_in, unknown_fault, table_fault};
-ghost use Rattle.wl_setup.specs.Document.{Answers};
+ghost use Rattle.wl_setup.specs.Faults.{first_some, kind_fault, required_fault, optional_fault, is_among, first_unknown, keys_in, unknown_fault, table_fault};
+ghost use Rattle.wl_setup.specs.Document.{Passes};
 
 use crate::fault::SetupFault;
 use crate::keys::{Key, Keys};
@@ -16,7 +16,7 @@ use toml::{Table, Value};
 
 /// Tests the value of a key.
 fn check_kind(alloc: Global, key: Key, value: &Value) -> Result<(), SetupFault>
-    ensures { Answers (kind_fault key (view value.now)) tt result }
+    ensures { Passes (kind_fault key (view value.now)) result }
 {
     if has_kind(key.kind(), value) {
         Ok(())
@@ -27,7 +27,7 @@ fn check_kind(alloc: Global, key: Key, value: &Value) -> Result<(), SetupFault>
 
 /// Tests a key that has to be there.
 pub(crate) fn check_required(alloc: Global, table: &Table, key: Key) -> Result<(), SetupFault>
-    ensures { Answers (required_fault (table_view table.now) key) tt result }
+    ensures { Passes (required_fault (table_view table.now) key) result }
 {
     match value_at(table, key) {
         Some(value) => check_kind(alloc, key, value),
@@ -37,7 +37,7 @@ pub(crate) fn check_required(alloc: Global, table: &Table, key: Key) -> Result<(
 
 /// Tests a key that may be absent.
 fn check_optional(alloc: Global, table: &Table, key: Key) -> Result<(), SetupFault>
-    ensures { Answers (optional_fault (table_view table.now) key) tt result }
+    ensures { Passes (optional_fault (table_view table.now) key) result }
 {
     match value_at(table, key) {
         Some(value) => check_kind(alloc, key, value),
@@ -46,7 +46,7 @@ fn check_optional(alloc: Global, table: &Table, key: Key) -> Result<(), SetupFau
 }
 
 fn check_each_required(alloc: Global, table: &Table, keys: &[Key]) -> Result<(), SetupFault>
-    ensures { Answers (first_some (map (required_fault (table_view table.now)) keys.now)) tt result }
+    ensures { Passes (first_some (map (required_fault (table_view table.now)) keys.now)) result }
 {
     for key in keys {
         check_required(alloc, table, *key)?;
@@ -55,7 +55,7 @@ fn check_each_required(alloc: Global, table: &Table, keys: &[Key]) -> Result<(),
 }
 
 fn check_each_optional(alloc: Global, table: &Table, keys: &[Key]) -> Result<(), SetupFault>
-    ensures { Answers (first_some (map (optional_fault (table_view table.now)) keys.now)) tt result }
+    ensures { Passes (first_some (map (optional_fault (table_view table.now)) keys.now)) result }
 {
     for key in keys {
         check_optional(alloc, table, *key)?;
@@ -71,7 +71,8 @@ fn is_among(keys: &[Key], text: &str) -> bool
 
 /// The first key, in the order of their bytes, that is none of these.
 fn first_unknown<'a>(table: &'a Table, known: Keys) -> Option<&'a str>
-    ensures first { option_map (λ t. t.now) result ≡ find (λ text. not (is_known (table_keys known.required.now known.optional.now) text)) (map string_bytes (keys table.now)) }
+    ensures first { option_map (λ t. t.now) result
+        ≡ first_unknown (table_keys known.required.now known.optional.now) (map string_bytes (keys table.now)) }
     ensures ordered { IsOrdered string_cmp table.now }
 {
     for key in table.keys() {
@@ -84,7 +85,7 @@ fn first_unknown<'a>(table: &'a Table, known: Keys) -> Option<&'a str>
 }
 
 fn check_unknown(alloc: Global, table: &Table, known: Keys) -> Result<(), SetupFault>
-    ensures { Answers (unknown_fault (table_keys known.required.now known.optional.now) (table_view table.now)) tt result }
+    ensures { Passes (unknown_fault (table_keys known.required.now known.optional.now) (table_view table.now)) result }
 {
     match first_unknown(table, known) {
         Some(text) => Err(SetupFault::Unknown(Text::new(alloc, text)?)),
@@ -94,7 +95,7 @@ fn check_unknown(alloc: Global, table: &Table, known: Keys) -> Result<(), SetupF
 
 /// Tests one table: its required keys, then its optional ones, then for keys that it should not have.
 pub(crate) fn check_table(alloc: Global, table: &Table, keys: Keys) -> Result<(), SetupFault>
-    ensures { Answers (table_fault (table_keys keys.required.now keys.optional.now) (table_view table.now)) tt result }
+    ensures { Passes (table_fault (table_keys keys.required.now keys.optional.now) (table_view table.now)) result }
 {
     check_each_required(alloc, table, keys.required)?;
     check_each_optional(alloc, table, keys.optional)?;

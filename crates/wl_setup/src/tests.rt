@@ -1,20 +1,15 @@
-mod order;
-mod plans;
-mod rows;
-mod shapes;
-mod streams;
+//! Each public function once with ample memory, and readers that fail. The rows of plan texts are those of a program, which compares its
+//! output.
 
-use crate::{Names, PlanText, SetupFault, check_plan, read_plan, read_text};
-use std::alloc::{AllocError, Global};
+use crate::{ClockText, RateText, SetupFault, check_plan, faults_of_texts, read_plan, read_text};
+use std::alloc::Global;
 use std::test::Fail;
-use wl_plan::Plan;
-use wl_record::Host;
+use wl_device::{Host, ScriptedReader, Then};
 
-/// Two nodes on a bus 50 metres long, one of them with a frame.
-const PLAN_A: &str = "version = 1
-end = 70000
+/// A node alone.
+const PLAN: &str = "version = 1
+end = 10
 per = 1
-
 [[node]]
 name = \"a\"
 offset = 0
@@ -27,61 +22,53 @@ sjw = 2
 x = 0
 out = 0
 in = 1
-
-[[node.frame]]
-id = 0
-dlc = 0
-
-[[node]]
-name = \"b\"
-offset = 0
-num = 100
-den = 1
-prop = 3
-ps1 = 3
-ps2 = 3
-sjw = 2
-x = 50
-out = 0
-in = 1
 ";
 
-fn read(alloc: Global, text: &str) -> Result<PlanText, SetupFault> {
-    read_text(alloc, &mut Host::new(text.as_bytes()))
+#[test]
+fn a_text_is_read(rt: HostRuntime) -> Result<(), Fail> {
+    let plan = read_text(rt.alloc(), &mut Host::new(PLAN.as_bytes()))?;
+    assert_eq!(rt; (plan.version, plan.end, plan.per), (1, 10, 1));
+    let names = plan.names(rt.alloc())?;
+    assert_eq!(rt; names.len(), 1);
+    assert_eq!(rt; names.name(0), Some("a"));
+    let node = plan.node.as_slice().first().ok_or("a node")?;
+    let clock = ClockText::Rate { num: 100, den: 1 };
+    assert_eq!(rt;
+        node.rates.as_slice(),
+        [RateText { from: 0, clock }].as_slice()
+    );
+    faults_of_texts();
+    Ok(())
 }
 
-/// The fault of a text as it is printed, or `ok`.
-fn fault(alloc: Global, text: &str) -> Result<String, AllocError> {
-    match read(alloc, text) {
-        Ok(_) => String::from_str(alloc, "ok"),
-        Err(fault) => fault.to_string(alloc),
-    }
+#[test]
+fn a_plan_is_checked(rt: HostRuntime) -> Result<(), Fail> {
+    let (plan, names) = read_plan(rt.alloc(), &mut Host::new(PLAN.as_bytes()))?;
+    let text = check_plan(rt.alloc(), &plan, &names)?;
+    assert_eq!(rt;
+        text.as_str(),
+        "node 0 a quanta 10 sample 7 jump 2 ppm 10000\n"
+    );
+    Ok(())
 }
 
-fn plan(alloc: Global, text: &str) -> Result<(Plan, Names), SetupFault> {
-    read_plan(alloc, &mut Host::new(text.as_bytes()))
+/// The fault of a reader that gives the text by 100 bytes a call, and then goes on so.
+fn fault(alloc: Global, then: Then) -> Option<SetupFault> {
+    let text = PLAN.as_bytes();
+    read_plan(
+        alloc,
+        &mut ScriptedReader {
+            text,
+            step: 100,
+            then,
+        },
+    )
+    .err()
 }
 
-/// What a check of a text prints, or its fault.
-fn check(alloc: Global, text: &str) -> Result<String, AllocError> {
-    match plan(alloc, text) {
-        Ok((plan, names)) => check_plan(alloc, &plan, &names),
-        Err(fault) => fault.to_string(alloc),
-    }
-}
-
-/// Plan A with another line in place of the first that is like this.
-fn plan_a_with(alloc: Global, old: &str, new: &str) -> Result<String, AllocError> {
-    let mut text = String::new(alloc);
-    let mut done = false;
-    for line in PLAN_A.lines() {
-        if !done && line == old {
-            text.push_str(new)?;
-            done = true;
-        } else {
-            text.push_str(line)?;
-        }
-        text.push_str("\n")?;
-    }
-    Ok(text)
+#[test]
+fn readers_that_fail(rt: HostRuntime) {
+    assert!(rt; matches!(fault(rt.alloc(), Then::Failed), Some(SetupFault::Read)));
+    assert!(rt; matches!(fault(rt.alloc(), Then::Again), Some(SetupFault::Read)));
+    assert!(rt; fault(rt.alloc(), Then::End).is_none());
 }

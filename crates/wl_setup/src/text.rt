@@ -43,12 +43,47 @@ impl fmt::Debug for Text {
     }
 }
 
-impl fmt::Display for Text {
-    ghost use Rattle.std.specs.Prelude.{Some};
+/// A letter of a text that is shown.
+#[derive(Clone, Copy)]
+struct Letter(char);
 
-    ghost output = { λ t. Some t };
+/// A control character (below 32, or 127) is shown as TOML 1.0 escapes it in a basic string, any other as it is.
+impl fmt::Display for Letter {
+    ghost use Rattle.std.specs.Prelude.{Some};
+    ghost use Rattle.wl_setup.specs.Shown.{shown_letter};
+
+    ghost output = { λ l. Some (shown_letter l.0) };
 
     fn fmt<W: fmt::Write>(&self, f: &mut fmt::Formatter<W>) -> fmt::Result {
-        write!(f, "{}", self.as_str())
+        let letter = self.0;
+        let number = letter as u32;
+        match number {
+            8 => write!(f, "\\b"),
+            9 => write!(f, "\\t"),
+            10 => write!(f, "\\n"),
+            12 => write!(f, "\\f"),
+            13 => write!(f, "\\r"),
+            0..=31 | 127 => {
+                let (high, low) = (number / 16, number % 16);
+                write!(f, "\\u00{high:X}{low:X}")
+            }
+            _ => write!(f, "{letter}"),
+        }
+    }
+}
+
+/// The text in one line: no control character of it is shown as it is.
+impl fmt::Display for Text {
+    ghost use Rattle.std.specs.Prelude.{Some};
+    ghost use Rattle.wl_setup.specs.Shown.{shown};
+
+    ghost output = { λ t. Some (shown t) };
+
+    fn fmt<W: fmt::Write>(&self, f: &mut fmt::Formatter<W>) -> fmt::Result {
+        for letter in self.as_str().chars() {
+            let letter = Letter(letter);
+            write!(f, "{letter}")?;
+        }
+        Ok(())
     }
 }

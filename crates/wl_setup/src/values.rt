@@ -7,10 +7,10 @@ ghost use Rattle.wl_setup.specs.Kinds.{number_in, byte_in, is_name, is_name_lett
 
 use crate::keys::{Key, Kind};
 use crate::limits::{LARGEST_BYTE, LARGEST_NUMBER, LARGEST_PPM, LARGEST_SMALL, LONGEST_NAME};
-use crate::sequence::Sequence;
 use crate::text::Text;
 use std::alloc::{AllocError, Global};
 use toml::{Table, Value};
+use wl_level::Listed;
 
 /// The value of a key.
 pub(crate) fn value_at(table: &Table, key: Key) -> Option<&Value>
@@ -166,10 +166,10 @@ pub(crate) fn elements_at(table: &Table, key: Key) -> &[Value]
 }
 
 /// The bytes in the array at a key.
-pub(crate) fn bytes_at(alloc: Global, table: &Table, key: Key) -> Result<Sequence<u8>, AllocError>
+pub(crate) fn bytes_at(alloc: Global, table: &Table, key: Key) -> Result<Listed<u8>, AllocError>
     ensures { IfOk result (λ bytes. bytes ≡ bytes_at key (table_view table.now)) }
 {
-    let mut bytes = Sequence::new(alloc);
+    let mut bytes = Listed::new(alloc);
     for value in elements_at(table, key) {
         if let Some(byte) = number_in(LARGEST_BYTE, value) {
             bytes.push(byte as u8)?;

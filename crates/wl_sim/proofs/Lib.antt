@@ -1,3 +1,2 @@
-pub mod Gathering
-pub mod MergeLaws
+mod Rows
 pub mod Words

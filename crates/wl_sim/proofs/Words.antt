@@ -1,15 +1,24 @@
 -- What clap makes of the command line of the program.
-use Rattle.std.proofs.Common.{◌≡◌, refl, sym, subst, true, [], ◌∷◌, Option, Some, None, option_map}
-use Rattle.std.specs.Prelude.{Box, Result, Ok, Err, IfErr}
-use Rattle.std.specs.Result.{IsErrAnd}
+use Rattle.std.proofs.Common.{◌≡◌, ◌∙◌, refl, sym, subst, ap, ℕ, ◌==◌, ◌+◌, true, [], ◌∷◌, List, length, slice_index, if◌then◌else◌, Option, Some, None, option_map, option_and_then, unwrap_or, codes}
+use Rattle.std.specs.Prelude.{Box, Result, Ok, Err, IfOk}
 use Rattle.std.specs.Box.{box_value}
-use Rattle.clap.specs.Words.{Text, is_simple, is_simple_and_free, subcommand_of, subcommand_rows, takes}
+use Rattle.clap.specs.Words.{Text, first_value, rows_of, is_simple, is_simple_and_free, subcommand_rows}
 use Rattle.clap.specs.declared.parser.matches.ArgMatches.TheViews.{out-SubCommand}
+use Rattle.clap.specs.declared.parser.matches.Found.{Found}
 use Rattle.clap.specs.declared.parser.matches.SubCommand.{SubCommand}
 use Rattle.clap.proofs.OnLiterals.{clap_on_literals}
-use Rattle.wl_sim.specs.CommandLine.{program, task_word}
+use Rattle.clap.proofs.WalkLemmas.{first_value-rows}
+use Rattle.wl_device.specs.Devices.{Answer}
+use Rattle.wl_engines.specs.declared.fault.RunFault.{RunFault}
+use Rattle.wl_engines.specs.declared.fault.RunFault.TheVariants as run
+use Rattle.wl_sim.specs.CommandLine.{program, task_word, tick_among, entered_tick, nanosecond, Enters, HasTick, NamesTask}
+use Rattle.wl_views.specs.declared.tick.Tick.{Tick}
+use Rattle.wl_views.specs.Ticks.{read_tick}
+use Rattle.wl_sim.specs.Tasks.{Does, EndsTask, EndsRefused, ReadsTask}
+use Rattle.wl_sim.specs.declared.command.Refusal.{Refusal}
+use Rattle.wl_sim.specs.declared.command.Refusal.TheVariants.{Words, Memory}
 use Rattle.wl_sim.specs.declared.command.Task.{Task}
-use Rattle.wl_sim.specs.declared.command.Task.TheVariants.{Merge, Horizon, Check, Records, Run}
+use Rattle.wl_sim.specs.declared.command.Task.TheVariants.{Merge, Horizon, Check, Records, Run, Candump}
 
 pub program_is_simple : is_simple program ≡ true
 unfolding clap_on_literals
@@ -19,22 +28,18 @@ pub program_is_free : is_simple_and_free program ≡ true
 unfolding clap_on_literals
 program_is_free = refl
 
--- the word of a task enters its subcommand, and is taken
-pub entered : (t : Task) (name : Text) → option_map (λ p. p.0) (subcommand_of program (name ∷ task_word t ∷ [])) ≡ Some (task_word t)
+-- the word of a task enters its subcommand, without a fault
+word_enters : (t : Task) (name : Text) → HasTick (Some nanosecond) t → Enters t (name ∷ task_word t ∷ [])
 unfolding clap_on_literals
-entered Merge name = refl
-entered Horizon name = refl
-entered Check name = refl
-entered Records name = refl
-entered Run name = refl
+word_enters Merge name h = (refl, tt, refl)
+word_enters Horizon name h = (refl, tt, refl)
+word_enters Check name h = (refl, tt, refl)
+word_enters Records name h = (refl, tt, refl)
+word_enters Run name h = (refl, tt, refl)
+word_enters (Candump tick) name h = (refl, h, refl)
 
-pub taken : (t : Task) (name : Text) → takes program (name ∷ task_word t ∷ []) ≡ true
-unfolding clap_on_literals
-taken Merge name = refl
-taken Horizon name = refl
-taken Check name = refl
-taken Records name = refl
-taken Run name = refl
+names_enters : (t : Task) (words : List Text) → NamesTask t words → Enters t words
+names_enters t words n = subst (λ ws. Enters t ws) (sym n.2) (word_enters t n.0 n.1)
 
 -- the name of the subcommand that was entered stands in front of its rows
 pub name_in_front : {Z : Type 0} (o : Option (Box SubCommand Z))
@@ -42,7 +47,55 @@ pub name_in_front : {Z : Type 0} (o : Option (Box SubCommand Z))
 name_in_front None = refl
 name_in_front (Some b) = refl
 
--- an error that was handed on is the one that was given
-pub of_given : {T E : Type 0} (r : Result T E) (given : E) (P : E → Type 0) → IsErrAnd r (λ e. e ≡ given) → P given → IfErr r P
-of_given (Ok x) given P is h = absurd is
-of_given (Err e) given P is h = subst P (sym is) h
+-- the tick of an option, by its text
+pub tick_text : (f : Found) → tick_among (rows_of f) ≡ option_and_then read_tick (first_value f (codes "tick"))
+tick_text f = ap (option_and_then read_tick) (sym (first_value-rows f (codes "tick")))
+
+-- which task has a word, by its first letter and its length, and a tick
+task_by : Tick → ℕ → Task
+task_by tick n =
+    if n == 114 then Merge else (if n == 111 then Horizon else (if n == 104 then Check else (if n == 121 then Records else (if n == 106 then Candump tick else Run))))
+
+task_at : Option Tick → Option Text → Task
+task_at given None = Run
+task_at given (Some w) = task_by (unwrap_or given nanosecond) (slice_index w 0 + length w)
+
+task_at_word : (given : Option Tick) (t : Task) → HasTick given t → task_at given (Some (task_word t)) ≡ t
+unfolding task_at task_by
+task_at_word given Merge h = refl
+task_at_word given Horizon h = refl
+task_at_word given Check h = refl
+task_at_word given Records h = refl
+task_at_word given Run h = refl
+task_at_word given (Candump tick) h = ap (λ o. Candump (unwrap_or o nanosecond)) h
+
+-- words enter at most one task
+one_task : (t u : Task) (words : List Text) → Enters t words → Enters u words → u ≡ t
+one_task t u words h g =
+    sym (task_at_word (entered_tick words) u g.1)
+    ∙ (ap (task_at (entered_tick words)) (sym g.0 ∙ h.0) ∙ task_at_word (entered_tick words) t h.1)
+
+module _ {S T : Type 0} (gives : S → Answer → S → Type 0) (takes : T → Answer → T → Type 0) where
+  -- want of memory before anything is read or written
+  does_nothing : (s s' : S) (t t' : T) (task : Task) → t' ≡ t → Does gives takes s s' t t' task (Err run.Memory)
+  does_nothing s s' t t' Merge h = h
+  does_nothing s s' t t' Horizon h = h
+  does_nothing s s' t t' Check h = h
+  does_nothing s s' t t' Records h = h
+  does_nothing s s' t t' Run h = h
+  does_nothing s s' t t' (Candump tick) h = h
+
+  -- the task that was read is the one that the words name
+  pub named_is_done : (s s' : S) (t t' : T) (words : List Text) (read task : Task) (r : Result (Unit {0}) RunFault) → Enters read words
+      → NamesTask task words → Does gives takes s s' t t' read r → Does gives takes s s' t t' task r
+  named_is_done s s' t t' words read task r enters named done =
+      subst (λ k. Does gives takes s s' t t' k r) (sym (one_task read task words enters (names_enters task words named))) done
+
+  -- words that name a task are refused for want of memory alone
+  pub named_is_refused : (s s' : S) (t t' : T) (words : List Text) (refusal : Refusal) (task : Task) (status : ℕ) → ReadsTask words (Err refusal)
+      → NamesTask task words → EndsRefused gives takes s s' t t' refusal status → EndsTask gives takes s s' t t' task status
+  named_is_refused s s' t t' words Words task status none named h = absurd (none task (names_enters task words named))
+  named_is_refused s s' t t' words Memory task status none named h = (Err run.Memory, does_nothing s s' t t' task h.1, h.2)
+
+pub of_ok : {A E : Type 0} (r : Result A E) (x : A) (P : A → Type 0) → r ≡ Ok x → P x → IfOk r P
+of_ok r x P is h = subst (λ r. IfOk r P) (sym is) h

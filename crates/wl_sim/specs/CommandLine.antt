@@ -1,9 +1,12 @@
 -- The words of the command line (this project's profile).
-use Rattle.std.specs.Prelude.{◌≡◌, true, List, [], ◌∷◌, codes}
-use Rattle.clap.specs.Words.{App, Text, new_app, with_subcommand}
+use Rattle.std.specs.Prelude.{◌≡◌, true, List, [], ◌∷◌, codes, Option, Some, option_and_then, option_map}
+use Rattle.clap.specs.Words.{App, Row, Rule, Text, first_of, new_app, new_rule, with_rule, with_subcommand, subcommand_of, fault_of}
 use Rattle.clap.specs.Simple.{on_top}
 use Rattle.wl_sim.specs.declared.command.Task.{Task}
-use Rattle.wl_sim.specs.declared.command.Task.TheVariants.{Merge, Horizon, Check, Records, Run}
+use Rattle.wl_sim.specs.declared.command.Task.TheVariants.{Merge, Horizon, Check, Records, Run, Candump}
+use Rattle.wl_views.specs.declared.tick.Tick.{Tick}
+use Rattle.wl_views.specs.declared.tick.TimeUnit.TheVariants.{Nanosecond}
+use Rattle.wl_views.specs.Ticks.{read_tick}
 
 -- the word of a task
 abbrev pub task_word : Task → Text
@@ -12,18 +15,56 @@ task_word Horizon = codes "horizon"
 task_word Check = codes "check"
 task_word Records = codes "records"
 task_word Run = codes "run"
+task_word (Candump tick) = codes "candump"
 
 -- a command with one subcommand more, which has no arguments
 abbrev pub with_task : App → Task → App
 with_task a t = with_subcommand a (new_app (task_word t)).top
 
+-- the option `--tick`, which is `1ns` where it isn't given
+abbrev pub tick_rule : Rule
+tick_rule = record (new_rule (codes "tick")) { long = Some (codes "tick"); value_names = 1; defaults = codes "1ns" ∷ [] }
+
+-- the subcommand that logs frames
+abbrev pub logger : App
+logger = with_rule (new_app (codes "candump")) tick_rule
+
 -- the program's command line: one of the tasks has to be named
 abbrev pub program : App
 program =
-    with_task (with_task (with_task (with_task (with_task
+    with_subcommand (with_task (with_task (with_task (with_task (with_task
     (on_top (λ s. record s { subcommand_required = true }) (new_app (codes "wl_sim")))
-    Merge) Horizon) Check) Records) Run
+    Merge) Horizon) Check) Records) Run) logger.top
 
--- the program's own name, and behind it the word of the task alone
+-- the subcommand that clap enters at these words
+abbrev pub entered_word : List Text → Option Text
+entered_word words = option_map (λ p. p.0) (subcommand_of program words)
+
+-- the tick that a subcommand's option gives
+abbrev pub tick_among : List Row → Option Tick
+tick_among rows = option_and_then read_tick (first_of (codes "tick") rows)
+
+-- that of the subcommand that clap enters at these words
+abbrev pub entered_tick : List Text → Option Tick
+entered_tick words = option_and_then tick_among (option_map (λ p. p.1) (subcommand_of program words))
+
+-- a task that has a tick has this one
+abbrev pub HasTick : Option Tick → Task → Type 0
+HasTick given (Candump tick) = given ≡ Some tick
+HasTick given Merge = Unit {0}
+HasTick given Horizon = Unit {0}
+HasTick given Check = Unit {0}
+HasTick given Records = Unit {0}
+HasTick given Run = Unit {0}
+
+-- clap enters the task's subcommand at these words, with the task's tick where it has one, and finds no fault in them
+abbrev pub Enters : Task → List Text → Type 0
+Enters t words = (entered_word words ≡ Some (task_word t)) × HasTick (entered_tick words) t × (fault_of program words ≡ [])
+
+-- a tick is a nanosecond where the words say nothing of it
+abbrev pub nanosecond : Tick
+nanosecond = record { count = 1; unit = Nanosecond }
+
+-- the program's own name, and behind it the word of the task alone: clap enters the task there
 abbrev pub NamesTask : Task → List Text → Type 0
-NamesTask t words = (name : Text) × (words ≡ name ∷ task_word t ∷ [])
+NamesTask t words = (name : Text) × HasTick (Some nanosecond) t × (words ≡ name ∷ task_word t ∷ [])

@@ -1,13 +1,16 @@
 //! The command line.
-ghost use Rattle.std.specs.Prelude.{◌≡◌, [], map, string_bytes, IfOk, IfErr, Some, option_map};
-ghost use Rattle.clap.specs.Words.{app_of, fault_of, kind_of};
-ghost use Rattle.wl_sim.specs.CommandLine.{program, task_word, NamesTask};
+ghost use Rattle.std.specs.Prelude.{◌≡◌, ◌≢◌, ◌↔◌, map, string_bytes, IfOk, IfErr, false, Some, option_and_then, option_map};
+ghost use Rattle.clap.specs.Words.{app_of, found_of, kind_of, rows_of, rule_of, subcommand_rows_of};
+ghost use Rattle.clap.specs.declared.builder.command.Command.TheViews.{out-Command};
+ghost use Rattle.wl_sim.specs.CommandLine.{logger, program, task_word, tick_among, tick_rule, Enters, HasTick};
+ghost use Rattle.wl_sim.specs.Tasks.{ReadsTask};
 
 use clap::error::ErrorKind;
-use clap::{Command, Error};
-use std::alloc::Global;
+use clap::{Arg, ArgMatches, Command, Error};
+use std::alloc::{AllocError, Global};
 use std::io;
 use std::rt::Env;
+use wl_views::Tick;
 
 /// What the program is asked to do.
 #[derive(Clone, Copy, Debug, PartialEq, Eq)]
@@ -22,6 +25,8 @@ pub enum Task {
     Records,
     /// The report of a plan's simulation.
     Run,
+    /// The log of the frames that a plan's simulation sends, at ticks that take so long.
+    Candump(Tick),
 }
 
 /// Why no task could be read from the command line.
@@ -31,6 +36,28 @@ pub enum Refusal {
     Words,
     /// Want of memory.
     Memory,
+}
+
+/// The option that says how long a tick takes.
+fn tick_option<'a>(alloc: Global) -> Arg<'a>
+    ensures rule { rule_of result ≡ tick_rule }
+    ensures local { result.global ≡ false }
+{
+    Arg::new(alloc, "tick")
+        .long("tick")
+        .value_name("TIME")
+        .help("How long a tick of the plan takes: 1 to 999 and ps, ns or us, as 125ps")
+        .default_value("1ns")
+}
+
+/// The subcommand that logs frames.
+fn candump<'a>(alloc: Global) -> Result<Command<'a>, AllocError>
+    ensures app { IfOk result (λ sub. app_of sub ≡ logger) }
+    ensures local { IfOk result (λ sub. (out-Command sub).has_globals ≡ false) }
+{
+    Command::new(alloc, "candump")
+        .about("Simulates the plan, and writes the frames that were sent as can-utils logs them")
+        .arg(tick_option(alloc))
 }
 
 /// The subcommands, each with one line of help.
@@ -48,7 +75,7 @@ fn command<'a>(alloc: Global) -> Result<Command<'a>, Error>
         "Tests the plan, and writes what its bit segments allow and how long its cable takes",
     );
     let records = Command::new(alloc, "records").about(
-        "Simulates the plan, and writes each change of the line and the silence behind it",
+        "Simulates the plan, and writes each change of the line and the silence after it",
     );
     let run = Command::new(alloc, "run").about(
         "Simulates the plan, and writes the report of its nodes and frames",
@@ -60,64 +87,102 @@ fn command<'a>(alloc: Global) -> Result<Command<'a>, Error>
         .subcommand(horizon)?
         .subcommand(check)?
         .subcommand(records)?
-        .subcommand(run)?;
+        .subcommand(run)?
+        .subcommand(candump(alloc)?)?;
     Ok(all)
 }
 
-/// The task of a subcommand, by its name.
-fn task_named(name: Option<&str>) -> Task
-    ensures { (wanted : Task) → option_map (λ s. s.now) name.entry ≡ Some (task_word wanted) → result ≡ wanted }
+/// The tick that a subcommand's option gives.
+#[tactic(auto, using(crate::proofs::Words::tick_text))]
+fn tick_in(matches: &ArgMatches) -> Option<Tick>
+    ensures { result ≡ tick_among (rows_of (found_of matches.now)) }
 {
-    match name {
-        Some("horizon") => Task::Horizon,
-        Some("check") => Task::Check,
-        Some("records") => Task::Records,
-        Some("run") => Task::Run,
-        Some(_) | None => Task::Merge,
+    match matches.get_str("tick") {
+        Some(text) => Tick::from_text(text.as_bytes()),
+        None => None,
     }
 }
 
-/// The task that these words name, the program's own name first.
-fn task_of(alloc: Global, words: &[String]) -> Result<Task, Error>
-    ensures task { IfOk result (λ task. (wanted : Task) → NamesTask wanted (map string_bytes words.now) → task ≡ wanted) }
-    ensures fault { IfOk result (λ task. fault_of program (map string_bytes words.now) ≡ []) }
-    ensures memory { IfErr result (λ e. (wanted : Task) → NamesTask wanted (map string_bytes words.now) → kind_of e ≡ ErrorKind.OutOfMemory) }
+/// The tick that the option of the subcommand gives, where it has one.
+fn tick_of_subcommand(matches: &ArgMatches) -> Option<Tick>
+    ensures { result ≡ option_and_then tick_among (option_map (λ p. p.1) (subcommand_rows_of matches.now)) }
+{
+    match matches.subcommand() {
+        Some((_, sub)) => tick_in(sub),
+        None => None,
+    }
+}
+
+/// The task of a subcommand, by its name and by its tick where it has one.
+fn task_named(name: Option<&str>, tick: Option<Tick>) -> Option<Task>
+    ensures { (task : Task) → (result ≡ Some task)
+        ↔ ((option_map (λ s. s.now) name.entry ≡ Some (task_word task)) × HasTick tick task) }
+{
+    match name? {
+        "merge" => Some(Task::Merge),
+        "horizon" => Some(Task::Horizon),
+        "check" => Some(Task::Check),
+        "records" => Some(Task::Records),
+        "run" => Some(Task::Run),
+        "candump" => Some(Task::Candump(tick?)),
+        _ => None,
+    }
+}
+
+/// The task that these words name, the program's own name first; an error that isn't out of memory is what clap says to them.
+fn task_of(alloc: Global, words: &[String]) -> Result<Option<Task>, Error>
+    ensures task { IfOk result (λ found. (task : Task)
+        → (found ≡ Some task) ↔ Enters task (map string_bytes words.now)) }
+    ensures memory { IfErr result (λ e. (task : Task) → Enters task (map string_bytes words.now)
+        → kind_of e ≡ ErrorKind.OutOfMemory) }
 {
     let matches = command(alloc)?.try_get_matches_from(words)?;
-    Ok(task_named(matches.subcommand_name()))
+    let tick = tick_of_subcommand(&matches);
+    Ok(task_named(matches.subcommand_name(), tick))
 }
 
-/// Reads the command line. A refusal's text goes to standard error, help too.
-pub fn read<R: Env + AllocGlobal + Eprint>(rt: &R) -> Result<Task, Refusal> {
-    let words: Vec<String> = match std::env::args(rt) {
-        Ok(words) => match words.collect(rt.alloc()) {
-            Ok(words) => words,
-            Err(_) => return Err(Refusal::Memory),
-        },
-        Err(error) => {
-            if error.kind() == io::ErrorKind::OutOfMemory {
-                return Err(Refusal::Memory);
-            }
-            let _ = eprintln!(rt; "error: the arguments are no text");
-            return Err(Refusal::Words);
-        }
-    };
-    match task_of(rt.alloc(), words.as_slice()) {
-        Ok(task) => Ok(task),
-        Err(error) => {
-            if error.kind() == ErrorKind::OutOfMemory {
-                return Err(Refusal::Memory);
-            }
-            let _ = rt.eprint(error);
+/// Why words that clap refused with this kind of error name no task.
+fn refusal_of(kind: ErrorKind) -> Refusal
+    ensures memory { kind ≡ ErrorKind.OutOfMemory → result ≡ Refusal.Memory }
+    ensures words { kind ≢ ErrorKind.OutOfMemory → result ≡ Refusal.Words }
+{
+    if kind == ErrorKind::OutOfMemory {
+        Refusal::Memory
+    } else {
+        Refusal::Words
+    }
+}
+
+/// The task that the words name, the program's own name first. What is wrong with them goes to standard error, help too;
+/// that this text goes out is said by no clause, since none can speak of standard error.
+pub fn read(rt: &impl Eprint, alloc: Global, words: &[String]) -> Result<Task, Refusal>
+    ensures { ReadsTask (map string_bytes words.now) result }
+{
+    match task_of(alloc, words) {
+        Ok(Some(task)) => Ok(task),
+        Ok(None) => {
+            let _ = eprintln!(rt; "error: --tick wants 1 to 999 and ps, ns or us, as 125ps");
             Err(Refusal::Words)
         }
+        Err(error) => {
+            let refusal = refusal_of(error.kind());
+            let _ = rt.eprint(error);
+            Err(refusal)
+        }
     }
+}
+
+/// The words of the command line, the program's own name first.
+pub fn words_of<R: Env + AllocGlobal>(rt: &R) -> io::Result<Vec<String>> {
+    let words = std::env::args(rt)?;
+    Ok(words.collect(rt.alloc())?)
 }
 
 #[cfg(test)]
 mod tests {
     use super::{Task, task_of};
     use std::test::Fail;
+    use wl_views::{Tick, TimeUnit};
 
     /// Words behind the program's name, and what they name.
     const ROWS: [(&str, Option<Task>); 10] = [
@@ -141,7 +206,29 @@ mod tests {
         for (word, wanted) in ROWS {
             let program = String::from_str(alloc, "wl_sim")?;
             let words = [program, String::from_str(alloc, word)?];
-            assert_eq!(rt; task_of(alloc, &words).ok(), wanted);
+            assert_eq!(rt; task_of(alloc, &words).ok().flatten(), wanted);
+        }
+        Ok(())
+    }
+
+    #[test]
+    fn a_tick(rt: HostRuntime) -> Result<(), Fail> {
+        let alloc = rt.alloc();
+        for (text, count) in [("125ps", Some(125)), ("125", None)] {
+            let program = String::from_str(alloc, "wl_sim")?;
+            let words = [
+                program,
+                String::from_str(alloc, "candump")?,
+                String::from_str(alloc, "--tick")?,
+                String::from_str(alloc, text)?,
+            ];
+            let wanted = count.map(|count| {
+                Task::Candump(Tick {
+                    count,
+                    unit: TimeUnit::Picosecond,
+                })
+            });
+            assert_eq!(rt; task_of(alloc, &words).ok().flatten(), wanted);
         }
         Ok(())
     }

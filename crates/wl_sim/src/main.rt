@@ -4,34 +4,28 @@
 //! output. `merge` and `horizon` read a record text: the one writes the canonical text of the replica that its records make, the
 //! other what that replica tells of each node, and up to when. `check`, `records` and `run` read a plan text: the first writes what
 //! the bit segments allow and how long the cable takes, the second the records of the plan's simulation, the third its report.
+//! `candump` reads a plan text too, and writes the frames that were sent as can-utils logs them.
 #![tactic(auto)]
 
-ghost use Rattle.std.specs.Prelude.{◌≡◌};
+ghost use Rattle.std.specs.Prelude.{◌≡◌, ◌≢◌, map, string_bytes, IfOk, IfErr};
+ghost use Rattle.std.specs.IoError.{error_kind};
 ghost use Rattle.std.specs.Process.{exit_status};
-ghost use Rattle.wl_sim.specs.Tasks.{Does, run_status, refusal_status};
+ghost use Rattle.wl_sim.specs.declared.command.Task.{Task};
+ghost use Rattle.wl_sim.specs.CommandLine.{NamesTask};
+ghost use Rattle.wl_sim.specs.Tasks.{Does, EndsTask, EndsRefused, RunsWords, run_status, refusal_status};
 
 use std::alloc::Global;
+use std::io;
+use std::io::ErrorKind;
 use std::process::ExitCode;
-use wl_record::{Host, Sink, Source};
+use wl_device::{Host, Sink, Source};
 
-mod check;
 mod command;
-mod fault;
-mod gather;
-mod horizon;
-mod merge;
-mod plan;
-mod records;
-#[cfg(test)]
-mod tests;
 
-pub use check::check_run;
 pub use command::{Refusal, Task};
-pub use fault::RunFault;
-pub use horizon::horizon_run;
-pub use merge::{merge_run, merges_as_one};
-pub use plan::plan_run;
-pub use records::records_run;
+pub use wl_engines::{
+    RunFault, candump_run, check_run, horizon_run, merge_run, merges_as_one, plan_run, records_run,
+};
 
 /// The statuses that the program ends with beside 0.
 const REFUSED_INPUT: u8 = 1;
@@ -40,16 +34,56 @@ const REFUSED_COMMAND: u8 = 2;
 
 const BROKEN: u8 = 3;
 
-/// Reads the command line, then runs the task over standard input and output.
+/// Hands the words of the command line, standard input and standard output to `run_words`, whose answer is the program's status.
+/// That these are handed on, and that the answer is the status, is said by no clause: none can speak of a program's devices.
 fn main(rt: HostRuntime) -> ExitCode {
-    let task = match command::read(&rt) {
-        Ok(task) => task,
-        Err(refusal) => return refused(&rt, refusal),
-    };
+    let words = command::words_of(&rt);
     let mut reader = Host::new(rt.stdin());
     let mut writer = Host::new(rt.stdout());
-    let answer = run(rt.alloc(), task, &mut reader, &mut writer);
-    ended(&rt, answer)
+    run_words(&rt, rt.alloc(), words, &mut reader, &mut writer)
+}
+
+/// Does what the words ask for: runs the engine of the task that they name, over the reader and the writer. Words that name no
+/// task, or that the system doesn't give, call neither of the two.
+fn run_words<R: Source, W: Sink>(
+    rt: &impl Eprint,
+    alloc: Global,
+    words: io::Result<Vec<String>>,
+    reader: &mut R,
+    writer: &mut W,
+) -> ExitCode
+    ensures words { IfOk words (λ given. RunsWords R.gives W.takes reader.old reader.new writer.old writer.new
+        (map string_bytes given.items) (exit_status result)) }
+    ensures named { IfOk words (λ given. (task : Task) → NamesTask task (map string_bytes given.items)
+        → EndsTask R.gives W.takes reader.old reader.new writer.old writer.new task (exit_status result)) }
+    ensures memory { IfErr words (λ error. error_kind error ≡ ErrorKind.OutOfMemory
+        → EndsRefused R.gives W.takes reader.old reader.new writer.old writer.new Refusal.Memory (exit_status result)) }
+    ensures unread { IfErr words (λ error. error_kind error ≢ ErrorKind.OutOfMemory
+        → EndsRefused R.gives W.takes reader.old reader.new writer.old writer.new Refusal.Words (exit_status result)) }
+{
+    let words = match words {
+        Ok(words) => words,
+        Err(error) => {
+            let _ = eprintln!(rt; "error: the arguments can't be read");
+            return refused(rt, unread(&error));
+        }
+    };
+    match command::read(rt, alloc, words.as_slice()) {
+        Ok(task) => ended(rt, run(alloc, task, reader, writer)),
+        Err(refusal) => refused(rt, refusal),
+    }
+}
+
+/// Why words that the system didn't give name no task.
+fn unread(error: &io::Error) -> Refusal
+    ensures memory { error_kind error.now ≡ ErrorKind.OutOfMemory → result ≡ Refusal.Memory }
+    ensures words { error_kind error.now ≢ ErrorKind.OutOfMemory → result ≡ Refusal.Words }
+{
+    if error.kind() == ErrorKind::OutOfMemory {
+        Refusal::Memory
+    } else {
+        Refusal::Words
+    }
 }
 
 /// Runs the engine of a task.
@@ -67,6 +101,7 @@ fn run<R: Source, W: Sink>(
         Task::Check => check_run(alloc, reader, writer),
         Task::Records => records_run(alloc, reader, writer),
         Task::Run => plan_run(alloc, reader, writer),
+        Task::Candump(tick) => candump_run(alloc, tick, reader, writer),
     }
 }
 

@@ -4,12 +4,12 @@ use Rattle.std.specs.Prelude.{◌==◌, nat_lt, ◌||◌}
 use Rattle.std.proofs.Math.ListN.{get_or-append}
 use Rattle.std.proofs.Math.Seq.{get_or-append_seam}
 use Rattle.std.proofs.lemmas.Bool.{ltb-true, eqb-false, lt-ltb, le-ltb, eq-eqb, ne_eqb, and_right, and_parts, both_ways, not-true, cases_order}
-use Rattle.wl_intervals.specs.declared.Level.{Level}
-use Rattle.wl_intervals.specs.Places.{or_at, first_place, is_at}
-use Rattle.wl_intervals.proofs.FirstPlace.{first_cong, first_not, or_at_here, or_at_cond}
+use Rattle.wl_level.specs.declared.Level.{Level}
+use Rattle.wl_level.specs.Places.{or_at, first_place, is_found_at}
+use Rattle.wl_level.proofs.Callers.{first_cong, first_not, or_at_here, or_at_cond}
 use Rattle.wl_segments.specs.Lengths.{Lengths, sample_at}
 use Rattle.wl_sync.specs.Edges.{Seen, edge_counts, edge_restarts, phase_error, longer_by, shorter_by}
-use Rattle.wl_sync.specs.Bits.{Bit, unseen, seen_at, level_before, sample_before, is_edge, sync_place, sample_place, end_place, last_level, last_sample, opened, due, longer, is_sync, is_restart, placed, bit_after, bit_of, beat_at, sync_at, beat_of, sync_of}
+use Rattle.wl_sync.specs.Bits.{Bit, unseen, seen_at_place, previous_level, sample_before, is_edge, sync_place, sample_place, end_place, last_level, last_sample, opened, due_bit, longer, is_sync, is_restart, placed, bit_after, bit_of, beat_at, sync_at, beat_of, sync_of}
 use Rattle.wl_sync.specs.Running.{Running, running, clock_after}
 use Rattle.wl_sync.specs.Steps.{running_due, running_sync, running_restart, running_placed, running_after, running_beat, running_answer}
 use Rattle.wl_sync.specs.declared.Sync.TheVariants.{Hard, Error}
@@ -32,15 +32,13 @@ none_from : (o : Option ℕ) → not (is_some o) ≡ true → o ≡ None
 none_from None h = refl
 none_from (Some k) h = cc
 
-longer_cond : (l : Lengths) (b : Bool) (n : ℕ) (o : Option ℕ) → (b ≡ true → o ≡ None)
-    → longer_by l (cond b (Some n) o) ≡ cond (b && nat_lt n (sample_at l)) (min n l.sjw) (longer_by l o)
-longer_cond l true n o h = ap (cond (nat_lt n (sample_at l)) (min n l.sjw)) (sym (ap (longer_by l) (h refl)))
-longer_cond l false n o h = refl
+longer_cond : (l : Lengths) (b : Bool) (n : ℕ) (o : Option ℕ) → longer_by l (cond b (Some n) o) ≡ cond b (longer_by l (Some n)) (longer_by l o)
+longer_cond l true n o = refl
+longer_cond l false n o = refl
 
-shorter_cond : (l : Lengths) (b : Bool) (n : ℕ) (o : Option ℕ) → (b ≡ true → o ≡ None)
-    → shorter_by l (cond b (Some n) o) ≡ cond (b && nat_lt (sample_at l) n) l.sjw (shorter_by l o)
-shorter_cond l true n o h = ap (cond (nat_lt (sample_at l) n) l.sjw) (sym (ap (shorter_by l) (h refl)))
-shorter_cond l false n o h = refl
+shorter_cond : (l : Lengths) (b : Bool) (n : ℕ) (o : Option ℕ) → shorter_by l (cond b (Some n) o) ≡ cond b (shorter_by l (Some n)) (shorter_by l o)
+shorter_cond l true n o = refl
+shorter_cond l false n o = refl
 
 some_cond : (b : Bool) (n : ℕ) (o : Option ℕ) → is_some (cond b (Some n) o) ≡ (b || is_some o)
 some_cond true n o = refl
@@ -59,16 +57,16 @@ sync_false : (l : Lengths) (bit : Bit) → bit.opening.synced ≡ false → sync
 sync_false l bit e = ap (λ b. cond b (Some 0) (first_place (is_edge l bit) (length bit.seen))) e
 
 module _ (l : Lengths) (bit : Bit) (x : Seen) where
-  at_new : seen_at (longer bit x) (length bit.seen) ≡ x
+  at_new : seen_at_place (longer bit x) (length bit.seen) ≡ x
   at_new = get_or-append_seam bit.seen x [] unseen
 
-  at_old : (k : ℕ) → k < length bit.seen → seen_at (longer bit x) k ≡ seen_at bit k
+  at_old : (k : ℕ) → k < length bit.seen → seen_at_place (longer bit x) k ≡ seen_at_place bit k
   at_old k h = get_or-append bit.seen (x ∷ []) unseen k h
 
   quanta_more : length (longer bit x).seen ≡ suc (length bit.seen)
   quanta_more = length-append bit.seen (x ∷ []) ∙ add-one (length bit.seen)
 
-  before_old : (k : ℕ) → k ≤ length bit.seen → level_before (longer bit x) k ≡ level_before bit k
+  before_old : (k : ℕ) → k ≤ length bit.seen → previous_level (longer bit x) k ≡ previous_level bit k
   before_old k h =
       cond_else (k == 0) _ _ _ (λ e. let ne : k ≡ 0 → ⊥ = eqb-false k 0 e in ap (λ s. s.level) (at_old (k - 1) (omega arith)))
 
@@ -78,13 +76,13 @@ module _ (l : Lengths) (bit : Bit) (x : Seen) where
 
   edge_old : (k : ℕ) → k < length bit.seen → is_edge l (longer bit x) k ≡ is_edge l bit k
   edge_old k h =
-      ap (λ s. edge_counts l s (level_before (longer bit x) k) (sample_before l (longer bit x) k) k) (at_old k h)
-      ∙ ap (λ b. edge_counts l (seen_at bit k) b (sample_before l (longer bit x) k) k) (before_old k (omega arith))
-      ∙ ap (λ b. edge_counts l (seen_at bit k) (level_before bit k) b k) (sample_old k (omega arith))
+      ap (λ s. edge_counts l s (previous_level (longer bit x) k) (sample_before l (longer bit x) k) k) (at_old k h)
+      ∙ ap (λ b. edge_counts l (seen_at_place bit k) b (sample_before l (longer bit x) k) k) (before_old k (omega arith))
+      ∙ ap (λ b. edge_counts l (seen_at_place bit k) (previous_level bit k) b k) (sample_old k (omega arith))
 
   edge_new : is_edge l (longer bit x) (length bit.seen) ≡ edge_counts l x (last_level bit) (sample_before l bit (length bit.seen)) (length bit.seen)
   edge_new =
-      ap (λ s. edge_counts l s (level_before (longer bit x) (length bit.seen)) (sample_before l (longer bit x) (length bit.seen)) (length bit.seen)) at_new
+      ap (λ s. edge_counts l s (previous_level (longer bit x) (length bit.seen)) (sample_before l (longer bit x) (length bit.seen)) (length bit.seen)) at_new
       ∙ ap (λ b. edge_counts l x b (sample_before l (longer bit x) (length bit.seen)) (length bit.seen)) (before_old (length bit.seen) (omega arith))
       ∙ ap (λ b. edge_counts l x (last_level bit) b (length bit.seen)) (sample_old (length bit.seen) (omega arith))
 
@@ -118,12 +116,12 @@ module _ (l : Lengths) (bit : Bit) (x : Seen) where
       ∙ ap (λ b. cond b (Some (length bit.seen)) (sync_place l bit)) (edge_is (sync_place l bit) refl)
 
   sync_is : (b : Bool) → bit.opening.synced ≡ b → is_sync l bit x ≡ running_sync (running l bit) x
-  sync_is true e = ap (λ b. not b && is_at (sync_place l (longer bit x)) (length bit.seen)) e ∙ sym (sync_once e)
+  sync_is true e = ap (λ b. not b && is_found_at (sync_place l (longer bit x)) (length bit.seen)) e ∙ sym (sync_once e)
   sync_is false e =
-      ap (λ b. not b && is_at (sync_place l (longer bit x)) (length bit.seen)) e
-      ∙ ap (λ o. is_at o (length bit.seen)) (place_free e)
+      ap (λ b. not b && is_found_at (sync_place l (longer bit x)) (length bit.seen)) e
+      ∙ ap (λ o. is_found_at o (length bit.seen)) (place_free e)
       ∙ or_at_here (sync_place l bit) _ (length bit.seen)
-      (ap (λ o. is_at o (length bit.seen)) (sync_false l bit e) ∙ first_not (is_edge l bit) (length bit.seen) (length bit.seen) (omega arith))
+      (ap (λ o. is_found_at o (length bit.seen)) (sync_false l bit e) ∙ first_not (is_edge l bit) (length bit.seen) (length bit.seen) (omega arith))
       ∙ edge_is (sync_place l bit) refl
 
   is_sync_is : is_sync l bit x ≡ running_sync (running l bit) x
@@ -134,17 +132,17 @@ module _ (l : Lengths) (bit : Bit) (x : Seen) where
 
   level_new : last_level (longer bit x) ≡ x.level
   level_new =
-      ap (level_before (longer bit x)) quanta_more
-      ∙ ap (λ b. cond b bit.opening.level (seen_at (longer bit x) (suc (length bit.seen) - 1)).level) (ne_eqb (suc (length bit.seen)) 0 (λ e. omega arith))
-      ∙ ap (λ k. (seen_at (longer bit x) k).level) (let back : suc (length bit.seen) - 1 ≡ length bit.seen = omega arith in back)
+      ap (previous_level (longer bit x)) quanta_more
+      ∙ ap (λ b. cond b bit.opening.level (seen_at_place (longer bit x) (suc (length bit.seen) - 1)).level) (ne_eqb (suc (length bit.seen)) 0 (λ e. omega arith))
+      ∙ ap (λ k. (seen_at_place (longer bit x) k).level) (let back : suc (length bit.seen) - 1 ≡ length bit.seen = omega arith in back)
       ∙ ap (λ s. s.level) at_new
 
   -- the last sample after x, where the place of the sample stays
   sample_new : (p : ℕ)
-      → cond (nat_lt p (suc (length bit.seen))) (seen_at (longer bit x) p).level bit.opening.sample
-      ≡ cond (length bit.seen == p) x.level (cond (nat_lt p (length bit.seen)) (seen_at bit p).level bit.opening.sample)
+      → cond (nat_lt p (suc (length bit.seen))) (seen_at_place (longer bit x) p).level bit.opening.sample
+      ≡ cond (length bit.seen == p) x.level (cond (nat_lt p (length bit.seen)) (seen_at_place bit p).level bit.opening.sample)
   sample_new p = elim (cases_order (length bit.seen) p) [
-    | inl e ↦ (let at_p : seen_at (longer bit x) p ≡ x = ap (seen_at (longer bit x)) (sym e) ∙ at_new in
+    | inl e ↦ (let at_p : seen_at_place (longer bit x) p ≡ x = ap (seen_at_place (longer bit x)) (sym e) ∙ at_new in
         rw (lt-ltb p (suc (length bit.seen)) (omega arith), eq-eqb (length bit.seen) p e) (ap (λ s. s.level) at_p))
     | inr h ↦ elim h [
       | inl above ↦ rw (le-ltb p (suc (length bit.seen)) (omega arith), ne_eqb (length bit.seen) p (λ e. omega arith), le-ltb p (length bit.seen) (omega arith)) refl
@@ -154,8 +152,8 @@ module _ (l : Lengths) (bit : Bit) (x : Seen) where
 
   -- and where it moves from p to q, both still to come
   sample_moved : (p q : ℕ) → length bit.seen < p → length bit.seen < q
-      → cond (nat_lt q (suc (length bit.seen))) (seen_at (longer bit x) q).level bit.opening.sample
-      ≡ cond (length bit.seen == p) x.level (cond (nat_lt p (length bit.seen)) (seen_at bit p).level bit.opening.sample)
+      → cond (nat_lt q (suc (length bit.seen))) (seen_at_place (longer bit x) q).level bit.opening.sample
+      ≡ cond (length bit.seen == p) x.level (cond (nat_lt p (length bit.seen)) (seen_at_place bit p).level bit.opening.sample)
   sample_moved p q n_p n_q =
       rw (le-ltb q (suc (length bit.seen)) (omega arith), ne_eqb (length bit.seen) p (λ e. omega arith), le-ltb p (length bit.seen) (omega arith)) refl
 
@@ -171,7 +169,7 @@ module _ (l : Lengths) (bit : Bit) (x : Seen) where
 
   sample_step : (b : Bool) → running_sync (running l bit) x ≡ b
       → cond (nat_lt (sample_at l + longer_by l (cond b (Some (length bit.seen)) (sync_place l bit))) (suc (length bit.seen)))
-      (seen_at (longer bit x) (sample_at l + longer_by l (cond b (Some (length bit.seen)) (sync_place l bit)))).level bit.opening.sample
+      (seen_at_place (longer bit x) (sample_at l + longer_by l (cond b (Some (length bit.seen)) (sync_place l bit)))).level bit.opening.sample
       ≡ cond (length bit.seen == sample_place l bit) x.level (last_sample l bit)
   sample_step false h = sample_new (sample_place l bit)
   sample_step true h = elim (cases_order (length bit.seen) (sample_at l)) [
@@ -179,7 +177,7 @@ module _ (l : Lengths) (bit : Bit) (x : Seen) where
     | inr apart ↦ elim apart [
       | inl before ↦ sample_moved (sample_place l bit) (sample_at l + longer_by l (Some (length bit.seen))) (omega arith) (omega arith)
       | inr after ↦
-          ap (λ q. cond (nat_lt q (suc (length bit.seen))) (seen_at (longer bit x) q).level bit.opening.sample)
+          ap (λ q. cond (nat_lt q (suc (length bit.seen))) (seen_at_place (longer bit x) q).level bit.opening.sample)
           (ap (λ b. sample_at l + cond b (min (length bit.seen) l.sjw) 0) (le-ltb (length bit.seen) (sample_at l) (omega arith))
           ∙ ap (λ o. sample_at l + longer_by l o) (sym (sync_fresh h)))
           ∙ sample_new (sample_place l bit)
@@ -190,20 +188,20 @@ module _ (l : Lengths) (bit : Bit) (x : Seen) where
   stepped : running l (longer bit x) ≡ record {
     lengths = l;
     quanta = length bit.seen + 1;
-    longer = cond (running_sync (running l bit) x && nat_lt (length bit.seen) (sample_at l)) (min (length bit.seen) l.sjw) (longer_by l (sync_place l bit));
-    shorter = cond (running_sync (running l bit) x && nat_lt (sample_at l) (length bit.seen)) l.sjw (shorter_by l (sync_place l bit));
+    longer = cond (running_sync (running l bit) x) (longer_by l (Some (length bit.seen))) (longer_by l (sync_place l bit));
+    shorter = cond (running_sync (running l bit) x) (shorter_by l (Some (length bit.seen))) (shorter_by l (sync_place l bit));
     synced = running_sync (running l bit) x || is_some (sync_place l bit);
     level = x.level;
     sample = cond (length bit.seen == sample_place l bit) x.level (last_sample l bit);
   }
   stepped =
       same_running l (quanta_more ∙ sym (add-one (length bit.seen)))
-      (ap (longer_by l) (place_is bit.opening.synced refl) ∙ longer_cond l (running_sync (running l bit) x) (length bit.seen) (sync_place l bit) sync_fresh)
-      (ap (shorter_by l) (place_is bit.opening.synced refl) ∙ shorter_cond l (running_sync (running l bit) x) (length bit.seen) (sync_place l bit) sync_fresh)
+      (ap (longer_by l) (place_is bit.opening.synced refl) ∙ longer_cond l (running_sync (running l bit) x) (length bit.seen) (sync_place l bit))
+      (ap (shorter_by l) (place_is bit.opening.synced refl) ∙ shorter_cond l (running_sync (running l bit) x) (length bit.seen) (sync_place l bit))
       (ap is_some (place_is bit.opening.synced refl) ∙ some_cond (running_sync (running l bit) x) (length bit.seen) (sync_place l bit))
       level_new
-      (ap (λ n. cond (nat_lt (sample_place l (longer bit x)) n) (seen_at (longer bit x) (sample_place l (longer bit x))).level bit.opening.sample) quanta_more
-      ∙ ap (λ o. cond (nat_lt (sample_at l + longer_by l o) (suc (length bit.seen))) (seen_at (longer bit x) (sample_at l + longer_by l o)).level bit.opening.sample) (place_is bit.opening.synced refl)
+      (ap (λ n. cond (nat_lt (sample_place l (longer bit x)) n) (seen_at_place (longer bit x) (sample_place l (longer bit x))).level bit.opening.sample) quanta_more
+      ∙ ap (λ o. cond (nat_lt (sample_at l + longer_by l o) (suc (length bit.seen))) (seen_at_place (longer bit x) (sample_at l + longer_by l o)).level bit.opening.sample) (place_is bit.opening.synced refl)
       ∙ sample_step (running_sync (running l bit) x) refl)
 
   restarted : running l (longer (opened l bit true) x) ≡ record {
@@ -219,7 +217,7 @@ module _ (l : Lengths) (bit : Bit) (x : Seen) where
       same_running l refl (cond_min (nat_lt 0 (sample_at l)) l.sjw)
       (ap (λ b. cond b l.sjw 0) (le-ltb (sample_at l) 0 (omega arith)))
       refl refl
-      (ap (λ b. cond b (seen_at (longer (opened l bit true) x) (sample_at l + longer_by l (Some 0))).level (last_sample l bit)) (le-ltb (sample_at l + longer_by l (Some 0)) 1 (omega arith)))
+      (ap (λ b. cond b (seen_at_place (longer (opened l bit true) x) (sample_at l + longer_by l (Some 0))).level (last_sample l bit)) (le-ltb (sample_at l + longer_by l (Some 0)) 1 (omega arith)))
 
   placed_at : (b : Bool) → running l (longer (cond b (opened l bit true) bit) x)
       ≡ cond b
@@ -227,8 +225,8 @@ module _ (l : Lengths) (bit : Bit) (x : Seen) where
       (record {
         lengths = l;
         quanta = length bit.seen + 1;
-        longer = cond (running_sync (running l bit) x && nat_lt (length bit.seen) (sample_at l)) (min (length bit.seen) l.sjw) (longer_by l (sync_place l bit));
-        shorter = cond (running_sync (running l bit) x && nat_lt (sample_at l) (length bit.seen)) l.sjw (shorter_by l (sync_place l bit));
+        longer = cond (running_sync (running l bit) x) (longer_by l (Some (length bit.seen))) (longer_by l (sync_place l bit));
+        shorter = cond (running_sync (running l bit) x) (shorter_by l (Some (length bit.seen))) (shorter_by l (sync_place l bit));
         synced = running_sync (running l bit) x || is_some (sync_place l bit);
         level = x.level;
         sample = cond (length bit.seen == sample_place l bit) x.level (last_sample l bit);
@@ -251,21 +249,25 @@ due_cond : (l : Lengths) (bit : Bit) (b : Bool)
     ≡ cond b (record { lengths = l; quanta = 0; longer = 0; shorter = 0; synced = false; level = last_level bit; sample = last_sample l bit }) (running l bit)
 due_cond l bit true =
     same_running l refl refl refl refl refl
-    (ap (λ b. cond b (seen_at (opened l bit false) (sample_at l + 0)).level (last_sample l bit)) (le-ltb (sample_at l + 0) 0 (omega arith)))
+    (ap (λ b. cond b (seen_at_place (opened l bit false) (sample_at l + 0)).level (last_sample l bit)) (le-ltb (sample_at l + 0) 0 (omega arith)))
 due_cond l bit false = refl
 
-due_is : (l : Lengths) (bit : Bit) → running l (due l bit) ≡ running_due (running l bit)
+due_is : (l : Lengths) (bit : Bit) → running l (due_bit l bit) ≡ running_due (running l bit)
 due_is l bit = due_cond l bit (length bit.seen == end_place l bit)
+
+-- what is kept of a bit, one quantum later
+pub bit_next : (l : Lengths) (bit : Bit) (x : Seen) → running l (bit_after l bit x) ≡ running_after (running l bit) x
+bit_next l bit x = placed_is l (due_bit l bit) x ∙ ap (λ r. running_placed r x) (due_is l bit)
 
 -- the clock, one quantum later
 pub clock_next : (l : Lengths) (past : List Seen) (x : Seen) → clock_after l (past ++ x ∷ []) ≡ running_after (clock_after l past) x
 clock_next l past x =
     ap (running l) (fold_push (bit_after l) _ past x)
-    ∙ placed_is l (due l (bit_of l past)) x
+    ∙ placed_is l (due_bit l (bit_of l past)) x
     ∙ ap (λ r. running_placed r x) (due_is l (bit_of l past))
 
 pub beat_next : (l : Lengths) (past : List Seen) (x : Seen) → beat_of l past x ≡ running_beat (running_due (clock_after l past)) x
-beat_next l past x = beat_is l (due l (bit_of l past)) x ∙ ap (λ r. running_beat r x) (due_is l (bit_of l past))
+beat_next l past x = beat_is l (due_bit l (bit_of l past)) x ∙ ap (λ r. running_beat r x) (due_is l (bit_of l past))
 
 pub sync_next : (l : Lengths) (past : List Seen) (x : Seen) → sync_of l past x ≡ running_answer (running_due (clock_after l past)) x
-sync_next l past x = answer_is l (due l (bit_of l past)) x ∙ ap (λ r. running_answer r x) (due_is l (bit_of l past))
+sync_next l past x = answer_is l (due_bit l (bit_of l past)) x ∙ ap (λ r. running_answer r x) (due_is l (bit_of l past))

@@ -1,3 +1,4 @@
 mod Rows
-pub mod Cuts
-pub mod Remembered
+mod Ways
+mod Cuts
+mod Remembered

@@ -1,9 +1,9 @@
 -- How the list of what a node saw is cut into bits: where each is sampled, where it ends, and what synchronises it.
 -- Each is a function of the whole list of one bit; the cut goes on with the bit or begins the next one.
-use Rattle.std.specs.Prelude.{ℕ, ◌+◌, ◌-◌, ◌==◌, ◌&&◌, nat_lt, not, Bool, true, false, List, [], ◌∷◌, ◌++◌, length, fold, Option, Some, None, slice_index_or, if◌then◌else◌}
-use Rattle.wl_intervals.specs.declared.Level.{Level}
-use Rattle.wl_intervals.specs.declared.Level.TheVariants.{Recessive}
-use Rattle.wl_intervals.specs.Places.{first_place, is_at}
+use Rattle.std.specs.Prelude.{ℕ, suc, ◌+◌, ◌-◌, ◌==◌, ◌&&◌, nat_lt, nat_le, not, Bool, true, false, List, [], ◌∷◌, ◌++◌, length, fold, Option, Some, None, slice_index_or, if◌then◌else◌}
+use Rattle.wl_level.specs.declared.Level.{Level}
+use Rattle.wl_level.specs.declared.Level.TheVariants.{Recessive}
+use Rattle.wl_level.specs.Places.{first_place, is_found_at}
 use Rattle.wl_segments.specs.Lengths.{Lengths, sample_at}
 use Rattle.wl_sync.specs.declared.Sync.{Sync}
 use Rattle.wl_sync.specs.declared.Sync.TheVariants.{Hard, Error}
@@ -28,41 +28,49 @@ abbrev pub unseen : Seen
 unseen = record { level = Recessive; idle = false; driving = false }
 
 -- what was seen at place k of a bit
-abbrev pub seen_at : Bit → ℕ → Seen
-seen_at bit k = slice_index_or bit.seen k unseen
+abbrev pub seen_at_place : Bit → ℕ → Seen
+seen_at_place bit k = slice_index_or bit.seen k unseen
+
+-- How many quanta come up to place k, that one too, where some but not all of the places up to k are over: from the last quantum's place to k.
+abbrev pub quanta_up_to : ℕ → ℕ → Option ℕ
+quanta_up_to quanta k = if nat_lt 0 quanta && nat_le quanta k then Some (suc k - quanta) else None
 
 -- the level one quantum before place k
-abbrev pub level_before : Bit → ℕ → Level
-level_before bit k = if k == 0 then bit.opening.level else (seen_at bit (k - 1)).level
+abbrev pub previous_level : Bit → ℕ → Level
+previous_level bit k = if k == 0 then bit.opening.level else (seen_at_place bit (k - 1)).level
 
 -- the last sample before place k, in a bit that nothing moved before k
 abbrev pub sample_before : Lengths → Bit → ℕ → Level
-sample_before l bit k = if nat_lt (sample_at l) k then (seen_at bit (sample_at l)).level else bit.opening.sample
+sample_before l bit k = if nat_lt (sample_at l) k then (seen_at_place bit (sample_at l)).level else bit.opening.sample
 
 -- the edge at place k of a bit counts
 abbrev pub is_edge : Lengths → Bit → ℕ → Bool
-is_edge l bit k = edge_counts l (seen_at bit k) (level_before bit k) (sample_before l bit k) k
+is_edge l bit k = edge_counts l (seen_at_place bit k) (previous_level bit k) (sample_before l bit k) k
 
 -- the place at which a bit synchronised: one at most in a bit (Bosch CAN 2.0 part B, section 10, synchronization rule 1)
 abbrev pub sync_place : Lengths → Bit → Option ℕ
 sync_place l bit = if bit.opening.synced then Some 0 else first_place (is_edge l bit) (length bit.seen)
 
--- the place of the sample: behind SYNC_SEG, PROP_SEG and PHASE_SEG1 as it was lengthened (Bosch CAN 2.0 part B, section 10)
+-- the place of the sample: after SYNC_SEG, PROP_SEG and PHASE_SEG1 as it was lengthened (Bosch CAN 2.0 part B, section 10)
 abbrev pub sample_place : Lengths → Bit → ℕ
 sample_place l bit = sample_at l + longer_by l (sync_place l bit)
 
--- the place at which the bit is over: behind PHASE_SEG2 as it was shortened (Bosch CAN 2.0 part B, section 10)
+-- from the last quantum to the bit's sample, where it lies in the bit before it: as many quanta as come up to the sample, that one too
+abbrev pub before_sample : Lengths → Bit → Option ℕ
+before_sample l bit = quanta_up_to (length bit.seen) (sample_place l bit)
+
+-- the place at which the bit is over: after PHASE_SEG2 as it was shortened (Bosch CAN 2.0 part B, section 10)
 abbrev pub end_place : Lengths → Bit → ℕ
 end_place l bit = sample_place l bit + l.ps2 - shorter_by l (sync_place l bit)
 
 -- the last level that was seen up to now
 abbrev pub last_level : Bit → Level
-last_level bit = level_before bit (length bit.seen)
+last_level bit = previous_level bit (length bit.seen)
 
 -- the last sample up to now
 abbrev pub last_sample : Lengths → Bit → Level
 last_sample l bit =
-    if nat_lt (sample_place l bit) (length bit.seen) then (seen_at bit (sample_place l bit)).level else bit.opening.sample
+    if nat_lt (sample_place l bit) (length bit.seen) then (seen_at_place bit (sample_place l bit)).level else bit.opening.sample
 
 -- the bit that follows, of which nothing was seen yet
 abbrev pub opened : Lengths → Bit → Bool → Bit
@@ -72,8 +80,8 @@ opened l bit synced = record {
 }
 
 -- the bit to which the next quantum belongs, if it does not begin one anew
-abbrev pub due : Lengths → Bit → Bit
-due l bit = if length bit.seen == end_place l bit then opened l bit false else bit
+abbrev pub due_bit : Lengths → Bit → Bit
+due_bit l bit = if length bit.seen == end_place l bit then opened l bit false else bit
 
 -- the bit with one quantum more
 abbrev pub longer : Bit → Seen → Bit
@@ -81,7 +89,7 @@ longer bit x = record { opening = bit.opening; seen = bit.seen ++ x ∷ [] }
 
 -- the quantum x, one more of this bit, synchronises it
 abbrev pub is_sync : Lengths → Bit → Seen → Bool
-is_sync l bit x = not bit.opening.synced && is_at (sync_place l (longer bit x)) (length bit.seen)
+is_sync l bit x = not bit.opening.synced && is_found_at (sync_place l (longer bit x)) (length bit.seen)
 
 -- and by that begins a bit anew
 abbrev pub is_restart : Lengths → Bit → Seen → Bool
@@ -93,7 +101,7 @@ placed l bit x = longer (if is_restart l bit x then opened l bit true else bit) 
 
 -- and with the border between two bits, if the running one is over
 abbrev pub bit_after : Lengths → Bit → Seen → Bit
-bit_after l bit x = placed l (due l bit) x
+bit_after l bit x = placed l (due_bit l bit) x
 
 -- before the first quantum the line was recessive
 abbrev pub first_bit : Bit
@@ -117,8 +125,8 @@ sync_at l bit x =
 
 -- the beat at x, after all that was seen before
 abbrev pub beat_of : Lengths → List Seen → Seen → Beat
-beat_of l seen x = beat_at l (due l (bit_of l seen)) x
+beat_of l seen x = beat_at l (due_bit l (bit_of l seen)) x
 
 -- the synchronisation at x, after all that was seen before
 abbrev pub sync_of : Lengths → List Seen → Seen → Option Sync
-sync_of l seen x = sync_at l (due l (bit_of l seen)) x
+sync_of l seen x = sync_at l (due_bit l (bit_of l seen)) x

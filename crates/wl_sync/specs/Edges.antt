@@ -1,7 +1,7 @@
 -- Which edge synchronises a bit, and what it does to it.
 use Rattle.std.specs.Prelude.{ℕ, ℤ, ◌-ℤ◌, ◌==◌, ◌&&◌, ◌||◌, pos, nat_lt, nat_le, min, not, Bool, Option, Some, None, if◌then◌else◌, ◌-◌}
-use Rattle.wl_intervals.specs.declared.Level.{Level}
-use Rattle.wl_intervals.specs.Levels.{is_dominant}
+use Rattle.wl_level.specs.declared.Level.{Level}
+use Rattle.wl_level.specs.Levels.{is_dominant}
 use Rattle.wl_segments.specs.Lengths.{Lengths, sample_at, bit_quanta}
 
 -- what a node sees at one quantum, whether it is idle then, and whether it drives dominant
@@ -9,6 +9,9 @@ pub record Seen : Type 0 where
   pub level : Level
   pub idle : Bool
   pub driving : Bool
+
+abbrev pub seen_as : Level → Bool → Bool → Seen
+seen_as level idle driving = record { level = level; idle = idle; driving = driving }
 
 -- An edge at place k of a bit counts: the line goes from recessive to dominant, and the last sample is recessive
 -- (Bosch CAN 2.0 part B, section 10, synchronization rules 2 and 4). It does not in the sample's own quantum, nor
@@ -18,7 +21,7 @@ edge_counts l x before sample k =
     is_dominant x.level && not (is_dominant before) && not (is_dominant sample) && not (k == sample_at l)
     && not (nat_lt 0 k && nat_lt k (sample_at l) && x.driving && not x.idle)
 
--- the phase error: how far the edge is behind the bit's start, or, past the sample, before the next one
+-- the phase error: how far the edge is after the bit's start, or, past the sample, before the next one
 -- (Bosch CAN 2.0 part B, section 10)
 abbrev pub phase_error : Lengths → ℕ → ℤ
 phase_error l k = if nat_lt (sample_at l) k then pos k -ℤ pos (bit_quanta l) else pos k

@@ -1,4 +1,5 @@
 pub mod Edges
 pub mod Bits
 pub mod Running
+pub mod SampleLaws
 pub mod Steps

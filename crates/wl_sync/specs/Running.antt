@@ -1,13 +1,13 @@
 -- What a bit clock keeps of the running bit.
-use Rattle.std.specs.Prelude.{ℕ, Bool, List, length, is_some}
-use Rattle.wl_intervals.specs.declared.Level.{Level}
+use Rattle.std.specs.Prelude.{◌≡◌, ℕ, Bool, List, length, is_some}
+use Rattle.wl_level.specs.declared.Level.{Level}
 use Rattle.wl_segments.specs.Lengths.{Lengths}
 use Rattle.wl_sync.specs.declared.Beat.{Beat}
 use Rattle.wl_sync.specs.declared.Beat.TheVariants.{Plain, Sample, Start}
 use Rattle.wl_sync.specs.Edges.{Seen, longer_by, shorter_by}
 use Rattle.wl_sync.specs.Bits.{Bit, bit_of, sync_place, last_level, last_sample}
 
--- the segments; the quanta of the bit so far, by how many it is longer before its sample and shorter behind it, and
+-- the segments; the quanta of the bit so far, by how many it is longer before its sample and shorter after it, and
 -- whether it has synchronised; the last level and the last sample
 pub record Running : Type 0 where
   pub lengths : Lengths
@@ -34,8 +34,12 @@ running l bit = record {
 abbrev pub clock_after : Lengths → List Seen → Running
 clock_after l seen = running l (bit_of l seen)
 
--- the last sample behind a quantum, from what the quantum was and the last sample before it
-abbrev pub sample_behind : Beat → Level → Level
-sample_behind (Sample level) last = level
-sample_behind Start last = last
-sample_behind Plain last = last
+-- this holds of all that led to what a clock keeps
+abbrev pub Follows : Running → (Lengths → List Seen → Type 0) → Type 0
+Follows r holds = (l : Lengths) (past : List Seen) → r ≡ clock_after l past → holds l past
+
+-- the last sample after a quantum, from what the quantum was and the last sample before it
+abbrev pub sample_after : Beat → Level → Level
+sample_after (Sample level) last = level
+sample_after Start last = last
+sample_after Plain last = last

@@ -1,17 +1,20 @@
 //! The bit clock of a node: which quantum begins a bit, which one samples it, and how edges of the line move both.
 //!
-//! A bit is SYNC_SEG, PROP_SEG, PHASE_SEG1 and PHASE_SEG2, and is sampled behind PHASE_SEG1. An edge from recessive to
+//! A bit is SYNC_SEG, PROP_SEG, PHASE_SEG1 and PHASE_SEG2, and is sampled after PHASE_SEG1. An edge from recessive to
 //! dominant synchronises the bit: of an idle node it begins a new bit (hard synchronisation), and otherwise it moves
 //! the sample or the end of the bit by the jump width at most (resynchronisation). Bosch CAN 2.0 part B, section 10;
 //! ISO 11898-1, bit timing. The line is looked at once a quantum, at the tick where the quantum begins: that is this
 //! project's profile.
 #![tactic(auto)]
 
-ghost use Rattle.std.specs.Prelude.{◌≡◌, ◌+◌, ◌-◌, ◌<◌, List, [], ◌∷◌, ◌++◌};
+ghost use Rattle.std.specs.Prelude.{◌≡◌, ◌+◌, ◌-◌, ◌<◌, ◌==◌, ◌&&◌, true, false, List, [], ◌∷◌, ◌++◌, Some, if◌then◌else◌};
 ghost use Rattle.wl_segments.specs.Lengths.{Lengths, AreLengths, sample_at, bit_quanta};
 
+mod laws;
+
+pub use laws::{clock_goes_on, the_sample_comes_near};
 use std::marker::Model;
-use wl_intervals::Level;
+use wl_level::Level;
 use wl_segments::Segments;
 
 /// What a quantum is in its bit.
@@ -30,7 +33,7 @@ pub enum Beat {
 pub enum Sync {
     /// Hard synchronisation: the node is idle, and its bit begins anew with this quantum.
     Hard,
-    /// Resynchronisation at a phase error, in quanta: 0 at the start of the bit, positive before the sample, negative behind it.
+    /// Resynchronisation at a phase error, in quanta: 0 at the start of the bit, positive before the sample, negative after it.
     Error(i8),
 }
 
@@ -48,7 +51,7 @@ pub struct BitClock {
 
 impl Model for BitClock {
     ghost use Rattle.wl_sync.specs.Running.{Running};
-    ghost use Rattle.wl_sync.specs.Steps.{IsRunning};
+    ghost use Rattle.wl_sync.specs.Steps.{IsBitClock};
 
     ghost Value = { Running };
 
@@ -72,7 +75,7 @@ impl Model for BitClock {
       sample = r.sample;
     } };
 
-    ghost invariant = { λ c. IsRunning (record {
+    ghost invariant = { λ c. IsBitClock (record {
       lengths = c.segments;
       quanta = c.quanta;
       longer = c.longer;
@@ -84,12 +87,10 @@ impl Model for BitClock {
 }
 
 impl BitClock {
-    ghost use Rattle.wl_sync.specs.Edges.{Seen};
-    ghost use Rattle.wl_sync.specs.Bits.{beat_of, sync_of};
-    ghost use Rattle.wl_sync.specs.Running.{clock_after, sample_behind};
-    ghost use Rattle.wl_sync.specs.Steps.{running_after, running_due, running_placed, running_anew, running_synced};
-    ghost use Rattle.wl_sync.specs.Steps.{running_sync, running_restart, running_answer};
-    ghost use Rattle.wl_sync.specs.Steps.{running_counted, beat_counted, running_beat};
+    ghost use Rattle.wl_sync.specs.Edges.{Seen, seen_as, edge_restarts, longer_by, phase_error, shorter_by};
+    ghost use Rattle.wl_sync.specs.Bits.{beat_of, sync_of, before_sample, bit_of};
+    ghost use Rattle.wl_sync.specs.Running.{clock_after, Follows};
+    ghost use Rattle.wl_sync.specs.Steps.{beat_between, running_due, running_moved, running_sync};
 
     /// The bit clock before the first quantum: a bit begins with it, and the line was recessive.
     pub fn new(segments: Segments) -> BitClock
@@ -113,36 +114,34 @@ impl BitClock {
     /// suspend transmission, and `driving` that it drove dominant up to this quantum. After any list of quanta both
     /// answers, and what the clock keeps, are those of that list.
     pub fn step(&mut self, level: Level, idle: bool, driving: bool) -> (Beat, Option<Sync>)
-        ensures clock { (l : Lengths) (past : List Seen) → self.old ≡ clock_after l past
-            → self.new ≡ clock_after l (past ++ record { level = level; idle = idle; driving = driving } ∷ []) }
-        ensures beat { (l : Lengths) (past : List Seen) → self.old ≡ clock_after l past
-            → result.0 ≡ beat_of l past (record { level = level; idle = idle; driving = driving }) }
-        ensures sync { (l : Lengths) (past : List Seen) → self.old ≡ clock_after l past
-            → result.1 ≡ sync_of l past (record { level = level; idle = idle; driving = driving }) }
+        ensures clock { Follows self.old (λ l past.
+            self.new ≡ clock_after l (past ++ seen_as level idle driving ∷ [])) }
+        ensures beat { Follows self.old (λ l past. result.0 ≡ beat_of l past (seen_as level idle driving)) }
+        ensures sync { Follows self.old (λ l past. result.1 ≡ sync_of l past (seen_as level idle driving)) }
     {
         self.begin_due();
-        let sync = self.sync(level, idle, driving);
-        let beat = self.place(level, idle, driving);
+        let counts = self.is_sync(level, idle, driving);
+        let sync = if counts { Some(self.sync(idle)) } else { None };
+        let restarts = self.is_restart(counts, idle);
+        let beat = self.place(level, counts, restarts);
         (beat, sync)
     }
 
-    /// Law: what one more quantum does, by what the bit clock keeps.
+    /// How many quanta come up to the sample of the running bit, that one too: from 1 to 21. None
+    /// before quantum 0, and from the sample up to the next bit's start.
     ///
-    /// It is a function of this level, the level before, the last sample, whether the node is idle or drives dominant,
-    /// and the bit's place, lengthening, shortening and whether it has synchronised. The level before is that of the
-    /// last quantum, and the last sample that of the last quantum whose beat was a sample, in whatever bit.
-    pub fn clock_goes_on()
-        ensures clock { (l : Lengths) (past : List Seen) (x : Seen)
-            → clock_after l (past ++ x ∷ []) ≡ running_after (clock_after l past) x }
-        ensures beat { (l : Lengths) (past : List Seen) (x : Seen)
-            → beat_of l past x ≡ running_beat (running_due (clock_after l past)) x }
-        ensures sync { (l : Lengths) (past : List Seen) (x : Seen)
-            → sync_of l past x ≡ running_answer (running_due (clock_after l past)) x }
-        ensures level { (l : Lengths) (past : List Seen) (x : Seen)
-            → (clock_after l (past ++ x ∷ [])).level ≡ x.level }
-        ensures sample { (l : Lengths) (past : List Seen) (x : Seen)
-            → (clock_after l (past ++ x ∷ [])).sample ≡ sample_behind (beat_of l past x) (clock_after l past).sample }
-    {}
+    /// It is the way from the last quantum's place in its bit to the place of the sample as edges have
+    /// moved it so far; an edge that comes later makes it longer.
+    pub fn before_sample(&self) -> Option<u8>
+        ensures { Follows self.now (λ l past. result ≡ before_sample l (bit_of l past)) }
+    {
+        let place = self.sample_at() + self.longer;
+        if 0 < self.quanta && self.quanta <= place {
+            Some(place + 1 - self.quanta)
+        } else {
+            None
+        }
+    }
 
     /// The place of the sample in a bit that nothing moved.
     fn sample_at(&self) -> u8
@@ -183,7 +182,7 @@ impl BitClock {
 
     /// The edge that is seen now counts.
     fn is_sync(&self, level: Level, idle: bool, driving: bool) -> bool
-        ensures { result ≡ running_sync self.now (record { level = level; idle = idle; driving = driving }) }
+        ensures { result ≡ running_sync self.now (seen_as level idle driving) }
     {
         let sample_at = self.sample_at();
         let is_late = 0 < self.quanta && self.quanta < sample_at;
@@ -195,45 +194,49 @@ impl BitClock {
             && !self.synced
     }
 
-    /// How the quantum synchronises the bit, if it does.
-    fn sync(&self, level: Level, idle: bool, driving: bool) -> Option<Sync>
-        ensures { result ≡ running_answer self.now (record { level = level; idle = idle; driving = driving }) }
+    /// How an edge that counts synchronises the bit.
+    fn sync(&self, idle: bool) -> Sync
+        requires { self.now.quanta < bit_quanta self.now.lengths + self.now.longer }
+        ensures { result ≡ (if idle then Sync.Hard else Sync.Error (phase_error self.now.lengths self.now.quanta)) }
     {
-        if !self.is_sync(level, idle, driving) {
-            return None;
-        }
         if idle {
-            return Some(Sync::Hard);
+            return Sync::Hard;
         }
         let place = self.quanta as i8;
         if self.quanta > self.sample_at() {
-            Some(Sync::Error(place - self.bit_quanta() as i8))
+            Sync::Error(place - self.bit_quanta() as i8)
         } else {
-            Some(Sync::Error(place))
+            Sync::Error(place)
         }
     }
 
-    /// The edge that is seen now counts, and begins a bit anew.
-    fn is_restart(&self, level: Level, idle: bool, driving: bool) -> bool
-        ensures { result ≡ running_restart self.now (record { level = level; idle = idle; driving = driving }) }
+    /// The edge counts, and begins the bit anew.
+    fn is_restart(&self, counts: bool, idle: bool) -> bool
+        ensures restart { (x : Seen) → x.idle ≡ idle
+            → result ≡ (counts && edge_restarts self.now.lengths x self.now.quanta) }
+        ensures stays { counts ≡ true → result ≡ false → sample_at self.now.lengths < self.now.quanta
+            → self.now.lengths.sjw < bit_quanta self.now.lengths - self.now.quanta }
     {
         let is_near_end = self.sample_at() < self.quanta
             && self.bit_quanta().saturating_sub(self.quanta) <= self.jump();
-        self.is_sync(level, idle, driving) && (idle || is_near_end)
+        counts && (idle || is_near_end)
     }
 
     /// Puts the quantum into its bit.
-    fn place(&mut self, level: Level, idle: bool, driving: bool) -> Beat
-        requires { self.old.quanta + self.old.shorter < bit_quanta self.old.lengths + self.old.longer }
-        ensures clock { self.new ≡ running_placed self.old (record { level = level; idle = idle; driving = driving }) }
-        ensures beat { result ≡ running_beat self.old (record { level = level; idle = idle; driving = driving }) }
+    fn place(&mut self, level: Level, counts: bool, restarts: bool) -> Beat
+        requires room { self.old.quanta + self.old.shorter < bit_quanta self.old.lengths + self.old.longer }
+        requires fresh { counts ≡ true → self.old.synced ≡ false }
+        requires stays { counts ≡ true → restarts ≡ false → sample_at self.old.lengths < self.old.quanta
+            → self.old.lengths.sjw < bit_quanta self.old.lengths - self.old.quanta }
+        ensures clock { self.new ≡ running_moved self.old counts restarts level }
+        ensures beat { result ≡ beat_between self.old self.new level }
     {
-        if self.is_restart(level, idle, driving) {
+        if restarts {
             self.restart(level);
             return Beat::Start;
         }
         let is_sampled = self.quanta == self.sample_at() + self.longer;
-        if self.is_sync(level, idle, driving) {
+        if counts {
             self.synchronise();
         }
         self.count(level, is_sampled)
@@ -241,7 +244,7 @@ impl BitClock {
 
     /// Begins a bit anew with this quantum.
     fn restart(&mut self, level: Level)
-        ensures { self.new ≡ running_anew self.old level }
+        ensures { self.new ≡ record self.old { quanta = 1; longer = 0; shorter = 0; synced = true; level = level } }
     {
         self.quanta = 1;
         self.longer = 0;
@@ -250,12 +253,16 @@ impl BitClock {
         self.level = level;
     }
 
-    /// Moves the sample or the end of the bit.
+    /// Moves the sample or the end of a bit that nothing moved yet.
     fn synchronise(&mut self)
         requires fresh { (self.old.longer ≡ 0) × (self.old.shorter ≡ 0) }
         requires stays { sample_at self.old.lengths < self.old.quanta
             → self.old.lengths.sjw < bit_quanta self.old.lengths - self.old.quanta }
-        ensures { self.new ≡ running_synced self.old }
+        ensures { self.new ≡ record self.old {
+          longer = longer_by self.old.lengths (Some self.old.quanta);
+          shorter = shorter_by self.old.lengths (Some self.old.quanta);
+          synced = true;
+        } }
     {
         let sample_at = self.sample_at();
         let jump = self.jump();
@@ -271,8 +278,13 @@ impl BitClock {
     /// Counts the quantum.
     fn count(&mut self, level: Level, is_sampled: bool) -> Beat
         requires { self.old.quanta + self.old.shorter < bit_quanta self.old.lengths + self.old.longer }
-        ensures clock { self.new ≡ running_counted self.old level is_sampled }
-        ensures beat { result ≡ beat_counted self.old level is_sampled }
+        ensures clock { self.new ≡ record self.old {
+          quanta = self.old.quanta + 1;
+          level = level;
+          sample = if is_sampled then level else self.old.sample;
+        } }
+        ensures beat { result
+            ≡ (if self.old.quanta + 1 == 1 then Beat.Start else if is_sampled then Beat.Sample level else Beat.Plain) }
     {
         self.level = level;
         self.quanta += 1;
@@ -294,80 +306,37 @@ mod tests {
     use super::*;
     use std::test::Fail;
 
-    /// A line that is recessive and from one quantum on dominant, with bits of 1 + 3 + 3 + 3 quanta: the jump width,
-    /// whether the node is idle and drives dominant throughout, the first dominant quantum, and, of quanta 0 to 23,
-    /// those that begin a bit, those that sample one, and the one that synchronises one.
+    /// The way to the sample of a bit of 1 + 3 + 3 + 3 quanta on a line that goes dominant at quantum 5, which
+    /// moves the sample from place 7 to 9 and the end to 12.
     #[test]
-    fn one_edge(rt: HostRuntime) -> Result<(), Fail> {
-        let resync = |quantum: u32, error: i8| Some((quantum, Sync::Error(error)));
-        let rows: [(u64, bool, bool, u32, &[u32], &[u32], Option<(u32, Sync)>); 10] = [
-            (2, false, false, 2, &[0, 12, 22], &[9, 19], resync(2, 2)),
-            (2, false, false, 5, &[0, 12, 22], &[9, 19], resync(5, 5)),
-            (2, false, false, 7, &[0, 10, 20], &[7, 17], None),
-            (2, false, false, 8, &[0, 8, 18], &[7, 15], resync(8, -2)),
-            (2, false, false, 9, &[0, 9, 19], &[7, 16], resync(9, -1)),
-            (2, false, false, 10, &[0, 10, 20], &[7, 17], resync(10, 0)),
-            (1, false, false, 8, &[0, 9, 19], &[7, 16], resync(8, -2)),
-            (2, false, true, 1, &[0, 10, 20], &[7, 17], None),
-            (
-                2,
-                true,
-                false,
-                11,
-                &[0, 10, 11, 21],
-                &[7, 18],
-                Some((11, Sync::Hard)),
-            ),
-            (
-                2,
-                true,
-                true,
-                16,
-                &[0, 10, 16],
-                &[7, 23],
-                Some((16, Sync::Hard)),
-            ),
+    fn ways_to_the_sample(rt: HostRuntime) -> Result<(), Fail> {
+        let mut clock = BitClock::new(Segments::new(3, 3, 3, 2)?);
+        assert_eq!(rt; clock.before_sample(), None);
+        const WAYS: [Option<u8>; 13] = [
+            Some(7),
+            Some(6),
+            Some(5),
+            Some(4),
+            Some(3),
+            Some(4),
+            Some(3),
+            Some(2),
+            Some(1),
+            None,
+            None,
+            None,
+            Some(7),
         ];
-        for (sjw, idle, driving, from, starts, samples, edge) in rows {
-            let mut clock = BitClock::new(Segments::new(3, 3, 3, sjw)?);
-            for k in 0..24 {
-                let level = if k < from {
-                    Level::Recessive
-                } else {
-                    Level::Dominant
-                };
-                let (beat, sync) = clock.step(level, idle, driving);
-                let wanted = if starts.contains(&k) {
-                    Beat::Start
-                } else if samples.contains(&k) {
-                    Beat::Sample(level)
-                } else {
-                    Beat::Plain
-                };
-                assert_eq!(rt; beat, wanted, "quantum {k}, dominant from {from}");
-                let wanted = edge.filter(|e| e.0 == k).map(|e| e.1);
-                assert_eq!(rt; sync, wanted, "quantum {k}, dominant from {from}");
-            }
+        for k in 0..13 {
+            let level = if k < 5 {
+                Level::Recessive
+            } else {
+                Level::Dominant
+            };
+            let _ = clock.step(level, false, false);
+            assert_eq!(rt; clock.before_sample(), WAYS[k], "after quantum {k}");
         }
-        Ok(())
-    }
-
-    /// A clock is equal to another that saw the same, and not to one that saw something else.
-    #[test]
-    fn copies(rt: HostRuntime) -> Result<(), Fail> {
-        let first = BitClock::new(Segments::new(3, 3, 3, 2)?);
-        let mut clock = first;
-        assert_eq!(rt;
-            clock.step(Level::Recessive, false, false),
-            (Beat::Start, None)
-        );
-        assert_ne!(rt; clock, first);
-        let mut other = first;
-        assert_eq!(rt;
-            other.step(Level::Recessive, true, true),
-            (Beat::Start, None)
-        );
-        assert_eq!(rt; clock, other);
+        the_sample_comes_near();
         Ok(())
     }
 }

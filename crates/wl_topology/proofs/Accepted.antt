@@ -1,14 +1,15 @@
 -- Which cables are accepted.
-use Rattle.std.proofs.Common.{◌≡◌, ℕ, ◌≤◌, ◌==◌, ◌∙◌, length, find, nat_lt, Bool, true, false, cond, Option, Some, None, Ok, Err, IsOk, is_ok, zero, suc, refl, ap, subst, arith}
+use Rattle.std.proofs.Common.{◌≡◌, ℕ, ◌≤◌, ◌==◌, ◌∙◌, length, find, nat_lt, Bool, true, false, cond, Option, Some, None, Ok, Err, IsOk, is_ok, refl, ap, subst, arith}
 use Rattle.std.proofs.lemmas.Bool.{eqb-false, ltb-false, ne_eqb, le-ltb, cond-false}
+use Rattle.std.proofs.Math.Nat.{pos_of_ne-zero}
 use Rattle.wl_topology.specs.declared.TopologyFault.TheVariants.{NoNodes, TooManyNodes}
-use Rattle.wl_topology.specs.Limits.{most_nodes}
+use Rattle.wl_topology.specs.Limits.{most_places}
 use Rattle.wl_topology.specs.Delays.{Cable, IsTopology, topology_of, unless_zero, unless_long, is_zero, is_long, pairs, AcceptedWhereKept}
 use Rattle.wl_topology.proofs.Pairs.{topology_from, no_zeros, no_longs}
 
 -- what is found decides
 kept : (cable : Cable) (zeros longs : Option (ℕ × ℕ)) → find (is_zero cable) (pairs cable) ≡ zeros → find (is_long cable) (pairs cable) ≡ longs
-    → 1 ≤ length cable.places → length cable.places ≤ most_nodes → IsOk (unless_zero cable zeros) → IsTopology cable
+    → 1 ≤ length cable.places → length cable.places ≤ most_places → IsOk (unless_zero cable zeros) → IsTopology cable
 kept cable None None z l some few ok = topology_from cable some few z l
 kept cable None (Some p) z l some few ok = refused (subst (λ o. IsOk (unless_long cable o)) l ok)
   where
@@ -19,7 +20,7 @@ kept cable (Some p) longs z l some few ok = refused ok
     refused : IsOk (unless_zero cable (Some p)) → IsTopology cable
     refused h = cc
 
-kept_few : (cable : Cable) (many : Bool) → nat_lt most_nodes (length cable.places) ≡ many → 1 ≤ length cable.places
+kept_few : (cable : Cable) (many : Bool) → nat_lt most_places (length cable.places) ≡ many → 1 ≤ length cable.places
     → IsOk (cond many (Err TooManyNodes) (unless_zero cable (find (is_zero cable) (pairs cable)))) → IsTopology cable
 kept_few cable true e some ok = refused ok
   where
@@ -28,23 +29,19 @@ kept_few cable true e some ok = refused ok
 kept_few cable false e some ok = kept cable _ _ refl refl some (ltb-false _ _ e) ok
 
 kept_some : (cable : Cable) (none : Bool) → (length cable.places == 0) ≡ none
-    → IsOk (cond none (Err NoNodes) (cond (nat_lt most_nodes (length cable.places)) (Err TooManyNodes) (unless_zero cable (find (is_zero cable) (pairs cable)))))
+    → IsOk (cond none (Err NoNodes) (cond (nat_lt most_places (length cable.places)) (Err TooManyNodes) (unless_zero cable (find (is_zero cable) (pairs cable)))))
     → IsTopology cable
 kept_some cable true e ok = refused ok
   where
     refused : IsOk {T = Cable} (Err NoNodes) → IsTopology cable
     refused h = cc
-kept_some cable false e ok = kept_few cable _ refl (one (length cable.places) e) ok
-  where
-    one : (n : ℕ) → (n == 0) ≡ false → 1 ≤ n
-    one zero h = absurd (eqb-false 0 0 h refl)
-    one (suc n) h = omega arith
+kept_some cable false e ok = kept_few cable _ refl (pos_of_ne-zero (eqb-false (length cable.places) 0 e)) ok
 
 -- and what is kept finds nothing
 pub topology_of-kept : (cable : Cable) → IsTopology cable → topology_of cable.places cable.per ≡ Ok cable
 topology_of-kept cable h =
     cond-false _ _ _ (ne_eqb (length cable.places) 0 (λ e. omega (arith, h.some_node)))
-    ∙ cond-false _ _ _ (le-ltb most_nodes (length cable.places) h.few_nodes)
+    ∙ cond-false _ _ _ (le-ltb most_places (length cable.places) h.few_nodes)
     ∙ ap (unless_zero cable) (no_zeros cable h)
     ∙ ap (unless_long cable) (no_longs cable h)
 

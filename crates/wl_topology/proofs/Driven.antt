@@ -1,38 +1,13 @@
 -- What nodes make of the line rests on what they drove a delay earlier, and on nothing else.
-use Rattle.std.proofs.Common.{◌≡◌, ℕ, zero, suc, ◌-◌, ◌<◌, ◌≤◌, Bool, true, false, ◌&&◌, ◌⊎◌, inl, inr, refl, ap, subst, arith, nat_le}
-use Rattle.std.proofs.lemmas.Bool.{cases_lt, lt-leb, le-leb, leb-true, and_parts, and_from, or_cases, or_left, or_right}
+use Rattle.std.proofs.Common.{◌≡◌, ℕ, zero, suc, ◌-◌, ◌<◌, ◌≤◌, Bool, true, ◌&&◌, ◌⊎◌, inl, inr, refl, ap, arith, nat_le}
+use Rattle.std.proofs.lemmas.Bool.{cases_lt, lt-leb, le-leb, leb-true, and_parts, and_from}
 use Rattle.wl_topology.specs.Driven.{any_below, driven}
+use Rattle.wl_topology.proofs.CallerLemmas.{any_from, any_one}
 
 pub any_same : (n : ℕ) (p q : ℕ → Bool) → ((i : ℕ) → i < n → p i ≡ q i) → any_below n p ≡ any_below n q
 any_same zero p q h = refl
 any_same (suc n) p q h =
     let e = any_same n p q (λ i b. h i (omega arith)) in
-    let e2 = h n (omega arith) in
-    cc
-
--- one that passes is enough
-pub any_from : (n i : ℕ) (p : ℕ → Bool) → i < n → p i ≡ true → any_below n p ≡ true
-any_from zero i p b h = absurd (omega arith)
-any_from (suc n) i p b h =
-    elim (cases_lt i n) [
-      | inl below ↦ or_left _ _ (any_from n i p below h)
-      | inr last ↦ (let same : i ≡ n = omega arith in or_right _ _ (subst (λ m. p m ≡ true) same h))
-    ]
-
--- and where some passes there is one
-pub any_one : (n : ℕ) (p : ℕ → Bool) → any_below n p ≡ true → (i : ℕ) × (i < n) × (p i ≡ true)
-any_one zero p h = cc
-any_one (suc n) p h =
-    elim (or_cases (any_below n p) (p n) h) [
-      | inl below ↦ (let w : (i : ℕ) × (i < n) × (p i ≡ true) = any_one n p below in (w.0, omega (arith, w.1), w.2))
-      | inr here ↦ (n, omega arith, here)
-    ]
-
--- none passes where each fails
-pub any_none : (n : ℕ) (p : ℕ → Bool) → ((i : ℕ) → i < n → p i ≡ false) → any_below n p ≡ false
-any_none zero p h = refl
-any_none (suc n) p h =
-    let e = any_none n p (λ i b. h i (omega arith)) in
     let e2 = h n (omega arith) in
     cc
 

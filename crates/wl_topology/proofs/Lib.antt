@@ -1,4 +1,5 @@
-pub mod Driven
+pub mod CallerLemmas
+mod Driven
 mod Pairs
 mod Nearest
 mod Kept

@@ -1,10 +1,10 @@
 -- The first pair that passes, in a part of the list of all pairs and in the whole.
 use Rattle.std.proofs.Common.{◌≡◌, ℕ, zero, suc, ◌+◌, ◌<◌, ◌≤◌, ◌∙◌, inl, inr, List, [], ◌∷◌, ◌++◌, find, Bool, true, false, cond, Option, Some, None, refl, sym, ap, subst, arith, add-one, length}
-use Rattle.std.specs.Prelude.{◌==◌}
 use Rattle.std.specs.Option.{option_or}
 use Rattle.std.proofs.lemmas.Bool.{cases_lt, eqb-false, ltb-false, ne_eqb, le-ltb}
 use Rattle.std.proofs.lemmas.List.Folds.{find-append}
-use Rattle.wl_topology.specs.Limits.{most_nodes}
+use Rattle.std.proofs.Math.Nat.{pos_of_ne-zero}
+use Rattle.wl_topology.specs.Limits.{most_places}
 use Rattle.wl_topology.specs.Delays.{Cable, delay_of, row, rows, pairs, is_zero, is_long, IsTopology}
 
 none_left : (a b : Option (ℕ × ℕ)) → option_or a b ≡ None → a ≡ None
@@ -89,18 +89,14 @@ module _ (test : ℕ × ℕ → Bool) where
       ∙ none_of_row m n (λ j hj. h m j (omega arith) hj)
 
 -- a cable in which no pair of nodes is refused
-pub topology_from : (cable : Cable) → 1 ≤ length cable.places → length cable.places ≤ most_nodes
+pub topology_from : (cable : Cable) → 1 ≤ length cable.places → length cable.places ≤ most_places
     → find (is_zero cable) (pairs cable) ≡ None → find (is_long cable) (pairs cable) ≡ None → IsTopology cable
 topology_from cable some_node few_nodes zeros longs = record {
   some_node = some_node;
   few_nodes = few_nodes;
-  positive = λ i j hi hj. positive_of (delay_of cable i j) (none_in_rows (is_zero cable) _ _ i j hi hj zeros);
+  positive = λ i j hi hj. pos_of_ne-zero (eqb-false (delay_of cable i j) 0 (none_in_rows (is_zero cable) _ _ i j hi hj zeros));
   short = λ i j hi hj. ltb-false _ _ (none_in_rows (is_long cable) _ _ i j hi hj longs);
 }
-  where
-    positive_of : (d : ℕ) → (d == 0) ≡ false → 1 ≤ d
-    positive_of zero h = absurd (eqb-false 0 0 h refl)
-    positive_of (suc d) h = omega arith
 
 -- and the other way
 pub no_zeros : (cable : Cable) → IsTopology cable → find (is_zero cable) (pairs cable) ≡ None

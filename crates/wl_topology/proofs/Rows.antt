@@ -36,7 +36,7 @@ all_pairs = refl
 no_own_delay : topology_of (at_x 0 0 0 ∷ at_x 50 0 1 ∷ []) 1 ≡ Err (ZeroDelay 0 0)
 no_own_delay = refl
 
--- no delay comes before a long one, wherever it stands
+-- no delay comes before a long one, wherever it is
 zero_first : topology_of (at_x 0 2000000 1 ∷ at_x 0 0 0 ∷ []) 1 ≡ Err (ZeroDelay 1 1)
 zero_first = refl
 

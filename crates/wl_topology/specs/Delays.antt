@@ -4,7 +4,7 @@ use Rattle.std.specs.Int.{abs_diff}
 use Rattle.wl_topology.specs.declared.Place.{Place}
 use Rattle.wl_topology.specs.declared.TopologyFault.{TopologyFault}
 use Rattle.wl_topology.specs.declared.TopologyFault.TheVariants.{NoNodes, TooManyNodes, ZeroDelay, TooLong}
-use Rattle.wl_topology.specs.Limits.{most_nodes, longest_delay}
+use Rattle.wl_topology.specs.Limits.{most_places, longest_delay}
 
 -- the places of the nodes, in order, and how many ticks a level takes along one unit of length
 pub record Cable : Type 0 where
@@ -32,7 +32,7 @@ disturbance_delay cable x j = abs_diff x (place_at cable j).x * cable.per + (pla
 -- What each cable keeps.
 pub record IsTopology (cable : Cable) : Type 0 where
   pub some_node : 1 ≤ length cable.places
-  pub few_nodes : length cable.places ≤ most_nodes
+  pub few_nodes : length cable.places ≤ most_places
   pub positive : (i j : ℕ) → i < length cable.places → j < length cable.places → 1 ≤ delay_of cable i j
   pub short : (i j : ℕ) → i < length cable.places → j < length cable.places → delay_of cable i j ≤ longest_delay
 
@@ -84,7 +84,7 @@ unless_zero cable (Some p) = Err (ZeroDelay p.0 p.1)
 abbrev pub topology_of : List Place → ℕ → Result Cable TopologyFault
 topology_of places per =
     if length places == 0 then Err NoNodes
-    else if nat_lt most_nodes (length places) then Err TooManyNodes
+    else if nat_lt most_places (length places) then Err TooManyNodes
     else unless_zero (record { places = places; per = per }) (find (is_zero (record { places = places; per = per })) (pairs (record { places = places; per = per })))
 
 -- A cable is accepted exactly where it keeps what each cable keeps.

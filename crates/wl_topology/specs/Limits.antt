@@ -1,8 +1,8 @@
 -- The limits of a cable: this project's profile.
 use Rattle.std.specs.Prelude.{ℕ}
 
-abbrev pub most_nodes : ℕ
-most_nodes = 16
+abbrev pub most_places : ℕ
+most_places = 16
 
 -- in ticks
 abbrev pub longest_delay : ℕ

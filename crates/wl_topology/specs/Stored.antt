@@ -1,7 +1,7 @@
--- How a cable lies in an array of sixteen places: those behind its last are nowhere.
+-- How a cable lies in an array of sixteen places: those after its last are nowhere.
 use Rattle.std.specs.Prelude.{◌≡◌, ℕ, ◌-◌, ◌≤◌, List, ◌++◌, length, take, drop, replicate}
 use Rattle.wl_topology.specs.declared.Place.{Place}
-use Rattle.wl_topology.specs.Limits.{most_nodes}
+use Rattle.wl_topology.specs.Limits.{most_places}
 use Rattle.wl_topology.specs.Delays.{Cable, IsTopology, nowhere}
 
 abbrev pub cable_in : List Place → ℕ → ℕ → Cable
@@ -9,10 +9,10 @@ cable_in places nodes per = record { places = take nodes places; per = per }
 
 -- the array of a list of places
 abbrev pub stored : List Place → List Place
-stored places = places ++ replicate (most_nodes - length places) nowhere
+stored places = places ++ replicate (most_places - length places) nowhere
 
 pub record IsStored (places : List Place) (nodes per : ℕ) : Type 0 where
-  pub room : length places ≡ most_nodes
-  pub rest : drop nodes places ≡ replicate (most_nodes - nodes) nowhere
+  pub room : length places ≡ most_places
+  pub rest : drop nodes places ≡ replicate (most_places - nodes) nowhere
   pub topology : IsTopology (cable_in places nodes per)
-  pub few : nodes ≤ most_nodes
+  pub few : nodes ≤ most_places

@@ -3,14 +3,16 @@
 //! The cable is a straight line. A level goes along it at one speed, both ways, and never fades: this project's profile.
 #![tactic(auto)]
 
-ghost use Rattle.std.specs.Prelude.{◌≡◌, ◌<◌, ◌≤◌, length, find, IfSome};
+mod laws;
+
+ghost use Rattle.std.specs.Prelude.{◌≡◌, ◌<◌, ◌≤◌, length, IfSome};
 ghost use Rattle.std.specs.Option.{option_map};
-ghost use Rattle.wl_topology.specs.Limits.{most_nodes, longest_delay};
-ghost use Rattle.wl_topology.specs.Delays.{IsTopology, IsLeastFrom, IsLeastDelay, delay_between, delay_of, disturbance_delay, topology_of, row, pairs, AcceptedWhereKept};
-ghost use Rattle.wl_topology.specs.Driven.{DrivenLaws};
-ghost use Rattle.wl_topology.specs.Search.{is_flawed, has_flaw};
+ghost use Rattle.wl_topology.specs.Limits.{most_places, longest_delay};
+ghost use Rattle.wl_topology.specs.Delays.{IsTopology, IsLeastFrom, IsLeastDelay, delay_between, delay_of, disturbance_delay, topology_of, row, pairs};
+ghost use Rattle.wl_topology.specs.Search.{is_flawed, first_flaw};
 ghost use Rattle.wl_topology.specs.Stored.{stored};
 
+pub use laws::{driven_laws, topology_law};
 use std::marker::Model;
 use thiserror::Error;
 
@@ -225,7 +227,7 @@ fn delay_between(per: u64, from: Place, to: Place) -> u128
 /// The first place, by number, to which place `i` has a delay with this flaw.
 fn first_from(places: &[Place], per: u64, i: usize, flaw: Flaw) -> Option<usize>
     requires { i < length places.now }
-    ensures first { option_map (λ j. (i, j)) result ≡ find (has_flaw flaw (record { places = places.now; per = per })) (row i (length places.now)) }
+    ensures first { option_map (λ j. (i, j)) result ≡ first_flaw flaw places.now per (row i (length places.now)) }
     ensures within { IfSome result (λ j. j < length places.now) }
 {
     for (j, to) in places.iter().enumerate() {
@@ -238,7 +240,7 @@ fn first_from(places: &[Place], per: u64, i: usize, flaw: Flaw) -> Option<usize>
 
 /// The first pair of places, by the first and then by the second, whose delay has this flaw.
 fn first_pair(places: &[Place], per: u64, flaw: Flaw) -> Option<(usize, usize)>
-    ensures first { result ≡ find (has_flaw flaw (record { places = places.now; per = per })) (pairs (record { places = places.now; per = per })) }
+    ensures first { result ≡ first_flaw flaw places.now per (pairs (record { places = places.now; per = per })) }
     ensures within { IfSome result (λ p. (p.0 < length places.now) × (p.1 < length places.now)) }
 {
     for i in 0..places.len() {
@@ -249,26 +251,12 @@ fn first_pair(places: &[Place], per: u64, flaw: Flaw) -> Option<(usize, usize)>
     None
 }
 
-/// The places in an array, with nowhere behind them.
+/// The places in an array, with nowhere after them.
 fn stored(places: &[Place]) -> [Place; MOST_NODES]
-    requires { length places.now ≤ most_nodes }
+    requires { length places.now ≤ most_places }
     ensures { result ≡ stored places.now }
 {
     let mut held = [NOWHERE; MOST_NODES];
     held[..places.len()].copy_from_slice(places);
     held
 }
-
-/// What a node finds on the line, by what the nodes drove and without disturbances: dominant exactly where one of them drove dominant a
-/// delay earlier (Bosch CAN 2.0 part A, section 2).
-pub fn driven_laws()
-    ensures { DrivenLaws }
-{}
-
-/// Places make a topology exactly where there are 1 to 16 and each delay is 1 to 1,048,576 ticks.
-pub fn topology_law()
-    ensures { AcceptedWhereKept }
-{}
-
-#[cfg(test)]
-mod tests;

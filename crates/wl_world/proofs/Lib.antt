@@ -5,4 +5,8 @@ mod SettlingProofs
 mod RoundProofs
 mod RunProofs
 mod WorldValueProofs
+mod MoveProofs
+mod EndProofs
+mod OutcomeProofs
+mod FaithfulProofs
 mod Rows

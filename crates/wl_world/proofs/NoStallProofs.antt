@@ -1,7 +1,7 @@
 -- Where each group has taken all that was emitted, the node whose next quantum comes first can advance.
 use Rattle.std.proofs.Common.{◌≡◌, ℕ, zero, suc, pred, ◌<◌, ◌≤◌, true, ◌⊎◌, inl, inr, List, [], ◌∷◌, ◌++◌, refl, sym, ap, subst, arith, ◌==◌, slice_get}
 use Rattle.std.proofs.lemmas.Bool.{cases_lt, cases_eq, cases_Bool, cond-true, cond-false, eq-eqb, eqb-true, lt-ltb, and_from}
-use Rattle.wl_record.specs.Truth.{AreTrueOf}
+use Rattle.wl_record_core.specs.Truth.{AreTrueOf}
 use Rattle.wl_replica.specs.Slots.{slots_of_records}
 use Rattle.wl_replica.specs.Known.{horizon, place_horizon}
 use Rattle.wl_replica.specs.KnownLaws.{KnownLaws}
@@ -10,20 +10,20 @@ use Rattle.wl_world.specs.declared.events.Event.TheVariants.{Advance, Deliver, J
 use Rattle.wl_plan.specs.Line.{Line}
 use Rattle.wl_plan.specs.Simulation.{changes}
 use Rattle.wl_plan.specs.Sound.{IsSound}
-use Rattle.wl_group.specs.Member.{fresh, due, stepped, level_read}
+use Rattle.wl_group.specs.Member.{fresh, next_tick, stepped, level_read}
 use Rattle.wl_group.specs.Party.{Party, slots, put, begun, taking}
 use Rattle.wl_group.specs.Advanced.{run_next, emission_of}
 use Rattle.wl_group.specs.Holds.{IsTold}
 use Rattle.wl_group.specs.GroupLaws.{GroupLaws}
 use Rattle.wl_world.specs.Scene.{Cast, Scene, start, possible, done, happens, run, at_most_one}
 use Rattle.wl_world.specs.Headline.{member_of, HasAll, AllAtEnd, NoStall}
-use Rattle.wl_world.proofs.Lists.{put_at, true_append}
+use Rattle.wl_group.proofs.CallerLemmas.{put_at, true_append}
 use Rattle.wl_world.proofs.WorldProofs.{IsWorld, may_advance, start_holds, emission_true, happens_holds, world_holds}
 
 -- each node's changes so far and its silence up to its next quantum were emitted, and its first silence too
 pub record IsToldWorld (l : Line) (c : Cast) (w : Scene) : Type 0 where
-  firsts : (i : ℕ) → i < l.nodes → IsTold l i fresh (slots_of_records w.emitted)
-  told : (i : ℕ) → i < l.nodes → IsTold l i (member_of w (c.group_of i) i) (slots_of_records w.emitted)
+  pub firsts : (i : ℕ) → i < l.nodes → IsTold l i fresh (slots_of_records w.emitted)
+  pub told : (i : ℕ) → i < l.nodes → IsTold l i (member_of w (c.group_of i) i) (slots_of_records w.emitted)
 
 -- where only a party is written, and each of its members is as it was or fresh
 told_same : (l : Line) (c : Cast) (w : Scene) (h : ℕ) (p : Party) → IsToldWorld l c w → ((i : ℕ) → (p.members i ≡ (w.parties h).members i) ⊎ (p.members i ≡ fresh))
@@ -50,8 +50,8 @@ least_at f (suc n) =
     ]
 
 -- the tick of the next quantum of a node, in its own group
-abbrev due_of : Line → Cast → Scene → ℕ → ℕ
-due_of l c w i = due l i (member_of w (c.group_of i) i)
+abbrev pub due_of : Line → Cast → Scene → ℕ → ℕ
+due_of l c w i = next_tick l i (member_of w (c.group_of i) i)
 
 module _ (knows : KnownLaws) (groups : GroupLaws) where
   pub start_told : (l : Line) → IsSound l → (c : Cast) → IsToldWorld l c (start l c)
@@ -95,9 +95,11 @@ module _ (knows : KnownLaws) (groups : GroupLaws) where
       let own = (v.groups (c.group_of i) (gs i b)).each i b (eq-eqb _ _ refl) in
       groups.told_known l s i (member_of w (c.group_of i) i) (slots (w.parties (c.group_of i))) b own w.emitted (w.parties h).taken (v.groups h hb).truth all (t.told i b)
 
-  pub some_can : (l : Line) → IsSound l → (c : Cast) (w : Scene) → IsWorld l c w → IsToldWorld l c w → ((i : ℕ) → i < l.nodes → c.group_of i < c.groups) → ((h : ℕ) → h < c.groups → HasAll w h)
+  -- where each node is known everywhere up to its next quantum
+  pub some_can_by : (l : Line) → IsSound l → (c : Cast) (w : Scene) → ((i : ℕ) → i < l.nodes → c.group_of i < c.groups)
+      → ((h : ℕ) → h < c.groups → (i : ℕ) → i < l.nodes → due_of l c w i ≤ horizon (slots (w.parties h)) i)
       → ((i : ℕ) × (i < l.nodes) × (possible l c w (Advance (c.group_of i) i) ≡ true)) ⊎ AllAtEnd l c w
-  some_can l s c w v t gs all =
+  some_can_by l s c w gs all =
       let some = s.some_node in
       let r = least_at (due_of l c w) (pred l.nodes) in
       let i = r.0 in
@@ -110,13 +112,17 @@ module _ (knows : KnownLaws) (groups : GroupLaws) where
           let hb = gs i b in
               let known : due_of l c w i < place_horizon l.nodes l.delay (slots (w.parties (c.group_of i))) i = knows.place_above l.nodes l.delay (slots (w.parties (c.group_of i))) i (due_of l c w i) some (λ j e.
               let a = r2 j (omega arith) in
-              let d = all_known l s c w v t (c.group_of i) hb gs (all (c.group_of i) hb) j e in
+              let d = all (c.group_of i) hb j e in
               let q = s.causal.delays j i e b in
               omega arith) in
               and_from _ _ (lt-ltb _ _ hb) (and_from _ _ (lt-ltb _ _ b) (and_from _ _ (eq-eqb _ _ refl) (and_from _ _ (lt-ltb _ _ early) (lt-ltb _ _ known)))),
         )
         | inr late ↦ inr (λ j e. let a = r2 j (omega arith) in omega arith)
       ]
+
+  pub some_can : (l : Line) → IsSound l → (c : Cast) (w : Scene) → IsWorld l c w → IsToldWorld l c w → ((i : ℕ) → i < l.nodes → c.group_of i < c.groups) → ((h : ℕ) → h < c.groups → HasAll w h)
+      → ((i : ℕ) × (i < l.nodes) × (possible l c w (Advance (c.group_of i) i) ≡ true)) ⊎ AllAtEnd l c w
+  some_can l s c w v t gs all = some_can_by l s c w gs (λ h hb. all_known l s c w v t h hb gs (all h hb))
 
   pub no_stall : NoStall
   no_stall l s c gs es all =

@@ -1,6 +1,6 @@
 -- A world of two groups, computed: what is emitted at the start, one delivery, one join, one restart, and events that are not possible.
 use Rattle.std.proofs.Common.{◌≡◌, ◌+◌, ◌*◌, false, [], ◌∷◌, refl}
-use Rattle.wl_record.specs.declared.record.Record.TheVariants.{Silence}
+use Rattle.wl_record_core.specs.declared.record.Record.TheVariants.{Silence}
 use Rattle.wl_world.specs.declared.events.Event.TheVariants.{Deliver, Join, Restart}
 use Rattle.wl_world.specs.declared.events.Answer.TheVariants.{Done, Idle}
 use Rattle.wl_plan.specs.Line.{Line}

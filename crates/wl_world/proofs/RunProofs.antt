@@ -2,12 +2,10 @@
 use Rattle.std.proofs.lemmas.List.{take_more}
 use Rattle.std.proofs.Common.{◌≡◌, ℕ, ◌+◌, ◌<◌, length, take, get_or, List, [], ◌∷◌, ◌++◌, refl, sym, ◌∙◌, ap, subst, Result, Ok, Err, OnOk, IfErr}
 use Rattle.wl_plan.specs.Line.{Line}
-use Rattle.wl_plan.specs.Sound.{IsSound}
 use Rattle.wl_world.specs.declared.events.Event.{Event}
 use Rattle.wl_world.specs.declared.events.Answer.{Answer}
 use Rattle.wl_world.specs.Scene.{Cast, Scene, run, answers, answer, happens, start}
-use Rattle.wl_world.specs.Headline.{Headline, Grows}
-use Rattle.wl_world.specs.Steps.{HasStepped, IsFaithfulAfter}
+use Rattle.wl_world.specs.Steps.{HasStepped}
 use Rattle.wl_world.proofs.RoundProofs.{run_append}
 
 answers_append : (l : Line) (c : Cast) (es fs : List Event) (w : Scene) → answers l c (es ++ fs) w ≡ answers l c es w ++ answers l c fs (run l c es w)
@@ -36,13 +34,6 @@ reached_more at l c es i d w mid new a b h s = subst (λ v. at (run l c v w) new
 pub answered_more : {A : Type 0} (at : Scene → A → Type 0) (l : Line) (c : Cast) (es : List Event) (i : ℕ) (d : Event) (w : Scene) (mid new : A) (a : Answer) (told : List Answer) → i < length es → at (run l c (take i es) w) mid → HasStepped at l c (get_or es i d) mid new a → told ≡ answers l c (take i es) w → told ++ a ∷ [] ≡ answers l c (take (i + 1) es) w
 answered_more at l c es i d w mid new a told b h s t =
     told_more l c (take i es) (get_or es i d) w told a t (s (run l c (take i es) w) h).0 ∙ ap (λ v. answers l c v w) (sym (take_more es i d b))
-
--- the headline, of what those and the new events lead to
-pub faithful_after : {A : Type 0} (at : Scene → A → Type 0) → Headline → (l : Line) (c : Cast) → IsSound l → (events : List Event) (old : A) → IsFaithfulAfter at l c events old
-faithful_after at headline l c sound events old before h = (
-  headline.faithful l sound c (before ++ events),
-  subst (Grows (run l c before (start l c))) (sym (run_append l c before events (start l c))) (headline.grows l c events (run l c before (start l c))),
-)
 
 pub on_ok : {T E P : Type 0} (r : Result T E) → P → OnOk r P
 on_ok (Ok x) p = p

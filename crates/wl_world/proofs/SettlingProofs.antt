@@ -2,7 +2,7 @@
 use Rattle.std.proofs.Common.{◌≡◌, ℕ, zero, suc, ◌<◌, ◌≤◌, true, inl, inr, List, [], ◌∷◌, ◌++◌, length, refl, sym, ◌∙◌, ap, subst, arith, nat_lt, Some, slice_get, length-append, add-one}
 use Rattle.std.specs.Prelude.{◌↔◌, Contains}
 use Rattle.std.proofs.lemmas.Bool.{cases_lt, cases_eq, cases_Bool, cond-true, cond-false, eqb-true, ltb-true, lt-ltb, and_parts, and_from}
-use Rattle.wl_record.specs.declared.record.Record.{Record}
+use Rattle.wl_record_core.specs.declared.record.Record.{Record}
 use Rattle.wl_replica.specs.Known.{place_horizon}
 use Rattle.wl_world.specs.declared.events.Event.{Event}
 use Rattle.wl_world.specs.declared.events.Event.TheVariants.{Advance, Deliver, Join, Restart}
@@ -10,13 +10,14 @@ use Rattle.wl_plan.specs.Line.{Line}
 use Rattle.wl_plan.specs.Simulation.{ran}
 use Rattle.wl_plan.specs.Sound.{IsSound}
 use Rattle.wl_plan.specs.SimulationLaws.{SimulationLaws}
-use Rattle.wl_group.specs.Member.{due, stepped, level_read}
+use Rattle.wl_group.specs.Member.{next_tick, stepped, level_read}
 use Rattle.wl_group.specs.Party.{Party, slots, put, taking}
 use Rattle.wl_group.specs.Advanced.{run_next, emission_of}
 use Rattle.wl_world.specs.Scene.{Cast, Scene, possible, at_most_one, done, happens}
 use Rattle.wl_world.specs.Headline.{IsFaithful, AllAtEnd, member_of}
-use Rattle.wl_world.specs.Settling.{IsMove, left_below, quanta_left}
-use Rattle.wl_world.proofs.Lists.{put_at, there_right}
+use Rattle.wl_world.specs.Settling.{IsMove, left_below, quanta_left_in}
+use Rattle.std.proofs.lemmas.List.Elements.{Contains-append_right}
+use Rattle.wl_group.proofs.CallerLemmas.{put_at}
 use Rattle.wl_world.proofs.WorldProofs.{may_advance}
 
 -- where node i has run one quantum more and the others as many, one fewer is left
@@ -62,10 +63,10 @@ delivered_size l c w h k n =
     put_at w.parties h (taking (at_most_one (slice_get w.emitted k)) (w.parties h)) (λ q. length (q.members n).saw ≡ length (member_of w (c.group_of n) n).saw) (c.group_of n)
     (λ e. ap (λ g. length ((w.parties g).members n).saw) (sym e)) (λ o. refl)
 
-pub deliver_keeps : (l : Line) (c : Cast) (w : Scene) (h k : ℕ) → quanta_left l c (happens l c w (Deliver h k)) ≡ quanta_left l c w
+pub deliver_keeps : (l : Line) (c : Cast) (w : Scene) (h k : ℕ) → quanta_left_in l c (happens l c w (Deliver h k)) ≡ quanta_left_in l c w
 deliver_keeps l c w h k = elim (cases_Bool (possible l c w (Deliver h k))) [
-  | inl y ↦ ap (quanta_left l c) (cond-true (possible l c w (Deliver h k)) (done l c w (Deliver h k)) w y) ∙ left_same l c w (done l c w (Deliver h k)) (delivered_size l c w h k) l.nodes
-  | inr n ↦ ap (quanta_left l c) (cond-false (possible l c w (Deliver h k)) (done l c w (Deliver h k)) w n)
+  | inl y ↦ ap (quanta_left_in l c) (cond-true (possible l c w (Deliver h k)) (done l c w (Deliver h k)) w y) ∙ left_same l c w (done l c w (Deliver h k)) (delivered_size l c w h k) l.nodes
+  | inr n ↦ ap (quanta_left_in l c) (cond-false (possible l c w (Deliver h k)) (done l c w (Deliver h k)) w n)
 ]
 
 -- a record that is there is taken
@@ -88,7 +89,7 @@ delivered l c w h k r b e =
 kept : (w : Scene) (h g : ℕ) (p : Party) (rs : List Record) → p.taken ≡ rs ++ (w.parties h).taken → (r : Record) → Contains (w.parties g).taken r → Contains (put w.parties h p g).taken r
 kept w h g p rs same r t =
     put_at w.parties h p (λ q. Contains q.taken r) g
-    (λ e. subst (λ xs. Contains xs r) (sym same) (there_right r rs (w.parties h).taken (subst (λ n. Contains (w.parties n).taken r) e t)))
+    (λ e. subst (λ xs. Contains xs r) (sym same) (Contains-append_right rs (w.parties h).taken r (subst (λ n. Contains (w.parties n).taken r) e t)))
     (λ n. t)
 
 done_keeps : (l : Line) (c : Cast) (w : Scene) (e : Event) → IsMove e → (g : ℕ) (r : Record) → Contains (w.parties g).taken r → Contains ((done l c w e).parties g).taken r
@@ -114,14 +115,14 @@ module _ (sims : SimulationLaws) where
   ]
 
   pub advance_lowers : (l : Line) → IsSound l → (c : Cast) (w : Scene) → IsFaithful l c w → (h i : ℕ) → possible l c w (Advance h i) ≡ true
-      → quanta_left l c w ≡ suc (quanta_left l c (done l c w (Advance h i)))
+      → quanta_left_in l c w ≡ suc (quanta_left_in l c (done l c w (Advance h i)))
   advance_lowers l s c w v h i y =
       let a = may_advance l c w h i y in
       let own : c.group_of i ≡ h = eqb-true (c.group_of i) h a.member in
       let m = (w.parties h).members i in
       let n = stepped l i m (level_read l i m (slots (w.parties h))) in
-      let can = and_parts (nat_lt (due l i m) l.stop) (nat_lt (due l i m) (place_horizon l.nodes l.delay (slots (w.parties h)) i)) a.can in
-      let early : due l i m < l.stop = ltb-true (due l i m) l.stop can.0 in
+      let can = and_parts (nat_lt (next_tick l i m) l.stop) (nat_lt (next_tick l i m) (place_horizon l.nodes l.delay (slots (w.parties h)) i)) a.can in
+      let early : next_tick l i m < l.stop = ltb-true (next_tick l i m) l.stop can.0 in
       let some : length (member_of w (c.group_of i) i).saw < ran l i l.stop =
       subst (λ g. length ((w.parties g).members i).saw < ran l i l.stop) (sym own) (has_left l s i (length m.saw) a.node early) in
       let longer : length n.saw ≡ suc (length m.saw) = length-append m.saw (level_read l i m (slots (w.parties h)) ∷ []) ∙ add-one (length m.saw) in
@@ -137,7 +138,7 @@ module _ (sims : SimulationLaws) where
       some l.nodes a.node
 
   pub none_left : (l : Line) → IsSound l → (c : Cast) → ((i : ℕ) → i < l.nodes → c.group_of i < c.groups) → (w : Scene) → IsFaithful l c w
-      → (quanta_left l c w ≡ 0) ↔ AllAtEnd l c w
+      → (quanta_left_in l c w ≡ 0) ↔ AllAtEnd l c w
   none_left l s c gs w v = (
     λ z i b.
         let k = left_none l c w l.nodes i b z in

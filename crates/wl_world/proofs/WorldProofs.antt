@@ -2,8 +2,8 @@
 use Rattle.std.proofs.Common.{◌≡◌, ℕ, ◌<◌, true, ◌&&◌, inl, inr, Option, List, [], ◌∷◌, ◌++◌, refl, sym, ◌∙◌, ap, subst, arith, nat_lt, Some, None, slice_get, append-nil, append_assoc}
 use Rattle.std.specs.Prelude.{Contains}
 use Rattle.std.proofs.lemmas.Bool.{cases_Bool, cond-true, cond-false, eq-eqb, ltb-true, and_parts}
-use Rattle.wl_record.specs.declared.record.Record.{Record}
-use Rattle.wl_record.specs.Truth.{AreTrueOf}
+use Rattle.wl_record_core.specs.declared.record.Record.{Record}
+use Rattle.wl_record_core.specs.Truth.{AreTrueOf}
 use Rattle.wl_replica.specs.KnownLaws.{KnownLaws}
 use Rattle.wl_replica.specs.Laws.{SameRecordsSameState, TakingIsJoining, IsJoining}
 use Rattle.wl_replica.specs.SlotsOf.{SlotsOfStates}
@@ -17,36 +17,38 @@ use Rattle.wl_group.specs.Party.{Party, slots, put, begun, taking}
 use Rattle.wl_group.specs.Advanced.{can_advance, run_next, emission_of}
 use Rattle.wl_group.specs.Holds.{IsGroup}
 use Rattle.wl_group.specs.GroupLaws.{GroupLaws}
-use Rattle.wl_world.specs.Scene.{Cast, belongs, Scene, start, possible, at_most_one, done, happens, run}
+use Rattle.wl_world.specs.Scene.{Cast, is_of_group, Scene, start, possible, at_most_one, done, happens, run}
 use Rattle.wl_world.specs.Headline.{IsFaithful, Grows, Headline}
-use Rattle.wl_world.proofs.Lists.{put_at, true_append, true_member, there_left, there_right, side_of}
+use Rattle.std.proofs.lemmas.List.Elements.{Contains-append_left, Contains-append_right, Contains-append_cases}
+use Rattle.wl_group.proofs.CallerLemmas.{put_at, true_append}
+use Rattle.wl_world.proofs.Lists.{true_member}
 
 -- What holds of a scene.
 pub record IsWorld (l : Line) (c : Cast) (w : Scene) : Type 0 where
   pub truth : AreTrueOf l.nodes (changes l) w.emitted
-  pub groups : (h : ℕ) → h < c.groups → IsGroup l (belongs c h) (w.parties h).members (slots (w.parties h))
+  pub groups : (h : ℕ) → h < c.groups → IsGroup l (is_of_group c h) (w.parties h).members (slots (w.parties h))
   pub told : (h : ℕ) (r : Record) → Contains (w.parties h).told r → Contains w.emitted r
 
 -- what an advance needs, part by part
 pub record MayAdvance (l : Line) (c : Cast) (w : Scene) (h i : ℕ) : Type 0 where
   pub group : h < c.groups
   pub node : i < l.nodes
-  pub member : belongs c h i ≡ true
+  pub member : is_of_group c h i ≡ true
   pub can : can_run l i ((w.parties h).members i) (slots (w.parties h)) ≡ true
 
 pub may_advance : (l : Line) (c : Cast) (w : Scene) (h i : ℕ) → possible l c w (Advance h i) ≡ true → MayAdvance l c w h i
 may_advance l c w h i y =
-    let p1 = and_parts (nat_lt h c.groups) (nat_lt i l.nodes && can_advance l (belongs c h) (w.parties h) i) y in
-    let p2 = and_parts (nat_lt i l.nodes) (can_advance l (belongs c h) (w.parties h) i) p1.1 in
-    let p3 = and_parts (belongs c h i) (can_run l i ((w.parties h).members i) (slots (w.parties h))) p2.1 in
+    let p1 = and_parts (nat_lt h c.groups) (nat_lt i l.nodes && can_advance l (is_of_group c h) (w.parties h) i) y in
+    let p2 = and_parts (nat_lt i l.nodes) (can_advance l (is_of_group c h) (w.parties h) i) p1.1 in
+    let p3 = and_parts (is_of_group c h i) (can_run l i ((w.parties h).members i) (slots (w.parties h))) p2.1 in
     record { group = ltb-true h c.groups p1.0; node = ltb-true i l.nodes p2.0; member = p3.0; can = p3.1 }
 
 -- a scene of which one party is written
-party_put : (l : Line) (c : Cast) (w : Scene) → IsWorld l c w → (h : ℕ) (p : Party) → (h < c.groups → IsGroup l (belongs c h) p.members (slots p))
-    → (k : ℕ) → k < c.groups → IsGroup l (belongs c k) (put w.parties h p k).members (slots (put w.parties h p k))
+party_put : (l : Line) (c : Cast) (w : Scene) → IsWorld l c w → (h : ℕ) (p : Party) → (h < c.groups → IsGroup l (is_of_group c h) p.members (slots p))
+    → (k : ℕ) → k < c.groups → IsGroup l (is_of_group c k) (put w.parties h p k).members (slots (put w.parties h p k))
 party_put l c w v h p f k b =
-    put_at w.parties h p (λ q. IsGroup l (belongs c k) q.members (slots q)) k
-    (λ e. subst (λ n. IsGroup l (belongs c n) p.members (slots p)) (sym e) (f (subst (λ n. n < c.groups) e b)))
+    put_at w.parties h p (λ q. IsGroup l (is_of_group c k) q.members (slots q)) k
+    (λ e. subst (λ n. IsGroup l (is_of_group c n) p.members (slots p)) (sym e) (f (subst (λ n. n < c.groups) e b)))
     (λ n. v.groups k b)
 
 -- and what it told
@@ -54,7 +56,7 @@ told_put : (l : Line) (c : Cast) (w : Scene) → IsWorld l c w → (h : ℕ) (p 
     → (k : ℕ) (r : Record) → Contains (put w.parties h p k).told r → Contains (w.emitted ++ more) r
 told_put l c w v h p more f k =
     put_at w.parties h p (λ q. (r : Record) → Contains q.told r → Contains (w.emitted ++ more) r) k
-    (λ e. f) (λ n r t. there_left r w.emitted more (v.told k r t))
+    (λ e. f) (λ n r t. Contains-append_left w.emitted more r (v.told k r t))
 
 told_kept : (l : Line) (c : Cast) (w : Scene) → IsWorld l c w → (h : ℕ) (p : Party) → ((r : Record) → Contains p.told r → Contains w.emitted r)
     → (k : ℕ) (r : Record) → Contains (put w.parties h p k).told r → Contains w.emitted r
@@ -87,7 +89,7 @@ module _ (knows : KnownLaws) (groups : GroupLaws) where
   pub start_holds : (l : Line) → IsSound l → (c : Cast) → IsWorld l c (start l c)
   start_holds l s c = record {
     truth = groups.firsts_true l s (λ i. true);
-    groups = λ h b. groups.begun_holds l s (belongs c h);
+    groups = λ h b. groups.begun_holds l s (is_of_group c h);
     told = λ h r. nothing_told (start l c).emitted r;
   }
 
@@ -102,16 +104,16 @@ module _ (knows : KnownLaws) (groups : GroupLaws) where
       let a = may_advance l c w h i y in
       record {
         truth = true_append l.nodes (changes l) w.emitted _ v.truth (emission_true l s c w v h i a);
-        groups = party_put l c w v h (run_next l i (w.parties h)) (λ b. groups.running_holds l s (belongs c h) i (w.parties h) (v.groups h b) a.node a.member a.can);
-        told = told_put l c w v h (run_next l i (w.parties h)) (emission_of l (w.parties h) i) (λ r t. elim (side_of r (w.parties h).told (emission_of l (w.parties h) i) t) [
-          | inl x ↦ there_left r w.emitted (emission_of l (w.parties h) i) (v.told h r x)
-          | inr x ↦ there_right r w.emitted (emission_of l (w.parties h) i) x
+        groups = party_put l c w v h (run_next l i (w.parties h)) (λ b. groups.running_holds l s (is_of_group c h) i (w.parties h) (v.groups h b) a.node a.member a.can);
+        told = told_put l c w v h (run_next l i (w.parties h)) (emission_of l (w.parties h) i) (λ r t. elim (Contains-append_cases (w.parties h).told (emission_of l (w.parties h) i) r t) [
+          | inl x ↦ Contains-append_left w.emitted (emission_of l (w.parties h) i) r (v.told h r x)
+          | inr x ↦ Contains-append_right w.emitted (emission_of l (w.parties h) i) r x
         ]);
       }
   event_holds l s c w (Deliver h k) v y = record {
     truth = v.truth;
     groups = party_put l c w v h (taking (at_most_one (slice_get w.emitted k)) (w.parties h)) (λ b.
-        groups.taking_holds l s (belongs c h) (at_most_one (slice_get w.emitted k)) (w.parties h) (v.groups h b)
+        groups.taking_holds l s (is_of_group c h) (at_most_one (slice_get w.emitted k)) (w.parties h) (v.groups h b)
         (knows.true_records l.nodes (changes l) (at_most_one (slice_get w.emitted k)) (comes (slice_get w.emitted k) refl)));
     told = told_kept l c w v h (taking (at_most_one (slice_get w.emitted k)) (w.parties h)) (v.told h);
   }
@@ -124,13 +126,13 @@ module _ (knows : KnownLaws) (groups : GroupLaws) where
       record {
         truth = v.truth;
         groups = party_put l c w v h (taking (w.parties k).taken (w.parties h))
-            (λ b. groups.taking_holds l s (belongs c h) (w.parties k).taken (w.parties h) (v.groups h b) (v.groups k (ltb-true k c.groups p.1)).truth);
+            (λ b. groups.taking_holds l s (is_of_group c h) (w.parties k).taken (w.parties h) (v.groups h b) (v.groups k (ltb-true k c.groups p.1)).truth);
         told = told_kept l c w v h (taking (w.parties k).taken (w.parties h)) (v.told h);
       }
   event_holds l s c w (Restart h) v y = record {
     truth = v.truth;
-    groups = party_put l c w v h (begun l (belongs c h)) (λ b. groups.begun_holds l s (belongs c h));
-    told = told_kept l c w v h (begun l (belongs c h)) (nothing_told w.emitted);
+    groups = party_put l c w v h (begun l (is_of_group c h)) (λ b. groups.begun_holds l s (is_of_group c h));
+    told = told_kept l c w v h (begun l (is_of_group c h)) (nothing_told w.emitted);
   }
 
   pub happens_holds : (l : Line) → IsSound l → (c : Cast) (w : Scene) (e : Event) → IsWorld l c w → IsWorld l c (happens l c w e)

@@ -1,11 +1,11 @@
 -- A world as its calls see it, beside the scenes of the machine.
-use Rattle.std.proofs.Common.{◌≡◌, ℕ, zero, suc, ◌+◌, ◌<◌, ◌≤◌, ◌&&◌, ◌||◌, not, Bool, true, false, ◌⊎◌, inl, inr, List, [], ◌∷◌, ◌++◌, length, get_or, refl, sym, ◌∙◌, ap, subst, arith, nat_lt, nat_le, ◌==◌, Some, slice_get, slice_set, length-append, if◌then◌else◌}
+use Rattle.std.proofs.Common.{◌≡◌, ℕ, zero, suc, ◌+◌, ◌<◌, ◌≤◌, ◌&&◌, ◌||◌, not, Bool, true, false, ◌⊎◌, inl, inr, List, [], ◌∷◌, ◌++◌, length, get_or, refl, sym, ◌∙◌, ap, subst, arith, nat_lt, nat_le, ◌==◌, Option, None, Some, IfSome, IfNone, slice_get, slice_set, length-append, if◌then◌else◌}
 use Rattle.std.specs.Prelude.{Contains}
 use Rattle.std.proofs.lemmas.Bool.{cases_eq, cases_lt, cases_Bool, cond-true, cond-false, eq-eqb, ne_eqb, lt-ltb, le-ltb, and_from, and_parts, false≢true}
 use Rattle.std.proofs.lemmas.Option.{slice_get_within}
 use Rattle.std.proofs.lemmas.List.Folds.{list_any_at}
-use Rattle.wl_record.specs.declared.record.Record.{Record}
-use Rattle.wl_record.specs.Truth.{AreTrueOf}
+use Rattle.wl_record_core.specs.declared.record.Record.{Record}
+use Rattle.wl_record_core.specs.Truth.{AreTrueOf}
 use Rattle.wl_replica.specs.State.{state_of, slots_of}
 use Rattle.wl_replica.specs.Slots.{HoldsTrue}
 use Rattle.wl_plan.specs.declared.plan.Plan.{Plan}
@@ -14,26 +14,26 @@ use Rattle.wl_plan.specs.Sound.{IsSound}
 use Rattle.wl_plan.specs.PlanLine.{line_of, table_of, IsTrueOfPlan}
 use Rattle.wl_plan.specs.Checked.{IsChecked}
 use Rattle.wl_plan.specs.Groupings.{IsGrouping, GroupingLaws, most_groups, groups_of, is_in_group, members_of}
-use Rattle.wl_group.specs.Member.{due, can_run}
+use Rattle.wl_group.specs.Member.{next_tick, can_run}
 use Rattle.wl_group.specs.Party.{Party, slots, put, firsts, begun, taking}
 use Rattle.wl_group.specs.Advanced.{Reply, emitted, blocked, ended, can_advance, emission_of, reply_of, run_next, HasAdvanced}
 use Rattle.wl_group.specs.AdvanceLaws.{AdvanceLaws}
-use Rattle.wl_group.specs.GroupValue.{GroupValue, IsGroupValue, Matches, names, belongs as has}
+use Rattle.wl_group.specs.GroupValue.{GroupValue, IsGroupValue, Matches, names, may_run, belongs as has}
+use Rattle.wl_group.specs.ValueLaws.{ValueLaws}
 use Rattle.wl_world.specs.declared.events.Event.{Event}
 use Rattle.wl_world.specs.declared.events.Event.TheVariants.{Advance, Deliver, Join, Restart}
 use Rattle.wl_world.specs.declared.events.Answer.{Answer}
 use Rattle.wl_world.specs.declared.events.Answer.TheVariants.{Done, Idle}
-use Rattle.wl_world.specs.Scene.{Cast, Scene, belongs, start, possible, at_most_one, done, happens, run, answer}
+use Rattle.wl_world.specs.Scene.{Cast, Scene, is_of_group, start, possible, at_most_one, done, happens, run, answer}
 use Rattle.wl_world.specs.Headline.{Headline}
 use Rattle.wl_world.specs.Steps.{HasStepped}
-use Rattle.wl_world.specs.WorldValue.{WorldValue, value_of, cast_of, IsAt, IsStaffed, IsWorldValue, IsFirst, AreFirst}
-use Rattle.wl_world.proofs.Lists.{put_at, true_member}
+use Rattle.wl_world.specs.WorldValue.{WorldValue, world_value, cast_of, IsWorldAt, IsStaffed, IsWorldValue, IsFirstGroup, AreFirst}
+use Rattle.wl_group.proofs.CallerLemmas.{put_at}
+use Rattle.wl_replica.proofs.CallerLemmas.{some_is}
+use Rattle.wl_world.proofs.Lists.{true_member}
 use Rattle.wl_world.proofs.RoundProofs.{run_append}
 
 -- ---- lists
-
-some_same : {A : Type 0} (a b : A) → Some a ≡ Some b → a ≡ b
-some_same a b h = cc
 
 same_length : {A : Type 0} (xs : List A) (i : ℕ) (x : A) → length (slice_set xs i x) ≡ length xs
 same_length [] i x = refl
@@ -55,19 +55,19 @@ get_set_other (y ∷ ys) (suc i) (suc j) x n = get_set_other ys i j x (λ e. n (
 -- what is read where a group was written
 set_cases : (groups : List GroupValue) (h j : ℕ) (new v : GroupValue) (P : GroupValue → Type 0) → h < length groups → slice_get (slice_set groups h new) j ≡ Some v → (j ≡ h → P new) → (slice_get groups j ≡ Some v → (j ≡ h → ⊥) → P v) → P v
 set_cases groups h j new v P b e f k = elim (cases_eq j h) [
-  | inl same ↦ subst P (some_same new v (sym (get_set_same groups h new b) ∙ (ap (slice_get (slice_set groups h new)) (sym same) ∙ e))) (f same)
+  | inl same ↦ subst P (some_is new v (sym (get_set_same groups h new b) ∙ (ap (slice_get (slice_set groups h new)) (sym same) ∙ e))) (f same)
   | inr other ↦ k (sym (get_set_other groups h j new other) ∙ e) other
 ]
 
 -- a place written with what was there
 set_got : (xs : List GroupValue) (h : ℕ) (x : GroupValue) → slice_get xs h ≡ Some x → slice_set xs h x ≡ xs
 set_got [] h x e = refl
-set_got (y ∷ ys) zero x e = ap (λ z. z ∷ ys) (sym (some_same y x e))
+set_got (y ∷ ys) zero x e = ap (λ z. z ∷ ys) (sym (some_is y x e))
 set_got (y ∷ ys) (suc h) x e = ap (λ t. y ∷ t) (set_got ys h x e)
 
 -- what is read of a list with one element more
 last_cases : {A : Type 0} (xs : List A) (y : A) (k : ℕ) (x : A) → slice_get (xs ++ y ∷ []) k ≡ Some x → (slice_get xs k ≡ Some x) ⊎ ((k ≡ length xs) × (y ≡ x))
-last_cases [] y zero x e = inr (refl, some_same y x e)
+last_cases [] y zero x e = inr (refl, some_is y x e)
 last_cases [] y (suc k) x e = cc
 last_cases (z ∷ xs) y zero x e = inl e
 last_cases (z ∷ xs) y (suc k) x e = elim (last_cases xs y k x e) [
@@ -98,7 +98,7 @@ member_at_once numbers ms h laws b e i =
     (λ t. (laws.members numbers h i b).0 (subst (λ xs. Contains xs i) e (named_there ms i t)))
     (λ t. there_named ms i (subst (λ xs. Contains xs i) (sym e) ((laws.members numbers h i b).1 t)))
 
-pub names_are : (numbers ms : List ℕ) (h : ℕ) → GroupingLaws → h < most_groups → ms ≡ members_of numbers h → names ms ≡ belongs (cast_of numbers) h
+pub names_are : (numbers ms : List ℕ) (h : ℕ) → GroupingLaws → h < most_groups → ms ≡ members_of numbers h → names ms ≡ is_of_group (cast_of numbers) h
 names_are numbers ms h laws b e = λ k i. member_at_once numbers ms h laws b e i k
 
 -- ---- a new world
@@ -106,22 +106,22 @@ names_are numbers ms h laws b e = λ k i. member_at_once numbers ms h laws b e i
 pub none_first : (plan : Plan) (numbers : List ℕ) (groups : List GroupValue) → groups ≡ [] → (length groups ≡ 0) × AreFirst plan numbers groups
 none_first plan numbers groups e = (ap length e, λ h g q. absurd (let p : slice_get [] h ≡ Some g = ap (λ xs. slice_get xs h) (sym e) ∙ q in cc))
 
-pub one_more_first : (plan : Plan) (numbers : List ℕ) (groups more : List GroupValue) (g : GroupValue) (h : ℕ) → length groups ≡ h → AreFirst plan numbers groups → more ≡ groups ++ g ∷ [] → IsFirst plan numbers h g
+pub one_more_first : (plan : Plan) (numbers : List ℕ) (groups more : List GroupValue) (g : GroupValue) (h : ℕ) → length groups ≡ h → AreFirst plan numbers groups → more ≡ groups ++ g ∷ [] → IsFirstGroup plan numbers h g
     → (length more ≡ h + 1) × AreFirst plan numbers more
 one_more_first plan numbers groups more g h n f e is = (
   (let a = ap length e in let b = length-append groups (g ∷ []) in omega arith),
   λ j x q. elim (last_cases groups g j x (ap (λ xs. slice_get xs j) (sym e) ∙ q)) [
     | inl p ↦ f j x p
-    | inr p ↦ subst (λ k. IsFirst plan numbers k x) (sym (p.0 ∙ n)) (subst (λ y. IsFirst plan numbers h y) p.1 is)
+    | inr p ↦ subst (λ k. IsFirstGroup plan numbers k x) (sym (p.0 ∙ n)) (subst (λ y. IsFirstGroup plan numbers h y) p.1 is)
   ],
 )
 
 pub at_first : (plan : Plan) (numbers : List ℕ) (groups : List GroupValue) (es : List Record) → AreFirst plan numbers groups → es ≡ firsts (line_of plan) (λ i. true) (length plan.nodes)
-    → IsAt (start (line_of plan) (cast_of numbers)) (value_of plan numbers groups es)
+    → IsWorldAt (start (line_of plan) (cast_of numbers)) (world_value plan numbers groups es)
 at_first plan numbers groups es f e = record { emitted = e; groups = λ h g q. (f h g q).begun_as }
 
 pub first_world : (plan : Plan) (numbers : List ℕ) (groups : List GroupValue) (es : List Record) → IsChecked plan → IsGrouping (length plan.nodes) numbers → length groups ≡ groups_of numbers
-    → AreFirst plan numbers groups → es ≡ firsts (line_of plan) (λ i. true) (length plan.nodes) → IsWorldValue (value_of plan numbers groups es)
+    → AreFirst plan numbers groups → es ≡ firsts (line_of plan) (λ i. true) (length plan.nodes) → IsWorldValue (world_value plan numbers groups es)
 first_world plan numbers groups es checked grouping count f e = record {
   staffed = record { checked = checked; grouping = grouping; count = count; plans = λ h g q. (f h g q).plan_is; members = λ h g q. (f h g q).members };
   reached = ([], at_first plan numbers groups es f e);
@@ -131,7 +131,7 @@ first_world plan numbers groups es checked grouping count f e = record {
 
 -- the world with another group at h, and these records emitted
 abbrev with_group : WorldValue → ℕ → GroupValue → List Record → WorldValue
-with_group v h new es = value_of v.plan v.numbers (slice_set v.groups h new) es
+with_group v h new es = world_value v.plan v.numbers (slice_set v.groups h new) es
 
 staffed_put : (v : WorldValue) (h : ℕ) (old new : GroupValue) (es : List Record) → IsStaffed v → h < length v.groups → slice_get v.groups h ≡ Some old → new.plan ≡ old.plan → has new ≡ has old
     → IsStaffed (with_group v h new es)
@@ -140,12 +140,12 @@ staffed_put v h old new es s b e p m = record {
   grouping = s.grouping;
   count = same_length v.groups h new ∙ s.count;
   plans = λ j x r. set_cases v.groups h j new x (λ y. y.plan ≡ v.plan) b r (λ _. p ∙ s.plans h old e) (λ q _. s.plans j x q);
-  members = λ j x r. set_cases v.groups h j new x (λ y. has y ≡ belongs (cast_of v.numbers) j) b r
-      (λ same. m ∙ (s.members h old e ∙ ap (belongs (cast_of v.numbers)) (sym same))) (λ q _. s.members j x q);
+  members = λ j x r. set_cases v.groups h j new x (λ y. has y ≡ is_of_group (cast_of v.numbers) j) b r
+      (λ same. m ∙ (s.members h old e ∙ ap (is_of_group (cast_of v.numbers)) (sym same))) (λ q _. s.members j x q);
 }
 
-at_put : (v : WorldValue) (w : Scene) (h : ℕ) (new : GroupValue) (q : Party) (es more : List Record) → IsAt w v → h < length v.groups → Matches q new → es ≡ more
-    → IsAt (record { parties = put w.parties h q; emitted = more }) (with_group v h new es)
+at_put : (v : WorldValue) (w : Scene) (h : ℕ) (new : GroupValue) (q : Party) (es more : List Record) → IsWorldAt w v → h < length v.groups → Matches q new → es ≡ more
+    → IsWorldAt (record { parties = put w.parties h q; emitted = more }) (with_group v h new es)
 at_put v w h new q es more at b m e = record {
   emitted = e;
   groups = λ j x r. set_cases v.groups h j new x (λ y. Matches (put w.parties h q j) y) b r
@@ -153,11 +153,11 @@ at_put v w h new q es more at b m e = record {
       (λ r' n. put_at w.parties h q (λ p. Matches p x) j (λ same. absurd (n same)) (λ _. at.groups j x r'));
 }
 
-has_done : (l : Line) (c : Cast) (w : Scene) (e : Event) (new : WorldValue) → possible l c w e ≡ true → IsAt (done l c w e) new → (Done ≡ answer l c w e) × IsAt (happens l c w e) new
-has_done l c w e new y at = (sym (cond-true (possible l c w e) Done Idle y), subst (λ s. IsAt s new) (sym (cond-true (possible l c w e) (done l c w e) w y)) at)
+has_done : (l : Line) (c : Cast) (w : Scene) (e : Event) (new : WorldValue) → possible l c w e ≡ true → IsWorldAt (done l c w e) new → (Done ≡ answer l c w e) × IsWorldAt (happens l c w e) new
+has_done l c w e new y at = (sym (cond-true (possible l c w e) Done Idle y), subst (λ s. IsWorldAt s new) (sym (cond-true (possible l c w e) (done l c w e) w y)) at)
 
-has_idled : (l : Line) (c : Cast) (w : Scene) (e : Event) (v : WorldValue) → possible l c w e ≡ false → IsAt w v → (Idle ≡ answer l c w e) × IsAt (happens l c w e) v
-has_idled l c w e v n at = (sym (cond-false (possible l c w e) Done Idle n), subst (λ s. IsAt s v) (sym (cond-false (possible l c w e) (done l c w e) w n)) at)
+has_idled : (l : Line) (c : Cast) (w : Scene) (e : Event) (v : WorldValue) → possible l c w e ≡ false → IsWorldAt w v → (Idle ≡ answer l c w e) × IsWorldAt (happens l c w e) v
+has_idled l c w e v n at = (sym (cond-false (possible l c w e) Done Idle n), subst (λ s. IsWorldAt s v) (sym (cond-false (possible l c w e) (done l c w e) w n)) at)
 
 right_false : (a b : Bool) → b ≡ false → (a && b) ≡ false
 right_false true b e = e
@@ -171,19 +171,19 @@ no_group v h s b = le-ltb h (groups_of v.numbers) (subst (λ n. n ≤ h) s.count
 
 -- the world after it is one, if the step is the machine's
 pub world_stepped : (v : WorldValue) (h : ℕ) (old new : GroupValue) (es : List Record) (e : Event) (a : Answer) → IsWorldValue v → h < length v.groups → slice_get v.groups h ≡ Some old → new.plan ≡ old.plan → has new ≡ has old
-    → HasStepped IsAt (line_of v.plan) (cast_of v.numbers) e v (with_group v h new es) a → IsWorldValue (with_group v h new es)
+    → HasStepped IsWorldAt (line_of v.plan) (cast_of v.numbers) e v (with_group v h new es) a → IsWorldValue (with_group v h new es)
 world_stepped v h old new es e a i b g p m step = record {
   staffed = staffed_put v h old new es i.staffed b g p m;
   reached = (
     i.reached.0 ++ e ∷ [],
-    subst (λ s. IsAt s (with_group v h new es)) (sym (run_append (line_of v.plan) (cast_of v.numbers) i.reached.0 (e ∷ []) (start (line_of v.plan) (cast_of v.numbers))))
+    subst (λ s. IsWorldAt s (with_group v h new es)) (sym (run_append (line_of v.plan) (cast_of v.numbers) i.reached.0 (e ∷ []) (start (line_of v.plan) (cast_of v.numbers))))
         (step (run (line_of v.plan) (cast_of v.numbers) i.reached.0 (start (line_of v.plan) (cast_of v.numbers))) i.reached.1).1,
   );
 }
 
 -- and one whose group stayed
 pub same_world : (v : WorldValue) (h : ℕ) (old new : GroupValue) → slice_get v.groups h ≡ Some old → new ≡ old → with_group v h new v.emitted ≡ v
-same_world v h old new g e = ap (λ gs. value_of v.plan v.numbers gs v.emitted) (ap (slice_set v.groups h) e ∙ set_got v.groups h old g)
+same_world v h old new g e = ap (λ gs. world_value v.plan v.numbers gs v.emitted) (ap (slice_set v.groups h) e ∙ set_got v.groups h old g)
 
 pub unchanged : (v : WorldValue) (h : ℕ) (old new : GroupValue) (es : List Record) → slice_get v.groups h ≡ Some old → new ≡ old → es ≡ v.emitted → with_group v h new es ≡ v
 unchanged v h old new es g e f = ap (λ (rs : List Record). with_group v h new rs) f ∙ same_world v h old new g e
@@ -214,7 +214,7 @@ truth_of v h k old other i g f is =
 
 pub delivers : (v : WorldValue) (h k : ℕ) (old new : GroupValue) (r : Record) → IsStaffed v → h < length v.groups → slice_get v.groups h ≡ Some old → slice_get v.emitted k ≡ Some r
     → ((p : Party) → Matches p old → Matches (taking (r ∷ []) p) new)
-    → HasStepped IsAt (line_of v.plan) (cast_of v.numbers) (Deliver h k) v (with_group v h new v.emitted) Done
+    → HasStepped IsWorldAt (line_of v.plan) (cast_of v.numbers) (Deliver h k) v (with_group v h new v.emitted) Done
 delivers v h k old new r s b g t after w at =
     has_done (line_of v.plan) (cast_of v.numbers) w (Deliver h k) (with_group v h new v.emitted)
     (and_from (nat_lt h (groups_of v.numbers)) (nat_lt k (length w.emitted)) (is_group v h s b) (lt-ltb k (length w.emitted) (subst (λ xs. k < length xs) at.emitted (slice_get_within v.emitted k r t))))
@@ -222,7 +222,7 @@ delivers v h k old new r s b g t after w at =
     (subst (λ o. Matches (taking (at_most_one o) (w.parties h)) new) (sym (ap (λ xs. slice_get xs k) (sym at.emitted) ∙ t)) (after (w.parties h) (at.groups h old g)))
     at.emitted)
 
-pub idle_delivery : (v : WorldValue) (h k : ℕ) → IsStaffed v → (length v.groups ≤ h) ⊎ (length v.emitted ≤ k) → HasStepped IsAt (line_of v.plan) (cast_of v.numbers) (Deliver h k) v v Idle
+pub idle_delivery : (v : WorldValue) (h k : ℕ) → IsStaffed v → (length v.groups ≤ h) ⊎ (length v.emitted ≤ k) → HasStepped IsWorldAt (line_of v.plan) (cast_of v.numbers) (Deliver h k) v v Idle
 idle_delivery v h k s (inl b) w at =
     has_idled (line_of v.plan) (cast_of v.numbers) w (Deliver h k) v (ap (λ t. t && nat_lt k (length w.emitted)) (no_group v h s b)) at
 idle_delivery v h k s (inr b) w at =
@@ -231,7 +231,7 @@ idle_delivery v h k s (inr b) w at =
 
 pub joins : (v : WorldValue) (h k : ℕ) (old other new : GroupValue) → IsStaffed v → h < length v.groups → k < length v.groups → slice_get v.groups h ≡ Some old → slice_get v.groups k ≡ Some other
     → ((p : Party) (rs : List Record) → Matches p old → other.replica ≡ state_of (length old.plan.nodes) rs → Matches (taking rs p) new)
-    → HasStepped IsAt (line_of v.plan) (cast_of v.numbers) (Join h k) v (with_group v h new v.emitted) Done
+    → HasStepped IsWorldAt (line_of v.plan) (cast_of v.numbers) (Join h k) v (with_group v h new v.emitted) Done
 joins v h k old other new s b d g f after w at =
     has_done (line_of v.plan) (cast_of v.numbers) w (Join h k) (with_group v h new v.emitted)
     (and_from (nat_lt h (groups_of v.numbers)) (nat_lt k (groups_of v.numbers)) (is_group v h s b) (is_group v k s d))
@@ -240,21 +240,21 @@ joins v h k old other new s b d g f after w at =
     (subst (λ (p : Plan). other.replica ≡ state_of (length p.nodes) (w.parties k).taken) (s.plans k other f ∙ sym (s.plans h old g)) (at.groups k other f).replica))
     at.emitted)
 
-pub idle_join : (v : WorldValue) (h k : ℕ) → IsStaffed v → (length v.groups ≤ h) ⊎ (length v.groups ≤ k) → HasStepped IsAt (line_of v.plan) (cast_of v.numbers) (Join h k) v v Idle
+pub idle_join : (v : WorldValue) (h k : ℕ) → IsStaffed v → (length v.groups ≤ h) ⊎ (length v.groups ≤ k) → HasStepped IsWorldAt (line_of v.plan) (cast_of v.numbers) (Join h k) v v Idle
 idle_join v h k s (inl b) w at =
     has_idled (line_of v.plan) (cast_of v.numbers) w (Join h k) v (ap (λ t. t && nat_lt k (groups_of v.numbers)) (no_group v h s b)) at
 idle_join v h k s (inr b) w at =
     has_idled (line_of v.plan) (cast_of v.numbers) w (Join h k) v (right_false (nat_lt h (groups_of v.numbers)) (nat_lt k (groups_of v.numbers)) (no_group v k s b)) at
 
 pub restarts : (v : WorldValue) (h : ℕ) (old new : GroupValue) → IsStaffed v → h < length v.groups → slice_get v.groups h ≡ Some old → Matches (begun (line_of old.plan) (has old)) new
-    → HasStepped IsAt (line_of v.plan) (cast_of v.numbers) (Restart h) v (with_group v h new v.emitted) Done
+    → HasStepped IsWorldAt (line_of v.plan) (cast_of v.numbers) (Restart h) v (with_group v h new v.emitted) Done
 restarts v h old new s b g m w at =
     has_done (line_of v.plan) (cast_of v.numbers) w (Restart h) (with_group v h new v.emitted) (is_group v h s b)
-    (at_put v w h new (begun (line_of v.plan) (belongs (cast_of v.numbers) h)) v.emitted w.emitted at b
+    (at_put v w h new (begun (line_of v.plan) (is_of_group (cast_of v.numbers) h)) v.emitted w.emitted at b
     (subst (λ f. Matches (begun (line_of v.plan) f) new) (s.members h old g) (subst (λ (p : Plan). Matches (begun (line_of p) (has old)) new) (s.plans h old g) m))
     at.emitted)
 
-pub idle_restart : (v : WorldValue) (h : ℕ) → IsStaffed v → length v.groups ≤ h → HasStepped IsAt (line_of v.plan) (cast_of v.numbers) (Restart h) v v Idle
+pub idle_restart : (v : WorldValue) (h : ℕ) → IsStaffed v → length v.groups ≤ h → HasStepped IsWorldAt (line_of v.plan) (cast_of v.numbers) (Restart h) v v Idle
 idle_restart v h s b w at = has_idled (line_of v.plan) (cast_of v.numbers) w (Restart h) v (no_group v h s b) at
 
 -- a reply that emits
@@ -266,13 +266,13 @@ reply_parts true false false x rs q = absurd cc
 
 -- the advance for the plan and the grouping of the world
 advanced_in : (v : WorldValue) (h i : ℕ) (old new : GroupValue) (a : Reply) → IsStaffed v → slice_get v.groups h ≡ Some old → HasAdvanced Matches (line_of old.plan) (has old) i old new a
-    → HasAdvanced Matches (line_of v.plan) (belongs (cast_of v.numbers) h) i old new a
+    → HasAdvanced Matches (line_of v.plan) (is_of_group (cast_of v.numbers) h) i old new a
 advanced_in v h i old new a s g ad =
     subst (λ f. HasAdvanced Matches (line_of v.plan) f i old new a) (s.members h old g)
     (subst (λ (p : Plan). HasAdvanced Matches (line_of p) (has old) i old new a) (s.plans h old g) ad)
 
 -- a member is a node
-is_node : GroupingLaws → (v : WorldValue) (h i : ℕ) → IsStaffed v → h < length v.groups → belongs (cast_of v.numbers) h i ≡ true → i < length v.plan.nodes
+pub is_node : GroupingLaws → (v : WorldValue) (h i : ℕ) → IsStaffed v → h < length v.groups → is_of_group (cast_of v.numbers) h i ≡ true → i < length v.plan.nodes
 is_node laws v h i s b m = elim (cases_lt i (length v.numbers)) [
   | inl inside ↦ subst (λ n. i < n) s.grouping.0 inside
   | inr outside ↦ absurd (false≢true (sym (laws.no_node v.numbers h i (let few = laws.few v.numbers s.grouping.1 in let there : h < groups_of v.numbers = subst (λ n. h < n) s.count b in omega arith) outside) ∙ m))
@@ -280,7 +280,7 @@ is_node laws v h i s b m = elim (cases_lt i (length v.numbers)) [
 
 pub advances : GroupingLaws → (v : WorldValue) (h i : ℕ) (old new : GroupValue) (rs : List Record) → IsStaffed v → h < length v.groups → slice_get v.groups h ≡ Some old
     → HasAdvanced Matches (line_of old.plan) (has old) i old new (emitted rs)
-    → HasStepped IsAt (line_of v.plan) (cast_of v.numbers) (Advance h i) v (with_group v h new (v.emitted ++ rs)) Done
+    → HasStepped IsWorldAt (line_of v.plan) (cast_of v.numbers) (Advance h i) v (with_group v h new (v.emitted ++ rs)) Done
 advances laws v h i old new rs s b g ad w at =
     has_done l c w (Advance h i) (with_group v h new (v.emitted ++ rs))
     (and_from (nat_lt h c.groups) (nat_lt i l.nodes && can_advance l test p i) (is_group v h s b)
@@ -296,7 +296,7 @@ advances laws v h i old new rs s b g ad w at =
     c = cast_of v.numbers
 
     test : ℕ → Bool
-    test = belongs c h
+    test = is_of_group c h
 
     p : Party
     p = w.parties h
@@ -305,7 +305,7 @@ advances laws v h i old new rs s b g ad w at =
     so = advanced_in v h i old new (emitted rs) s g ad
 
     parts : (can_advance l test p i ≡ true) × (rs ≡ emission_of l p i)
-    parts = reply_parts (test i) (nat_le l.stop (due l i (p.members i))) (can_run l i (p.members i) (slots p)) (emission_of l p i) rs (so.reply p (at.groups h old g))
+    parts = reply_parts (test i) (nat_le l.stop (next_tick l i (p.members i))) (can_run l i (p.members i) (slots p)) (emission_of l p i) rs (so.reply p (at.groups h old g))
 
 stuck_reply : (a b : Reply) (x : List Record) → (a ≡ blocked) ⊎ (a ≡ ended) → a ≡ b → b ≡ emitted x → ⊥
 stuck_reply a b x (inl e) f g = cc
@@ -313,7 +313,7 @@ stuck_reply a b x (inr e) f g = cc
 
 pub waits : AdvanceLaws → (v : WorldValue) (h i : ℕ) (old new : GroupValue) (a : Reply) → IsStaffed v → slice_get v.groups h ≡ Some old
     → HasAdvanced Matches (line_of old.plan) (has old) i old new a → (a ≡ blocked) ⊎ (a ≡ ended)
-    → HasStepped IsAt (line_of v.plan) (cast_of v.numbers) (Advance h i) v v Idle
+    → HasStepped IsWorldAt (line_of v.plan) (cast_of v.numbers) (Advance h i) v v Idle
 waits laws v h i old new a s g ad refused w at =
     has_idled l c w (Advance h i) v
     (right_false (nat_lt h c.groups) (nat_lt i l.nodes && can_advance l test p i) (right_false (nat_lt i l.nodes) (can_advance l test p i) stuck)) at
@@ -325,7 +325,7 @@ waits laws v h i old new a s g ad refused w at =
     c = cast_of v.numbers
 
     test : ℕ → Bool
-    test = belongs c h
+    test = is_of_group c h
 
     p : Party
     p = w.parties h
@@ -339,7 +339,43 @@ waits laws v h i old new a s g ad refused w at =
       | inr n ↦ n
     ]
 
-pub idle_advance : (v : WorldValue) (h i : ℕ) → IsStaffed v → length v.groups ≤ h → HasStepped IsAt (line_of v.plan) (cast_of v.numbers) (Advance h i) v v Idle
+pub idle_advance : (v : WorldValue) (h i : ℕ) → IsStaffed v → length v.groups ≤ h → HasStepped IsWorldAt (line_of v.plan) (cast_of v.numbers) (Advance h i) v v Idle
 idle_advance v h i s b w at =
     has_idled (line_of v.plan) (cast_of v.numbers) w (Advance h i) v
-    (ap (λ t. t && (nat_lt i (length v.plan.nodes) && can_advance (line_of v.plan) (belongs (cast_of v.numbers) h) (w.parties h) i)) (no_group v h s b)) at
+    (ap (λ t. t && (nat_lt i (length v.plan.nodes) && can_advance (line_of v.plan) (is_of_group (cast_of v.numbers) h) (w.parties h) i)) (no_group v h s b)) at
+
+-- a node may advance in the scene where it may in the group
+pub may_there : GroupingLaws → ValueLaws → (v : WorldValue) → IsStaffed v → (h : ℕ) (g : GroupValue) → h < length v.groups → slice_get v.groups h ≡ Some g → (w : Scene) → IsWorldAt w v → (i : ℕ)
+    → possible (line_of v.plan) (cast_of v.numbers) w (Advance h i) ≡ may_run g i
+may_there laws values v s h g b there w at i = elim (cases_Bool can) [
+  | inl y ↦
+      and_from (nat_lt h c.groups) (nat_lt i l.nodes && can) (is_group v h s b)
+      (and_from (nat_lt i l.nodes) can (lt-ltb i l.nodes (is_node laws v h i s b (and_parts (is_of_group c h i) (can_run l i (p.members i) (slots p)) y).0)) y)
+      ∙ (sym y ∙ same)
+  | inr n ↦ right_false (nat_lt h c.groups) (nat_lt i l.nodes && can) (right_false (nat_lt i l.nodes) can n) ∙ (sym n ∙ same)
+]
+  where
+    l : Line
+    l = line_of v.plan
+
+    c : Cast
+    c = cast_of v.numbers
+
+    p : Party
+    p = w.parties h
+
+    can : Bool
+    can = can_advance l (is_of_group c h) p i
+
+    same : can ≡ may_run g i
+    same =
+        subst (λ (plan : Plan). can_advance (line_of plan) (is_of_group c h) p i ≡ may_run g i) (s.plans h g there)
+        (subst (λ f. can_advance (line_of g.plan) f p i ≡ may_run g i) (s.members h g there) (sym (values.may_as g p i (at.groups h g there))))
+
+pub some_as : {A : Type 0} (r : Option A) (P Q : A → Type 0) → ((x : A) → P x → Q x) → IfSome r P → IfSome r Q
+some_as None P Q f p = tt
+some_as (Some x) P Q f p = f x p
+
+pub none_as : {A P Q : Type 0} (r : Option A) → (P → Q) → IfNone r P → IfNone r Q
+none_as None f p = f p
+none_as (Some x) f p = tt

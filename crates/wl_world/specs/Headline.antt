@@ -1,20 +1,20 @@
 -- The headline: whatever the groups do, in whatever order records come, all is as in the one-thread simulation; and no stall.
 -- Chandy and Misra 1979 show both of processes that send messages in order; the form here is this project's profile.
 use Rattle.std.specs.Prelude.{◌≡◌, ℕ, ◌<◌, ◌≤◌, ◌⊎◌, true, List, ◌++◌, length, Contains}
-use Rattle.wl_intervals.specs.Levels.{level_of}
-use Rattle.wl_record.specs.declared.record.Record.{Record}
-use Rattle.wl_record.specs.Truth.{AreTrueOf}
+use Rattle.wl_level.specs.Levels.{level_of}
+use Rattle.wl_record_core.specs.declared.record.Record.{Record}
+use Rattle.wl_record_core.specs.Truth.{AreTrueOf}
 use Rattle.wl_lattice.specs.Maps.{SameMembers}
-use Rattle.wl_replica.specs.State.{state_of, joined, slots_of}
+use Rattle.wl_replica.specs.State.{state_of, states_joined, slots_of}
 use Rattle.wl_replica.specs.Laws.{IsJoining}
-use Rattle.wl_replica.specs.Slots.{Slots, HoldsTrue}
+use Rattle.wl_replica.specs.Slots.{Contents, HoldsTrue}
 use Rattle.wl_replica.specs.Known.{horizon, wave_at}
 use Rattle.wl_world.specs.declared.events.Event.{Event}
 use Rattle.wl_world.specs.declared.events.Event.TheVariants.{Advance}
 use Rattle.wl_plan.specs.Line.{Line, found}
 use Rattle.wl_plan.specs.Simulation.{history, level, changes}
 use Rattle.wl_plan.specs.Sound.{IsSound}
-use Rattle.wl_group.specs.Member.{Member, due, level_read}
+use Rattle.wl_group.specs.Member.{Member, next_tick, level_read}
 use Rattle.wl_group.specs.Party.{Party, slots}
 use Rattle.wl_group.specs.Holds.{IsMember}
 use Rattle.wl_world.specs.Scene.{Cast, Scene, start, possible, run}
@@ -27,7 +27,7 @@ SameRecordsSameReplica = (nodes : ℕ) (p q : Party) → SameMembers p.taken q.t
 
 -- a join counts as all that the other took
 abbrev pub JoinCountsAll : Type 0
-JoinCountsAll = (nodes : ℕ) (p q : Party) → joined (state_of nodes p.taken) (state_of nodes q.taken) ≡ state_of nodes (p.taken ++ q.taken)
+JoinCountsAll = (nodes : ℕ) (p q : Party) → states_joined (state_of nodes p.taken) (state_of nodes q.taken) ≡ state_of nodes (p.taken ++ q.taken)
 
 -- what a group knows, slot by slot, is what its replica holds
 abbrev pub ReplicaHasSlots : Type 0
@@ -51,13 +51,13 @@ pub record IsFaithful (l : Line) (c : Cast) (w : Scene) : Type 0 where
   pub nodes_placed : (h i : ℕ) → h < c.groups → i < l.nodes → c.group_of i ≡ h → IsMember l i (member_of w h i) (slots (w.parties h))
   -- it has seen exactly what its node has seen in the simulation before the tick of its next quantum
   pub nodes_agree : (h i : ℕ) → h < c.groups → i < l.nodes → c.group_of i ≡ h
-      → (member_of w h i).saw ≡ (history l (due l i (member_of w h i))).seen i
+      → (member_of w h i).saw ≡ (history l (next_tick l i (member_of w h i))).seen i
   -- where that is the end or later it has seen all, and has made all its changes
-  pub nodes_ended : (h i : ℕ) → h < c.groups → i < l.nodes → c.group_of i ≡ h → l.stop ≤ due l i (member_of w h i)
+  pub nodes_ended : (h i : ℕ) → h < c.groups → i < l.nodes → c.group_of i ≡ h → l.stop ≤ next_tick l i (member_of w h i)
       → ((member_of w h i).saw ≡ (history l l.stop).seen i) × ((member_of w h i).changed ≡ length (changes l i))
   -- a quantum that may run reads the line as it is there
   pub reads_agree : (h i : ℕ) → possible l c w (Advance h i) ≡ true
-      → level_read l i (member_of w h i) (slots (w.parties h)) ≡ level_of (found l (level l) i (due l i (member_of w h i)))
+      → level_read l i (member_of w h i) (slots (w.parties h)) ≡ level_of (found l (level l) i (next_tick l i (member_of w h i)))
 
 -- the list of emitted records only grows
 abbrev pub Grows : Scene → Scene → Type 0
@@ -73,7 +73,7 @@ pub record Headline : Type 0 where
   pub counts_all : JoinCountsAll
   pub has_slots : ReplicaHasSlots
   -- and of every replica that holds what is true, whatever way the records came
-  pub replicas_agree : (l : Line) → IsSound l → (w : Slots) → HoldsTrue l.nodes (changes l) w → (i t : ℕ) → i < l.nodes → t < horizon w i → wave_at w i t ≡ level l i t
+  pub replicas_agree : (l : Line) → IsSound l → (w : Contents) → HoldsTrue l.nodes (changes l) w → (i t : ℕ) → i < l.nodes → t < horizon w i → wave_at w i t ≡ level l i t
 
 -- ---- no stall
 
@@ -83,7 +83,7 @@ HasAll w h = (r : Record) → Contains w.emitted r → Contains (w.parties h).ta
 
 -- each node's next quantum is at the end or later
 abbrev pub AllAtEnd : Line → Cast → Scene → Type 0
-AllAtEnd l c w = (i : ℕ) → i < l.nodes → l.stop ≤ due l i (member_of w (c.group_of i) i)
+AllAtEnd l c w = (i : ℕ) → i < l.nodes → l.stop ≤ next_tick l i (member_of w (c.group_of i) i)
 
 -- Where each group has taken all that was emitted, some node can advance, or all are at the end.
 abbrev pub NoStall : Type 0

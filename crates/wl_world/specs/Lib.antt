@@ -1,6 +1,10 @@
+pub mod Ended
+pub mod Faithful
 pub mod Headline
+pub mod Moves
 pub mod Scene
 pub mod Settling
 pub mod Steps
 pub mod Stored
 pub mod WorldValue
+pub mod WorldSteps

@@ -1,7 +1,7 @@
 -- The machine of groups: they advance by themselves, hand records to each other, join and restart, in any order. This project's profile,
 -- after Chandy and Misra 1979; for a reader who knows simulation: all schedules of a conservative parallel simulation, lost and repeated messages too.
 use Rattle.std.specs.Prelude.{ℕ, Bool, true, ◌&&◌, Option, Some, None, List, [], ◌∷◌, ◌++◌, length, nat_lt, ◌==◌, if◌then◌else◌, slice_get}
-use Rattle.wl_record.specs.declared.record.Record.{Record}
+use Rattle.wl_record_core.specs.declared.record.Record.{Record}
 use Rattle.wl_world.specs.declared.events.Event.{Event}
 use Rattle.wl_world.specs.declared.events.Event.TheVariants.{Advance, Deliver, Join, Restart}
 use Rattle.wl_world.specs.declared.events.Answer.{Answer}
@@ -16,8 +16,8 @@ pub record Cast : Type 0 where
   pub group_of : ℕ → ℕ
 
 -- whether node i is in group h
-abbrev pub belongs : Cast → ℕ → ℕ → Bool
-belongs c h i = c.group_of i == h
+abbrev pub is_of_group : Cast → ℕ → ℕ → Bool
+is_of_group c h i = c.group_of i == h
 
 -- the groups, and all records that were ever emitted, the oldest first
 pub record Scene : Type 0 where
@@ -26,11 +26,11 @@ pub record Scene : Type 0 where
 
 -- at the start each group begins, and each node's first silence is emitted
 abbrev pub start : Line → Cast → Scene
-start l c = record { parties = λ h. begun l (belongs c h); emitted = firsts l (λ i. true) l.nodes }
+start l c = record { parties = λ h. begun l (is_of_group c h); emitted = firsts l (λ i. true) l.nodes }
 
 -- whether an event may happen: its group, record or node is there, and the node may run its next quantum
 abbrev pub possible : Line → Cast → Scene → Event → Bool
-possible l c w (Advance h i) = nat_lt h c.groups && (nat_lt i l.nodes && can_advance l (belongs c h) (w.parties h) i)
+possible l c w (Advance h i) = nat_lt h c.groups && (nat_lt i l.nodes && can_advance l (is_of_group c h) (w.parties h) i)
 possible l c w (Deliver h k) = nat_lt h c.groups && nat_lt k (length w.emitted)
 possible l c w (Join h k) = nat_lt h c.groups && nat_lt k c.groups
 possible l c w (Restart h) = nat_lt h c.groups
@@ -45,7 +45,7 @@ abbrev pub done : Line → Cast → Scene → Event → Scene
 done l c w (Advance h i) = record { parties = put w.parties h (run_next l i (w.parties h)); emitted = w.emitted ++ emission_of l (w.parties h) i }
 done l c w (Deliver h k) = record { parties = put w.parties h (taking (at_most_one (slice_get w.emitted k)) (w.parties h)); emitted = w.emitted }
 done l c w (Join h k) = record { parties = put w.parties h (taking (w.parties k).taken (w.parties h)); emitted = w.emitted }
-done l c w (Restart h) = record { parties = put w.parties h (begun l (belongs c h)); emitted = w.emitted }
+done l c w (Restart h) = record { parties = put w.parties h (begun l (is_of_group c h)); emitted = w.emitted }
 
 -- an event that may not happen changes nothing
 abbrev pub happens : Line → Cast → Scene → Event → Scene

@@ -2,7 +2,7 @@
 -- Chandy and Misra 1979: with all promises delivered the least of the next events can always be handled.
 use Rattle.std.specs.Prelude.{◌≡◌, ◌↔◌, ℕ, zero, suc, ◌+◌, ◌-◌, ◌<◌, ◌≤◌, true, false, List, [], ◌++◌, length, Contains, Some, slice_get}
 use Rattle.std.specs.List.{AllByRecursion}
-use Rattle.wl_record.specs.declared.record.Record.{Record}
+use Rattle.wl_record_core.specs.declared.record.Record.{Record}
 use Rattle.wl_world.specs.declared.events.Event.{Event}
 use Rattle.wl_world.specs.declared.events.Event.TheVariants.{Advance, Deliver, Join, Restart}
 use Rattle.wl_plan.specs.Line.{Line}
@@ -49,17 +49,17 @@ abbrev pub left_below : Line → Cast → Scene → ℕ → ℕ
 left_below l c w zero = 0
 left_below l c w (suc n) = left_below l c w n + (ran l n l.stop - length (member_of w (c.group_of n) n).saw)
 
-abbrev pub quanta_left : Line → Cast → Scene → ℕ
-quanta_left l c w = left_below l c w l.nodes
+abbrev pub quanta_left_in : Line → Cast → Scene → ℕ
+quanta_left_in l c w = left_below l c w l.nodes
 
 pub record SettlingLaws : Type 0 where
   -- an advance runs one of the quanta that are left, a delivery none
   pub advance_lowers : (l : Line) → IsSound l → (c : Cast) (w : Scene) → IsFaithful l c w → (h i : ℕ) → possible l c w (Advance h i) ≡ true
-      → quanta_left l c w ≡ suc (quanta_left l c (done l c w (Advance h i)))
-  pub deliver_keeps : (l : Line) (c : Cast) (w : Scene) (h k : ℕ) → quanta_left l c (happens l c w (Deliver h k)) ≡ quanta_left l c w
+      → quanta_left_in l c w ≡ suc (quanta_left_in l c (done l c w (Advance h i)))
+  pub deliver_keeps : (l : Line) (c : Cast) (w : Scene) (h k : ℕ) → quanta_left_in l c (happens l c w (Deliver h k)) ≡ quanta_left_in l c w
   -- none is left where all are at the end
   pub none_left : (l : Line) → IsSound l → (c : Cast) → ((i : ℕ) → i < l.nodes → c.group_of i < c.groups) → (w : Scene) → IsFaithful l c w
-      → (quanta_left l c w ≡ 0) ↔ AllAtEnd l c w
+      → (quanta_left_in l c w ≡ 0) ↔ AllAtEnd l c w
   -- what is delivered is taken, and no move takes it back
   pub delivered : (l : Line) (c : Cast) (w : Scene) (h k : ℕ) (r : Record) → h < c.groups → slice_get w.emitted k ≡ Some r
       → Contains ((happens l c w (Deliver h k)).parties h).taken r
@@ -69,4 +69,4 @@ pub record SettlingLaws : Type 0 where
   pub rounds_move : (l : Line) (c : Cast) (w : Scene) (n : ℕ) (moves : List Event) → Rounds l c w n moves → AllByRecursion IsMove moves
   pub rounds_end : (l : Line) (c : Cast) (w : Scene) (n : ℕ) (moves : List Event) → Rounds l c w n moves → AllAtEnd l c (run l c moves w)
   pub few_rounds : (l : Line) → IsSound l → (c : Cast) → ((i : ℕ) → i < l.nodes → c.group_of i < c.groups) → (before : List Event) (n : ℕ) (moves : List Event)
-      → Rounds l c (run l c before (start l c)) n moves → n ≤ quanta_left l c (run l c before (start l c))
+      → Rounds l c (run l c before (start l c)) n moves → n ≤ quanta_left_in l c (run l c before (start l c))

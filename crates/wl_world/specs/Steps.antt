@@ -6,7 +6,6 @@ use Rattle.wl_world.specs.declared.events.Event.{Event}
 use Rattle.wl_world.specs.declared.events.Answer.{Answer}
 use Rattle.wl_plan.specs.Line.{Line}
 use Rattle.wl_world.specs.Scene.{Cast, Scene, start, happens, run, answer, answers}
-use Rattle.wl_world.specs.Headline.{IsFaithful, Grows}
 use Rattle.wl_world.specs.Settling.{IsMove, Rounds}
 
 module _ {W : Type 0} (at : Scene → W → Type 0) (l : Line) (c : Cast) where
@@ -29,12 +28,6 @@ module _ {W : Type 0} (at : Scene → W → Type 0) (l : Line) (c : Cast) where
   HasStopped events old new count =
       (count < length events)
       × ((before : List Event) → at (run l c before (start l c)) old → at (run l c (before ++ take count events) (start l c)) new)
-
-  -- and what the headline says of the world afterwards
-  abbrev pub IsFaithfulAfter : List Event → W → Type 0
-  IsFaithfulAfter events old =
-      (before : List Event) → at (run l c before (start l c)) old
-      → IsFaithful l c (run l c (before ++ events) (start l c)) × Grows (run l c before (start l c)) (run l c (before ++ events) (start l c))
 
   -- ---- settling: records are delivered to all and nodes advance, until all are at the end
 

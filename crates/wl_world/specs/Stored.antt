@@ -1,8 +1,8 @@
 -- How the value of a world is coded, so that a proof can tell two values apart.
 use Rattle.std.specs.Prelude.{ℕ, List, refl}
 use Rattle.std.specs.Coded.{Coded, code_by, coded×, coded_ℕ, coded_list}
-use Rattle.wl_record.specs.declared.record.Record.{Record}
-use Rattle.wl_record.specs.contracts.record.Record as record_contract
+use Rattle.wl_record_core.specs.declared.record.Record.{Record}
+use Rattle.wl_record_core.specs.contracts.record.Record as record_contract
 use Rattle.wl_plan.specs.declared.plan.Plan.{Plan}
 use Rattle.wl_plan.specs.contracts.plan.Plan as plan_contract
 use Rattle.wl_group.specs.GroupValue.{GroupValue}

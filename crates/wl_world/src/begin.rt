@@ -1,19 +1,17 @@
 //! What a world begins with.
-ghost use Rattle.std.specs.Prelude.{◌≡◌, ◌<◌, true, [], length, IfOk};
-ghost use Rattle.wl_record.specs.declared.record.Record.TheVariants.{Silence};
-ghost use Rattle.wl_plan.specs.Line.{reach};
+ghost use Rattle.std.specs.Prelude.{◌≡◌, ◌<◌, true, length, IfOk};
 ghost use Rattle.wl_plan.specs.Checked.{IsChecked};
 ghost use Rattle.wl_plan.specs.Groupings.{IsGrouping, groups_of};
 ghost use Rattle.wl_plan.specs.PlanLine.{line_of};
 ghost use Rattle.wl_group.specs.GroupValue.{Matches, belongs as has};
 ghost use Rattle.wl_group.specs.Party.{begun, firsts};
-ghost use Rattle.wl_world.specs.Scene.{belongs};
+ghost use Rattle.wl_world.specs.Scene.{is_of_group};
 ghost use Rattle.wl_world.specs.WorldValue.{cast_of, AreFirst};
 
 use std::alloc::{AllocError, Global};
-use wl_group::Group;
+use wl_group::{Group, first_silence};
 use wl_plan::{Grouping, Plan};
-use wl_record::Record;
+use wl_record_core::Record;
 
 /// The groups of a grouping, each before the first quanta of its nodes.
 pub(crate) fn first_groups(
@@ -39,8 +37,9 @@ fn first_group(alloc: Global, plan: &Plan, grouping: &Grouping, h: u8) -> Result
     requires grouping { IsGrouping (length plan.now.nodes) grouping.now }
     requires group { h < 16 }
     ensures plan { IfOk result (λ group. group.plan ≡ plan.now) }
-    ensures members { IfOk result (λ group. has group ≡ belongs (cast_of grouping.now) h) }
-    ensures begun { IfOk result (λ group. Matches (begun (line_of plan.now) (belongs (cast_of grouping.now) h)) group) }
+    ensures members { IfOk result (λ group. has group ≡ is_of_group (cast_of grouping.now) h) }
+    ensures begun { IfOk result (λ group.
+        Matches (begun (line_of plan.now) (is_of_group (cast_of grouping.now) h)) group) }
 {
     wl_plan::grouping_laws();
     let members = grouping.members(alloc, h)?;
@@ -54,20 +53,7 @@ pub(crate) fn first_records(alloc: Global, plan: &Plan) -> Result<Vec<Record>, A
 {
     let mut records = Vec::new(alloc);
     for i in 0..plan.topology.nodes() {
-        records.push(first_record(plan, i))?;
+        records.push(first_silence(plan, i))?;
     }
     Ok(records)
-}
-
-/// The first silence of node `i`.
-fn first_record(plan: &Plan, i: u8) -> Record
-    requires checked { IsChecked plan.now }
-    requires node { i < length plan.now.nodes }
-    ensures { result ≡ Silence i 0 (reach (line_of plan.now) i []) }
-{
-    Record::Silence {
-        node: i,
-        count: 0,
-        until: plan.nodes.as_slice()[i as usize].clock.at(0),
-    }
 }

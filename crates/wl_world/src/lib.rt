@@ -1,11 +1,15 @@
 //! All groups of a line together, over every schedule.
 #![tactic(auto)]
 
+ghost use Rattle.wl_world.specs.Ended.{EndLaws};
+ghost use Rattle.wl_world.specs.Faithful.{WorldsAreFaithful, WorldsDoNotStall};
 ghost use Rattle.wl_world.specs.Headline.{Headline, NoStall};
 ghost use Rattle.wl_world.specs.Settling.{SettlingLaws};
 
 mod begin;
 mod events;
+mod outcome;
+mod settle;
 mod steps;
 mod world;
 
@@ -26,26 +30,46 @@ pub fn headline()
     wl_group::group_laws();
 }
 
+/// The headline of a world as its calls see it: what was emitted is true, each group knows nothing but the truth, below each horizon
+/// its wave is the level of the one-thread simulation, and each node is where that has it after as many quanta.
+pub fn worlds_are_faithful()
+    ensures { WorldsAreFaithful }
+{
+    headline();
+    wl_replica::slots_of_states();
+    wl_plan::checked_is_sound();
+    wl_plan::simulation_laws();
+    wl_plan::grouping_laws();
+}
+
 /// Where each group has taken all that was emitted, some node can advance, or all are at the end:
-/// the groups never wait for each other in a ring.
+/// the groups never wait for each other in a ring. So it is in every world where each group knows all that was emitted, whatever way
+/// it came to know it.
 pub fn no_stall()
-    ensures { NoStall }
+    ensures scenes { NoStall }
+    ensures worlds { WorldsDoNotStall }
 {
     wl_replica::known_laws();
+    wl_replica::taking_is_joining();
+    wl_replica::slots_of_states();
+    wl_plan::checked_is_sound();
+    wl_plan::simulation_laws();
+    wl_plan::grouping_laws();
     wl_group::group_laws();
+    wl_group::value_laws();
 }
 
 /// What settling rests on: each advance runs one of the quanta that are left, a delivery none; no
 /// quantum is left exactly where all nodes are at the end; what is delivered is taken and stays.
 /// Rounds of deliveries to all and of advances until none can end with all nodes at the end, and
-/// there are no more of them than quanta were left.
+/// there are no more of them than quanta were left. How many are left, and where the end is, a world's value tells.
 pub fn settling_laws()
-    ensures { SettlingLaws }
+    ensures scenes { SettlingLaws }
+    ensures worlds { EndLaws }
 {
     wl_plan::simulation_laws();
+    wl_plan::checked_is_sound();
+    wl_plan::grouping_laws();
     wl_replica::known_laws();
     wl_group::group_laws();
 }
-
-#[cfg(test)]
-mod tests;

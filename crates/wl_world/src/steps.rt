@@ -1,44 +1,44 @@
 //! The events of a world, one at a time and in lists.
-ghost use Rattle.std.specs.Prelude.{◌≡◌, ◌+◌, ◌<◌, ◌≤◌, ◌++◌, [], ◌∷◌, length, IfOk, OnOk, IfErr, OnErr, vec_len, vec_capacity};
+ghost use Rattle.std.specs.Prelude.{◌≡◌, ◌+◌, ◌<◌, ◌≤◌, ◌++◌, [], ◌∷◌, length, IfOk, IfErr, OnErr, vec_len, vec_capacity};
 
 use crate::events::{Answer, Event, Stopped};
-use crate::headline;
 use crate::world::World;
+use crate::{headline, worlds_are_faithful};
 use std::alloc::{AllocError, Global};
 use wl_group::Advance;
-use wl_record::Record;
+use wl_record_core::Record;
 
 /// The most records that one advance emits.
 const MOST_EMITTED: usize = 2;
 
 impl World {
-    ghost use Rattle.std.specs.Prelude.{take};
-    ghost use Rattle.wl_plan.specs.PlanLine.{line_of};
     ghost use Rattle.wl_world.specs.declared.events.Event.TheVariants as events;
-    ghost use Rattle.wl_world.specs.Steps.{HasStepped, HasRun, HasStopped, IsFaithfulAfter};
-    ghost use Rattle.wl_world.specs.WorldValue.{IsAt, cast_of, IsWorldValue};
+    ghost use Rattle.wl_world.specs.Faithful.{IsFaithfulValue, HasGrown};
+    ghost use Rattle.wl_world.specs.WorldSteps.{StepsBy, RunsEvents, StopsAfter};
+    ghost use Rattle.wl_world.specs.WorldValue.{IsWorldValue};
 
     /// Handles events in order, and answers for each whether it was possible; one that is not changes
     /// nothing. Refused for want of memory, the world is as the first `done` events left it.
     pub fn run(&mut self, alloc: Global, events: &[Event]) -> Result<Vec<Answer>, Stopped>
-        ensures ok { IfOk result (λ told. HasRun IsAt (line_of self.old.plan) (cast_of self.old.numbers) events.now self.old self.new told.items) }
-        ensures stopped { IfErr result (λ s. HasStopped IsAt (line_of self.old.plan) (cast_of self.old.numbers) events.now self.old self.new s.done) }
-        ensures faithful { OnOk result (IsFaithfulAfter IsAt (line_of self.old.plan) (cast_of self.old.numbers) events.now self.old) }
-        ensures faithful_stopped { IfErr result (λ s. IsFaithfulAfter IsAt (line_of self.old.plan) (cast_of self.old.numbers) (take s.done events.now) self.old) }
+        ensures ok { IfOk result (λ told. RunsEvents events.now self.old self.new told.items) }
+        ensures stopped { IfErr result (λ s. StopsAfter events.now self.old self.new s.done) }
+        ensures faithful { IsFaithfulValue self.new }
+        ensures grows { HasGrown self.old self.new }
         ensures plan { self.new.plan ≡ self.old.plan }
         ensures grouping { self.new.numbers ≡ self.old.numbers }
     {
-        headline();
-        wl_plan::checked_is_sound();
+        worlds_are_faithful();
         // (reading a part gives the proof what the type keeps)
         let _ = &self.plan;
-        self.handle(alloc, events)
+        let told = self.handle(alloc, events);
+        let _ = &self.plan;
+        told
     }
 
     /// Handles events in order.
     fn handle(&mut self, alloc: Global, events: &[Event]) -> Result<Vec<Answer>, Stopped>
-        ensures ok { IfOk result (λ told. HasRun IsAt (line_of self.old.plan) (cast_of self.old.numbers) events.now self.old self.new told.items) }
-        ensures stopped { IfErr result (λ s. HasStopped IsAt (line_of self.old.plan) (cast_of self.old.numbers) events.now self.old self.new s.done) }
+        ensures ok { IfOk result (λ told. RunsEvents events.now self.old self.new told.items) }
+        ensures stopped { IfErr result (λ s. StopsAfter events.now self.old self.new s.done) }
         ensures plan { self.new.plan ≡ self.old.plan }
         ensures grouping { self.new.numbers ≡ self.old.numbers }
     {
@@ -61,7 +61,7 @@ impl World {
 
     /// Handles one event. Refused for want of memory, the world is as it was.
     fn step(&mut self, event: Event) -> Result<Answer, AllocError>
-        ensures ok { IfOk result (λ a. HasStepped IsAt (line_of self.old.plan) (cast_of self.old.numbers) event self.old self.new a) }
+        ensures ok { IfOk result (λ a. StepsBy event self.old self.new a) }
         ensures err { OnErr result (self.new ≡ self.old) }
         ensures plan { self.new.plan ≡ self.old.plan }
         ensures grouping { self.new.numbers ≡ self.old.numbers }
@@ -75,8 +75,8 @@ impl World {
     }
 
     /// A group runs the next quantum of its node, and what it emits is kept.
-    fn advance(&mut self, group: u8, node: u8) -> Result<Answer, AllocError>
-        ensures ok { IfOk result (λ a. HasStepped IsAt (line_of self.old.plan) (cast_of self.old.numbers) (events.Advance group node) self.old self.new a) }
+    pub(crate) fn advance(&mut self, group: u8, node: u8) -> Result<Answer, AllocError>
+        ensures ok { IfOk result (λ a. StepsBy (events.Advance group node) self.old self.new a) }
         ensures err { OnErr result (self.new ≡ self.old) }
         ensures plan { self.new.plan ≡ self.old.plan }
         ensures grouping { self.new.numbers ≡ self.old.numbers }
@@ -99,8 +99,8 @@ impl World {
     }
 
     /// A group takes an emitted record.
-    fn deliver(&mut self, group: u8, number: u64) -> Result<Answer, AllocError>
-        ensures ok { IfOk result (λ a. HasStepped IsAt (line_of self.old.plan) (cast_of self.old.numbers) (events.Deliver group number) self.old self.new a) }
+    pub(crate) fn deliver(&mut self, group: u8, number: u64) -> Result<Answer, AllocError>
+        ensures ok { IfOk result (λ a. StepsBy (events.Deliver group number) self.old self.new a) }
         ensures err { OnErr result (self.new ≡ self.old) }
         ensures plan { self.new.plan ≡ self.old.plan }
         ensures grouping { self.new.numbers ≡ self.old.numbers }
@@ -118,7 +118,7 @@ impl World {
 
     /// A group takes all that another has taken.
     fn join(&mut self, group: u8, other: u8) -> Result<Answer, AllocError>
-        ensures ok { IfOk result (λ a. HasStepped IsAt (line_of self.old.plan) (cast_of self.old.numbers) (events.Join group other) self.old self.new a) }
+        ensures ok { IfOk result (λ a. StepsBy (events.Join group other) self.old self.new a) }
         ensures err { OnErr result (self.new ≡ self.old) }
         ensures plan { self.new.plan ≡ self.old.plan }
         ensures grouping { self.new.numbers ≡ self.old.numbers }
@@ -136,7 +136,7 @@ impl World {
 
     /// A group begins again.
     fn restart(&mut self, group: u8) -> Result<Answer, AllocError>
-        ensures ok { IfOk result (λ a. HasStepped IsAt (line_of self.old.plan) (cast_of self.old.numbers) (events.Restart group) self.old self.new a) }
+        ensures ok { IfOk result (λ a. StepsBy (events.Restart group) self.old self.new a) }
         ensures err { OnErr result (self.new ≡ self.old) }
         ensures plan { self.new.plan ≡ self.old.plan }
         ensures grouping { self.new.numbers ≡ self.old.numbers }

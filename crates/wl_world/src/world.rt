@@ -2,11 +2,12 @@
 ghost use Rattle.std.specs.Prelude.{◌≡◌, ◌<◌, length, IfOk, Some, slice_get};
 
 use crate::begin::{first_groups, first_records};
+use crate::worlds_are_faithful;
 use std::alloc::{AllocError, Global};
 use std::marker::Model;
 use wl_group::Group;
 use wl_plan::{Grouping, Plan};
-use wl_record::Record;
+use wl_record_core::Record;
 
 /// The groups of a grouping of a plan's nodes, and all records that they ever emitted.
 ///
@@ -22,7 +23,7 @@ pub struct World {
 }
 
 impl Model for World {
-    ghost use Rattle.wl_world.specs.WorldValue.{WorldValue, value_of, IsWorldValue};
+    ghost use Rattle.wl_world.specs.WorldValue.{WorldValue, world_value, IsWorldValue};
 
     ghost Value = { WorldValue };
 
@@ -30,16 +31,17 @@ impl Model for World {
 
     ghost coded = { coded_world };
 
-    ghost view = { λ w. value_of w.plan w.grouping w.groups.items w.emitted.items };
+    ghost view = { λ w. world_value w.plan w.grouping w.groups.items w.emitted.items };
 
-    ghost invariant = { λ w. IsWorldValue (value_of w.plan w.grouping w.groups.items w.emitted.items) };
+    ghost invariant = { λ w. IsWorldValue (world_value w.plan w.grouping w.groups.items w.emitted.items) };
 }
 
 impl World {
     ghost use Rattle.wl_plan.specs.Checked.{IsChecked};
     ghost use Rattle.wl_plan.specs.PlanLine.{line_of};
+    ghost use Rattle.wl_world.specs.Faithful.{IsFaithfulValue};
     ghost use Rattle.wl_world.specs.Steps.{HasStarted};
-    ghost use Rattle.wl_world.specs.WorldValue.{IsAt, IsWorldValue, cast_of};
+    ghost use Rattle.wl_world.specs.WorldValue.{IsWorldAt, IsWorldValue, cast_of};
 
     /// The world of a plan that passed its check and a grouping of its nodes, before the first quanta:
     /// the first silence of each node is emitted, in the order of the nodes, and each group has taken
@@ -47,10 +49,12 @@ impl World {
     pub fn new(alloc: Global, plan: Plan, grouping: Grouping) -> Result<World, AllocError>
         requires checked { IsChecked plan }
         requires grouping { length grouping ≡ length plan.nodes }
-        ensures started { IfOk result (λ world. HasStarted IsAt (line_of plan) (cast_of grouping) world) }
+        ensures started { IfOk result (λ world. HasStarted IsWorldAt (line_of plan) (cast_of grouping) world) }
+        ensures faithful { IfOk result IsFaithfulValue }
         ensures plan { IfOk result (λ world. world.plan ≡ plan) }
         ensures grouping { IfOk result (λ world. world.numbers ≡ grouping) }
     {
+        worlds_are_faithful();
         let groups = first_groups(alloc, &plan, &grouping)?;
         let emitted = first_records(alloc, &plan)?;
         Ok(World {
@@ -73,16 +77,20 @@ impl World {
     pub fn group(&self, g: u8) -> &Group
         requires { g < length self.now.groups }
         ensures group { slice_get self.now.groups g ≡ Some result.now }
+        ensures faithful { IsFaithfulValue self.now }
         ensures holds { IsWorldValue self.now }
     {
+        worlds_are_faithful();
         &self.groups[g as usize]
     }
 
     /// All records that were ever emitted, the oldest first. Each of them is true of the plan.
     pub fn emitted(&self) -> &[Record]
         ensures value { result.now ≡ self.now.emitted }
+        ensures faithful { IsFaithfulValue self.now }
         ensures holds { IsWorldValue self.now }
     {
+        worlds_are_faithful();
         &self.emitted
     }
 }

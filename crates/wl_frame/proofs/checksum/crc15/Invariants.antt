@@ -1,6 +1,6 @@
 use Rattle.std.proofs.Common.{◌≡◌, ◌<◌, ◌^◌, ◌++◌, length, drop, map, replicate, false}
 use Rattle.wl_frame.specs.Crc.{remainder, subtracted, bit_of_level, crc_bits}
-use Rattle.wl_frame.specs.Register.{register_bits}
+use Rattle.wl_frame.proofs.Registers.{register_bits}
 use Rattle.wl_frame.proofs.checksum.crc15.Given as goal
 
 -- dividing what is left, with the register taken from its front, gives the remainder of all

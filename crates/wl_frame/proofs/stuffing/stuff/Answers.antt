@@ -1,6 +1,6 @@
 use Rattle.std.proofs.Common.{◌≡◌, ◌+◌, ◌∙◌, sym, ap, cond}
 use Rattle.std.proofs.lemmas.List.{take_more}
-use Rattle.wl_intervals.specs.declared.Level.TheVariants.{Dominant}
+use Rattle.wl_level.specs.declared.Level.TheVariants.{Dominant}
 use Rattle.wl_frame.proofs.Stuffed.{stuffing_more, stuffing_stuffed}
 use Rattle.wl_frame.proofs.stuffing.stuff.Goals as goal
 use Rattle.wl_frame.proofs.stuffing.stuff.Goals.{then-run-eq-LONGEST_RUN, else-run-eq-LONGEST_RUN, then-is, else-is}

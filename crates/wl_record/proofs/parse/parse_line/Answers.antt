@@ -1,7 +1,7 @@
 use Rattle.std.proofs.Common.{[]}
 use Rattle.wl_record.proofs.ParseLemmas.{spelled_begins}
 use Rattle.wl_record.proofs.LineLemmas.{no_line_before}
-use Rattle.wl_record.proofs.Runs.{some_left}
+use Rattle.wl_device.proofs.Runs.{some_left}
 use Rattle.wl_record.proofs.parse.parse_line.Goals as goal
 
 pub returns-in_default-clause-fault : goal.returns-in_default-clause-fault

@@ -3,7 +3,7 @@ use Rattle.std.proofs.lemmas.Grind.{common_steps}
 use Rattle.wl_record.specs.Limits.{most_line-is}
 use Rattle.wl_record.specs.Parsing.{IsStop}
 use Rattle.wl_record.proofs.LineLemmas.{long_line, open_line, told_line, has_line}
-use Rattle.wl_record.proofs.Runs.{slice_from}
+use Rattle.wl_device.proofs.Runs.{slice_from}
 use Rattle.wl_record.proofs.parse.slow_line.Goals as goal
 use Rattle.wl_record.proofs.parse.slow_line.Goals.{then-bytes-gt-MOST_LINE, else-bytes-gt-MOST_LINE}
 

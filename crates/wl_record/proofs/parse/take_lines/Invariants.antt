@@ -1,5 +1,5 @@
 use Rattle.std.proofs.Common.{◌≡◌, ◌++◌, List, length}
-use Rattle.wl_record.specs.declared.record.Record.{Record}
+use Rattle.wl_record_core.specs.declared.record.Record.{Record}
 use Rattle.wl_record.specs.Parsing.{TakesLines}
 use Rattle.wl_record.proofs.parse.take_lines.Given as goal
 

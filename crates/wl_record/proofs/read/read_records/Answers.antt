@@ -1,10 +1,11 @@
-use Rattle.std.proofs.Common.{[], sym, subst, List}
-use Rattle.wl_record.specs.declared.record.Record.{Record}
-use Rattle.wl_record.specs.Reading.{HasRead, Progress, nothing_read, nothing_given}
+use Rattle.std.proofs.Common.{[], sym, subst, List, arith}
+use Rattle.wl_record_core.specs.declared.record.Record.{Record}
+use Rattle.wl_device.proofs.Runs.{nothing_given}
+use Rattle.wl_record.specs.Reading.{HasRead, Progress, nothing_read}
 use Rattle.wl_record.proofs.read.read_records.Goals as goal
 
 pub returns-in_default-clause-fault : goal.returns-in_default-clause-fault
-returns-in_default-clause-fault g c = ([], nothing_given g.R.Source.gives c.args.reader.now)
+returns-in_default-clause-fault g c = ([], nothing_given g.R.Source.gives c.args.reader.now, omega arith)
 
 pub loop-records-init : goal.loop-records-init
 loop-records-init g c =

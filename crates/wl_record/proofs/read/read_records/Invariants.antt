@@ -1,6 +1,6 @@
 use Rattle.std.proofs.Common.{◌-◌, List}
-use Rattle.wl_record.specs.Limits.{most_calls}
-use Rattle.wl_record.specs.Devices.{Answer}
+use Rattle.wl_device.specs.Limits.{most_calls}
+use Rattle.wl_device.specs.Devices.{Answer}
 use Rattle.wl_record.specs.Reading.{HasRead}
 use Rattle.wl_record.proofs.read.read_records.Given as goal
 

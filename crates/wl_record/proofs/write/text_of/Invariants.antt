@@ -1,5 +1,5 @@
 use Rattle.std.proofs.Common.{◌≡◌, take}
-use Rattle.wl_record.specs.Text.{text_of}
+use Rattle.wl_record_core.specs.Text.{text_of}
 use Rattle.wl_record.proofs.write.text_of.Given as goal
 
 abbrev pub invariant-loop-told : goal.invariant-loop-told

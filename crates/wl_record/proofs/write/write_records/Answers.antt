@@ -1,8 +1,9 @@
 use Rattle.std.proofs.Common.{arith, ap, sym, subst, ◌∙◌, ◌≡◌, ◌++◌, take, drop, List, ℕ, append_assoc, length-append, get_or, []}
-use Rattle.wl_record.specs.declared.record.Record.TheVariants.{Edge}
-use Rattle.wl_record.specs.Devices.{Answer}
-use Rattle.wl_record.specs.Text.{line_of, text_of}
-use Rattle.wl_record.proofs.Runs.{SoFar, take_all, nothing_after}
+use Rattle.std.proofs.lemmas.List.{append-nil, take_all}
+use Rattle.wl_record_core.specs.declared.record.Record.TheVariants.{Edge}
+use Rattle.wl_device.specs.Devices.{Answer}
+use Rattle.wl_record_core.specs.Text.{text_line, text_of}
+use Rattle.wl_device.proofs.Runs.{SoFar}
 use Rattle.wl_record.proofs.WriteLemmas.{sent_more, broke_off_after, went_out_after, text_of-cut, text_of-one}
 use Rattle.wl_record.proofs.write.write_records.Goals as goal
 use Rattle.wl_record.proofs.write.write_records.Goals.{then-filled-gt-CHUNK+in-Ok, else-filled-gt-CHUNK}
@@ -23,7 +24,7 @@ loop-told-preserved g c =
     let i = c.loop-told.told-index in
     let inv = c.loop-told.invariant in
     let put = c.push_line-filled.ensures.put in
-    let line = line_of (get_or c.args.records.now c.loop-told.told-index (Edge 0 0 0)) in
+    let line = text_line (get_or c.args.records.now c.loop-told.told-index (Edge 0 0 0)) in
     let one = text_of-one i rs (Edge 0 0 0) c.loop-told-test.true in
     let room = c.push_line-filled.ensures.within in
     let P : ℕ → g.row.W.Denot → List ℕ → List Answer → Type 0 = λ n t sent answers. SoFar takes c.args.writer.now sent n t answers in
@@ -55,7 +56,7 @@ pub returns-in-Ok-send : goal.returns-in-Ok-send
 returns-in-Ok-send g c =
     let inv = c.loop-told.invariant in
     let out = c.in-Ok-send.ensures in
-    let whole : inv.1 ++ take c.loop-told.filled c.loop-told.chunk ≡ text_of c.args.records.now = inv.3 ∙ ap text_of (take_all c.args.records.now c.loop-told.told-index (omega (arith, c.loop-told-test.false))) in (
+    let whole : inv.1 ++ take c.loop-told.filled c.loop-told.chunk ≡ text_of c.args.records.now = inv.3 ∙ ap text_of (take_all c.loop-told.told-index c.args.records.now (omega (arith, c.loop-told-test.false))) in (
       inv.0 ++ out.0,
       went_out_after g.W.Sink.takes c.args.writer.now inv.1 c.loop-told.calls c.loop-told.writer inv.0 (take c.loop-told.filled c.loop-told.chunk) (text_of c.args.records.now) c.send-2.new.writer out.0 inv.2 out.1 whole,
       omega (arith, length-append inv.0 out.0, inv.2.calls, out.2, out.3),
@@ -65,5 +66,5 @@ pub returns-in-Err-send : goal.returns-in-Err-send
 returns-in-Err-send g c =
     let inv = c.loop-told.invariant in
     let off = c.in-Err-send.ensures in
-    let whole : inv.1 ++ (take c.loop-told.filled c.loop-told.chunk ++ []) ≡ text_of c.args.records.now = ap (λ z. inv.1 ++ z) (nothing_after (take c.loop-told.filled c.loop-told.chunk)) ∙ (inv.3 ∙ ap text_of (take_all c.args.records.now c.loop-told.told-index (omega (arith, c.loop-told-test.false)))) in
+    let whole : inv.1 ++ (take c.loop-told.filled c.loop-told.chunk ++ []) ≡ text_of c.args.records.now = ap (λ z. inv.1 ++ z) (append-nil (take c.loop-told.filled c.loop-told.chunk)) ∙ (inv.3 ∙ ap text_of (take_all c.loop-told.told-index c.args.records.now (omega (arith, c.loop-told-test.false)))) in
     (_, broke_off_after g.W.Sink.takes c.args.writer.now inv.1 c.loop-told.calls c.loop-told.writer inv.0 (take c.loop-told.filled c.loop-told.chunk) [] (text_of c.args.records.now) c.send-2.new.writer off.0 inv.2 off.1 whole)

@@ -1,8 +1,8 @@
 use Rattle.std.proofs.Common.{◌≡◌, ◌≤◌, ◌++◌, take, ℕ, List}
-use Rattle.wl_record.specs.Limits.{most_calls}
-use Rattle.wl_record.specs.Devices.{Answer}
-use Rattle.wl_record.specs.Text.{text_of}
-use Rattle.wl_record.proofs.Runs.{SoFar}
+use Rattle.wl_device.specs.Limits.{most_calls}
+use Rattle.wl_device.specs.Devices.{Answer}
+use Rattle.wl_record_core.specs.Text.{text_of}
+use Rattle.wl_device.proofs.Runs.{SoFar}
 use Rattle.wl_record.proofs.write.write_records.Given as goal
 
 abbrev pub invariant-loop-told : goal.invariant-loop-told

@@ -2,15 +2,15 @@ use Rattle.std.proofs.Common.{sym, ap, subst, ◌∙◌, ◌+◌, drop, get_or}
 use Rattle.std.specs.List.{filter_map}
 use Rattle.wl_lattice.specs.declared.FlatWord.TheVariants as flat
 use Rattle.wl_lattice.specs.Words.{joined_flat, joined_max, max_word}
-use Rattle.wl_record.specs.declared.record.Record.TheVariants.{Edge}
-use Rattle.wl_replica.specs.Kept.{HasSlots, word_in, joined_all}
+use Rattle.wl_record_core.specs.declared.record.Record.TheVariants.{Edge}
+use Rattle.wl_replica.specs.Kept.{HaveSlots, word_in, joined_all}
 use Rattle.wl_replica.specs.State.{edge_word, silence_word}
-use Rattle.wl_replica.proofs.BatchLemmas.{next_record, slots_stay, joined_all-first}
+use Rattle.wl_replica.proofs.BatchLemmas.{next_one, have_slots_stay, joined_all-first}
 use Rattle.wl_replica.proofs.batch.join_slots.Goals as goal
 
 pub join_slot-requires : goal.join_slot-requires
 join_slot-requires c =
-    (subst (HasSlots c.loop-record.edges c.loop-record.silences) (next_record c.args.told.now c.loop-record.record-index (Edge 0 0 0) c.loop-record-test.true) c.loop-record.invariant.room).0
+    (subst (HaveSlots c.loop-record.edges c.loop-record.silences) (next_one c.args.told.now c.loop-record.record-index (Edge 0 0 0) c.loop-record-test.true) c.loop-record.invariant.room).0
 
 pub loop-record-preserved : goal.loop-record-preserved
 loop-record-preserved c =
@@ -19,14 +19,14 @@ loop-record-preserved c =
     let inv = c.loop-record.invariant in
     let r = get_or told i (Edge 0 0 0) in
     let rest = drop (i + 1) told in
-    let next = next_record told i (Edge 0 0 0) c.loop-record-test.true in
+    let next = next_one told i (Edge 0 0 0) c.loop-record-test.true in
     let edges = c.join_slot.ensures.edges_joined in
     let silences = c.join_slot.ensures.silences_joined in
     record {
       edges_stay = λ q s. edges.stay q (inv.edges_stay q s);
       silences_stay = λ q s. silences.stay q (inv.silences_stay q s);
-      room = slots_stay c.loop-record.edges c.join_slot.new.edges c.loop-record.silences c.join_slot.new.silences edges.stay silences.stay rest
-          (subst (HasSlots c.loop-record.edges c.loop-record.silences) next inv.room).1;
+      room = have_slots_stay c.loop-record.edges c.join_slot.new.edges c.loop-record.silences c.join_slot.new.silences edges.stay silences.stay rest
+          (subst (HaveSlots c.loop-record.edges c.loop-record.silences) next inv.room).1;
       edges_left = λ q. ap (λ w. joined_all joined_flat w (filter_map edge_word rest) q) (edges.words q)
           ∙ (joined_all-first joined_flat edge_word (word_in flat.Nothing c.loop-record.edges q) r rest q
           ∙ (ap (λ rs. joined_all joined_flat (word_in flat.Nothing c.loop-record.edges q) (filter_map edge_word rs) q) (sym next) ∙ inv.edges_left q));

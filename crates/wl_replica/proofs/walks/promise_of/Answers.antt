@@ -1,5 +1,5 @@
 use Rattle.std.proofs.Common.{◌≡◌, max, ap, ◌∙◌, arith}
-use Rattle.wl_record.specs.Limits.{most_edges-is}
+use Rattle.wl_record_core.specs.Limits.{most_edges-is}
 use Rattle.wl_replica.proofs.PromiseLemmas.{most, most_is_promised}
 use Rattle.wl_replica.proofs.walks.promise_of.Goals as goal
 

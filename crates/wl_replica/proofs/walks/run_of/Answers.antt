@@ -1,7 +1,7 @@
 use Rattle.std.proofs.Common.{◌≡◌, suc, ◌+◌, false, ◌<◌, ◌≤◌, inl, inr, refl, sym, ap, subst, ◌∙◌, arith}
 use Rattle.std.proofs.lemmas.Bool.{cases_eq}
 use Rattle.wl_lattice.specs.declared.FlatWord.TheVariants as flat
-use Rattle.wl_record.specs.Limits.{most_edges, most_edges-is, tick_end-is}
+use Rattle.wl_record_core.specs.Limits.{most_edges, most_edges-is, tick_end-is}
 use Rattle.wl_replica.specs.Kept.{edges_in, silences_in}
 use Rattle.wl_replica.specs.Known.{is_tick, after_edges}
 use Rattle.wl_replica.proofs.WalkLemmas.{all_left, none_left, first_is, first_is_later, walked, longest_run, no_value, no_more, not_above, inside, run_more, end_more, IsLeft}

@@ -1,5 +1,5 @@
 use Rattle.std.proofs.Common.{◌≡◌, ◌≤◌, true}
-use Rattle.wl_record.specs.Limits.{most_edges, tick_end}
+use Rattle.wl_record_core.specs.Limits.{most_edges, tick_end}
 use Rattle.wl_replica.specs.Kept.{edges_in, silences_in}
 use Rattle.wl_replica.specs.Known.{is_run, after_edges}
 use Rattle.wl_replica.proofs.WalkLemmas.{IsLeft}

@@ -1,7 +1,7 @@
 use Rattle.std.proofs.Common.{◌≡◌}
 use Rattle.wl_replica.specs.Kept.{edges_in, silences_in}
 use Rattle.wl_replica.specs.Known.{ticks, greatest, is_run}
-use Rattle.wl_record.specs.Limits.{most_edges}
+use Rattle.wl_record_core.specs.Limits.{most_edges}
 use Rattle.wl_replica.proofs.WaveLemmas.{AllTicks, flips, flipped, ticks_of}
 use Rattle.wl_replica.proofs.waves.is_dominant_at.Given as goal
 

@@ -1,5 +1,5 @@
 use Rattle.std.proofs.Common.{◌≡◌, max, ap, subst, ◌∙◌}
-use Rattle.wl_record.specs.Limits.{most_edges}
+use Rattle.wl_record_core.specs.Limits.{most_edges}
 use Rattle.wl_replica.specs.Kept.{edges_in, silences_in}
 use Rattle.wl_replica.specs.Known.{ticks, greatest, is_run, known_by}
 use Rattle.wl_replica.proofs.WalkLemmas.{longest_passes}

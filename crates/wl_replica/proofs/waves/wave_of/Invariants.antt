@@ -1,6 +1,6 @@
 use Rattle.wl_replica.specs.Kept.{edges_in, silences_in}
 use Rattle.wl_replica.specs.Known.{ticks, greatest, is_run}
-use Rattle.wl_record.specs.Limits.{most_edges}
+use Rattle.wl_record_core.specs.Limits.{most_edges}
 use Rattle.wl_replica.proofs.WaveLemmas.{AllTicks, IsMade, ticks_of}
 use Rattle.wl_replica.proofs.waves.wave_of.Given as goal
 

@@ -1,5 +1,5 @@
 use Rattle.std.proofs.Common.{◌+◌, ◌-◌, ◌≤◌, length}
-use Rattle.wl_record.specs.Truth.{count_below}
+use Rattle.wl_record_core.specs.Truth.{count_below}
 use Rattle.wl_serial.proofs.line.count_until.Given as goal
 
 -- so many changes at least are not after the tick

@@ -1,6 +1,6 @@
 -- After an odd number of changes the node drives dominant.
 use Rattle.std.proofs.Common.{◌+◌, ◌-◌, ◌%◌, ◌==◌, ap, ◌∙◌}
-use Rattle.wl_record.specs.Truth.{count_below, odd}
+use Rattle.wl_record_core.specs.Truth.{count_below, odd}
 use Rattle.wl_serial.proofs.Counts.{odd_is, odd_after}
 use Rattle.wl_serial.proofs.line.drove.Goals as goal
 

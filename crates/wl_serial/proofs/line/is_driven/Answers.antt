@@ -1,7 +1,7 @@
 -- All nodes have reached the tick, so that what comes from each is known.
 use Rattle.std.proofs.Common.{◌+◌, ◌-◌, ◌<◌, ◌&&◌, length, get_or, ◌∙◌, ap, sym, subst, nat_le, arith}
 use Rattle.wl_topology.specs.Delays.{delay_of}
-use Rattle.wl_record.specs.Truth.{count_below, odd, IsIncreasing}
+use Rattle.wl_record_core.specs.Truth.{count_below, odd, IsIncreasing}
 use Rattle.wl_plan.specs.PlanLine.{line_of}
 use Rattle.wl_plan.specs.Simulation.{level}
 use Rattle.wl_serial.proofs.Found.{in_order, come, driven_from, driven_more}

@@ -1,7 +1,7 @@
 -- Each edge stands behind those before it, and all numbers fit.
 use Rattle.std.proofs.Common.{◌++◌, ◌∷◌, [], ◌∙◌, ap, sym, append_assoc, get_or, take, refl, arith}
-use Rattle.wl_record.specs.declared.record.Record.TheVariants.{Edge}
-use Rattle.wl_record.specs.Limits.{most_edges-is}
+use Rattle.wl_record_core.specs.declared.record.Record.TheVariants.{Edge}
+use Rattle.wl_record_core.specs.Limits.{most_edges-is}
 use Rattle.wl_serial.specs.Records.{edges_from}
 use Rattle.wl_serial.proofs.Told.{edges_more}
 use Rattle.wl_serial.proofs.records.push_node.Goals as goal

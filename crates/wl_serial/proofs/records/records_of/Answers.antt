@@ -1,7 +1,7 @@
 -- The records of each node stand behind those of the nodes before it.
 use Rattle.std.proofs.Common.{◌++◌, ◌<◌, ◌∙◌, ap, sym, length, take, get_or, arith}
 use Rattle.std.specs.List.{enumerate_from, flat_map}
-use Rattle.wl_record.specs.Limits.{most_nodes-is}
+use Rattle.wl_record_core.specs.Limits.{most_nodes-is}
 use Rattle.wl_serial.specs.Records.{node_records}
 use Rattle.wl_serial.proofs.Told.{nodes_more}
 use Rattle.wl_serial.proofs.records.records_of.Goals as goal

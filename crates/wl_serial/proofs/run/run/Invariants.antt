@@ -1,4 +1,5 @@
-use Rattle.wl_serial.specs.Running.{AreRunning, ticks_left}
+use Rattle.wl_serial.specs.Running.{AreRunning}
+use Rattle.wl_serial.proofs.Runners.{ticks_left}
 use Rattle.wl_serial.proofs.run.run.Given as goal
 
 abbrev pub invariant-loop-j : goal.invariant-loop-j

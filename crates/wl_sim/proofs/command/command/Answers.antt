@@ -1,5 +1,5 @@
-use Rattle.std.proofs.Common.{◌≡◌, ◌∙◌, ap, ap₂, codes, Bool, true}
-use Rattle.clap.specs.Words.{App, app_of, Shape, new_app, with_subcommand}
+use Rattle.std.proofs.Common.{◌∙◌, ap, ap₂, Bool, true}
+use Rattle.clap.specs.Words.{App, Shape, with_subcommand}
 use Rattle.clap.specs.Simple.{app_of_fields, on_top}
 use Rattle.clap.specs.declared.builder.command.Command.{Command}
 use Rattle.clap.specs.declared.builder.command.Command.TheOpen.{Command-F}
@@ -26,4 +26,5 @@ returns-clause-app c =
     let two = c.in_ok-subcommand-2.ensures.shape (ap is_global c.about-horizon.ensures ∙ c.new-2.ensures.local) ∙ ap₂ with_subcommand one (ap top_of horizon) in
     let three = c.in_ok-subcommand-3.ensures.shape (ap is_global c.about-check.ensures ∙ c.new-3.ensures.local) ∙ ap₂ with_subcommand two (ap top_of check) in
     let four = c.in_ok-subcommand-4.ensures.shape (ap is_global c.about-records.ensures ∙ c.new-4.ensures.local) ∙ ap₂ with_subcommand three (ap top_of records) in
-    c.in_ok-all.ensures.shape (ap is_global c.about-run.ensures ∙ c.new-5.ensures.local) ∙ ap₂ with_subcommand four (ap top_of run)
+    let five = c.in_ok-subcommand-5.ensures.shape (ap is_global c.about-run.ensures ∙ c.new-5.ensures.local) ∙ ap₂ with_subcommand four (ap top_of run) in
+    c.in_ok-all.ensures.shape c.in_ok-candump.ensures.local ∙ ap₂ with_subcommand five (ap top_of c.in_ok-candump.ensures.app)

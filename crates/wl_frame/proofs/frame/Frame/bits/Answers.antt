@@ -1,6 +1,6 @@
 use Rattle.std.proofs.Common.{◌∙◌, ◌++◌, ap, sym, subst}
 use Rattle.wl_frame.specs.Crc.{crc_of}
-use Rattle.wl_frame.specs.Grammar.{bits_of, number_bits, with_checksum, is_whole, IsFrame}
+use Rattle.wl_frame.specs.Grammar.{bits_of, number_bits, with_crc, is_whole, IsFrame}
 use Rattle.wl_frame.proofs.Spelled.{crc_spelled}
 use Rattle.wl_frame.proofs.Reading.{sent_frame, sent_whole}
 use Rattle.wl_frame.proofs.frame.Frame.bits.Goals as goal
@@ -11,7 +11,7 @@ returns-clause-bits c =
     c.push_number.ensures.bits
     ∙ ap (λ n. c.covered-bits.result.items ++ number_bits 15 n) (c.from.ensures ∙ c.crc15-crc.ensures.value ∙ ap crc_of c.as_slice.ensures.value)
     ∙ ap (λ bs. c.covered-bits.result.items ++ bs) (crc_spelled c.covered-bits.result.items)
-    ∙ ap with_checksum c.covered-bits.ensures.bits
+    ∙ ap with_crc c.covered-bits.ensures.bits
 
 pub returns-clause-frame : goal.returns-clause-frame
 returns-clause-frame c =

@@ -1,20 +1,37 @@
--- One advance more behind the others, and none that is left.
+-- One advance more behind the others.
 use Rattle.std.proofs.Common.{List, ◌++◌, ◌∙◌, ap, subst, sym}
-use Rattle.wl_record.specs.declared.record.Record.{Record}
-use Rattle.wl_group.proofs.AllProofs.{HasGone, gone_none, gone_more, gone_all}
+use Rattle.wl_record_core.specs.declared.record.Record.{Record}
+use Rattle.wl_group.specs.Running.{Ran, none}
+use Rattle.wl_group.specs.GroupValue.{GroupValue, belongs}
+use Rattle.wl_group.proofs.AllProofs.{ran_more, ran_plan, ran_members}
 use Rattle.wl_group.proofs.group.Group.advance_all.Goals as goal
 
 pub loop-i-init : goal.loop-i-init
-loop-i-init c =
-    subst (λ (rs : List Record). HasGone c.args.self.now c.args.self.now rs) (sym c.new-all.ensures.items) (gone_none c.args.self.now)
+loop-i-init c = subst (λ (rs : List Record). Ran c.args.self.now rs c.args.self.now) (sym c.new-all.ensures.items) none
 
 pub loop-i-preserved : goal.loop-i-preserved
 loop-i-preserved c =
-    subst (λ (rs : List Record). HasGone c.args.self.now c.run_next.new.self rs)
+    subst (λ (rs : List Record). Ran c.args.self.now rs c.run_next.new.self)
     (sym (c.append.ensures ∙ (ap (λ rs. rs ++ c.deref.result.now) c.in_ok-reserve.ensures.items ∙ ap (λ rs. c.loop-i.all.items ++ rs) c.deref.ensures.0)))
-    (gone_more c.value_laws.ensures c.args.self.now c.loop-i.self c.loop-i.all.items c.loop-i.invariant
-    c.in-Some.i c.run_next.new.self c.in_ok-emission.emission.items c.in-Some.ensures.ready c.in_ok-emission.ensures.ran)
+    (ran_more c.args.self.now c.loop-i.self c.run_next.new.self c.loop-i.all.items c.in_ok-emission.emission.items c.in-Some.i c.loop-i.invariant
+    c.in-Some.ensures.ready c.in_ok-emission.ensures.ran)
 
-pub returns-clause-all : goal.returns-clause-all
-returns-clause-all c =
-    gone_all c.value_laws.ensures c.args.self.now c.loop-i.self c.loop-i.all.items c.loop-i.invariant c.in_default.ensures.stuck
+pub returns-clause-plan : goal.returns-clause-plan
+returns-clause-plan c = ran_plan c.args.self.now c.loop-i.self c.loop-i.all.items c.loop-i.invariant
+
+pub returns-clause-members : goal.returns-clause-members
+returns-clause-members c = ran_members c.value_laws.ensures c.args.self.now c.loop-i.self c.loop-i.all.items c.loop-i.invariant
+
+pub returns-in_err-reserve-clause-plan : goal.returns-in_err-reserve-clause-plan
+returns-in_err-reserve-clause-plan c = ran_plan c.args.self.now c.loop-i.self c.loop-i.all.items c.loop-i.invariant
+
+pub returns-in_err-reserve-clause-members : goal.returns-in_err-reserve-clause-members
+returns-in_err-reserve-clause-members c = ran_members c.value_laws.ensures c.args.self.now c.loop-i.self c.loop-i.all.items c.loop-i.invariant
+
+pub returns-in_err-emission-clause-plan : goal.returns-in_err-emission-clause-plan
+returns-in_err-emission-clause-plan c =
+    ap (λ (v : GroupValue). v.plan) c.in_err-emission.ensures.err ∙ ran_plan c.args.self.now c.loop-i.self c.loop-i.all.items c.loop-i.invariant
+
+pub returns-in_err-emission-clause-members : goal.returns-in_err-emission-clause-members
+returns-in_err-emission-clause-members c =
+    ap belongs c.in_err-emission.ensures.err ∙ ran_members c.value_laws.ensures c.args.self.now c.loop-i.self c.loop-i.all.items c.loop-i.invariant

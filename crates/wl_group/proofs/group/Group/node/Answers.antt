@@ -1,7 +1,7 @@
 use Rattle.std.proofs.Common.{◌≡◌, ◌<◌, length, Some, None, sym, subst}
 use Rattle.std.specs.Prelude.{slice_index_or, true}
 use Rattle.wl_node.specs.Reached.{IsNode}
-use Rattle.wl_group.specs.GroupValue.{GroupValue, members_of, belongs}
+use Rattle.wl_group.specs.GroupValue.{GroupValue, members_now, belongs}
 use Rattle.wl_group.proofs.BeginProofs.{has_place, cell_read, kept_member}
 use Rattle.wl_group.proofs.group.Group.node.Goals as goal
 
@@ -13,7 +13,7 @@ returns-clause-node c =
     let e : slice_index_or c.self.inside.cells.items c.args.i None ≡ Some c.in-Some.cell =
     cell_read c.self.inside.cells.items c.args.i c.index.result.now c.in-Some.cell b c.index.ensures c.in-Some.is
     in
-    subst (λ (v : GroupValue). IsNode (members_of v c.args.i).saw c.in-Some.cell.node) c.self.view_is
+    subst (λ (v : GroupValue). IsNode (members_now v c.args.i).saw c.in-Some.cell.node) c.self.view_is
     (subst (λ m. IsNode m.saw c.in-Some.cell.node)
     (sym (kept_member c.self.inside.plan c.self.inside.cells.items c.self.inside.replica c.self.inside.told.items c.args.i c.in-Some.cell e))
     (c.self.invariant.placed c.args.i c.in-Some.cell e).node)

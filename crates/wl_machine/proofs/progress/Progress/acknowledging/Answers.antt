@@ -1,5 +1,5 @@
 use Rattle.std.proofs.Common.{◌≡◌, ◌∙◌, true, refl, sym, ap, arith}
-use Rattle.wl_intervals.specs.Levels.{is_dominant}
+use Rattle.wl_level.specs.Levels.{is_dominant}
 use Rattle.wl_frame.specs.Stuffing.{kept}
 use Rattle.wl_frame.specs.Grammar.{is_crc_right}
 use Rattle.wl_confine.specs.declared.Happened.TheVariants as happens

@@ -1,6 +1,6 @@
 use Rattle.std.proofs.Common.{◌≡◌, ◌≤◌, ◌∙◌, [], ◌∷◌, ◌++◌, sym, arith}
-use Rattle.wl_intervals.specs.declared.Level.TheVariants.{Dominant}
-use Rattle.wl_intervals.specs.Places.{run_at_end}
+use Rattle.wl_level.specs.declared.Level.TheVariants.{Dominant}
+use Rattle.wl_level.specs.Places.{run_at_end}
 use Rattle.wl_machine.proofs.FlagSteps.{flag_on, flag_ends, dominant_longer, dominant_broken}
 use Rattle.wl_machine.proofs.progress.Progress.dominant_flag.Goals as goal
 use Rattle.wl_machine.proofs.progress.Progress.dominant_flag.Goals.{then-is_dominant, else-is_dominant, then-count-lt5, else-count-lt5}

@@ -1,5 +1,5 @@
 use Rattle.std.proofs.Common.{◌≡◌, ◌+◌, ◌≤◌, ◌∙◌, not, cond, ◌&&◌, sym, ap, arith}
-use Rattle.wl_intervals.specs.Levels.{same, is_dominant}
+use Rattle.wl_level.specs.Levels.{same, is_dominant}
 use Rattle.wl_machine.proofs.FlagSteps.{passive_on, passive_ends, acknowledged}
 use Rattle.wl_machine.proofs.progress.Progress.passive_flag.Goals as goal
 use Rattle.wl_machine.proofs.progress.Progress.passive_flag.Goals.{then-is, else-is, then-run-lt6, else-run-lt6, then-counts, else-counts}

@@ -1,5 +1,5 @@
 use Rattle.std.proofs.Common.{◌≡◌, ◌≤◌, [], ◌∷◌, ◌++◌, false, sym, arith}
-use Rattle.wl_intervals.specs.Levels.{same}
+use Rattle.wl_level.specs.Levels.{same}
 use Rattle.wl_confine.specs.declared.Happened.TheVariants as happens
 use Rattle.wl_confine.specs.declared.ErrorKind.TheVariants.{Stuff}
 use Rattle.wl_machine.specs.declared.state.Role.TheVariants.{Rx}

@@ -1,5 +1,5 @@
 use Rattle.std.proofs.Common.{◌≡◌, ◌≤◌, ◌∙◌, [], ◌∷◌, ◌++◌, length, true, false, Some, sym, ap}
-use Rattle.wl_intervals.specs.Levels.{same}
+use Rattle.wl_level.specs.Levels.{same}
 use Rattle.wl_confine.specs.declared.Happened.TheVariants as happens
 use Rattle.wl_machine.specs.Stretch.{Sampled}
 use Rattle.wl_machine.specs.Frames.{sent_at}

@@ -1,13 +1,13 @@
 use Rattle.std.proofs.Common.{◌∙◌, [], length, refl, sym, ap, subst}
 use Rattle.wl_sync.specs.Running.{clock_after}
 use Rattle.wl_node.specs.History.{History, no_history}
-use Rattle.wl_node.specs.Kept.{IsAt}
+use Rattle.wl_node.specs.Kept.{FitsHistory}
 use Rattle.wl_node.proofs.Turns.{history_first}
 use Rattle.wl_node.proofs.progress.Progress.new.Goals as goal
 
 pub returns-clause-place : goal.returns-clause-place
 returns-clause-place c setup e =
-    let place : IsAt setup _ no_history = record {
+    let place : FitsHistory setup _ no_history = record {
       clock = c.new.ensures ∙ ap (λ l. clock_after l []) (sym e);
       drive = refl;
       quanta = refl;
@@ -25,5 +25,5 @@ returns-clause-place c setup e =
     } in
     record {
       counted = ap (λ (h : History). length h.seen) (history_first setup);
-      place = subst (IsAt setup _) (sym (history_first setup)) place;
+      place = subst (FitsHistory setup _) (sym (history_first setup)) place;
     }

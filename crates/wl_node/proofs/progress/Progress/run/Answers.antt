@@ -6,7 +6,7 @@ use Rattle.wl_sync.specs.Running.{clock_after}
 use Rattle.wl_node.specs.declared.setup.NodeSetup.{NodeSetup}
 use Rattle.wl_node.specs.declared.progress.Progress.{Progress}
 use Rattle.wl_node.specs.History.{History, history_of, history_after, seen_next, by_beat, syncs_at}
-use Rattle.wl_node.specs.Kept.{IsTraffic, AreSyncs, IsAt}
+use Rattle.wl_node.specs.Kept.{IsTraffic, AreSyncs, FitsHistory}
 use Rattle.wl_node.proofs.Turns.{history_next, seen_is}
 use Rattle.wl_node.proofs.progress.Progress.run.Goals as goal
 
@@ -21,7 +21,7 @@ returns-clause-place c levels old =
       syncs = c.note.new.self;
       traffic = c.obey.new.traffic;
     } in
-    let p : IsAt setup c.args.self.now h = old.place in
+    let p : FitsHistory setup c.args.self.now h = old.place in
     let told : Seen = record { level = c.args.level; idle = c.idle-idle.result; driving = c.is_dominant.result } in
     let x : Seen = seen_next h c.args.level in
     let e : told ≡ x = seen_is h c.args.level c.args.self.now.drive c.idle-idle.result c.is_dominant.result (c.idle-idle.ensures h.inputs p.traffic.machine) c.is_dominant.ensures p.drive in
@@ -32,7 +32,7 @@ returns-clause-place c levels old =
     let syncs : AreSyncs c.note.new.self (h.syncs ++ syncs_at (length h.seen) (sync_of setup.segments h.seen x)) =
     subst (λ (k : ℕ). AreSyncs c.note.new.self (h.syncs ++ syncs_at k (sync_of setup.segments h.seen x))) p.quanta
     (subst (λ (s : Option Sync). AreSyncs c.note.new.self (h.syncs ++ syncs_at c.args.self.now.quanta s)) sync (c.note.ensures.syncs h.syncs p.syncs)) in
-    let place : IsAt setup now (history_after setup h c.args.level) = record {
+    let place : FitsHistory setup now (history_after setup h c.args.level) = record {
       clock = c.step-beat.ensures.clock setup.segments h.seen p.clock ∙ ap (λ (y : Seen). clock_after setup.segments (h.seen ++ y ∷ [])) e;
       drive = c.obey.ensures.drive h p.drive p.traffic ∙ ap (λ (b : Beat). (by_beat setup h c.args.level b).drive) beat;
       quanta = ap (λ (n : ℕ). n + 1) p.quanta ∙ sym (length-append h.seen (x ∷ []));
@@ -50,5 +50,5 @@ returns-clause-place c levels old =
     } in
     record {
       counted = ap (λ (k : History). length k.seen) (history_next setup levels c.args.level) ∙ (length-append h.seen (x ∷ []) ∙ (ap (λ (n : ℕ). n + 1) old.counted ∙ sym (length-append levels (c.args.level ∷ []))));
-      place = subst (IsAt setup now) (sym (history_next setup levels c.args.level)) place;
+      place = subst (FitsHistory setup now) (sym (history_next setup levels c.args.level)) place;
     }

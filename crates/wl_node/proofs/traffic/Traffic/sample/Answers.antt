@@ -7,14 +7,15 @@ use Rattle.wl_confine.specs.Counts.{counts_of, mode_of, is_error}
 use Rattle.wl_machine.specs.Stretch.{Sampled, Ended}
 use Rattle.wl_machine.specs.Stretch.Input.{Sample}
 use Rattle.wl_machine.specs.Judged.{judged, stretch_of, head_of}
+use Rattle.wl_machine.specs.Laws.{HeadLaws}
 use Rattle.wl_machine.specs.States.{sample_of}
 use Rattle.wl_node.specs.declared.traffic.Traffic.{Traffic}
 use Rattle.wl_node.specs.History.{History, sampled_next, judged_so, passed, is_sent, switched_off, ready_head, unsent_of}
 use Rattle.wl_node.specs.Kept.{IsTraffic, first_frame}
-use Rattle.wl_node.proofs.Sends.{SendLaws, count_append, sends_next}
+use Rattle.wl_node.proofs.Sends.{count_append, sends_next}
 use Rattle.wl_node.proofs.traffic.Traffic.sample.Goals as goal
 
--- the history behind a sample, by what was answered of it
+-- the history after a sample, by what was answered of it
 abbrev made : History → Sampled → Happened → Ended → Mode → History
 made h x happened ended after = record {
   seen = h.seen;
@@ -37,12 +38,7 @@ returns-clause-traffic c setup h q n old =
       samples = c.push_reserved.new.self;
       frames = c.pass.new.frames;
     } in
-    let laws : SendLaws = record {
-      sent = c.a_sent_frame_is_the_head_that_began_its_stretch.ensures.sent;
-      over = c.a_sent_frame_is_the_head_that_began_its_stretch.ensures.over;
-      head = c.a_sent_frame_is_the_head_that_began_its_stretch.ensures.head;
-      on = c.a_sent_frame_is_the_head_that_began_its_stretch.ensures.on;
-    } in
+    let laws : HeadLaws = c.a_sent_frame_is_the_head_that_began_its_stretch.ensures in
     let x : Sampled = sample_of c.args.level (option_copied c.ready_head-head.result) c.mode-mode.result in
     let ended : Ended = (judged (stretch_of h.inputs) x).ended in
     let unsent : drop c.args.self.now.sent c.args.queue.now ≡ unsent_of setup h = ap (λ k. drop k c.args.queue.now) old.sent ∙ ap (drop (count_by is_sent h.frames)) (sym q) in

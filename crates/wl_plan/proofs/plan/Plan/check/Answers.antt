@@ -2,6 +2,7 @@
 use Rattle.std.proofs.Common.{◌≡◌, None, All, nat_lt, sym, subst}
 use Rattle.std.specs.List.{position, enumerate_from}
 use Rattle.wl_clock.specs.Timing.{IsTiming}
+use Rattle.wl_segments.specs.Lengths.{AreLengths}
 use Rattle.wl_node.specs.declared.setup.NodeSetup.{NodeSetup}
 use Rattle.wl_plan.specs.Limits.{latest_end}
 use Rattle.wl_plan.specs.Checked.{fault_of, has_wrong_nodes, has_many_quanta, has_long_queue, is_refused}
@@ -33,4 +34,6 @@ pub returns-clause-checked : goal.returns-clause-checked
 returns-clause-checked c =
     let timed : All (λ node. IsTiming node.clock) c.as_slice-nodes.result.now = c.in_default.ensures.clocks in
     let clocks : All (λ node. IsTiming node.clock) c.args.self.now.nodes = subst (All (λ (node : NodeSetup). IsTiming node.clock)) c.as_slice-nodes.ensures timed in
-    (c.faultless_is_checked.ensures c.args.self.now clocks c.has_wrong_nodes.ensures.cable).0 (none c)
+    let lengths : All (λ node. AreLengths node.segments) c.as_slice-nodes.result.now = c.in_default.ensures.segments in
+    let segments : All (λ node. AreLengths node.segments) c.args.self.now.nodes = subst (All (λ (node : NodeSetup). AreLengths node.segments)) c.as_slice-nodes.ensures lengths in
+    (c.faultless_is_checked.ensures c.args.self.now clocks segments c.has_wrong_nodes.ensures.cable).0 (none c)

@@ -1,18 +1,19 @@
 use Rattle.std.proofs.Common.{arith, sym, ap, subst, refl, ◌∙◌, ◌≡◌, ◌+◌, ◌-◌, ◌≤◌, ◌++◌, ℕ, List, [], ◌∷◌, length, take, drop, nat_lt}
-use Rattle.std.proofs.lemmas.List.{length-take-le}
-use Rattle.wl_record.specs.Limits.{most_bytes-is, most_calls-is}
-use Rattle.wl_record.specs.Devices.{moved, again}
+use Rattle.std.proofs.lemmas.List.{length-take-le, append-nil, nil_from_length}
+use Rattle.wl_device.specs.Limits.{most_calls-is}
+use Rattle.wl_record.specs.Limits.{most_record_bytes-is}
+use Rattle.wl_record.specs.declared.limits.TheConstants.{MOST_BYTES}
+use Rattle.wl_device.specs.Devices.{moved, again}
 use Rattle.wl_record.specs.Reading.{Progress, HasRead, RecordsOf}
 use Rattle.wl_record.specs.Parsing.{TakesPiece, IsPieceFault}
-use Rattle.wl_record.proofs.Runs.{nothing_after, no_length}
 use Rattle.wl_record.proofs.ReadLemmas.{read_again, read_piece, read_all, read_truncated, read_failed, read_fault, read_out, kept_call, kept_spent, kept_piece, piece_count, piece_bytes, past_means}
 use Rattle.wl_record.proofs.read.RecordReader.next.Goals as goal
 
 pub overflow_sub-self-inside : goal.overflow_sub-self-inside
-overflow_sub-self-inside g c = omega (arith, c.self.invariant.4, most_bytes-is)
+overflow_sub-self-inside g c = omega (arith, c.self.invariant.4, most_record_bytes-is)
 
 pub read_behind-requires-clause-some : goal.read_behind-requires-clause-some
-read_behind-requires-clause-some g c = omega (arith, c.self.invariant.4, most_bytes-is)
+read_behind-requires-clause-some g c = omega (arith, c.self.invariant.4, most_record_bytes-is)
 
 pub invariant_of-self : goal.invariant_of-self
 invariant_of-self g c = kept_call _ _ _ _ _ _ c.self.invariant c.if-self-ge-MOST_CALLS.false c.in-Again.ensures.len
@@ -31,8 +32,8 @@ invariant_of-self-in-Err g c = kept_spent _ _ _ _ _ _ c.self.invariant (c.in-Err
 
 pub invariant_of-self-in-Bytes : goal.invariant_of-self-in-Bytes
 invariant_of-self-in-Bytes g c =
-    let piece = piece_bytes c.self.inside.buffer.items c.read_behind.new.buffer.items c.self.inside.begun c.in-Bytes.n (67108865 - c.self.inside.bytes) (omega (arith, c.self.invariant.0, c.self.invariant.1)) c.in-Bytes.ensures.len c.in-Bytes.ensures.kept c.in-Bytes.ensures.fits.1 in
-    let means = past_means (c.self.inside.bytes + c.in-Bytes.n) (nat_lt 67108864 (c.self.inside.bytes + c.in-Bytes.n)) refl (omega (arith, piece.3, c.self.invariant.4, most_bytes-is)) in
+    let piece = piece_bytes c.self.inside.buffer.items c.read_behind.new.buffer.items c.self.inside.begun c.in-Bytes.n (MOST_BYTES + 1 - c.self.inside.bytes) (omega (arith, c.self.invariant.0, c.self.invariant.1)) c.in-Bytes.ensures.len c.in-Bytes.ensures.kept c.in-Bytes.ensures.fits.1 in
+    let means = past_means (c.self.inside.bytes + c.in-Bytes.n) (nat_lt MOST_BYTES (c.self.inside.bytes + c.in-Bytes.n)) refl (omega (arith, piece.3, c.self.invariant.4, most_record_bytes-is)) in
     let told = c.in-Ok.ensures.ok in
     let count = piece_count _ _ told.0 _ told.1 in
     kept_piece _ _ _ _ _ c.self.inside.lines _ _ _ c.self.invariant c.if-self-ge-MOST_CALLS.false (c.in-Ok.ensures.len ∙ c.in-Bytes.ensures.len) (omega (arith, told.1.short, told.2)) (means.1 told.1.none_past) (omega (arith, count, piece.2, told.2, told.3, c.self.invariant.5))
@@ -46,7 +47,7 @@ returns-then-self-ge-MOST_CALLS-clause-fault g c = λ s answers told h.
 pub returns-in-Again-clause-came : goal.returns-in-Again-clause-came
 returns-in-Again-clause-came g c = (
   [],
-  sym (nothing_after c.args.records.now.items),
+  sym (append-nil c.args.records.now.items),
   (
     tt,
     λ s answers told h.
@@ -78,7 +79,7 @@ returns-then-self-gt0-clause-fault g c = λ s answers told h.
 pub returns-else-self-gt0-clause-came : goal.returns-else-self-gt0-clause-came
 returns-else-self-gt0-clause-came g c = (
   [],
-  sym (nothing_after c.args.records.now.items),
+  sym (append-nil c.args.records.now.items),
   (
     tt,
     λ s answers told h.
@@ -87,8 +88,8 @@ returns-else-self-gt0-clause-came g c = (
         let few : c.self.inside.begun ≤ length c.self.inside.buffer.items = omega (arith, c.self.invariant.0, c.self.invariant.1) in
         let none : c.self.inside.begun ≡ 0 = omega (arith, c.if-self-gt0.false) in
         let all = read_all gives s answers told _ c.args.reader.now here (omega (arith, c.if-self-ge-MOST_CALLS.false, most_calls-is)) c.read_behind.new.reader c.in-End.ensures.gives
-        (no_length (take c.self.inside.begun c.self.inside.buffer.items) (length-take-le c.self.inside.begun c.self.inside.buffer.items few ∙ none)) in
-        subst (λ t. RecordsOf gives s t c.read_behind.new.reader) (sym (nothing_after told)) all,
+        (nil_from_length (take c.self.inside.begun c.self.inside.buffer.items) (length-take-le c.self.inside.begun c.self.inside.buffer.items few ∙ none)) in
+        subst (λ t. RecordsOf gives s t c.read_behind.new.reader) (sym (append-nil told)) all,
   ),
 )
 
@@ -96,22 +97,22 @@ pub returns-in-Err-clause-fault : goal.returns-in-Err-clause-fault
 returns-in-Err-clause-fault g c = λ s answers told h.
     let gives = g.R.Source.gives in
     let here = subst (λ p. HasRead gives s answers told p c.args.reader.now) (sym c.self.view_is) h in
-    let piece = piece_bytes c.self.inside.buffer.items c.read_behind.new.buffer.items c.self.inside.begun c.in-Bytes.n (67108865 - c.self.inside.bytes) (omega (arith, c.self.invariant.0, c.self.invariant.1)) c.in-Bytes.ensures.len c.in-Bytes.ensures.kept c.in-Bytes.ensures.fits.1 in
-    let means = past_means (c.self.inside.bytes + c.in-Bytes.n) (nat_lt 67108864 (c.self.inside.bytes + c.in-Bytes.n)) refl (omega (arith, piece.3, c.self.invariant.4, most_bytes-is)) in
+    let piece = piece_bytes c.self.inside.buffer.items c.read_behind.new.buffer.items c.self.inside.begun c.in-Bytes.n (MOST_BYTES + 1 - c.self.inside.bytes) (omega (arith, c.self.invariant.0, c.self.invariant.1)) c.in-Bytes.ensures.len c.in-Bytes.ensures.kept c.in-Bytes.ensures.fits.1 in
+    let means = past_means (c.self.inside.bytes + c.in-Bytes.n) (nat_lt MOST_BYTES (c.self.inside.bytes + c.in-Bytes.n)) refl (omega (arith, piece.3, c.self.invariant.4, most_record_bytes-is)) in
     let bytes = c.self.inside.bytes + c.in-Bytes.n in
     let came = take c.in-Bytes.n (drop c.self.inside.begun c.read_behind.new.buffer.items) in
-    let is : IsPieceFault (take c.self.inside.begun c.self.inside.buffer.items ++ came) (nat_lt 67108864 bytes) c.self.inside.lines c.in-Err.fault = subst (λ b. IsPieceFault b (nat_lt 67108864 bytes) c.self.inside.lines c.in-Err.fault) piece.0 c.in-Err.ensures.fault in
-    read_fault gives s answers told _ c.args.reader.now here (omega (arith, c.if-self-ge-MOST_CALLS.false, most_calls-is)) c.read_behind.new.reader came (nat_lt 67108864 bytes) bytes c.in-Err.fault c.in-Bytes.ensures.gives is (ap (λ z. c.self.inside.bytes + z) (sym piece.1)) means.0 means.1
+    let is : IsPieceFault (take c.self.inside.begun c.self.inside.buffer.items ++ came) (nat_lt MOST_BYTES bytes) c.self.inside.lines c.in-Err.fault = subst (λ b. IsPieceFault b (nat_lt MOST_BYTES bytes) c.self.inside.lines c.in-Err.fault) piece.0 c.in-Err.ensures.fault in
+    read_fault gives s answers told _ c.args.reader.now here (omega (arith, c.if-self-ge-MOST_CALLS.false, most_calls-is)) c.read_behind.new.reader came (nat_lt MOST_BYTES bytes) bytes c.in-Err.fault c.in-Bytes.ensures.gives is (ap (λ z. c.self.inside.bytes + z) (sym piece.1)) means.0 means.1
 
 pub returns-in-Ok-clause-came : goal.returns-in-Ok-clause-came
 returns-in-Ok-clause-came g c =
-    let piece = piece_bytes c.self.inside.buffer.items c.read_behind.new.buffer.items c.self.inside.begun c.in-Bytes.n (67108865 - c.self.inside.bytes) (omega (arith, c.self.invariant.0, c.self.invariant.1)) c.in-Bytes.ensures.len c.in-Bytes.ensures.kept c.in-Bytes.ensures.fits.1 in
-    let means = past_means (c.self.inside.bytes + c.in-Bytes.n) (nat_lt 67108864 (c.self.inside.bytes + c.in-Bytes.n)) refl (omega (arith, piece.3, c.self.invariant.4, most_bytes-is)) in
+    let piece = piece_bytes c.self.inside.buffer.items c.read_behind.new.buffer.items c.self.inside.begun c.in-Bytes.n (MOST_BYTES + 1 - c.self.inside.bytes) (omega (arith, c.self.invariant.0, c.self.invariant.1)) c.in-Bytes.ensures.len c.in-Bytes.ensures.kept c.in-Bytes.ensures.fits.1 in
+    let means = past_means (c.self.inside.bytes + c.in-Bytes.n) (nat_lt MOST_BYTES (c.self.inside.bytes + c.in-Bytes.n)) refl (omega (arith, piece.3, c.self.invariant.4, most_record_bytes-is)) in
     let told_all = c.in-Ok.ensures.ok in
     let bytes = c.self.inside.bytes + c.in-Bytes.n in
     let came = take c.in-Bytes.n (drop c.self.inside.begun c.read_behind.new.buffer.items) in
     let begun = take c.in-Ok.taken.0 c.take_piece-taken.new.buffer.items in
-    let taken : TakesPiece (take c.self.inside.begun c.self.inside.buffer.items ++ came) (nat_lt 67108864 bytes) told_all.0 begun = subst (λ b. TakesPiece b (nat_lt 67108864 bytes) told_all.0 begun) piece.0 told_all.1 in (
+    let taken : TakesPiece (take c.self.inside.begun c.self.inside.buffer.items ++ came) (nat_lt MOST_BYTES bytes) told_all.0 begun = subst (λ b. TakesPiece b (nat_lt MOST_BYTES bytes) told_all.0 begun) piece.0 told_all.1 in (
       told_all.0,
       told_all.4,
       (
@@ -119,7 +120,7 @@ returns-in-Ok-clause-came g c =
         λ s answers told h.
             let gives = g.R.Source.gives in
             let here = subst (λ p. HasRead gives s answers told p c.args.reader.now) (sym c.self.view_is) h in
-            (answers ++ moved came ∷ [], read_piece gives s answers told _ c.args.reader.now here c.read_behind.new.reader came (nat_lt 67108864 bytes) told_all.0 begun bytes c.in-Ok.taken.1 c.in-Bytes.ensures.gives taken (ap (λ z. c.self.inside.bytes + z) (sym piece.1)) (means.1 told_all.1.none_past) told_all.3),
+            (answers ++ moved came ∷ [], read_piece gives s answers told _ c.args.reader.now here c.read_behind.new.reader came (nat_lt MOST_BYTES bytes) told_all.0 begun bytes c.in-Ok.taken.1 c.in-Bytes.ensures.gives taken (ap (λ z. c.self.inside.bytes + z) (sym piece.1)) (means.1 told_all.1.none_past) told_all.3),
       ),
     )
 

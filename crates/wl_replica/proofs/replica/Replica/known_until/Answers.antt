@@ -1,5 +1,5 @@
 use Rattle.std.proofs.Common.{arith}
-use Rattle.wl_record.specs.Limits.{tick_end-is}
+use Rattle.wl_record_core.specs.Limits.{tick_end-is}
 use Rattle.wl_replica.proofs.replica.Replica.known_until.Goals as goal
 
 pub overflow_add-result : goal.overflow_add-result

@@ -1,33 +1,34 @@
 -- One quantum takes the node from where the simulation has it to where the simulation has it next.
 use Rattle.std.proofs.Common.{◌≡◌, suc, ◌+◌, ◌<◌, ◌∙◌, ap, sym, arith, add-one}
 use Rattle.wl_clock.specs.Timing.{tick_of}
+use Rattle.wl_plan.specs.Limits.{most_quanta, most_quanta-is}
 use Rattle.wl_plan.specs.PlanLine.{setup_at}
 use Rattle.wl_serial.proofs.Steps.{steps, element_is, quanta_are, quanta_few, later}
 use Rattle.wl_serial.proofs.running.Running.step.Goals as goal
 
 pub quantum-requires : goal.quantum-requires
 quantum-requires c =
-    let few : c.quanta-quanta.result < 65536 =
+    let few : c.quanta-quanta.result < most_quanta =
     quanta_few c.args.plan.now c.args.i c.args.self.now c.quanta-quanta.result c.simulation_laws.ensures
     (c.checked_is_sound.ensures c.args.plan.now c.requires.checked) c.requires.node c.requires.running c.requires.below c.quanta-quanta.ensures.levels
     in
-    let e = c.quanta-quanta.ensures.value in omega arith
+    let e = c.quanta-quanta.ensures.value in omega (arith, most_quanta-is)
 
 pub overflow_add-quanta : goal.overflow_add-quanta
 overflow_add-quanta c =
-    let few : c.quanta-quanta.result < 65536 =
+    let few : c.quanta-quanta.result < most_quanta =
     quanta_few c.args.plan.now c.args.i c.args.self.now c.quanta-quanta.result c.simulation_laws.ensures
     (c.checked_is_sound.ensures c.args.plan.now c.requires.checked) c.requires.node c.requires.running c.requires.below c.quanta-quanta.ensures.levels
     in
-    omega arith
+    omega (arith, most_quanta-is)
 
 pub at-self-requires : goal.at-self-requires
 at-self-requires c =
-    let few : c.quanta-quanta.result < 65536 =
+    let few : c.quanta-quanta.result < most_quanta =
     quanta_few c.args.plan.now c.args.i c.args.self.now c.quanta-quanta.result c.simulation_laws.ensures
     (c.checked_is_sound.ensures c.args.plan.now c.requires.checked) c.requires.node c.requires.running c.requires.below c.quanta-quanta.ensures.levels
     in
-    omega arith
+    omega (arith, most_quanta-is)
 
 pub returns-clause-running : goal.returns-clause-running
 returns-clause-running c =

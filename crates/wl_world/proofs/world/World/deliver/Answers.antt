@@ -6,13 +6,13 @@ use Rattle.wl_group.specs.GroupValue.{GroupValue, belongs as has}
 use Rattle.wl_world.specs.declared.events.Event.TheVariants.{Deliver}
 use Rattle.wl_world.specs.declared.events.Answer.TheVariants.{Done}
 use Rattle.wl_world.specs.Steps.{HasStepped}
-use Rattle.wl_world.specs.WorldValue.{WorldValue, value_of, IsAt, cast_of}
+use Rattle.wl_world.specs.WorldValue.{WorldValue, world_value, IsWorldAt, cast_of}
 use Rattle.wl_world.proofs.WorldValueProofs.{world_stepped, true_for, delivers}
 use Rattle.wl_world.proofs.world.World.deliver.Goals as goal
 use Rattle.wl_world.proofs.world.World.deliver.Goals.{After-index_mut-taker}
 
 abbrev value : After-index_mut-taker → WorldValue
-value c = value_of c.self.inside.plan c.self.inside.grouping c.self.inside.groups.items c.self.inside.emitted.items
+value c = world_value c.self.inside.plan c.self.inside.grouping c.self.inside.groups.items c.self.inside.emitted.items
 
 place : (c : After-index_mut-taker) → c.args.group < length c.self.inside.groups.items
 place c = omega arith
@@ -38,6 +38,6 @@ invariant_of-self-2 c =
 pub returns-clause-ok : goal.returns-clause-ok
 returns-clause-ok c =
     let a = (goal.at.returns-clause-ok c).After-index_mut-taker in
-    subst (λ (u : WorldValue). HasStepped IsAt (line_of u.plan) (cast_of u.numbers) (Deliver c.args.group c.args.number) u
-    (value_of c.self.inside.plan c.self.inside.grouping (slice_set c.self.inside.groups.items c.args.group c.take.new.self) c.self.inside.emitted.items) Done) c.self.view_is
+    subst (λ (u : WorldValue). HasStepped IsWorldAt (line_of u.plan) (cast_of u.numbers) (Deliver c.args.group c.args.number) u
+    (world_value c.self.inside.plan c.self.inside.grouping (slice_set c.self.inside.groups.items c.args.group c.take.new.self) c.self.inside.emitted.items) Done) c.self.view_is
     (delivers (value a) c.args.group c.args.number c.index_mut-taker.result.now c.take.new.self c.index-told.result.now c.self.invariant.staffed (place a) (old_is a) (told_is a) c.in_ok-take.ensures.after)

@@ -1,7 +1,7 @@
 use Rattle.std.proofs.Common.{◌≡◌, ◌≤◌, take, length, vec_len, vec_capacity}
 use Rattle.wl_plan.specs.PlanLine.{line_of}
 use Rattle.wl_world.specs.Scene.{Scene, run, answers}
-use Rattle.wl_world.specs.WorldValue.{IsAt, cast_of}
+use Rattle.wl_world.specs.WorldValue.{IsWorldAt, cast_of}
 use Rattle.wl_world.proofs.world.World.handle.Given as goal
 
 abbrev pub invariant-loop-i : goal.invariant-loop-i
@@ -13,6 +13,6 @@ invariant-loop-i l =
       same_numbers : l.self.numbers ≡ l.initial.self.numbers;
       room : length l.events ≤ vec_capacity l.told;
       count : vec_len l.told ≡ l.i;
-      reached : (w : Scene) → IsAt w l.initial.self → IsAt (run line cast (take l.i l.events) w) l.self;
-      answered : (w : Scene) → IsAt w l.initial.self → l.told.items ≡ answers line cast (take l.i l.events) w;
+      reached : (w : Scene) → IsWorldAt w l.initial.self → IsWorldAt (run line cast (take l.i l.events) w) l.self;
+      answered : (w : Scene) → IsWorldAt w l.initial.self → l.told.items ≡ answers line cast (take l.i l.events) w;
     }

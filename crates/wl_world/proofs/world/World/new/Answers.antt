@@ -1,13 +1,22 @@
 use Rattle.std.proofs.Common.{◌<◌, All, subst}
 use Rattle.wl_plan.specs.Groupings.{most_groups}
 use Rattle.wl_world.proofs.WorldValueProofs.{first_world, at_first}
+use Rattle.wl_world.specs.WorldValue.{IsWorldValue, world_value}
 use Rattle.wl_world.proofs.world.World.new.Goals as goal
+use Rattle.wl_world.proofs.world.World.new.Goals.{In_ok-emitted}
 
-pub invariant_of-result : goal.invariant_of-result
-invariant_of-result c =
+is_world : (c : In_ok-emitted) → IsWorldValue (world_value c.args.plan c.args.grouping c.in_ok-groups.groups.items c.in_ok-emitted.emitted.items)
+is_world c =
     first_world c.args.plan c.args.grouping c.in_ok-groups.groups.items c.in_ok-emitted.emitted.items c.requires.checked
     (c.requires.grouping, subst (All (λ n. n < most_groups)) c.grouping.view_is c.grouping.invariant)
     c.in_ok-groups.ensures.count c.in_ok-groups.ensures.first c.in_ok-emitted.ensures
+
+pub invariant_of-result : goal.invariant_of-result
+invariant_of-result c = is_world ((goal.at.invariant_of-result c).In_ok-emitted)
+
+pub returns-clause-faithful : goal.returns-clause-faithful
+returns-clause-faithful c =
+    c.worlds_are_faithful.ensures (world_value c.args.plan c.args.grouping c.in_ok-groups.groups.items c.in_ok-emitted.emitted.items) (is_world ((goal.at.returns-clause-faithful c).In_ok-emitted))
 
 pub returns-clause-started : goal.returns-clause-started
 returns-clause-started c =

@@ -5,13 +5,13 @@ use Rattle.wl_group.specs.GroupValue.{GroupValue}
 use Rattle.wl_world.specs.declared.events.Event.TheVariants.{Restart}
 use Rattle.wl_world.specs.declared.events.Answer.TheVariants.{Done}
 use Rattle.wl_world.specs.Steps.{HasStepped}
-use Rattle.wl_world.specs.WorldValue.{WorldValue, value_of, IsAt, cast_of}
+use Rattle.wl_world.specs.WorldValue.{WorldValue, world_value, IsWorldAt, cast_of}
 use Rattle.wl_world.proofs.WorldValueProofs.{world_stepped, restarts}
 use Rattle.wl_world.proofs.world.World.restart.Goals as goal
 use Rattle.wl_world.proofs.world.World.restart.Goals.{After-index_mut-again}
 
 abbrev value : After-index_mut-again → WorldValue
-value c = value_of c.self.inside.plan c.self.inside.grouping c.self.inside.groups.items c.self.inside.emitted.items
+value c = world_value c.self.inside.plan c.self.inside.grouping c.self.inside.groups.items c.self.inside.emitted.items
 
 place : (c : After-index_mut-again) → c.args.group < length c.self.inside.groups.items
 place c = omega arith
@@ -29,6 +29,6 @@ invariant_of-self-2 c =
 pub returns-clause-ok : goal.returns-clause-ok
 returns-clause-ok c =
     let a = (goal.at.returns-clause-ok c).After-index_mut-again in
-    subst (λ (u : WorldValue). HasStepped IsAt (line_of u.plan) (cast_of u.numbers) (Restart c.args.group) u
-    (value_of c.self.inside.plan c.self.inside.grouping (slice_set c.self.inside.groups.items c.args.group c.restart.new.self) c.self.inside.emitted.items) Done) c.self.view_is
+    subst (λ (u : WorldValue). HasStepped IsWorldAt (line_of u.plan) (cast_of u.numbers) (Restart c.args.group) u
+    (world_value c.self.inside.plan c.self.inside.grouping (slice_set c.self.inside.groups.items c.args.group c.restart.new.self) c.self.inside.emitted.items) Done) c.self.view_is
     (restarts (value a) c.args.group c.index_mut-again.result.now c.restart.new.self c.self.invariant.staffed (place a) (old_is a) c.in_ok-restart.ensures.begun)

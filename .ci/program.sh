@@ -1,0 +1,118 @@
+#!/usr/bin/env bash
+# Runs a built program of Wireline as a user would, and compares status, standard output and the fault's line, byte for byte.
+# usage: program.sh PROGRAM
+# - each plan of examples/ with the report beside it, and each of those plans through check, records and candump, which must accept it
+# - the log of one plan, as ticks of three lengths have it
+# - each row of .ci/refused.txt: the status, the one line on standard error, and nothing on standard output
+# - command lines that name no task: status 2, and nothing on standard output
+# - a reader and a writer that fail: status 3
+set -uo pipefail
+cd "$(dirname "$0")/.."
+program=$(realpath "$1")
+if [ "$program" = "$PWD/crates/wl_sim/out/wl_sim" ]; then
+  echo "the runs below are of the build that the gate proved: crates/wl_sim/out/wl_sim"
+else
+  echo "the runs below are of $program, of which this script knows no proof"
+fi
+room=$(mktemp -d)
+trap 'rm -rf "$room"' EXIT
+passed=0 failed=0
+is() { # is NAME CONDITION..: counts one comparison
+  local name=$1
+  shift
+  if "$@"; then passed=$((passed + 1)); else failed=$((failed + 1)); echo "differs: $name"; fi
+}
+runs() { # runs NAME INPUT STATUS STDOUT STDERR WORDS..: STDERR '-' where it is not compared
+  local name=$1 input=$2 status=$3 out=$4 err=$5 ended=0
+  shift 5
+  "$program" "$@" < "$input" > "$room/out" 2> "$room/err" || ended=$?
+  is "$name (status $ended, wanted $status)" [ "$ended" = "$status" ]
+  is "$name (standard output)" cmp -s "$room/out" "$out"
+  [ "$err" = - ] || is "$name (standard error: $(head -c 200 "$room/err"))" cmp -s "$room/err" "$err"
+}
+
+: > "$room/none"
+for report in examples/*.report; do
+  name=$(basename "$report" .report)
+  runs "run of $name" "examples/$name.toml" 0 "$report" "$room/none" run
+  for word in check records; do
+    "$program" "$word" < "examples/$name.toml" > "$room/out" 2> "$room/err"
+    is "$word of $name" [ $? = 0 -a -s "$room/out" -a ! -s "$room/err" ]
+  done
+  "$program" candump < "examples/$name.toml" > "$room/out" 2> "$room/err"
+  is "candump of $name" [ $? = 0 -a ! -s "$room/err" ]
+  is "lines of candump of $name" [ "$(grep -c '^frame [0-9]* sent ' "$report")" = "$(wc -l < "$room/out")" ]
+done
+
+# By hand, from the report and the clocks: the engine's quantum 2384 begins at tick 2384 * 125.625 = 299,490, and the dashboard's quantum 3475 at
+# tick 777 + 3475 * 124.375, rounded down, so 432,980.
+logged() { # logged US US WORDS..: runs candump, whose two lines have these times
+  printf '(0000000000.%06d) can0 0C4#1A0B00007DFF203C\n(0000000000.%06d) can0 3E8#0155\n' "$1" "$2" > "$room/log"
+  shift 2
+  runs "candump $*" examples/clean_500k.toml 0 "$room/log" "$room/none" candump "$@"
+}
+logged 299 432
+logged 299 432 --tick 1ns
+logged 37 54 --tick 125ps
+logged 299490 432980 --tick=1us
+
+# a row: the command, the status, how the input is made, the fault's line, the input. 'text': with printf's escapes; 'sed': of examples/clean_500k.toml;
+# 'bash': of a command
+while IFS='|' read -r word status how fault input; do
+  case "$word" in '' | '#'* | 'hint: '*) continue ;; esac
+  case "$how" in
+    text) printf '%b' "$input" > "$room/input" ;;
+    sed) sed -E "$input" examples/clean_500k.toml > "$room/input" ;;
+    bash) bash -c "$input" > "$room/input" ;;
+  esac
+  printf '%s\n' "$fault" > "$room/fault"
+  runs "$word, $fault" "$room/input" "$status" "$room/none" "$room/fault" "$word"
+done < .ci/refused.txt
+
+while IFS= read -r words; do
+  # shellcheck disable=SC2086
+  runs "the words '$words'" examples/clean_500k.toml 2 "$room/none" - $words
+  is "the words '$words' (something is said)" [ -s "$room/err" ]
+done << 'WORDS'
+
+frobnicate
+--help
+help
+Merge
+runs
+run merge
+run --workers 0
+run --tick 1ns
+candump --tick
+candump --tick 1
+candump --tick 0ns
+candump --tick 1000ns
+candump --tick 1ns --tick 1ns
+WORDS
+
+for word in merge horizon check records run candump; do
+  printf 'fault: Read\n' > "$room/fault"
+  runs "$word of a reader that fails" / 3 "$room/none" "$room/fault" "$word"
+done
+for word in merge check; do
+  input=examples/clean_500k.toml
+  [ "$word" = merge ] && input=examples/records.txt
+  printf 'fault: Write\n' > "$room/fault"
+  ended=0
+  "$program" "$word" < "$input" > /dev/full 2> "$room/err" || ended=$?
+  is "$word to a writer that fails" [ "$ended" = 3 ]
+  is "$word to a writer that fails (standard error)" cmp -s "$room/err" "$room/fault"
+done
+
+world=crates/world_rows/out/world_rows
+if [ -x "$world" ]; then
+  for wanted in bench/world/*.stdout; do
+    [ -e "$wanted" ] || continue
+    name=$(basename "$wanted" .stdout)
+    "$world" < "bench/world/$name" > "$room/out" 2> "$room/err"
+    is "the world $name" cmp -s "$room/out" "$wanted"
+  done
+fi
+
+echo "$passed passed, $failed failed"
+[ "$failed" = 0 ]

@@ -1,0 +1,137 @@
+#!/usr/bin/env python3
+"""Looks for what makes the sources hard to read: a search, not a verdict.
+
+usage: house.py [repeats|wide|names|unused|long]..     all of them where none is named
+
+repeats  lemma statements that stand more than once, up to the names of their variables (definitions and proofs are read, bodies not)
+wide     clauses of more than 120 columns
+names    words of specs/ that two crates define
+unused   definitions of specs/ that no clause and no other definition names, but for `most_x-is`: they belong into proofs/
+long     files of more than 800 lines, functions of more than 40
+"""
+import re
+import sys
+from collections import defaultdict
+from pathlib import Path
+
+TOP = Path(__file__).resolve().parent.parent
+WORD = r"[^\s(){}\[\],.;:`]+"
+HEAD = re.compile(rf"^(?:(?:pub|abbrev|unfoldable|opaque)\s+)*({WORD})((?:\s+\{{[^}}]*\}}|\s+\([^)]*\))*)\s*:\s+(.*)$")
+
+
+def files(kind, folder="*"):
+    for path in sorted((TOP / "crates").glob(f"*/{folder}/**/*.{kind}")):
+        yield path.relative_to(TOP), path.read_text(encoding="utf-8")
+
+
+def signatures(text):
+    """Yields line, name and statement of each signature; a statement goes on over more deeply indented lines."""
+    lines = text.splitlines()
+    for at, line in enumerate(lines):
+        indent = len(line) - len(line.lstrip())
+        found = HEAD.match(line.strip())
+        if not found or line.strip().startswith(("use ", "pub use ", "--")):
+            continue
+        said = [found[2] + " : " + found[3]]
+        for more in lines[at + 1 :]:
+            if not more.strip() or len(more) - len(more.lstrip()) <= indent:
+                break
+            said.append(more.strip())
+        yield at + 1, found[1], " ".join(said)
+
+
+def shape(statement):
+    """The statement with its bound variables numbered in the order in which they are bound."""
+    tokens = re.findall(r"[\w'\-<>≤≡≢∷◌+*!?λ→↔⊥⊤×&|=ℕ]+|\S", statement)
+    bound = {}
+    for group in re.findall(r"[({]([^(){}:]+?)\s*:\s", statement):
+        for name in group.split():
+            bound.setdefault(name, f"v{len(bound)}")
+    for group in re.findall(r"λ\s+([^.()]+)\.", statement):
+        for name in group.split():
+            bound.setdefault(name, f"v{len(bound)}")
+    return " ".join(bound.get(it, it) for it in tokens).replace("{", "(").replace("}", ")")
+
+
+def repeats():
+    where = defaultdict(list)
+    for path, text in files("antt", "proofs"):
+        if path.name in ("Answers.antt", "Invariants.antt", "Proof.antt", "Lib.antt"):
+            continue
+        for line, name, statement in signatures(text):
+            if len(statement) > 24 and ("≡" in statement or "→" in statement):
+                where[shape(statement)].append(f"{path}:{line} {name}")
+    found = [it for it in where.values() if len({name.rsplit(":", 1)[0] for name in it}) > 1]
+    for group in sorted(found, key=len, reverse=True):
+        print("  " + "\n    ".join(group))
+    print(f"repeats: {len(found)} statements stand more than once")
+
+
+def wide():
+    count = 0
+    for path, text in files("rt", "src"):
+        for at, line in enumerate(text.splitlines()):
+            if re.match(r"\s*(ensures|requires|holds)\b", line) and len(line) > 120:
+                count += 1
+                print(f"  {path}:{at + 1} {len(line)}")
+    print(f"wide: {count} clauses of more than 120 columns")
+
+
+def defined():
+    """Yields path, line and name of each definition of specs/."""
+    for path, text in files("antt", "specs"):
+        for at, line in enumerate(text.splitlines()):
+            found = re.match(rf"^(?:(?:pub|abbrev|unfoldable|opaque)\s+)*(?:(?:record|data)\s+)?({WORD})(?:\s+[({{].*)?\s+:\s", line)
+            if found and not line.startswith(("use ", "pub use ", "--", "  ")):
+                yield path, at + 1, found[1]
+
+
+def names():
+    crates = defaultdict(set)
+    for path, _, name in defined():
+        crates[name].add(path.parts[1])
+    found = sorted((name, sorted(it)) for name, it in crates.items() if len(it) > 1)
+    for name, it in found:
+        print(f"  {name}: {', '.join(it)}")
+    print(f"names: {len(found)} words that two crates define")
+
+
+def unused():
+    texts = [text for _, text in files("rt", "src")] + [text for _, text in files("antt", "specs")]
+    counts = defaultdict(int)
+    for text in texts:
+        for line in text.splitlines():
+            if not re.match(r"\s*(pub |ghost )*use\s", line):
+                for name in set(re.findall(r"[^\s(){}\[\],.;:`]+", line)):
+                    counts[name] += 1
+    found = []
+    for path, line, name in defined():
+        own = sum(1 for it in (TOP / path).read_text(encoding="utf-8").splitlines() if re.match(rf"^(?:(?:pub|abbrev|unfoldable)\s+)*{re.escape(name)}\s", it))
+        # a limit's `most_x-is` opens the name `most_x` where a proof needs its number, and stands beside it
+        if counts[name] <= own and not name.endswith("-is"):
+            found.append(f"  {path}:{line} {name}")
+    print("\n".join([*found, f"unused: {len(found)} definitions that nothing but proofs names"]))
+
+
+def long():
+    found = []
+    for kind in ("rt", "antt"):
+        for path, text in files(kind, "*"):
+            if text.count("\n") > 800:
+                found.append(f"  {path} {text.count(chr(10))} lines")
+    for path, text in files("rt", "src"):
+        began = None
+        for at, line in enumerate(text.splitlines()):
+            if re.match(r"\s*(pub(\(crate\))? )?(const )?fn ", line):
+                began = (at, len(line) - len(line.lstrip()), line.split("fn ")[1].split("(")[0].split("<")[0])
+            if began and line == " " * began[1] + "}":
+                body = at - began[0]
+                if body > 40:
+                    found.append(f"  {path}:{began[0] + 1} {began[2]}, {body} lines with its clauses")
+                began = None
+    print("\n".join([*found, f"long: {len(found)} files or functions"]))
+
+
+if __name__ == "__main__":
+    for word in sys.argv[1:] or ["repeats", "wide", "names", "unused", "long"]:
+        {"repeats": repeats, "wide": wide, "names": names, "unused": unused, "long": long}[word]()

@@ -1,0 +1,118 @@
+//! Clocks: `clock OFFSET NUM DEN`, `ppm OFFSET QUANTUM PPM` or `rates OFFSET RATE..`, a rate being `FROM,NUM,DEN` or, by its deviation,
+//! `FROM:QUANTUM:PPM`, and `FROM,NUM,DEN*16` sixteen of them; and behind them nothing, `at QUANTUM`, `first_not_before TICK`, `is`
+//! and another clock of one rate or `are` and another clock of such rates.
+
+use crate::words::{Stop, Told, number, repeated};
+use std::alloc::Global;
+use wl_clock::{Clock, ClockFault, Rate};
+
+/// The last quantum whose tick may be asked.
+const LAST_QUANTUM: u64 = 2_097_152;
+
+/// Up to which tick the quanta may be asked.
+const TICK_END: u64 = 281_474_976_710_656;
+
+pub fn tell(alloc: Global, subject: &str, words: &[&str], out: &mut String) -> Told {
+    match (subject, words) {
+        ("clock", [offset, num, den, asked @ ..]) => {
+            let made = Clock::new(number(offset)?, number(num)?, number(den)?);
+            tell_of(alloc, made, asked, out)
+        }
+        ("ppm", [offset, quantum, ppm, asked @ ..]) => {
+            let made = Clock::from_ppm(number(offset)?, number(quantum)?, ppm.parse::<i64>()?);
+            tell_of(alloc, made, asked, out)
+        }
+        ("rates", [offset, words @ ..]) => {
+            let (rates, asked) = words
+                .split_at_checked(rate_words(words))
+                .ok_or(Stop::Unread)?;
+            let made = of_rates(alloc, offset, rates)?;
+            tell_of(alloc, made, asked, out)
+        }
+        _ => Err(Stop::Unread),
+    }
+}
+
+/// How many of the words in front are rates.
+fn rate_words(words: &[&str]) -> usize {
+    words
+        .iter()
+        .position(|word| !is_rate(word))
+        .unwrap_or(words.len())
+}
+
+fn is_rate(word: &str) -> bool {
+    word.contains(',') || word.contains(':')
+}
+
+fn of_rates(
+    alloc: Global,
+    offset: &str,
+    words: &[&str],
+) -> Result<Result<Clock, ClockFault>, Stop> {
+    let mut rates: Vec<Rate> = Vec::new(alloc);
+    for word in words {
+        let (word, count) = repeated(word)?;
+        let rate = match rate(word)? {
+            Ok(rate) => rate,
+            Err(fault) => return Ok(Err(fault)),
+        };
+        for _ in 0..count {
+            rates.push(rate)?;
+        }
+    }
+    Ok(Clock::with_rates(number(offset)?, rates.as_slice()))
+}
+
+fn rate(word: &str) -> Result<Result<Rate, ClockFault>, Stop> {
+    if let Some((from, rest)) = word.split_once(':') {
+        let (quantum, ppm) = rest.split_once(':').ok_or(Stop::Unread)?;
+        return Ok(Rate::from_ppm(number(from)?, number(quantum)?, ppm.parse::<i64>()?));
+    }
+    let (from, rest) = word.split_once(',').ok_or(Stop::Unread)?;
+    let (num, den) = rest.split_once(',').ok_or(Stop::Unread)?;
+    Ok(Ok(Rate {
+        from: number(from)?,
+        num: num.parse::<u128>()?,
+        den: number(den)?,
+    }))
+}
+
+fn tell_of(
+    alloc: Global,
+    made: Result<Clock, ClockFault>,
+    asked: &[&str],
+    out: &mut String,
+) -> Told {
+    let clock = match made {
+        Ok(clock) => clock,
+        Err(fault) => return Ok(write!(out, "{fault}")?),
+    };
+    match *asked {
+        [] => write!(out, "made")?,
+        ["at", quantum] => {
+            let quantum = number(quantum)?;
+            if quantum > LAST_QUANTUM {
+                return Err(Stop::Unread);
+            }
+            write!(out, "{}", clock.at(quantum))?;
+        }
+        ["first_not_before", tick] => {
+            let tick = number(tick)?;
+            if tick >= TICK_END {
+                return Err(Stop::Unread);
+            }
+            write!(out, "{}", clock.first_not_before(tick))?;
+        }
+        ["is", offset, num, den] => {
+            let other = Clock::new(number(offset)?, number(num)?, number(den)?);
+            write!(out, "{}", other == Ok(clock))?;
+        }
+        ["are", offset, ref words @ ..] => {
+            let other = of_rates(alloc, offset, words)?;
+            write!(out, "{}", other == Ok(clock))?;
+        }
+        _ => return Err(Stop::Unread),
+    }
+    Ok(())
+}

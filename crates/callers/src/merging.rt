@@ -1,0 +1,57 @@
+//! Two lists of records, merged as two replicas of one line.
+
+ghost use Rattle.std.specs.Prelude.{◌≡◌, IfOk};
+
+use anyhow::Result;
+use std::alloc::Global;
+use wl_record_core::Record;
+use wl_replica::Replica;
+
+/// What one source knows of node 0: two changes.
+const FIRST: [Record; 2] = [
+    Record::Edge {
+        node: 0,
+        seq: 0,
+        tick: 10,
+    },
+    Record::Edge {
+        node: 0,
+        seq: 1,
+        tick: 20,
+    },
+];
+
+/// What another knows: the second change again, and that a third doesn't come before tick 50.
+const SECOND: [Record; 2] = [
+    Record::Edge {
+        node: 0,
+        seq: 1,
+        tick: 20,
+    },
+    Record::Silence {
+        node: 0,
+        count: 2,
+        until: 50,
+    },
+];
+
+/// A replica of one node that took these records, but for those that don't fit it.
+pub fn replica_of(alloc: Global, records: &[Record]) -> Result<Replica>
+    ensures nodes { IfOk result (λ replica. replica.nodes ≡ 1) }
+{
+    let mut replica = Replica::new(alloc, 1)?;
+    for record in records {
+        if replica.fits(record) {
+            replica.take(*record)?;
+        }
+    }
+    Ok(replica)
+}
+
+/// What both know, each record once and in order.
+pub fn merged(alloc: Global) -> Result<Vec<Record>> {
+    let mut all = replica_of(alloc, &FIRST)?;
+    let other = replica_of(alloc, &SECOND)?;
+    all.join(&other)?;
+    Ok(all.canonical(alloc)?)
+}

@@ -1,0 +1,124 @@
+//! Rows of devices: texts that are read whole, and writers that take a part.
+
+use crate::answer::{numbers, wrong_numbers};
+use std::alloc::{AllocError, Global};
+use wl_device::{
+    MOST_CALLS, ScriptedReader, ScriptedWriter, Then, WriteFault, read_up_to, send, write_all,
+};
+use wl_record::{read_records, text_of, write_records};
+use wl_record_core::Record;
+
+/// The bytes that come of a text, and how its reading ended: `MOST STEP`, where the reader gives `STEP` bytes a call.
+pub fn read_whole(
+    alloc: Global,
+    reader: &ScriptedReader,
+    words: &str,
+) -> Result<String, AllocError> {
+    let Some(numbers) = numbers(alloc, words)? else {
+        return wrong_numbers(alloc);
+    };
+    let [most, step] = numbers.as_slice() else {
+        return wrong_numbers(alloc);
+    };
+    let mut reader = ScriptedReader {
+        text: reader.text,
+        step: *step as usize,
+        then: reader.then,
+    };
+    let (bytes, ended) = read_up_to(alloc, &mut reader, *most as usize)?;
+    match str::from_utf8(bytes.as_slice()) {
+        Ok(text) => format!(in alloc; "{text} {ended:?}\n"),
+        Err(_) => String::from_str(alloc, "no letters\n"),
+    }
+}
+
+/// How many calls are made once a text has gone out: `CALLS STEP`, of which so many calls were made before.
+pub fn sent(alloc: Global, text: &[u8], words: &str) -> Result<String, AllocError> {
+    let Some(numbers) = numbers(alloc, words)? else {
+        return wrong_numbers(alloc);
+    };
+    let [calls, step] = numbers.as_slice() else {
+        return wrong_numbers(alloc);
+    };
+    let mut writer = writer(alloc, usize::MAX, *step as usize, Then::Failed);
+    match calls_made(text, &mut writer, *calls) {
+        Some(made) => format!(in alloc; "{made}\n"),
+        None => String::from_str(alloc, "none\n"),
+    }
+}
+
+/// The calls that are made once a piece has gone out, or `None` where it doesn't go out whole.
+#[tactic(auto, unfolding(wl_device::specs::Limits::most_calls))]
+fn calls_made(piece: &[u8], writer: &mut ScriptedWriter, calls: u64) -> Option<u32> {
+    if calls > u64::from(MOST_CALLS) {
+        return None;
+    }
+    send(piece, writer, calls as u32).ok()
+}
+
+fn writer(alloc: Global, room: usize, step: usize, then: Then) -> ScriptedWriter {
+    ScriptedWriter {
+        written: Vec::new(alloc),
+        room,
+        step,
+        then,
+    }
+}
+
+/// What goes out of the text of some records to writers with little room: `THEN STEP ROOM..`, a line for each room.
+pub fn fronts(
+    alloc: Global,
+    reader: &mut ScriptedReader,
+    words: &str,
+) -> Result<String, AllocError> {
+    let Ok(records) = read_records(alloc, reader) else {
+        return String::from_str(alloc, "row: the records\n");
+    };
+    let (word, rest) = words.split_once(" ").unwrap_or((words, ""));
+    let then = match word {
+        "End" => Then::End,
+        "Again" => Then::Again,
+        _ => Then::Failed,
+    };
+    let Some(numbers) = numbers(alloc, rest)? else {
+        return wrong_numbers(alloc);
+    };
+    let Some((step, rooms)) = numbers.as_slice().split_first() else {
+        return wrong_numbers(alloc);
+    };
+    let mut shown = String::new(alloc);
+    for room in rooms {
+        let mut first = writer(alloc, *room as usize, *step as usize, then);
+        let mut second = writer(alloc, *room as usize, *step as usize, then);
+        push_front(alloc, &mut shown, &records, &mut first, &mut second)?;
+    }
+    Ok(shown)
+}
+
+/// Writes records to the first writer, and their text to the second, and adds what went out.
+fn push_front(
+    alloc: Global,
+    shown: &mut String,
+    records: &[Record],
+    first: &mut ScriptedWriter,
+    second: &mut ScriptedWriter,
+) -> Result<(), AllocError> {
+    let text = text_of(alloc, records)?;
+    let by_records = word_of(write_records(records, first));
+    let by_text = word_of(write_all(text.as_slice(), second));
+    let (one, other) = (first.written.as_slice(), second.written.as_slice());
+    let same = text.as_slice().starts_with(one) && one == other;
+    let (len, whole) = (one.len(), text.len());
+    writeln!(
+        shown,
+        "{len} of {whole} {by_records} {by_text}, the front: {same}"
+    )
+}
+
+/// How a writing ended.
+fn word_of(ended: Result<(), WriteFault>) -> &'static str {
+    match ended {
+        Ok(()) => "written",
+        Err(_) => "Write",
+    }
+}

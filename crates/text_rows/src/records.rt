@@ -1,0 +1,78 @@
+//! Rows of record texts.
+
+use crate::answer::{fault_line, numbers, wrong_numbers};
+use std::alloc::{AllocError, Global};
+use wl_device::ScriptedReader;
+use wl_record::{read_records, text_of};
+
+/// The records of a text, each shown on a line.
+pub fn records(alloc: Global, reader: &mut ScriptedReader) -> Result<String, AllocError> {
+    match read_records(alloc, reader) {
+        Ok(records) => {
+            let mut shown = String::new(alloc);
+            for record in records.iter() {
+                writeln!(shown, "{record}")?;
+            }
+            Ok(shown)
+        }
+        Err(fault) => fault_line(alloc, fault),
+    }
+}
+
+/// The text that is written of the records of a text.
+pub fn records_written(alloc: Global, reader: &mut ScriptedReader) -> Result<String, AllocError> {
+    match read_records(alloc, reader) {
+        Ok(records) => {
+            let text = text_of(alloc, &records)?;
+            match str::from_utf8(text.as_slice()) {
+                Ok(text) => String::from_str(alloc, text),
+                Err(_) => String::from_str(alloc, "no letters\n"),
+            }
+        }
+        Err(fault) => fault_line(alloc, fault),
+    }
+}
+
+/// Of each record of a text the slot that it speaks of.
+pub fn slots(alloc: Global, reader: &mut ScriptedReader) -> Result<String, AllocError> {
+    match read_records(alloc, reader) {
+        Ok(records) => {
+            let mut shown = String::new(alloc);
+            for record in records.iter() {
+                let slot = record.slot();
+                writeln!(shown, "{record} {slot:?}")?;
+            }
+            Ok(shown)
+        }
+        Err(fault) => fault_line(alloc, fault),
+    }
+}
+
+/// Of each record of a text whether it is true: the first number tells how many nodes there are, the others are the changes of the node
+/// that it names.
+pub fn truths(
+    alloc: Global,
+    reader: &mut ScriptedReader,
+    words: &str,
+) -> Result<String, AllocError> {
+    let Some(numbers) = numbers(alloc, words)? else {
+        return wrong_numbers(alloc);
+    };
+    let Some((nodes, changes)) = numbers.as_slice().split_first() else {
+        return wrong_numbers(alloc);
+    };
+    let Ok(nodes) = u8::try_from(*nodes) else {
+        return wrong_numbers(alloc);
+    };
+    match read_records(alloc, reader) {
+        Ok(records) => {
+            let mut shown = String::new(alloc);
+            for record in records.iter() {
+                let is_true = record.is_true_of(nodes, changes);
+                writeln!(shown, "{record} {is_true}")?;
+            }
+            Ok(shown)
+        }
+        Err(fault) => fault_line(alloc, fault),
+    }
+}

@@ -1,0 +1,63 @@
+//! Stretches of quanta that go at one rate each.
+ghost use Rattle.std.specs.Prelude.{◌≡◌, ℕ, ◌+◌, ◌-◌, ◌*◌, ◌^◌, ◌<◌, ◌≤◌, IsTrue, All, ◌∷◌};
+ghost use Rattle.wl_clock.specs.Timing.{IsRate, begin_after, slowest_rate, stretch, ticks_from};
+
+use crate::Rate;
+
+/// How many ticks after the first of its quanta quantum `k` begins, at one rate.
+fn stretch(rate: &Rate, k: u64) -> u64
+    requires rate { IsRate rate.now }
+    requires begun { rate.now.from ≤ k }
+    requires near { k ≤ 2 ^ 21 }
+    ensures ticks { result ≡ stretch rate.now k }
+    ensures high { result ≤ (k - rate.now.from) * slowest_rate }
+{
+    (k - rate.from) * rate.num as u64 / rate.den
+}
+
+/// The least quantum that begins so many ticks after the first of its quanta, or more, at one rate.
+fn first_at(rate: &Rate, ticks: u64) -> u64
+    requires rate { IsRate rate.now }
+    requires some { 0 < ticks }
+    requires near { ticks < 2 ^ 48 }
+    ensures reached { ticks ≤ stretch rate.now result }
+    ensures least { (k : ℕ) → k < result → stretch rate.now k < ticks }
+    ensures soon { result ≤ rate.now.from + ticks }
+{
+    let wanted = ticks as u128 * rate.den as u128;
+    rate.from + wanted.div_ceil(rate.num) as u64
+}
+
+/// How many ticks after the first quantum of a rate quantum `k` begins, where later rates follow.
+pub fn ticks_from(rate: &Rate, later: &[Rate], k: u64) -> u64
+    requires rates { All IsRate (rate.now ∷ later.now) }
+    requires order { IsTrue (begin_after rate.now.from later.now) }
+    requires begun { rate.now.from ≤ k }
+    requires near { k ≤ 2 ^ 21 }
+    ensures ticks { result ≡ ticks_from rate.now later.now k }
+    ensures high { result ≤ (k - rate.now.from) * slowest_rate }
+{
+    match later {
+        [next, rest @ ..] if next.from < k => stretch(rate, next.from) + ticks_from(next, rest, k),
+        _ => stretch(rate, k),
+    }
+}
+
+/// The least quantum that begins so many ticks after the first quantum of a rate, or more, where later rates follow.
+pub fn first_from(rate: &Rate, later: &[Rate], ticks: u64) -> u64
+    requires rates { All IsRate (rate.now ∷ later.now) }
+    requires order { IsTrue (begin_after rate.now.from later.now) }
+    requires some { 0 < ticks }
+    requires near { ticks < 2 ^ 48 }
+    ensures reached { ticks ≤ ticks_from rate.now later.now result }
+    ensures least { (k : ℕ) → k < result → ticks_from rate.now later.now k < ticks }
+    ensures soon { result ≤ rate.now.from + ticks }
+{
+    if let [next, rest @ ..] = later {
+        let passed = stretch(rate, next.from);
+        if passed < ticks {
+            return first_from(next, rest, ticks - passed);
+        }
+    }
+    first_at(rate, ticks)
+}

@@ -1,0 +1,4 @@
+pub mod BoundedLemmas
+mod HostProofs
+pub mod Runs
+mod Rows

@@ -1,0 +1,6 @@
+pub mod Faults
+pub mod Ran
+pub mod Gather
+pub mod Horizon
+pub mod Merge
+pub mod Plans

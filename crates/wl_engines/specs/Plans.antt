@@ -1,0 +1,49 @@
+-- Runs over a plan's text: the plan is read, and what it means goes out (this project's profile).
+use Rattle.std.specs.Prelude.{◌≡◌, ◌≢◌, ℕ, List, All, Result, Ok, Err}
+use Rattle.wl_device.specs.Devices.{Answer, Writes}
+use Rattle.wl_device.specs.declared.device.WriteFault.{WriteFault}
+use Rattle.wl_record_core.specs.Text.{text_of}
+use Rattle.wl_record_core.specs.Within.{IsWithin}
+use Rattle.wl_plan.specs.declared.plan.Plan.{Plan}
+use Rattle.wl_plan.specs.PlanLine.{IsTrueOfPlan}
+use Rattle.wl_serial.specs.Outcome.{outcome_of}
+use Rattle.wl_serial.specs.Records.{outcome_records}
+use Rattle.wl_report.specs.Report.{report_text}
+use Rattle.wl_views.specs.declared.tick.Tick.{Tick}
+use Rattle.wl_views.specs.Candump.{log_text}
+use Rattle.wl_setup.specs.declared.fault.SetupFault.TheVariants as setup
+use Rattle.wl_setup.specs.Plans.{GivesPlan}
+use Rattle.wl_engines.specs.declared.fault.RunFault.{RunFault}
+use Rattle.wl_engines.specs.declared.fault.RunFault.TheVariants.{Setup}
+use Rattle.wl_engines.specs.Ran.{Ran}
+
+-- the records of the one-thread simulation, as text
+abbrev pub records_text : Plan → List ℕ
+records_text plan = text_of (outcome_records (outcome_of plan))
+
+-- all of them are true of the plan, and within the limits of records
+abbrev pub IsRecordsOutput : Plan → List (List ℕ) → List ℕ → Type 0
+IsRecordsOutput plan names text = (text ≡ records_text plan) × All (λ told. IsTrueOfPlan plan told × IsWithin told) (outcome_records (outcome_of plan))
+
+-- the report of the one-thread simulation
+abbrev pub IsRunOutput : Plan → List (List ℕ) → List ℕ → Type 0
+IsRunOutput plan names text = text ≡ report_text (outcome_of plan)
+
+-- the log of the frames that the one-thread simulation sends, at ticks that last so long
+abbrev pub IsCandumpOutput : Tick → Plan → List (List ℕ) → List ℕ → Type 0
+IsCandumpOutput tick plan names text = text ≡ log_text tick plan
+
+module _ {S T : Type 0} (gives : S → Answer → S → Type 0) (takes : T → Answer → T → Type 0) (IsOutput : Plan → List (List ℕ) → List ℕ → Type 0) (s s' : S) (t t' : T) where
+  -- the output of the plan and the names that were read went out, as far as it went
+  abbrev pub WritesOutput : Result (Unit {0}) WriteFault → Type 0
+  WritesOutput r =
+      (plan : Plan) × (names : List (List ℕ)) × (text : List ℕ) × GivesPlan gives s (Ok (plan, names)) s' × IsOutput plan names text × Writes takes t text r t'
+
+  -- the first fault of what was read, which is not out of memory
+  abbrev pub RefusesPlan : RunFault → Type 0
+  RefusesPlan (Setup fault) = (fault ≢ setup.Memory) × GivesPlan gives s (Err fault) s'
+  RefusesPlan _ = ⊥
+
+  -- what a run over a plan did
+  abbrev pub RunsPlan : Result (Unit {0}) RunFault → Type 0
+  RunsPlan = Ran RefusesPlan WritesOutput t t'

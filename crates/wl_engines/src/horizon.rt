@@ -1,0 +1,108 @@
+//! What a record text says of each node, and up to when.
+ghost use Rattle.std.specs.Prelude.{◌≡◌, ◌<◌, ◌==◌, OnOk, IfOk, string_bytes};
+ghost use Rattle.std.specs.List.{flat_map};
+ghost use Rattle.wl_report.specs.Lines.{GrowsBy};
+ghost use Rattle.wl_record_core.specs.Limits.{most_nodes};
+ghost use Rattle.wl_replica.specs.State.{node_of};
+ghost use Rattle.wl_replica.specs.Canonical.{canonical};
+ghost use Rattle.wl_engines.specs.Horizon.{TellsHorizons, horizon_line, interval_line, is_named, horizon_lines, lines_below};
+
+use crate::fault::RunFault;
+use crate::gather::gather;
+use std::alloc::{AllocError, Global};
+use wl_device::{Sink, Source, write_all};
+use wl_record_core::Record;
+use wl_replica::Replica;
+
+/// The node that a record speaks of.
+fn node_of(told: &Record) -> u8
+    ensures { result ≡ node_of told.now }
+{
+    match *told {
+        Record::Edge { node, .. } | Record::Clash { node, .. } | Record::Silence { node, .. } =>
+            node,
+    }
+}
+
+/// Whether some record speaks of the node.
+fn is_named(records: &[Record], node: u8) -> bool
+    ensures { result ≡ is_named records.now node }
+{
+    records.iter().any(|told| node_of(told) == node)
+}
+
+/// Adds the line of a node's run length and horizon.
+fn push_horizon(text: &mut String, node: u8, run: u32, tick: u64) -> Result<(), AllocError>
+    ensures { OnOk result (GrowsBy text.old text.new (horizon_line node run tick)) }
+{
+    writeln!(text, "H {node} {run} {tick}")
+}
+
+/// Adds the line of an interval in which a node drives dominant.
+fn push_interval(text: &mut String, node: u8, interval: (u64, u64)) -> Result<(), AllocError>
+    ensures { OnOk result (GrowsBy text.old text.new (interval_line node interval)) }
+{
+    let (from, to) = interval;
+    writeln!(text, "D {node} {from} {to}")
+}
+
+/// Adds the lines of some intervals.
+fn push_intervals(text: &mut String, node: u8, intervals: &[(u64, u64)]) -> Result<(), AllocError>
+    ensures { OnOk result (GrowsBy text.old text.new (flat_map (interval_line node) intervals.now)) }
+{
+    for interval in intervals {
+        push_interval(text, node, *interval)?;
+    }
+    Ok(())
+}
+
+/// Adds the lines of a node, where it has a slot. `records` is the replica's canonical list.
+fn push_node(
+    alloc: Global,
+    text: &mut String,
+    replica: &Replica,
+    records: &[Record],
+    node: u8,
+) -> Result<(), AllocError>
+    requires node { node < replica.now.nodes }
+    requires canonical { records.now ≡ canonical replica.now }
+    ensures { OnOk result (GrowsBy text.old text.new (horizon_lines replica.now node)) }
+{
+    if is_named(records, node) {
+        let wave = replica.wave(alloc, node)?;
+        push_horizon(text, node, replica.run_length(node), replica.horizon(node))?;
+        push_intervals(text, node, wave.as_slice())?;
+    }
+    Ok(())
+}
+
+/// The text of what a replica knows.
+fn horizons(alloc: Global, replica: &Replica) -> Result<String, AllocError>
+    ensures { IfOk result (λ text. string_bytes text ≡ lines_below replica.now replica.now.nodes) }
+{
+    let records = replica.canonical(alloc)?;
+    let mut text = String::new(alloc);
+    for node in 0..replica.nodes() {
+        push_node(alloc, &mut text, replica, &records, node)?;
+    }
+    Ok(text)
+}
+
+/// Reads a record text and writes for each node that has a slot in its canonical text how many of its first changes are
+/// known without a gap, the tick below which the node is known, and the intervals in which it drives dominant.
+///
+/// The whole output is made before the first write. Where the input is refused, or memory runs out, the writer isn't called;
+/// where the writer fails, a prefix of the output has been written. The horizon is that of conservative simulation (Chandy and
+/// Misra, 1979); of records that aren't true of one bus it is still defined, and promises nothing.
+pub fn horizon_run<R: Source, W: Sink>(
+    alloc: Global,
+    reader: &mut R,
+    writer: &mut W,
+) -> Result<(), RunFault>
+    ensures { TellsHorizons R.gives W.takes reader.old reader.new writer.old writer.new result }
+{
+    let replica = gather(alloc, reader)?;
+    let text = horizons(alloc, &replica)?;
+    write_all(text.as_bytes(), writer)?;
+    Ok(())
+}

@@ -1,0 +1,13 @@
+//! Laws of merging.
+ghost use Rattle.wl_engines.specs.Merge.{MergesAsOne};
+
+/// Law: merging in parts is merging as one, and only the set of records matters.
+pub fn merges_as_one()
+    ensures { MergesAsOne }
+{
+    wl_record::spelling_law();
+    wl_record::text_law();
+    wl_replica::merging_is_appending();
+    wl_replica::canonical_stays_a_text();
+    wl_replica::same_records_same_state();
+}

@@ -1,0 +1,28 @@
+//! The engines of Wireline's program: each reads one input, and writes one output.
+//!
+//! `merge_run` and `horizon_run` read a record text: the one writes the canonical text of the replica that its records make, the
+//! other what that replica knows of each node, and up to when. `check_run`, `records_run` and `plan_run` read a plan text: the first
+//! writes what the bit segments allow and how long the cable takes, the second the records of the plan's simulation, the third its
+//! report. `candump_run` reads a plan text too, and writes the log of the frames that were sent.
+#![tactic(auto)]
+
+mod check;
+mod fault;
+mod gather;
+mod horizon;
+mod laws;
+mod merge;
+mod plan;
+mod records;
+#[cfg(test)]
+mod tests;
+mod views;
+
+pub use check::check_run;
+pub use fault::RunFault;
+pub use horizon::horizon_run;
+pub use laws::merges_as_one;
+pub use merge::merge_run;
+pub use plan::plan_run;
+pub use records::records_run;
+pub use views::candump_run;

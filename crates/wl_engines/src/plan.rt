@@ -1,0 +1,41 @@
+//! The report of a plan's simulation.
+ghost use Rattle.std.specs.Prelude.{◌≡◌, IfOk};
+ghost use Rattle.wl_plan.specs.Checked.{IsChecked};
+ghost use Rattle.wl_serial.specs.Outcome.{outcome_of};
+ghost use Rattle.wl_report.specs.Report.{report_text};
+ghost use Rattle.wl_engines.specs.Plans.{RunsPlan, IsRunOutput};
+
+use crate::fault::RunFault;
+use std::alloc::{AllocError, Global};
+use wl_device::{Sink, Source, write_all};
+use wl_plan::Plan;
+use wl_report::report;
+use wl_serial::run_serial;
+use wl_setup::read_plan;
+
+/// The report of a plan's simulation.
+fn report_of(alloc: Global, plan: &Plan) -> Result<Vec<u8>, AllocError>
+    requires { IsChecked plan.now }
+    ensures { IfOk result (λ text. text.items ≡ report_text (outcome_of plan.now)) }
+{
+    let outcome = run_serial(alloc, plan)?;
+    report(alloc, &outcome)
+}
+
+/// Reads a plan's text, simulates the plan on one thread, and writes the report: for each node its counters and the frames that
+/// passed, and a verdict.
+///
+/// The whole output is made before the first write. Where the input is refused, or memory runs out, the writer isn't called;
+/// where the writer fails, a prefix of the output has been written.
+pub fn plan_run<R: Source, W: Sink>(
+    alloc: Global,
+    reader: &mut R,
+    writer: &mut W,
+) -> Result<(), RunFault>
+    ensures { RunsPlan R.gives W.takes IsRunOutput reader.old reader.new writer.old writer.new result }
+{
+    let (plan, _names) = read_plan(alloc, reader)?;
+    let text = report_of(alloc, &plan)?;
+    write_all(&text, writer)?;
+    Ok(())
+}

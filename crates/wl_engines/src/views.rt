@@ -1,0 +1,42 @@
+//! Views of a plan's simulation in the formats of other tools.
+ghost use Rattle.std.specs.Prelude.{◌≡◌, IfOk};
+ghost use Rattle.wl_plan.specs.Checked.{IsChecked};
+ghost use Rattle.wl_views.specs.Candump.{log_text};
+ghost use Rattle.wl_engines.specs.Plans.{RunsPlan, IsCandumpOutput};
+
+use crate::fault::RunFault;
+use std::alloc::{AllocError, Global};
+use wl_device::{Sink, Source, write_all};
+use wl_plan::Plan;
+use wl_serial::run_serial;
+use wl_setup::read_plan;
+use wl_views::{Tick, candump, sent_in_time};
+
+/// The log of the frames that a plan's simulation sent.
+fn log_text(alloc: Global, tick: Tick, plan: &Plan) -> Result<Vec<u8>, AllocError>
+    requires { IsChecked plan.now }
+    ensures { IfOk result (λ text. text.items ≡ log_text tick plan.now) }
+{
+    sent_in_time();
+    let outcome = run_serial(alloc, plan)?;
+    candump(alloc, tick, plan, &outcome)
+}
+
+/// Reads a plan's text, simulates the plan, and writes a line for each frame that was sent, in the order of their completion, as
+/// can-utils logs frames; a tick of the plan takes as long as `tick` says.
+///
+/// The whole output stands before the first write. Where the input is refused, or memory is wanted, the writer isn't called;
+/// where the writer fails, a front of the output has gone out.
+pub fn candump_run<R: Source, W: Sink>(
+    alloc: Global,
+    tick: Tick,
+    reader: &mut R,
+    writer: &mut W,
+) -> Result<(), RunFault>
+    ensures { RunsPlan R.gives W.takes (IsCandumpOutput tick) reader.old reader.new writer.old writer.new result }
+{
+    let (plan, _names) = read_plan(alloc, reader)?;
+    let text = log_text(alloc, tick, &plan)?;
+    write_all(&text, writer)?;
+    Ok(())
+}

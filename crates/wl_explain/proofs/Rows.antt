@@ -1,0 +1,44 @@
+-- Worked settings: 500 kbit/s and 1 Mbit/s as can-utils' can-calc-bit-timing proposes them, and the figures that it prints.
+use Rattle.std.proofs.Common.{◌≡◌, ℕ, Some, None, refl, arith}
+use Rattle.wl_segments.specs.Lengths.{Lengths}
+use Rattle.wl_explain.specs.Figures.{Ratio, ComesBack, quantum_of, picoseconds, bits_per_second, sample_point}
+
+abbrev half : Lengths
+half = record { prop = 6; ps1 = 7; ps2 = 2; sjw = 1 }
+
+abbrev whole : Lengths
+whole = record { prop = 7; ps1 = 7; ps2 = 5; sjw = 1 }
+
+abbrev ratio : ℕ → ℕ → Ratio
+ratio num den = record { num = num; den = den }
+
+accepted : quantum_of 125 2 ≡ Some (ratio 125 2)
+accepted = refl
+
+too_fast : quantum_of 1 2 ≡ None
+too_fast = refl
+
+no_den : quantum_of 1 0 ≡ None
+no_den = refl
+
+half_a_nanosecond : picoseconds (ratio 125 2) ≡ 62500
+half_a_nanosecond = refl
+
+slow : picoseconds (ratio 125625 1000) ≡ 125625
+slow = refl
+
+half_a_megabit : bits_per_second (ratio 125 1) half ≡ 500000
+half_a_megabit = refl
+
+megabit : bits_per_second (ratio 50 1) whole ≡ 1000000
+megabit = refl
+
+half_a_megabit_sampled : sample_point half ≡ 8750
+half_a_megabit_sampled = refl
+
+megabit_sampled : sample_point whole ≡ 7500
+megabit_sampled = refl
+
+-- 25 m with 220 ns of transceivers: 345 ns; there and back and a quantum are 740 of the 750 ns up to the sample
+comes_back : ComesBack (ratio 50 1) whole 345
+comes_back = record { in_time = omega arith }

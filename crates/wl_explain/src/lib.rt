@@ -1,0 +1,108 @@
+//! What an engineer reads off a node's settings: the length of a quantum, the bit rate, the sample point, and how far a level may go
+//! and still be back at the sample.
+//!
+//! A tick is taken for a nanosecond. The rules are those of Bosch CAN 2.0 part B, section 10; that a level is seen up to a quantum
+//! after it came is this project's profile. The tolerance of an oscillator is `Segments::greatest_ppm`.
+#![tactic(auto)]
+
+ghost use Rattle.std.specs.Prelude.{◌≡◌, ℕ, ◌+◌, ◌*◌, ◌<◌, ◌≤◌, ◌↔◌, IfSome, None};
+ghost use Rattle.wl_explain.specs.Figures.{Ratio, IsQuantum, quantum_of, picoseconds, bits_per_second, sample_point, ComesBack};
+
+use std::marker::Model;
+use wl_segments::Segments;
+
+/// The most ticks that a quantum may take.
+const LONGEST_QUANTUM: u64 = 1_048_576;
+
+/// The largest denominator of a quantum's ticks.
+const LARGEST_DEN: u64 = 1_000_000;
+
+/// A quantum of `num / den` ticks, from 1 to 1,048,576.
+#[derive(Clone, Copy, Debug, PartialEq, Eq)]
+pub struct Quantum {
+    num: u64,
+    den: u64,
+}
+
+impl Model for Quantum {
+    ghost Value = { Ratio };
+
+    ghost view = { λ q. record { num = q.num; den = q.den } };
+
+    ghost inverse = { λ r. record { num = r.num; den = r.den } };
+
+    ghost invariant = { λ q. IsQuantum (record { num = q.num; den = q.den }) };
+}
+
+impl Quantum {
+    /// The quantum of `num / den` ticks; `None` where `den` isn't 1 to 1,000,000 or the quantum takes less than a tick or more than
+    /// 1,048,576, which is what a clock refuses of its rate.
+    pub fn new(num: u64, den: u64) -> Option<Quantum>
+        ensures { result ≡ quantum_of num den }
+    {
+        if den == 0 || den > LARGEST_DEN || num < den || num > LONGEST_QUANTUM * den {
+            return None;
+        }
+        Some(Quantum { num, den })
+    }
+
+    /// The numerator of its ticks.
+    fn num(&self) -> u64
+        ensures num { result ≡ self.now.num }
+        ensures quantum { IsQuantum self.now }
+    {
+        self.num
+    }
+
+    /// The denominator of its ticks: 1 to 1,000,000.
+    fn den(&self) -> u64
+        ensures den { result ≡ self.now.den }
+        ensures quantum { IsQuantum self.now }
+    {
+        self.den
+    }
+
+    /// Its length in picoseconds, rounded down, where a tick is a nanosecond.
+    pub fn picoseconds(&self) -> u64
+        ensures { result ≡ picoseconds self.now }
+    {
+        1000 * self.num() / self.den()
+    }
+
+    /// Bits a second with these segments, rounded down, where a tick is a nanosecond: the nominal bit rate.
+    pub fn bits_per_second(&self, segments: &Segments) -> u64
+        ensures { result ≡ bits_per_second self.now segments.now }
+    {
+        1_000_000_000 * self.den() / (segments.bit_quanta() * self.num())
+    }
+
+    /// The greatest delay, in ticks, from a node to another and as much back, with which a level, seen up to a quantum later, is there
+    /// at the sample of the bit in which it set out.
+    pub fn furthest_way(&self, segments: &Segments) -> u64
+        ensures reached { ComesBack self.now segments.now result }
+        ensures furthest { (way : ℕ) → ComesBack self.now segments.now way → way ≤ result }
+    {
+        (segments.sample_at() - 1) * self.num() / (2 * self.den())
+    }
+}
+
+/// The sample point in hundredths of a per cent of the bit, rounded down.
+pub fn sample_point(segments: &Segments) -> u64
+    ensures { result ≡ sample_point segments.now }
+{
+    10_000 * segments.sample_at() / segments.bit_quanta()
+}
+
+/// The greatest length of a cable, in its units, that takes at most `way` ticks where `ends` of them are out of the one node and into the
+/// other and `per` go with each unit; `None` where the nodes' own are too many for any cable.
+pub fn longest_cable(way: u64, ends: u64, per: u64) -> Option<u64>
+    requires { 0 < per }
+    ensures reached { IfSome result (λ length. ends + length * per ≤ way) }
+    ensures longest { IfSome result (λ length. (x : ℕ) → ends + x * per ≤ way → x ≤ length) }
+    ensures none { (result ≡ None) ↔ (way < ends) }
+{
+    if way < ends {
+        return None;
+    }
+    Some((way - ends) / per)
+}

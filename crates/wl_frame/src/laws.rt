@@ -1,0 +1,54 @@
+//! Laws of the definitions, each as the contract of a function that does nothing.
+
+ghost use Rattle.std.specs.Prelude.{◌≡◌, ◌↔◌, ◌<◌, ◌≤◌, ℕ, suc, nat_le, true, false, List, [], ◌∷◌, ◌++◌, MatchOption, length, take};
+ghost use Rattle.wl_level.specs.declared.Level.{Level};
+ghost use Rattle.wl_level.specs.Places.{run_at};
+ghost use Rattle.wl_frame.specs.Grammar.{Content, IsContent, IsFrame, IsReadAs, IsUnfinished, bits_of, covered_length, is_arbitration, is_front, is_whole, layout_of};
+ghost use Rattle.wl_frame.specs.Stuffing.{IsStuffedFront, NoSixBefore, Stuffs, first_six, is_stuff, kept};
+
+/// Law: a list has one stuffing. So what [`stuff`](crate::stuffing::stuff) answers is the only right
+/// answer, and a receiver that takes the stuff bits out can have been sent one list alone.
+pub fn a_list_has_one_stuffing()
+    ensures { (x y z : List Level) → Stuffs y x → Stuffs z x → y ≡ z }
+{}
+
+/// Law, of a stuff error: a list of samples either is the front of a list with its stuff bits, or has a
+/// first place at which six equal bits end, and not both.
+pub fn a_front_of_no_stuffing_ends_six_equal_bits()
+    ensures { (y : List Level) → MatchOption (first_six y) (IsStuffedFront y) (λ k. ¬ IsStuffedFront y) }
+{}
+
+/// Law, of a stuffed list that comes bit by bit: a stuff bit is due where five equal bits end; what comes
+/// later changes neither which of the earlier bits are stuff bits nor what is kept of them; and a front
+/// that ends no six equal bits, and at whose end none is due, stuffs what is kept of it.
+pub fn stuffing_goes_on_bit_by_bit()
+    ensures due { (y : List Level) (n : ℕ) → is_stuff y n ≡ nat_le 5 (run_at y n) }
+    ensures stays { (y more : List Level) (n : ℕ) → n ≤ length y → is_stuff (y ++ more) n ≡ is_stuff y n }
+    ensures keeps { (y more : List Level) (n : ℕ) → n ≤ length y → kept (y ++ more) n ≡ kept y n }
+    ensures front { (y : List Level) (n : ℕ) → n ≤ length y → NoSixBefore y n → is_stuff y n ≡ false
+        → Stuffs (take n y) (kept y n) }
+{}
+
+/// Law: reading by places is the grammar. A list is a frame of this content exactly where it begins with
+/// a dominant bit, is whole, has the right CRC sequence and is read as this content. No other front of a
+/// whole list is whole, so that one who reads bit by bit stops at its end. And the arbitration is what
+/// stands after the start of frame, up to the RTR bit.
+pub fn reading_by_places_is_the_grammar()
+    ensures grammar { (bits : List Level) (c : Content) → IsFrame bits c ↔ IsReadAs bits c }
+    ensures end { (front rest : List Level) → is_whole front ≡ true → is_whole (front ++ rest) ≡ true → rest ≡ [] }
+    ensures arbitration { (bits : List Level)
+        → ((layout_of bits).start ≡ 1) × ((layout_of bits).arbitration ≡ suc (layout_of bits).rtr) }
+{}
+
+/// Law, of one who reads a frame bit by bit: a front that is not whole is still one with a bit more, and
+/// has less than 118 bits; no frame has less than 19 before its CRC sequence. What a frame spells is
+/// whole. And who has read a whole frame is past the arbitration of any other that is sent meanwhile.
+pub fn a_front_is_read_to_its_end()
+    ensures none { is_front [] ≡ true }
+    ensures more { (bits : List Level) (bit : Level) → IsUnfinished bits → is_front (bits ++ bit ∷ []) ≡ true }
+    ensures room { (bits : List Level) → IsUnfinished bits → length bits < 118 }
+    ensures least { (bits : List Level) → 19 ≤ covered_length bits }
+    ensures sent { (c : Content) → IsContent c → is_whole (bits_of c) ≡ true }
+    ensures over { (read sent : List Level) (place : ℕ) → is_whole read ≡ true → length read ≤ place
+        → is_arbitration sent place ≡ false }
+{}

@@ -1,0 +1,9 @@
+pub mod Joined
+pub mod Kept
+pub mod Silences
+pub mod Edges
+pub mod Apart
+pub mod Shapes
+pub mod Words
+pub mod Passes
+pub mod Telling

@@ -1,0 +1,4 @@
+pub mod Rule
+pub mod Places
+pub mod Words
+pub mod Passes

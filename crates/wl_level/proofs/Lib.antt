@@ -1,0 +1,4 @@
+mod Places
+mod FirstPlace
+mod Rows
+pub mod Callers

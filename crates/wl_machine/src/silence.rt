@@ -1,0 +1,49 @@
+//! For how long a machine is sure to drive recessive.
+
+ghost use Rattle.std.specs.Prelude.{◌≡◌};
+ghost use Rattle.wl_machine.specs.Silence.{kept_silence};
+
+use crate::progress::Progress;
+use crate::state::State;
+
+/// With so many recessive samples in a row an integration ends.
+const INTEGRATED: u16 = 11;
+
+/// So many equal samples in a row are a stuff error, and end a passive flag.
+const SIX: u16 = 6;
+
+/// The bits of a frame without bytes, without its stuff bits.
+const SHORTEST: usize = 34;
+
+/// The bits of a suspension.
+const SUSPENDED: u16 = 8;
+
+/// With so many runs of eleven recessive samples a bus off ends.
+const RECOVERED: u16 = 128;
+
+impl Progress {
+    /// For how many samples more the machine is sure to drive recessive, with heads or without.
+    pub fn silence(&self, heads: bool) -> u16
+        ensures { result ≡ kept_silence heads self.now.state self.now.bits.items }
+    {
+        match self.state {
+            State::Integrating { run } => (INTEGRATED - 1).saturating_sub(run as u16),
+            State::Receiving { run, .. } => {
+                let bits = SHORTEST.saturating_sub(self.bits.len()) as u16;
+                (SIX - 1).saturating_sub(run as u16).min(bits)
+            }
+            State::PassiveFlag { run, .. } => (SIX + 1).saturating_sub(run as u16),
+            State::Wait { .. } => 1,
+            State::Suspended { count } if heads => {
+                (SUSPENDED - 1).saturating_sub(count as u16).min(SIX - 1)
+            }
+            State::Idle if heads => 0,
+            State::Idle | State::Suspended { .. } => SIX - 1,
+            State::BusOff { runs, run } => {
+                let left = RECOVERED.saturating_sub(runs as u16) * INTEGRATED;
+                left.saturating_sub(run as u16 + 1)
+            }
+            _ => 0,
+        }
+    }
+}

@@ -1,0 +1,340 @@
+-- A node keeps its drive for as long as it promises, and changes it seldom.
+use Rattle.std.proofs.Common.{◌≡◌, ◌∙◌, ℕ, zero, suc, ◌+◌, ◌*◌, ◌/◌, ◌<◌, ◌≤◌, Bool, true, false, cond, not, List, [], ◌∷◌, ◌++◌, length, drop, Option, Some, None, refl, sym, ap, subst, arith, ◌⊎◌, inl, inr, append-nil, append_assoc, add-one}
+use Rattle.std.specs.Prelude.{count_by, nat_lt}
+use Rattle.std.proofs.Math.Nat.{mul-le-mul_left, div-add-mod}
+use Rattle.std.proofs.lemmas.Bool.{cases_lt, ltb-false, le-ltb}
+use Rattle.std.proofs.lemmas.List.{take-append-le, take_all, drop_all}
+use Rattle.wl_level.specs.declared.Level.{Level}
+use Rattle.wl_level.specs.declared.Level.TheVariants.{Dominant, Recessive}
+use Rattle.wl_level.specs.Levels.{same}
+use Rattle.wl_level.specs.Places.{count_places}
+use Rattle.wl_level.proofs.Callers.{length_more, same_self, same_equal}
+use Rattle.wl_segments.specs.Lengths.{AreLengths, sample_at}
+use Rattle.wl_sync.specs.declared.Beat.{Beat}
+use Rattle.wl_sync.specs.declared.Beat.TheVariants.{Plain, Sample, Start}
+use Rattle.wl_sync.specs.Bits.{beat_of, sync_of}
+use Rattle.wl_sync.specs.SampleLaws.{SampleLaws, way}
+use Rattle.wl_confine.specs.declared.Mode.{Mode}
+use Rattle.wl_confine.specs.Counts.{counts_of, mode_of}
+use Rattle.wl_machine.specs.Stretch.{Stretch, Sampled, Input}
+use Rattle.wl_machine.specs.Stretch.Input.{Sample as Given, SwitchedOff}
+use Rattle.wl_machine.specs.Judged.{judged, stretch_of, stretch_after, drive_of}
+use Rattle.wl_machine.specs.Silence.{SilenceLaws, silence_of}
+use Rattle.wl_machine.proofs.Callers.{stretch_next}
+use Rattle.wl_node.specs.declared.setup.NodeSetup.{NodeSetup}
+use Rattle.wl_node.specs.History.{History, history_of, no_history, seen_next, sampled_next, ready_head, is_sent, passed, switched_off, by_beat, syncs_at}
+use Rattle.wl_node.specs.Limits.{most_quiet, most_quiet-is}
+use Rattle.wl_node.specs.Quiet.{pending_of, is_waiting, floor_by, floor_at, floor_and_silence, promise_at, quiet_of, drive_at, changes_of}
+use Rattle.wl_node.proofs.Turns.{history_first, history_next}
+use Rattle.wl_node.proofs.Sends.{off_or_not, count_append}
+
+-- what holds of no level, and of one level more where it holds before it, holds of all lists
+grown : {A : Type 0} (P : List A → Type 0) → P [] → ((xs : List A) (x : A) → P xs → P (xs ++ x ∷ [])) → (xs : List A) → P xs
+grown P none more xs = from [] none xs
+  where
+    from : (front : List _) → P front → (rest : List _) → P (front ++ rest)
+    from front p [] = subst P (sym (append-nil front)) p
+    from front p (x ∷ rest) = subst P (append_assoc front (x ∷ []) rest) (from (front ++ x ∷ []) (more front x p) rest)
+
+same_when : (a b : Level) → a ≡ b → same a b ≡ true
+same_when a b e = ap (same a) (sym e) ∙ same_self a
+
+-- the history after a quantum of this beat
+abbrev behind : NodeSetup → History → Level → Beat → History
+behind setup h level beat = record (by_beat setup h level beat) {
+  seen = h.seen ++ seen_next h level ∷ [];
+  syncs = h.syncs ++ syncs_at (length h.seen) (sync_of setup.segments h.seen (seen_next h level));
+}
+
+abbrev beat_next : NodeSetup → History → Level → Beat
+beat_next setup h level = beat_of setup.segments h.seen (seen_next h level)
+
+-- the quanta up to the sample, where there is a way to it
+abbrev left : Option ℕ → ℕ
+left (Some n) = n
+left None = 0
+
+-- a longer promise is no shorter one
+longer_least : (f s p : ℕ) → f ≤ floor_and_silence f s p
+longer_least zero s p = omega arith
+longer_least (suc f) s p = omega arith
+
+abbrev pub place_of : NodeSetup → ℕ
+place_of setup = sample_at setup.segments
+
+abbrev pub way_at : NodeSetup → History → Option ℕ
+way_at setup h = way setup.segments h.seen
+
+-- between a start and its sample the drive is what the machine wants
+abbrev pub IsSettled : NodeSetup → History → Type 0
+IsSettled setup h = (n : ℕ) → way_at setup h ≡ Some n → h.drive ≡ pending_of h
+
+module _ (ways : SampleLaws) (setup : NodeSetup) where
+  settled_by : (h : History) (level : Level) (b : Beat) → beat_next setup h level ≡ b → IsSettled setup h → IsSettled setup (behind setup h level b)
+  settled_by h level Start e s n w = refl
+  settled_by h level (Sample v) e s n w = (let g = ways.sample setup.segments h.seen (seen_next h level) v e in cc)
+  settled_by h level Plain e s n w = before (way_at setup h) refl
+    where
+      before : (o : Option ℕ) → way_at setup h ≡ o → h.drive ≡ pending_of h
+      before (Some m) f = s m f
+      before None f = (let g = ways.after setup.segments h.seen (seen_next h level) e f in cc)
+
+  settled_first : IsSettled setup no_history
+  settled_first n w = (let g = ways.at_first setup.segments in cc)
+
+  pub settled : (levels : List Level) → IsSettled setup (history_of setup levels)
+  settled =
+      grown (λ levels. IsSettled setup (history_of setup levels)) (subst (IsSettled setup) (sym (history_first setup)) settled_first)
+      (λ levels x s. subst (IsSettled setup) (sym (history_next setup levels x)) (settled_by (history_of setup levels) x (beat_next setup (history_of setup levels) x) refl s))
+
+  floor_few : (h : History) (o : Option ℕ) (t : Bool) → way_at setup h ≡ o → floor_by o t (place_of setup) ≤ suc (place_of setup)
+  floor_few h (Some n) t e = (let m = ways.few setup.segments h.seen n e in omega arith)
+  floor_few h None true e = omega arith
+  floor_few h None false e = omega arith
+
+  pub floor : (levels : List Level) → AreLengths setup.segments → floor_at setup (history_of setup levels) ≤ quiet_of setup levels
+  unfolding quiet_of
+  floor levels l =
+      let f = floor_few (history_of setup levels) (way_at setup (history_of setup levels)) (same (history_of setup levels).drive (pending_of (history_of setup levels))) refl in
+      let m = most_quiet-is in
+      let a = l.prop_high in
+      let b = l.ps1_high in
+      let g = longer_least (floor_at setup (history_of setup levels)) (silence_of (is_waiting setup (history_of setup levels)) (stretch_of (history_of setup levels).inputs)) (sample_at setup.segments) in
+      omega arith
+
+  pub most : (levels : List Level) → quiet_of setup levels ≤ most_quiet
+  unfolding quiet_of
+  most levels = omega arith
+
+module _ (silences : SilenceLaws) (ways : SampleLaws) (setup : NodeSetup) where
+  -- where a quantum leaves a node that is quiet for it and for k quanta more
+  record Keeps (h next : History) (k : ℕ) : Type 0 where
+    drive : next.drive ≡ h.drive
+    promise : k ≤ promise_at setup next
+
+  abbrev silence_at : History → ℕ
+  silence_at h = silence_of (is_waiting setup h) (stretch_of h.inputs)
+
+  -- a promise that is some rests on a floor that is
+  some_floor : (f s k : ℕ) → suc k ≤ floor_and_silence f s (place_of setup) → 0 < f
+  some_floor zero s k q = absurd (omega arith)
+  some_floor (suc f) s k q = omega arith
+
+  longer_is : (f s : ℕ) → 0 < f → floor_and_silence f s (place_of setup) ≡ f + s * suc (place_of setup)
+  longer_is zero s h = absurd (omega arith)
+  longer_is (suc f) s h = refl
+
+  -- one floor in the (place_of setup) of another that is less by one quantum at most
+  longer_near : (f g s k : ℕ) → f ≤ suc g → 0 < g → suc k ≤ floor_and_silence f s (place_of setup) → k ≤ floor_and_silence g s (place_of setup)
+  longer_near f g s k n h q = (let a = longer_is f s (some_floor f s k q) in let b = longer_is g s h in omega arith)
+
+  keeps_start : (h : History) (level : Level) → beat_next setup h level ≡ Start → IsSettled setup h → (k : ℕ) → suc k ≤ promise_at setup h → Keeps h (behind setup h level Start) k
+  keeps_start h level e s k q = record {
+    drive = (starts (way_at setup h) refl (same h.drive (pending_of h)) refl some).0;
+    promise =
+        subst (λ o. k ≤ floor_and_silence (floor_by o (same (pending_of h) (pending_of h)) (place_of setup)) (silence_at h) (place_of setup)) (sym (ways.start setup.segments h.seen (seen_next h level) e))
+        (longer_near (floor_at setup h) (place_of setup) (silence_at h) k (starts (way_at setup h) refl (same h.drive (pending_of h)) refl some).1 (omega arith) q);
+  }
+    where
+      some : 0 < floor_at setup h
+      some = some_floor (floor_at setup h) (silence_at h) k q
+
+      starts : (o : Option ℕ) → way_at setup h ≡ o → (t : Bool) → same h.drive (pending_of h) ≡ t → 0 < floor_by o t (place_of setup) → (pending_of h ≡ h.drive) × (floor_by o t (place_of setup) ≤ suc (place_of setup))
+      starts (Some n) f t g r = (sym (s n f), (let m = ways.few setup.segments h.seen n f in omega arith))
+      starts None f true g r = (sym (same_equal h.drive (pending_of h) g), omega arith)
+      starts None f false g r = absurd (omega arith)
+
+  keeps_plain : (h : History) (level : Level) → beat_next setup h level ≡ Plain → (k : ℕ) → suc k ≤ promise_at setup h → Keeps h (behind setup h level Plain) k
+  keeps_plain h level e k q = record { drive = refl; promise = plain (way_at setup h) refl q }
+    where
+      plain : (o : Option ℕ) → way_at setup h ≡ o → suc k ≤ floor_and_silence (floor_by o (same h.drive (pending_of h)) (place_of setup)) (silence_at h) (place_of setup) → k ≤ promise_at setup (behind setup h level Plain)
+      plain None f r =
+          subst (λ o. k ≤ floor_and_silence (floor_by o (same h.drive (pending_of h)) (place_of setup)) (silence_at h) (place_of setup)) (sym (ways.after setup.segments h.seen (seen_next h level) e f)) (omega arith)
+      plain (Some n) f r =
+          let near = ways.near setup.segments h.seen (seen_next h level) n e f in
+          subst (λ o. k ≤ floor_and_silence (floor_by o (same h.drive (pending_of h)) (place_of setup)) (silence_at h) (place_of setup)) (sym near.1.0)
+          (longer_near n near.0 (silence_at h) k near.1.1 (ways.some setup.segments (h.seen ++ seen_next h level ∷ []) near.0 near.1.0) r)
+
+  -- after a sample that a silence reaches beyond the machine wants recessive still, and is silent for one sample less at most
+  record IsSilentBehind (heads : Bool) (inputs : List Input) (s : ℕ) : Type 0 where
+    pending : drive_of (stretch_of inputs) ≡ Recessive
+    left : s ≤ silence_of heads (stretch_of inputs)
+
+  silent_behind : (heads : Bool) (inputs off : List Input) (x : Sampled) (s : ℕ) → (off ≡ []) ⊎ (off ≡ SwitchedOff ∷ []) → (heads ≡ false → x.head ≡ None)
+      → suc s ≤ silence_of heads (stretch_of inputs) → IsSilentBehind heads ((inputs ++ Given x ∷ []) ++ off) s
+  silent_behind heads inputs off x s (inl n) f q =
+      let e : stretch_of ((inputs ++ Given x ∷ []) ++ off) ≡ stretch_after (stretch_of inputs) (Given x) =
+      ap (λ o. stretch_of ((inputs ++ Given x ∷ []) ++ o)) n ∙ ap stretch_of (append-nil (inputs ++ Given x ∷ [])) ∙ stretch_next inputs (Given x) in
+      record {
+        pending = ap drive_of e ∙ silences.next heads (stretch_of inputs) x s f q;
+        left = subst (λ r. s ≤ silence_of heads r) (sym e) (silences.left heads (stretch_of inputs) x s f q);
+      }
+  silent_behind heads inputs off x s (inr n) f q =
+      let e : stretch_of ((inputs ++ Given x ∷ []) ++ off) ≡ stretch_after (stretch_of (inputs ++ Given x ∷ [])) SwitchedOff =
+      ap (λ o. stretch_of ((inputs ++ Given x ∷ []) ++ o)) n ∙ stretch_next (inputs ++ Given x ∷ []) SwitchedOff in
+      let on : s ≤ silence_of heads (stretch_of (inputs ++ Given x ∷ [])) =
+      subst (λ r. s ≤ silence_of heads r) (sym (stretch_next inputs (Given x))) (silences.left heads (stretch_of inputs) x s f q) in
+      record {
+        pending = ap drive_of e;
+        left = subst (λ r. s ≤ silence_of heads r) (sym e) (let longest = silences.off heads (stretch_of (inputs ++ Given x ∷ [])) in omega arith);
+      }
+
+  -- where none waits, none is handed to the machine, then and later
+  none_handed : (sent quantum : ℕ) → nat_lt sent (length setup.queue) ≡ false → ready_head (drop sent setup.queue) quantum ≡ None
+  none_handed sent quantum e = ap (λ u. ready_head u quantum) (drop_all sent setup.queue (ltb-false sent (length setup.queue) e))
+
+  none_later : (sent more : ℕ) → sent ≤ more → nat_lt sent (length setup.queue) ≡ false → nat_lt more (length setup.queue) ≡ false
+  none_later sent more h e = (let f = ltb-false sent (length setup.queue) e in le-ltb more (length setup.queue) (omega arith))
+
+  never_less : (heads later : Bool) (r : Stretch) → (heads ≡ false → later ≡ false) → silence_of heads r ≤ silence_of later r
+  never_less true true r e = omega arith
+  never_less true false r e = silences.none r
+  never_less false later r e = subst (λ b. silence_of false r ≤ silence_of b r) (sym (e refl)) (omega arith)
+
+  keeps_sample : (h : History) (level v : Level) → beat_next setup h level ≡ Sample v → IsSettled setup h → (k : ℕ) → suc k ≤ promise_at setup h → Keeps h (behind setup h level (Sample v)) k
+  keeps_sample h level v e s k q = record { drive = refl; promise = by_silence (silence_at h) refl }
+    where
+      one : way_at setup h ≡ Some 1
+      one = ways.sampled setup.segments h.seen (seen_next h level) v e
+
+      few : suc k ≤ floor_and_silence 1 (silence_at h) (place_of setup)
+      few = subst (λ o. suc k ≤ floor_and_silence (floor_by o (same h.drive (pending_of h)) (place_of setup)) (silence_at h) (place_of setup)) one q
+
+      by_silence : (n : ℕ) → silence_at h ≡ n → k ≤ promise_at setup (behind setup h level (Sample v))
+      by_silence zero f = (let r = few in let g : floor_and_silence 1 (silence_at h) (place_of setup) ≡ 1 + 0 * suc (place_of setup) = ap (λ m. floor_and_silence 1 m (place_of setup)) f in omega arith)
+      by_silence (suc n) f =
+          let r = few in
+          let x : Sampled = sampled_next setup h level in
+          let after : Mode = mode_of (counts_of (h.happened ++ (judged (stretch_of h.inputs) x).happened ∷ [])) in
+          let next : History = behind setup h level (Sample v) in
+          let more : suc n ≤ silence_at h = omega arith in
+          let b : IsSilentBehind (is_waiting setup h) next.inputs n =
+          silent_behind (is_waiting setup h) h.inputs (switched_off x.mode after) x n (off_or_not x.mode after) (none_handed (count_by is_sent h.frames) (length h.seen)) more in
+          let later : silence_of (is_waiting setup h) (stretch_of next.inputs) ≤ silence_at next =
+          never_less (is_waiting setup h) (is_waiting setup next) (stretch_of next.inputs)
+          (none_later (count_by is_sent h.frames) (count_by is_sent next.frames) (let g = count_append is_sent h.frames (passed (length h.seen) (judged (stretch_of h.inputs) x).ended) in omega arith)) in
+          let settled_next : same h.drive (pending_of next) ≡ true = same_when h.drive (pending_of next) (s 1 one ∙ silences.now (is_waiting setup h) (stretch_of h.inputs) n more ∙ sym b.pending) in
+          let floor_next : floor_at setup next ≡ suc (place_of setup) =
+          ap (λ o. floor_by o (same h.drive (pending_of next)) (place_of setup)) (ways.sample setup.segments h.seen (seen_next h level) v e) ∙ ap (λ t. floor_by None t (place_of setup)) settled_next in
+          let promise_next : promise_at setup next ≡ suc (place_of setup) + silence_at next * suc (place_of setup) = ap (λ m. floor_and_silence m (silence_at next) (place_of setup)) floor_next in
+          let now : floor_and_silence 1 (silence_at h) (place_of setup) ≡ 1 + suc n * suc (place_of setup) = ap (λ m. floor_and_silence 1 m (place_of setup)) f in
+          let enough : suc (place_of setup) * n ≤ suc (place_of setup) * silence_at next = mul-le-mul_left (suc (place_of setup)) (let l = b.left in omega arith) in
+          omega arith
+
+  keeps_by : (h : History) (level : Level) (b : Beat) → beat_next setup h level ≡ b → IsSettled setup h → (k : ℕ) → suc k ≤ promise_at setup h → Keeps h (behind setup h level b) k
+  keeps_by h level Start e s k q = keeps_start h level e s k q
+  keeps_by h level (Sample v) e s k q = keeps_sample h level v e s k q
+  keeps_by h level Plain e s k q = keeps_plain h level e k q
+
+  keeps : (levels : List Level) (x : Level) (k : ℕ) → suc k ≤ promise_at setup (history_of setup levels) → Keeps (history_of setup levels) (history_of setup (levels ++ x ∷ [])) k
+  keeps levels x k q =
+      subst (λ next. Keeps (history_of setup levels) next k) (sym (history_next setup levels x))
+      (keeps_by (history_of setup levels) x (beat_next setup (history_of setup levels) x) refl (settled ways setup levels) k q)
+
+  stays : (more levels : List Level) → length more ≤ promise_at setup (history_of setup levels) → (history_of setup (levels ++ more)).drive ≡ (history_of setup levels).drive
+  stays [] levels q = ap (λ l. (history_of setup l).drive) (append-nil levels)
+  stays (x ∷ more) levels q =
+      let k = keeps levels x (length more) (omega arith) in
+      ap (λ l. (history_of setup l).drive) (sym (append_assoc levels (x ∷ []) more)) ∙ (stays more (levels ++ x ∷ []) k.promise ∙ k.drive)
+
+  pub quiet : (levels more : List Level) → length more ≤ quiet_of setup levels → (history_of setup (levels ++ more)).drive ≡ (history_of setup levels).drive
+  unfolding quiet_of
+  quiet levels more q = stays more levels (omega arith)
+
+-- what laws of places say of counts
+abbrev pub CountsBelow : Type 0
+CountsBelow = (test other : ℕ → Bool) (n : ℕ) → ((k : ℕ) → k < n → test k ≡ other k) → count_places test n ≡ count_places other n
+
+-- one more if the test passes
+abbrev one_if : Bool → ℕ
+one_if b = cond b 1 0
+
+module _ (counts : CountsBelow) (ways : SampleLaws) (setup : NodeSetup) where
+  abbrev turns : List Level → ℕ → Bool
+  turns levels k = not (same (drive_at setup levels k) (drive_at setup levels (suc k)))
+
+  front_drive : (levels : List Level) (x : Level) (k : ℕ) → k ≤ length levels → drive_at setup (levels ++ x ∷ []) k ≡ drive_at setup levels k
+  front_drive levels x k h = ap (λ l. (history_of setup l).drive) (take-append-le k levels (x ∷ []) h)
+
+  whole_drive : (levels : List Level) (k : ℕ) → length levels ≤ k → drive_at setup levels k ≡ (history_of setup levels).drive
+  whole_drive levels k h = ap (λ l. (history_of setup l).drive) (take_all k levels h)
+
+  -- one level more is one change more where it changes the drive
+  changes_next : (levels : List Level) (x : Level)
+      → changes_of setup (levels ++ x ∷ []) ≡ changes_of setup levels + one_if (not (same (history_of setup levels).drive (history_of setup (levels ++ x ∷ [])).drive))
+  changes_next levels x =
+      ap (count_places (turns (levels ++ x ∷ []))) (length_more levels x ∙ add-one (length levels))
+      ∙ ap (λ n. n + one_if (turns (levels ++ x ∷ []) (length levels)))
+      (counts (turns (levels ++ x ∷ [])) (turns levels) (length levels)
+      (λ k h. ap (λ d. not (same d (drive_at setup (levels ++ x ∷ []) (suc k)))) (front_drive levels x k (omega arith)) ∙ ap (λ d. not (same (drive_at setup levels k) d)) (front_drive levels x (suc k) (omega arith))))
+      ∙ ap (λ d. changes_of setup levels + one_if (not (same d (drive_at setup (levels ++ x ∷ []) (suc (length levels))))))
+      (front_drive levels x (length levels) (omega arith) ∙ whole_drive levels (length levels) (omega arith))
+      ∙ ap (λ d. changes_of setup levels + one_if (not (same (history_of setup levels).drive d))) (whole_drive (levels ++ x ∷ []) (suc (length levels)) (omega (arith, length_more levels x)))
+
+  -- the quanta of as many parts of bits from a start to its sample as there were changes
+  abbrev IsFew : List Level → Type 0
+  IsFew levels = changes_of setup levels * suc (sample_at setup.segments) ≤ length levels + left (way setup.segments (history_of setup levels).seen)
+
+  abbrev part : ℕ
+  part = suc (sample_at setup.segments)
+
+  none_more : (d e : Level) → d ≡ e → one_if (not (same d e)) ≡ 0
+  none_more d e h = ap (λ b. one_if (not b)) (same_when d e h)
+
+  stays_few : (c u a b : ℕ) → u ≡ 0 → c * part ≤ a → a ≤ b → (c + u) * part ≤ b
+  stays_few c u a b h q r = (let e : (c + u) * part ≡ c * part = ap (λ n. n * part) (let f : c + u ≡ c = omega arith in f) in omega arith)
+
+  one_more : (t : Bool) (c n : ℕ) → c * part ≤ n → (c + one_if t) * part ≤ suc n + sample_at setup.segments
+  one_more true c n q = omega arith
+  one_more false c n q = omega arith
+
+  few_by : (c n : ℕ) (h : History) (level : Level) (b : Beat) → beat_next setup h level ≡ b → ((m : ℕ) → way setup.segments h.seen ≡ Some m → h.drive ≡ pending_of h)
+      → c * part ≤ n + left (way setup.segments h.seen)
+      → (c + one_if (not (same h.drive (behind setup h level b).drive))) * part ≤ suc n + left (way setup.segments (behind setup h level b).seen)
+  few_by c n h level Start e s q =
+      subst (λ o. (c + one_if (not (same h.drive (pending_of h)))) * part ≤ suc n + left o) (sym (ways.start setup.segments h.seen (seen_next h level) e))
+      (starts (way setup.segments h.seen) refl q)
+    where
+      starts : (o : Option ℕ) → way setup.segments h.seen ≡ o → c * part ≤ n + left o → (c + one_if (not (same h.drive (pending_of h)))) * part ≤ suc n + sample_at setup.segments
+      starts (Some m) f r = stays_few c _ (n + m) _ (none_more h.drive (pending_of h) (s m f)) r (let l = ways.few setup.segments h.seen m f in omega arith)
+      starts None f r = one_more (not (same h.drive (pending_of h))) c n (omega arith)
+  few_by c n h level (Sample v) e s q =
+      stays_few c _ (n + 1) _ (none_more h.drive h.drive refl) (subst (λ o. c * part ≤ n + left o) (ways.sampled setup.segments h.seen (seen_next h level) v e) q) (omega arith)
+  few_by c n h level Plain e s q = plain (way setup.segments h.seen) refl q
+    where
+      plain : (o : Option ℕ) → way setup.segments h.seen ≡ o → c * part ≤ n + left o
+          → (c + one_if (not (same h.drive h.drive))) * part ≤ suc n + left (way setup.segments (h.seen ++ seen_next h level ∷ []))
+      plain None f r = stays_few c _ (n + 0) _ (none_more h.drive h.drive refl) r (omega arith)
+      plain (Some m) f r =
+          let near = ways.near setup.segments h.seen (seen_next h level) m e f in
+          subst (λ o. (c + one_if (not (same h.drive h.drive))) * part ≤ suc n + left o) (sym near.1.0)
+          (stays_few c _ (n + m) _ (none_more h.drive h.drive refl) r (omega (arith, near.1.1)))
+
+  few : (levels : List Level) → IsFew levels
+  few =
+      grown IsFew (omega arith)
+      (λ levels x q.
+      let by = few_by (changes_of setup levels) (length levels) (history_of setup levels) x (beat_next setup (history_of setup levels) x) refl (settled ways setup levels) q in
+      let at : (changes_of setup levels + one_if (not (same (history_of setup levels).drive (history_of setup (levels ++ x ∷ [])).drive))) * part
+      ≤ suc (length levels) + left (way setup.segments (history_of setup (levels ++ x ∷ [])).seen) =
+      subst (λ (next : History). (changes_of setup levels + one_if (not (same (history_of setup levels).drive next.drive))) * part ≤ suc (length levels) + left (way setup.segments next.seen)) (sym (history_next setup levels x)) by in
+      let e : changes_of setup (levels ++ x ∷ []) * part ≡ (changes_of setup levels + one_if (not (same (history_of setup levels).drive (history_of setup (levels ++ x ∷ [])).drive))) * part =
+      ap (λ n. n * part) (changes_next levels x) in
+      omega (arith, length_more levels x))
+
+  left_few : (h : History) (o : Option ℕ) → way setup.segments h.seen ≡ o → left o ≤ sample_at setup.segments
+  left_few h (Some m) f = ways.few setup.segments h.seen m f
+  left_few h None f = omega arith
+
+  pub few_changes : (levels : List Level) → changes_of setup levels ≤ length levels / part + 1
+  few_changes levels = elim (cases_lt (length levels / part + 1) (changes_of setup levels)) [
+    | inl many ↦ absurd (
+        let q : changes_of setup levels * part ≤ length levels + left (way setup.segments (history_of setup levels).seen) = few levels in
+        let r = left_few (history_of setup levels) (way setup.segments (history_of setup levels).seen) refl in
+        let two : part * (length levels / part + 2) ≤ part * changes_of setup levels = mul-le-mul_left part (omega arith) in
+        far (length levels) (changes_of setup levels) (sample_at setup.segments) (omega arith) two)
+    | inr h ↦ h
+  ]
+    where
+      far : (n c p : ℕ) → c * suc p ≤ n + p → suc p * (n / suc p + 2) ≤ suc p * c → ⊥
+      far n c p q two = (let d = div-add-mod n (suc p) in omega arith)

@@ -1,0 +1,16 @@
+use Rattle.wl_sync.specs.SampleLaws.{SampleLaws}
+use Rattle.wl_machine.specs.Silence.{SilenceLaws}
+use Rattle.wl_node.proofs.Drives.{settled, quiet, floor, most, few_changes}
+use Rattle.wl_node.proofs.laws.drive_laws.Goals as goal
+
+pub returns : goal.returns
+returns c =
+    let ways : SampleLaws = c.the_sample_comes_near.ensures in
+    let silences : SilenceLaws = c.a_silence_is_kept.ensures in
+    record {
+      settled = settled ways;
+      quiet = quiet silences ways;
+      floor = floor ways;
+      most = most ways;
+      few_changes = few_changes c.place_laws.ensures.counted_below ways;
+    }

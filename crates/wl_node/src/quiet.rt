@@ -1,0 +1,68 @@
+//! For how long a node's drive is sure to stay.
+
+ghost use Rattle.std.specs.Prelude.{◌≡◌, ◌≤◌, List, []};
+ghost use Rattle.wl_level.specs.declared.Level.{Level};
+ghost use Rattle.wl_node.specs.Kept.{IsProgress};
+ghost use Rattle.wl_node.specs.Limits.{most_quiet};
+ghost use Rattle.wl_node.specs.Quiet.{floor_by, floor_and_silence, quiet_of};
+
+use crate::limits::MOST_QUIET;
+use crate::progress::Progress;
+use crate::setup::NodeSetup;
+use wl_machine::Machine;
+
+impl Progress {
+    /// For how many quanta more the drive is sure to stay, in a node of this setup.
+    pub fn quiet(&self, setup: &NodeSetup) -> u32
+        ensures value { (levels : List Level) → IsProgress setup.now self.now levels
+            → result ≡ quiet_of setup.now levels }
+        ensures most { result ≤ most_quiet }
+    {
+        let settled = self.drive.is(self.traffic.pending);
+        let place = setup.segments.sample_at() as u32;
+        let least = floor(self.clock.before_sample(), settled, place);
+        let waiting = self.traffic.sent < setup.queue.len();
+        let silence = self.traffic.machine.silence(waiting);
+        longer(least, silence, place).min(MOST_QUIET)
+    }
+}
+
+impl NodeSetup {
+    /// For how many quanta a node of this setup that has run none is sure to drive recessive, as it does
+    /// before quantum 0: what [`crate::Node::quiet`] answers of a fresh node.
+    pub fn first_quiet(&self) -> u32
+        ensures value { result ≡ quiet_of self.now [] }
+        ensures most { result ≤ most_quiet }
+    {
+        let place = self.segments.sample_at() as u32;
+        let silence = Machine::new().silence(0 < self.queue.len());
+        longer(place + 1, silence, place).min(MOST_QUIET)
+    }
+}
+
+/// Up to the next sample, by the way to it, whether the node drives what its machine wants, and the
+/// place of a sample.
+fn floor(way: Option<u8>, settled: bool, place: u32) -> u32
+    requires { place ≤ 17 }
+    ensures value { result ≡ floor_by way settled place }
+    ensures small { result ≤ 255 }
+{
+    match way {
+        Some(quanta) => quanta as u32,
+        None if settled => place + 1,
+        None => 0,
+    }
+}
+
+/// And by so many samples more as the machine is silent for, where the node drives what it wants.
+fn longer(least: u32, silence: u16, place: u32) -> u32
+    requires few { least ≤ 255 }
+    requires small { place ≤ 17 }
+    ensures { result ≡ floor_and_silence least silence place }
+{
+    if least == 0 {
+        0
+    } else {
+        least + silence as u32 * (place + 1)
+    }
+}

@@ -1,0 +1,3 @@
+mod TableProofs
+mod TruthProofs
+mod Rows

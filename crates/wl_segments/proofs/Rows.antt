@@ -1,0 +1,45 @@
+-- Worked segments: which are accepted, where they are sampled, and the greatest deviation that is tolerated.
+use Rattle.std.proofs.Common.{◌≡◌, ℕ, Ok, Err, refl, arith}
+use Rattle.wl_segments.specs.declared.SegmentsFault.TheVariants.{Prop, Jump, Length}
+use Rattle.wl_segments.specs.Lengths.{Lengths, IsTolerated, bit_quanta, sample_at, segments_of}
+
+abbrev lengths : ℕ → ℕ → ℕ → ℕ → Lengths
+lengths prop ps1 ps2 sjw = record { prop = prop; ps1 = ps1; ps2 = ps2; sjw = sjw }
+
+accepted : segments_of 3 3 3 2 ≡ Ok (lengths 3 3 3 2)
+accepted = refl
+
+quanta : bit_quanta (lengths 3 3 3 2) ≡ 10
+quanta = refl
+
+sample : sample_at (lengths 3 3 3 2) ≡ 7
+sample = refl
+
+no_prop : segments_of 0 3 3 2 ≡ Err Prop
+no_prop = refl
+
+jump_above_phase1 : segments_of 1 1 2 2 ≡ Err Jump
+jump_above_phase1 = refl
+
+five_quanta : segments_of 1 1 2 1 ≡ Err Length
+five_quanta = refl
+
+-- ten bits decide here: 20 * ppm * 10 is at most 2,000,000
+tolerated_10000 : IsTolerated (lengths 3 3 3 2) 10000
+tolerated_10000 = record { flagged = omega arith; stuffed = omega arith }
+
+above_10000 : IsTolerated (lengths 3 3 3 2) 10001 → ⊥
+above_10000 t = omega (arith, t.stuffed)
+
+-- thirteen bits but for PHASE_SEG2 decide here: 2 * ppm * (13 * 8 - 5) is at most 1,000,000
+tolerated_5050 : IsTolerated (lengths 1 1 5 1) 5050
+tolerated_5050 = record { flagged = omega arith; stuffed = omega arith }
+
+above_5050 : IsTolerated (lengths 1 1 5 1) 5051 → ⊥
+above_5050 t = omega (arith, t.flagged)
+
+tolerated_4854 : IsTolerated (lengths 5 8 2 4) 4854
+tolerated_4854 = record { flagged = omega arith; stuffed = omega arith }
+
+above_4854 : IsTolerated (lengths 5 8 2 4) 4855 → ⊥
+above_4854 t = omega (arith, t.flagged)

@@ -1,0 +1,67 @@
+-- The definitions on words that name no task: in each of them clap finds a fault, so none of them enters a task.
+use Rattle.std.proofs.Common.{◌≡◌, ◌∙◌, refl, sym, ap, Bool, true, false, List, [], ◌∷◌, codes, Some, None}
+use Rattle.clap.specs.Words.{Text, fault_of}
+use Rattle.clap.proofs.OnLiterals.{clap_on_literals}
+use Rattle.wl_sim.specs.CommandLine.{program, entered_tick, Enters}
+use Rattle.wl_views.specs.declared.tick.TimeUnit.TheVariants.{Picosecond, Microsecond}
+use Rattle.wl_sim.specs.declared.command.Task.{Task}
+
+is_faulty : {A : Type 0} → List A → Bool
+is_faulty [] = false
+is_faulty (x ∷ xs) = true
+
+enters_none : (words : List Text) → is_faulty (fault_of program words) ≡ true → (t : Task) → ¬ Enters t words
+unfolding is_faulty
+enters_none words faulty t enters = let no : false ≡ true = ap is_faulty (sym enters.2) ∙ faulty in cc
+
+behind_name : List Text → List Text
+behind_name words = codes "wl_sim" ∷ words
+
+no_word : is_faulty (fault_of program (behind_name [])) ≡ true
+unfolding clap_on_literals is_faulty behind_name
+no_word = refl
+
+empty_word : is_faulty (fault_of program (behind_name ([] ∷ []))) ≡ true
+unfolding clap_on_literals is_faulty behind_name
+empty_word = refl
+
+capital_letter : is_faulty (fault_of program (behind_name (codes "Merge" ∷ []))) ≡ true
+unfolding clap_on_literals is_faulty behind_name
+capital_letter = refl
+
+one_letter_more : is_faulty (fault_of program (behind_name (codes "runs" ∷ []))) ≡ true
+unfolding clap_on_literals is_faulty behind_name
+one_letter_more = refl
+
+two_tasks : is_faulty (fault_of program (behind_name (codes "run" ∷ codes "merge" ∷ []))) ≡ true
+unfolding clap_on_literals is_faulty behind_name
+two_tasks = refl
+
+behind_two_dashes : is_faulty (fault_of program (behind_name (codes "--" ∷ codes "run" ∷ []))) ≡ true
+unfolding clap_on_literals is_faulty behind_name
+behind_two_dashes = refl
+
+help_asked : is_faulty (fault_of program (behind_name (codes "--help" ∷ []))) ≡ true
+unfolding clap_on_literals is_faulty behind_name
+help_asked = refl
+
+help_word : is_faulty (fault_of program (behind_name (codes "help" ∷ []))) ≡ true
+unfolding clap_on_literals is_faulty behind_name
+help_word = refl
+
+-- ticks that are given, in both forms of an option, and one that is none
+given_tick : entered_tick (behind_name (codes "candump" ∷ codes "--tick" ∷ codes "125ps" ∷ [])) ≡ Some (record { count = 125; unit = Picosecond })
+unfolding clap_on_literals behind_name
+given_tick = refl
+
+joined_tick : entered_tick (behind_name (codes "candump" ∷ codes "--tick=10us" ∷ [])) ≡ Some (record { count = 10; unit = Microsecond })
+unfolding clap_on_literals behind_name
+joined_tick = refl
+
+no_tick : entered_tick (behind_name (codes "candump" ∷ codes "--tick" ∷ codes "1000ns" ∷ [])) ≡ None
+unfolding clap_on_literals behind_name
+no_tick = refl
+
+tick_of_another : is_faulty (fault_of program (behind_name (codes "run" ∷ codes "--tick" ∷ codes "1ns" ∷ []))) ≡ true
+unfolding clap_on_literals is_faulty behind_name
+tick_of_another = refl

@@ -1,0 +1,217 @@
+-- The way to the sample, by what a bit clock keeps.
+use Rattle.std.proofs.Common.{◌≡◌, ◌≢◌, ℕ, suc, ◌+◌, ◌-◌, ◌<◌, ◌≤◌, ◌∙◌, List, [], ◌∷◌, ◌++◌, Bool, true, false, cond, ◌&&◌, Option, Some, None, refl, sym, ap, subst, arith, min}
+use Rattle.std.specs.Prelude.{fold, ◌==◌, nat_lt, nat_le}
+use Rattle.std.proofs.lemmas.Bool.{ltb-true, leb-true, leb-false, eqb-true, eqb-false, le-leb, lt-leb, lt-ltb, and_parts, not-true, or_parts, cond_both}
+use Rattle.wl_level.specs.declared.Level.{Level}
+use Rattle.wl_segments.specs.Lengths.{Lengths, sample_at}
+use Rattle.wl_sync.specs.declared.Beat.TheVariants.{Plain, Sample, Start}
+use Rattle.wl_sync.specs.Edges.{Seen, longer_by}
+use Rattle.wl_sync.specs.Bits.{quanta_up_to, bit_after, beat_of, first_bit}
+use Rattle.wl_sync.specs.Running.{Running, running, clock_after}
+use Rattle.wl_sync.specs.Steps.{running_due, running_sync, running_restart, running_placed, running_after, is_sampled, end_of}
+use Rattle.wl_sync.specs.SampleLaws.{way}
+use Rattle.wl_sync.proofs.Cuts.{clock_next, beat_next, bit_next}
+
+fold_keeps : {A B : Type 0} (f : B → A → B) (P : B → Type 0) → ((b : B) (a : A) → P b → P (f b a)) → (xs : List A) (b : B) → P b → P (fold f b xs)
+fold_keeps f P step [] b p = p
+fold_keeps f P step (x ∷ xs) b p = fold_keeps f P step xs (f b x) (step b x p)
+
+-- What holds of what a clock keeps after any list: one that has not synchronised is not longer, and one that is, is so by what stood before its last quantum.
+record IsPlaced (l : Lengths) (r : Running) : Type 0 where
+  lengths : r.lengths ≡ l
+  fresh : r.synced ≡ false → r.longer ≡ 0
+  longer : r.longer ≤ r.quanta - 1
+
+due_placed : (l : Lengths) (r : Running) (b : Bool) → IsPlaced l r
+    → IsPlaced l (cond b (record { lengths = r.lengths; quanta = 0; longer = 0; shorter = 0; synced = false; level = r.level; sample = r.sample }) r)
+due_placed l r true p = record { lengths = p.lengths; fresh = λ e. refl; longer = omega arith }
+due_placed l r false p = p
+
+-- a synchronisation before the sample makes a bit longer by no more than its place
+longer_few : (s b : Bool) (q j longer : ℕ) → longer ≤ q - 1 → cond s (cond b (min q j) 0) longer ≤ q + 1 - 1
+longer_few true true q j longer h = omega arith
+longer_few true false q j longer h = omega arith
+longer_few false b q j longer h = omega arith
+
+none_longer : (s : Bool) (n longer : ℕ) → s ≡ false → longer ≡ 0 → cond s n longer ≡ 0
+none_longer true n longer h e = cc
+none_longer false n longer h e = e
+
+placed_placed : (l : Lengths) (r : Running) (x : Seen) → IsPlaced l r → IsPlaced l (running_placed r x)
+placed_placed l r x p =
+    cond_both (running_restart r x) _ _ (IsPlaced l) (λ e. record { lengths = p.lengths; fresh = λ f. refl; longer = omega arith })
+    (λ e. record {
+      lengths = p.lengths;
+      fresh = λ f. none_longer (running_sync r x) (longer_by r.lengths (Some r.quanta)) r.longer (or_parts (running_sync r x) r.synced f).0 (p.fresh (or_parts (running_sync r x) r.synced f).1);
+      longer = longer_few (running_sync r x) (nat_lt r.quanta (sample_at r.lengths)) r.quanta r.lengths.sjw r.longer p.longer;
+    })
+
+after_placed : (l : Lengths) (r : Running) (x : Seen) → IsPlaced l r → IsPlaced l (running_after r x)
+after_placed l r x p = placed_placed l (running_due r) x (due_placed l r (r.quanta == end_of r) p)
+
+bit_placed : (l : Lengths) (past : List Seen) → IsPlaced l (clock_after l past)
+bit_placed l past =
+    fold_keeps (bit_after l) (λ bit. IsPlaced l (running l bit)) (λ bit x p. subst (IsPlaced l) (sym (bit_next l bit x)) (after_placed l (running l bit) x p)) past first_bit
+    (record { lengths = refl; fresh = λ e. refl; longer = omega arith })
+
+-- the way to the sample, of what is kept
+abbrev way_of : Lengths → Running → Option ℕ
+way_of l r = quanta_up_to r.quanta (sample_at l + r.longer)
+
+some_left : (quanta k : ℕ) → 0 < quanta → quanta ≤ k → quanta_up_to quanta k ≡ Some (suc k - quanta)
+some_left quanta k h e = rw (lt-ltb 0 quanta h, le-leb quanta k e) refl
+
+none_left : (quanta k : ℕ) → k < quanta → quanta_up_to quanta k ≡ None
+none_left quanta k h = rw (lt-ltb 0 quanta (omega arith), lt-leb quanta k h) refl
+
+left_is : (quanta k n : ℕ) → quanta_up_to quanta k ≡ Some n → (0 < quanta) × ((quanta ≤ k) × (n ≡ suc k - quanta))
+left_is quanta k n = by_test (nat_lt 0 quanta && nat_le quanta k) refl
+  where
+    by_test : (b : Bool) → (nat_lt 0 quanta && nat_le quanta k) ≡ b → cond b (Some (suc k - quanta)) None ≡ Some n → (0 < quanta) × ((quanta ≤ k) × (n ≡ suc k - quanta))
+    by_test true t e = (ltb-true 0 quanta (and_parts _ _ t).0, (leb-true quanta k (and_parts _ _ t).1, cc))
+    by_test false t e = cc
+
+left_not : (quanta k : ℕ) → 0 < quanta → quanta_up_to quanta k ≡ None → k < quanta
+left_not quanta k h = by_test (nat_le quanta k) refl
+  where
+    by_test : (b : Bool) → nat_le quanta k ≡ b → quanta_up_to quanta k ≡ None → k < quanta
+    by_test true t e = (let f : quanta_up_to quanta k ≡ Some (suc k - quanta) = some_left quanta k h (leb-true quanta k t) in cc)
+    by_test false t e = leb-false quanta k t
+
+-- what a beat says of the quantum that it is
+start_first : (b s : Bool) (level : Level) → cond b Start (cond s (Sample level) Plain) ≡ Start → b ≡ true
+start_first true s level e = refl
+start_first false true level e = cc
+start_first false false level e = cc
+
+sample_here : (b s : Bool) (level other : Level) → cond b Start (cond s (Sample level) Plain) ≡ Sample other → (b ≡ false) × (s ≡ true)
+sample_here true s level other e = cc
+sample_here false true level other e = (refl, refl)
+sample_here false false level other e = cc
+
+plain_here : (b s : Bool) (level : Level) → cond b Start (cond s (Sample level) Plain) ≡ Plain → (b ≡ false) × (s ≡ false)
+plain_here true s level e = cc
+plain_here false true level e = cc
+plain_here false false level e = (refl, refl)
+
+-- a quantum that begins no bit comes in the running one, which goes on with it
+anew_first : (r : Running) (x : Seen) → r.quanta ≡ 0 → (running_placed r x).quanta ≡ 1
+anew_first r x h = cond_both (running_restart r x) _ _ (λ (q : Running). q.quanta ≡ 1) (λ e. refl) (λ e. omega arith)
+
+not_due : (r : Running) (x : Seen) (b : Bool) → (r.quanta == end_of r) ≡ b → (running_placed (running_due r) x).quanta ≢ 1 → running_due r ≡ r
+not_due r x false e h = rw e refl
+not_due r x true e h = absurd (h (anew_first (running_due r) x (rw e refl)))
+
+restart_not : (r : Running) (x : Seen) (b : Bool) → running_restart r x ≡ b → (running_placed r x).quanta ≢ 1 → running_restart r x ≡ false
+restart_not r x false e h = e
+restart_not r x true e h = absurd (h (rw e refl))
+
+first_not : (r : Running) (x : Seen) → (running_placed r x).quanta ≢ 1 → r.quanta ≢ 0
+first_not r x h e = h (anew_first r x e)
+
+-- the way after a quantum that begins a bit
+one_start : (l : Lengths) (r : Running) → IsPlaced l r → r.quanta ≡ 1 → way_of l r ≡ Some (sample_at l)
+one_start l r p e =
+    (let h = p.longer in
+    some_left r.quanta (sample_at l + r.longer) (omega arith) (omega arith) ∙ ap Some (let g : suc (sample_at l + r.longer) - r.quanta ≡ sample_at l = omega arith in g))
+
+-- and of one that goes on in its bit, where the place of the sample is farther by some quanta
+module _ (l : Lengths) (r : Running) (x : Seen) (p : IsPlaced l r) (on : running_restart r x ≡ false) (some : r.quanta ≢ 0) where
+  goes_quanta : (running_placed r x).quanta ≡ r.quanta + 1
+  goes_quanta = rw on refl
+
+  goes_longer : (running_placed r x).longer ≡ cond (running_sync r x) (longer_by r.lengths (Some r.quanta)) r.longer
+  goes_longer = rw on refl
+
+  -- the place of the sample moves away where a synchronisation makes the bit longer, and only before the sample
+  moves : (s : Bool) → running_sync r x ≡ s → (b : Bool) → nat_lt r.quanta (sample_at r.lengths) ≡ b
+      → (r.longer ≤ cond s (cond b (min r.quanta r.lengths.sjw) 0) r.longer)
+      × (sample_at l + r.longer ≤ r.quanta → cond s (cond b (min r.quanta r.lengths.sjw) 0) r.longer ≡ r.longer)
+  moves false e b f = (omega arith, λ h. refl)
+  moves true e false f = (let g : r.longer ≡ 0 = p.fresh (not-true r.synced (and_parts _ _ e).1) in (omega arith, λ h. sym g))
+  moves true e true f = (let g : r.longer ≡ 0 = p.fresh (not-true r.synced (and_parts _ _ e).1) in omega arith, λ h. absurd (let g = ltb-true r.quanta (sample_at r.lengths) f in let a : sample_at r.lengths ≡ sample_at l = ap sample_at p.lengths in omega arith))
+
+  moved : (r.longer ≤ (running_placed r x).longer) × (sample_at l + r.longer ≤ r.quanta → (running_placed r x).longer ≡ r.longer)
+  moved =
+      let m = moves (running_sync r x) refl (nat_lt r.quanta (sample_at r.lengths)) refl in
+      (subst (λ n. r.longer ≤ n) (sym goes_longer) m.0, λ h. goes_longer ∙ m.1 h)
+
+  stays_behind : sample_at l + r.longer ≤ r.quanta → way_of l (running_placed r x) ≡ None
+  stays_behind h =
+      none_left (running_placed r x).quanta (sample_at l + (running_placed r x).longer) (let q = goes_quanta in let g = moved.1 h in omega arith)
+
+  comes_near : (n : ℕ) → r.quanta ≢ sample_at l + r.longer → way_of l r ≡ Some n → (m : ℕ) × ((way_of l (running_placed r x) ≡ Some m) × (n ≤ suc m))
+  comes_near n h e =
+      let q = goes_quanta in
+      let g = moved.0 in
+      let f = left_is r.quanta (sample_at l + r.longer) n e in (
+        suc (sample_at l + (running_placed r x).longer) - (running_placed r x).quanta,
+        (some_left (running_placed r x).quanta (sample_at l + (running_placed r x).longer) (omega arith) (omega arith), omega arith),
+      )
+
+pub way_some : (l : Lengths) (past : List Seen) (n : ℕ) → way l past ≡ Some n → 0 < n
+way_some l past n e = (let f = left_is (clock_after l past).quanta (sample_at l + (clock_after l past).longer) n e in omega arith)
+
+pub way_few : (l : Lengths) (past : List Seen) (n : ℕ) → way l past ≡ Some n → n ≤ sample_at l
+way_few l past n e =
+    (let f = left_is (clock_after l past).quanta (sample_at l + (clock_after l past).longer) n e in let h = (bit_placed l past).longer in omega arith)
+
+module _ (l : Lengths) (past : List Seen) (x : Seen) where
+  abbrev r : Running
+  r = clock_after l past
+
+  way_next : way l (past ++ x ∷ []) ≡ way_of l (running_after r x)
+  way_next = ap (way_of l) (clock_next l past x)
+
+  pub way_start : beat_of l past x ≡ Start → way l (past ++ x ∷ []) ≡ Some (sample_at l)
+  way_start e =
+      let one = eqb-true (running_after r x).quanta 1 (start_first _ _ _ (sym (beat_next l past x) ∙ e)) in
+      way_next ∙ one_start l (running_after r x) (after_placed l r x (bit_placed l past)) one
+
+  -- a quantum that begins no bit
+  on_due : ((running_after r x).quanta == 1) ≡ false → running_due r ≡ r
+  on_due h = not_due r x (r.quanta == end_of r) refl (eqb-false _ 1 h)
+
+  on_first : ((running_after r x).quanta == 1) ≡ false → (running_placed r x).quanta ≢ 1
+  on_first h = subst (λ (q : Running). (running_placed q x).quanta ≢ 1) (on_due h) (eqb-false _ 1 h)
+
+  -- and is the sample
+  sampled_now : (level : Level) → beat_of l past x ≡ Sample level → (((running_after r x).quanta == 1) ≡ false) × (r.quanta ≡ sample_at l + r.longer)
+  sampled_now level e =
+      let f = sample_here _ _ x.level level (sym (beat_next l past x) ∙ e) in
+      (f.0, eqb-true r.quanta (sample_at l + r.longer) (subst (λ (q : Running). is_sampled q ≡ true) (on_due f.0) f.1))
+
+  pub way_sampled : (level : Level) → beat_of l past x ≡ Sample level → way l past ≡ Some 1
+  way_sampled level e =
+      let f = sampled_now level e in
+      let g = f.1 in
+      some_left r.quanta (sample_at l + r.longer) (omega arith) (omega arith) ∙ ap Some (let h : suc (sample_at l + r.longer) - r.quanta ≡ 1 = omega arith in h)
+
+  pub way_sample : (level : Level) → beat_of l past x ≡ Sample level → way l (past ++ x ∷ []) ≡ None
+  way_sample level e =
+      let f = sampled_now level e in
+      let g = f.1 in
+      let n = on_first f.0 in
+      way_next ∙ ap (λ q. way_of l (running_placed q x)) (on_due f.0)
+      ∙ stays_behind l r x (bit_placed l past) (restart_not r x (running_restart r x) refl n) (first_not r x n) (omega arith)
+
+  plain_now : beat_of l past x ≡ Plain → (((running_after r x).quanta == 1) ≡ false) × (r.quanta ≢ sample_at l + r.longer)
+  plain_now e =
+      let f = plain_here _ _ x.level (sym (beat_next l past x) ∙ e) in
+      (f.0, eqb-false r.quanta (sample_at l + r.longer) (subst (λ (q : Running). is_sampled q ≡ false) (on_due f.0) f.1))
+
+  pub way_behind : beat_of l past x ≡ Plain → way l past ≡ None → way l (past ++ x ∷ []) ≡ None
+  way_behind e none =
+      let f = plain_now e in
+      let n = on_first f.0 in
+      let some = first_not r x n in
+      let past_it = left_not r.quanta (sample_at l + r.longer) (omega arith) none in
+      way_next ∙ ap (λ q. way_of l (running_placed q x)) (on_due f.0)
+      ∙ stays_behind l r x (bit_placed l past) (restart_not r x (running_restart r x) refl n) some (omega arith)
+
+  pub way_near : (n : ℕ) → beat_of l past x ≡ Plain → way l past ≡ Some n → (m : ℕ) × ((way l (past ++ x ∷ []) ≡ Some m) × (n ≤ suc m))
+  way_near n e some =
+      let f = plain_now e in
+      let g = on_first f.0 in
+      let near = comes_near l r x (bit_placed l past) (restart_not r x (running_restart r x) refl g) (first_not r x g) n f.1 some in
+      (near.0, (way_next ∙ ap (λ q. way_of l (running_placed q x)) (on_due f.0) ∙ near.1.0, near.1.1))

@@ -1,0 +1,33 @@
+//! Laws of the bit clock, each as the contract of a function that does nothing.
+
+ghost use Rattle.std.specs.Prelude.{◌≡◌, List, [], ◌∷◌, ◌++◌};
+ghost use Rattle.wl_segments.specs.Lengths.{Lengths};
+ghost use Rattle.wl_sync.specs.Edges.{Seen};
+ghost use Rattle.wl_sync.specs.Bits.{beat_of, sync_of};
+ghost use Rattle.wl_sync.specs.Running.{clock_after, sample_after};
+ghost use Rattle.wl_sync.specs.SampleLaws.{SampleLaws};
+ghost use Rattle.wl_sync.specs.Steps.{running_after, running_answer, running_beat, running_due};
+
+/// Law: a bit's start is followed by a way to the sample as long as in a bit that nothing moved, a
+/// sample comes at the end of that way, and each other quantum takes one quantum off it at most.
+pub fn the_sample_comes_near()
+    ensures { SampleLaws }
+{}
+
+/// Law: what one more quantum does, by what the bit clock keeps.
+///
+/// It is a function of this level, the level before, the last sample, whether the node is idle or drives dominant,
+/// and the bit's place, lengthening, shortening and whether it has synchronised. The level before is that of the
+/// last quantum, and the last sample that of the last quantum whose beat was a sample, in whatever bit.
+pub fn clock_goes_on()
+    ensures clock { (l : Lengths) (past : List Seen) (x : Seen)
+        → clock_after l (past ++ x ∷ []) ≡ running_after (clock_after l past) x }
+    ensures beat { (l : Lengths) (past : List Seen) (x : Seen)
+        → beat_of l past x ≡ running_beat (running_due (clock_after l past)) x }
+    ensures sync { (l : Lengths) (past : List Seen) (x : Seen)
+        → sync_of l past x ≡ running_answer (running_due (clock_after l past)) x }
+    ensures level { (l : Lengths) (past : List Seen) (x : Seen)
+        → (clock_after l (past ++ x ∷ [])).level ≡ x.level }
+    ensures sample { (l : Lengths) (past : List Seen) (x : Seen)
+        → (clock_after l (past ++ x ∷ [])).sample ≡ sample_after (beat_of l past x) (clock_after l past).sample }
+{}

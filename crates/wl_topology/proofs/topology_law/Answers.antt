@@ -1,5 +1,0 @@
-use Rattle.wl_topology.proofs.Accepted.{accepted}
-use Rattle.wl_topology.proofs.topology_law.Goals as goal
-
-pub returns : goal.returns
-returns c = accepted

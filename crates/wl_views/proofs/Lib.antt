@@ -1,0 +1,4 @@
+pub mod ByTick
+pub mod InTime
+pub mod Lists
+mod Rows

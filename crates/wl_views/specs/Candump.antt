@@ -1,0 +1,41 @@
+-- The log of can-utils, as its `candump -L` writes it and its `log2asc` and `log2long` read it: a line for each frame that was sent.
+use Rattle.std.specs.Prelude.{ℕ, ◌/◌, ◌%◌, ◌==◌, nat_lt, min, Bool, true, false, List, [], ◌∷◌, ◌++◌, codes, if◌then◌else◌}
+use Rattle.std.specs.List.{flat_map}
+use Rattle.wl_frame.specs.Grammar.{Content}
+use Rattle.wl_plan.specs.declared.plan.Plan.{Plan}
+use Rattle.wl_serial.specs.declared.outcome.Outcome.{Outcome}
+use Rattle.wl_serial.specs.Outcome.{outcome_of}
+use Rattle.wl_report.specs.Report.{id_digits}
+use Rattle.wl_views.specs.declared.tick.Tick.{Tick}
+use Rattle.wl_views.specs.Ticks.{microseconds}
+use Rattle.wl_views.specs.Digits.{digits_of}
+use Rattle.wl_views.specs.Sent.{all_sent, by_tick}
+
+-- a data length code above 8, behind the 8 that it means
+abbrev pub code_word : ℕ → List ℕ
+code_word dlc = if nat_lt 8 dlc then codes "_" ++ digits_of 16 1 dlc else []
+
+-- what a remote frame asks for: nothing where the code is 0
+abbrev pub wanted_word : ℕ → List ℕ
+wanted_word dlc = if dlc == 0 then [] else digits_of 16 1 (min dlc 8) ++ code_word dlc
+
+-- what comes behind the identifier: an `R` and the code of a remote frame, and else the bytes
+abbrev pub carried : Content → List ℕ
+carried c = if c.remote then codes "R" ++ wanted_word c.dlc else flat_map (digits_of 16 2) c.bytes ++ code_word c.dlc
+
+-- seconds, and microseconds behind a point
+abbrev pub time_word : ℕ → List ℕ
+time_word us = digits_of 10 10 (us / 1000000) ++ codes "." ++ digits_of 10 6 (us % 1000000)
+
+-- a frame that was completed at a tick
+abbrev pub log_line : Tick → ℕ × Content → List ℕ
+log_line tick (t, c) =
+    codes "(" ++ time_word (microseconds tick t) ++ codes ") can0 " ++ digits_of 16 (id_digits c.extended) c.id ++ codes "#" ++ carried c ++ 10 ∷ []
+
+-- the log of the frames that were sent, tick by tick
+abbrev pub log_of : Tick → Plan → Outcome → List ℕ
+log_of tick plan outcome = flat_map (log_line tick) (by_tick outcome.end (all_sent plan outcome))
+
+-- the log of what the one-thread simulation does
+abbrev pub log_text : Tick → Plan → List ℕ
+log_text tick plan = log_of tick plan (outcome_of plan)

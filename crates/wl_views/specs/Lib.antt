@@ -1,0 +1,4 @@
+pub mod Ticks
+pub mod Digits
+pub mod Sent
+pub mod Candump

@@ -1,0 +1,49 @@
+-- What the nodes of a world have done, where all are at the end.
+use Rattle.std.proofs.Common.{◌≡◌, ℕ, ◌+◌, ◌<◌, ◌≤◌, true, Some, Result, Ok, Err, IfOk, List, [], ◌∷◌, ◌++◌, length, map, sym, ◌∙◌, ap, subst, slice_get, zero-add}
+use Rattle.std.specs.Prelude.{unwrap_or}
+use Rattle.std.specs.List.{range_with_len}
+use Rattle.std.proofs.lemmas.Bool.{eq-eqb}
+use Rattle.std.proofs.lemmas.Option.{slice_get_within}
+use Rattle.std.proofs.lemmas.List.FromFn.{map-range_with_len_more}
+use Rattle.wl_node.specs.declared.setup.NodeSetup.{NodeSetup}
+use Rattle.wl_node.specs.History.{history_of}
+use Rattle.wl_plan.specs.declared.plan.Plan.{Plan}
+use Rattle.wl_plan.specs.PlanLine.{setup_at, line_of, table_of}
+use Rattle.wl_plan.specs.Checked.{CheckedIsSound}
+use Rattle.wl_plan.specs.Groupings.{GroupingLaws, most_groups, group_of}
+use Rattle.wl_group.specs.Member.{next_tick}
+use Rattle.wl_group.specs.GroupLaws.{GroupLaws}
+use Rattle.wl_group.specs.GroupValue.{GroupValue, IsGroupValue, members_now, belongs as has}
+use Rattle.wl_serial.specs.declared.outcome.NodeOutcome.{NodeOutcome}
+use Rattle.wl_serial.specs.Outcome.{told_of, node_outcome_of}
+use Rattle.wl_world.specs.WorldValue.{WorldValue, IsStaffed}
+
+-- the group that the grouping names has the node
+pub member_there : (v : WorldValue) → IsStaffed v → (i h : ℕ) (g : GroupValue) → Some h ≡ slice_get v.numbers i → slice_get v.groups h ≡ Some g → has g i ≡ true
+member_there v s i h g e there = ap (λ f. f i) (s.members h g there) ∙ eq-eqb (group_of v.numbers i) h (ap (λ o. unwrap_or o most_groups) (sym e))
+
+pub group_there : GroupingLaws → (v : WorldValue) → IsStaffed v → (i h : ℕ) → Some h ≡ slice_get v.numbers i → h < length v.groups
+group_there laws v s i h e =
+    subst (λ k. k < length v.groups) (ap (λ o. unwrap_or o most_groups) (sym e))
+    (subst (λ n. group_of v.numbers i < n) (sym s.count) (laws.in_one v.numbers i (slice_get_within v.numbers i h (sym e))))
+
+-- a member at the end has seen all that its node sees in the one-thread simulation, and has made all its changes
+pub outcome_here : GroupLaws → CheckedIsSound → (g : GroupValue) → IsGroupValue g → (i : ℕ) → i < length g.plan.nodes → has g i ≡ true → g.plan.end ≤ next_tick (line_of g.plan) i (members_now g i)
+    → (setup : NodeSetup) → setup ≡ setup_at g.plan i → (changes : List ℕ) → changes ≡ table_of g.plan i
+    → (told : NodeOutcome) → told ≡ told_of setup changes (history_of setup (members_now g i).saw) → told ≡ node_outcome_of g.plan i
+outcome_here groups sounds g is i b m late setup e changes f told t =
+    let all = groups.member_ended (line_of g.plan) (sounds g.plan is.checked) i (members_now g i) _ b (is.holds.each i b m) late in
+    t
+    ∙ (ap (λ x. told_of x changes (history_of x (members_now g i).saw)) e
+    ∙ (ap (λ cs. told_of (setup_at g.plan i) cs (history_of (setup_at g.plan i) (members_now g i).saw)) f
+    ∙ ap (λ saw. told_of (setup_at g.plan i) (table_of g.plan i) (history_of (setup_at g.plan i) saw)) all.0))
+
+pub ok_as : {A E : Type 0} (r : Result A E) (P Q : A → Type 0) → ((x : A) → P x → Q x) → IfOk r P → IfOk r Q
+ok_as (Ok x) P Q f p = f x p
+ok_as (Err e) P Q f p = tt
+
+-- one node more, behind the others
+pub outcome_more : (plan : Plan) (n : ℕ) (list more : List NodeOutcome) (x : NodeOutcome) → more ≡ list ++ x ∷ [] → list ≡ map (node_outcome_of plan) (range_with_len 0 n) → x ≡ node_outcome_of plan n
+    → more ≡ map (node_outcome_of plan) (range_with_len 0 (n + 1))
+outcome_more plan n list more x e p q =
+    e ∙ (ap (λ l. l ++ x ∷ []) p ∙ (ap (λ y. map (node_outcome_of plan) (range_with_len 0 n) ++ y ∷ []) q ∙ sym (map-range_with_len_more (node_outcome_of plan) 0 n n (zero-add n))))

@@ -1,0 +1,47 @@
+//! What a world has come to, where all nodes are at the end.
+ghost use Rattle.std.specs.Prelude.{◌≡◌, ◌<◌, IfOk, length};
+ghost use Rattle.wl_serial.specs.Outcome.{node_outcome_of, outcome_of};
+
+use crate::world::World;
+use std::alloc::{AllocError, Global};
+use wl_level::Listed;
+use wl_serial::{NodeOutcome, Outcome, node_outcome};
+
+impl World {
+    ghost use Rattle.wl_world.specs.Ended.{AreAtEnd};
+
+    /// What the nodes did, where all of them are at the end: what the one-thread simulation of the plan comes to. Refused for want of
+    /// memory alone.
+    pub fn outcome(&self, alloc: Global) -> Result<Outcome, AllocError>
+        requires { AreAtEnd self.now }
+        ensures { IfOk result (λ outcome. outcome ≡ outcome_of self.now.plan) }
+    {
+        let mut nodes = Listed::new(alloc);
+        for i in 0..self.plan.topology.nodes() {
+            nodes.push(self.node_outcome(alloc, i)?)?;
+        }
+        Ok(Outcome {
+            nodes,
+            end: self.plan.end,
+        })
+    }
+
+    /// What node `i` did, where all nodes are at the end.
+    fn node_outcome(&self, alloc: Global, i: u8) -> Result<NodeOutcome, AllocError>
+        requires ended { AreAtEnd self.now }
+        requires node { i < length self.now.plan.nodes }
+        ensures { IfOk result (λ outcome. outcome ≡ node_outcome_of self.now.plan i) }
+    {
+        wl_plan::grouping_laws();
+        wl_plan::checked_is_sound();
+        wl_group::group_laws();
+        match self.grouping.group_of(i) {
+            Some(h) => {
+                let group = &self.groups[h as usize];
+                let changes = group.changes(alloc, i)?;
+                node_outcome(alloc, group.node(i), changes)
+            }
+            None => unreachable!(),
+        }
+    }
+}

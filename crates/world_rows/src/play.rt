@@ -1,0 +1,122 @@
+//! Playing a script over a world.
+ghost use Rattle.std.specs.Prelude.{◌≡◌, ◌++◌, ◌∷◌, [], OnOk};
+ghost use Rattle.wl_plan.specs.Checked.{IsChecked};
+
+use crate::fault::Fault;
+use crate::script::{Script, Step};
+use std::alloc::{AllocError, Global};
+use wl_group::Group;
+use wl_plan::{Grouping, Plan};
+use wl_replica::Replica;
+use wl_report::report;
+use wl_world::{Answer, Event, World};
+
+/// Plays a script over the world of its groups and a plan. Answers what stands on standard output then.
+pub fn play(alloc: Global, plan: Plan, script: &Script) -> Result<String, Fault>
+    requires { IsChecked plan }
+{
+    let grouping = Grouping::new(alloc, &plan, script.groups.as_slice())?;
+    let mut world = World::new(alloc, plan, grouping)?;
+    let mut told = String::new(alloc);
+    let mut events = Vec::new(alloc);
+    for (i, step) in script.steps.iter().enumerate() {
+        if let Step::Event(event) = step {
+            add(&mut events, *event)?;
+            continue;
+        }
+        run(alloc, &mut world, &events, &mut told)?;
+        events.clear();
+        if !act(alloc, &mut world, *step, &mut told)? {
+            return Err(Fault::Line(i as u64 + 2));
+        }
+    }
+    run(alloc, &mut world, &events, &mut told)?;
+    Ok(told)
+}
+
+/// Adds an event.
+fn add(events: &mut Vec<Event>, event: Event) -> Result<(), AllocError>
+    ensures { OnOk result (events.new.items ≡ events.old.items ++ event ∷ []) }
+{
+    events.push(event)?;
+    Ok(())
+}
+
+/// Handles events in one call, and tells what each was answered.
+fn run(alloc: Global, world: &mut World, events: &[Event], told: &mut String) -> Result<(), Fault> {
+    let Ok(answers) = world.run(alloc, events) else {
+        return Err(Fault::Memory);
+    };
+    for answer in answers.as_slice() {
+        match answer {
+            Answer::Done => told.push_str("Done\n")?,
+            Answer::Idle => told.push_str("Idle\n")?,
+        }
+    }
+    Ok(())
+}
+
+/// Does a step that is no event, and tells what is answered. Answers whether it could: a text is of a group, a place of one of a group's nodes.
+fn act(alloc: Global, world: &mut World, step: Step, told: &mut String) -> Result<bool, Fault> {
+    match step {
+        Step::Event(_) => {}
+        Step::Settle => {
+            let rounds = world.settle()?;
+            writeln!(told, "{rounds}")?;
+        }
+        Step::Report => tell_report(alloc, world, told)?,
+        Step::Emitted => {
+            let count = world.emitted().len();
+            writeln!(told, "{count}")?;
+        }
+        Step::Text(group) => {
+            if group as usize >= world.groups() {
+                return Ok(false);
+            }
+            tell_text(alloc, world.group(group).replica(), told)?;
+        }
+        Step::Place(group, node) => {
+            if group as usize >= world.groups() {
+                return Ok(false);
+            }
+            return Ok(tell_place(world.group(group), node, told)?);
+        }
+    }
+    Ok(true)
+}
+
+/// Tells the report of what the nodes did, where all are at the end.
+fn tell_report(alloc: Global, world: &World, told: &mut String) -> Result<(), Fault> {
+    if !world.at_end() {
+        told.push_str("not at the end\n")?;
+        return Ok(());
+    }
+    let outcome = world.outcome(alloc)?;
+    match String::from_utf8(report(alloc, &outcome)?) {
+        Ok(text) => told.push_str(text.as_str())?,
+        Err(_) => return Err(Fault::Device),
+    }
+    told.push_str(".\n")?;
+    Ok(())
+}
+
+/// Tells the canonical text of a replica.
+fn tell_text(alloc: Global, replica: &Replica, told: &mut String) -> Result<(), AllocError> {
+    for record in replica.canonical(alloc)?.as_slice() {
+        writeln!(told, "{record}")?;
+    }
+    told.push_str(".\n")
+}
+
+/// Tells how far a group knows the line at a node's place, and how many quanta the node has run. Answers whether the node is in it.
+fn tell_place(group: &Group, node: u8, told: &mut String) -> Result<bool, AllocError> {
+    let replica = group.replica();
+    let topology = &group.plan().topology;
+    if !group.has(node) || node >= replica.nodes() || replica.nodes() != topology.nodes() {
+        return Ok(false);
+    }
+    let horizon = replica.place_horizon(topology, node);
+    let quanta = group.node(node).quanta();
+    writeln!(told, "{horizon} {quanta}")?;
+    Ok(true)
+}
