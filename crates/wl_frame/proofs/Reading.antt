@@ -14,6 +14,7 @@ use Rattle.wl_frame.specs.Crc.{bit_of_level, level_of_bit, number_of, crc_bits, 
 use Rattle.wl_frame.specs.Header.{Free, Field, Name, sent_free, one_bit, fields_of, width_of, header_of, header_bits, part_bits, spelled, value_in, is_extended}
 use Rattle.wl_frame.specs.Header.Name.{SubstituteRemoteRequest, RemoteRequest, Reserved1, Reserved0, DataLengthCode}
 use Rattle.wl_frame.specs.Grammar.{Content, IsContent, number_bits, number_from, covered, with_crc, bits_of, IsFrame, byte_count, layout_of, layout_by, covered_length, is_whole, is_crc_right, bytes_from, content_of, content_by, id_by, is_front, is_arbitration, greatest_id, IsReadAs}
+use Rattle.wl_frame.specs.Limits.{most_bits_before_crc, most_frame_bits, most_header_bits}
 use Rattle.wl_frame.specs.Padded.{eight_bytes}
 use Rattle.wl_frame.proofs.Spelled.{bit_level, map_bit_level, map_level_bit, length_number_bits, length_crc, number_injective}
 use Rattle.wl_frame.proofs.Fields.{number_front, number_small, number_regrouped, number_length, number_read, number_spells, one_bit_back, one_bit_small, bit_back, no_bit, bit_read, values_from, Fit, length_spelled, fields_spelled, fields_spell}
@@ -234,7 +235,7 @@ header_some : (extended : Bool) → 19 ≤ width_of (fields_of extended)
 header_some true = omega arith
 header_some false = omega arith
 
-header_most : (extended : Bool) → width_of (fields_of extended) ≤ 39
+header_most : (extended : Bool) → width_of (fields_of extended) ≤ most_header_bits
 header_most true = omega arith
 header_most false = omega arith
 
@@ -338,7 +339,7 @@ count_most false dlc = omega arith
 pub bytes_most : (ls : List Level) → (layout_of ls).bytes ≤ 8
 bytes_most ls = count_most (value_in RemoteRequest (is_extended ls) ls == 1) (value_in DataLengthCode (is_extended ls) ls)
 
-pub covered_most : (ls : List Level) → covered_length ls ≤ 103
+pub covered_most : (ls : List Level) → covered_length ls ≤ most_bits_before_crc
 covered_most ls = omega (arith, header_most (is_extended ls), bytes_most ls)
 
 -- a whole list is the front of no longer one
@@ -368,7 +369,7 @@ front_more ls l f w =
     le-leb (length (ls ++ l ∷ [])) (covered_length (ls ++ l ∷ []) + 15)
     (elim (cases_lt (length ls) (layout_of ls).header) [ inl short ↦ header_lacks ls l short | inr long ↦ omega (arith, covered_front ls (l ∷ []) long) ])
 
-pub front_room : (ls : List Level) → is_front ls ≡ true → is_whole ls ≡ false → length ls < 118
+pub front_room : (ls : List Level) → is_front ls ≡ true → is_whole ls ≡ false → length ls < most_frame_bits
 front_room ls f w =
     let here : length ls ≤ covered_length ls + 15 = leb-true (length ls) (covered_length ls + 15) f in
     let other : length ls ≢ covered_length ls + 15 = eqb-false (length ls) (covered_length ls + 15) w in

@@ -4,6 +4,7 @@ ghost use Rattle.std.specs.Prelude.{◌≡◌, ◌↔◌, ◌<◌, ◌≤◌, �
 ghost use Rattle.wl_level.specs.declared.Level.{Level};
 ghost use Rattle.wl_level.specs.Places.{run_at};
 ghost use Rattle.wl_frame.specs.Grammar.{Content, IsContent, IsFrame, IsReadAs, IsUnfinished, bits_of, covered_length, is_arbitration, is_front, is_whole, layout_of};
+ghost use Rattle.wl_frame.specs.Limits.{most_frame_bits};
 ghost use Rattle.wl_frame.specs.Stuffing.{IsStuffedFront, NoSixBefore, Stuffs, first_six, is_stuff, kept};
 
 /// Law: a list has one stuffing. So what [`stuff`](crate::stuffing::stuff) answers is the only right
@@ -46,7 +47,7 @@ pub fn reading_by_places_is_the_grammar()
 pub fn a_front_is_read_to_its_end()
     ensures none { is_front [] ≡ true }
     ensures more { (bits : List Level) (bit : Level) → IsUnfinished bits → is_front (bits ++ bit ∷ []) ≡ true }
-    ensures room { (bits : List Level) → IsUnfinished bits → length bits < 118 }
+    ensures room { (bits : List Level) → IsUnfinished bits → length bits < most_frame_bits }
     ensures least { (bits : List Level) → 19 ≤ covered_length bits }
     ensures sent { (c : Content) → IsContent c → is_whole (bits_of c) ≡ true }
     ensures over { (read sent : List Level) (place : ℕ) → is_whole read ≡ true → length read ≤ place

@@ -8,6 +8,7 @@ use Rattle.wl_level.specs.declared.Level.TheVariants.{Dominant, Recessive}
 use Rattle.wl_level.specs.Levels.{same, is_dominant}
 use Rattle.wl_level.specs.Places.{before, or_at, run_at, run_at_end}
 use Rattle.wl_level.proofs.Callers.{run_more}
+use Rattle.wl_frame.specs.Limits.{least_frame_bits}
 use Rattle.wl_frame.specs.Stuffing.{is_stuff, kept}
 use Rattle.wl_frame.specs.Grammar.{Content, is_whole, covered_length}
 use Rattle.wl_frame.proofs.Callers.{covered_some, stuff_run, destuffed_more, run_more as equal_more}
@@ -132,11 +133,11 @@ module _ (heads : Bool) (head : Option Content) (own : List Level) (x : Sampled)
       let f = kept_few (is_stuff own (length own)) x.level in
       omega arith
 
-  goes_in : frame_role head grown ≡ Rx → stuffed_end grown ≡ None → suc n ≤ min (5 - run_at own (length own)) (34 - length (kept own (length own))) → IsSilent heads n (stretch_by (Framing head) grown)
+  goes_in : frame_role head grown ≡ Rx → stuffed_end grown ≡ None → suc n ≤ min (5 - run_at own (length own)) (least_frame_bits - length (kept own (length own))) → IsSilent heads n (stretch_by (Framing head) grown)
   goes_in role end h = record {
     drive = ap (λ e. drive_up_to e head grown) end ∙ ap (λ r. stuffed_drive r head grown) role;
     left =
-        (let e : silence_by heads (Framing head) grown ≡ min (5 - run_at grown (length grown)) (34 - length (kept grown (length grown))) =
+        (let e : silence_by heads (Framing head) grown ≡ min (5 - run_at grown (length grown)) (least_frame_bits - length (kept grown (length grown))) =
         ap (λ o. silence_in_frame (frame_role head grown) o grown) end ∙ ap (λ r. silence_in_frame r None grown) role in
         let f = equal_grown in
         let g = kept_grown in
@@ -144,7 +145,7 @@ module _ (heads : Bool) (head : Option Content) (own : List Level) (x : Sampled)
   }
 
   ends : frame_role head grown ≡ Rx → stuffed_end grown ≡ Some (length grown) → is_whole (kept grown (length grown)) ≡ true
-      → suc n ≤ min (5 - run_at own (length own)) (34 - length (kept own (length own))) → IsSilent heads n (stretch_by (Framing head) grown)
+      → suc n ≤ min (5 - run_at own (length own)) (least_frame_bits - length (kept own (length own))) → IsSilent heads n (stretch_by (Framing head) grown)
   ends role end whole h = record {
     drive =
         ap (λ e. drive_up_to e head grown) end ∙ ap (λ r. tail_drive r (kept grown (length grown)) (length grown - length grown)) role
@@ -152,7 +153,7 @@ module _ (heads : Bool) (head : Option Content) (own : List Level) (x : Sampled)
     left = (let f = whole_long (kept grown (length grown)) whole in let g = kept_grown in omega arith);
   }
 
-  receives : frame_role head own ≡ Rx → stuffed_end own ≡ None → suc n ≤ min (5 - run_at own (length own)) (34 - length (kept own (length own)))
+  receives : frame_role head own ≡ Rx → stuffed_end own ≡ None → suc n ≤ min (5 - run_at own (length own)) (least_frame_bits - length (kept own (length own)))
       → IsSilent heads n (stretch_after (stretch_by (Framing head) own) (Sample x))
   receives role going h =
       by_judgement heads n (stretch_by (Framing head) own) x (continues happens.Nothing)

@@ -132,10 +132,10 @@ abbrev pub stretch_by : Sort → List Level → Stretch
 stretch_by sort own = record { sort = sort; own = own }
 
 -- what a step answers, and where it leaves the machine
-pub record Meets (kept : Progress) (step : Step) (s : Stretch) (x : Sampled) : Type 0 where
+pub record Meets (new : Progress) (step : Step) (s : Stretch) (x : Sampled) : Type 0 where
   pub happened : step.happened ≡ (judged s x).happened
   pub done : step.done ≡ done_of (judged s x).ended
-  pub place : IsIn kept (stretch_after s (Sample x))
+  pub place : IsIn new (stretch_after s (Sample x))
 
 -- the level that is driven, by what is kept
 abbrev pub kept_drive : State → List Level → List Level → Level
