@@ -11,9 +11,11 @@ ghost use Rattle.std.specs.Prelude.{◌≡◌, ℕ, ◌+◌, ◌*◌, ◌^◌, �
 ghost use Rattle.wl_clock.specs.Timing.{Timing, IsTiming, tick_of, timing_of, timing_of_rates, timing_of_ppm, rate_of_ppm, millionths, most_rates, slowest_rate};
 ghost use Rattle.wl_clock.specs.Padded.{padded};
 
+mod laws;
 mod refusals;
 mod stretches;
 
+pub use laws::ticks_increase;
 use refusals::{any_bad_from, any_big_den, any_too_fast, any_too_slow, any_zero_den, in_order};
 use std::marker::Model;
 use stretches::{first_from, ticks_from};
@@ -265,16 +267,6 @@ impl Eq for Clock {
 
     ghost laws = { same_timing_equiv };
 }
-
-/// Law: the quanta of every clock begin one after another, the first at the offset; `n` quanta take `n` ticks at
-/// least and `n * 2^20` at most.
-pub fn ticks_increase()
-    ensures later { (t : Timing) → IsTiming t → (j k : ℕ) → j < k → tick_of t j < tick_of t k }
-    ensures first { (t : Timing) → tick_of t 0 ≡ t.offset }
-    ensures low { (t : Timing) → IsTiming t → (k n : ℕ) → tick_of t k + n ≤ tick_of t (k + n) }
-    ensures high { (t : Timing) → IsTiming t → (k n : ℕ)
-        → tick_of t (k + n) ≤ tick_of t k + n * slowest_rate }
-{}
 
 /// How many millionths of its nominal length a quantum lasts at a deviation in parts per million.
 fn parts_per_million(ppm: i64) -> u64

@@ -17,7 +17,7 @@ ghost use Rattle.wl_machine.specs.Roles.{RoleLaws};
 ghost use Rattle.wl_machine.specs.Silence.{SilenceLaws};
 ghost use Rattle.wl_machine.specs.States.{stretch_by};
 
-/// The cut of a list into stretches is what it says: where no sample of a list ends the running
+/// Law: the cut of a list into stretches is what it says: where no sample of a list ends the running
 /// stretch, the stretch goes on with them; where one ends it, the stretch that it names begins; and
 /// an order to go off the bus begins bus off.
 pub fn stretches_go_on_until_they_end()
@@ -28,7 +28,7 @@ pub fn stretches_go_on_until_they_end()
     ensures off { (past : List Input) → stretch_of (past ++ SwitchedOff ∷ []) ≡ stretch_by OffBus [] }
 {}
 
-/// A transmitter that finds what it sends, up to the end of the stuffed part, has sent the one list
+/// Law: a transmitter that finds what it sends, up to the end of the stuffed part, has sent the one list
 /// that stuffs the bits of its head; and one that finds that list finds what it sends, and the
 /// stuffed part ends with it.
 pub fn a_transmitter_sends_its_head_stuffed()
@@ -41,7 +41,7 @@ pub fn a_transmitter_sends_its_head_stuffed()
         → stuffed_end own ≡ Some (length own) }
 {}
 
-/// What a receiver samples up to the end of the stuffed part, without six equal bits, stuffs the
+/// Law: what a receiver samples up to the end of the stuffed part, without six equal bits, stuffs the
 /// list that it reads; and where that begins with a start of frame and has the right CRC sequence,
 /// it is a frame of what is received.
 pub fn a_receiver_reads_what_is_stuffed()
@@ -52,20 +52,20 @@ pub fn a_receiver_reads_what_is_stuffed()
         → is_crc_right (kept own end) ≡ true → IsFrame (kept own end) (content_of (kept own end)) }
 {}
 
-/// A frame that is sent is the head with which its stretch began: only the stretch of that head
+/// Law: a frame that is sent is the head with which its stretch began: only the stretch of that head
 /// completes it, and ends with it; and a stretch's head is the one at the sample that began it, or
 /// none, and stays that.
 pub fn a_sent_frame_is_the_head_that_began_its_stretch()
     ensures { HeadLaws }
 {}
 
-/// A machine that is silent for some samples drives recessive up to then: whatever it samples,
+/// Law: a machine that is silent for some samples drives recessive up to then: whatever it samples,
 /// whatever it is to send, and also where it goes off the bus.
 pub fn a_silence_is_kept()
     ensures { SilenceLaws }
 {}
 
-/// A node's role goes by its definition: what a sample counts as a transmitter's happens in the role of
+/// Law: a node's role goes by its definition: what a sample counts as a transmitter's happens in the role of
 /// one, and so with a receiver's; and whatever is sampled, a node is a transmitter from the sample that
 /// begins the frame which it sends until it loses the arbitration, samples the third bit of an
 /// intermission, or goes off the bus (Bosch CAN 2.0 part B, section 3.4).

@@ -1,7 +1,6 @@
 //! Plans: what is to be simulated.
 ghost use Rattle.std.specs.Prelude.{◌≡◌, ◌+◌, ◌<◌, ◌≤◌, ◌↔◌, nat_lt, nat_le, ◌&&◌, IsTrue, IfOk, length};
 ghost use Rattle.wl_topology.specs.Delays.{disturbance_delay};
-ghost use Rattle.wl_plan.specs.PlanLine.{TestOfTruth};
 
 use std::alloc::{AllocError, Global};
 use wl_level::Listed;
@@ -117,8 +116,3 @@ fn copied(alloc: Global, setups: &[NodeSetup]) -> Result<Nodes, AllocError>
     }
     Ok(copy)
 }
-
-/// Law: truth of a record by cases, of the table of a plan's changes, and the test of it agree.
-pub fn test_of_truth()
-    ensures { TestOfTruth }
-{}

@@ -3,7 +3,7 @@ ghost use Rattle.std.specs.Prelude.{◌≡◌, ◌↔◌, ℕ, IsTrue, IfOk, IfE
 
 use crate::batch::{join_slots, make_slots};
 use crate::kept::{join_in, make_room, raise};
-use crate::known::known_laws;
+use crate::laws::known_laws;
 use crate::listed::{push_edges, push_silences};
 use crate::walks::{promise_of, run_of};
 use crate::waves::{is_dominant_at, wave_of};

@@ -1,7 +1,7 @@
 //! The records of an outcome.
 ghost use Rattle.std.specs.Prelude.{◌≡◌, ◌≤◌, ◌++◌, ◌↔◌, IsTrue, IfOk, OnOk, All, length};
 ghost use Rattle.wl_record_core.specs.Limits.{most_edges};
-ghost use Rattle.wl_serial.specs.Records.{IsRecordable, OutcomeIsRecordable, RecordsAreTrue, node_records, outcome_records};
+ghost use Rattle.wl_serial.specs.Records.{IsRecordable, node_records, outcome_records};
 
 use crate::outcome::{NodeOutcome, Outcome};
 use std::alloc::{AllocError, Global};
@@ -69,19 +69,4 @@ fn push_node(
         until: end,
     })?;
     Ok(())
-}
-
-/// Law: what a plan that passed its check comes to can be told in records.
-pub fn outcome_is_recordable()
-    ensures { OutcomeIsRecordable }
-{
-    wl_plan::checked_is_sound();
-}
-
-/// Law: each record of what a plan that passed its check comes to is true of the plan, and within the limits of records.
-pub fn records_are_true()
-    ensures { RecordsAreTrue }
-{
-    wl_plan::checked_is_sound();
-    wl_plan::outcome_is_true();
 }

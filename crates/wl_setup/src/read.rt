@@ -2,8 +2,7 @@
 ghost use Rattle.std.specs.Prelude.{◌≡◌, ◌≢◌, Ok, Err, Some, None, IfOk, IfErr};
 ghost use Rattle.toml.specs.View.{table_view};
 ghost use Rattle.wl_setup.specs.Names.{names_of};
-ghost use Rattle.wl_setup.specs.Reading.{document_of, text_answer, ReadsPlan, TomlHasNoDocument};
-ghost use Rattle.wl_setup.specs.Document.{OnlyDocumentFaults};
+ghost use Rattle.wl_setup.specs.Reading.{document_of, text_answer, ReadsPlan};
 
 use crate::document::plan_text;
 use crate::fault::SetupFault;
@@ -68,10 +67,3 @@ pub fn read_text<R: Source>(alloc: Global, reader: &mut R) -> Result<PlanText, S
     let (text, _) = read_named(alloc, reader)?;
     Ok(text)
 }
-
-/// A law of the answers: `Toml` is answered to a text that is no document, and a document's own faults are those of the
-/// version, of keys and of names.
-pub fn faults_of_texts()
-    ensures toml { TomlHasNoDocument }
-    ensures document { OnlyDocumentFaults }
-{}
