@@ -1,4 +1,4 @@
--- A clock as it is held, which is this project's representation: a fixed number of rates, those behind its own all the same.
+-- A clock as it is held, which is this project's representation: a fixed number of rates, those after its own all the same.
 use Rattle.std.specs.Prelude.{◌≡◌, length, take}
 use Rattle.wl_clock.specs.declared.Clock.TheInside.{Inside}
 use Rattle.wl_clock.specs.Timing.{Timing, IsTiming}

@@ -1,4 +1,4 @@
--- The rates of a clock as they are held, which is this project's representation: sixteen, those behind its own being spare.
+-- The rates of a clock as they are held, which is this project's representation: sixteen, those after its own being spare.
 use Rattle.std.specs.Prelude.{◌-◌, List, ◌++◌, length, replicate}
 use Rattle.wl_clock.specs.Timing.{most_rates}
 use Rattle.wl_clock.specs.declared.Rate.{Rate}

@@ -38,7 +38,7 @@ pub record Timing : Type 0 where
 abbrev pub stretch : Rate → ℕ → ℕ
 stretch r k = (k - r.from) * r.num / r.den
 
--- The same over a rate and the later ones: up to the next rate's first quantum, that one too, by this rate; behind it
+-- The same over a rate and the later ones: up to the next rate's first quantum, that one too, by this rate; after it
 -- the ticks up to there, and from there on those of the later rates (this project's profile).
 abbrev pub ticks_from : Rate → List Rate → ℕ → ℕ
 ticks_from r [] k = stretch r k

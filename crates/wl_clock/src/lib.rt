@@ -77,7 +77,7 @@ pub struct Rate {
     pub den: u64,
 }
 
-/// What is held behind the last rate of a clock.
+/// What is held after the last rate of a clock.
 const SPARE: Rate = Rate {
     from: 0,
     num: 1,
@@ -282,7 +282,7 @@ fn parts_per_million(ppm: i64) -> u64
     }
 }
 
-/// The rates with spare ones behind them.
+/// The rates with spare ones after them.
 fn filled(rates: &[Rate]) -> [Rate; MOST_RATES]
     requires { length rates.now ≤ most_rates }
     ensures { result ≡ padded rates.now }

@@ -39,7 +39,7 @@ stuff_run y (suc (suc (suc (suc zero)))) = sym (lt-leb 5 (run_at y 4) (omega (ar
 stuff_run y (suc (suc (suc (suc (suc n))))) =
     five_run (run_at y (suc n)) (same (at y n) (at y (suc n))) (same (at y (suc n)) (at y (suc (suc n)))) (same (at y (suc (suc n))) (at y (suc (suc (suc n))))) (same (at y (suc (suc (suc n)))) (at y (suc (suc (suc (suc n)))))) (run_positive y n)
 
--- whether a stuff bit is due at a place, and what is kept before it, is told by the front up to there
+-- whether a stuff bit is due at a place, and what is kept before it, follows from the front up to there
 pub stuff_front : (y more : List Level) (n : ℕ) → n ≤ length y → is_stuff (y ++ more) n ≡ is_stuff y n
 stuff_front y more n h = stuff_run (y ++ more) n ∙ ap (nat_le 5) (run_at_front y more n h) ∙ sym (stuff_run y n)
 

@@ -41,7 +41,7 @@ set_test f i j n = elim (cases_lt j i) [
   ]) ∙ sym (le-ltb j i behind)
 ]
 
--- the first i of them are as a test says, and none behind
+-- the first i of them are as a test says, and none after
 pub one_more_chosen : (xs : List Bool) (f : ℕ → Bool) (i : ℕ) → i < length xs → ((j : ℕ) → is_chosen xs j ≡ (nat_lt j i && f j))
     → (j : ℕ) → is_chosen (slice_set xs i (f i)) j ≡ (nat_lt j (i + 1) && f j)
 one_more_chosen xs f i b h j = elim (cases_eq j i) [
@@ -117,7 +117,7 @@ fresh_kept plan i node laws sound b es is q member e =
       changed = sym (laws.none_at_first (line_of plan) i sound.causal b) ∙ ap (λ n. count_below ((line_of plan).instant i n) (table_of plan i)) (sym q);
     })
 
--- one more cell, behind the others
+-- one more cell, after the others
 pub one_more_ran : (chosen : List Bool) (cells more : List (Option Cell)) (o : Option Cell) (i : ℕ) → more ≡ cells ++ o ∷ []
     → ran_of cells ≡ map (λ j. if is_chosen chosen j then Some 0 else None) (range_with_len 0 i) → quanta_kept o ≡ (if is_chosen chosen i then Some 0 else None)
     → ran_of more ≡ map (λ j. if is_chosen chosen j then Some 0 else None) (range_with_len 0 (i + 1))

@@ -330,7 +330,7 @@ module _ (tables : TableLaws) (joins : SlotsLaws) (knows : KnownLaws) (sims : Si
     silence = (let e = knows.silence_held (slots_of_records (firsts l (λ j. true) l.nodes)) i 0 (reach l i []) (joins.of_a_record (Silence i 0 (reach l i [])) (firsts l (λ j. true) l.nodes) (first_in l (λ j. true) l.nodes i b refl)) in let f = reach_late l s i [] b in omega arith);
   }
 
-  -- what was told stays
+  -- what was emitted stays
   told_above : (l : Line) (i : ℕ) (m : Member) (a b : Contents) → IsBelow a b → HoldsTrue l.nodes (changes l) b → IsTold l i m a → IsTold l i m b
   told_above l i m a b up h t = record {
     edges = λ n c. knows.tick_stays l.nodes (changes l) a b i n up h (t.edges n c);

@@ -41,14 +41,14 @@ pub record GroupLaws : Type 0 where
   pub member_history : (l : Line) → IsSound l → (i : ℕ) (m : Member) (w : Contents) → i < l.nodes → IsMember l i m w → m.saw ≡ (history l (next_tick l i m)).seen i
   pub member_ended : (l : Line) → IsSound l → (i : ℕ) (m : Member) (w : Contents) → i < l.nodes → IsMember l i m w → l.stop ≤ next_tick l i m
       → (m.saw ≡ (history l l.stop).seen i) × (m.changed ≡ length (changes l i))
-  -- what was told of a member: its first silence at the start, no less with more records, all with those of its next quantum
+  -- what was emitted of a member: its first silence at the start, no less with more records, all with those of its next quantum
   pub told_first : (l : Line) → IsSound l → (i : ℕ) → i < l.nodes → IsTold l i fresh (slots_of_records (firsts l (λ j. true) l.nodes))
   pub told_more : (l : Line) → (i : ℕ) (m : Member) (es rs : List Record) → AreTrueOf l.nodes (changes l) (es ++ rs)
       → IsTold l i m (slots_of_records es) → IsTold l i m (slots_of_records (es ++ rs))
   pub told_stepped : (l : Line) → IsSound l → (w : Contents) → HoldsTrue l.nodes (changes l) w → (i : ℕ) (m : Member) → i < l.nodes → IsMember l i m w → can_run l i m w ≡ true
       → (es : List Record) → AreTrueOf l.nodes (changes l) (es ++ emission l i m (level_read l i m w)) → IsTold l i m (slots_of_records es)
       → IsTold l i (stepped l i m (level_read l i m w)) (slots_of_records (es ++ emission l i m (level_read l i m w)))
-  -- who has taken all that was told knows each member up to its next quantum
+  -- who has taken all that was emitted knows each member up to its next quantum
   pub told_known : (l : Line) → IsSound l → (i : ℕ) (m : Member) (w : Contents) → i < l.nodes → IsMember l i m w → (es taken : List Record)
       → HoldsTrue l.nodes (changes l) (slots_of_records taken) → ((r : Record) → Contains es r → Contains taken r)
       → IsTold l i m (slots_of_records es) → next_tick l i m ≤ horizon (slots_of_records taken) i

@@ -45,7 +45,7 @@ abbrev pub members_now : GroupValue → ℕ → Member
 members_now g i = member_at (line_of g.plan) i (quanta_at g i)
 
 -- What holds of every group: it knows what some records say, all of it is true of its plan, each member is where the simulation has it, by quanta at which
--- the line at its place was known, and all that it told is true.
+-- the line at its place was known, and all that it emitted is true.
 pub record IsGroupValue (g : GroupValue) : Type 0 where
   pub checked : IsChecked g.plan
   pub one_each : length g.ran ≡ length g.plan.nodes

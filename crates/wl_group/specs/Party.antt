@@ -1,4 +1,4 @@
--- A group of nodes that runs by itself, as the machine has it: its members, what it has taken, what it has told. This project's profile,
+-- A group of nodes that runs by itself, as the machine has it: its members, what it has taken, what it has emitted. This project's profile,
 -- after Chandy and Misra 1979; for a reader who knows simulation: one logical process with several components.
 use Rattle.std.specs.Prelude.{ℕ, zero, suc, Bool, List, [], ◌∷◌, ◌++◌, ◌==◌, if◌then◌else◌}
 use Rattle.wl_level.specs.declared.Level.{Level}

@@ -82,7 +82,7 @@ pub data Ran : GroupValue → List Record → GroupValue → Type 0 where
   none : {g : GroupValue} → Ran g [] g
   more : {g h : GroupValue} {rs : List Record} (i k : ℕ) → quanta_at g i ≡ Some k → may_run g i ≡ true → Ran (run_on i k g) rs h → Ran g (emission_at g i ++ rs) h
 
--- What such a run leaves: a group of the same plan and members, which has told what it had told and these records, all of them true.
+-- What such a run leaves: a group of the same plan and members, which has emitted what it had emitted and these records, all of them true.
 pub record HasRunOn (old new : GroupValue) (rs : List Record) : Type 0 where
   pub value : IsGroupValue new
   pub plan : new.plan ≡ old.plan

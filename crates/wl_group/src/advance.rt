@@ -130,11 +130,11 @@ fn level_at(plan: &Plan, replica: &Replica, i: u8, tick: u64) -> Level
 }
 
 /// Runs a member's next quantum, at which it reads this level. The replica takes what is emitted
-/// then, and it is appended to what was told.
+/// then, and it is appended to what was emitted.
 ///
 /// A quantum that was run can't be taken back, and what it emits is known only then. So all growth
 /// comes first: the replica makes room in each slot of which the member may say something. Refused
-/// for want of memory, all is as it was.
+/// when out of memory, all is as it was.
 fn run_cell(
     alloc: Global,
     cell: &mut Cell,
@@ -165,7 +165,7 @@ fn run_cell(
     Ok(emission)
 }
 
-/// Moves what a replica knows into one that has room in these slots. Refused for want of memory, the
+/// Moves what a replica knows into one that has room in these slots. Refused when out of memory, the
 /// replica is as it was.
 fn prepare(
     alloc: Global,

@@ -57,7 +57,7 @@ impl Group {
 
     /// A group of these nodes of a plan that passed its check, before their first quanta. It knows no
     /// more than that each of them keeps its first drive up to its first quantum. A number that comes
-    /// twice counts once. Refused for want of memory alone.
+    /// twice counts once. Refused only when out of memory.
     pub fn new(alloc: Global, plan: &Plan, members: &[u8]) -> Result<Group, AllocError>
         requires checked { IsChecked plan.now }
         requires nodes { All (λ m. m < length plan.now.nodes) members.now }
@@ -80,7 +80,7 @@ impl Group {
     }
 
     /// Begins again: fresh nodes, and an empty replica that has taken the members' first silences.
-    /// Refused for want of memory, the group is as it was.
+    /// Refused when out of memory, the group is as it was.
     pub fn restart(&mut self) -> Result<(), AllocError>
         ensures ok { OnOk result (self.new ≡ begun_of self.old.plan (belongs self.old)) }
         ensures begun { OnOk result (Matches (begun (line_of self.old.plan) (belongs self.old)) self.new) }
@@ -97,7 +97,7 @@ impl Group {
         Ok(())
     }
 
-    /// Takes a record that is true of the plan, as what its groups emit is. Refused for want of memory, the group is as it was.
+    /// Takes a record that is true of the plan, as what its groups emit is. Refused when out of memory, the group is as it was.
     pub fn take(&mut self, told: Record) -> Result<(), AllocError>
         requires { IsTrueOfPlan self.old.plan told }
         ensures ok { OnOk result (self.new ≡ with_records (told ∷ []) self.old) }
@@ -110,7 +110,7 @@ impl Group {
     }
 
     /// Takes all that another replica of the plan's nodes knows, where that is true of the plan.
-    /// Refused for want of memory, the group is as it was.
+    /// Refused when out of memory, the group is as it was.
     pub fn join(&mut self, other: &Replica) -> Result<(), AllocError>
         requires nodes { other.now.nodes ≡ length self.old.plan.nodes }
         requires truth { HoldsTrue (length self.old.plan.nodes) (table_of self.old.plan) (slots_of other.now) }

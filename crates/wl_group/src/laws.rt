@@ -41,7 +41,7 @@ pub fn group_laws()
 
 /// Law: when an advance replies what: it emits exactly where the node may run its next quantum, it has
 /// ended exactly where the node is a member whose next quantum is not below the end, and it is
-/// blocked otherwise. Where it does not emit, nothing changes, and what a group has told grows by
+/// blocked otherwise. Where it does not emit, nothing changes, and what a group has emitted grows by
 /// exactly what its advances emitted.
 #[tactic(auto, using(crate::proofs::AdvanceProofs::advance_laws))]
 pub fn advance_laws()

@@ -25,7 +25,7 @@ is_free own end h = not-true (is_stuff own end) (and_parts (is_whole (kept own e
 is_whole_there : (own : List Level) (end : ℕ) → stuffed_end own ≡ Some end → is_whole (kept own end) ≡ true
 is_whole_there own end h = (and_parts (is_whole (kept own end)) (not (is_stuff own end)) (end_first own end h).passes).0
 
--- a front of the bits of the head was kept
+-- a prefix of the bits of the head was kept
 record HasRest (bits front : List Level) : Type 0 where
   rest : List Level
   joined : bits ≡ front ++ rest

@@ -1,6 +1,6 @@
 -- For how many samples more a machine is sure to want recessive: whatever it samples, and whether it goes off the bus or not; and whatever it is to send, where
 -- it may be handed a head, or as long as it is handed none.
--- (That a node tells how long it cannot drive is the lookahead of Chandy and Misra 1979; the rules that a line rests on are told with its stretch.)
+-- (That a node says how long it cannot drive is the lookahead of Chandy and Misra 1979; the rules that a line rests on are stated with its stretch.)
 use Rattle.std.specs.Prelude.{◌≡◌, ℕ, suc, ◌-◌, ◌*◌, ◌%◌, ◌≤◌, min, max, Bool, true, false, if◌then◌else◌, List, length, Option, None}
 use Rattle.wl_level.specs.declared.Level.{Level}
 use Rattle.wl_level.specs.declared.Level.TheVariants.{Dominant, Recessive}

@@ -24,7 +24,7 @@ pub record DriveLaws : Type 0 where
   -- no list of at most so many levels as it is quiet for changes its drive
   pub quiet : (setup : NodeSetup) (levels more : List Level) → length more ≤ quiet_of setup levels
       → (history_of setup (levels ++ more)).drive ≡ (history_of setup levels).drive
-  -- it is quiet up to its next sample at least, and for no more than what may be told
+  -- it is quiet up to its next sample at least, and for no more than what a record can promise
   pub floor : (setup : NodeSetup) (levels : List Level) → AreLengths setup.segments → floor_at setup (history_of setup levels) ≤ quiet_of setup levels
   pub most : (setup : NodeSetup) (levels : List Level) → quiet_of setup levels ≤ most_quiet
   -- two changes are as far apart as a start and its sample: the quanta of that part of a bit give room for one change, and there is one more

@@ -16,7 +16,7 @@ pub struct Disturbance {
     pub x: u32,
     /// The first tick at which it is dominant there.
     pub from: u64,
-    /// The first tick behind it.
+    /// The first tick after it.
     pub to: u64,
 }
 
@@ -53,7 +53,7 @@ impl Plan {
             .any(|d| is_at(&self.topology, *d, j, t))
     }
 
-    /// An equal plan. Refused for want of memory alone.
+    /// An equal plan. Refused only when out of memory.
     pub fn clone_in(&self, alloc: Global) -> Result<Plan, AllocError>
         ensures { IfOk result (λ copy. copy ≡ self.now) }
     {

@@ -60,7 +60,7 @@ impl Record {
     }
 }
 
-/// A silence of node 0 up to tick 0, which says nothing. Lists of a fixed size hold it where they hold no record.
+/// A silence of node 0 up to tick 0, which promises nothing. Lists of a fixed size hold it where they hold no record.
 impl Default for Record {
     ghost use Rattle.wl_record_core.specs.declared.record.Record.TheVariants.{Silence};
 

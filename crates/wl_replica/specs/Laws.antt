@@ -33,7 +33,7 @@ pub record JoinsSlotBySlot : Type 0 where
   pub silences : (a b : State) (q : Key) → (silence_at (states_joined a b) q).word ≡ max (silence_at a q).word (silence_at b q).word
   pub no_edges : (nodes : ℕ) (q : Key) → edge_at (state_of nodes []) q ≡ flat.Nothing
   pub no_silences : (nodes : ℕ) (q : Key) → (silence_at (state_of nodes []) q).word ≡ 0
-  -- states that have the same word at each slot are equal, where no slot holds a word that says nothing
+  -- states that have the same word at each slot are equal, where no slot holds a word of nothing
   pub same_slots : (nodes : ℕ) (xs ys : List Record) → ((q : Key) → edge_at (state_of nodes xs) q ≡ edge_at (state_of nodes ys) q)
       → ((q : Key) → (silence_at (state_of nodes xs) q).word ≡ (silence_at (state_of nodes ys) q).word)
       → state_of nodes xs ≡ state_of nodes ys

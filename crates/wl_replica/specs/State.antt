@@ -19,13 +19,13 @@ pub record State : Type 0 where
   pub edges : FinMap key_cmp FlatWord
   pub silences : FinMap key_cmp MaxWord
 
--- what a record says of an edge: its tick, or that two ticks were told
+-- what a record says of an edge: its tick, or that two ticks came
 abbrev pub edge_word : Record → Option (Key × FlatWord)
 edge_word (Edge node seq tick) = Some ((node, seq), flat.Value tick)
 edge_word (Clash node seq) = Some ((node, seq), flat.Clash)
 edge_word (Silence node count until) = None
 
--- what a record says of a silence: how far it reaches; one until 0 says nothing
+-- what a record says of a silence: how far it reaches; one until 0 promises nothing
 abbrev pub silence_word : Record → Option (Key × MaxWord)
 silence_word (Edge node seq tick) = None
 silence_word (Clash node seq) = None

@@ -11,7 +11,7 @@ use std::collections::BTreeMap;
 use wl_intervals::{Intervals, IntervalsFault};
 use wl_lattice::{FlatWord, MaxWord};
 
-/// Adds an interval behind all others.
+/// Adds an interval after all others.
 fn push_behind(set: &mut Intervals, from: u64, to: u64) -> Result<(), AllocError>
     requires some { from < to }
     requires behind { IfSome (last_end set.old) (λ end. end < from) }

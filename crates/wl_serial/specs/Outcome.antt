@@ -1,4 +1,4 @@
--- What the one-thread simulation of a plan comes to: for each node its changes, and what its history at the end says. This project's profile.
+-- The outcome of the one-thread simulation of a plan: for each node its changes, and what its history at the end says. This project's profile.
 use Rattle.std.specs.Prelude.{ℕ, List, length, map}
 use Rattle.std.specs.List.{range_with_len}
 use Rattle.wl_node.specs.declared.setup.NodeSetup.{NodeSetup}

@@ -2,14 +2,14 @@
 
 ghost use Rattle.wl_serial.specs.Records.{OutcomeIsRecordable, RecordsAreTrue};
 
-/// Law: what a plan that passed its check comes to can be told in records.
+/// Law: the outcome of a plan that passed its check can be written as records.
 pub fn outcome_is_recordable()
     ensures { OutcomeIsRecordable }
 {
     wl_plan::checked_is_sound();
 }
 
-/// Law: each record of what a plan that passed its check comes to is true of the plan, and within the limits of records.
+/// Law: each record of the outcome of a plan that passed its check is true of the plan, and within the limits of records.
 pub fn records_are_true()
     ensures { RecordsAreTrue }
 {

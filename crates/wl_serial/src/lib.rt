@@ -1,4 +1,4 @@
-//! The one-thread engine: what the tick-by-tick simulation of a plan comes to, computed from quantum to quantum.
+//! The one-thread engine: the outcome of the tick-by-tick simulation of a plan, computed from quantum to quantum.
 #![tactic(auto)]
 
 mod laws;

@@ -60,7 +60,7 @@ pub(crate) fn read_named<R: Source>(
 /// Answers what the document says, key by key, or its first fault: `Read` or `Size`, whichever the reading meets
 /// first; `Toml`; then, in the order of the tables, the version, missing keys, keys of a wrong kind and unknown
 /// keys; then `SameName`. `Memory` may be answered at any point. Nothing is promised of what a reader has left
-/// behind a fault.
+/// after a fault.
 pub fn read_text<R: Source>(alloc: Global, reader: &mut R) -> Result<PlanText, SetupFault>
     ensures { result ≢ Err SetupFault.Memory → ReadsPlan R.gives reader.old result reader.new }
 {

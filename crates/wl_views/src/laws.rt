@@ -2,7 +2,7 @@
 
 ghost use Rattle.wl_views.specs.Sent.{SentInTime};
 
-/// Law: each frame of what a plan that passed its check comes to was completed at a quantum that its node's clock knows, and
+/// Law: each frame of the outcome of a plan that passed its check was completed at a quantum that its node's clock knows, and
 /// below the end.
 pub fn sent_in_time()
     ensures { SentInTime }

@@ -42,7 +42,7 @@ pub ok_as : {A E : Type 0} (r : Result A E) (P Q : A → Type 0) → ((x : A) �
 ok_as (Ok x) P Q f p = f x p
 ok_as (Err e) P Q f p = tt
 
--- one node more, behind the others
+-- one node more, after the others
 pub outcome_more : (plan : Plan) (n : ℕ) (list more : List NodeOutcome) (x : NodeOutcome) → more ≡ list ++ x ∷ [] → list ≡ map (node_outcome_of plan) (range_with_len 0 n) → x ≡ node_outcome_of plan n
     → more ≡ map (node_outcome_of plan) (range_with_len 0 (n + 1))
 outcome_more plan n list more x e p q =
