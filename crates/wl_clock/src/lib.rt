@@ -9,7 +9,7 @@
 
 ghost use Rattle.std.specs.Prelude.{◌≡◌, ℕ, ◌+◌, ◌*◌, ◌^◌, ◌<◌, ◌≤◌, pos, unsigned_abs, length};
 ghost use Rattle.wl_clock.specs.Timing.{Timing, IsTiming, tick_of, timing_of, timing_of_rates, timing_of_ppm, rate_of_ppm, millionths, most_rates, slowest_rate};
-ghost use Rattle.wl_clock.specs.Padded.{padded};
+ghost use Rattle.wl_clock.specs.Padded.{padded_rates};
 
 mod laws;
 mod refusals;
@@ -120,13 +120,13 @@ impl Model for Clock {
 
     ghost Value = { Timing };
 
-    ghost use Rattle.wl_clock.specs.Held.{timing, held, IsHeld, held_timing};
+    ghost use Rattle.wl_clock.specs.Held.{timing, inside_of_timing, IsHeld, held_timing};
 
     ghost view = { timing };
 
     ghost invariant = { IsHeld };
 
-    ghost inverse = { held };
+    ghost inverse = { inside_of_timing };
 
     ghost inverse_ok = { held_timing };
 }
@@ -285,7 +285,7 @@ fn parts_per_million(ppm: i64) -> u64
 /// The rates with spare ones after them.
 fn filled(rates: &[Rate]) -> [Rate; MOST_RATES]
     requires { length rates.now ≤ most_rates }
-    ensures { result ≡ padded rates.now }
+    ensures { result ≡ padded_rates rates.now }
 {
     let mut held = [SPARE; MOST_RATES];
     held[..rates.len()].copy_from_slice(rates);

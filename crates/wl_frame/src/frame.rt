@@ -75,7 +75,7 @@ impl Model for Frame {
 
 impl Frame {
     ghost use Rattle.std.specs.Prelude.{true, false};
-    ghost use Rattle.wl_frame.specs.Grammar.{IsContent, IsFrame, bits_of, content_of, covered, frame_of_numbers, is_whole};
+    ghost use Rattle.wl_frame.specs.Grammar.{IsContent, IsFrame, bits_of, content_of, bits_before_crc, frame_of_numbers, is_whole};
     ghost use Rattle.wl_frame.specs.Header.{arbitration_bits, control_bits, sent_free};
     ghost use Rattle.wl_frame.specs.Stuffing.{Stuffs};
 
@@ -211,7 +211,7 @@ impl Frame {
 
     /// What the CRC sequence is of: the bits from the start of frame to the last data bit.
     fn covered(&self) -> FrameBits
-        ensures bits { result.items ≡ covered self.now sent_free }
+        ensures bits { result.items ≡ bits_before_crc self.now sent_free }
         ensures room { length result.items ≤ most_bits_before_crc }
         ensures content { IsContent self.now }
     {

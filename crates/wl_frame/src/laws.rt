@@ -5,7 +5,7 @@ ghost use Rattle.wl_level.specs.declared.Level.{Level};
 ghost use Rattle.wl_level.specs.Places.{run_at};
 ghost use Rattle.wl_frame.specs.Grammar.{Content, IsContent, IsFrame, IsReadAs, IsUnfinished, bits_of, covered_length, is_arbitration, is_front, is_whole, layout_of};
 ghost use Rattle.wl_frame.specs.Limits.{most_frame_bits};
-ghost use Rattle.wl_frame.specs.Stuffing.{IsStuffedFront, NoSixBefore, Stuffs, first_six, is_stuff, kept};
+ghost use Rattle.wl_frame.specs.Stuffing.{IsStuffedFront, NoSixBefore, Stuffs, first_six, is_stuff, destuffed_bits};
 
 /// Law: a list has one stuffing. So what [`stuff`](crate::stuffing::stuff) answers is the only right
 /// answer, and a receiver that takes the stuff bits out can have been sent one list alone.
@@ -25,9 +25,9 @@ pub fn a_front_of_no_stuffing_ends_six_equal_bits()
 pub fn stuffing_goes_on_bit_by_bit()
     ensures due { (y : List Level) (n : ℕ) → is_stuff y n ≡ nat_le 5 (run_at y n) }
     ensures stays { (y more : List Level) (n : ℕ) → n ≤ length y → is_stuff (y ++ more) n ≡ is_stuff y n }
-    ensures keeps { (y more : List Level) (n : ℕ) → n ≤ length y → kept (y ++ more) n ≡ kept y n }
+    ensures keeps { (y more : List Level) (n : ℕ) → n ≤ length y → destuffed_bits (y ++ more) n ≡ destuffed_bits y n }
     ensures front { (y : List Level) (n : ℕ) → n ≤ length y → NoSixBefore y n → is_stuff y n ≡ false
-        → Stuffs (take n y) (kept y n) }
+        → Stuffs (take n y) (destuffed_bits y n) }
 {}
 
 /// Law: reading by places is the grammar. A list is a frame of this content exactly where it begins with

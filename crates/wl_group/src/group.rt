@@ -49,11 +49,11 @@ impl Group {
     ghost use Rattle.wl_node.specs.Reached.{IsNode, node_setup, quanta_of};
     ghost use Rattle.wl_plan.specs.Checked.{IsChecked};
     ghost use Rattle.wl_plan.specs.PlanLine.{setup_at, line_of, table_of, IsTrueOfPlan};
-    ghost use Rattle.wl_group.specs.Party.{Party, begun, taking};
+    ghost use Rattle.wl_group.specs.Party.{Party, initial_party, party_with};
     ghost use Rattle.wl_group.specs.Member.{next_tick};
     ghost use Rattle.wl_group.specs.Chosen.{is_chosen};
     ghost use Rattle.wl_group.specs.Said.{HasJoined};
-    ghost use Rattle.wl_group.specs.GroupValue.{IsGroupValue, Matches, belongs, quanta_at, members_now, names, begun_of, may_run, has_ended, with_records, with_state};
+    ghost use Rattle.wl_group.specs.GroupValue.{IsGroupValue, Matches, belongs, quanta_at, members_now, names, initial_group, may_run, has_ended, with_records, with_state};
 
     /// A group of these nodes of a plan that passed its check, before their first quanta. It knows no
     /// more than that each of them keeps its first drive up to its first quantum. A number that comes
@@ -61,8 +61,8 @@ impl Group {
     pub fn new(alloc: Global, plan: &Plan, members: &[u8]) -> Result<Group, AllocError>
         requires checked { IsChecked plan.now }
         requires nodes { All (λ m. m < length plan.now.nodes) members.now }
-        ensures value { IfOk result (λ group. group ≡ begun_of plan.now (names members.now)) }
-        ensures begun { IfOk result (λ group. Matches (begun (line_of plan.now) (names members.now)) group) }
+        ensures value { IfOk result (λ group. group ≡ initial_group plan.now (names members.now)) }
+        ensures begun { IfOk result (λ group. Matches (initial_party (line_of plan.now) (names members.now)) group) }
         ensures plan { IfOk result (λ group. group.plan ≡ plan.now) }
         ensures members { IfOk result (λ group. belongs group ≡ names members.now) }
     {
@@ -82,8 +82,8 @@ impl Group {
     /// Begins again: fresh nodes, and an empty replica that has taken the members' first silences.
     /// Refused when out of memory, the group is as it was.
     pub fn restart(&mut self) -> Result<(), AllocError>
-        ensures ok { OnOk result (self.new ≡ begun_of self.old.plan (belongs self.old)) }
-        ensures begun { OnOk result (Matches (begun (line_of self.old.plan) (belongs self.old)) self.new) }
+        ensures ok { OnOk result (self.new ≡ initial_group self.old.plan (belongs self.old)) }
+        ensures begun { OnOk result (Matches (initial_party (line_of self.old.plan) (belongs self.old)) self.new) }
         ensures members { belongs self.new ≡ belongs self.old }
         ensures err { OnErr result (self.new ≡ self.old) }
     {
@@ -101,7 +101,7 @@ impl Group {
     pub fn take(&mut self, told: Record) -> Result<(), AllocError>
         requires { IsTrueOfPlan self.old.plan told }
         ensures ok { OnOk result (self.new ≡ with_records (told ∷ []) self.old) }
-        ensures after { OnOk result ((p : Party) → Matches p self.old → Matches (taking (told ∷ []) p) self.new) }
+        ensures after { OnOk result ((p : Party) → Matches p self.old → Matches (party_with (told ∷ []) p) self.new) }
         ensures err { OnErr result (self.new ≡ self.old) }
     {
         value_laws();

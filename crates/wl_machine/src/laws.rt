@@ -3,7 +3,7 @@
 ghost use Rattle.std.specs.Prelude.{◌≡◌, ◌++◌, [], ◌∷◌, ◌<◌, ◌⊎◌, ℕ, true, false, List, Option, Some, None, length, map, take};
 ghost use Rattle.wl_level.specs.declared.Level.{Level};
 ghost use Rattle.wl_level.specs.Places.{at};
-ghost use Rattle.wl_frame.specs.Stuffing.{Stuffs, kept, ends_six};
+ghost use Rattle.wl_frame.specs.Stuffing.{Stuffs, destuffed_bits, ends_six};
 ghost use Rattle.wl_frame.specs.Grammar.{Content, IsContent, IsFrame, bits_of, content_of, is_crc_right};
 ghost use Rattle.wl_machine.specs.declared.state.Role.{Role};
 ghost use Rattle.wl_machine.specs.Stretch.{Stretch, Sampled, Input};
@@ -12,7 +12,7 @@ ghost use Rattle.wl_machine.specs.Stretch.Sort.{Framing, Intermission, OffBus};
 ghost use Rattle.wl_machine.specs.Stretch.Ended.{Sent as SentFrame};
 ghost use Rattle.wl_machine.specs.Frames.{stuffed_end};
 ghost use Rattle.wl_machine.specs.Judged.{judged, stretch_of, stretch_after, head_of};
-ghost use Rattle.wl_machine.specs.Laws.{HeadLaws, NoneEnds, FoundSent, grown};
+ghost use Rattle.wl_machine.specs.Laws.{HeadLaws, NoneEnds, FoundSent, longer_stretch};
 ghost use Rattle.wl_machine.specs.Roles.{RoleLaws};
 ghost use Rattle.wl_machine.specs.Silence.{SilenceLaws};
 ghost use Rattle.wl_machine.specs.States.{stretch_by};
@@ -22,7 +22,7 @@ ghost use Rattle.wl_machine.specs.States.{stretch_by};
 /// an order to go off the bus begins bus off.
 pub fn stretches_go_on_until_they_end()
     ensures on { (past : List Input) (during : List Sampled) → NoneEnds (stretch_of past) during
-        → stretch_of (past ++ map Sample during) ≡ grown (stretch_of past) during }
+        → stretch_of (past ++ map Sample during) ≡ longer_stretch (stretch_of past) during }
     ensures end { (past : List Input) (x : Sampled) (next : Stretch) → (judged (stretch_of past) x).next ≡ Some next
         → stretch_of (past ++ Sample x ∷ []) ≡ next }
     ensures off { (past : List Input) → stretch_of (past ++ SwitchedOff ∷ []) ≡ stretch_by OffBus [] }
@@ -47,9 +47,10 @@ pub fn a_transmitter_sends_its_head_stuffed()
 pub fn a_receiver_reads_what_is_stuffed()
     ensures stuffs { (own : List Level) (end : ℕ) → stuffed_end own ≡ Some end
         → ((k : ℕ) → k < end → ends_six own k ≡ false)
-        → Stuffs (take end own) (kept own end) }
-    ensures frame { (own : List Level) (end : ℕ) → stuffed_end own ≡ Some end → at (kept own end) 0 ≡ Level.Dominant
-        → is_crc_right (kept own end) ≡ true → IsFrame (kept own end) (content_of (kept own end)) }
+        → Stuffs (take end own) (destuffed_bits own end) }
+    ensures frame { (own : List Level) (end : ℕ) → stuffed_end own ≡ Some end
+        → at (destuffed_bits own end) 0 ≡ Level.Dominant → is_crc_right (destuffed_bits own end) ≡ true
+        → IsFrame (destuffed_bits own end) (content_of (destuffed_bits own end)) }
 {}
 
 /// Law: a frame that is sent is the head with which its stretch began: only the stretch of that head

@@ -7,7 +7,7 @@ use Rattle.wl_lattice.specs.Maps.{SameMembers}
 use Rattle.wl_record_core.specs.declared.record.Record.{Record}
 use Rattle.wl_record_core.specs.Text.{text_of}
 use Rattle.wl_replica.specs.Keys.{Key}
-use Rattle.wl_replica.specs.State.{State, state_of, states_joined, taken_all, edge_at, silence_at, node_of, Fits}
+use Rattle.wl_replica.specs.State.{State, state_of, states_joined, state_with_records, edge_at, silence_at, node_of, Fits}
 use Rattle.wl_replica.specs.Canonical.{canonical}
 
 -- the same records, in any order and however often each, make the same state
@@ -17,8 +17,8 @@ SameRecordsSameState = (nodes : ℕ) (xs ys : List Record) → SameMembers xs ys
 -- the states of two lists, joined, are the state of both; so is what one list adds to the state of the other
 pub record TakingIsJoining : Type 0 where
   pub both : (nodes : ℕ) (xs ys : List Record) → states_joined (state_of nodes xs) (state_of nodes ys) ≡ state_of nodes (xs ++ ys)
-  pub more : (nodes : ℕ) (xs ys : List Record) → taken_all (state_of nodes xs) ys ≡ state_of nodes (xs ++ ys)
-  pub in_parts : (s : State) (xs ys : List Record) → taken_all (taken_all s xs) ys ≡ taken_all s (xs ++ ys)
+  pub more : (nodes : ℕ) (xs ys : List Record) → state_with_records (state_of nodes xs) ys ≡ state_of nodes (xs ++ ys)
+  pub in_parts : (s : State) (xs ys : List Record) → state_with_records (state_with_records s xs) ys ≡ state_with_records s (xs ++ ys)
 
 -- joining is commutative, associative and idempotent, and a state that knows nothing is neutral
 pub record IsJoining : Type 0 where

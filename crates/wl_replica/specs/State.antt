@@ -56,12 +56,12 @@ states_joined s t = record {
 }
 
 -- the state with some records more
-abbrev pub taken_all : State → List Record → State
-taken_all s rs = states_joined s (state_of s.nodes rs)
+abbrev pub state_with_records : State → List Record → State
+state_with_records s rs = states_joined s (state_of s.nodes rs)
 
 -- the state with one record more
-abbrev pub taken : State → Record → State
-taken s r = taken_all s (r ∷ [])
+abbrev pub state_with_record : State → Record → State
+state_with_record s r = state_with_records s (r ∷ [])
 
 -- the node that a record speaks of
 abbrev pub node_of : Record → ℕ

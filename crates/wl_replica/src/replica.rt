@@ -53,7 +53,7 @@ impl Model for Replica {
 
 impl Replica {
     ghost use Rattle.std.specs.Prelude.{◌<◌, ◌≤◌};
-    ghost use Rattle.wl_replica.specs.State.{state_of, taken, states_joined, Fits, IsOfRecords};
+    ghost use Rattle.wl_replica.specs.State.{state_of, state_with_record, states_joined, Fits, IsOfRecords};
     ghost use Rattle.wl_replica.specs.Canonical.{canonical};
     ghost use Rattle.wl_replica.specs.Words.{word_at};
     ghost use Rattle.std.specs.Prelude.{List, [], ◌∷◌, ◌++◌, All};
@@ -99,7 +99,7 @@ impl Replica {
     /// the replica is then as it was.
     pub fn take(&mut self, told: Record) -> Result<(), AllocError>
         requires { Fits self.old.nodes told }
-        ensures ok { OnOk result (self.new ≡ taken self.old told) }
+        ensures ok { OnOk result (self.new ≡ state_with_record self.old told) }
         // What took some records, and takes this one, took both.
         ensures after { OnOk result ((before : List Record) → self.old ≡ state_of self.old.nodes before
             → self.new ≡ state_of self.old.nodes (before ++ told ∷ [])) }
@@ -342,7 +342,7 @@ impl Prepared {
     ghost use Rattle.wl_record_core.specs.declared.record.Record.{Record};
     ghost use Rattle.wl_record_core.specs.Slots.{slot_of};
     ghost use Rattle.wl_record_core.specs.Truth.{IsIncreasing, AreTrueOf};
-    ghost use Rattle.wl_replica.specs.State.{state_of, slots_of, taken_all, Fits};
+    ghost use Rattle.wl_replica.specs.State.{state_of, slots_of, state_with_records, Fits};
     ghost use Rattle.wl_replica.specs.Slots.{HoldsTrue};
     ghost use Rattle.wl_replica.specs.SlotsOf.{NoHorizonFalls};
 
@@ -351,7 +351,7 @@ impl Prepared {
     pub fn take_all(self, told: &[Record]) -> Replica
         requires fits { All (Fits self.known.nodes) told.now }
         requires room { All (λ r. Contains self.slots (slot_of r)) told.now }
-        ensures value { result ≡ taken_all self.known told.now }
+        ensures value { result ≡ state_with_records self.known told.now }
         // What took some records, and takes these, took all of them.
         ensures after { (before : List Record) → self.known ≡ state_of self.known.nodes before
             → result ≡ state_of self.known.nodes (before ++ told.now) }
