@@ -44,7 +44,17 @@ impl Record {
         }
     }
 
-    ghost use Rattle.wl_record_core.specs.Slots.{slot_of};
+    ghost use Rattle.wl_record_core.specs.Slots.{node_of, slot_of};
+
+    /// The node that the record speaks of.
+    pub fn node(&self) -> u8
+        ensures { result ≡ node_of self.now }
+    {
+        match *self {
+            Record::Edge { node, .. } | Record::Clash { node, .. } | Record::Silence { node, .. } =>
+                node,
+        }
+    }
 
     /// The slot that the record speaks of. An edge and a clash of one change share it.
     pub fn slot(&self) -> Slot

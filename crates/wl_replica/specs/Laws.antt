@@ -5,9 +5,10 @@ use Rattle.wl_lattice.specs.Words.{joined_flat}
 use Rattle.wl_lattice.specs.declared.FlatWord.TheVariants as flat
 use Rattle.wl_lattice.specs.Maps.{SameMembers}
 use Rattle.wl_record_core.specs.declared.record.Record.{Record}
+use Rattle.wl_record_core.specs.Slots.{node_of}
 use Rattle.wl_record_core.specs.Text.{text_of}
 use Rattle.wl_replica.specs.Keys.{Key}
-use Rattle.wl_replica.specs.State.{State, state_of, states_joined, state_with_records, edge_at, silence_at, node_of, Fits}
+use Rattle.wl_replica.specs.State.{State, state_of, states_joined, state_with_records, edge_at, silence_at, Fits}
 use Rattle.wl_replica.specs.Canonical.{canonical}
 
 -- the same records, in any order and however often each, make the same state

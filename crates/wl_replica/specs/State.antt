@@ -9,6 +9,7 @@ use Rattle.wl_lattice.specs.Words.{max_word, joined_max, joined_flat}
 use Rattle.wl_lattice.specs.Maps.{joined_maps, map_of}
 use Rattle.wl_record_core.specs.declared.record.Record.{Record}
 use Rattle.wl_record_core.specs.declared.record.Record.TheVariants.{Edge, Clash, Silence}
+use Rattle.wl_record_core.specs.Slots.{node_of}
 use Rattle.wl_record_core.specs.Within.{IsWithin}
 use Rattle.wl_replica.specs.Keys.{Key, key_cmp}
 use Rattle.wl_replica.specs.Slots.{Contents}
@@ -62,12 +63,6 @@ state_with_records s rs = states_joined s (state_of s.nodes rs)
 -- the state with one record more
 abbrev pub state_with_record : State → Record → State
 state_with_record s r = state_with_records s (r ∷ [])
-
--- the node that a record speaks of
-abbrev pub node_of : Record → ℕ
-node_of (Edge node seq tick) = node
-node_of (Clash node seq) = node
-node_of (Silence node count until) = node
 
 -- the record is within, and its node is below the number of nodes
 abbrev pub Fits : ℕ → Record → Type 0

@@ -87,11 +87,7 @@ impl Replica {
     pub fn fits(&self, told: &Record) -> bool
         ensures { IsTrue result ↔ Fits self.now.nodes told.now }
     {
-        let node = match *told {
-            Record::Edge { node, .. } => node,
-            Record::Clash { node, .. } => node,
-            Record::Silence { node, .. } => node,
-        };
+        let node = told.node();
         node < self.nodes && told.within()
     }
 
