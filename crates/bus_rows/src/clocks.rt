@@ -1,5 +1,5 @@
 //! Clocks: `clock OFFSET NUM DEN`, `ppm OFFSET QUANTUM PPM` or `rates OFFSET RATE..`, a rate being `FROM,NUM,DEN` or, by its deviation,
-//! `FROM:QUANTUM:PPM`, and `FROM,NUM,DEN*16` sixteen of them; and behind them nothing, `at QUANTUM`, `first_not_before TICK`, `is`
+//! `FROM:QUANTUM:PPM`, and `FROM,NUM,DEN*16` sixteen of them; and after them nothing, `at QUANTUM`, `first_not_before TICK`, `is`
 //! and another clock of one rate or `are` and another clock of such rates.
 
 use crate::words::{Stop, Told, number, repeated};

@@ -4,7 +4,7 @@
 //! Words: `own*53` for samples of what the machines drive; `0*6` and `0101` for samples of these levels; `count` counts the samples
 //! from 1 again; `drive`, `idle`, `counters` and `silence` ask all machines, the last one for how many samples more they are silent,
 //! with heads and without; `off` calls bus off of the first machine, `head=ID` and `mode=Off` give it another head, and a mode that
-//! isn't its counters'. The answer has what happened, with the number of the machine and of the sample, and the counters behind it.
+//! isn't its counters'. The answer has what happened, with the number of the machine and of the sample, and the counters after it.
 
 use crate::counters::write_counters;
 use crate::frames::{frame_of, write_id};
@@ -58,7 +58,7 @@ impl Station {
     }
 }
 
-/// Writes what happened, if something did, and the counters behind it.
+/// Writes what happened, if something did, and the counters after it.
 fn write_happened(
     out: &mut String,
     number: usize,

@@ -19,7 +19,7 @@ use wl_segments::Segments;
 /// More than any row runs.
 const MOST_QUANTA: u64 = 100_000;
 
-/// Nodes on one line, and what is told of each quantum.
+/// Nodes on one line, and what is written of each quantum.
 #[derive(Drop)]
 struct Line {
     nodes: Vec<Node>,

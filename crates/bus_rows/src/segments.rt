@@ -1,4 +1,4 @@
-//! Segments: `segments PROP PS1 PS2 SJW`, also with `is` and others behind them, `point` with the same numbers for the sample point in tenths of a percent, and
+//! Segments: `segments PROP PS1 PS2 SJW`, also with `is` and others after them, `point` with the same numbers for the sample point in tenths of a percent, and
 //! `tolerance` with the same numbers and a deviation in ppm.
 
 use crate::words::{Stop, Told, number};

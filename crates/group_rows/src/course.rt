@@ -99,7 +99,7 @@ fn tell_first(group: &mut Group, told: &mut String) -> Result<()>
     Ok(())
 }
 
-/// Runs all that may run, and tells how many records that emitted and how many the group has told by now.
+/// Runs all that may run, and tells how many records that emitted and how many the group has emitted by now.
 fn tell_rest(alloc: Global, group: &mut Group, told: &mut String) -> Result<()>
     ensures { group.new.plan ≡ group.old.plan }
 {
@@ -132,7 +132,7 @@ fn tell_node(alloc: Global, group: &Group, i: u8, told: &mut String) -> Result<(
     Ok(())
 }
 
-/// Tells where a group of node `i` alone comes to that knows what a group of all does.
+/// Writes how far a group of node `i` alone comes that knows what a group of all does.
 fn tell_joined(alloc: Global, plan: &Plan, all: &Group, i: u8, told: &mut String) -> Result<()>
     requires checked { IsChecked plan.now }
     requires node { i < length plan.now.nodes }

@@ -65,7 +65,7 @@ pub fn numbers(alloc: Global, words: &str) -> Result<Option<Vec<u64>>, AllocErro
     Ok(Some(numbers))
 }
 
-/// The answer where the numbers behind a word are none, or too great or too few.
+/// The answer where the numbers after a word are none, or too great or too few.
 pub fn wrong_numbers(alloc: Global) -> Result<String, AllocError> {
     String::from_str(alloc, "row: the numbers behind the word\n")
 }

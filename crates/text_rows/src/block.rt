@@ -23,11 +23,11 @@ pub struct Block<'a> {
     pub each: bool,
     /// Where the text comes from.
     pub origin: Origin<'a>,
-    /// Whether the reader fails behind the text.
+    /// Whether the reader fails after the text.
     pub fails: bool,
     /// What is asked.
     pub word: &'a str,
-    /// What stands behind the word.
+    /// What follows the word.
     pub rest: &'a str,
 }
 
@@ -38,7 +38,7 @@ pub enum Text {
     Wrong(&'static str),
 }
 
-/// The first word of a line and what stands behind it.
+/// The first word of a line and what follows it.
 fn first_word(line: &str) -> (&str, &str) {
     match line.split_once(" ") {
         Some(parts) => parts,
@@ -46,7 +46,7 @@ fn first_word(line: &str) -> (&str, &str) {
     }
 }
 
-/// Whether a line begins with a word, and what stands behind it.
+/// Whether a line begins with a word, and what follows it.
 fn after_word<'a>(line: &'a str, word: &str) -> (bool, &'a str) {
     match line.strip_prefix(word) {
         Some(rest) => (true, rest),

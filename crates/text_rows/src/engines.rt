@@ -18,7 +18,7 @@ fn ample(alloc: Global) -> ScriptedWriter {
     }
 }
 
-/// What was written, and behind it the line of the fault that an engine ended with.
+/// What was written, and after it the line of the fault that an engine ended with.
 fn said(
     alloc: Global,
     ended: Result<(), RunFault>,

@@ -6,7 +6,7 @@ use wl_plan::Plan;
 use wl_setup::{ClockText, FrameText, Names, NodeText, PlanText, RateText};
 use wl_topology::Topology;
 
-/// What a plan's text says: a line for the top table, and one for each table behind it.
+/// What a plan's text says: a line for the top table, and one for each table after it.
 pub fn shown_text(alloc: Global, plan: &PlanText) -> Result<String, AllocError> {
     let (version, end, per) = (plan.version, plan.end, plan.per);
     let mut shown = format!(in alloc; "version {version} end {end} per {per}\n")?;

@@ -27,7 +27,7 @@ fn hex(letter: u8) -> Option<u8>
     }
 }
 
-/// Puts the byte of an escape behind the text, and answers whether there is such an escape.
+/// Appends the byte of an escape to the text, and answers whether there is such an escape.
 fn push_escaped(text: &mut Vec<u8>, letter: u8, number: u32) -> Result<bool, AllocError> {
     match letter {
         b'n' => text.push(b'\n')?,
@@ -43,7 +43,7 @@ fn push_escaped(text: &mut Vec<u8>, letter: u8, number: u32) -> Result<bool, All
     Ok(true)
 }
 
-/// Puts behind the text what these letters spell, and answers whether they spell something.
+/// Appends to the text what these letters spell, and answers whether they spell something.
 fn spell(text: &mut Vec<u8>, letters: &str, number: u32) -> Result<bool, AllocError> {
     let mut before = Before::Nothing;
     for letter in letters.as_bytes() {
@@ -86,7 +86,7 @@ fn times(line: &str) -> (u32, &str) {
     (1, line)
 }
 
-/// Puts behind the text what a line spells, and answers whether it spells something.
+/// Appends to the text what a line spells, and answers whether it spells something.
 pub fn spell_line(text: &mut Vec<u8>, line: &str) -> Result<bool, AllocError> {
     let (count, letters) = times(line);
     for number in 0..count {

@@ -9,7 +9,7 @@ use Rattle.std.proofs.lemmas.Bool.{cases_lt, le-leb, lt-leb, ltb-true, eqb-true,
 use Rattle.std.proofs.lemmas.Bool.{cond-true, cond-false}
 use Rattle.std.specs.Prelude.{◌==◌}
 use Rattle.wl_clock.specs.declared.Rate.{Rate}
-use Rattle.wl_clock.specs.Timing.{IsRate, stretch, ticks_from, ticks_over, begin_after, in_order, slowest_rate}
+use Rattle.wl_clock.specs.Timing.{IsRate, ticks_at_rate, ticks_from, ticks_over, begin_after, in_order, slowest_rate}
 
 -- n divisors more raise a quotient by n at least
 div_raised : (a b d n : ℕ) → 0 < d → n * d ≤ b → a / d + n ≤ (a + b) / d
@@ -34,34 +34,34 @@ others_of r later h = λ k d b. h (suc k) d (omega arith)
 one_more : (k f n : ℕ) → f ≤ k → (k + 1 - f) * n ≡ (k - f) * n + n
 one_more k f n h = let e : k + 1 - f ≡ (k - f) + 1 = omega arith in ap (λ d. d * n) e ∙ omega arith
 
-stretch_low : (r : Rate) → IsRate r → (k : ℕ) → r.from ≤ k → stretch r k + 1 ≤ stretch r (k + 1)
+stretch_low : (r : Rate) → IsRate r → (k : ℕ) → r.from ≤ k → ticks_at_rate r k + 1 ≤ ticks_at_rate r (k + 1)
 stretch_low r is k h =
     let raised = div_raised ((k - r.from) * r.num) r.num r.den 1 is.divides (let fast = is.not_fast in omega arith) in
     rw (one_more k r.from r.num h) raised
 
-stretch_high : (r : Rate) → IsRate r → (k : ℕ) → r.from ≤ k → stretch r (k + 1) ≤ stretch r k + slowest_rate
+stretch_high : (r : Rate) → IsRate r → (k : ℕ) → r.from ≤ k → ticks_at_rate r (k + 1) ≤ ticks_at_rate r k + slowest_rate
 stretch_high r is k h =
     let capped = div_capped ((k - r.from) * r.num) r.num r.den slowest_rate is.divides is.not_slow in
     rw (one_more k r.from r.num h) capped
 
 -- quanta take the slowest rate each at most
-pub stretch_near : (r : Rate) → IsRate r → (k : ℕ) → stretch r k ≤ (k - r.from) * slowest_rate
+pub stretch_near : (r : Rate) → IsRate r → (k : ℕ) → ticks_at_rate r k ≤ (k - r.from) * slowest_rate
 stretch_near r is k =
     let most : (k - r.from) * r.num ≤ (k - r.from) * (slowest_rate * r.den) = mul-le-mul_left (k - r.from) is.not_slow in
     div-le_of_le-mul r.den (omega arith)
 
 -- and one tick each at least
-pub stretch_far : (r : Rate) → IsRate r → (k : ℕ) → k - r.from ≤ stretch r k
+pub stretch_far : (r : Rate) → IsRate r → (k : ℕ) → k - r.from ≤ ticks_at_rate r k
 stretch_far r is k = le-div (k - r.from) ((k - r.from) * r.num) r.den is.divides (mul-le-mul_left (k - r.from) is.not_fast)
 
-pub stretch_grows : (r : Rate) → IsRate r → (j k : ℕ) → j ≤ k → stretch r j ≤ stretch r k
+pub stretch_grows : (r : Rate) → IsRate r → (j k : ℕ) → j ≤ k → ticks_at_rate r j ≤ ticks_at_rate r k
 stretch_grows r is j k h =
     let less : j - r.from ≤ k - r.from = omega arith in
     let more = mul-le-mul_left r.num less in
-    le-div (stretch r j) ((k - r.from) * r.num) r.den is.divides (omega (arith, div-mul-le_self ((j - r.from) * r.num) r.den))
+    le-div (ticks_at_rate r j) ((k - r.from) * r.num) r.den is.divides (omega (arith, div-mul-le_self ((j - r.from) * r.num) r.den))
 
 -- as many quanta as ticks are worth, rounded up, take so many ticks
-pub stretch_reaches : (r : Rate) → IsRate r → (ticks q : ℕ) → q ≡ div_ceil (ticks * r.den) r.num → ticks ≤ stretch r (r.from + q)
+pub stretch_reaches : (r : Rate) → IsRate r → (ticks q : ℕ) → q ≡ div_ceil (ticks * r.den) r.num → ticks ≤ ticks_at_rate r (r.from + q)
 stretch_reaches r is ticks q e =
     let bounds = div_ceil_times (ticks * r.den) r.num (let a = is.divides in let b = is.not_fast in omega arith) in
     let same : (r.from + q) - r.from ≡ q = omega arith in
@@ -69,16 +69,16 @@ stretch_reaches r is ticks q e =
     le-div ticks ((r.from + q - r.from) * r.num) r.den is.divides (rw same (omega (arith, bounds.0, product)))
 
 -- no quantum, no tick
-pub stretch_none : (r : Rate) (k : ℕ) → k ≤ r.from → stretch r k ≡ 0
+pub stretch_none : (r : Rate) (k : ℕ) → k ≤ r.from → ticks_at_rate r k ≡ 0
 stretch_none r k h = let e : k - r.from ≡ 0 = omega arith in ap (λ d. d * r.num / r.den) e ∙ ap (λ n. n / r.den) (zero-mul r.num) ∙ zero-div r.den
 
 -- ---- several rates
 
-pub up_to_next : (r next : Rate) (rest : List Rate) (k : ℕ) → k ≤ next.from → ticks_from r (next ∷ rest) k ≡ stretch r k
+pub up_to_next : (r next : Rate) (rest : List Rate) (k : ℕ) → k ≤ next.from → ticks_from r (next ∷ rest) k ≡ ticks_at_rate r k
 up_to_next r next rest k h = cond-true _ _ _ (le-leb k next.from h)
 
 pub behind_next : (r next : Rate) (rest : List Rate) (k : ℕ) → next.from < k
-    → ticks_from r (next ∷ rest) k ≡ stretch r next.from + ticks_from next rest k
+    → ticks_from r (next ∷ rest) k ≡ ticks_at_rate r next.from + ticks_from next rest k
 behind_next r next rest k h = cond-false _ _ _ (lt-leb k next.from h)
 
 pub next_later : (from : ℕ) (next : Rate) (rest : List Rate) → IsTrue (begin_after from (next ∷ rest)) → from < next.from
@@ -96,14 +96,14 @@ none_before r (next ∷ rest) order k h =
 
 -- so that both rates tell the tick of the quantum at which they meet
 from_next : (r next : Rate) (rest : List Rate) → IsTrue (begin_after r.from (next ∷ rest)) → (k : ℕ) → next.from ≤ k
-    → ticks_from r (next ∷ rest) k ≡ stretch r next.from + ticks_from next rest k
+    → ticks_from r (next ∷ rest) k ≡ ticks_at_rate r next.from + ticks_from next rest k
 from_next r next rest order k h =
     elim (cases_lt next.from k) [
       | inl behind ↦ behind_next r next rest k behind
       | inr at ↦ (let e : k ≡ next.from = omega arith in
           let none = none_before next rest (rest_later r.from next rest order) k at in
           let here = up_to_next r next rest k at in
-          let same : stretch r k ≡ stretch r next.from = ap (stretch r) e in
+          let same : ticks_at_rate r k ≡ ticks_at_rate r next.from = ap (ticks_at_rate r) e in
           omega arith)
     ]
 
@@ -163,7 +163,7 @@ over_none (r ∷ next ∷ rest) = up_to_next r next rest 0 (omega arith) ∙ str
 -- ---- the least quantum that begins so late
 
 pub reached_behind : (r next : Rate) (rest : List Rate) → IsTrue (begin_after r.from (next ∷ rest)) → (ticks q : ℕ)
-    → stretch r next.from < ticks → ticks - stretch r next.from ≤ ticks_from next rest q → ticks ≤ ticks_from r (next ∷ rest) q
+    → ticks_at_rate r next.from < ticks → ticks - ticks_at_rate r next.from ≤ ticks_from next rest q → ticks ≤ ticks_from r (next ∷ rest) q
 reached_behind r next rest order ticks q passed reached =
     elim (cases_lt next.from q) [
       | inl behind ↦ (let e = behind_next r next rest q behind in omega arith)
@@ -171,7 +171,7 @@ reached_behind r next rest order ticks q passed reached =
     ]
 
 pub least_behind : (r next : Rate) (rest : List Rate) → IsRate r → IsTrue (begin_after r.from (next ∷ rest)) → (ticks q : ℕ)
-    → stretch r next.from < ticks → ((k : ℕ) → k < q → ticks_from next rest k < ticks - stretch r next.from)
+    → ticks_at_rate r next.from < ticks → ((k : ℕ) → k < q → ticks_from next rest k < ticks - ticks_at_rate r next.from)
     → (k : ℕ) → k < q → ticks_from r (next ∷ rest) k < ticks
 least_behind r next rest is order ticks q passed least k h =
     elim (cases_lt next.from k) [

@@ -44,7 +44,7 @@ ticks_later t h j k less =
     let f : tick_of t (j + (k - j)) ≡ tick_of t k = ap (tick_of t) e in
     omega arith
 
--- so quantum k begins k times the slowest rate behind the offset at most, and k ticks behind it at least
+-- so quantum k begins k times the slowest rate after the offset at most, and k ticks after it at least
 pub tick_near : (t : Timing) → IsTiming t → (k : ℕ) → tick_of t k ≤ t.offset + k * slowest_rate
 tick_near t h k =
     let near = ticks_near t h 0 k in

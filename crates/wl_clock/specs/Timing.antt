@@ -35,15 +35,15 @@ pub record Timing : Type 0 where
   pub rates : List Rate
 
 -- how many ticks lie between a rate's first quantum and quantum k, at this rate, rounded down (this project's profile)
-abbrev pub stretch : Rate → ℕ → ℕ
-stretch r k = (k - r.from) * r.num / r.den
+abbrev pub ticks_at_rate : Rate → ℕ → ℕ
+ticks_at_rate r k = (k - r.from) * r.num / r.den
 
--- The same over a rate and the later ones: up to the next rate's first quantum, that one too, by this rate; behind it
+-- The same over a rate and the later ones: up to the next rate's first quantum, that one too, by this rate; after it
 -- the ticks up to there, and from there on those of the later rates (this project's profile).
 abbrev pub ticks_from : Rate → List Rate → ℕ → ℕ
-ticks_from r [] k = stretch r k
+ticks_from r [] k = ticks_at_rate r k
 ticks_from r (next ∷ later) k =
-    if nat_le k next.from then stretch r k else stretch r next.from + ticks_from next later k
+    if nat_le k next.from then ticks_at_rate r k else ticks_at_rate r next.from + ticks_from next later k
 
 abbrev pub ticks_over : List Rate → ℕ → ℕ
 ticks_over [] k = 0

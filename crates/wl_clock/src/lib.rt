@@ -9,11 +9,13 @@
 
 ghost use Rattle.std.specs.Prelude.{◌≡◌, ℕ, ◌+◌, ◌*◌, ◌^◌, ◌<◌, ◌≤◌, pos, unsigned_abs, length};
 ghost use Rattle.wl_clock.specs.Timing.{Timing, IsTiming, tick_of, timing_of, timing_of_rates, timing_of_ppm, rate_of_ppm, millionths, most_rates, slowest_rate};
-ghost use Rattle.wl_clock.specs.Padded.{padded};
+ghost use Rattle.wl_clock.specs.Padded.{padded_rates};
 
+mod laws;
 mod refusals;
 mod stretches;
 
+pub use laws::ticks_increase;
 use refusals::{any_bad_from, any_big_den, any_too_fast, any_too_slow, any_zero_den, in_order};
 use std::marker::Model;
 use stretches::{first_from, ticks_from};
@@ -75,7 +77,7 @@ pub struct Rate {
     pub den: u64,
 }
 
-/// What is held behind the last rate of a clock.
+/// What is held after the last rate of a clock.
 const SPARE: Rate = Rate {
     from: 0,
     num: 1,
@@ -118,13 +120,13 @@ impl Model for Clock {
 
     ghost Value = { Timing };
 
-    ghost use Rattle.wl_clock.specs.Held.{timing, held, IsHeld, held_timing};
+    ghost use Rattle.wl_clock.specs.Held.{timing, inside_of_timing, IsHeld, held_timing};
 
     ghost view = { timing };
 
     ghost invariant = { IsHeld };
 
-    ghost inverse = { held };
+    ghost inverse = { inside_of_timing };
 
     ghost inverse_ok = { held_timing };
 }
@@ -266,16 +268,6 @@ impl Eq for Clock {
     ghost laws = { same_timing_equiv };
 }
 
-/// Law: the quanta of every clock begin one after another, the first at the offset; `n` quanta take `n` ticks at
-/// least and `n * 2^20` at most.
-pub fn ticks_increase()
-    ensures later { (t : Timing) → IsTiming t → (j k : ℕ) → j < k → tick_of t j < tick_of t k }
-    ensures first { (t : Timing) → tick_of t 0 ≡ t.offset }
-    ensures low { (t : Timing) → IsTiming t → (k n : ℕ) → tick_of t k + n ≤ tick_of t (k + n) }
-    ensures high { (t : Timing) → IsTiming t → (k n : ℕ)
-        → tick_of t (k + n) ≤ tick_of t k + n * slowest_rate }
-{}
-
 /// How many millionths of its nominal length a quantum lasts at a deviation in parts per million.
 fn parts_per_million(ppm: i64) -> u64
     requires { unsigned_abs ppm ≤ 100000 }
@@ -290,10 +282,10 @@ fn parts_per_million(ppm: i64) -> u64
     }
 }
 
-/// The rates with spare ones behind them.
+/// The rates with spare ones after them.
 fn filled(rates: &[Rate]) -> [Rate; MOST_RATES]
     requires { length rates.now ≤ most_rates }
-    ensures { result ≡ padded rates.now }
+    ensures { result ≡ padded_rates rates.now }
 {
     let mut held = [SPARE; MOST_RATES];
     held[..rates.len()].copy_from_slice(rates);

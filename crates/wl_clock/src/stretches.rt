@@ -1,6 +1,6 @@
 //! Stretches of quanta that go at one rate each.
 ghost use Rattle.std.specs.Prelude.{◌≡◌, ℕ, ◌+◌, ◌-◌, ◌*◌, ◌^◌, ◌<◌, ◌≤◌, IsTrue, All, ◌∷◌};
-ghost use Rattle.wl_clock.specs.Timing.{IsRate, begin_after, slowest_rate, stretch, ticks_from};
+ghost use Rattle.wl_clock.specs.Timing.{IsRate, begin_after, slowest_rate, ticks_at_rate, ticks_from};
 
 use crate::Rate;
 
@@ -9,7 +9,7 @@ fn stretch(rate: &Rate, k: u64) -> u64
     requires rate { IsRate rate.now }
     requires begun { rate.now.from ≤ k }
     requires near { k ≤ 2 ^ 21 }
-    ensures ticks { result ≡ stretch rate.now k }
+    ensures ticks { result ≡ ticks_at_rate rate.now k }
     ensures high { result ≤ (k - rate.now.from) * slowest_rate }
 {
     (k - rate.from) * rate.num as u64 / rate.den
@@ -20,8 +20,8 @@ fn first_at(rate: &Rate, ticks: u64) -> u64
     requires rate { IsRate rate.now }
     requires some { 0 < ticks }
     requires near { ticks < 2 ^ 48 }
-    ensures reached { ticks ≤ stretch rate.now result }
-    ensures least { (k : ℕ) → k < result → stretch rate.now k < ticks }
+    ensures reached { ticks ≤ ticks_at_rate rate.now result }
+    ensures least { (k : ℕ) → k < result → ticks_at_rate rate.now k < ticks }
     ensures soon { result ≤ rate.now.from + ticks }
 {
     let wanted = ticks as u128 * rate.den as u128;

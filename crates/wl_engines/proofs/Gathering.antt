@@ -5,8 +5,9 @@ use Rattle.std.proofs.lemmas.List.Elements.{All-from_recursion}
 use Rattle.wl_record_core.specs.declared.record.Record.{Record}
 use Rattle.wl_record_core.specs.declared.record.Record.TheVariants.{Edge, Clash, Silence}
 use Rattle.wl_record_core.specs.Limits.{most_nodes}
+use Rattle.wl_record_core.specs.Slots.{node_of}
 use Rattle.wl_record_core.specs.Within.{IsWithin}
-use Rattle.wl_replica.specs.State.{Fits, node_of}
+use Rattle.wl_replica.specs.State.{Fits}
 
 pub node_within : (r : Record) → IsWithin r → node_of r < most_nodes
 node_within (Edge node seq tick) h = h.0

@@ -9,10 +9,11 @@ use Rattle.wl_record_core.specs.declared.record.Record.{Record}
 use Rattle.wl_record.specs.Grammar.{Spells, Lines, IsText}
 use Rattle.wl_record.specs.Limits.{most_record_bytes}
 use Rattle.wl_record_core.specs.Limits.{most_nodes}
+use Rattle.wl_record_core.specs.Slots.{node_of}
 use Rattle.wl_record_core.specs.Text.{words_of, text_line, text_of}
 use Rattle.wl_record_core.specs.Within.{IsWithin}
 use Rattle.wl_replica.specs.Laws.{SameRecordsSameState, MergingIsAppending, CanonicalStaysAText}
-use Rattle.wl_replica.specs.State.{Fits, node_of}
+use Rattle.wl_replica.specs.State.{Fits}
 use Rattle.wl_replica.specs.Canonical.{canonical}
 use Rattle.wl_engines.specs.Merge.{merged, merged_records, MergesAsOne}
 use Rattle.wl_engines.proofs.Gathering.{fits_all, node_within}

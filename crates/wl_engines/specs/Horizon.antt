@@ -6,8 +6,9 @@ use Rattle.wl_record_core.specs.declared.record.Record.{Record}
 use Rattle.wl_device.specs.declared.device.WriteFault.{WriteFault}
 use Rattle.wl_device.specs.Devices.{Answer, Writes}
 use Rattle.wl_record_core.specs.Limits.{most_nodes}
+use Rattle.wl_record_core.specs.Slots.{node_of}
 use Rattle.wl_record.specs.Reading.{RecordsOf}
-use Rattle.wl_replica.specs.State.{State, node_of, slots_of}
+use Rattle.wl_replica.specs.State.{State, slots_of}
 use Rattle.wl_replica.specs.Canonical.{canonical}
 use Rattle.wl_replica.specs.Known.{run_length, horizon, wave}
 use Rattle.wl_engines.specs.declared.fault.RunFault.{RunFault}

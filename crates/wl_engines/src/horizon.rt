@@ -3,7 +3,6 @@ ghost use Rattle.std.specs.Prelude.{◌≡◌, ◌<◌, ◌==◌, OnOk, IfOk, st
 ghost use Rattle.std.specs.List.{flat_map};
 ghost use Rattle.wl_report.specs.Lines.{GrowsBy};
 ghost use Rattle.wl_record_core.specs.Limits.{most_nodes};
-ghost use Rattle.wl_replica.specs.State.{node_of};
 ghost use Rattle.wl_replica.specs.Canonical.{canonical};
 ghost use Rattle.wl_engines.specs.Horizon.{TellsHorizons, horizon_line, interval_line, is_named, horizon_lines, lines_below};
 
@@ -14,21 +13,11 @@ use wl_device::{Sink, Source, write_all};
 use wl_record_core::Record;
 use wl_replica::Replica;
 
-/// The node that a record speaks of.
-fn node_of(told: &Record) -> u8
-    ensures { result ≡ node_of told.now }
-{
-    match *told {
-        Record::Edge { node, .. } | Record::Clash { node, .. } | Record::Silence { node, .. } =>
-            node,
-    }
-}
-
 /// Whether some record speaks of the node.
 fn is_named(records: &[Record], node: u8) -> bool
     ensures { result ≡ is_named records.now node }
 {
-    records.iter().any(|told| node_of(told) == node)
+    records.iter().any(|told| told.node() == node)
 }
 
 /// Adds the line of a node's run length and horizon.

@@ -25,8 +25,8 @@ fn log_text(alloc: Global, tick: Tick, plan: &Plan) -> Result<Vec<u8>, AllocErro
 /// Reads a plan's text, simulates the plan, and writes a line for each frame that was sent, in the order of their completion, as
 /// can-utils logs frames; a tick of the plan takes as long as `tick` says.
 ///
-/// The whole output stands before the first write. Where the input is refused, or memory is wanted, the writer isn't called;
-/// where the writer fails, a front of the output has gone out.
+/// The whole output stands before the first write. Where the input is refused, or memory runs out, the writer isn't called;
+/// where the writer fails, a prefix of the output has gone out.
 pub fn candump_run<R: Source, W: Sink>(
     alloc: Global,
     tick: Tick,

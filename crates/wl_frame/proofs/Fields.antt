@@ -7,7 +7,7 @@ use Rattle.std.specs.Prelude.{◌==◌}
 use Rattle.wl_level.specs.declared.Level.{Level}
 use Rattle.wl_level.specs.declared.Level.TheVariants.{Dominant, Recessive}
 use Rattle.wl_frame.specs.Crc.{bit_of_level, number_of}
-use Rattle.wl_frame.specs.Header.{Field, one_bit, width_of, number_bits, number_from, spelled}
+use Rattle.wl_frame.specs.Header.{Field, one_bit, width_of, number_bits, number_from, field_bits}
 use Rattle.wl_frame.proofs.Spelled.{number_back, length_number_bits, bits_back, levels_lt}
 
 -- the number of bits that were spelled
@@ -99,30 +99,30 @@ Fit [] values = values ≡ []
 Fit (f ∷ fs) [] = ⊥
 Fit (f ∷ fs) (n ∷ values) = (n < 2 ^ f.width) × Fit fs values
 
-pub length_spelled : (fs : List Field) (values : List ℕ) → Fit fs values → length (spelled fs values) ≡ width_of fs
+pub length_spelled : (fs : List Field) (values : List ℕ) → Fit fs values → length (field_bits fs values) ≡ width_of fs
 length_spelled [] values h = refl
 length_spelled (f ∷ fs) [] h = absurd h
 length_spelled (f ∷ fs) (n ∷ values) h =
-    length-append (number_bits f.width n) (spelled fs values) ∙ omega (arith, length_number_bits f.width n, length_spelled fs values h.1)
+    length-append (number_bits f.width n) (field_bits fs values) ∙ omega (arith, length_number_bits f.width n, length_spelled fs values h.1)
 
 -- fields that were spelled after a front
 pub fields_spelled : (front tail : List Level) (fs : List Field) (values : List ℕ) → Fit fs values
-    → values_from (length front) fs (front ++ (spelled fs values ++ tail)) ≡ values
+    → values_from (length front) fs (front ++ (field_bits fs values ++ tail)) ≡ values
 fields_spelled front tail [] values h = sym h
 fields_spelled front tail (f ∷ fs) [] h = absurd h
 fields_spelled front tail (f ∷ fs) (n ∷ values) h =
-    ap (λ m. m ∷ values_from (length front + f.width) fs (front ++ ((number_bits f.width n ++ spelled fs values) ++ tail)))
-    (number_read front (spelled fs values) tail f.width n h.0)
-    ∙ ap (λ ls. n ∷ values_from (length front + f.width) fs ls) (number_regrouped front (spelled fs values) tail f.width n)
-    ∙ ap (λ m. n ∷ values_from m fs ((front ++ number_bits f.width n) ++ (spelled fs values ++ tail))) (sym (number_length front (spelled fs values) tail f.width n))
+    ap (λ m. m ∷ values_from (length front + f.width) fs (front ++ ((number_bits f.width n ++ field_bits fs values) ++ tail)))
+    (number_read front (field_bits fs values) tail f.width n h.0)
+    ∙ ap (λ ls. n ∷ values_from (length front + f.width) fs ls) (number_regrouped front (field_bits fs values) tail f.width n)
+    ∙ ap (λ m. n ∷ values_from m fs ((front ++ number_bits f.width n) ++ (field_bits fs values ++ tail))) (sym (number_length front (field_bits fs values) tail f.width n))
     ∙ ap (λ ns. n ∷ ns) (fields_spelled (front ++ number_bits f.width n) tail fs values h.1)
 
 -- a list that is read by widths is spelled by what was read
 pub fields_spell : (ls : List Level) (place : ℕ) (fs : List Field) → place + width_of fs ≤ length ls
-    → spelled fs (values_from place fs ls) ≡ take (width_of fs) (drop place ls)
+    → field_bits fs (values_from place fs ls) ≡ take (width_of fs) (drop place ls)
 fields_spell ls place [] h = refl
 fields_spell ls place (f ∷ fs) h =
-    ap (λ bs. bs ++ spelled fs (values_from (place + f.width) fs ls)) (number_spells ls place f.width (omega arith))
+    ap (λ bs. bs ++ field_bits fs (values_from (place + f.width) fs ls)) (number_spells ls place f.width (omega arith))
     ∙ ap (λ bs. take f.width (drop place ls) ++ bs) (fields_spell ls (place + f.width) fs (omega arith))
     ∙ ap (λ rest. take f.width (drop place ls) ++ take (width_of fs) rest) (sym (drop-drop f.width place ls))
     ∙ sym (take-add f.width (width_of fs) (drop place ls))

@@ -9,7 +9,7 @@ use Rattle.wl_level.specs.declared.Level.TheVariants.{Dominant, Recessive}
 use Rattle.wl_level.specs.Levels.{same, opposite}
 use Rattle.wl_level.specs.Places.{at, before, run_at, IsFirstPlace}
 use Rattle.wl_level.proofs.Callers.{at_new, at_front, before_front, same_opposite, other_level, first_none, first_is}
-use Rattle.wl_frame.specs.Stuffing.{is_stuff, kept, destuffed, Stuffs, ends_six, first_six, IsStuffedFront}
+use Rattle.wl_frame.specs.Stuffing.{is_stuff, destuffed_bits, destuffed_list, Stuffs, ends_six, first_six, IsStuffedFront}
 use Rattle.wl_frame.proofs.Stuffed.{stuff_run, stuff_front, kept_front, opposes_more, Opposes, run_more}
 
 -- A list and its front.
@@ -24,39 +24,39 @@ module _ (y : List Level) (n : ℕ) (h : n ≤ length y) where
   stuff_take : is_stuff y n ≡ is_stuff (take n y) n
   stuff_take = ap (λ ls. is_stuff ls n) (sym (take-append-drop n y)) ∙ stuff_front (take n y) (drop n y) n in_front
 
-  kept_take : kept y n ≡ kept (take n y) n
-  kept_take = ap (λ ls. kept ls n) (sym (take-append-drop n y)) ∙ kept_front (take n y) (drop n y) n in_front
+  kept_take : destuffed_bits y n ≡ destuffed_bits (take n y) n
+  kept_take = ap (λ ls. destuffed_bits ls n) (sym (take-append-drop n y)) ∙ kept_front (take n y) (drop n y) n in_front
 
   before_take : before y n ≡ before (take n y) n
   before_take = ap (λ ls. before ls n) (sym (take-append-drop n y)) ∙ before_front (take n y) (drop n y) n in_front
 
 -- What is kept only grows.
 
-kept_more : (y : List Level) (n d : ℕ) (k : ℕ) → k < length (kept y n) → (k < length (kept y (d + n))) × (at (kept y (d + n)) k ≡ at (kept y n) k)
+kept_more : (y : List Level) (n d : ℕ) (k : ℕ) → k < length (destuffed_bits y n) → (k < length (destuffed_bits y (d + n))) × (at (destuffed_bits y (d + n)) k ≡ at (destuffed_bits y n) k)
 kept_more y n zero k h =
     let none : 0 + n ≡ n = omega arith in
-    (subst (λ m. k < length (kept y m)) (sym none) h, ap (λ m. at (kept y m) k) none)
+    (subst (λ m. k < length (destuffed_bits y m)) (sym none) h, ap (λ m. at (destuffed_bits y m) k) none)
 kept_more y n (suc d) k h =
     let more : suc d + n ≡ suc (d + n) = omega arith in
-    let below : (k < length (kept y (d + n))) × (at (kept y (d + n)) k ≡ at (kept y n) k) = kept_more y n d k h in
+    let below : (k < length (destuffed_bits y (d + n))) × (at (destuffed_bits y (d + n)) k ≡ at (destuffed_bits y n) k) = kept_more y n d k h in
     let new : List Level = cond (is_stuff y (d + n)) [] (at y (d + n) ∷ []) in (
-      subst (λ m. k < length (kept y m)) (sym more) (omega (arith, below.0, length-append (kept y (d + n)) new)),
-      ap (λ m. at (kept y m) k) more ∙ at_front (kept y (d + n)) new k below.0 ∙ below.1,
+      subst (λ m. k < length (destuffed_bits y m)) (sym more) (omega (arith, below.0, length-append (destuffed_bits y (d + n)) new)),
+      ap (λ m. at (destuffed_bits y m) k) more ∙ at_front (destuffed_bits y (d + n)) new k below.0 ∙ below.1,
     )
 
 -- a bit that is no stuff bit stands in what is kept
 kept_here : (y : List Level) (n : ℕ) → n < length y → is_stuff y n ≡ false
-    → (length (kept y n) < length (destuffed y)) × (at (destuffed y) (length (kept y n)) ≡ at y n)
+    → (length (destuffed_bits y n) < length (destuffed_list y)) × (at (destuffed_list y) (length (destuffed_bits y n)) ≡ at y n)
 kept_here y n h free =
-    let next : kept y (suc n) ≡ kept y n ++ at y n ∷ [] = ap (λ s. kept y n ++ cond s [] (at y n ∷ [])) free in
-    let inside : length (kept y n) < length (kept y (suc n)) = omega (arith, ap length next, length-append (kept y n) (at y n ∷ [])) in
+    let next : destuffed_bits y (suc n) ≡ destuffed_bits y n ++ at y n ∷ [] = ap (λ s. destuffed_bits y n ++ cond s [] (at y n ∷ [])) free in
+    let inside : length (destuffed_bits y n) < length (destuffed_bits y (suc n)) = omega (arith, ap length next, length-append (destuffed_bits y n) (at y n ∷ [])) in
     let d : ℕ = length y - suc n in
     let end : d + suc n ≡ length y = omega arith in
-    let more : (length (kept y n) < length (kept y (d + suc n))) × (at (kept y (d + suc n)) (length (kept y n)) ≡ at (kept y (suc n)) (length (kept y n))) =
-    kept_more y (suc n) d (length (kept y n)) inside
+    let more : (length (destuffed_bits y n) < length (destuffed_bits y (d + suc n))) × (at (destuffed_bits y (d + suc n)) (length (destuffed_bits y n)) ≡ at (destuffed_bits y (suc n)) (length (destuffed_bits y n))) =
+    kept_more y (suc n) d (length (destuffed_bits y n)) inside
     in (
-      subst (λ m. length (kept y n) < length (kept y m)) end more.0,
-      ap (λ m. at (kept y m) (length (kept y n))) (sym end) ∙ more.1 ∙ ap (λ ls. at ls (length (kept y n))) next ∙ at_new (kept y n) (at y n),
+      subst (λ m. length (destuffed_bits y n) < length (destuffed_bits y m)) end more.0,
+      ap (λ m. at (destuffed_bits y m) (length (destuffed_bits y n))) (sym end) ∙ more.1 ∙ ap (λ ls. at ls (length (destuffed_bits y n))) next ∙ at_new (destuffed_bits y n) (at y n),
     )
 
 -- Two stuffings of one list agree, place by place.
@@ -66,8 +66,8 @@ module _ (x y z : List Level) (s : Stuffs y x) (t : Stuffs z x) where
     stuff_same : is_stuff y n ≡ is_stuff z n
     stuff_same = stuff_take y n (omega arith) ∙ ap (λ ls. is_stuff ls n) e ∙ sym (stuff_take z n k)
 
-    kept_same : kept y n ≡ kept z n
-    kept_same = kept_take y n (omega arith) ∙ ap (λ ls. kept ls n) e ∙ sym (kept_take z n k)
+    kept_same : destuffed_bits y n ≡ destuffed_bits z n
+    kept_same = kept_take y n (omega arith) ∙ ap (λ ls. destuffed_bits ls n) e ∙ sym (kept_take z n k)
 
     before_same : before y n ≡ before z n
     before_same = before_take y n (omega arith) ∙ ap (λ ls. before ls n) e ∙ sym (before_take z n k)
@@ -75,8 +75,8 @@ module _ (x y z : List Level) (s : Stuffs y x) (t : Stuffs z x) where
     not_over : (n ≡ length z) → ⊥
     not_over over =
         let free : is_stuff y n ≡ false = stuff_same ∙ ap (is_stuff z) over ∙ t.closed in
-        let ends : kept z n ≡ x = ap (kept z) over ∙ t.content in
-        let there : length (kept y n) < length (destuffed y) = (kept_here y n h free).0 in
+        let ends : destuffed_bits z n ≡ x = ap (destuffed_bits z) over ∙ t.content in
+        let there : length (destuffed_bits y n) < length (destuffed_list y) = (kept_here y n h free).0 in
         omega (arith, ap length s.content, ap length (kept_same ∙ ends))
 
     same_here : n < length z → at y n ≡ at z n
@@ -85,8 +85,8 @@ module _ (x y z : List Level) (s : Stuffs y x) (t : Stuffs z x) where
         by : (b : Bool) → is_stuff y n ≡ b → at y n ≡ at z n
         by true due = s.opposite n h due ∙ ap opposite before_same ∙ sym (t.opposite n j (sym stuff_same ∙ due))
         by false free =
-            sym (kept_here y n h free).1 ∙ ap (λ ls. at ls (length (kept y n))) (s.content ∙ sym t.content)
-            ∙ ap (λ ls. at (destuffed z) (length ls)) kept_same ∙ (kept_here z n j (sym stuff_same ∙ free)).1
+            sym (kept_here y n h free).1 ∙ ap (λ ls. at ls (length (destuffed_bits y n))) (s.content ∙ sym t.content)
+            ∙ ap (λ ls. at (destuffed_list z) (length ls)) kept_same ∙ (kept_here z n j (sym stuff_same ∙ free)).1
 
   agree : (n : ℕ) → n ≤ length y → (n ≤ length z) × (take n y ≡ take n z)
   agree zero h = (omega arith, refl)
@@ -118,7 +118,7 @@ no_six_opposes y none k h due =
 
 closed_front : (y : List Level) → Opposes y → is_stuff y (length y) ≡ false → IsStuffedFront y
 closed_front y h free =
-    ([], destuffed y, subst (λ ls. Stuffs ls (destuffed y)) (sym (append-nil y)) (record { content = refl; opposite = h; closed = free }))
+    ([], destuffed_list y, subst (λ ls. Stuffs ls (destuffed_list y)) (sym (append-nil y)) (record { content = refl; opposite = h; closed = free }))
 
 open_front : (y : List Level) → Opposes y → is_stuff y (length y) ≡ true → IsStuffedFront y
 open_front y h due =
@@ -127,7 +127,7 @@ open_front y h due =
     run_more y b ∙ ap (λ s. cond s (suc (run_at y (length y))) 1) (same_opposite (before y (length y)))
     in (
       b ∷ [],
-      destuffed (y ++ b ∷ []),
+      destuffed_list (y ++ b ∷ []),
       record {
         content = refl;
         opposite = opposes_more y b h (λ _. refl);
@@ -173,9 +173,9 @@ six_or_front y = by (first_six y) refl
 
 -- what was sampled up to a place, where no six equal bits end before it and no stuff bit is due there, stuffs what is kept of it
 pub front_stuffs : (y : List Level) (n : ℕ) → n ≤ length y → ((k : ℕ) → k < n → ends_six y k ≡ false) → is_stuff y n ≡ false
-    → Stuffs (take n y) (kept y n)
+    → Stuffs (take n y) (destuffed_bits y n)
 front_stuffs y n h no_six free = record {
-  content = ap (kept (take n y)) (front_length y n h) ∙ sym (kept_take y n h);
+  content = ap (destuffed_bits (take n y)) (front_length y n h) ∙ sym (kept_take y n h);
   opposite = λ k lt due. turned k (omega (arith, front_length y n h)) due;
   closed = ap (is_stuff (take n y)) (front_length y n h) ∙ sym (stuff_take y n h) ∙ free;
 }

@@ -11,9 +11,10 @@ use Rattle.wl_level.specs.declared.Level.{Level}
 use Rattle.wl_level.specs.declared.Level.TheVariants.{Dominant, Recessive}
 use Rattle.wl_level.specs.Places.{at}
 use Rattle.wl_frame.specs.Crc.{bit_of_level, level_of_bit, number_of, crc_bits, crc_of}
-use Rattle.wl_frame.specs.Header.{Free, Field, Name, sent_free, one_bit, fields_of, width_of, header_of, header_bits, part_bits, spelled, value_in, is_extended}
+use Rattle.wl_frame.specs.Header.{Free, Field, Name, sent_free, one_bit, fields_of, width_of, header_of, header_bits, part_bits, field_bits, value_in, is_extended}
 use Rattle.wl_frame.specs.Header.Name.{SubstituteRemoteRequest, RemoteRequest, Reserved1, Reserved0, DataLengthCode}
-use Rattle.wl_frame.specs.Grammar.{Content, IsContent, number_bits, number_from, covered, with_crc, bits_of, IsFrame, byte_count, layout_of, layout_by, covered_length, is_whole, is_crc_right, bytes_from, content_of, content_by, id_by, is_front, is_arbitration, greatest_id, IsReadAs}
+use Rattle.wl_frame.specs.Grammar.{Content, IsContent, number_bits, number_from, bits_before_crc, with_crc, bits_of, IsFrame, byte_count, layout_of, layout_by, covered_length, is_whole, is_crc_right, bytes_from, content_of, content_by, id_by, is_front, is_arbitration, greatest_id, IsReadAs}
+use Rattle.wl_frame.specs.Limits.{most_bits_before_crc, most_frame_bits, most_header_bits}
 use Rattle.wl_frame.specs.Padded.{eight_bytes}
 use Rattle.wl_frame.proofs.Spelled.{bit_level, map_bit_level, map_level_bit, length_number_bits, length_crc, number_injective}
 use Rattle.wl_frame.proofs.Fields.{number_front, number_small, number_regrouped, number_length, number_read, number_spells, one_bit_back, one_bit_small, bit_back, no_bit, bit_read, values_from, Fit, length_spelled, fields_spelled, fields_spell}
@@ -101,7 +102,7 @@ module _ (c : Content) (free : Free) (is : IsContent c) where
   frame_head = header_bits c free
 
   abbrev frame_bits : List Level
-  frame_bits = with_crc (covered c free)
+  frame_bits = with_crc (bits_before_crc c free)
 
   frame_fits : Fit (fields_of c.extended) (values_by c.extended c free)
   frame_fits = values_fit c.extended c free is.id is.dlc
@@ -109,26 +110,26 @@ module _ (c : Content) (free : Free) (is : IsContent c) where
   head_length : length frame_head ≡ width_of (fields_of c.extended)
   head_length = length_spelled (fields_of c.extended) (values_by c.extended c free) frame_fits
 
-  frame_grouped : frame_bits ≡ frame_head ++ (flat_map (number_bits 8) c.bytes ++ crc_levels (covered c free))
-  frame_grouped = append_assoc frame_head (flat_map (number_bits 8) c.bytes) (crc_levels (covered c free))
+  frame_grouped : frame_bits ≡ frame_head ++ (flat_map (number_bits 8) c.bytes ++ crc_levels (bits_before_crc c free))
+  frame_grouped = append_assoc frame_head (flat_map (number_bits 8) c.bytes) (crc_levels (bits_before_crc c free))
 
   read_header : IsHeader c.extended c frame_bits
   read_header =
       header_read c.extended c free frame_bits
       (ap (values_from 0 (fields_of c.extended)) frame_grouped
-      ∙ fields_spelled [] (flat_map (number_bits 8) c.bytes ++ crc_levels (covered c free)) (fields_of c.extended) (values_by c.extended c free) frame_fits)
+      ∙ fields_spelled [] (flat_map (number_bits 8) c.bytes ++ crc_levels (bits_before_crc c free)) (fields_of c.extended) (values_by c.extended c free) frame_fits)
 
   read_count : (layout_by c.extended frame_bits).bytes ≡ length c.bytes
   read_count =
       ap (λ r. byte_count r (value_in DataLengthCode c.extended frame_bits)) read_header.remote
       ∙ ap (byte_count c.remote) read_header.dlc ∙ sym is.count
 
-  covered_is : length (covered c free) ≡ width_of (fields_of c.extended) + 8 * length c.bytes
+  covered_is : length (bits_before_crc c free) ≡ width_of (fields_of c.extended) + 8 * length c.bytes
   covered_is =
       length-append frame_head (flat_map (number_bits 8) c.bytes)
       ∙ omega (arith, head_length, length_bytes c.bytes)
 
-  read_covered : covered_length frame_bits ≡ length (covered c free)
+  read_covered : covered_length frame_bits ≡ length (bits_before_crc c free)
   read_covered =
       ap (λ x. (layout_by x frame_bits).header + 8 * (layout_by x frame_bits).bytes) read_header.format
       ∙ ap (λ n. width_of (fields_of c.extended) + 8 * n) read_count
@@ -139,7 +140,7 @@ module _ (c : Content) (free : Free) (is : IsContent c) where
       ap (bytes_from frame_bits (width_of (fields_of c.extended))) read_count
       ∙ ap (λ n. bytes_from frame_bits n (length c.bytes)) (sym head_length)
       ∙ ap (λ ls. bytes_from ls (length frame_head) (length c.bytes)) frame_grouped
-      ∙ bytes_spelled frame_head (crc_levels (covered c free)) c.bytes is.bytes
+      ∙ bytes_spelled frame_head (crc_levels (bits_before_crc c free)) c.bytes is.bytes
 
   read_content : content_of frame_bits ≡ c
   read_content =
@@ -149,20 +150,20 @@ module _ (c : Content) (free : Free) (is : IsContent c) where
   read_whole : is_whole frame_bits ≡ true
   read_whole =
       eq-eqb (length frame_bits) (covered_length frame_bits + 15)
-      (length-append (covered c free) (crc_levels (covered c free)) ∙ omega (arith, read_covered, length_crc_levels (covered c free)))
+      (length-append (bits_before_crc c free) (crc_levels (bits_before_crc c free)) ∙ omega (arith, read_covered, length_crc_levels (bits_before_crc c free)))
 
   read_crc : is_crc_right frame_bits ≡ true
   read_crc =
       eq-eqb (crc_of (take (covered_length frame_bits) frame_bits)) (number_from frame_bits (covered_length frame_bits) 15) (front_crc ∙ sym tail_crc)
     where
-      front_crc : crc_of (take (covered_length frame_bits) frame_bits) ≡ crc_of (covered c free)
-      front_crc = ap crc_of (take_at (covered c free) (crc_levels (covered c free)) (covered_length frame_bits) (sym read_covered))
+      front_crc : crc_of (take (covered_length frame_bits) frame_bits) ≡ crc_of (bits_before_crc c free)
+      front_crc = ap crc_of (take_at (bits_before_crc c free) (crc_levels (bits_before_crc c free)) (covered_length frame_bits) (sym read_covered))
 
-      tail_crc : number_from frame_bits (covered_length frame_bits) 15 ≡ crc_of (covered c free)
+      tail_crc : number_from frame_bits (covered_length frame_bits) 15 ≡ crc_of (bits_before_crc c free)
       tail_crc =
-          ap (λ ls. number_of (map bit_of_level (take 15 ls))) (drop_at (covered c free) (crc_levels (covered c free)) (covered_length frame_bits) (sym read_covered))
-          ∙ ap (λ ls. number_of (map bit_of_level ls)) (take_all 15 (crc_levels (covered c free)) (omega (arith, length_crc_levels (covered c free))))
-          ∙ ap number_of (map_bit_level (crc_bits (covered c free)))
+          ap (λ ls. number_of (map bit_of_level (take 15 ls))) (drop_at (bits_before_crc c free) (crc_levels (bits_before_crc c free)) (covered_length frame_bits) (sym read_covered))
+          ∙ ap (λ ls. number_of (map bit_of_level ls)) (take_all 15 (crc_levels (bits_before_crc c free)) (omega (arith, length_crc_levels (bits_before_crc c free))))
+          ∙ ap number_of (map_bit_level (crc_bits (bits_before_crc c free)))
 
 -- What is read in a whole list spells it.
 
@@ -234,7 +235,7 @@ header_some : (extended : Bool) → 19 ≤ width_of (fields_of extended)
 header_some true = omega arith
 header_some false = omega arith
 
-header_most : (extended : Bool) → width_of (fields_of extended) ≤ 39
+header_most : (extended : Bool) → width_of (fields_of extended) ≤ most_header_bits
 header_most true = omega arith
 header_most false = omega arith
 
@@ -242,14 +243,14 @@ header_most false = omega arith
 header_spelled : (ls : List Level) → (layout_of ls).header ≤ length ls → at ls 0 ≡ Dominant
     → header_bits (content_of ls) (free_by (is_extended ls) ls) ≡ take (layout_of ls).header ls
 header_spelled ls h sof =
-    ap (spelled (fields_of (is_extended ls))) (values_kept (is_extended ls) ls (omega (arith, header_some (is_extended ls))) sof refl)
+    ap (field_bits (fields_of (is_extended ls))) (values_kept (is_extended ls) ls (omega (arith, header_some (is_extended ls))) sof refl)
     ∙ fields_spell ls 0 (fields_of (is_extended ls)) (omega arith)
 
 module _ (ls : List Level) (whole : is_whole ls ≡ true) where
   pub whole_length : length ls ≡ covered_length ls + 15
   whole_length = eqb-true (length ls) (covered_length ls + 15) whole
 
-  covered_spelled : at ls 0 ≡ Dominant → take (covered_length ls) ls ≡ covered (content_of ls) (free_by (is_extended ls) ls)
+  covered_spelled : at ls 0 ≡ Dominant → take (covered_length ls) ls ≡ bits_before_crc (content_of ls) (free_by (is_extended ls) ls)
   covered_spelled sof =
       take-add (layout_of ls).header (8 * (layout_of ls).bytes) ls
       ∙ ap (λ front. front ++ take (8 * (layout_of ls).bytes) (drop (layout_of ls).header ls)) (sym (header_spelled ls (omega (arith, whole_length)) sof))
@@ -280,15 +281,15 @@ module _ (ls : List Level) (whole : is_whole ls ≡ true) where
   )
 
 begins_dominant : (extended : Bool) (values : List ℕ) (c : Content) (free : Free) (tail : List Level)
-    → at (spelled (fields_of extended) (values_by extended c free) ++ tail) 0 ≡ Dominant
+    → at (field_bits (fields_of extended) (values_by extended c free) ++ tail) 0 ≡ Dominant
 unfolding number_bits
 begins_dominant true values c free tail = refl
 begins_dominant false values c free tail = refl
 
-frame_begins : (c : Content) (free : Free) → at (with_crc (covered c free)) 0 ≡ Dominant
+frame_begins : (c : Content) (free : Free) → at (with_crc (bits_before_crc c free)) 0 ≡ Dominant
 frame_begins c free =
-    ap (λ ls. at ls 0) (append_assoc (header_bits c free) (flat_map (number_bits 8) c.bytes) (crc_levels (covered c free)))
-    ∙ begins_dominant c.extended [] c free (flat_map (number_bits 8) c.bytes ++ crc_levels (covered c free))
+    ap (λ ls. at ls 0) (append_assoc (header_bits c free) (flat_map (number_bits 8) c.bytes) (crc_levels (bits_before_crc c free)))
+    ∙ begins_dominant c.extended [] c free (flat_map (number_bits 8) c.bytes ++ crc_levels (bits_before_crc c free))
 
 frame_read : (bits : List Level) (c : Content) → IsFrame bits c → IsReadAs bits c
 frame_read bits c (is, free, e) = record {
@@ -338,7 +339,7 @@ count_most false dlc = omega arith
 pub bytes_most : (ls : List Level) → (layout_of ls).bytes ≤ 8
 bytes_most ls = count_most (value_in RemoteRequest (is_extended ls) ls == 1) (value_in DataLengthCode (is_extended ls) ls)
 
-pub covered_most : (ls : List Level) → covered_length ls ≤ 103
+pub covered_most : (ls : List Level) → covered_length ls ≤ most_bits_before_crc
 covered_most ls = omega (arith, header_most (is_extended ls), bytes_most ls)
 
 -- a whole list is the front of no longer one
@@ -368,7 +369,7 @@ front_more ls l f w =
     le-leb (length (ls ++ l ∷ [])) (covered_length (ls ++ l ∷ []) + 15)
     (elim (cases_lt (length ls) (layout_of ls).header) [ inl short ↦ header_lacks ls l short | inr long ↦ omega (arith, covered_front ls (l ∷ []) long) ])
 
-pub front_room : (ls : List Level) → is_front ls ≡ true → is_whole ls ≡ false → length ls < 118
+pub front_room : (ls : List Level) → is_front ls ≡ true → is_whole ls ≡ false → length ls < most_frame_bits
 front_room ls f w =
     let here : length ls ≤ covered_length ls + 15 = leb-true (length ls) (covered_length ls + 15) f in
     let other : length ls ≢ covered_length ls + 15 = eqb-false (length ls) (covered_length ls + 15) w in

@@ -2,10 +2,10 @@
 use Rattle.std.proofs.Common.{◌≡◌, List, [], ◌∷◌, true, false, refl}
 use Rattle.wl_level.specs.declared.Level.{Level}
 use Rattle.wl_level.specs.declared.Level.TheVariants.{Dominant, Recessive}
-use Rattle.wl_frame.specs.Stuffing.{destuffed, is_stuff}
+use Rattle.wl_frame.specs.Stuffing.{destuffed_list, is_stuff}
 use Rattle.wl_frame.specs.Crc.{crc_of}
 use Rattle.wl_frame.specs.Header.{sent_free}
-use Rattle.wl_frame.specs.Grammar.{Content, bits_of, number_bits, covered, with_crc, layout_of, is_whole, is_crc_right, content_of}
+use Rattle.wl_frame.specs.Grammar.{Content, bits_of, number_bits, bits_before_crc, with_crc, layout_of, is_whole, is_crc_right, content_of}
 
 abbrev d : Level
 d = Dominant
@@ -23,7 +23,7 @@ plain_crc = refl
 abbrev plain_stuffed : List Level
 plain_stuffed = d ∷ d ∷ d ∷ d ∷ d ∷ r ∷ d ∷ d ∷ d ∷ d ∷ d ∷ r ∷ d ∷ d ∷ d ∷ d ∷ d ∷ r ∷ d ∷ d ∷ d ∷ d ∷ d ∷ r ∷ d ∷ d ∷ d ∷ d ∷ d ∷ r ∷ d ∷ d ∷ d ∷ d ∷ d ∷ r ∷ d ∷ d ∷ d ∷ d ∷ []
 
-plain_destuffed : destuffed plain_stuffed ≡ d ∷ d ∷ d ∷ d ∷ d ∷ d ∷ d ∷ d ∷ d ∷ d ∷ d ∷ d ∷ d ∷ d ∷ d ∷ d ∷ d ∷ d ∷ d ∷ d ∷ d ∷ d ∷ d ∷ d ∷ d ∷ d ∷ d ∷ d ∷ d ∷ d ∷ d ∷ d ∷ d ∷ d ∷ []
+plain_destuffed : destuffed_list plain_stuffed ≡ d ∷ d ∷ d ∷ d ∷ d ∷ d ∷ d ∷ d ∷ d ∷ d ∷ d ∷ d ∷ d ∷ d ∷ d ∷ d ∷ d ∷ d ∷ d ∷ d ∷ d ∷ d ∷ d ∷ d ∷ d ∷ d ∷ d ∷ d ∷ d ∷ d ∷ d ∷ d ∷ d ∷ d ∷ []
 plain_destuffed = refl
 
 plain_closed : is_stuff plain_stuffed 40 ≡ false
@@ -39,7 +39,7 @@ zero_byte_crc = refl
 abbrev zero_byte_stuffed : List Level
 zero_byte_stuffed = d ∷ d ∷ d ∷ d ∷ d ∷ r ∷ d ∷ d ∷ d ∷ d ∷ d ∷ r ∷ d ∷ d ∷ d ∷ d ∷ d ∷ r ∷ d ∷ d ∷ d ∷ r ∷ d ∷ d ∷ d ∷ d ∷ d ∷ r ∷ d ∷ d ∷ d ∷ r ∷ d ∷ d ∷ d ∷ r ∷ d ∷ d ∷ d ∷ d ∷ r ∷ d ∷ d ∷ r ∷ r ∷ d ∷ []
 
-zero_byte_destuffed : destuffed zero_byte_stuffed ≡ d ∷ d ∷ d ∷ d ∷ d ∷ d ∷ d ∷ d ∷ d ∷ d ∷ d ∷ d ∷ d ∷ d ∷ d ∷ d ∷ d ∷ d ∷ r ∷ d ∷ d ∷ d ∷ d ∷ d ∷ d ∷ d ∷ d ∷ r ∷ d ∷ d ∷ d ∷ r ∷ d ∷ d ∷ d ∷ d ∷ r ∷ d ∷ d ∷ r ∷ r ∷ d ∷ []
+zero_byte_destuffed : destuffed_list zero_byte_stuffed ≡ d ∷ d ∷ d ∷ d ∷ d ∷ d ∷ d ∷ d ∷ d ∷ d ∷ d ∷ d ∷ d ∷ d ∷ d ∷ d ∷ d ∷ d ∷ r ∷ d ∷ d ∷ d ∷ d ∷ d ∷ d ∷ d ∷ d ∷ r ∷ d ∷ d ∷ d ∷ r ∷ d ∷ d ∷ d ∷ d ∷ r ∷ d ∷ d ∷ r ∷ r ∷ d ∷ []
 zero_byte_destuffed = refl
 
 zero_byte_closed : is_stuff zero_byte_stuffed 46 ≡ false
@@ -55,7 +55,7 @@ higher_crc = refl
 abbrev higher_stuffed : List Level
 higher_stuffed = d ∷ d ∷ d ∷ r ∷ d ∷ d ∷ d ∷ d ∷ d ∷ r ∷ d ∷ d ∷ d ∷ d ∷ d ∷ r ∷ d ∷ d ∷ d ∷ d ∷ d ∷ r ∷ d ∷ r ∷ r ∷ r ∷ d ∷ d ∷ d ∷ d ∷ d ∷ r ∷ d ∷ d ∷ r ∷ d ∷ r ∷ d ∷ []
 
-higher_destuffed : destuffed higher_stuffed ≡ d ∷ d ∷ d ∷ r ∷ d ∷ d ∷ d ∷ d ∷ d ∷ d ∷ d ∷ d ∷ d ∷ d ∷ d ∷ d ∷ d ∷ d ∷ d ∷ d ∷ r ∷ r ∷ r ∷ d ∷ d ∷ d ∷ d ∷ d ∷ d ∷ d ∷ r ∷ d ∷ r ∷ d ∷ []
+higher_destuffed : destuffed_list higher_stuffed ≡ d ∷ d ∷ d ∷ r ∷ d ∷ d ∷ d ∷ d ∷ d ∷ d ∷ d ∷ d ∷ d ∷ d ∷ d ∷ d ∷ d ∷ d ∷ d ∷ d ∷ r ∷ r ∷ r ∷ d ∷ d ∷ d ∷ d ∷ d ∷ d ∷ d ∷ r ∷ d ∷ r ∷ d ∷ []
 higher_destuffed = refl
 
 higher_closed : is_stuff higher_stuffed 38 ≡ false
@@ -71,7 +71,7 @@ arbitrated_id_crc = refl
 abbrev arbitrated_id_stuffed : List Level
 arbitrated_id_stuffed = d ∷ d ∷ d ∷ r ∷ d ∷ d ∷ d ∷ d ∷ d ∷ r ∷ d ∷ d ∷ r ∷ d ∷ d ∷ d ∷ d ∷ d ∷ r ∷ d ∷ d ∷ d ∷ d ∷ r ∷ r ∷ d ∷ r ∷ d ∷ d ∷ d ∷ d ∷ r ∷ r ∷ d ∷ d ∷ r ∷ []
 
-arbitrated_id_destuffed : destuffed arbitrated_id_stuffed ≡ d ∷ d ∷ d ∷ r ∷ d ∷ d ∷ d ∷ d ∷ d ∷ d ∷ d ∷ r ∷ d ∷ d ∷ d ∷ d ∷ d ∷ d ∷ d ∷ d ∷ d ∷ r ∷ r ∷ d ∷ r ∷ d ∷ d ∷ d ∷ d ∷ r ∷ r ∷ d ∷ d ∷ r ∷ []
+arbitrated_id_destuffed : destuffed_list arbitrated_id_stuffed ≡ d ∷ d ∷ d ∷ r ∷ d ∷ d ∷ d ∷ d ∷ d ∷ d ∷ d ∷ r ∷ d ∷ d ∷ d ∷ d ∷ d ∷ d ∷ d ∷ d ∷ d ∷ r ∷ r ∷ d ∷ r ∷ d ∷ d ∷ d ∷ d ∷ r ∷ r ∷ d ∷ d ∷ r ∷ []
 arbitrated_id_destuffed = refl
 
 arbitrated_id_closed : is_stuff arbitrated_id_stuffed 36 ≡ false
@@ -80,7 +80,7 @@ arbitrated_id_closed = refl
 abbrev zero_frame : Content
 zero_frame = record { extended = false; id = 0; remote = false; dlc = 1; bytes = 0 ∷ [] }
 
-spelled : bits_of zero_frame ≡ destuffed zero_byte_stuffed
+spelled : bits_of zero_frame ≡ destuffed_list zero_byte_stuffed
 unfolding bits_of number_bits
 spelled = refl
 
@@ -99,7 +99,7 @@ read = refl
 abbrev arbitrated : Content
 arbitrated = record { extended = false; id = 257; remote = false; dlc = 0; bytes = [] }
 
-arbitrated_spelled : bits_of arbitrated ≡ destuffed arbitrated_id_stuffed
+arbitrated_spelled : bits_of arbitrated ≡ destuffed_list arbitrated_id_stuffed
 unfolding bits_of number_bits
 arbitrated_spelled = refl
 
@@ -117,11 +117,11 @@ extended_closed = refl
 abbrev zero_extended : Content
 zero_extended = record { extended = true; id = 0; remote = false; dlc = 0; bytes = [] }
 
-extended_crc : crc_of (covered zero_extended sent_free) ≡ 17936
+extended_crc : crc_of (bits_before_crc zero_extended sent_free) ≡ 17936
 unfolding number_bits
 extended_crc = refl
 
-extended_spelled : bits_of zero_extended ≡ destuffed extended_stuffed
+extended_spelled : bits_of zero_extended ≡ destuffed_list extended_stuffed
 unfolding bits_of number_bits
 extended_spelled = refl
 
@@ -137,7 +137,7 @@ extended_read : content_of (bits_of other_extended) ≡ other_extended
 unfolding bits_of number_bits
 extended_read = refl
 
-free_read : content_of (with_crc (covered other_extended (record { srr = d; r1 = r; r0 = r }))) ≡ other_extended
+free_read : content_of (with_crc (bits_before_crc other_extended (record { srr = d; r1 = r; r0 = r }))) ≡ other_extended
 unfolding number_bits
 free_read = refl
 

@@ -7,7 +7,7 @@ use Rattle.wl_level.specs.declared.Level.TheVariants.{Recessive}
 use Rattle.wl_level.specs.Levels.{same, opposite}
 use Rattle.wl_level.specs.Places.{at, before, run_at}
 use Rattle.wl_level.proofs.Callers.{at_new, at_old, at_front, before_old, run_at_front, run_positive, run_le, same_opposite}
-use Rattle.wl_frame.specs.Stuffing.{is_stuff, kept, destuffed, Stuffs}
+use Rattle.wl_frame.specs.Stuffing.{is_stuff, destuffed_bits, destuffed_list, Stuffs}
 
 five_run : (r : ℕ) (a b c d : Bool) → 0 < r
     → (a && b && c && d) ≡ nat_le 5 (cond d (suc (cond c (suc (cond b (suc (cond a (suc r) 1)) 1)) 1)) 1)
@@ -39,16 +39,16 @@ stuff_run y (suc (suc (suc (suc zero)))) = sym (lt-leb 5 (run_at y 4) (omega (ar
 stuff_run y (suc (suc (suc (suc (suc n))))) =
     five_run (run_at y (suc n)) (same (at y n) (at y (suc n))) (same (at y (suc n)) (at y (suc (suc n)))) (same (at y (suc (suc n))) (at y (suc (suc (suc n))))) (same (at y (suc (suc (suc n)))) (at y (suc (suc (suc (suc n)))))) (run_positive y n)
 
--- whether a stuff bit is due at a place, and what is kept before it, is told by the front up to there
+-- whether a stuff bit is due at a place, and what is kept before it, follows from the front up to there
 pub stuff_front : (y more : List Level) (n : ℕ) → n ≤ length y → is_stuff (y ++ more) n ≡ is_stuff y n
 stuff_front y more n h = stuff_run (y ++ more) n ∙ ap (nat_le 5) (run_at_front y more n h) ∙ sym (stuff_run y n)
 
-pub kept_front : (y more : List Level) (n : ℕ) → n ≤ length y → kept (y ++ more) n ≡ kept y n
+pub kept_front : (y more : List Level) (n : ℕ) → n ≤ length y → destuffed_bits (y ++ more) n ≡ destuffed_bits y n
 kept_front y more zero h = refl
 kept_front y more (suc n) h =
     ap (λ ks. ks ++ cond (is_stuff (y ++ more) n) [] (at (y ++ more) n ∷ [])) (kept_front y more n (omega arith))
-    ∙ ap (λ s. kept y n ++ cond s [] (at (y ++ more) n ∷ [])) (stuff_front y more n (omega arith))
-    ∙ ap (λ a. kept y n ++ cond (is_stuff y n) [] (a ∷ [])) (at_front y more n (omega arith))
+    ∙ ap (λ s. destuffed_bits y n ++ cond s [] (at (y ++ more) n ∷ [])) (stuff_front y more n (omega arith))
+    ∙ ap (λ a. destuffed_bits y n ++ cond (is_stuff y n) [] (a ∷ [])) (at_front y more n (omega arith))
 
 module _ (y : List Level) (b : Level) where
   pub length_more : length (y ++ b ∷ []) ≡ suc (length y)
@@ -57,16 +57,16 @@ module _ (y : List Level) (b : Level) where
   pub stuff_old : (n : ℕ) → n ≤ length y → is_stuff (y ++ b ∷ []) n ≡ is_stuff y n
   stuff_old n h = stuff_front y (b ∷ []) n h
 
-  pub kept_old : (n : ℕ) → n ≤ length y → kept (y ++ b ∷ []) n ≡ kept y n
+  pub kept_old : (n : ℕ) → n ≤ length y → destuffed_bits (y ++ b ∷ []) n ≡ destuffed_bits y n
   kept_old n h = kept_front y (b ∷ []) n h
 
   -- one bit more is kept, where none is due
-  pub destuffed_more : destuffed (y ++ b ∷ []) ≡ destuffed y ++ cond (is_stuff y (length y)) [] (b ∷ [])
+  pub destuffed_more : destuffed_list (y ++ b ∷ []) ≡ destuffed_list y ++ cond (is_stuff y (length y)) [] (b ∷ [])
   destuffed_more =
-      ap (kept (y ++ b ∷ [])) length_more
+      ap (destuffed_bits (y ++ b ∷ [])) length_more
       ∙ ap (λ ks. ks ++ cond (is_stuff (y ++ b ∷ []) (length y)) [] (at (y ++ b ∷ []) (length y) ∷ [])) (kept_old (length y) (omega arith))
-      ∙ ap (λ s. kept y (length y) ++ cond s [] (at (y ++ b ∷ []) (length y) ∷ [])) (stuff_old (length y) (omega arith))
-      ∙ ap (λ a. kept y (length y) ++ cond (is_stuff y (length y)) [] (a ∷ [])) (at_new y b)
+      ∙ ap (λ s. destuffed_bits y (length y) ++ cond s [] (at (y ++ b ∷ []) (length y) ∷ [])) (stuff_old (length y) (omega arith))
+      ∙ ap (λ a. destuffed_bits y (length y) ++ cond (is_stuff y (length y)) [] (a ∷ [])) (at_new y b)
 
   run_from : (n : ℕ) → n ≡ length y → run_at (y ++ b ∷ []) (suc n) ≡ cond (same (before y n) b) (suc (run_at y n)) 1
   run_from zero e = elim (same Recessive b) as (λ s. ◌≡◌ {A = ℕ} 1 (cond s 1 1)) [ true ↦ refl | false ↦ refl ]
@@ -104,7 +104,7 @@ opposes_more y b h here k lt due = elim (cases_lt k (length y)) [
 pub pushed : (y x : List Level) (b : Level) → Stuffs y x → cond (same (before y (length y)) b) (suc (run_at y (length y))) 1 < 5
     → Stuffs (y ++ b ∷ []) (x ++ b ∷ [])
 pushed y x b s h = record {
-  content = destuffed_more y b ∙ ap (λ due. destuffed y ++ cond due [] (b ∷ [])) s.closed ∙ ap (λ ks. ks ++ b ∷ []) s.content;
+  content = destuffed_more y b ∙ ap (λ due. destuffed_list y ++ cond due [] (b ∷ [])) s.closed ∙ ap (λ ks. ks ++ b ∷ []) s.content;
   opposite = opposes_more y b s.opposite (λ due. absurd (both_ways (is_stuff y (length y)) s.closed due));
   closed = stuff_run (y ++ b ∷ []) (length (y ++ b ∷ [])) ∙ ap (nat_le 5) (run_more y b) ∙ lt-leb 5 _ h;
 }
@@ -123,8 +123,8 @@ stuffed_more y x b s h =
     let due : is_stuff (y ++ b ∷ []) (length (y ++ b ∷ [])) ≡ true = stuff_run (y ++ b ∷ []) (length (y ++ b ∷ [])) ∙ ap (nat_le 5) (run_more y b ∙ h) in
     record {
       content =
-          destuffed_more (y ++ b ∷ []) (opposite b) ∙ ap (λ d. destuffed (y ++ b ∷ []) ++ cond d [] (opposite b ∷ [])) due ∙ append-nil (destuffed (y ++ b ∷ []))
-          ∙ destuffed_more y b ∙ ap (λ d. destuffed y ++ cond d [] (b ∷ [])) s.closed ∙ ap (λ ks. ks ++ b ∷ []) s.content;
+          destuffed_more (y ++ b ∷ []) (opposite b) ∙ ap (λ d. destuffed_list (y ++ b ∷ []) ++ cond d [] (opposite b ∷ [])) due ∙ append-nil (destuffed_list (y ++ b ∷ []))
+          ∙ destuffed_more y b ∙ ap (λ d. destuffed_list y ++ cond d [] (b ∷ [])) s.closed ∙ ap (λ ks. ks ++ b ∷ []) s.content;
       opposite =
           opposes_more (y ++ b ∷ []) (opposite b) (opposes_more y b s.opposite (λ d. absurd (both_ways (is_stuff y (length y)) s.closed d))) (λ _. ap opposite (sym (before_more y b)));
       closed =

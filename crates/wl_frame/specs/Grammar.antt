@@ -56,8 +56,8 @@ frame_of_numbers true id remote dlc bytes =
     else Ok (record { extended = true; id = id; remote = remote; dlc = dlc; bytes = bytes }))
 
 -- the header and the bytes: what the CRC sequence is of; Bosch CAN 2.0 part B, section 3.2.1
-abbrev pub covered : Content → Free → List Level
-covered c free = header_bits c free ++ flat_map (number_bits 8) c.bytes
+abbrev pub bits_before_crc : Content → Free → List Level
+bits_before_crc c free = header_bits c free ++ flat_map (number_bits 8) c.bytes
 
 -- a list with its CRC sequence; Bosch CAN 2.0 part B, section 3.2.1
 abbrev pub with_crc : List Level → List Level
@@ -65,11 +65,11 @@ with_crc bits = bits ++ map level_of_bit (crc_bits bits)
 
 -- a whole list is a frame, whichever free bits it has; Bosch CAN 2.0 part A, section 3.1.1
 abbrev pub IsFrame : List Level → Content → Type 0
-IsFrame bits c = IsContent c × (free : Free) × (bits ≡ with_crc (covered c free))
+IsFrame bits c = IsContent c × (free : Free) × (bits ≡ with_crc (bits_before_crc c free))
 
 -- the whole list that is sent; Bosch CAN 2.0 part B, section 3.2.1
 unfoldable pub bits_of : Content → List Level
-bits_of c = with_crc (covered c sent_free)
+bits_of c = with_crc (bits_before_crc c sent_free)
 
 -- The same by places, which is all that one who reads a front of a frame has; Bosch CAN 2.0 part B, section 3.2.1
 pub record Layout : Type 0 where

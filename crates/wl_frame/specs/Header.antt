@@ -103,14 +103,14 @@ number_bits zero n = []
 number_bits (suc k) n = level_of_bit (bit_at n k == 1) ∷ number_bits k n
 
 -- fields that spell these numbers; Bosch CAN 2.0 part B, section 3.2.1
-abbrev pub spelled : List Field → List ℕ → List Level
-spelled [] values = []
-spelled (f ∷ fs) [] = []
-spelled (f ∷ fs) (n ∷ values) = number_bits f.width n ++ spelled fs values
+abbrev pub field_bits : List Field → List ℕ → List Level
+field_bits [] values = []
+field_bits (f ∷ fs) [] = []
+field_bits (f ∷ fs) (n ∷ values) = number_bits f.width n ++ field_bits fs values
 
 -- what fields spell in a frame with these free bits; Bosch CAN 2.0 part B, section 3.2.1
 abbrev pub part_bits : List Field → Content → Free → List Level
-part_bits fields c free = spelled fields (map (λ f. f.value c free) fields)
+part_bits fields c free = field_bits fields (map (λ f. f.value c free) fields)
 
 -- the arbitration field of a frame with these free bits; Bosch CAN 2.0 part B, section 3.2.1
 abbrev pub arbitration_bits : Content → Free → List Level

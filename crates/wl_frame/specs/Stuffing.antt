@@ -16,18 +16,18 @@ is_stuff y (suc (suc (suc (suc (suc k))))) = five_equal y k
 is_stuff y k = false
 
 -- the bits before place n that are no stuff bits; Bosch CAN 2.0 part B, section 6
-abbrev pub kept : List Level → ℕ → List Level
-kept y zero = []
-kept y (suc n) = kept y n ++ (if is_stuff y n then [] else at y n ∷ [])
+abbrev pub destuffed_bits : List Level → ℕ → List Level
+destuffed_bits y zero = []
+destuffed_bits y (suc n) = destuffed_bits y n ++ (if is_stuff y n then [] else at y n ∷ [])
 
 -- a list without its stuff bits; Bosch CAN 2.0 part B, section 6
-abbrev pub destuffed : List Level → List Level
-destuffed y = kept y (length y)
+abbrev pub destuffed_list : List Level → List Level
+destuffed_list y = destuffed_bits y (length y)
 
 -- y is x with its stuff bits: without them it is x, each is the opposite of the bit before it, and none is due at the end;
 -- Bosch CAN 2.0 part B, section 6, with the stuff bit due after the last bit as this project's profile
 pub record Stuffs (y x : List Level) : Type 0 where
-  pub content : destuffed y ≡ x
+  pub content : destuffed_list y ≡ x
   pub opposite : (k : ℕ) → k < length y → is_stuff y k ≡ true → at y k ≡ opposite (before y k)
   pub closed : is_stuff y (length y) ≡ false
 

@@ -3,7 +3,7 @@
 ghost use Rattle.std.specs.Prelude.{◌≡◌, ◌≤◌, ◌+◌, ◌*◌, ◌++◌, None, length};
 ghost use Rattle.std.specs.List.{flat_map};
 ghost use Rattle.wl_frame.specs.Grammar.{byte_count, bytes_from, data_fault, number_bits};
-ghost use Rattle.wl_frame.specs.Limits.{most_bits};
+ghost use Rattle.wl_frame.specs.Limits.{most_bits, most_bits_before_crc, most_frame_bits, most_header_bits};
 ghost use Rattle.wl_frame.specs.Padded.{eight_bytes};
 
 use crate::checksum::crc15;
@@ -75,7 +75,7 @@ impl Model for Frame {
 
 impl Frame {
     ghost use Rattle.std.specs.Prelude.{true, false};
-    ghost use Rattle.wl_frame.specs.Grammar.{IsContent, IsFrame, bits_of, content_of, covered, frame_of_numbers, is_whole};
+    ghost use Rattle.wl_frame.specs.Grammar.{IsContent, IsFrame, bits_of, content_of, bits_before_crc, frame_of_numbers, is_whole};
     ghost use Rattle.wl_frame.specs.Header.{arbitration_bits, control_bits, sent_free};
     ghost use Rattle.wl_frame.specs.Stuffing.{Stuffs};
 
@@ -194,7 +194,7 @@ impl Frame {
         ensures bits { result.items ≡ bits_of self.now }
         ensures frame { IsFrame result.items self.now }
         ensures whole { is_whole result.items ≡ true }
-        ensures room { length result.items ≤ 118 }
+        ensures room { length result.items ≤ most_frame_bits }
     {
         let mut bits = self.covered();
         let crc = crc15(bits.as_slice());
@@ -211,8 +211,8 @@ impl Frame {
 
     /// What the CRC sequence is of: the bits from the start of frame to the last data bit.
     fn covered(&self) -> FrameBits
-        ensures bits { result.items ≡ covered self.now sent_free }
-        ensures room { length result.items ≤ 103 }
+        ensures bits { result.items ≡ bits_before_crc self.now sent_free }
+        ensures room { length result.items ≤ most_bits_before_crc }
         ensures content { IsContent self.now }
     {
         let mut bits = FrameBits::new();
@@ -272,7 +272,7 @@ fn data_fault(remote: bool, dlc: u32, bytes: &[u8]) -> Option<FrameFault>
 fn bytes_at(bits: &[Level], from: usize, count: usize) -> [u8; MOST_BYTES]
     requires few { count ≤ 8 }
     requires there { from + 8 * count ≤ length bits.now }
-    requires near { from ≤ 39 }
+    requires near { from ≤ most_header_bits }
     ensures { result ≡ eight_bytes (bytes_from bits.now from count) }
 {
     let mut held = [0; MOST_BYTES];

@@ -4,7 +4,8 @@ ghost use Rattle.std.specs.Prelude.{◌≡◌, ◌↔◌, ◌<◌, ◌≤◌, �
 ghost use Rattle.wl_level.specs.declared.Level.{Level};
 ghost use Rattle.wl_level.specs.Places.{run_at};
 ghost use Rattle.wl_frame.specs.Grammar.{Content, IsContent, IsFrame, IsReadAs, IsUnfinished, bits_of, covered_length, is_arbitration, is_front, is_whole, layout_of};
-ghost use Rattle.wl_frame.specs.Stuffing.{IsStuffedFront, NoSixBefore, Stuffs, first_six, is_stuff, kept};
+ghost use Rattle.wl_frame.specs.Limits.{most_frame_bits};
+ghost use Rattle.wl_frame.specs.Stuffing.{IsStuffedFront, NoSixBefore, Stuffs, first_six, is_stuff, destuffed_bits};
 
 /// Law: a list has one stuffing. So what [`stuff`](crate::stuffing::stuff) answers is the only right
 /// answer, and a receiver that takes the stuff bits out can have been sent one list alone.
@@ -24,9 +25,9 @@ pub fn a_front_of_no_stuffing_ends_six_equal_bits()
 pub fn stuffing_goes_on_bit_by_bit()
     ensures due { (y : List Level) (n : ℕ) → is_stuff y n ≡ nat_le 5 (run_at y n) }
     ensures stays { (y more : List Level) (n : ℕ) → n ≤ length y → is_stuff (y ++ more) n ≡ is_stuff y n }
-    ensures keeps { (y more : List Level) (n : ℕ) → n ≤ length y → kept (y ++ more) n ≡ kept y n }
+    ensures keeps { (y more : List Level) (n : ℕ) → n ≤ length y → destuffed_bits (y ++ more) n ≡ destuffed_bits y n }
     ensures front { (y : List Level) (n : ℕ) → n ≤ length y → NoSixBefore y n → is_stuff y n ≡ false
-        → Stuffs (take n y) (kept y n) }
+        → Stuffs (take n y) (destuffed_bits y n) }
 {}
 
 /// Law: reading by places is the grammar. A list is a frame of this content exactly where it begins with
@@ -46,7 +47,7 @@ pub fn reading_by_places_is_the_grammar()
 pub fn a_front_is_read_to_its_end()
     ensures none { is_front [] ≡ true }
     ensures more { (bits : List Level) (bit : Level) → IsUnfinished bits → is_front (bits ++ bit ∷ []) ≡ true }
-    ensures room { (bits : List Level) → IsUnfinished bits → length bits < 118 }
+    ensures room { (bits : List Level) → IsUnfinished bits → length bits < most_frame_bits }
     ensures least { (bits : List Level) → 19 ≤ covered_length bits }
     ensures sent { (c : Content) → IsContent c → is_whole (bits_of c) ≡ true }
     ensures over { (read sent : List Level) (place : ℕ) → is_whole read ≡ true → length read ≤ place

@@ -4,6 +4,7 @@
 ghost use Rattle.std.specs.Prelude.{◌≡◌, ◌≤◌, true, length};
 ghost use Rattle.wl_frame.specs.Grammar.{content_of, covered_length, is_arbitration, is_crc_right, is_whole, layout_of};
 ghost use Rattle.wl_frame.specs.Header.{is_extended};
+ghost use Rattle.wl_frame.specs.Limits.{most_bits_before_crc, most_header_bits};
 
 use crate::checksum::crc15;
 use crate::frame::byte_count;
@@ -51,7 +52,7 @@ pub(crate) fn is_extended(bits: &[Level]) -> bool
 pub(crate) fn header_length(bits: &[Level]) -> usize
     ensures value { result ≡ (layout_of bits.now).header }
     ensures least { 19 ≤ result }
-    ensures most { result ≤ 39 }
+    ensures most { result ≤ most_header_bits }
 {
     if is_extended(bits) {
         EXTENDED_HEADER
@@ -127,7 +128,7 @@ pub(crate) fn data_length_code(bits: &[Level]) -> u32
 fn places_covered(bits: &[Level]) -> usize
     requires { (layout_of bits.now).header ≤ length bits.now }
     ensures value { result ≡ covered_length bits.now }
-    ensures most { result ≤ 103 }
+    ensures most { result ≤ most_bits_before_crc }
 {
     header_length(bits) + 8 * byte_count(is_remote(bits), data_length_code(bits))
 }

@@ -80,7 +80,7 @@ replied_blocked g i may early = record {
 
 -- ---- quanta one after another
 
--- one more, behind the others
+-- one more, after the others
 ran_end : (g h : GroupValue) (rs : List Record) (i k : ℕ) → Ran g rs h → quanta_at h i ≡ Some k → may_run h i ≡ true → Ran g (rs ++ emission_at h i) (run_on i k h)
 ran_end g h rs i k (none {g = x}) e may = subst (λ es. Ran x es (run_on i k x)) (append-nil (emission_at x i)) (more i k e may none)
 ran_end g h rs i k (more {g = x} {h = y} {rs = rest} j n f can steps) e may =

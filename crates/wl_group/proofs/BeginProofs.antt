@@ -11,7 +11,7 @@ use Rattle.wl_record_core.specs.Truth.{count_below, IsTrueOf}
 use Rattle.wl_node.specs.declared.setup.NodeSetup.{NodeSetup}
 use Rattle.wl_node.specs.declared.node.Node.{Node}
 use Rattle.wl_node.specs.Reached.{IsNode, node_setup, quanta_of}
-use Rattle.wl_replica.specs.State.{State, state_of, taken, states_joined, slots_of, Fits, IsOfRecords}
+use Rattle.wl_replica.specs.State.{State, state_of, state_with_record, states_joined, slots_of, Fits, IsOfRecords}
 use Rattle.wl_replica.specs.Slots.{HoldsTrue}
 use Rattle.wl_plan.specs.declared.plan.Plan.{Plan}
 use Rattle.wl_plan.specs.Line.{Line, reach}
@@ -21,7 +21,7 @@ use Rattle.wl_plan.specs.Sound.{IsSound}
 use Rattle.wl_plan.specs.SimulationLaws.{SimulationLaws}
 use Rattle.wl_plan.specs.Checked.{IsChecked}
 use Rattle.wl_group.specs.declared.cell.Cell.{Cell}
-use Rattle.wl_group.specs.GroupValue.{GroupValue, IsGroupValue, quanta_at, belongs, member_after, member_at, members_now, names, begun_of, with_records, with_state}
+use Rattle.wl_group.specs.GroupValue.{GroupValue, IsGroupValue, quanta_at, belongs, member_after, member_at, members_now, names, initial_group, with_records, with_state}
 use Rattle.wl_group.specs.Kept.{quanta_kept, ran_of, group_value, IsCell, AreCells, IsKept}
 use Rattle.wl_group.specs.Chosen.{is_chosen}
 use Rattle.wl_group.specs.ValueLaws.{ValueLaws}
@@ -41,7 +41,7 @@ set_test f i j n = elim (cases_lt j i) [
   ]) ∙ sym (le-ltb j i behind)
 ]
 
--- the first i of them are as a test says, and none behind
+-- the first i of them are as a test says, and none after
 pub one_more_chosen : (xs : List Bool) (f : ℕ → Bool) (i : ℕ) → i < length xs → ((j : ℕ) → is_chosen xs j ≡ (nat_lt j i && f j))
     → (j : ℕ) → is_chosen (slice_set xs i (f i)) j ≡ (nat_lt j (i + 1) && f j)
 one_more_chosen xs f i b h j = elim (cases_eq j i) [
@@ -117,7 +117,7 @@ fresh_kept plan i node laws sound b es is q member e =
       changed = sym (laws.none_at_first (line_of plan) i sound.causal b) ∙ ap (λ n. count_below ((line_of plan).instant i n) (table_of plan i)) (sym q);
     })
 
--- one more cell, behind the others
+-- one more cell, after the others
 pub one_more_ran : (chosen : List Bool) (cells more : List (Option Cell)) (o : Option Cell) (i : ℕ) → more ≡ cells ++ o ∷ []
     → ran_of cells ≡ map (λ j. if is_chosen chosen j then Some 0 else None) (range_with_len 0 i) → quanta_kept o ≡ (if is_chosen chosen i then Some 0 else None)
     → ran_of more ≡ map (λ j. if is_chosen chosen j then Some 0 else None) (range_with_len 0 (i + 1))
@@ -170,13 +170,13 @@ first_taken l nodes old new told b i en et eb after before e =
 
 -- what begins makes the value that begins
 pub begun_value : (plan copy : Plan) (chosen given : ℕ → Bool) (cells : List (Option Cell)) (replica : State) (told : List Record) → copy ≡ plan
-    → ((i : ℕ) → chosen i ≡ given i) → ran_of cells ≡ (begun_of plan chosen).ran → replica ≡ (begun_of plan chosen).replica → told ≡ []
-    → group_value copy cells replica told ≡ begun_of plan given
+    → ((i : ℕ) → chosen i ≡ given i) → ran_of cells ≡ (initial_group plan chosen).ran → replica ≡ (initial_group plan chosen).replica → told ≡ []
+    → group_value copy cells replica told ≡ initial_group plan given
 begun_value plan copy chosen given cells replica told ep ec er es et =
-    (λ d. record { plan = ep d; ran = er d; replica = es d; told = et d }) ∙ ap (λ f. begun_of plan f) (λ d i. ec i d)
+    (λ d. record { plan = ep d; ran = er d; replica = es d; told = et d }) ∙ ap (λ f. initial_group plan f) (λ d i. ec i d)
 
 pub begun_kept : ValueLaws → (plan copy : Plan) (chosen given : ℕ → Bool) (cells : List (Option Cell)) (replica : State) (told : List Record) → IsChecked plan → copy ≡ plan
-    → ((i : ℕ) → chosen i ≡ given i) → ran_of cells ≡ (begun_of plan chosen).ran → AreCells plan cells → replica ≡ (begun_of plan chosen).replica → told ≡ []
+    → ((i : ℕ) → chosen i ≡ given i) → ran_of cells ≡ (initial_group plan chosen).ran → AreCells plan cells → replica ≡ (initial_group plan chosen).replica → told ≡ []
     → IsKept copy cells replica told
 begun_kept laws plan copy chosen given cells replica told c ep ec er are es et = record {
   value = subst IsGroupValue (sym (begun_value plan copy chosen given cells replica told ep ec er es et)) (laws.begins plan c given);
@@ -190,11 +190,11 @@ true_fits nodes n table (Silence i c u) h e = ((let b = h.0 in omega arith), h.2
 true_fits nodes n table (Clash i s) h e = absurd h
 
 pub taken_value : (plan : Plan) (cells : List (Option Cell)) (replica new : State) (told : List Record) (r : Record) (v : GroupValue)
-    → group_value plan cells replica told ≡ v → new ≡ taken replica r → group_value plan cells new told ≡ with_records (r ∷ []) v
+    → group_value plan cells replica told ≡ v → new ≡ state_with_record replica r → group_value plan cells new told ≡ with_records (r ∷ []) v
 taken_value plan cells replica new told r v ev e = ap (λ s. group_value plan cells s told) e ∙ ap (with_records (r ∷ [])) ev
 
 pub taken_kept : ValueLaws → (plan : Plan) (cells : List (Option Cell)) (replica new : State) (told : List Record) (r : Record) (v : GroupValue)
-    → group_value plan cells replica told ≡ v → IsKept plan cells replica told → IsTrueOfPlan v.plan r → new ≡ taken replica r → IsKept plan cells new told
+    → group_value plan cells replica told ≡ v → IsKept plan cells replica told → IsTrueOfPlan v.plan r → new ≡ state_with_record replica r → IsKept plan cells new told
 taken_kept laws plan cells replica new told r v ev k t e = record {
   value = subst (λ s. IsGroupValue (group_value plan cells s told)) (sym e)
       (laws.takes (group_value plan cells replica told) k.value (r ∷ []) (subst (λ (x : GroupValue). IsTrueOfPlan x.plan r) (sym ev) t, tt));

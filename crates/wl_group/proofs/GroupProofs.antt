@@ -18,8 +18,8 @@ use Rattle.wl_plan.specs.Line.{Line, found, reach}
 use Rattle.wl_plan.specs.Simulation.{history, level, seen, differs, changes, AreInside}
 use Rattle.wl_plan.specs.Sound.{IsSound}
 use Rattle.wl_plan.specs.SimulationLaws.{SimulationLaws}
-use Rattle.wl_group.specs.Member.{Member, fresh, next_tick, can_run, turns, stepped, emission, level_read}
-use Rattle.wl_group.specs.Party.{Party, slots, firsts, begun, taking}
+use Rattle.wl_group.specs.Member.{Member, fresh, next_tick, can_run, turns, member_after_quantum, emission, level_read}
+use Rattle.wl_group.specs.Party.{Party, slots, initial_silences, initial_party, party_with}
 use Rattle.wl_group.specs.Advanced.{emission_of, run_next, Steps, none, more}
 use Rattle.wl_group.specs.Holds.{IsMember, IsGroup, IsTold}
 use Rattle.wl_group.specs.GroupLaws.{WaveIsLevel, GroupLaws}
@@ -39,12 +39,12 @@ later_there : (r q : Record) (rs : List Record) → Contains rs r → Contains (
 later_there r q rs h = (suc h.0, (let b = h.1 in omega arith), h.2)
 
 -- each node that passes has its first silence there
-first_in : (l : Line) (test : ℕ → Bool) (n i : ℕ) → i < n → test i ≡ true → Contains (firsts l test n) (Silence i 0 (reach l i []))
+first_in : (l : Line) (test : ℕ → Bool) (n i : ℕ) → i < n → test i ≡ true → Contains (initial_silences l test n) (Silence i 0 (reach l i []))
 first_in l test zero i h t = absurd (omega arith)
 first_in l test (suc n) i h t = elim (cases_eq i n) [
-  | inl e ↦ Contains-append_right (firsts l test n) _ _ (subst (λ v. Contains (if test v then Silence v 0 (reach l v []) ∷ [] else []) (Silence i 0 (reach l i []))) e
+  | inl e ↦ Contains-append_right (initial_silences l test n) _ _ (subst (λ v. Contains (if test v then Silence v 0 (reach l v []) ∷ [] else []) (Silence i 0 (reach l i []))) e
       (subst (λ rs. Contains rs (Silence i 0 (reach l i []))) (sym (cond-true (test i) (Silence i 0 (reach l i []) ∷ []) [] t)) (first_there _ [])))
-  | inr o ↦ Contains-append_left (firsts l test n) _ _ (first_in l test n i (omega arith) t)
+  | inr o ↦ Contains-append_left (initial_silences l test n) _ _ (first_in l test n i (omega arith) t)
 ]
 
 module _ (tables : TableLaws) (joins : SlotsLaws) (knows : KnownLaws) (sims : SimulationLaws) where
@@ -80,7 +80,7 @@ module _ (tables : TableLaws) (joins : SlotsLaws) (knows : KnownLaws) (sims : Si
       record { truth = t; each = λ i b m. member_keeps l i (members i) w (slots_joined w x) b g.truth t (joins.above_first w x) (g.each i b m) }
 
   taking_holds : (l : Line) → IsSound l → (belongs : ℕ → Bool) (rs : List Record) (p : Party) → IsGroup l belongs p.members (slots p)
-      → HoldsTrue l.nodes (changes l) (slots_of_records rs) → IsGroup l belongs (taking rs p).members (slots (taking rs p))
+      → HoldsTrue l.nodes (changes l) (slots_of_records rs) → IsGroup l belongs (party_with rs p).members (slots (party_with rs p))
   taking_holds l s belongs rs p v t = subst (IsGroup l belongs p.members) (sym (joins.of_two_lists rs p.taken)) (group_joins l belongs p.members (slots p) (slots_of_records rs) v t)
 
   -- no more changes lie below a tick than there are
@@ -106,19 +106,19 @@ module _ (tables : TableLaws) (joins : SlotsLaws) (knows : KnownLaws) (sims : Si
     ((let f = s.few_nodes in omega arith), omega arith, (let r = reach_most l s i 0 [] b refl in let f = s.first_fits i b in let e : l.instant i (0 + most_quiet) ≡ l.instant i most_quiet = ap (l.instant i) (omega arith) in omega arith)),
   )
 
-  firsts_true : (l : Line) → IsSound l → (test : ℕ → Bool) (n : ℕ) → n ≤ l.nodes → AreTrueOf l.nodes (changes l) (firsts l test n)
+  firsts_true : (l : Line) → IsSound l → (test : ℕ → Bool) (n : ℕ) → n ≤ l.nodes → AreTrueOf l.nodes (changes l) (initial_silences l test n)
   firsts_true l s test zero h = tt
   firsts_true l s test (suc n) h =
-      true_append l.nodes (changes l) (firsts l test n) _ (firsts_true l s test n (omega arith))
+      true_append l.nodes (changes l) (initial_silences l test n) _ (firsts_true l s test n (omega arith))
       (elim (cases_Bool (test n)) [
         | inl y ↦ subst (AreTrueOf l.nodes (changes l)) (sym (cond-true (test n) (Silence n 0 (reach l n []) ∷ []) [] y)) (first_true l s n (omega arith), tt)
         | inr x ↦ subst (AreTrueOf l.nodes (changes l)) (sym (cond-false (test n) (Silence n 0 (reach l n []) ∷ []) [] x)) tt
       ])
 
-  begun_holds : (l : Line) → IsSound l → (belongs : ℕ → Bool) → IsGroup l belongs (begun l belongs).members (slots (begun l belongs))
+  begun_holds : (l : Line) → IsSound l → (belongs : ℕ → Bool) → IsGroup l belongs (initial_party l belongs).members (slots (initial_party l belongs))
   unfolding seen
   begun_holds l s belongs =
-      let rs = firsts l belongs l.nodes in
+      let rs = initial_silences l belongs l.nodes in
       let t = knows.true_records l.nodes (changes l) rs (firsts_true l s belongs l.nodes (omega arith)) in
       record {
         truth = t;
@@ -155,15 +155,15 @@ module _ (tables : TableLaws) (joins : SlotsLaws) (knows : KnownLaws) (sims : Si
     read_is_found : level_read l i m w ≡ level_of (found l (level l) i (next_tick l i m))
     read_is_found = ap level_of (found_is l s w i (next_tick l i m) truth place_is_known)
 
-    longer : length (stepped l i m (level_read l i m w)).saw ≡ suc (length m.saw)
+    longer : length (member_after_quantum l i m (level_read l i m w)).saw ≡ suc (length m.saw)
     longer = length-append m.saw (level_read l i m w ∷ []) ∙ add-one (length m.saw)
 
     -- the tick after
-    due_next : next_tick l i (stepped l i m (level_read l i m w)) ≡ l.instant i (suc (length m.saw))
+    due_next : next_tick l i (member_after_quantum l i m (level_read l i m w)) ≡ l.instant i (suc (length m.saw))
     due_next = ap (l.instant i) longer
 
     module _ (h : IsMember l i m w) where
-      state_next : (stepped l i m (level_read l i m w)).saw ≡ seen l i (suc (length m.saw))
+      state_next : (member_after_quantum l i m (level_read l i m w)).saw ≡ seen l i (suc (length m.saw))
       unfolding seen
       state_next = ap (λ v. v ++ level_read l i m w ∷ []) h.state ∙ ap (λ v. seen l i (length m.saw) ++ v ∷ []) read_is_found
 
@@ -178,26 +178,26 @@ module _ (tables : TableLaws) (joins : SlotsLaws) (knows : KnownLaws) (sims : Si
           ap (λ v. differs (l.drives i v) (l.drives i m.saw)) state_next
           ∙ ap (λ v. differs (l.drives i (seen l i (suc (length m.saw)))) (l.drives i v)) h.state
 
-      changed_yes : turns l i m (level_read l i m w) ≡ true → (stepped l i m (level_read l i m w)).changed ≡ suc m.changed
+      changed_yes : turns l i m (level_read l i m w) ≡ true → (member_after_quantum l i m (level_read l i m w)).changed ≡ suc m.changed
       changed_yes y = cond-true (turns l i m (level_read l i m w)) _ _ y
 
-      changed_no : turns l i m (level_read l i m w) ≡ false → (stepped l i m (level_read l i m w)).changed ≡ m.changed
+      changed_no : turns l i m (level_read l i m w) ≡ false → (member_after_quantum l i m (level_read l i m w)).changed ≡ m.changed
       changed_no n = cond-false (turns l i m (level_read l i m w)) _ _ n
 
-      changed_next : (stepped l i m (level_read l i m w)).changed ≡ count_below (l.instant i (suc (length m.saw))) (changes l i)
+      changed_next : (member_after_quantum l i m (level_read l i m w)).changed ≡ count_below (l.instant i (suc (length m.saw))) (changes l i)
       changed_next = elim (cases_Bool (turns l i m (level_read l i m w))) [
         | inl y ↦ changed_yes y ∙ (ap suc h.count ∙ sym (sims.turn l i (length m.saw) s.causal b inside_next (sym turns_is ∙ y)).1)
         | inr n ↦ changed_no n ∙ (h.count ∙ sym (sims.no_turn l i (length m.saw) s.causal b inside_next (sym turns_is ∙ n)))
       ]
 
-      changed_few : (stepped l i m (level_read l i m w)).changed ≤ most_edges
+      changed_few : (member_after_quantum l i m (level_read l i m w)).changed ≤ most_edges
       changed_few = (let e = changed_next in let c = count_most l s i (l.instant i (suc (length m.saw))) b in omega arith)
 
-      silence_true : IsTrueOf l.nodes (changes l) (Silence i (stepped l i m (level_read l i m w)).changed (reach l i (stepped l i m (level_read l i m w)).saw))
+      silence_true : IsTrueOf l.nodes (changes l) (Silence i (member_after_quantum l i m (level_read l i m w)).changed (reach l i (member_after_quantum l i m (level_read l i m w)).saw))
       silence_true = (
         b,
         ap (λ v. count_below (reach l i v) (changes l i)) state_next ∙ (sims.reach_count l i (suc (length m.saw)) s.causal b inside_next ∙ sym changed_next),
-        ((let f = s.few_nodes in omega arith), changed_few, (let r = reach_most l s i (suc (length m.saw)) (stepped l i m (level_read l i m w)).saw b longer in let f = s.next_fits i (length m.saw) b early in omega arith)),
+        ((let f = s.few_nodes in omega arith), changed_few, (let r = reach_most l s i (suc (length m.saw)) (member_after_quantum l i m (level_read l i m w)).saw b longer in let f = s.next_fits i (length m.saw) b early in omega arith)),
       )
 
       edge_entry : turns l i m (level_read l i m w) ≡ true → slice_get (changes l i) m.changed ≡ Some (next_tick l i m)
@@ -211,11 +211,11 @@ module _ (tables : TableLaws) (joins : SlotsLaws) (knows : KnownLaws) (sims : Si
       )
 
       -- what it emits, by whether its drive changed
-      emission_yes : turns l i m (level_read l i m w) ≡ true → emission l i m (level_read l i m w) ≡ Edge i m.changed (next_tick l i m) ∷ Silence i (stepped l i m (level_read l i m w)).changed (reach l i (stepped l i m (level_read l i m w)).saw) ∷ []
-      emission_yes y = ap (λ v. v ++ Silence i (stepped l i m (level_read l i m w)).changed (reach l i (stepped l i m (level_read l i m w)).saw) ∷ []) (cond-true (turns l i m (level_read l i m w)) (Edge i m.changed (next_tick l i m) ∷ []) [] y)
+      emission_yes : turns l i m (level_read l i m w) ≡ true → emission l i m (level_read l i m w) ≡ Edge i m.changed (next_tick l i m) ∷ Silence i (member_after_quantum l i m (level_read l i m w)).changed (reach l i (member_after_quantum l i m (level_read l i m w)).saw) ∷ []
+      emission_yes y = ap (λ v. v ++ Silence i (member_after_quantum l i m (level_read l i m w)).changed (reach l i (member_after_quantum l i m (level_read l i m w)).saw) ∷ []) (cond-true (turns l i m (level_read l i m w)) (Edge i m.changed (next_tick l i m) ∷ []) [] y)
 
-      emission_no : turns l i m (level_read l i m w) ≡ false → emission l i m (level_read l i m w) ≡ Silence i (stepped l i m (level_read l i m w)).changed (reach l i (stepped l i m (level_read l i m w)).saw) ∷ []
-      emission_no n = ap (λ v. v ++ Silence i (stepped l i m (level_read l i m w)).changed (reach l i (stepped l i m (level_read l i m w)).saw) ∷ []) (cond-false (turns l i m (level_read l i m w)) (Edge i m.changed (next_tick l i m) ∷ []) [] n)
+      emission_no : turns l i m (level_read l i m w) ≡ false → emission l i m (level_read l i m w) ≡ Silence i (member_after_quantum l i m (level_read l i m w)).changed (reach l i (member_after_quantum l i m (level_read l i m w)).saw) ∷ []
+      emission_no n = ap (λ v. v ++ Silence i (member_after_quantum l i m (level_read l i m w)).changed (reach l i (member_after_quantum l i m (level_read l i m w)).saw) ∷ []) (cond-false (turns l i m (level_read l i m w)) (Edge i m.changed (next_tick l i m) ∷ []) [] n)
 
       emission_true : AreTrueOf l.nodes (changes l) (emission l i m (level_read l i m w))
       emission_true = elim (cases_Bool (turns l i m (level_read l i m w))) [
@@ -224,12 +224,12 @@ module _ (tables : TableLaws) (joins : SlotsLaws) (knows : KnownLaws) (sims : Si
       ]
 
       edge_emitted : turns l i m (level_read l i m w) ≡ true → Contains (emission l i m (level_read l i m w)) (Edge i m.changed (next_tick l i m))
-      edge_emitted y = subst (λ rs. Contains rs (Edge i m.changed (next_tick l i m))) (sym (emission_yes y)) (first_there (Edge i m.changed (next_tick l i m)) ((Silence i (stepped l i m (level_read l i m w)).changed (reach l i (stepped l i m (level_read l i m w)).saw)) ∷ []))
+      edge_emitted y = subst (λ rs. Contains rs (Edge i m.changed (next_tick l i m))) (sym (emission_yes y)) (first_there (Edge i m.changed (next_tick l i m)) ((Silence i (member_after_quantum l i m (level_read l i m w)).changed (reach l i (member_after_quantum l i m (level_read l i m w)).saw)) ∷ []))
 
-      silence_emitted : Contains (emission l i m (level_read l i m w)) (Silence i (stepped l i m (level_read l i m w)).changed (reach l i (stepped l i m (level_read l i m w)).saw))
+      silence_emitted : Contains (emission l i m (level_read l i m w)) (Silence i (member_after_quantum l i m (level_read l i m w)).changed (reach l i (member_after_quantum l i m (level_read l i m w)).saw))
       silence_emitted = elim (cases_Bool (turns l i m (level_read l i m w))) [
-        | inl y ↦ subst (λ rs. Contains rs (Silence i (stepped l i m (level_read l i m w)).changed (reach l i (stepped l i m (level_read l i m w)).saw))) (sym (emission_yes y)) (later_there (Silence i (stepped l i m (level_read l i m w)).changed (reach l i (stepped l i m (level_read l i m w)).saw)) (Edge i m.changed (next_tick l i m)) ((Silence i (stepped l i m (level_read l i m w)).changed (reach l i (stepped l i m (level_read l i m w)).saw)) ∷ []) (first_there (Silence i (stepped l i m (level_read l i m w)).changed (reach l i (stepped l i m (level_read l i m w)).saw)) []))
-        | inr n ↦ subst (λ rs. Contains rs (Silence i (stepped l i m (level_read l i m w)).changed (reach l i (stepped l i m (level_read l i m w)).saw))) (sym (emission_no n)) (first_there (Silence i (stepped l i m (level_read l i m w)).changed (reach l i (stepped l i m (level_read l i m w)).saw)) [])
+        | inl y ↦ subst (λ rs. Contains rs (Silence i (member_after_quantum l i m (level_read l i m w)).changed (reach l i (member_after_quantum l i m (level_read l i m w)).saw))) (sym (emission_yes y)) (later_there (Silence i (member_after_quantum l i m (level_read l i m w)).changed (reach l i (member_after_quantum l i m (level_read l i m w)).saw)) (Edge i m.changed (next_tick l i m)) ((Silence i (member_after_quantum l i m (level_read l i m w)).changed (reach l i (member_after_quantum l i m (level_read l i m w)).saw)) ∷ []) (first_there (Silence i (member_after_quantum l i m (level_read l i m w)).changed (reach l i (member_after_quantum l i m (level_read l i m w)).saw)) []))
+        | inr n ↦ subst (λ rs. Contains rs (Silence i (member_after_quantum l i m (level_read l i m w)).changed (reach l i (member_after_quantum l i m (level_read l i m w)).saw))) (sym (emission_no n)) (first_there (Silence i (member_after_quantum l i m (level_read l i m w)).changed (reach l i (member_after_quantum l i m (level_read l i m w)).saw)) [])
       ]
 
       -- slots above the emission, and above slots that hold the member's edges so far, hold all that it said
@@ -240,7 +240,7 @@ module _ (tables : TableLaws) (joins : SlotsLaws) (knows : KnownLaws) (sims : Si
             ap is_tick (knows.edge_held l.nodes (changes l) new i m.changed (next_tick l i m) true_new
             (joins.transitive (slots_only (Edge i m.changed (next_tick l i m))) (slots_of_records (emission l i m (level_read l i m w))) new (joins.of_a_record _ _ (edge_emitted y)) said))
 
-        edges_there : (n : ℕ) → n < (stepped l i m (level_read l i m w)).changed → is_tick (new.edge i n) ≡ true
+        edges_there : (n : ℕ) → n < (member_after_quantum l i m (level_read l i m w)).changed → is_tick (new.edge i n) ≡ true
         edges_there n c = elim (cases_Bool (turns l i m (level_read l i m w))) [
           | inl y ↦
               let e = changed_yes y in
@@ -251,11 +251,11 @@ module _ (tables : TableLaws) (joins : SlotsLaws) (knows : KnownLaws) (sims : Si
           | inr x ↦ (let e = changed_no x in knows.tick_stays l.nodes (changes l) old new i n more true_new (held n (omega arith)))
         ]
 
-        silence_there : next_tick l i (stepped l i m (level_read l i m w)) ≤ new.silence i (stepped l i m (level_read l i m w)).changed
+        silence_there : next_tick l i (member_after_quantum l i m (level_read l i m w)) ≤ new.silence i (member_after_quantum l i m (level_read l i m w)).changed
         silence_there =
-            let e = knows.silence_held new i (stepped l i m (level_read l i m w)).changed (reach l i (stepped l i m (level_read l i m w)).saw)
-            (joins.transitive (slots_only (Silence i (stepped l i m (level_read l i m w)).changed (reach l i (stepped l i m (level_read l i m w)).saw))) (slots_of_records (emission l i m (level_read l i m w))) new (joins.of_a_record _ _ silence_emitted) said) in
-            let f = reach_late l s i (stepped l i m (level_read l i m w)).saw b in
+            let e = knows.silence_held new i (member_after_quantum l i m (level_read l i m w)).changed (reach l i (member_after_quantum l i m (level_read l i m w)).saw)
+            (joins.transitive (slots_only (Silence i (member_after_quantum l i m (level_read l i m w)).changed (reach l i (member_after_quantum l i m (level_read l i m w)).saw))) (slots_of_records (emission l i m (level_read l i m w))) new (joins.of_a_record _ _ silence_emitted) said) in
+            let f = reach_late l s i (member_after_quantum l i m (level_read l i m w)).saw b in
             omega arith
 
       after : Contents
@@ -277,7 +277,7 @@ module _ (tables : TableLaws) (joins : SlotsLaws) (knows : KnownLaws) (sims : Si
       held_now n c = knows.changes_held l.nodes (changes l) w i (next_tick l i m) n (sims.changes_increase l i) truth h.known (let q = h.count in omega arith)
 
       -- the member is where the one-thread simulation has it after its next quantum
-      member_next : IsMember l i (stepped l i m (level_read l i m w)) after
+      member_next : IsMember l i (member_after_quantum l i m (level_read l i m w)) after
       member_next = record {
         state = state_next ∙ ap (seen l i) (sym longer);
         inside = λ k c. inside_next k (let z = longer in omega arith);
@@ -286,12 +286,12 @@ module _ (tables : TableLaws) (joins : SlotsLaws) (knows : KnownLaws) (sims : Si
           | inr o ↦ h.read k (let z = longer in omega arith)
         ]);
         count = changed_next ∙ ap (λ u. count_below u (changes l i)) (sym due_next);
-        known = knows.horizon_reached l.nodes (changes l) after i (stepped l i m (level_read l i m w)).changed _ (sims.changes_increase l i) after_true changed_few
+        known = knows.horizon_reached l.nodes (changes l) after i (member_after_quantum l i m (level_read l i m w)).changed _ (sims.changes_increase l i) after_true changed_few
             (edges_there w after more_after said_after after_true held_now) (silence_there w after more_after said_after after_true held_now);
       }
 
       -- the same, with the slots written out
-      pub member_joined : IsMember l i (stepped l i m (level_read l i m w)) (slots_joined w (slots_of_records (emission l i m (level_read l i m w))))
+      pub member_joined : IsMember l i (member_after_quantum l i m (level_read l i m w)) (slots_joined w (slots_of_records (emission l i m (level_read l i m w))))
       unfolding after
       member_joined = member_next
 
@@ -307,12 +307,12 @@ module _ (tables : TableLaws) (joins : SlotsLaws) (knows : KnownLaws) (sims : Si
       let h = v.each i b o in
       let t = knows.true_records l.nodes (changes l) rs (emission_true l s w v.truth i m b can h) in
       let u = taking_holds l s belongs rs p v t in
-      let n : IsMember l i (stepped l i m x) (slots_of_records (rs ++ p.taken)) =
-      subst (IsMember l i (stepped l i m x)) (sym (joins.of_two_lists rs p.taken)) (member_next l s w v.truth i m b can h) in
+      let n : IsMember l i (member_after_quantum l i m x) (slots_of_records (rs ++ p.taken)) =
+      subst (IsMember l i (member_after_quantum l i m x)) (sym (joins.of_two_lists rs p.taken)) (member_next l s w v.truth i m b can h) in
       record {
         truth = u.truth;
-        each = λ j c k. put_at p.members i (stepped l i m x) (λ q. IsMember l j q (slots_of_records (rs ++ p.taken))) j
-            (λ e. subst (λ v2. IsMember l v2 (stepped l i m x) (slots_of_records (rs ++ p.taken))) (sym e) n)
+        each = λ j c k. put_at p.members i (member_after_quantum l i m x) (λ q. IsMember l j q (slots_of_records (rs ++ p.taken))) j
+            (λ e. subst (λ v2. IsMember l v2 (member_after_quantum l i m x) (slots_of_records (rs ++ p.taken))) (sym e) n)
             (λ e. u.each j c k);
       }
 
@@ -324,13 +324,13 @@ module _ (tables : TableLaws) (joins : SlotsLaws) (knows : KnownLaws) (sims : Si
       let r = steps_hold l s belongs (run_next l i x) y rest (running_holds l s belongs i x v b c.0 c.1) steps in
       (r.0, true_append l.nodes (changes l) (emission_of l x i) rest (emission_true l s (slots x) v.truth i (x.members i) b c.1 (v.each i b c.0)) r.1)
 
-  told_first : (l : Line) → IsSound l → (i : ℕ) → i < l.nodes → IsTold l i fresh (slots_of_records (firsts l (λ j. true) l.nodes))
+  told_first : (l : Line) → IsSound l → (i : ℕ) → i < l.nodes → IsTold l i fresh (slots_of_records (initial_silences l (λ j. true) l.nodes))
   told_first l s i b = record {
     edges = λ n c. absurd (omega arith);
-    silence = (let e = knows.silence_held (slots_of_records (firsts l (λ j. true) l.nodes)) i 0 (reach l i []) (joins.of_a_record (Silence i 0 (reach l i [])) (firsts l (λ j. true) l.nodes) (first_in l (λ j. true) l.nodes i b refl)) in let f = reach_late l s i [] b in omega arith);
+    silence = (let e = knows.silence_held (slots_of_records (initial_silences l (λ j. true) l.nodes)) i 0 (reach l i []) (joins.of_a_record (Silence i 0 (reach l i [])) (initial_silences l (λ j. true) l.nodes) (first_in l (λ j. true) l.nodes i b refl)) in let f = reach_late l s i [] b in omega arith);
   }
 
-  -- what was told stays
+  -- what was emitted stays
   told_above : (l : Line) (i : ℕ) (m : Member) (a b : Contents) → IsBelow a b → HoldsTrue l.nodes (changes l) b → IsTold l i m a → IsTold l i m b
   told_above l i m a b up h t = record {
     edges = λ n c. knows.tick_stays l.nodes (changes l) a b i n up h (t.edges n c);
@@ -344,7 +344,7 @@ module _ (tables : TableLaws) (joins : SlotsLaws) (knows : KnownLaws) (sims : Si
 
   told_stepped : (l : Line) → IsSound l → (w : Contents) → HoldsTrue l.nodes (changes l) w → (i : ℕ) (m : Member) → i < l.nodes → IsMember l i m w → can_run l i m w ≡ true
       → (es : List Record) → AreTrueOf l.nodes (changes l) (es ++ emission l i m (level_read l i m w)) → IsTold l i m (slots_of_records es)
-      → IsTold l i (stepped l i m (level_read l i m w)) (slots_of_records (es ++ emission l i m (level_read l i m w)))
+      → IsTold l i (member_after_quantum l i m (level_read l i m w)) (slots_of_records (es ++ emission l i m (level_read l i m w)))
   told_stepped l s w truth i m b h can es ts t =
       let rs = emission l i m (level_read l i m w) in
       let more = joins.of_a_part es (es ++ rs) (Contains-append_left es rs) in

@@ -4,8 +4,8 @@ use Rattle.wl_level.specs.declared.Level.{Level}
 use Rattle.wl_level.specs.declared.Level.TheVariants.{Recessive}
 use Rattle.wl_record_core.specs.declared.record.Record.TheVariants.{Edge, Silence}
 use Rattle.wl_plan.specs.Line.{Line}
-use Rattle.wl_group.specs.Member.{Member, fresh, stepped, emission}
-use Rattle.wl_group.specs.Party.{firsts, begun, stepping}
+use Rattle.wl_group.specs.Member.{Member, fresh, member_after_quantum, emission}
+use Rattle.wl_group.specs.Party.{initial_silences, initial_party, party_after_quantum}
 
 -- node 0 drives dominant after its second and third quantum, node 1 never
 drives : ℕ → List Level → Bool
@@ -25,7 +25,7 @@ small = record {
   stop = 10;
 }
 
-first_silences : firsts small (λ i. true) 2 ≡ Silence 0 0 0 ∷ Silence 1 0 1 ∷ []
+first_silences : initial_silences small (λ i. true) 2 ≡ Silence 0 0 0 ∷ Silence 1 0 1 ∷ []
 unfolding small
 first_silences = refl
 
@@ -42,15 +42,15 @@ second_quantum : emission small 0 once Recessive ≡ Edge 0 0 2 ∷ Silence 0 1 
 unfolding small drives once
 second_quantum = refl
 
-after_it : stepped small 0 once Recessive ≡ record { saw = Recessive ∷ Recessive ∷ []; changed = 1 }
+after_it : member_after_quantum small 0 once Recessive ≡ record { saw = Recessive ∷ Recessive ∷ []; changed = 1 }
 unfolding small drives once
 after_it = refl
 
 -- a group of node 0 alone takes what it emits itself
-its_own_records : (stepping small 0 Recessive (begun small (λ i. elim i [ zero ↦ true | suc j ↦ false ]))).taken ≡ Silence 0 0 2 ∷ Silence 0 0 0 ∷ []
+its_own_records : (party_after_quantum small 0 Recessive (initial_party small (λ i. elim i [ zero ↦ true | suc j ↦ false ]))).taken ≡ Silence 0 0 2 ∷ Silence 0 0 0 ∷ []
 unfolding small drives
 its_own_records = refl
 
-and_tells_them : (stepping small 0 Recessive (begun small (λ i. true))).told ≡ Silence 0 0 2 ∷ []
+and_tells_them : (party_after_quantum small 0 Recessive (initial_party small (λ i. true))).told ≡ Silence 0 0 2 ∷ []
 unfolding small drives
 and_tells_them = refl

@@ -11,7 +11,7 @@ use Rattle.wl_record_core.specs.declared.record.Record.{Record}
 use Rattle.wl_record_core.specs.declared.record.Record.TheVariants.{Edge, Clash, Silence}
 use Rattle.wl_record_core.specs.Limits.{most_edges}
 use Rattle.wl_record_core.specs.Truth.{IsTrueOf, AreTrueOf}
-use Rattle.wl_replica.specs.State.{State, slots_of, taken_all, Fits}
+use Rattle.wl_replica.specs.State.{State, slots_of, state_with_records, Fits}
 use Rattle.wl_replica.specs.Known.{wave_at}
 use Rattle.wl_node.specs.Reached.{quanta_of}
 use Rattle.wl_plan.specs.declared.plan.Plan.{Plan}
@@ -21,7 +21,7 @@ use Rattle.wl_plan.specs.PlanLine.{line_of, table_of}
 use Rattle.wl_plan.specs.Simulation.{level, AreInside}
 use Rattle.wl_plan.specs.Checked.{CheckedIsSound}
 use Rattle.wl_group.specs.declared.cell.Cell.{Cell}
-use Rattle.wl_group.specs.Member.{Member, next_tick, stepped, emission}
+use Rattle.wl_group.specs.Member.{Member, next_tick, member_after_quantum, emission}
 use Rattle.wl_group.specs.GroupValue.{GroupValue, IsGroupValue, quanta_at, belongs, member_after, member_at, members_now, may_run, reads_at, emission_at, run_on}
 use Rattle.wl_group.specs.Kept.{quanta_kept, ran_of, group_value, IsCell, AreCells, IsKept}
 use Rattle.wl_group.specs.Running.{IsCellOf, MaySay, quanta_to_come, quanta_left, HasRunNext}
@@ -165,8 +165,8 @@ module _ (laws : ValueLaws) (sound : CheckedIsSound) (plan : Plan) (cells : List
       module _ (may : may_run now i ≡ true) (level : Level) (read : level ≡ reads_at (group_value plan cells replica told) i) (said : List Record)
           (says : (p : Plan) (m : Member) → IsCellOf p i m cell → said ≡ emission (line_of p) i m level)
           (quanta : quanta_of new.node ≡ quanta_of cell.node + 1)
-          (after : (p : Plan) (j : ℕ) (m : Member) → IsCellOf p j m cell → IsCellOf p j (stepped (line_of p) j m level) new)
-          (replica_new : State) (told_new : List Record) (taken : replica_new ≡ taken_all replica said) (appended : told_new ≡ told ++ said) where
+          (after : (p : Plan) (j : ℕ) (m : Member) → IsCellOf p j m cell → IsCellOf p j (member_after_quantum (line_of p) j m level) new)
+          (replica_new : State) (told_new : List Record) (taken : replica_new ≡ state_with_records replica said) (appended : told_new ≡ told ++ said) where
         may_here : may_run (group_value plan cells replica told) i ≡ true
         may_here = subst (λ (v : GroupValue). may_run v i ≡ true) (sym view) may
 
@@ -179,7 +179,7 @@ module _ (laws : ValueLaws) (sound : CheckedIsSound) (plan : Plan) (cells : List
         value_runs : ◌≡◌ {A = GroupValue} (group_value plan (set cells i (Some new)) replica_new told_new) (run_on i (quanta_of cell.node) (group_value plan cells replica told))
         value_runs =
             let ran : ran_of (set cells i (Some new)) ≡ set (ran_of cells) i (Some (suc (quanta_of cell.node))) = ran_new ∙ ap (λ k. set (ran_of cells) i (Some k)) quanta_is in
-            let known : replica_new ≡ taken_all replica (emission_at (group_value plan cells replica told) i) = taken ∙ ap (taken_all replica) said_is in
+            let known : replica_new ≡ state_with_records replica (emission_at (group_value plan cells replica told) i) = taken ∙ ap (state_with_records replica) said_is in
             let more : told_new ≡ told ++ emission_at (group_value plan cells replica told) i = appended ∙ ap (λ rs. told ++ rs) said_is in
             λ d. record { plan = plan; ran = ran d; replica = known d; told = more d }
 
@@ -189,9 +189,9 @@ module _ (laws : ValueLaws) (sound : CheckedIsSound) (plan : Plan) (cells : List
         ran_on : quanta_at (run_on i (quanta_of cell.node) (group_value plan cells replica told)) i ≡ Some (suc (quanta_of cell.node))
         ran_on = get_or-set_same (ran_of cells) i (Some (suc (quanta_of cell.node))) None (some_there (ran_of cells) i (quanta_of cell.node) ran_is)
 
-        new_is : stepped (line_of plan) i (members_now (group_value plan cells replica told) i) level ≡ member_after (line_of plan) i (quanta_of new.node)
+        new_is : member_after_quantum (line_of plan) i (members_now (group_value plan cells replica told) i) level ≡ member_after (line_of plan) i (quanta_of new.node)
         new_is =
-            ap (stepped (line_of plan) i (members_now (group_value plan cells replica told) i)) read
+            ap (member_after_quantum (line_of plan) i (members_now (group_value plan cells replica told) i)) read
             ∙ (laws.steps_to (group_value plan cells replica told) kept.value i (quanta_of cell.node) ran_is may_here
             ∙ (ap (member_at (line_of plan) i) ran_on ∙ ap (member_after (line_of plan) i) (sym quanta_is)))
 

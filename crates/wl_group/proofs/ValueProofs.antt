@@ -10,7 +10,7 @@ use Rattle.std.proofs.lemmas.List.FromFn.{length-map-range_with_len, get_or-map-
 use Rattle.wl_record_core.specs.declared.record.Record.{Record}
 use Rattle.wl_record_core.specs.Truth.{AreTrueOf}
 use Rattle.wl_record_core.specs.TableLaws.{TableLaws}
-use Rattle.wl_replica.specs.State.{State, state_of, slots_of, taken_all, states_joined, Fits, IsOfRecords}
+use Rattle.wl_replica.specs.State.{State, state_of, slots_of, state_with_records, states_joined, Fits, IsOfRecords}
 use Rattle.wl_replica.specs.Slots.{Contents, slots_joined, slots_of_records, HoldsTrue}
 use Rattle.wl_replica.specs.KnownLaws.{SlotsLaws, KnownLaws}
 use Rattle.wl_replica.specs.SlotsOf.{SlotsOfStates}
@@ -22,15 +22,15 @@ use Rattle.wl_plan.specs.PlanLine.{line_of, table_of}
 use Rattle.wl_plan.specs.Simulation.{seen, AreInside}
 use Rattle.wl_plan.specs.SimulationLaws.{SimulationLaws}
 use Rattle.wl_plan.specs.Checked.{IsChecked, CheckedIsSound}
-use Rattle.wl_group.specs.Member.{Member, fresh, can_run, stepped, emission, level_read}
-use Rattle.wl_group.specs.Party.{Party, slots, firsts, begun, taking}
+use Rattle.wl_group.specs.Member.{Member, fresh, can_run, member_after_quantum, emission, level_read}
+use Rattle.wl_group.specs.Party.{Party, slots, initial_silences, initial_party, party_with}
 use Rattle.wl_group.specs.Advanced.{can_advance, emission_of, run_next, Steps}
 use Rattle.wl_group.specs.Advanced as steps_of
 use Rattle.wl_group.specs.Running.{Ran, HasRunOn}
 use Rattle.wl_group.specs.Running as runs_of
 use Rattle.wl_group.specs.Holds.{IsMember, IsGroup}
 use Rattle.wl_group.specs.GroupLaws.{GroupLaws}
-use Rattle.wl_group.specs.GroupValue.{GroupValue, IsGroupValue, Matches, quanta_at, belongs, member_after, member_at, members_now, begun_of, may_run, with_records, with_state, reads_at, emission_at, run_on}
+use Rattle.wl_group.specs.GroupValue.{GroupValue, IsGroupValue, Matches, quanta_at, belongs, member_after, member_at, members_now, initial_group, may_run, with_records, with_state, reads_at, emission_at, run_on}
 use Rattle.wl_group.specs.ValueLaws.{ValueLaws}
 use Rattle.wl_group.proofs.RunProofs.{true_fits}
 use Rattle.wl_group.proofs.CallerLemmas.{put_at, true_append, is_there}
@@ -45,31 +45,31 @@ is_some_first : (b : Bool) → is_some (first_if b) ≡ b
 is_some_first true = refl
 is_some_first false = refl
 
-begun_inside : (plan : Plan) (chosen : ℕ → Bool) (i : ℕ) → i < length plan.nodes → quanta_at (begun_of plan chosen) i ≡ first_if (chosen i)
+begun_inside : (plan : Plan) (chosen : ℕ → Bool) (i : ℕ) → i < length plan.nodes → quanta_at (initial_group plan chosen) i ≡ first_if (chosen i)
 begun_inside plan chosen i b = get_or-map-range_with_len (λ j. first_if (chosen j)) 0 (length plan.nodes) i i None b (omega arith)
 
-begun_outside : (plan : Plan) (chosen : ℕ → Bool) (i : ℕ) → length plan.nodes ≤ i → quanta_at (begun_of plan chosen) i ≡ None
+begun_outside : (plan : Plan) (chosen : ℕ → Bool) (i : ℕ) → length plan.nodes ≤ i → quanta_at (initial_group plan chosen) i ≡ None
 begun_outside plan chosen i b =
     let e = length-map-range_with_len (λ j. first_if (chosen j)) 0 (length plan.nodes) in
     get_or_past (map (λ j. first_if (chosen j)) (range_with_len 0 (length plan.nodes))) i None (omega arith)
 
-begins_at : (plan : Plan) (chosen : ℕ → Bool) → ((i : ℕ) → length plan.nodes ≤ i → chosen i ≡ false) → (i : ℕ) → belongs (begun_of plan chosen) i ≡ chosen i
+begins_at : (plan : Plan) (chosen : ℕ → Bool) → ((i : ℕ) → length plan.nodes ≤ i → chosen i ≡ false) → (i : ℕ) → belongs (initial_group plan chosen) i ≡ chosen i
 begins_at plan chosen past i = elim (cases_lt i (length plan.nodes)) [
   | inl inside ↦ ap is_some (begun_inside plan chosen i inside) ∙ is_some_first (chosen i)
   | inr outside ↦ ap is_some (begun_outside plan chosen i outside) ∙ sym (past i outside)
 ]
 
-begins_with : (plan : Plan) (chosen : ℕ → Bool) → ((i : ℕ) → length plan.nodes ≤ i → chosen i ≡ false) → belongs (begun_of plan chosen) ≡ chosen
+begins_with : (plan : Plan) (chosen : ℕ → Bool) → ((i : ℕ) → length plan.nodes ≤ i → chosen i ≡ false) → belongs (initial_group plan chosen) ≡ chosen
 begins_with plan chosen past = λ k i. begins_at plan chosen past i k
 
 -- who belongs to a group that begins was chosen, and is a node
-was_chosen : (plan : Plan) (chosen : ℕ → Bool) (i : ℕ) → belongs (begun_of plan chosen) i ≡ true → (i < length plan.nodes) × (chosen i ≡ true)
+was_chosen : (plan : Plan) (chosen : ℕ → Bool) (i : ℕ) → belongs (initial_group plan chosen) i ≡ true → (i < length plan.nodes) × (chosen i ≡ true)
 was_chosen plan chosen i h = elim (cases_lt i (length plan.nodes)) [
   | inl inside ↦ (inside, sym (is_some_first (chosen i)) ∙ (sym (ap is_some (begun_inside plan chosen i inside)) ∙ h))
   | inr outside ↦ absurd (false≢true (sym (ap is_some (begun_outside plan chosen i outside)) ∙ h))
 ]
 
-at_first : (plan : Plan) (chosen : ℕ → Bool) (i : ℕ) → belongs (begun_of plan chosen) i ≡ true → quanta_at (begun_of plan chosen) i ≡ Some 0
+at_first : (plan : Plan) (chosen : ℕ → Bool) (i : ℕ) → belongs (initial_group plan chosen) i ≡ true → quanta_at (initial_group plan chosen) i ≡ Some 0
 at_first plan chosen i h =
     let c = was_chosen plan chosen i h in
     begun_inside plan chosen i c.0 ∙ ap first_if c.1
@@ -119,17 +119,17 @@ module _ (tables : TableLaws) (joins : SlotsLaws) (knows : KnownLaws) (sims : Si
   fresh_is plan c i b =
       same_member fresh (member_after (line_of plan) i 0) (sym (nothing_seen (line_of plan) i)) (sym (sims.none_at_first (line_of plan) i (sound plan c).causal b))
 
-  begun_member : (plan : Plan) → IsChecked plan → (chosen : ℕ → Bool) (i : ℕ) → belongs (begun_of plan chosen) i ≡ true → fresh ≡ members_now (begun_of plan chosen) i
+  begun_member : (plan : Plan) → IsChecked plan → (chosen : ℕ → Bool) (i : ℕ) → belongs (initial_group plan chosen) i ≡ true → fresh ≡ members_now (initial_group plan chosen) i
   begun_member plan c chosen i h =
       fresh_is plan c i (was_chosen plan chosen i h).0 ∙ sym (ap (member_at (line_of plan) i) (at_first plan chosen i h))
 
-  begins_as : (plan : Plan) → IsChecked plan → (chosen : ℕ → Bool) → Matches (begun (line_of plan) chosen) (begun_of plan chosen)
+  begins_as : (plan : Plan) → IsChecked plan → (chosen : ℕ → Bool) → Matches (initial_party (line_of plan) chosen) (initial_group plan chosen)
   begins_as plan c chosen = record { replica = refl; members = λ i h. begun_member plan c chosen i h; told = refl }
 
-  begun_slots : (plan : Plan) (chosen : ℕ → Bool) → slots_of (begun_of plan chosen).replica ≡ slots (begun (line_of plan) chosen)
-  begun_slots plan chosen = states.records (length plan.nodes) (firsts (line_of plan) chosen (length plan.nodes))
+  begun_slots : (plan : Plan) (chosen : ℕ → Bool) → slots_of (initial_group plan chosen).replica ≡ slots (initial_party (line_of plan) chosen)
+  begun_slots plan chosen = states.records (length plan.nodes) (initial_silences (line_of plan) chosen (length plan.nodes))
 
-  begins : (plan : Plan) → IsChecked plan → (chosen : ℕ → Bool) → IsGroupValue (begun_of plan chosen)
+  begins : (plan : Plan) → IsChecked plan → (chosen : ℕ → Bool) → IsGroupValue (initial_group plan chosen)
   begins plan c chosen =
       let h = groups.begun_holds (line_of plan) (sound plan c) chosen in
       record {
@@ -137,13 +137,13 @@ module _ (tables : TableLaws) (joins : SlotsLaws) (knows : KnownLaws) (sims : Si
         one_each = length-map-range_with_len (λ j. first_if (chosen j)) 0 (length plan.nodes);
         of_all = refl;
         of_records = (
-          firsts (line_of plan) chosen (length plan.nodes),
-          true_fits (length plan.nodes) (table_of plan) (firsts (line_of plan) chosen (length plan.nodes)) (groups.firsts_true (line_of plan) (sound plan c) chosen),
+          initial_silences (line_of plan) chosen (length plan.nodes),
+          true_fits (length plan.nodes) (table_of plan) (initial_silences (line_of plan) chosen (length plan.nodes)) (groups.firsts_true (line_of plan) (sound plan c) chosen),
           refl,
         );
-        holds = subst (IsGroup (line_of plan) (belongs (begun_of plan chosen)) (members_now (begun_of plan chosen))) (sym (begun_slots plan chosen)) (record {
+        holds = subst (IsGroup (line_of plan) (belongs (initial_group plan chosen)) (members_now (initial_group plan chosen))) (sym (begun_slots plan chosen)) (record {
           truth = h.truth;
-          each = λ i b o. subst (λ m. IsMember (line_of plan) i m (slots (begun (line_of plan) chosen))) (begun_member plan c chosen i o)
+          each = λ i b o. subst (λ m. IsMember (line_of plan) i m (slots (initial_party (line_of plan) chosen))) (begun_member plan c chosen i o)
               (h.each i b (was_chosen plan chosen i o).1);
         });
         told_true = tt;
@@ -198,7 +198,7 @@ module _ (tables : TableLaws) (joins : SlotsLaws) (knows : KnownLaws) (sims : Si
     told_true = v.told_true;
   }
 
-  joins_as : (g : GroupValue) (p : Party) (s : State) (rs : List Record) → Matches p g → s ≡ state_of (length g.plan.nodes) rs → Matches (taking rs p) (with_state s g)
+  joins_as : (g : GroupValue) (p : Party) (s : State) (rs : List Record) → Matches p g → s ≡ state_of (length g.plan.nodes) rs → Matches (party_with rs p) (with_state s g)
   joins_as g p s rs h e =
       let n = length g.plan.nodes in
       record {
@@ -219,7 +219,7 @@ module _ (tables : TableLaws) (joins : SlotsLaws) (knows : KnownLaws) (sims : Si
       (rs, subst (λ n. All (Fits n) rs) (sym v.of_all) (true_fits (length g.plan.nodes) (table_of g.plan) rs t), refl)
       (records_true (length g.plan.nodes) (table_of g.plan) g.replica.nodes rs t)
 
-  takes_as : (g : GroupValue) (p : Party) (rs : List Record) → Matches p g → Matches (taking rs p) (with_records rs g)
+  takes_as : (g : GroupValue) (p : Party) (rs : List Record) → Matches p g → Matches (party_with rs p) (with_records rs g)
   takes_as g p rs h = joins_as g p (state_of g.replica.nodes rs) rs h (ap (λ (x : State). state_of x.nodes rs) h.replica)
 
   -- ---- beside a party
@@ -251,12 +251,12 @@ module _ (tables : TableLaws) (joins : SlotsLaws) (knows : KnownLaws) (sims : Si
     said_true = groups.emission_true (line_of g.plan) (sound g.plan v.checked) (slots_of g.replica) v.holds.truth i (members_now g i) (is_node g v i k e) (own g v i k e) can
 
     next : Member
-    next = stepped (line_of g.plan) i (members_now g i) (reads_at g i)
+    next = member_after_quantum (line_of g.plan) i (members_now g i) (reads_at g i)
 
     new_slots : Contents
     new_slots = slots_joined (slots_of g.replica) (slots_of_records (emission_at g i))
 
-    slots_are : slots_of (taken_all g.replica (emission_at g i)) ≡ new_slots
+    slots_are : slots_of (state_with_records g.replica (emission_at g i)) ≡ new_slots
     unfolding new_slots
     slots_are =
         states.both g.replica (state_of g.replica.nodes (emission_at g i))
@@ -281,7 +281,7 @@ module _ (tables : TableLaws) (joins : SlotsLaws) (knows : KnownLaws) (sims : Si
         ∙ (ap (member_after (line_of g.plan) i) next_length
         ∙ sym (ap (member_at (line_of g.plan) i) (on_here g i k e)))
 
-    steps_to : stepped (line_of g.plan) i (members_now g i) (reads_at g i) ≡ members_now (run_on i k g) i
+    steps_to : member_after_quantum (line_of g.plan) i (members_now g i) (reads_at g i) ≡ members_now (run_on i k g) i
     unfolding next
     steps_to = next_is
 
@@ -317,9 +317,9 @@ module _ (tables : TableLaws) (joins : SlotsLaws) (knows : KnownLaws) (sims : Si
         let rs : emission_at g i ≡ emission_of l p i = emits_as g p i h (is_in g v i k e) in
         record {
           replica = (takes_as g p (emission_at g i) h).replica ∙ ap (λ qs. state_of (length g.plan.nodes) (qs ++ p.taken)) rs;
-          members = λ j o. put_at p.members i (stepped l i m (level_read l i m (slots p))) (λ x. x ≡ members_now (run_on i k g) j) j
-              (λ same. ap (λ (x : Member). stepped l i x (level_read l i x (slots p))) (h.members i (is_in g v i k e))
-              ∙ (ap (λ w. stepped l i (members_now g i) (level_read l i (members_now g i) w)) (sym (same_slots g p i h))
+          members = λ j o. put_at p.members i (member_after_quantum l i m (level_read l i m (slots p))) (λ x. x ≡ members_now (run_on i k g) j) j
+              (λ same. ap (λ (x : Member). member_after_quantum l i x (level_read l i x (slots p))) (h.members i (is_in g v i k e))
+              ∙ (ap (λ w. member_after_quantum l i (members_now g i) (level_read l i (members_now g i) w)) (sym (same_slots g p i h))
               ∙ (next_is ∙ ap (members_now (run_on i k g)) (sym same))))
               (λ other. h.members j (sym (runs_at g i k e j) ∙ o) ∙ sym (ap (member_at l j) (on_else g i k j other)));
           told = ap (λ xs. xs ++ emission_at g i) h.told ∙ ap (λ qs. p.told ++ qs) rs;

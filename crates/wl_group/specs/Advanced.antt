@@ -4,7 +4,7 @@ use Rattle.std.specs.Prelude.{◌≡◌, ◌⊎◌, ℕ, ◌<◌, Bool, true, no
 use Rattle.wl_record_core.specs.declared.record.Record.{Record}
 use Rattle.wl_plan.specs.Line.{Line}
 use Rattle.wl_group.specs.Member.{next_tick, can_run, emission, level_read}
-use Rattle.wl_group.specs.Party.{Party, slots, stepping}
+use Rattle.wl_group.specs.Party.{Party, slots, party_after_quantum}
 
 -- the reply: the node ran and this was emitted; it must wait, or is no member; it has come to the end
 pub data Reply : Type 0 where
@@ -30,7 +30,7 @@ reply_of l belongs p i =
 
 -- the group after that quantum
 abbrev pub run_next : Line → ℕ → Party → Party
-run_next l i p = stepping l i (level_read l i (p.members i) (slots p)) p
+run_next l i p = party_after_quantum l i (level_read l i (p.members i) (slots p)) p
 
 -- the group after an advance: as it was, where the node may not run
 abbrev pub advanced : Line → (ℕ → Bool) → ℕ → Party → Party

@@ -9,8 +9,8 @@ use Rattle.wl_replica.specs.Known.{horizon, wave_at}
 use Rattle.wl_plan.specs.Line.{Line, found}
 use Rattle.wl_plan.specs.Simulation.{history, level, changes}
 use Rattle.wl_plan.specs.Sound.{IsSound}
-use Rattle.wl_group.specs.Member.{Member, fresh, next_tick, can_run, stepped, emission, level_read}
-use Rattle.wl_group.specs.Party.{Party, slots, firsts, begun, taking}
+use Rattle.wl_group.specs.Member.{Member, fresh, next_tick, can_run, member_after_quantum, emission, level_read}
+use Rattle.wl_group.specs.Party.{Party, slots, initial_silences, initial_party, party_with}
 use Rattle.wl_group.specs.Advanced.{run_next, Steps}
 use Rattle.wl_group.specs.Holds.{IsMember, IsGroup, IsTold}
 
@@ -22,16 +22,16 @@ WaveIsLevel = (l : Line) → IsSound l → (w : Contents) → HoldsTrue l.nodes 
 pub record GroupLaws : Type 0 where
   pub wave_is_level : WaveIsLevel
   -- a node's first silences are true, and so are the records of each advance
-  pub firsts_true : (l : Line) → IsSound l → (test : ℕ → Bool) → AreTrueOf l.nodes (changes l) (firsts l test l.nodes)
+  pub firsts_true : (l : Line) → IsSound l → (test : ℕ → Bool) → AreTrueOf l.nodes (changes l) (initial_silences l test l.nodes)
   pub emission_true : (l : Line) → IsSound l → (w : Contents) → HoldsTrue l.nodes (changes l) w → (i : ℕ) (m : Member) → i < l.nodes → IsMember l i m w
       → can_run l i m w ≡ true → AreTrueOf l.nodes (changes l) (emission l i m (level_read l i m w))
   -- a quantum that may run reads what the line has there
   pub read_is_found : (l : Line) → IsSound l → (w : Contents) → HoldsTrue l.nodes (changes l) w → (i : ℕ) (m : Member) → i < l.nodes
       → can_run l i m w ≡ true → level_read l i m w ≡ level_of (found l (level l) i (next_tick l i m))
   -- a group begins as one, and stays one where it takes what is true and where it advances
-  pub begun_holds : (l : Line) → IsSound l → (belongs : ℕ → Bool) → IsGroup l belongs (begun l belongs).members (slots (begun l belongs))
+  pub begun_holds : (l : Line) → IsSound l → (belongs : ℕ → Bool) → IsGroup l belongs (initial_party l belongs).members (slots (initial_party l belongs))
   pub taking_holds : (l : Line) → IsSound l → (belongs : ℕ → Bool) (rs : List Record) (p : Party) → IsGroup l belongs p.members (slots p)
-      → HoldsTrue l.nodes (changes l) (slots_of_records rs) → IsGroup l belongs (taking rs p).members (slots (taking rs p))
+      → HoldsTrue l.nodes (changes l) (slots_of_records rs) → IsGroup l belongs (party_with rs p).members (slots (party_with rs p))
   pub running_holds : (l : Line) → IsSound l → (belongs : ℕ → Bool) (i : ℕ) (p : Party) → IsGroup l belongs p.members (slots p) → i < l.nodes → belongs i ≡ true
       → can_run l i (p.members i) (slots p) ≡ true
       → IsGroup l belongs (run_next l i p).members (slots (run_next l i p))
@@ -41,14 +41,14 @@ pub record GroupLaws : Type 0 where
   pub member_history : (l : Line) → IsSound l → (i : ℕ) (m : Member) (w : Contents) → i < l.nodes → IsMember l i m w → m.saw ≡ (history l (next_tick l i m)).seen i
   pub member_ended : (l : Line) → IsSound l → (i : ℕ) (m : Member) (w : Contents) → i < l.nodes → IsMember l i m w → l.stop ≤ next_tick l i m
       → (m.saw ≡ (history l l.stop).seen i) × (m.changed ≡ length (changes l i))
-  -- what was told of a member: its first silence at the start, no less with more records, all with those of its next quantum
-  pub told_first : (l : Line) → IsSound l → (i : ℕ) → i < l.nodes → IsTold l i fresh (slots_of_records (firsts l (λ j. true) l.nodes))
+  -- what was emitted of a member: its first silence at the start, no less with more records, all with those of its next quantum
+  pub told_first : (l : Line) → IsSound l → (i : ℕ) → i < l.nodes → IsTold l i fresh (slots_of_records (initial_silences l (λ j. true) l.nodes))
   pub told_more : (l : Line) → (i : ℕ) (m : Member) (es rs : List Record) → AreTrueOf l.nodes (changes l) (es ++ rs)
       → IsTold l i m (slots_of_records es) → IsTold l i m (slots_of_records (es ++ rs))
   pub told_stepped : (l : Line) → IsSound l → (w : Contents) → HoldsTrue l.nodes (changes l) w → (i : ℕ) (m : Member) → i < l.nodes → IsMember l i m w → can_run l i m w ≡ true
       → (es : List Record) → AreTrueOf l.nodes (changes l) (es ++ emission l i m (level_read l i m w)) → IsTold l i m (slots_of_records es)
-      → IsTold l i (stepped l i m (level_read l i m w)) (slots_of_records (es ++ emission l i m (level_read l i m w)))
-  -- who has taken all that was told knows each member up to its next quantum
+      → IsTold l i (member_after_quantum l i m (level_read l i m w)) (slots_of_records (es ++ emission l i m (level_read l i m w)))
+  -- who has taken all that was emitted knows each member up to its next quantum
   pub told_known : (l : Line) → IsSound l → (i : ℕ) (m : Member) (w : Contents) → i < l.nodes → IsMember l i m w → (es taken : List Record)
       → HoldsTrue l.nodes (changes l) (slots_of_records taken) → ((r : Record) → Contains es r → Contains taken r)
       → IsTold l i m (slots_of_records es) → next_tick l i m ≤ horizon (slots_of_records taken) i

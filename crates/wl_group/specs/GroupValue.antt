@@ -5,14 +5,14 @@ use Rattle.wl_level.specs.declared.Level.{Level}
 use Rattle.std.specs.List.{list_any, range_with_len}
 use Rattle.wl_record_core.specs.declared.record.Record.{Record}
 use Rattle.wl_record_core.specs.Truth.{count_below, AreTrueOf}
-use Rattle.wl_replica.specs.State.{State, state_of, slots_of, taken_all, states_joined, IsOfRecords}
+use Rattle.wl_replica.specs.State.{State, state_of, slots_of, state_with_records, states_joined, IsOfRecords}
 use Rattle.wl_plan.specs.declared.plan.Plan.{Plan}
 use Rattle.wl_plan.specs.Line.{Line}
 use Rattle.wl_plan.specs.PlanLine.{line_of, table_of}
 use Rattle.wl_plan.specs.Simulation.{seen, changes}
 use Rattle.wl_plan.specs.Checked.{IsChecked}
 use Rattle.wl_group.specs.Member.{Member, fresh, next_tick, can_run, emission, level_read}
-use Rattle.wl_group.specs.Party.{Party, firsts}
+use Rattle.wl_group.specs.Party.{Party, initial_silences}
 use Rattle.wl_group.specs.Holds.{IsGroup}
 
 pub record GroupValue : Type 0 where
@@ -45,7 +45,7 @@ abbrev pub members_now : GroupValue → ℕ → Member
 members_now g i = member_at (line_of g.plan) i (quanta_at g i)
 
 -- What holds of every group: it knows what some records say, all of it is true of its plan, each member is where the simulation has it, by quanta at which
--- the line at its place was known, and all that it told is true.
+-- the line at its place was known, and all that it emitted is true.
 pub record IsGroupValue (g : GroupValue) : Type 0 where
   pub checked : IsChecked g.plan
   pub one_each : length g.ran ≡ length g.plan.nodes
@@ -65,11 +65,11 @@ abbrev pub names : List ℕ → ℕ → Bool
 names members i = list_any (λ m. m == i) members
 
 -- a group that begins, or begins again
-abbrev pub begun_of : Plan → (ℕ → Bool) → GroupValue
-begun_of plan chosen = record {
+abbrev pub initial_group : Plan → (ℕ → Bool) → GroupValue
+initial_group plan chosen = record {
   plan = plan;
   ran = map (λ i. if chosen i then Some 0 else None) (range_with_len 0 (length plan.nodes));
-  replica = state_of (length plan.nodes) (firsts (line_of plan) chosen (length plan.nodes));
+  replica = state_of (length plan.nodes) (initial_silences (line_of plan) chosen (length plan.nodes));
   told = [];
 }
 
@@ -83,7 +83,7 @@ has_ended g i = belongs g i && nat_le g.plan.end (next_tick (line_of g.plan) i (
 
 -- the group with these records taken, and with what another knows
 abbrev pub with_records : List Record → GroupValue → GroupValue
-with_records rs g = record { plan = g.plan; ran = g.ran; replica = taken_all g.replica rs; told = g.told }
+with_records rs g = record { plan = g.plan; ran = g.ran; replica = state_with_records g.replica rs; told = g.told }
 
 abbrev pub with_state : State → GroupValue → GroupValue
 with_state s g = record { plan = g.plan; ran = g.ran; replica = states_joined g.replica s; told = g.told }
@@ -102,6 +102,6 @@ abbrev pub run_on : ℕ → ℕ → GroupValue → GroupValue
 run_on i k g = record {
   plan = g.plan;
   ran = slice_set g.ran i (Some (suc k));
-  replica = taken_all g.replica (emission_at g i);
+  replica = state_with_records g.replica (emission_at g i);
   told = g.told ++ emission_at g i;
 }

@@ -36,8 +36,8 @@ abbrev pub turns : Line → ℕ → Member → Level → Bool
 turns l i m level = differs (l.drives i (m.saw ++ level ∷ [])) (l.drives i m.saw)
 
 -- after the quantum that read this level
-abbrev pub stepped : Line → ℕ → Member → Level → Member
-stepped l i m level =
+abbrev pub member_after_quantum : Line → ℕ → Member → Level → Member
+member_after_quantum l i m level =
     record {
       saw = m.saw ++ level ∷ [];
       changed = if turns l i m level then suc m.changed else m.changed;
@@ -49,4 +49,4 @@ edge_said l i m level = if turns l i m level then Edge i m.changed (next_tick l 
 
 -- what it says then: that edge, and a silence as far as its drive is sure to stay
 abbrev pub emission : Line → ℕ → Member → Level → List Record
-emission l i m level = edge_said l i m level ++ Silence i (stepped l i m level).changed (reach l i (stepped l i m level).saw) ∷ []
+emission l i m level = edge_said l i m level ++ Silence i (member_after_quantum l i m level).changed (reach l i (member_after_quantum l i m level).saw) ∷ []

@@ -11,7 +11,7 @@ use Rattle.wl_plan.specs.declared.plan.Plan.{Plan}
 use Rattle.wl_plan.specs.Limits.{most_quanta}
 use Rattle.wl_plan.specs.PlanLine.{setup_at, line_of, table_of}
 use Rattle.wl_group.specs.declared.cell.Cell.{Cell}
-use Rattle.wl_group.specs.Member.{Member, next_tick, can_run, stepped, emission}
+use Rattle.wl_group.specs.Member.{Member, next_tick, can_run, member_after_quantum, emission}
 use Rattle.wl_group.specs.Party.{Party}
 use Rattle.wl_group.specs.Advanced.{Reply, emitted, blocked, ended, emission_of, run_next}
 use Rattle.wl_group.specs.GroupValue.{GroupValue, IsGroupValue, Matches, quanta_at, belongs, members_now, may_run, emission_at, run_on}
@@ -24,7 +24,7 @@ pub record IsCellOf (plan : Plan) (i : ℕ) (m : Member) (cell : Cell) : Type 0 
 
 -- One cell and a later one: it has run the next quantum, at which it read this level, or none; and what node i said then. Of every plan and member.
 abbrev pub StepsCell : Level → Cell → Cell → Type 0
-StepsCell level old new = (plan : Plan) (i : ℕ) (m : Member) → IsCellOf plan i m old → IsCellOf plan i (stepped (line_of plan) i m level) new
+StepsCell level old new = (plan : Plan) (i : ℕ) (m : Member) → IsCellOf plan i m old → IsCellOf plan i (member_after_quantum (line_of plan) i m level) new
 
 abbrev pub KeepsCell : Cell → Cell → Type 0
 KeepsCell old new = (plan : Plan) (i : ℕ) (m : Member) → IsCellOf plan i m old → IsCellOf plan i m new
@@ -82,7 +82,7 @@ pub data Ran : GroupValue → List Record → GroupValue → Type 0 where
   none : {g : GroupValue} → Ran g [] g
   more : {g h : GroupValue} {rs : List Record} (i k : ℕ) → quanta_at g i ≡ Some k → may_run g i ≡ true → Ran (run_on i k g) rs h → Ran g (emission_at g i ++ rs) h
 
--- What such a run leaves: a group of the same plan and members, which has told what it had told and these records, all of them true.
+-- What such a run leaves: a group of the same plan and members, which has emitted what it had emitted and these records, all of them true.
 pub record HasRunOn (old new : GroupValue) (rs : List Record) : Type 0 where
   pub value : IsGroupValue new
   pub plan : new.plan ≡ old.plan

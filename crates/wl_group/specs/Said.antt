@@ -7,7 +7,7 @@ use Rattle.wl_replica.specs.State.{State, state_of}
 use Rattle.wl_plan.specs.PlanLine.{line_of}
 use Rattle.wl_group.specs.Advanced.{Reply, emitted, blocked, ended, HasAdvanced}
 use Rattle.wl_group.specs.GroupValue.{GroupValue, Matches, belongs}
-use Rattle.wl_group.specs.Party.{Party, taking}
+use Rattle.wl_group.specs.Party.{Party, party_with}
 
 abbrev pub said : Advance → Reply
 said (answers.Emitted records) = emitted records.items
@@ -21,4 +21,4 @@ HasAnswered i old new a = HasAdvanced Matches (line_of old.plan) (belongs old) i
 -- what knew this and was joined in: every party that the group was has taken the records of it
 abbrev pub HasJoined : State → GroupValue → GroupValue → Type 0
 HasJoined other old new =
-    (p : Party) (rs : List Record) → Matches p old → other ≡ state_of (length old.plan.nodes) rs → Matches (taking rs p) new
+    (p : Party) (rs : List Record) → Matches p old → other ≡ state_of (length old.plan.nodes) rs → Matches (party_with rs p) new

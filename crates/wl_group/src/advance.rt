@@ -5,7 +5,7 @@ ghost use Rattle.wl_level.specs.Levels.{level_of};
 ghost use Rattle.wl_topology.specs.Delays.{delay_of};
 ghost use Rattle.wl_replica.specs.Known.{place_horizon, wave_at};
 ghost use Rattle.wl_record_core.specs.Limits.{most_edges};
-ghost use Rattle.wl_replica.specs.State.{slots_of, taken_all};
+ghost use Rattle.wl_replica.specs.State.{slots_of, state_with_records};
 ghost use Rattle.wl_node.specs.Reached.{quanta_of};
 ghost use Rattle.wl_plan.specs.Limits.{most_quanta};
 ghost use Rattle.wl_plan.specs.declared.plan.Plan.{Plan as GivenPlan};
@@ -130,11 +130,11 @@ fn level_at(plan: &Plan, replica: &Replica, i: u8, tick: u64) -> Level
 }
 
 /// Runs a member's next quantum, at which it reads this level. The replica takes what is emitted
-/// then, and it is appended to what was told.
+/// then, and it is appended to what was emitted.
 ///
 /// A quantum that was run can't be taken back, and what it emits is known only then. So all growth
 /// comes first: the replica makes room in each slot of which the member may say something. Refused
-/// for want of memory, all is as it was.
+/// when out of memory, all is as it was.
 fn run_cell(
     alloc: Global,
     cell: &mut Cell,
@@ -149,7 +149,7 @@ fn run_cell(
     ensures after { OnOk result (StepsCell level cell.old cell.new) }
     ensures quanta { OnOk result (quanta_of cell.new.node ≡ quanta_of cell.old.node + 1) }
     ensures emits { IfOk result (λ e. SaysOf i level cell.old e.items) }
-    ensures taken { IfOk result (λ e. replica.new ≡ taken_all replica.old e.items) }
+    ensures taken { IfOk result (λ e. replica.new ≡ state_with_records replica.old e.items) }
     ensures told { IfOk result (λ e. told.new.items ≡ told.old.items ++ e.items) }
     ensures stays { OnErr result (KeepsCell cell.old cell.new) }
     ensures same_quanta { OnErr result (quanta_of cell.new.node ≡ quanta_of cell.old.node) }
@@ -165,7 +165,7 @@ fn run_cell(
     Ok(emission)
 }
 
-/// Moves what a replica knows into one that has room in these slots. Refused for want of memory, the
+/// Moves what a replica knows into one that has room in these slots. Refused when out of memory, the
 /// replica is as it was.
 fn prepare(
     alloc: Global,

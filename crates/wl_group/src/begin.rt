@@ -6,7 +6,7 @@ ghost use Rattle.wl_replica.specs.State.{state_of};
 ghost use Rattle.wl_plan.specs.Line.{reach};
 ghost use Rattle.wl_plan.specs.PlanLine.{line_of, IsTrueOfPlan};
 ghost use Rattle.wl_plan.specs.Checked.{IsChecked};
-ghost use Rattle.wl_group.specs.GroupValue.{names, begun_of};
+ghost use Rattle.wl_group.specs.GroupValue.{names, initial_group};
 ghost use Rattle.wl_group.specs.Kept.{quanta_kept, ran_of, IsCell, AreCells};
 ghost use Rattle.wl_group.specs.declared.cell.Cell.{Cell as KeptCell};
 ghost use Rattle.wl_group.specs.Chosen.{is_chosen};
@@ -48,7 +48,7 @@ pub(crate) fn fresh_cells(
     chosen: &Chosen,
 ) -> Result<Vec<Option<Cell>>, AllocError>
     requires { IsChecked plan.now }
-    ensures ran { IfOk result (λ cells. ran_of cells.items ≡ (begun_of plan.now (is_chosen chosen.now)).ran) }
+    ensures ran { IfOk result (λ cells. ran_of cells.items ≡ (initial_group plan.now (is_chosen chosen.now)).ran) }
     ensures cells { IfOk result (λ cells. AreCells plan.now cells.items) }
 {
     let mut cells = Vec::new(alloc);
@@ -89,7 +89,7 @@ pub(crate) fn first_replica(
     chosen: &Chosen,
 ) -> Result<Replica, AllocError>
     requires { IsChecked plan.now }
-    ensures { IfOk result (λ replica. replica ≡ (begun_of plan.now (is_chosen chosen.now)).replica) }
+    ensures { IfOk result (λ replica. replica ≡ (initial_group plan.now (is_chosen chosen.now)).replica) }
 {
     let mut replica = Replica::new(alloc, plan.topology.nodes())?;
     for i in 0..plan.topology.nodes() {

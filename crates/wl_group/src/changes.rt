@@ -19,7 +19,7 @@ impl Group {
     ghost use Rattle.wl_group.specs.GroupValue.{belongs, members_now, has_ended};
 
     /// The ticks, in order, at which a member's drive changes in the one-thread simulation before its
-    /// next quantum; at the end these are all that it has. Refused for want of memory alone.
+    /// next quantum; at the end these are all that it has. Refused only when out of memory.
     pub fn changes(&self, alloc: Global, node: u8) -> Result<Listed<u64>, AllocError>
         requires { belongs self.now node ≡ true }
         ensures so_far { IfOk result (λ list. list

@@ -49,20 +49,20 @@ impl Group {
     ghost use Rattle.wl_node.specs.Reached.{IsNode, node_setup, quanta_of};
     ghost use Rattle.wl_plan.specs.Checked.{IsChecked};
     ghost use Rattle.wl_plan.specs.PlanLine.{setup_at, line_of, table_of, IsTrueOfPlan};
-    ghost use Rattle.wl_group.specs.Party.{Party, begun, taking};
+    ghost use Rattle.wl_group.specs.Party.{Party, initial_party, party_with};
     ghost use Rattle.wl_group.specs.Member.{next_tick};
     ghost use Rattle.wl_group.specs.Chosen.{is_chosen};
     ghost use Rattle.wl_group.specs.Said.{HasJoined};
-    ghost use Rattle.wl_group.specs.GroupValue.{IsGroupValue, Matches, belongs, quanta_at, members_now, names, begun_of, may_run, has_ended, with_records, with_state};
+    ghost use Rattle.wl_group.specs.GroupValue.{IsGroupValue, Matches, belongs, quanta_at, members_now, names, initial_group, may_run, has_ended, with_records, with_state};
 
     /// A group of these nodes of a plan that passed its check, before their first quanta. It knows no
     /// more than that each of them keeps its first drive up to its first quantum. A number that comes
-    /// twice counts once. Refused for want of memory alone.
+    /// twice counts once. Refused only when out of memory.
     pub fn new(alloc: Global, plan: &Plan, members: &[u8]) -> Result<Group, AllocError>
         requires checked { IsChecked plan.now }
         requires nodes { All (λ m. m < length plan.now.nodes) members.now }
-        ensures value { IfOk result (λ group. group ≡ begun_of plan.now (names members.now)) }
-        ensures begun { IfOk result (λ group. Matches (begun (line_of plan.now) (names members.now)) group) }
+        ensures value { IfOk result (λ group. group ≡ initial_group plan.now (names members.now)) }
+        ensures begun { IfOk result (λ group. Matches (initial_party (line_of plan.now) (names members.now)) group) }
         ensures plan { IfOk result (λ group. group.plan ≡ plan.now) }
         ensures members { IfOk result (λ group. belongs group ≡ names members.now) }
     {
@@ -80,10 +80,10 @@ impl Group {
     }
 
     /// Begins again: fresh nodes, and an empty replica that has taken the members' first silences.
-    /// Refused for want of memory, the group is as it was.
+    /// Refused when out of memory, the group is as it was.
     pub fn restart(&mut self) -> Result<(), AllocError>
-        ensures ok { OnOk result (self.new ≡ begun_of self.old.plan (belongs self.old)) }
-        ensures begun { OnOk result (Matches (begun (line_of self.old.plan) (belongs self.old)) self.new) }
+        ensures ok { OnOk result (self.new ≡ initial_group self.old.plan (belongs self.old)) }
+        ensures begun { OnOk result (Matches (initial_party (line_of self.old.plan) (belongs self.old)) self.new) }
         ensures members { belongs self.new ≡ belongs self.old }
         ensures err { OnErr result (self.new ≡ self.old) }
     {
@@ -97,11 +97,11 @@ impl Group {
         Ok(())
     }
 
-    /// Takes a record that is true of the plan, as what its groups emit is. Refused for want of memory, the group is as it was.
+    /// Takes a record that is true of the plan, as what its groups emit is. Refused when out of memory, the group is as it was.
     pub fn take(&mut self, told: Record) -> Result<(), AllocError>
         requires { IsTrueOfPlan self.old.plan told }
         ensures ok { OnOk result (self.new ≡ with_records (told ∷ []) self.old) }
-        ensures after { OnOk result ((p : Party) → Matches p self.old → Matches (taking (told ∷ []) p) self.new) }
+        ensures after { OnOk result ((p : Party) → Matches p self.old → Matches (party_with (told ∷ []) p) self.new) }
         ensures err { OnErr result (self.new ≡ self.old) }
     {
         value_laws();
@@ -110,7 +110,7 @@ impl Group {
     }
 
     /// Takes all that another replica of the plan's nodes knows, where that is true of the plan.
-    /// Refused for want of memory, the group is as it was.
+    /// Refused when out of memory, the group is as it was.
     pub fn join(&mut self, other: &Replica) -> Result<(), AllocError>
         requires nodes { other.now.nodes ≡ length self.old.plan.nodes }
         requires truth { HoldsTrue (length self.old.plan.nodes) (table_of self.old.plan) (slots_of other.now) }

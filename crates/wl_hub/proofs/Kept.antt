@@ -87,7 +87,7 @@ module _ {T J : Type 0} (kind_of : List (ℕ × ℕ) → Kind J) (laws : (shape 
   abbrev pub Rule : State (Unit {0}) (View T) → Type 0
   Rule s = Holds (kind_of shape) (tr name) name shape count s
 
-  -- what a pass gave and was told of is true of the name that it has
+  -- what a pass gave and learned of is true of the name that it has
   all_true : (v : View T) → ((n : T) → v.name ≡ Some n → (n ≡ name) × (v.shape ≡ shape)) → All (tr name) v.given → All (tr name) v.told → AllTrue tr v
   all_true v named given told n is = subst (λ (m : T). All (tr m) (v.given ++ v.told)) (sym (named n is).0) (All-append (tr name) v.given v.told given told)
 

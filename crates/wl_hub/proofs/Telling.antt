@@ -1,4 +1,4 @@
--- What the word of a slot tells: a record that is true stands behind it.
+-- What the word of a slot tells: it comes from a record that is true.
 use Rattle.std.proofs.Common.{◌≡◌, ◌&&◌, ◌==◌, ℕ, zero, suc, List, [], ◌∷◌, Bool, true, false, sym, subst, refl, inl, inr, ⊎_elim, arith}
 use Rattle.std.specs.Prelude.{All}
 use Rattle.std.proofs.lemmas.Bool.Decides.{nat_tests}

@@ -1,4 +1,4 @@
--- Words of slots: lists put one behind another, their order, and the tables' words.
+-- Words of slots: lists put one after another, their order, and the tables' words.
 use Rattle.std.proofs.Common.{◌≡◌, ◌≢◌, ◌⊎◌, ℕ, suc, ◌≤◌, ◌==◌, ◌&&◌, max, Bool, true, false, List, [], ◌∷◌, ◌++◌, sym, ap, ◌∙◌, subst, refl, inl, inr, arith, eq-eqb, ne_eqb}
 use Rattle.std.specs.Prelude.{All, filter, Some}
 use Rattle.std.proofs.Math.Bool.{cond}
@@ -24,7 +24,7 @@ use Rattle.wl_hub.proofs.Edges.{edge_kind, edge_laws}
 use Rattle.wl_hub.proofs.Silences.{silence_kind}
 use Rattle.wl_hub.proofs.Apart.{place_apart, is_place_some, some_is_place}
 
--- ---- lists, one behind another
+-- ---- lists, one after another
 pub edge_join-append : (n s : ℕ) (xs ys : List Record) → edge_join n s (xs ++ ys) ≡ joined_flat (edge_join n s xs) (edge_join n s ys)
 edge_join-append n s [] ys = refl
 edge_join-append n s (x ∷ xs) ys = ap (joined_flat (edge_share n s x)) (edge_join-append n s xs ys) ∙ sym (flat_laws.associates (edge_share n s x) (edge_join n s xs) (edge_join n s ys))
@@ -58,7 +58,7 @@ word_within (EdgeAt n s) xs ys zs =
     (below_trans (edge_kind []) (edge_laws []) y (joined_flat y z) (joined_flat x (joined_flat y z)) (below_left (edge_kind []) (edge_laws []) y z) (below_right (edge_kind []) (edge_laws []) x (joined_flat y z))))
 word_within (SilenceAt n c) xs ys zs = omega (arith, silence-append n c xs (ys ++ zs), silence-append n c ys zs)
 
--- what is seen after more gifts and more that was told
+-- what is seen after more gifts and more that was learned
 pub word_grows : (slot : Slot) (g e t n : List Record) → IsAtMostAt slot (word_of slot (g ++ t)) (word_of slot ((g ++ e) ++ (t ++ n)))
 word_grows (EdgeAt k s) g e t n =
     let x = edge_join k s g in

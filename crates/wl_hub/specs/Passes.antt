@@ -38,7 +38,7 @@ module _ {T : Type 0} where
   given_for (EdgeAt n s) p = given_edges p
   given_for (SilenceAt n c) p = given_silences p
 
-  -- the records that stand behind what it saw
+  -- the records from which what it saw comes
   abbrev pub told_for : Slot → Pass T → List Record
   told_for (EdgeAt n s) p = p.edges.seat.me.0.told
   told_for (SilenceAt n c) p = p.silences.seat.me.0.told

@@ -82,7 +82,7 @@ module _ {T : Type 0} where
   Learns at i extra v w = (news : List Record) × All (λ r. at i r ≡ true) news
       × (w ≡ record v { given = v.given ++ extra; told = v.told ++ news })
 
-  -- all that a pass gave and was told of is true of its name
+  -- all that a pass gave and learned of is true of its name
   abbrev pub AllTrue : (T → Record → Type 0) → View T → Type 0
   AllTrue is_true v = (n : T) → v.name ≡ Some n → All (is_true n) (v.given ++ v.told)
 

@@ -65,7 +65,7 @@ pub record IsJoinOfTrue (is_true : Record → Type 0) (slot : Slot) (word : ℕ)
   pub are_true : All is_true records
   pub joins : word ≡ word_of slot records
 
--- why a clash is there: one was told, or two ticks
+-- why a clash is there: one was given, or two ticks
 abbrev pub TellsClash : (Record → Type 0) → ℕ → ℕ → Type 0
 TellsClash is_true n s = is_true (Clash n s) ⊎ ((t u : ℕ) × (t ≢ u) × is_true (Edge n s t) × is_true (Edge n s u))
 
@@ -92,7 +92,7 @@ HasWord shape (SilenceAt n c) = c < slice_index (silence_widths shape) n
 abbrev pub IsInShape : List (ℕ × ℕ) → Record → Type 0
 IsInShape shape r = HasWord shape (slot_of r) × IsWithin r
 
--- where the word of a slot stands when all words are told: edge words node by node, then silence words
+-- where the word of a slot stands when all words are listed: edge words node by node, then silence words
 abbrev pub answer_place : List (ℕ × ℕ) → Slot → Option ℕ
 answer_place shape (EdgeAt n s) = place (edge_widths shape) n s
 answer_place shape (SilenceAt n c) = beyond (sum (edge_widths shape)) (place (silence_widths shape) n c)

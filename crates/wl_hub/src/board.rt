@@ -100,7 +100,7 @@ impl<T: Truth, J: Cell> Drop for Board<T, J> {
     }
 }
 
-// The first words of a closed table, behind others in a list with room.
+// The first words of a closed table, after others in a list with room.
 fn copied(mut words: Vec<u64>, closed: &Closed<(), Global>, count: usize) -> Vec<u64>
     requires room { vec_len words + count ≤ vec_capacity words }
     requires count { (count ≤ slots_len closed.now.words) × IsFull closed.now.words }
@@ -142,7 +142,7 @@ impl<T: Truth, J: Cell> Board<T, J> {
         Ok((Board { table }, Part { seat }))
     }
 
-    /// Ends the table, and puts its first words behind others in a list with room.
+    /// Ends the table, and puts its first words after others in a list with room.
     pub fn close(self, part: Part<T>, count: usize, words: Vec<u64>) -> Vec<u64>
         requires here { part.seat.table_id ≡ self.table.shared.table_id }
         requires count { count ≤ self.table.shared.key.words }

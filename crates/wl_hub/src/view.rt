@@ -1,4 +1,4 @@
-//! What a pass knows, and what a table is told once.
+//! What a pass knows, and what a table is given once.
 use std::collections::LinkedList;
 use std::marker::Brand;
 use std::snapshot::Snapshot;

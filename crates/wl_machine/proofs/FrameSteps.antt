@@ -11,7 +11,7 @@ use Rattle.wl_confine.specs.declared.Mode.{Mode}
 use Rattle.wl_confine.specs.declared.Mode.TheVariants.{Active, Passive, Off}
 use Rattle.wl_confine.specs.declared.Happened.{Happened}
 use Rattle.wl_confine.specs.declared.Happened.TheVariants as happens
-use Rattle.wl_frame.specs.Stuffing.{is_stuff, kept}
+use Rattle.wl_frame.specs.Stuffing.{is_stuff, destuffed_bits}
 use Rattle.wl_frame.specs.Grammar.{Content, bits_of, is_arbitration, is_crc_right, content_of, layout_of}
 use Rattle.wl_machine.specs.declared.progress.Progress.{Progress}
 use Rattle.wl_machine.specs.declared.progress.Step.{Step}
@@ -41,11 +41,11 @@ pub sending_is : (head : Content) (own : List Level) (x : Sampled) → frame_rol
 sending_is head own x role going = sent_is head own x role ∙ ap (λ e. framing_sent head own e x) going
 
 pub received_tail_is : (head : Option Content) (own : List Level) (x : Sampled) (place end : ℕ) → frame_role head own ≡ Rx → IsTail place end own
-    → framing head own x ≡ received_tail (kept own end) place x
+    → framing head own x ≡ received_tail (destuffed_bits own end) place x
 received_tail_is head own x place end role t =
     let place_is : place + end ≡ length own = t.place_is in
     let here : length own - end ≡ place = omega arith in
-    received_is head own x role ∙ ap (λ e. framing_received own e x) t.found ∙ ap (λ n. received_tail (kept own end) n x) here
+    received_is head own x role ∙ ap (λ e. framing_received own e x) t.found ∙ ap (λ n. received_tail (destuffed_bits own end) n x) here
 
 pub sent_tail_is : (head : Content) (own : List Level) (x : Sampled) (place end : ℕ) → frame_role (Some head) own ≡ Tx → IsTail place end own
     → framing (Some head) own x ≡ sent_tail head place x
@@ -62,7 +62,7 @@ frame_on m step head own x happened e is p = meets_by m step (stretch_by (Framin
 -- a receiver's tail goes on
 pub received_tail_on : (m : Progress) (step : Step) (head : Option Content) (own : List Level) (x : Sampled) (place end : ℕ) (right : Bool) (bits : List Level) (happened : Happened) (ended : Ended)
     → frame_role head own ≡ Rx → IsReceivedTail place end right bits own → place < 9
-    → received_tail (kept own end) place x ≡ record { happened = happened; ended = ended; next = None }
+    → received_tail (destuffed_bits own end) place x ≡ record { happened = happened; ended = ended; next = None }
     → step ≡ record { happened = happened; done = done_of ended } → m.state ≡ states.ReceivedTail (place + 1) right → m.bits.items ≡ bits
     → Meets m step (stretch_by (Framing head) own) x
 received_tail_on m step head own x place end right bits happened ended role t below e is at b =
@@ -199,7 +199,7 @@ sent_level_is head own last run bits sent p s =
     ap (λ b. cond b (opposite last) (at sent (length bits))) (sym (due_by_run last run bits own p))
     ∙ ap (λ l. cond (is_stuff own (length own)) (opposite l) (at sent (length bits))) p.last_is
     ∙ ap (λ b. cond (is_stuff own (length own)) (opposite (before own (length own))) (at sent (length b))) p.bits_are
-    ∙ ap (λ b. cond (is_stuff own (length own)) (opposite (before own (length own))) (at b (length (kept own (length own))))) s
+    ∙ ap (λ b. cond (is_stuff own (length own)) (opposite (before own (length own))) (at b (length (destuffed_bits own (length own))))) s
 
 pub sending_same : (head : Content) (own : List Level) (x : Sampled) → frame_role (Some head) own ≡ Tx → stuffed_end own ≡ None
     → same (sent_at head own (length own)) x.level ≡ true → framing (Some head) own x ≡ continues happens.Nothing
@@ -214,7 +214,7 @@ sending_differs head own x role going e =
 -- an equal sample is no loss
 pub not_lost_same : (head : Content) (own : List Level) (x : Level) → same (sent_at head own (length own)) x ≡ true → lost_next head own x ≡ false
 not_lost_same head own x e =
-    no_loss (not (is_stuff own (length own)) && is_arbitration (bits_of head) (length (kept own (length own)))) (sent_at head own (length own)) x e
+    no_loss (not (is_stuff own (length own)) && is_arbitration (bits_of head) (length (destuffed_bits own (length own)))) (sent_at head own (length own)) x e
   where
     no_loss : (b : Bool) (sent x : Level) → same sent x ≡ true → (b && not (is_dominant sent) && is_dominant x) ≡ false
     no_loss true Dominant Dominant e = refl
@@ -243,8 +243,8 @@ differ_cond head x dominant stuff early arbitration =
 differing_is : (head : Content) (own : List Level) (x : Sampled) (last : Level) (run : ℕ) (bits : List Level) (sent : Level) → IsStuffedPart last run bits own → sent ≡ sent_at head own (length own)
     → differing head own x ≡ differ_cond head x (is_dominant sent) (nat_le 5 run) (nat_le (length bits) (layout_of (bits_of head)).rtr) (is_arbitration (bits_of head) (length bits))
 differing_is head own x last run bits sent p s =
-    ap (λ l. differ_cond head x (is_dominant l) (is_stuff own (length own)) (nat_le (length (kept own (length own))) (layout_of (bits_of head)).rtr) (is_arbitration (bits_of head) (length (kept own (length own))))) (sym s)
-    ∙ ap (λ b. differ_cond head x (is_dominant sent) b (nat_le (length (kept own (length own))) (layout_of (bits_of head)).rtr) (is_arbitration (bits_of head) (length (kept own (length own))))) (due_by_run last run bits own p)
+    ap (λ l. differ_cond head x (is_dominant l) (is_stuff own (length own)) (nat_le (length (destuffed_bits own (length own))) (layout_of (bits_of head)).rtr) (is_arbitration (bits_of head) (length (destuffed_bits own (length own))))) (sym s)
+    ∙ ap (λ b. differ_cond head x (is_dominant sent) b (nat_le (length (destuffed_bits own (length own))) (layout_of (bits_of head)).rtr) (is_arbitration (bits_of head) (length (destuffed_bits own (length own))))) (due_by_run last run bits own p)
     ∙ ap (λ b. differ_cond head x (is_dominant sent) (nat_le 5 run) (nat_le (length b) (layout_of (bits_of head)).rtr) (is_arbitration (bits_of head) (length b))) (sym p.bits_are)
 
 module _ (head : Content) (own : List Level) (x : Sampled) (last : Level) (run : ℕ) (bits : List Level) (sent : Level) (p : IsStuffedPart last run bits own) (s : sent ≡ sent_at head own (length own)) where
@@ -281,7 +281,7 @@ module _ (head : Content) (own : List Level) (x : Sampled) (last : Level) (run :
   -- a dominant sample where recessive was sent in the arbitration is a loss
   pub is_loss : is_dominant sent ≡ false → run < 5 → is_arbitration (bits_of head) (length bits) ≡ true → same sent x.level ≡ false → lost_next head own x.level ≡ true
   is_loss d short a e =
-      ap (λ b. not b && is_arbitration (bits_of head) (length (kept own (length own))) && not (is_dominant (sent_at head own (length own))) && is_dominant x.level)
+      ap (λ b. not b && is_arbitration (bits_of head) (length (destuffed_bits own (length own))) && not (is_dominant (sent_at head own (length own))) && is_dominant x.level)
       (due_by_run last run bits own p ∙ lt-leb 5 run short)
       ∙ ap (λ b. is_arbitration (bits_of head) (length b) && not (is_dominant (sent_at head own (length own))) && is_dominant x.level) (sym p.bits_are)
       ∙ ap (λ b. b && not (is_dominant (sent_at head own (length own))) && is_dominant x.level) a

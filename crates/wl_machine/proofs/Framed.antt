@@ -6,7 +6,7 @@ use Rattle.wl_level.specs.declared.Level.{Level}
 use Rattle.wl_level.specs.Levels.{same, is_dominant, opposite}
 use Rattle.wl_level.specs.Places.{at, before, or_at, first_place, run_at, IsFirstPlace}
 use Rattle.wl_level.proofs.Callers.{at_new, at_old, before_old, first_cong, first_none, first_is}
-use Rattle.wl_frame.specs.Stuffing.{is_stuff, kept}
+use Rattle.wl_frame.specs.Stuffing.{is_stuff, destuffed_bits}
 use Rattle.wl_frame.specs.Grammar.{Content, bits_of, is_whole, is_front, is_arbitration}
 use Rattle.wl_frame.proofs.Callers.{front_more, arbitration_over as over, stuff_run, stuff_old, kept_old, length_more, run_more, before_more, destuffed_more}
 use Rattle.wl_machine.specs.declared.state.Role.{Role}
@@ -21,21 +21,21 @@ lost_by head stuff bits last here =
 
 lost_old : (head : Content) (own : List Level) (x : Level) (k : ℕ) → k < length own → is_lost head (own ++ x ∷ []) k ≡ is_lost head own k
 lost_old head own x k h =
-    ap (λ s. lost_by head s (kept (own ++ x ∷ []) k) (before (own ++ x ∷ []) k) (at (own ++ x ∷ []) k)) (stuff_old own x k (omega arith))
+    ap (λ s. lost_by head s (destuffed_bits (own ++ x ∷ []) k) (before (own ++ x ∷ []) k) (at (own ++ x ∷ []) k)) (stuff_old own x k (omega arith))
     ∙ ap (λ b. lost_by head (is_stuff own k) b (before (own ++ x ∷ []) k) (at (own ++ x ∷ []) k)) (kept_old own x k (omega arith))
-    ∙ ap (λ l. lost_by head (is_stuff own k) (kept own k) l (at (own ++ x ∷ []) k)) (before_old own x k (omega arith))
-    ∙ ap (lost_by head (is_stuff own k) (kept own k) (before own k)) (at_old own x k h)
+    ∙ ap (λ l. lost_by head (is_stuff own k) (destuffed_bits own k) l (at (own ++ x ∷ []) k)) (before_old own x k (omega arith))
+    ∙ ap (lost_by head (is_stuff own k) (destuffed_bits own k) (before own k)) (at_old own x k h)
 
 -- whether a sender loses at the next sample
 abbrev pub lost_next : Content → List Level → Level → Bool
-lost_next head own x = lost_by head (is_stuff own (length own)) (kept own (length own)) (before own (length own)) x
+lost_next head own x = lost_by head (is_stuff own (length own)) (destuffed_bits own (length own)) (before own (length own)) x
 
 lost_new : (head : Content) (own : List Level) (x : Level) → is_lost head (own ++ x ∷ []) (length own) ≡ lost_next head own x
 lost_new head own x =
-    ap (λ s. lost_by head s (kept (own ++ x ∷ []) (length own)) (before (own ++ x ∷ []) (length own)) (at (own ++ x ∷ []) (length own))) (stuff_old own x (length own) (omega arith))
+    ap (λ s. lost_by head s (destuffed_bits (own ++ x ∷ []) (length own)) (before (own ++ x ∷ []) (length own)) (at (own ++ x ∷ []) (length own))) (stuff_old own x (length own) (omega arith))
     ∙ ap (λ b. lost_by head (is_stuff own (length own)) b (before (own ++ x ∷ []) (length own)) (at (own ++ x ∷ []) (length own))) (kept_old own x (length own) (omega arith))
-    ∙ ap (λ l. lost_by head (is_stuff own (length own)) (kept own (length own)) l (at (own ++ x ∷ []) (length own))) (before_old own x (length own) (omega arith))
-    ∙ ap (lost_by head (is_stuff own (length own)) (kept own (length own)) (before own (length own))) (at_new own x)
+    ∙ ap (λ l. lost_by head (is_stuff own (length own)) (destuffed_bits own (length own)) l (at (own ++ x ∷ []) (length own))) (before_old own x (length own) (omega arith))
+    ∙ ap (lost_by head (is_stuff own (length own)) (destuffed_bits own (length own)) (before own (length own))) (at_new own x)
 
 lost_more : (head : Content) (own : List Level) (x : Level)
     → first_place (is_lost head (own ++ x ∷ [])) (length (own ++ x ∷ [])) ≡ or_at (first_place (is_lost head own) (length own)) (lost_next head own x) (length own)
@@ -88,12 +88,12 @@ role_next head own x =
 -- the end of the stuffed part
 
 abbrev ends_at : List Level → ℕ → Bool
-ends_at own n = is_whole (kept own n) && not (is_stuff own n)
+ends_at own n = is_whole (destuffed_bits own n) && not (is_stuff own n)
 
 ends_old : (own : List Level) (x : Level) (n : ℕ) → n ≤ length own → ends_at (own ++ x ∷ []) n ≡ ends_at own n
 ends_old own x n h =
     ap (λ ks. is_whole ks && not (is_stuff (own ++ x ∷ []) n)) (kept_old own x n h)
-    ∙ ap (λ s. is_whole (kept own n) && not s) (stuff_old own x n h)
+    ∙ ap (λ s. is_whole (destuffed_bits own n) && not s) (stuff_old own x n h)
 
 -- it is found where it was, or after the new sample
 pub end_more : (own : List Level) (x : Level)
@@ -116,8 +116,8 @@ and_not_false false h = refl
 pub not_whole : (last : Level) (run : ℕ) (bits own : List Level) → IsStuffedPart last run bits own → run < 5 → is_whole bits ≡ false
 not_whole last run bits own p short =
     ap is_whole p.bits_are
-    ∙ and_not_false (is_whole (kept own (length own)))
-    (ap (λ s. is_whole (kept own (length own)) && not s) (sym (due_by_run last run bits own p ∙ lt-leb 5 run short))
+    ∙ and_not_false (is_whole (destuffed_bits own (length own)))
+    (ap (λ s. is_whole (destuffed_bits own (length own)) && not s) (sym (due_by_run last run bits own p ∙ lt-leb 5 run short))
     ∙ first_none (ends_at own) (suc (length own)) p.going_on (length own) (omega arith))
 
 kept_by : (s : Bool) (bits : List Level) (x : Level) → cond s bits (bits ++ x ∷ []) ≡ bits ++ cond s [] (x ∷ [])
@@ -149,7 +149,7 @@ taken last run bits own x run' bits' p r b due =
     r ∙ ap (λ l. cond (same l x) (run + 1) 1) p.last_is
     ∙ ap (λ n. cond (same (before own (length own)) x) n 1) (add-one run ∙ ap suc p.run_is)
     ∙ sym (run_more own x) in
-    let bits_here : bits' ≡ kept (own ++ x ∷ []) (length (own ++ x ∷ [])) =
+    let bits_here : bits' ≡ destuffed_bits (own ++ x ∷ []) (length (own ++ x ∷ [])) =
     b ∙ kept_by (nat_le 5 run) bits x
     ∙ ap (λ s. bits ++ cond s [] (x ∷ [])) (sym (due_by_run last run bits own p))
     ∙ ap (λ ks. ks ++ cond (is_stuff own (length own)) [] (x ∷ [])) p.bits_are
@@ -177,42 +177,42 @@ tail_next place end own x t below =
     let place_is : place + end ≡ length own = t.place_is in
     record { found = end_stays own x end t.found; place_is = omega (arith, length_more own x); below = omega arith }
 
-pub tail_bits : (place end : ℕ) (own : List Level) (x : Level) → IsTail place end own → kept (own ++ x ∷ []) end ≡ kept own end
+pub tail_bits : (place end : ℕ) (own : List Level) (x : Level) → IsTail place end own → destuffed_bits (own ++ x ∷ []) end ≡ destuffed_bits own end
 tail_bits place end own x t =
     let place_is : place + end ≡ length own = t.place_is in
     kept_old own x end (omega arith)
 
 -- what stands before the end is whole
-pub tail_whole : (place end : ℕ) (own : List Level) → IsTail place end own → is_whole (kept own end) ≡ true
+pub tail_whole : (place end : ℕ) (own : List Level) → IsTail place end own → is_whole (destuffed_bits own end) ≡ true
 tail_whole place end own t =
     let first : IsFirstPlace (ends_at own) (suc (length own)) end = first_is (ends_at own) (suc (length own)) end t.found in
-    (and_parts (is_whole (kept own end)) (not (is_stuff own end)) first.passes).0
+    (and_parts (is_whole (destuffed_bits own end)) (not (is_stuff own end)) first.passes).0
 
 -- more places keep no fewer bits
-kept_longer : (own : List Level) (n m : ℕ) → n ≤ m → length (kept own n) ≤ length (kept own m)
-kept_longer own n zero h = let e : n ≡ zero = omega arith in subst (λ k. length (kept own k) ≤ length (kept own zero)) (sym e) (omega arith)
+kept_longer : (own : List Level) (n m : ℕ) → n ≤ m → length (destuffed_bits own n) ≤ length (destuffed_bits own m)
+kept_longer own n zero h = let e : n ≡ zero = omega arith in subst (λ k. length (destuffed_bits own k) ≤ length (destuffed_bits own zero)) (sym e) (omega arith)
 kept_longer own n (suc m) h = elim (cases_lt m n) [
-  | inl above ↦ (let e : n ≡ suc m = omega arith in subst (λ k. length (kept own k) ≤ length (kept own (suc m))) (sym e) (omega arith))
+  | inl above ↦ (let e : n ≡ suc m = omega arith in subst (λ k. length (destuffed_bits own k) ≤ length (destuffed_bits own (suc m))) (sym e) (omega arith))
   | inr below ↦
-      (let more : length (kept own (suc m)) ≡ length (kept own m) + length (cond (is_stuff own m) [] (at own m ∷ [])) = length-append (kept own m) (cond (is_stuff own m) [] (at own m ∷ [])) in
-      let rest : length (kept own n) ≤ length (kept own m) = kept_longer own n m below in
+      (let more : length (destuffed_bits own (suc m)) ≡ length (destuffed_bits own m) + length (cond (is_stuff own m) [] (at own m ∷ [])) = length-append (destuffed_bits own m) (cond (is_stuff own m) [] (at own m ∷ [])) in
+      let rest : length (destuffed_bits own n) ≤ length (destuffed_bits own m) = kept_longer own n m below in
       omega arith)
 ]
 
 -- the arbitration is over after the end
-arbitration_over : (head : Content) (place end : ℕ) (own : List Level) → IsTail place end own → is_arbitration (bits_of head) (length (kept own (length own))) ≡ false
+arbitration_over : (head : Content) (place end : ℕ) (own : List Level) → IsTail place end own → is_arbitration (bits_of head) (length (destuffed_bits own (length own))) ≡ false
 arbitration_over head place end own t =
     let place_is : place + end ≡ length own = t.place_is in
-    over (kept own end) (bits_of head) (length (kept own (length own))) (tail_whole place end own t) (kept_longer own end (length own) (omega arith))
+    over (destuffed_bits own end) (bits_of head) (length (destuffed_bits own (length own))) (tail_whole place end own t) (kept_longer own end (length own) (omega arith))
 
 -- so its transmitter stays one
 pub tail_sends : (head : Content) (place end : ℕ) (own : List Level) (x : Level) → IsTail place end own → frame_role (Some head) own ≡ Tx → frame_role (Some head) (own ++ x ∷ []) ≡ Tx
 tail_sends head place end own x t role =
     role_sends head own x role
     (ap (λ a. not (is_stuff own (length own)) && a
-    && not (is_dominant (cond (is_stuff own (length own)) (opposite (before own (length own))) (at (bits_of head) (length (kept own (length own)))))) && is_dominant x)
+    && not (is_dominant (cond (is_stuff own (length own)) (opposite (before own (length own))) (at (bits_of head) (length (destuffed_bits own (length own)))))) && is_dominant x)
     (arbitration_over head place end own t)
-    ∙ both_out (not (is_stuff own (length own))) (not (is_dominant (cond (is_stuff own (length own)) (opposite (before own (length own))) (at (bits_of head) (length (kept own (length own))))))) (is_dominant x))
+    ∙ both_out (not (is_stuff own (length own))) (not (is_dominant (cond (is_stuff own (length own)) (opposite (before own (length own))) (at (bits_of head) (length (destuffed_bits own (length own))))))) (is_dominant x))
   where
     both_out : (a b c : Bool) → (a && false && b && c) ≡ false
     both_out true b c = refl

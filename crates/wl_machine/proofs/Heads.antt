@@ -7,7 +7,7 @@ use Rattle.wl_confine.specs.declared.Mode.{Mode}
 use Rattle.wl_confine.specs.declared.Mode.TheVariants.{Active, Passive, Off}
 use Rattle.wl_confine.specs.declared.Happened.{Happened}
 use Rattle.wl_confine.specs.declared.Happened.TheVariants as happens
-use Rattle.wl_frame.specs.Stuffing.{kept}
+use Rattle.wl_frame.specs.Stuffing.{destuffed_bits}
 use Rattle.wl_frame.specs.Grammar.{Content}
 use Rattle.wl_machine.specs.declared.state.Role.{Role}
 use Rattle.wl_machine.specs.declared.state.Role.TheVariants.{Tx, Rx}
@@ -123,7 +123,7 @@ module _ (x : Sampled) where
 
   received_all : (head : Option Content) (own : List Level) (end : Option ℕ) → Keeps head x.head (framing_received own end x)
   received_all head own None = search (keeps_if head x.head, keeps_on head x.head, keeps_fails head x.head) depth 12
-  received_all head own (Some end) = received_tail_keeps head (kept own end) (length own - end)
+  received_all head own (Some end) = received_tail_keeps head (destuffed_bits own end) (length own - end)
 
   sent_all : (head : Content) (own : List Level) (end : Option ℕ) → Keeps (Some head) x.head (framing_sent head own end x)
   sent_all head own None = search (keeps_if (Some head) x.head, keeps_on (Some head) x.head, differing_keeps head) depth 12

@@ -8,7 +8,7 @@ use Rattle.wl_level.specs.declared.Level.TheVariants.{Dominant, Recessive}
 use Rattle.wl_level.specs.Levels.{opposite}
 use Rattle.wl_level.specs.Places.{at, run_at_end}
 use Rattle.wl_level.proofs.Callers.{run_before_le}
-use Rattle.wl_frame.specs.Stuffing.{kept}
+use Rattle.wl_frame.specs.Stuffing.{destuffed_bits}
 use Rattle.wl_frame.specs.Grammar.{Content, bits_of, is_whole, is_crc_right}
 use Rattle.wl_frame.specs.Limits.{most_bits}
 use Rattle.wl_frame.proofs.Callers.{front_room}
@@ -25,7 +25,7 @@ use Rattle.wl_machine.specs.Stretch.Sort.{Integration, Idle, Framing, Flagging}
 use Rattle.wl_machine.specs.Flags.{long_from, dominant_run}
 use Rattle.wl_machine.specs.Frames.{frame_role, frame_drive, drive_up_to, stuffed_drive, tail_drive}
 use Rattle.wl_machine.specs.Judged.{drive_by, drive_of, is_idle_sort}
-use Rattle.wl_machine.specs.States.{IsIn, IsAtState, IsStuffedPart, IsTail, Meets, stretch_by, flag_of, kept_drive, kept_idle}
+use Rattle.wl_machine.specs.States.{IsIn, IsAtState, IsStuffedPart, IsTail, Meets, stretch_by, flag_of, state_drive, is_idle_state}
 use Rattle.wl_machine.proofs.FlagSteps.{until_positive}
 use Rattle.wl_machine.proofs.Framed.{not_whole, tail_whole}
 use Rattle.wl_machine.proofs.FrameSteps.{sent_level_is}
@@ -127,17 +127,17 @@ received_drive : (head : Option Content) (own : List Level) (last : Level) (run 
 received_drive head own last run bits role p = ap (λ e. drive_up_to e head own) p.going_on ∙ ap (λ r. stuffed_drive r head own) role
 
 tail_drive_is : (head : Option Content) (own : List Level) (role : Role) (place end : ℕ) → frame_role head own ≡ role → IsTail place end own
-    → frame_drive head own ≡ tail_drive role (kept own end) place
+    → frame_drive head own ≡ tail_drive role (destuffed_bits own end) place
 tail_drive_is head own role place end r t =
     let place_is : place + end ≡ length own = t.place_is in
     let here : length own - end ≡ place = omega arith in
-    ap (λ e. drive_up_to e head own) t.found ∙ ap (λ r. tail_drive r (kept own end) (length own - end)) r ∙ ap (tail_drive role (kept own end)) here
+    ap (λ e. drive_up_to e head own) t.found ∙ ap (λ r. tail_drive r (destuffed_bits own end) (length own - end)) r ∙ ap (tail_drive role (destuffed_bits own end)) here
 
 flag_drive : (cause : Cause) (role : Role) (own : List Level) → drive_by (Flagging (flag_of cause) role) own ≡ Dominant
 flag_drive Error role own = refl
 flag_drive Overload role own = refl
 
-drive_at : (state : State) (bits sent : List Level) (sort : Sort) (own : List Level) → IsAtState state bits sent sort own → kept_drive state bits sent ≡ drive_by sort own
+drive_at : (state : State) (bits sent : List Level) (sort : Sort) (own : List Level) → IsAtState state bits sent sort own → state_drive state bits sent ≡ drive_by sort own
 drive_at (states.Integrating run) bits sent sort own h = sort_drive sort Integration own Recessive h.0 refl
 drive_at states.Idle bits sent sort own h = sort_drive sort Idle own Recessive h refl
 drive_at (states.Sending last run) bits sent sort own h =
@@ -155,12 +155,12 @@ drive_at (states.Intermission role count) bits sent sort own h = sort_drive sort
 drive_at (states.Suspended count) bits sent sort own h = sort_drive sort _ own Recessive h.0 refl
 drive_at (states.BusOff runs run) bits sent sort own h = sort_drive sort _ own Recessive h.0 refl
 
-pub drive_kept : (m : Progress) (s : Stretch) → IsIn m s → kept_drive m.state m.bits.items m.sent.items ≡ drive_of s
+pub drive_kept : (m : Progress) (s : Stretch) → IsIn m s → state_drive m.state m.bits.items m.sent.items ≡ drive_of s
 drive_kept m s h = drive_at m.state m.bits.items m.sent.items s.sort s.own h
 
 -- whether the bus is idle
 
-idle_at : (state : State) (bits sent : List Level) (sort : Sort) (own : List Level) → IsAtState state bits sent sort own → kept_idle state ≡ is_idle_sort sort
+idle_at : (state : State) (bits sent : List Level) (sort : Sort) (own : List Level) → IsAtState state bits sent sort own → is_idle_state state ≡ is_idle_sort sort
 idle_at (states.Integrating run) bits sent sort own h = sym (ap is_idle_sort h.0)
 idle_at states.Idle bits sent sort own h = sym (ap is_idle_sort h)
 idle_at (states.Sending last run) bits sent sort own h = sym (ap is_idle_sort h.1)
@@ -175,5 +175,5 @@ idle_at (states.Intermission role count) bits sent sort own h = sym (ap is_idle_
 idle_at (states.Suspended count) bits sent sort own h = sym (ap is_idle_sort h.0)
 idle_at (states.BusOff runs run) bits sent sort own h = sym (ap is_idle_sort h.0)
 
-pub idle_kept : (m : Progress) (s : Stretch) → IsIn m s → kept_idle m.state ≡ is_idle_sort s.sort
+pub idle_kept : (m : Progress) (s : Stretch) → IsIn m s → is_idle_state m.state ≡ is_idle_sort s.sort
 idle_kept m s h = idle_at m.state m.bits.items m.sent.items s.sort s.own h

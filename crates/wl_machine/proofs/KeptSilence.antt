@@ -5,7 +5,8 @@ use Rattle.wl_level.specs.declared.Level.{Level}
 use Rattle.wl_level.specs.declared.Level.TheVariants.{Dominant, Recessive}
 use Rattle.wl_level.specs.Levels.{opposite}
 use Rattle.wl_level.specs.Places.{run_at_end}
-use Rattle.wl_frame.specs.Stuffing.{kept}
+use Rattle.wl_frame.specs.Limits.{least_frame_bits}
+use Rattle.wl_frame.specs.Stuffing.{destuffed_bits}
 use Rattle.wl_frame.specs.Grammar.{Content}
 use Rattle.wl_machine.specs.declared.progress.Progress.{Progress}
 use Rattle.wl_machine.specs.declared.state.Cause.{Cause}
@@ -18,7 +19,7 @@ use Rattle.wl_machine.specs.Stretch.{Sort, Stretch}
 use Rattle.wl_machine.specs.Stretch.Flag.{PassiveFlag}
 use Rattle.wl_machine.specs.Stretch.Sort.{Integration, Idle, Framing, Flagging, Waiting, Delimiting, Intermission, Suspension, OffBus}
 use Rattle.wl_machine.specs.Frames.{stuffed_end, frame_role}
-use Rattle.wl_machine.specs.Silence.{silence_in_frame, silence_by, silence_of, kept_silence}
+use Rattle.wl_machine.specs.Silence.{silence_in_frame, silence_by, silence_of, state_silence}
 use Rattle.wl_machine.specs.States.{IsIn, IsAtState, flag_of}
 
 sort_silence : (heads : Bool) (sort known : Sort) (own : List Level) (n : ℕ) → sort ≡ known → silence_by heads known own ≡ n → n ≡ silence_by heads sort own
@@ -40,13 +41,13 @@ longest_run : (last : Level) (run : ℕ) (own : List Level) → run ≡ run_at_e
 longest_run Dominant run own e f = omega arith
 longest_run Recessive run own e f = omega arith
 
-silence_at : (heads : Bool) (state : State) (bits sent : List Level) (sort : Sort) (own : List Level) → IsAtState state bits sent sort own → kept_silence heads state bits ≡ silence_by heads sort own
+silence_at : (heads : Bool) (state : State) (bits sent : List Level) (sort : Sort) (own : List Level) → IsAtState state bits sent sort own → state_silence heads state bits ≡ silence_by heads sort own
 silence_at heads (states.Integrating run) bits sent sort own h = sort_silence heads sort Integration own (10 - run) h.0 (let e = h.1 in omega arith)
 silence_at heads states.Idle bits sent sort own h = sort_silence heads sort Idle own (if heads then 0 else 5) h refl
 silence_at heads (states.Sending last run) bits sent sort own h = sort_silence heads sort (Framing (Some h.0)) own 0 h.1 (in_part heads (Some h.0) own Tx h.2 h.4.going_on)
 silence_at heads (states.Receiving last run) bits sent sort own h =
-    sort_silence heads sort (Framing h.0) own (min (5 - run) (34 - length bits)) h.1
-    (in_part heads h.0 own Rx h.2 h.3.going_on ∙ ap (λ r. min (5 - r) (34 - length (kept own (length own)))) (sym h.3.run_is) ∙ ap (λ k. min (5 - run) (34 - length k)) (sym h.3.bits_are))
+    sort_silence heads sort (Framing h.0) own (min (5 - run) (least_frame_bits - length bits)) h.1
+    (in_part heads h.0 own Rx h.2 h.3.going_on ∙ ap (λ r. min (5 - r) (least_frame_bits - length (destuffed_bits own (length own)))) (sym h.3.run_is) ∙ ap (λ k. min (5 - run) (least_frame_bits - length k)) (sym h.3.bits_are))
 silence_at heads (states.SentTail place) bits sent sort own h = sort_silence heads sort (Framing (Some h.0)) own 0 h.1 (behind_end heads (Some h.0) own Tx h.3 h.2 h.4.found)
 silence_at heads (states.ReceivedTail place right) bits sent sort own h = sort_silence heads sort (Framing h.0) own 0 h.1 (behind_end heads h.0 own Rx h.3 h.2 h.4.tail.found)
 silence_at heads (states.Flag cause role count run) bits sent sort own h = sort_silence heads sort (Flagging (flag_of cause) role) own 0 h.0 (flag_silence heads cause role own)
@@ -60,5 +61,5 @@ silence_at heads (states.BusOff runs run) bits sent sort own h =
     sort_silence heads sort OffBus own ((128 - runs) * 11 - suc run) h.0
     (ap (λ k. (128 - k) * 11 - suc (run_at_end Recessive own % 11)) (sym h.1.runs_are) ∙ ap (λ k. (128 - runs) * 11 - suc k) (sym h.1.run_is))
 
-pub silence_kept : (heads : Bool) (m : Progress) (s : Stretch) → IsIn m s → kept_silence heads m.state m.bits.items ≡ silence_of heads s
+pub silence_kept : (heads : Bool) (m : Progress) (s : Stretch) → IsIn m s → state_silence heads m.state m.bits.items ≡ silence_of heads s
 silence_kept heads m s h = silence_at heads m.state m.bits.items m.sent.items s.sort s.own h

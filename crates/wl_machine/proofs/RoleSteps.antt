@@ -9,7 +9,7 @@ use Rattle.wl_confine.specs.declared.Mode.{Mode}
 use Rattle.wl_confine.specs.declared.Mode.TheVariants.{Active, Passive, Off}
 use Rattle.wl_confine.specs.declared.Happened.{Happened}
 use Rattle.wl_confine.specs.declared.Happened.TheVariants as happens
-use Rattle.wl_frame.specs.Stuffing.{is_stuff, kept}
+use Rattle.wl_frame.specs.Stuffing.{is_stuff, destuffed_bits}
 use Rattle.wl_frame.specs.Grammar.{Content, bits_of, layout_of, is_arbitration}
 use Rattle.wl_machine.specs.declared.state.Role.{Role}
 use Rattle.wl_machine.specs.declared.state.Role.TheVariants.{Tx, Rx}
@@ -208,10 +208,10 @@ module _ (x : Sampled) where
   differing_roles head own =
       roles_if Tx false (is_dominant (sent_at head own (length own))) _ _ (roles_fails Tx x.mode Bit)
       (roles_if Tx false (is_stuff own (length own)) _ _
-      (roles_if Tx false (nat_le (length (kept own (length own))) (layout_of (bits_of head)).rtr) _ _
+      (roles_if Tx false (nat_le (length (destuffed_bits own (length own))) (layout_of (bits_of head)).rtr) _ _
       (roles_begins Tx false happens.TxFree (Flagging (error_flag x.mode) Tx) [] (role_counted Tx happens.TxFree refl) (flag_begun Tx x.mode))
       (roles_fails Tx x.mode Bit))
-      (roles_if Tx false (is_arbitration (bits_of head) (length (kept own (length own)))) _ _ sends_on (roles_fails Tx x.mode Bit)))
+      (roles_if Tx false (is_arbitration (bits_of head) (length (destuffed_bits own (length own)))) _ _ sends_on (roles_fails Tx x.mode Bit)))
 
   unanswered_roles : (mode : Mode) → Roles Tx false (unanswered mode)
   unanswered_roles Active = roles_fails Tx Active Ack
@@ -241,7 +241,7 @@ module _ (x : Sampled) where
 
   received_all : (own : List Level) (end : Option ℕ) → Roles Rx false (framing_received own end x)
   received_all own None = search (roles_if Rx false, roles_on Rx false, roles_fails Rx, nothing) depth 12
-  received_all own (Some end) = received_tail_roles (kept own end) (length own - end)
+  received_all own (Some end) = received_tail_roles (destuffed_bits own end) (length own - end)
 
   sent_all : (head : Content) (own : List Level) (end : Option ℕ) → Roles Tx false (framing_sent head own end x)
   sent_all head own None = search (roles_if Tx false, roles_on Tx false, differing_roles head, nothing) depth 12

@@ -8,7 +8,8 @@ use Rattle.wl_level.specs.declared.Level.TheVariants.{Dominant, Recessive}
 use Rattle.wl_level.specs.Levels.{same, is_dominant}
 use Rattle.wl_level.specs.Places.{before, or_at, run_at, run_at_end}
 use Rattle.wl_level.proofs.Callers.{run_more}
-use Rattle.wl_frame.specs.Stuffing.{is_stuff, kept}
+use Rattle.wl_frame.specs.Limits.{least_frame_bits}
+use Rattle.wl_frame.specs.Stuffing.{is_stuff, destuffed_bits}
 use Rattle.wl_frame.specs.Grammar.{Content, is_whole, covered_length}
 use Rattle.wl_frame.proofs.Callers.{covered_some, stuff_run, destuffed_more, run_more as equal_more}
 use Rattle.wl_confine.specs.declared.ErrorKind.TheVariants.{Stuff}
@@ -125,50 +126,50 @@ module _ (heads : Bool) (head : Option Content) (own : List Level) (x : Sampled)
   equal_grown : run_at grown (length grown) ≤ suc (run_at own (length own))
   equal_grown = (let e = equal_more own x.level in let f = equal_few (same (before own (length own)) x.level) (run_at own (length own)) in omega arith)
 
-  kept_grown : length (kept grown (length grown)) ≤ suc (length (kept own (length own)))
+  kept_grown : length (destuffed_bits grown (length grown)) ≤ suc (length (destuffed_bits own (length own)))
   kept_grown =
-      let e : length (kept grown (length grown)) ≡ length (kept own (length own)) + length (cond (is_stuff own (length own)) [] (x.level ∷ [])) =
-      ap length (destuffed_more own x.level) ∙ length-append (kept own (length own)) (cond (is_stuff own (length own)) [] (x.level ∷ [])) in
+      let e : length (destuffed_bits grown (length grown)) ≡ length (destuffed_bits own (length own)) + length (cond (is_stuff own (length own)) [] (x.level ∷ [])) =
+      ap length (destuffed_more own x.level) ∙ length-append (destuffed_bits own (length own)) (cond (is_stuff own (length own)) [] (x.level ∷ [])) in
       let f = kept_few (is_stuff own (length own)) x.level in
       omega arith
 
-  goes_in : frame_role head grown ≡ Rx → stuffed_end grown ≡ None → suc n ≤ min (5 - run_at own (length own)) (34 - length (kept own (length own))) → IsSilent heads n (stretch_by (Framing head) grown)
+  goes_in : frame_role head grown ≡ Rx → stuffed_end grown ≡ None → suc n ≤ min (5 - run_at own (length own)) (least_frame_bits - length (destuffed_bits own (length own))) → IsSilent heads n (stretch_by (Framing head) grown)
   goes_in role end h = record {
     drive = ap (λ e. drive_up_to e head grown) end ∙ ap (λ r. stuffed_drive r head grown) role;
     left =
-        (let e : silence_by heads (Framing head) grown ≡ min (5 - run_at grown (length grown)) (34 - length (kept grown (length grown))) =
+        (let e : silence_by heads (Framing head) grown ≡ min (5 - run_at grown (length grown)) (least_frame_bits - length (destuffed_bits grown (length grown))) =
         ap (λ o. silence_in_frame (frame_role head grown) o grown) end ∙ ap (λ r. silence_in_frame r None grown) role in
         let f = equal_grown in
         let g = kept_grown in
         omega arith);
   }
 
-  ends : frame_role head grown ≡ Rx → stuffed_end grown ≡ Some (length grown) → is_whole (kept grown (length grown)) ≡ true
-      → suc n ≤ min (5 - run_at own (length own)) (34 - length (kept own (length own))) → IsSilent heads n (stretch_by (Framing head) grown)
+  ends : frame_role head grown ≡ Rx → stuffed_end grown ≡ Some (length grown) → is_whole (destuffed_bits grown (length grown)) ≡ true
+      → suc n ≤ min (5 - run_at own (length own)) (least_frame_bits - length (destuffed_bits own (length own))) → IsSilent heads n (stretch_by (Framing head) grown)
   ends role end whole h = record {
     drive =
-        ap (λ e. drive_up_to e head grown) end ∙ ap (λ r. tail_drive r (kept grown (length grown)) (length grown - length grown)) role
-        ∙ ap (tail_drive Rx (kept grown (length grown))) (let e : length grown - length grown ≡ 0 = omega arith in e);
-    left = (let f = whole_long (kept grown (length grown)) whole in let g = kept_grown in omega arith);
+        ap (λ e. drive_up_to e head grown) end ∙ ap (λ r. tail_drive r (destuffed_bits grown (length grown)) (length grown - length grown)) role
+        ∙ ap (tail_drive Rx (destuffed_bits grown (length grown))) (let e : length grown - length grown ≡ 0 = omega arith in e);
+    left = (let f = whole_long (destuffed_bits grown (length grown)) whole in let g = kept_grown in omega arith);
   }
 
-  receives : frame_role head own ≡ Rx → stuffed_end own ≡ None → suc n ≤ min (5 - run_at own (length own)) (34 - length (kept own (length own)))
+  receives : frame_role head own ≡ Rx → stuffed_end own ≡ None → suc n ≤ min (5 - run_at own (length own)) (least_frame_bits - length (destuffed_bits own (length own)))
       → IsSilent heads n (stretch_after (stretch_by (Framing head) own) (Sample x))
   receives role going h =
       by_judgement heads n (stretch_by (Framing head) own) x (continues happens.Nothing)
       (receiving_is head own x role going
       ∙ ap (λ s. cond (s && same x.level (before own (length own))) (fails Rx x.mode Stuff) (continues happens.Nothing))
       (stuff_run own (length own) ∙ lt-leb 5 (run_at own (length own)) (omega arith)))
-      (behind (is_whole (kept grown (length grown)) && not (is_stuff grown (length grown))) refl)
+      (behind (is_whole (destuffed_bits grown (length grown)) && not (is_stuff grown (length grown))) refl)
     where
-      behind : (b : Bool) → (is_whole (kept grown (length grown)) && not (is_stuff grown (length grown))) ≡ b → IsSilent heads n (stretch_by (Framing head) grown)
+      behind : (b : Bool) → (is_whole (destuffed_bits grown (length grown)) && not (is_stuff grown (length grown))) ≡ b → IsSilent heads n (stretch_by (Framing head) grown)
       behind true e =
           ends (role_receives head own x.level role)
-          (end_more own x.level ∙ ap (λ o. or_at o (is_whole (kept grown (length grown)) && not (is_stuff grown (length grown))) (length grown)) going ∙ ap (λ t. or_at None t (length grown)) e)
-          (and_parts (is_whole (kept grown (length grown))) (not (is_stuff grown (length grown))) e).0 h
+          (end_more own x.level ∙ ap (λ o. or_at o (is_whole (destuffed_bits grown (length grown)) && not (is_stuff grown (length grown))) (length grown)) going ∙ ap (λ t. or_at None t (length grown)) e)
+          (and_parts (is_whole (destuffed_bits grown (length grown))) (not (is_stuff grown (length grown))) e).0 h
       behind false e =
           goes_in (role_receives head own x.level role)
-          (end_more own x.level ∙ ap (λ o. or_at o (is_whole (kept grown (length grown)) && not (is_stuff grown (length grown))) (length grown)) going ∙ ap (λ t. or_at None t (length grown)) e) h
+          (end_more own x.level ∙ ap (λ o. or_at o (is_whole (destuffed_bits grown (length grown)) && not (is_stuff grown (length grown))) (length grown)) going ∙ ap (λ t. or_at None t (length grown)) e) h
 
   frames : (r : Role) (o : Option ℕ) → frame_role head own ≡ r → stuffed_end own ≡ o → suc n ≤ silence_in_frame r o own → IsSilent heads n (stretch_after (stretch_by (Framing head) own) (Sample x))
   frames Rx None role going h = receives role going h

@@ -8,7 +8,7 @@ use Rattle.wl_confine.specs.declared.ErrorKind.TheVariants.{Bit, Stuff, Form, Cr
 use Rattle.wl_confine.specs.declared.Mode.{Mode}
 use Rattle.wl_confine.specs.declared.Mode.TheVariants as modes
 use Rattle.wl_confine.specs.declared.Happened.TheVariants as happens
-use Rattle.wl_frame.specs.Stuffing.{is_stuff, kept}
+use Rattle.wl_frame.specs.Stuffing.{is_stuff, destuffed_bits}
 use Rattle.wl_frame.specs.Grammar.{Content, bits_of, layout_of, is_whole, is_arbitration, is_crc_right, content_of}
 use Rattle.wl_machine.specs.declared.state.Role.{Role}
 use Rattle.wl_machine.specs.declared.state.Role.TheVariants.{Tx, Rx}
@@ -21,16 +21,16 @@ use Rattle.wl_machine.specs.Flags.{fails, error_flag}
 -- The place after the last bit that is stuffed: the first one before which a whole list of a frame's bits stands and at which no
 -- stuff bit is due. (Bosch CAN 2.0 part B, section 6. That a stuff bit due after the CRC sequence is sent is this project's profile.)
 abbrev pub stuffed_end : List Level → Option ℕ
-stuffed_end own = first_place (λ n. is_whole (kept own n) && not (is_stuff own n)) (suc (length own))
+stuffed_end own = first_place (λ n. is_whole (destuffed_bits own n) && not (is_stuff own n)) (suc (length own))
 
 -- the level that the sender of a frame sends at place n, up to the end of what is stuffed (section 6)
 abbrev pub sent_at : Content → List Level → ℕ → Level
-sent_at head own n = if is_stuff own n then opposite (before own n) else at (bits_of head) (length (kept own n))
+sent_at head own n = if is_stuff own n then opposite (before own n) else at (bits_of head) (length (destuffed_bits own n))
 
 -- the sender loses the arbitration at place n: it sends a recessive bit of the arbitration and finds dominant (sections 2 and 3.2.1)
 abbrev pub is_lost : Content → List Level → ℕ → Bool
 is_lost head own n =
-    not (is_stuff own n) && is_arbitration (bits_of head) (length (kept own n))
+    not (is_stuff own n) && is_arbitration (bits_of head) (length (destuffed_bits own n))
     && not (is_dominant (sent_at head own n)) && is_dominant (at own n)
 
 -- the sender of a frame is its transmitter until it loses the arbitration, and everyone else is a receiver (section 3.4)
@@ -41,7 +41,7 @@ frame_role (Some head) own = if is_some (first_place (is_lost head own) (length 
 -- a transmitter, up to the end of what is stuffed, finds a level that it did not send (sections 3.2.1, 7.1 and 8, rule 3)
 abbrev pub differing : Content → List Level → Sampled → Judgement
 differing head own x =
-    let bits = kept own (length own) in
+    let bits = destuffed_bits own (length own) in
     if is_dominant (sent_at head own (length own)) then fails Tx x.mode Bit
     else if is_stuff own (length own)
     then (if nat_le (length bits) (layout_of (bits_of head)).rtr then begins happens.TxFree (Flagging (error_flag x.mode) Tx) [] else fails Tx x.mode Bit)
@@ -100,7 +100,7 @@ framing_sent head own (Some end) x = sent_tail head (length own - end) x
 
 abbrev pub framing_received : List Level → Option ℕ → Sampled → Judgement
 framing_received own None x = receiving own x
-framing_received own (Some end) x = received_tail (kept own end) (length own - end) x
+framing_received own (Some end) x = received_tail (destuffed_bits own end) (length own - end) x
 
 abbrev pub framing_by : Role → Option Content → List Level → Sampled → Judgement
 framing_by Tx (Some head) own x = framing_sent head own (stuffed_end own) x
@@ -121,7 +121,7 @@ stuffed_drive role head own = Recessive
 
 abbrev pub drive_up_to : Option ℕ → Option Content → List Level → Level
 drive_up_to None head own = stuffed_drive (frame_role head own) head own
-drive_up_to (Some end) head own = tail_drive (frame_role head own) (kept own end) (length own - end)
+drive_up_to (Some end) head own = tail_drive (frame_role head own) (destuffed_bits own end) (length own - end)
 
 abbrev pub frame_drive : Option Content → List Level → Level
 frame_drive head own = drive_up_to (stuffed_end own) head own

@@ -17,12 +17,12 @@ abbrev pub level_in : Sampled → Level
 level_in x = x.level
 
 -- a stretch with more samples of its own
-abbrev pub grown : Stretch → List Sampled → Stretch
-grown s during = record { sort = s.sort; own = s.own ++ map level_in during }
+abbrev pub longer_stretch : Stretch → List Sampled → Stretch
+longer_stretch s during = record { sort = s.sort; own = s.own ++ map level_in during }
 
 -- no sample of a list ends the stretch: not the one after any front of the list
 abbrev pub NoneEnds : Stretch → List Sampled → Type 0
-NoneEnds s during = (front rest : List Sampled) (x : Sampled) → during ≡ front ++ x ∷ rest → (judged (grown s front) x).next ≡ None
+NoneEnds s during = (front rest : List Sampled) (x : Sampled) → during ≡ front ++ x ∷ rest → (judged (longer_stretch s front) x).next ≡ None
 
 -- a transmitter found what it sent, at each place below n
 abbrev pub FoundSent : Content → List Level → ℕ → Type 0

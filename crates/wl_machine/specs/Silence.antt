@@ -1,11 +1,12 @@
 -- For how many samples more a machine is sure to want recessive: whatever it samples, and whether it goes off the bus or not; and whatever it is to send, where
 -- it may be handed a head, or as long as it is handed none.
--- (That a node tells how long it cannot drive is the lookahead of Chandy and Misra 1979; the rules that a line rests on are told with its stretch.)
+-- (That a node says how long it cannot drive is the lookahead of Chandy and Misra 1979; the rules that a line rests on are stated with its stretch.)
 use Rattle.std.specs.Prelude.{◌≡◌, ℕ, suc, ◌-◌, ◌*◌, ◌%◌, ◌≤◌, min, max, Bool, true, false, if◌then◌else◌, List, length, Option, None}
 use Rattle.wl_level.specs.declared.Level.{Level}
 use Rattle.wl_level.specs.declared.Level.TheVariants.{Dominant, Recessive}
 use Rattle.wl_level.specs.Places.{run_at, run_at_end}
-use Rattle.wl_frame.specs.Stuffing.{kept}
+use Rattle.wl_frame.specs.Limits.{least_frame_bits}
+use Rattle.wl_frame.specs.Stuffing.{destuffed_bits}
 use Rattle.wl_machine.specs.declared.state.Role.{Role}
 use Rattle.wl_machine.specs.declared.state.Role.TheVariants.{Rx}
 use Rattle.wl_machine.specs.declared.state.State.{State}
@@ -21,7 +22,7 @@ use Rattle.wl_machine.specs.Judged.{stretch_after, drive_of}
 -- A receiver in the stuffed part of a frame: it finds an error only with the sixth equal bit, and no frame has fewer bits without stuff bits than 34, those
 -- of one without bytes.
 abbrev pub silence_in_frame : Role → Option ℕ → List Level → ℕ
-silence_in_frame Rx None own = min (5 - run_at own (length own)) (34 - length (kept own (length own)))
+silence_in_frame Rx None own = min (5 - run_at own (length own)) (least_frame_bits - length (destuffed_bits own (length own)))
 silence_in_frame role end own = 0
 
 -- By the running stretch. What ends an integration is the eleventh recessive sample in a row, and a bus off the 128th run of eleven. A passive flag ends with six
@@ -53,12 +54,12 @@ pub record SilenceLaws : Type 0 where
   pub none : (s : Stretch) → silence_of true s ≤ silence_of false s
 
 -- for how many samples more the machine is silent, by what is kept
-abbrev pub kept_silence : Bool → State → List Level → ℕ
-kept_silence heads (states.Integrating run) bits = 10 - run
-kept_silence heads (states.Receiving last run) bits = min (5 - run) (34 - length bits)
-kept_silence heads (states.PassiveFlag role owed last run) bits = 7 - run
-kept_silence heads (states.Wait role late left) bits = 1
-kept_silence heads states.Idle bits = if heads then 0 else 5
-kept_silence heads (states.Suspended count) bits = if heads then min (7 - count) 5 else 5
-kept_silence heads (states.BusOff runs run) bits = (128 - runs) * 11 - suc run
-kept_silence heads state bits = 0
+abbrev pub state_silence : Bool → State → List Level → ℕ
+state_silence heads (states.Integrating run) bits = 10 - run
+state_silence heads (states.Receiving last run) bits = min (5 - run) (least_frame_bits - length bits)
+state_silence heads (states.PassiveFlag role owed last run) bits = 7 - run
+state_silence heads (states.Wait role late left) bits = 1
+state_silence heads states.Idle bits = if heads then 0 else 5
+state_silence heads (states.Suspended count) bits = if heads then min (7 - count) 5 else 5
+state_silence heads (states.BusOff runs run) bits = (128 - runs) * 11 - suc run
+state_silence heads state bits = 0

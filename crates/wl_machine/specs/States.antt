@@ -6,7 +6,7 @@ use Rattle.wl_level.specs.declared.Level.TheVariants.{Dominant, Recessive}
 use Rattle.wl_level.specs.Levels.{is_dominant, opposite}
 use Rattle.wl_level.specs.Places.{at, before, or_at, run_at, run_at_end}
 use Rattle.wl_confine.specs.declared.Mode.{Mode}
-use Rattle.wl_frame.specs.Stuffing.{kept}
+use Rattle.wl_frame.specs.Stuffing.{destuffed_bits}
 use Rattle.wl_frame.specs.Grammar.{Content, bits_of, is_whole, is_crc_right}
 use Rattle.wl_machine.specs.declared.progress.Progress.{Progress}
 use Rattle.wl_machine.specs.declared.Done.{Done}
@@ -39,7 +39,7 @@ pub record IsStuffedPart (last : Level) (run : ℕ) (bits own : List Level) : Ty
   pub last_is : last ≡ before own (length own)
   pub run_is : run ≡ run_at own (length own)
   pub run_small : run ≤ 5
-  pub bits_are : bits ≡ kept own (length own)
+  pub bits_are : bits ≡ destuffed_bits own (length own)
   pub front : is_front bits ≡ true
   pub going_on : stuffed_end own ≡ None
 
@@ -48,7 +48,7 @@ pub record IsTaken (last : Level) (run : ℕ) (bits own : List Level) : Type 0 w
   pub last_is : last ≡ before own (length own)
   pub run_is : run ≡ run_at own (length own)
   pub run_small : run ≤ 5
-  pub bits_are : bits ≡ kept own (length own)
+  pub bits_are : bits ≡ destuffed_bits own (length own)
   pub front : is_front bits ≡ true
   pub end_is : stuffed_end own ≡ or_at None (is_whole bits && not (nat_le 5 run)) (length own)
 
@@ -60,7 +60,7 @@ pub record IsTail (place end : ℕ) (own : List Level) : Type 0 where
 
 pub record IsReceivedTail (place end : ℕ) (is_right : Bool) (bits own : List Level) : Type 0 where
   pub tail : IsTail place end own
-  pub bits_are : bits ≡ kept own end
+  pub bits_are : bits ≡ destuffed_bits own end
   pub right_is : is_right ≡ is_crc_right bits
 
 -- the run of equal samples at the end of a passive flag
@@ -113,11 +113,11 @@ IsAtState (states.BusOff runs run) bits sent sort own = (sort ≡ OffBus) × IsB
 
 -- a machine is in this stretch
 abbrev pub IsIn : Progress → Stretch → Type 0
-IsIn kept s = IsAtState kept.state kept.bits.items kept.sent.items s.sort s.own
+IsIn destuffed_bits s = IsAtState destuffed_bits.state destuffed_bits.bits.items destuffed_bits.sent.items s.sort s.own
 
 -- a machine is where all that reached it puts it
 abbrev pub IsReachedBy : Progress → List Input → Type 0
-IsReachedBy kept past = IsIn kept (stretch_of past)
+IsReachedBy destuffed_bits past = IsIn destuffed_bits (stretch_of past)
 
 -- what the code answers of a completed frame
 abbrev pub done_of : Ended → Done
@@ -132,20 +132,20 @@ abbrev pub stretch_by : Sort → List Level → Stretch
 stretch_by sort own = record { sort = sort; own = own }
 
 -- what a step answers, and where it leaves the machine
-pub record Meets (kept : Progress) (step : Step) (s : Stretch) (x : Sampled) : Type 0 where
+pub record Meets (new : Progress) (step : Step) (s : Stretch) (x : Sampled) : Type 0 where
   pub happened : step.happened ≡ (judged s x).happened
   pub done : step.done ≡ done_of (judged s x).ended
-  pub place : IsIn kept (stretch_after s (Sample x))
+  pub place : IsIn new (stretch_after s (Sample x))
 
 -- the level that is driven, by what is kept
-abbrev pub kept_drive : State → List Level → List Level → Level
-kept_drive (states.Sending last run) bits sent = if nat_le 5 run then opposite last else at sent (length bits)
-kept_drive (states.ReceivedTail place is_right) bits sent = if (place == 1) && is_right then Dominant else Recessive
-kept_drive (states.Flag cause role count run) bits sent = Dominant
-kept_drive state bits sent = Recessive
+abbrev pub state_drive : State → List Level → List Level → Level
+state_drive (states.Sending last run) bits sent = if nat_le 5 run then opposite last else at sent (length bits)
+state_drive (states.ReceivedTail place is_right) bits sent = if (place == 1) && is_right then Dominant else Recessive
+state_drive (states.Flag cause role count run) bits sent = Dominant
+state_drive state bits sent = Recessive
 
 -- whether the bus is idle, by what is kept
-abbrev pub kept_idle : State → Bool
-kept_idle states.Idle = true
-kept_idle (states.Suspended count) = true
-kept_idle state = false
+abbrev pub is_idle_state : State → Bool
+is_idle_state states.Idle = true
+is_idle_state (states.Suspended count) = true
+is_idle_state state = false

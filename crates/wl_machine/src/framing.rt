@@ -22,7 +22,7 @@ use wl_frame::frame::Frame;
 use wl_frame::places::{is_arbitration, is_crc_right, is_whole, rtr_place};
 use wl_level::Level;
 
-/// Behind so many equal bits a stuff bit is due.
+/// After so many equal bits a stuff bit is due.
 const STUFF_RUN: u8 = 5;
 
 /// The acknowledgement slot, by its place after the end of what is stuffed.

@@ -9,7 +9,7 @@ ghost use Rattle.wl_machine.specs.Stretch.Flag.{OverloadFlag as OverloadSort};
 ghost use Rattle.wl_machine.specs.Flags.{error_of, error_flag};
 ghost use Rattle.wl_machine.specs.Stretch.{Stretch};
 ghost use Rattle.wl_machine.specs.Stretch.Sort.{OffBus};
-ghost use Rattle.wl_machine.specs.States.{IsIn, IsReachedBy, Meets, kept_drive, kept_idle, sample_of, stretch_by};
+ghost use Rattle.wl_machine.specs.States.{IsIn, IsReachedBy, Meets, state_drive, is_idle_state, sample_of, stretch_by};
 
 use crate::Done;
 use crate::framing::ACKNOWLEDGEMENT;
@@ -171,7 +171,7 @@ impl Progress {
 
     /// The level that is driven at the next bit.
     pub fn drive(&self) -> Level
-        ensures { result ≡ kept_drive self.now.state self.now.bits.items self.now.sent.items }
+        ensures { result ≡ state_drive self.now.state self.now.bits.items self.now.sent.items }
     {
         match self.state {
             State::Sending { last, run } => self.sent_level(last, run),
@@ -192,7 +192,7 @@ impl Progress {
 
     /// The bus is idle to a node that has nothing to send, or is suspended.
     pub fn is_idle(&self) -> bool
-        ensures { result ≡ kept_idle self.now.state }
+        ensures { result ≡ is_idle_state self.now.state }
     {
         match self.state {
             State::Idle | State::Suspended { .. } => true,

@@ -1,7 +1,7 @@
 //! For how long a machine is sure to drive recessive.
 
 ghost use Rattle.std.specs.Prelude.{◌≡◌};
-ghost use Rattle.wl_machine.specs.Silence.{kept_silence};
+ghost use Rattle.wl_machine.specs.Silence.{state_silence};
 
 use crate::progress::Progress;
 use crate::state::State;
@@ -24,7 +24,7 @@ const RECOVERED: u16 = 128;
 impl Progress {
     /// For how many samples more the machine is sure to drive recessive, with heads or without.
     pub fn silence(&self, heads: bool) -> u16
-        ensures { result ≡ kept_silence heads self.now.state self.now.bits.items }
+        ensures { result ≡ state_silence heads self.now.state self.now.bits.items }
     {
         match self.state {
             State::Integrating { run } => (INTEGRATED - 1).saturating_sub(run as u16),

@@ -13,7 +13,7 @@ use Rattle.wl_segments.specs.Lengths.{AreLengths, sample_at}
 use Rattle.wl_sync.specs.declared.Beat.{Beat}
 use Rattle.wl_sync.specs.declared.Beat.TheVariants.{Plain, Sample, Start}
 use Rattle.wl_sync.specs.Bits.{beat_of, sync_of}
-use Rattle.wl_sync.specs.SampleLaws.{SampleLaws, way}
+use Rattle.wl_sync.specs.SampleLaws.{SampleLaws, quanta_to_sample}
 use Rattle.wl_confine.specs.declared.Mode.{Mode}
 use Rattle.wl_confine.specs.Counts.{counts_of, mode_of}
 use Rattle.wl_machine.specs.Stretch.{Stretch, Sampled, Input}
@@ -22,7 +22,7 @@ use Rattle.wl_machine.specs.Judged.{judged, stretch_of, stretch_after, drive_of}
 use Rattle.wl_machine.specs.Silence.{SilenceLaws, silence_of}
 use Rattle.wl_machine.proofs.Callers.{stretch_next}
 use Rattle.wl_node.specs.declared.setup.NodeSetup.{NodeSetup}
-use Rattle.wl_node.specs.History.{History, history_of, no_history, seen_next, sampled_next, ready_head, is_sent, passed, switched_off, by_beat, syncs_at}
+use Rattle.wl_node.specs.History.{History, history_of, no_history, seen_next, sampled_next, ready_head, is_sent, passed_frames, switched_off, by_beat, syncs_at}
 use Rattle.wl_node.specs.Limits.{most_quiet, most_quiet-is}
 use Rattle.wl_node.specs.Quiet.{pending_of, is_waiting, floor_by, floor_at, floor_and_silence, promise_at, quiet_of, drive_at, changes_of}
 use Rattle.wl_node.proofs.Turns.{history_first, history_next}
@@ -63,7 +63,7 @@ abbrev pub place_of : NodeSetup → ℕ
 place_of setup = sample_at setup.segments
 
 abbrev pub way_at : NodeSetup → History → Option ℕ
-way_at setup h = way setup.segments h.seen
+way_at setup h = quanta_to_sample setup.segments h.seen
 
 -- between a start and its sample the drive is what the machine wants
 abbrev pub IsSettled : NodeSetup → History → Type 0
@@ -212,7 +212,7 @@ module _ (silences : SilenceLaws) (ways : SampleLaws) (setup : NodeSetup) where
           silent_behind (is_waiting setup h) h.inputs (switched_off x.mode after) x n (off_or_not x.mode after) (none_handed (count_by is_sent h.frames) (length h.seen)) more in
           let later : silence_of (is_waiting setup h) (stretch_of next.inputs) ≤ silence_at next =
           never_less (is_waiting setup h) (is_waiting setup next) (stretch_of next.inputs)
-          (none_later (count_by is_sent h.frames) (count_by is_sent next.frames) (let g = count_append is_sent h.frames (passed (length h.seen) (judged (stretch_of h.inputs) x).ended) in omega arith)) in
+          (none_later (count_by is_sent h.frames) (count_by is_sent next.frames) (let g = count_append is_sent h.frames (passed_frames (length h.seen) (judged (stretch_of h.inputs) x).ended) in omega arith)) in
           let settled_next : same h.drive (pending_of next) ≡ true = same_when h.drive (pending_of next) (s 1 one ∙ silences.now (is_waiting setup h) (stretch_of h.inputs) n more ∙ sym b.pending) in
           let floor_next : floor_at setup next ≡ suc (place_of setup) =
           ap (λ o. floor_by o (same h.drive (pending_of next)) (place_of setup)) (ways.sample setup.segments h.seen (seen_next h level) v e) ∙ ap (λ t. floor_by None t (place_of setup)) settled_next in
@@ -273,7 +273,7 @@ module _ (counts : CountsBelow) (ways : SampleLaws) (setup : NodeSetup) where
 
   -- the quanta of as many parts of bits from a start to its sample as there were changes
   abbrev IsFew : List Level → Type 0
-  IsFew levels = changes_of setup levels * suc (sample_at setup.segments) ≤ length levels + left (way setup.segments (history_of setup levels).seen)
+  IsFew levels = changes_of setup levels * suc (sample_at setup.segments) ≤ length levels + left (quanta_to_sample setup.segments (history_of setup levels).seen)
 
   abbrev part : ℕ
   part = suc (sample_at setup.segments)
@@ -288,22 +288,22 @@ module _ (counts : CountsBelow) (ways : SampleLaws) (setup : NodeSetup) where
   one_more true c n q = omega arith
   one_more false c n q = omega arith
 
-  few_by : (c n : ℕ) (h : History) (level : Level) (b : Beat) → beat_next setup h level ≡ b → ((m : ℕ) → way setup.segments h.seen ≡ Some m → h.drive ≡ pending_of h)
-      → c * part ≤ n + left (way setup.segments h.seen)
-      → (c + one_if (not (same h.drive (behind setup h level b).drive))) * part ≤ suc n + left (way setup.segments (behind setup h level b).seen)
+  few_by : (c n : ℕ) (h : History) (level : Level) (b : Beat) → beat_next setup h level ≡ b → ((m : ℕ) → quanta_to_sample setup.segments h.seen ≡ Some m → h.drive ≡ pending_of h)
+      → c * part ≤ n + left (quanta_to_sample setup.segments h.seen)
+      → (c + one_if (not (same h.drive (behind setup h level b).drive))) * part ≤ suc n + left (quanta_to_sample setup.segments (behind setup h level b).seen)
   few_by c n h level Start e s q =
       subst (λ o. (c + one_if (not (same h.drive (pending_of h)))) * part ≤ suc n + left o) (sym (ways.start setup.segments h.seen (seen_next h level) e))
-      (starts (way setup.segments h.seen) refl q)
+      (starts (quanta_to_sample setup.segments h.seen) refl q)
     where
-      starts : (o : Option ℕ) → way setup.segments h.seen ≡ o → c * part ≤ n + left o → (c + one_if (not (same h.drive (pending_of h)))) * part ≤ suc n + sample_at setup.segments
+      starts : (o : Option ℕ) → quanta_to_sample setup.segments h.seen ≡ o → c * part ≤ n + left o → (c + one_if (not (same h.drive (pending_of h)))) * part ≤ suc n + sample_at setup.segments
       starts (Some m) f r = stays_few c _ (n + m) _ (none_more h.drive (pending_of h) (s m f)) r (let l = ways.few setup.segments h.seen m f in omega arith)
       starts None f r = one_more (not (same h.drive (pending_of h))) c n (omega arith)
   few_by c n h level (Sample v) e s q =
       stays_few c _ (n + 1) _ (none_more h.drive h.drive refl) (subst (λ o. c * part ≤ n + left o) (ways.sampled setup.segments h.seen (seen_next h level) v e) q) (omega arith)
-  few_by c n h level Plain e s q = plain (way setup.segments h.seen) refl q
+  few_by c n h level Plain e s q = plain (quanta_to_sample setup.segments h.seen) refl q
     where
-      plain : (o : Option ℕ) → way setup.segments h.seen ≡ o → c * part ≤ n + left o
-          → (c + one_if (not (same h.drive h.drive))) * part ≤ suc n + left (way setup.segments (h.seen ++ seen_next h level ∷ []))
+      plain : (o : Option ℕ) → quanta_to_sample setup.segments h.seen ≡ o → c * part ≤ n + left o
+          → (c + one_if (not (same h.drive h.drive))) * part ≤ suc n + left (quanta_to_sample setup.segments (h.seen ++ seen_next h level ∷ []))
       plain None f r = stays_few c _ (n + 0) _ (none_more h.drive h.drive refl) r (omega arith)
       plain (Some m) f r =
           let near = ways.near setup.segments h.seen (seen_next h level) m e f in
@@ -316,21 +316,21 @@ module _ (counts : CountsBelow) (ways : SampleLaws) (setup : NodeSetup) where
       (λ levels x q.
       let by = few_by (changes_of setup levels) (length levels) (history_of setup levels) x (beat_next setup (history_of setup levels) x) refl (settled ways setup levels) q in
       let at : (changes_of setup levels + one_if (not (same (history_of setup levels).drive (history_of setup (levels ++ x ∷ [])).drive))) * part
-      ≤ suc (length levels) + left (way setup.segments (history_of setup (levels ++ x ∷ [])).seen) =
-      subst (λ (next : History). (changes_of setup levels + one_if (not (same (history_of setup levels).drive next.drive))) * part ≤ suc (length levels) + left (way setup.segments next.seen)) (sym (history_next setup levels x)) by in
+      ≤ suc (length levels) + left (quanta_to_sample setup.segments (history_of setup (levels ++ x ∷ [])).seen) =
+      subst (λ (next : History). (changes_of setup levels + one_if (not (same (history_of setup levels).drive next.drive))) * part ≤ suc (length levels) + left (quanta_to_sample setup.segments next.seen)) (sym (history_next setup levels x)) by in
       let e : changes_of setup (levels ++ x ∷ []) * part ≡ (changes_of setup levels + one_if (not (same (history_of setup levels).drive (history_of setup (levels ++ x ∷ [])).drive))) * part =
       ap (λ n. n * part) (changes_next levels x) in
       omega (arith, length_more levels x))
 
-  left_few : (h : History) (o : Option ℕ) → way setup.segments h.seen ≡ o → left o ≤ sample_at setup.segments
+  left_few : (h : History) (o : Option ℕ) → quanta_to_sample setup.segments h.seen ≡ o → left o ≤ sample_at setup.segments
   left_few h (Some m) f = ways.few setup.segments h.seen m f
   left_few h None f = omega arith
 
   pub few_changes : (levels : List Level) → changes_of setup levels ≤ length levels / part + 1
   few_changes levels = elim (cases_lt (length levels / part + 1) (changes_of setup levels)) [
     | inl many ↦ absurd (
-        let q : changes_of setup levels * part ≤ length levels + left (way setup.segments (history_of setup levels).seen) = few levels in
-        let r = left_few (history_of setup levels) (way setup.segments (history_of setup levels).seen) refl in
+        let q : changes_of setup levels * part ≤ length levels + left (quanta_to_sample setup.segments (history_of setup levels).seen) = few levels in
+        let r = left_few (history_of setup levels) (quanta_to_sample setup.segments (history_of setup levels).seen) refl in
         let two : part * (length levels / part + 2) ≤ part * changes_of setup levels = mul-le-mul_left part (omega arith) in
         far (length levels) (changes_of setup levels) (sample_at setup.segments) (omega arith) two)
     | inr h ↦ h

@@ -14,7 +14,7 @@ use Rattle.wl_machine.specs.Judged.{judged, or_next, stretch_after, stretch_of, 
 use Rattle.wl_machine.specs.Laws.{HeadLaws}
 use Rattle.wl_machine.proofs.Callers.{stretch_next}
 use Rattle.wl_node.specs.declared.setup.Queued.{Queued}
-use Rattle.wl_node.specs.History.{ready_head, passed, is_sent, switched_off}
+use Rattle.wl_node.specs.History.{ready_head, passed_frames, is_sent, switched_off}
 use Rattle.wl_node.specs.Kept.{first_frame}
 
 pub count_append : {X : Type 0} (p : X → Bool) (xs ys : List X) → count_by p (xs ++ ys) ≡ count_by p xs + count_by p ys
@@ -44,7 +44,7 @@ module _ (laws : HeadLaws) where
       (ready : x.head ≡ ready_head unsent quantum) where
     -- a sample that leaves a head has sent no frame
     none_sent : (frame : Content) → head_of (stretch_after s (Sample x)).sort ≡ Some frame → (ended : Ended) → (judged s x).ended ≡ ended
-        → count_by is_sent (passed quantum ended) ≡ 0
+        → count_by is_sent (passed_frames quantum ended) ≡ 0
     none_sent frame e NoFrame j = refl
     none_sent frame e (Received other) j = refl
     none_sent frame e (Sent other) j =
@@ -65,7 +65,7 @@ module _ (laws : HeadLaws) where
 
     -- the first unsent frame after a sample that leaves a head
     sends_on : (frame : Content) → head_of (stretch_after s (Sample x)).sort ≡ Some frame
-        → (first_frame unsent ≡ Some frame) × (count_by is_sent (passed quantum (judged s x).ended) ≡ 0)
+        → (first_frame unsent ≡ Some frame) × (count_by is_sent (passed_frames quantum (judged s x).ended) ≡ 0)
     sends_on frame e = (still_first frame e (judged s x).next refl, none_sent frame e (judged s x).ended refl)
 
   -- the same over all that reached the machine, with the order to go off the bus after the sample
@@ -82,7 +82,7 @@ module _ (laws : HeadLaws) where
       → ((frame : Content) → head_of (stretch_of past).sort ≡ Some frame → first_frame (drop sent queue) ≡ Some frame)
       → x.head ≡ ready_head (drop sent queue) quantum
       → (frame : Content) → head_of (stretch_of ((past ++ Sample x ∷ []) ++ switched_off x.mode after)).sort ≡ Some frame
-      → first_frame (drop (sent + count_by is_sent (passed quantum (judged (stretch_of past) x).ended)) queue) ≡ Some frame
+      → first_frame (drop (sent + count_by is_sent (passed_frames quantum (judged (stretch_of past) x).ended)) queue) ≡ Some frame
   sends_next past x queue sent quantum after before ready frame e =
       let now = sends_off (past ++ Sample x ∷ []) frame (switched_off x.mode after) (off_or_not x.mode after) e in
       let both = sends_on (stretch_of past) x (drop sent queue) quantum before ready frame (sym (ap (λ s. head_of s.sort) (stretch_next past (Sample x))) ∙ now) in

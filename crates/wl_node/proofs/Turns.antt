@@ -18,7 +18,7 @@ pub history_next : (setup : NodeSetup) (levels : List Level) (level : Level) →
 unfolding history_of
 history_next setup levels level = fold-append (history_after setup) no_history levels (level ∷ [])
 
--- what the bit clock is told is what it sees
+-- what the bit clock is given is what it sees
 pub seen_is : (h : History) (level drive : Level) (idle driving : Bool) → idle ≡ is_idle_sort (stretch_of h.inputs).sort
     → driving ≡ is_dominant drive → drive ≡ h.drive → ◌≡◌ {A = Seen} (record { level = level; idle = idle; driving = driving }) (seen_next h level)
 seen_is h level drive idle driving e f g i = record { level = level; idle = e i; driving = (f ∙ ap is_dominant g) i }

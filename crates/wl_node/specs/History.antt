@@ -50,10 +50,10 @@ ready_head [] quantum = None
 ready_head (q ∷ qs) quantum = if nat_le q.ready quantum then Some q.frame else None
 
 -- what is kept of a frame that a sample completed
-abbrev pub passed : ℕ → Ended → List Passed
-passed quantum NoFrame = []
-passed quantum (Sent frame) = record { sent = true; quantum = quantum; frame = frame } ∷ []
-passed quantum (Received frame) = record { sent = false; quantum = quantum; frame = frame } ∷ []
+abbrev pub passed_frames : ℕ → Ended → List Passed
+passed_frames quantum NoFrame = []
+passed_frames quantum (Sent frame) = record { sent = true; quantum = quantum; frame = frame } ∷ []
+passed_frames quantum (Received frame) = record { sent = false; quantum = quantum; frame = frame } ∷ []
 
 -- where the mode becomes bus off, the machine goes off the bus at once (Bosch CAN 2.0 part B, section 8, rule 10)
 abbrev pub switched_off : Mode → Mode → List Input
@@ -74,27 +74,27 @@ sampled_next setup h level = record {
 }
 
 -- the history after a sample that the machine judged so
-abbrev pub judged_so : History → Sampled → Judgement → History
-judged_so h x judgement =
+abbrev pub history_after_judgement : History → Sampled → Judgement → History
+history_after_judgement h x judgement =
     record {
       seen = h.seen;
       inputs = (h.inputs ++ Sample x ∷ []) ++ switched_off x.mode (mode_of (counts_of (h.happened ++ judgement.happened ∷ [])));
       happened = h.happened ++ judgement.happened ∷ [];
       samples = h.samples ++ (length h.seen, x.level) ∷ [];
-      frames = h.frames ++ passed (length h.seen) judgement.ended;
+      frames = h.frames ++ passed_frames (length h.seen) judgement.ended;
       syncs = h.syncs;
       drive = h.drive;
     }
 
 -- a sample goes to the machine and then to the counters
-abbrev pub sampled : NodeSetup → History → Level → History
-sampled setup h level = let x : Sampled = sampled_next setup h level in judged_so h x (judged (stretch_of h.inputs) x)
+abbrev pub history_after_sample : NodeSetup → History → Level → History
+history_after_sample setup h level = let x : Sampled = sampled_next setup h level in history_after_judgement h x (judged (stretch_of h.inputs) x)
 
 -- what a quantum does by its beat: where a bit starts, the node drives what the machine wants since its last sample
 abbrev pub by_beat : NodeSetup → History → Level → Beat → History
 by_beat setup h level beats.Plain = h
 by_beat setup h level beats.Start = record h { drive = drive_of (stretch_of h.inputs) }
-by_beat setup h level (beats.Sample _) = sampled setup h level
+by_beat setup h level (beats.Sample _) = history_after_sample setup h level
 
 abbrev pub syncs_at : ℕ → Option Sync → List (ℕ × Sync)
 syncs_at quantum None = []

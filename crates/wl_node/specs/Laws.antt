@@ -2,7 +2,7 @@
 use Rattle.std.specs.Prelude.{◌≡◌, ℕ, suc, ◌+◌, ◌/◌, ◌≤◌, List, ◌++◌, length, Some}
 use Rattle.wl_level.specs.declared.Level.{Level}
 use Rattle.wl_segments.specs.Lengths.{AreLengths, sample_at}
-use Rattle.wl_sync.specs.SampleLaws.{way}
+use Rattle.wl_sync.specs.SampleLaws.{quanta_to_sample}
 use Rattle.wl_node.specs.declared.setup.NodeSetup.{NodeSetup}
 use Rattle.wl_node.specs.declared.node.Node.{Node}
 use Rattle.wl_node.specs.History.{history_of}
@@ -19,12 +19,12 @@ pub record NodeLaws : Type 0 where
 -- What holds of the drive of a node, whatever it sees.
 pub record DriveLaws : Type 0 where
   -- between the start of a bit and its sample a node drives what its machine wants
-  pub settled : (setup : NodeSetup) (levels : List Level) (n : ℕ) → way setup.segments (history_of setup levels).seen ≡ Some n
+  pub settled : (setup : NodeSetup) (levels : List Level) (n : ℕ) → quanta_to_sample setup.segments (history_of setup levels).seen ≡ Some n
       → (history_of setup levels).drive ≡ pending_of (history_of setup levels)
   -- no list of at most so many levels as it is quiet for changes its drive
   pub quiet : (setup : NodeSetup) (levels more : List Level) → length more ≤ quiet_of setup levels
       → (history_of setup (levels ++ more)).drive ≡ (history_of setup levels).drive
-  -- it is quiet up to its next sample at least, and for no more than what may be told
+  -- it is quiet up to its next sample at least, and for no more than what a record can promise
   pub floor : (setup : NodeSetup) (levels : List Level) → AreLengths setup.segments → floor_at setup (history_of setup levels) ≤ quiet_of setup levels
   pub most : (setup : NodeSetup) (levels : List Level) → quiet_of setup levels ≤ most_quiet
   -- two changes are as far apart as a start and its sample: the quanta of that part of a bit give room for one change, and there is one more

@@ -6,7 +6,7 @@ use Rattle.wl_level.specs.declared.Level.{Level}
 use Rattle.wl_level.specs.Levels.{same}
 use Rattle.wl_level.specs.Places.{count_places}
 use Rattle.wl_segments.specs.Lengths.{sample_at}
-use Rattle.wl_sync.specs.SampleLaws.{way}
+use Rattle.wl_sync.specs.SampleLaws.{quanta_to_sample}
 use Rattle.wl_machine.specs.Judged.{stretch_of, drive_of}
 use Rattle.wl_machine.specs.Silence.{silence_of}
 use Rattle.wl_node.specs.declared.setup.NodeSetup.{NodeSetup}
@@ -26,7 +26,7 @@ floor_by None true place = suc place
 floor_by None false place = 0
 
 abbrev pub floor_at : NodeSetup → History → ℕ
-floor_at setup h = floor_by (way setup.segments h.seen) (same h.drive (pending_of h)) (sample_at setup.segments)
+floor_at setup h = floor_by (quanta_to_sample setup.segments h.seen) (same h.drive (pending_of h)) (sample_at setup.segments)
 
 -- And by so many samples more as the machine is silent for, where the node drives what it wants: from one sample to the next there are the start of a bit and
 -- a whole place at least.

@@ -2,12 +2,12 @@
 
 ghost use Rattle.wl_node.specs.Laws.{NodeLaws, DriveLaws};
 
-/// Each node is where some levels put it, and those are as many as it has run quanta.
+/// Law: each node is where some levels put it, and those are as many as it has run quanta.
 pub fn node_laws()
     ensures { NodeLaws }
 {}
 
-/// What a node promises of its drive is kept, whatever it sees; between the start of a bit and its
+/// Law: what a node promises of its drive is kept, whatever it sees; between the start of a bit and its
 /// sample it drives what its machine wants; and in `n` quanta its drive changes `n / (sample_at + 1) + 1`
 /// times at most, rounded down.
 pub fn drive_laws()

@@ -40,7 +40,7 @@ fn answers(node: &Node) -> (Level, u64, usize, usize, usize, u64, u64, u64) {
     )
 }
 
-/// One quantum. Where memory is wanted once, the node is as before, and the second try succeeds.
+/// One quantum. Where memory runs out once, the node is as before, and the second try succeeds.
 fn step(rt: &impl Abort, node: &mut Node, level: Level) -> Result<(), Fail> {
     assert!(rt; node.quanta() < MOST_QUANTA);
     let before = answers(node);

@@ -10,7 +10,7 @@ ghost use Rattle.wl_machine.specs.Judged.{stretch_of, drive_of};
 ghost use Rattle.wl_machine.specs.Reached.{IsMachine};
 ghost use Rattle.wl_machine.specs.States.{done_of};
 ghost use Rattle.wl_node.specs.declared.setup.NodeSetup.{NodeSetup};
-ghost use Rattle.wl_node.specs.History.{History, ready_head, passed, is_sent, switched_off, sampled};
+ghost use Rattle.wl_node.specs.History.{History, ready_head, passed_frames, is_sent, switched_off, history_after_sample};
 ghost use Rattle.wl_node.specs.Kept.{IsTraffic, first_frame};
 ghost use Rattle.wl_node.specs.Limits.{most_run_quanta};
 
@@ -50,7 +50,8 @@ fn pass(frames: &mut Vec<Passed>, sent: &mut usize, done: Done, queue: &[Queued]
     requires { vec_len frames.old < vec_capacity frames.old }
     ensures { (ended : Ended) → done ≡ done_of ended
         → ((frame : Content) → ended ≡ SentFrame frame → first_frame (drop sent.old queue.now) ≡ Some frame)
-        → (frames.new.items ≡ frames.old.items ++ passed quantum ended) × (sent.new ≡ sent.old + count_by is_sent (passed quantum ended)) }
+        → (frames.new.items ≡ frames.old.items ++ passed_frames quantum ended)
+        × (sent.new ≡ sent.old + count_by is_sent (passed_frames quantum ended)) }
 {
     match done {
         Done::Nothing => {}
@@ -116,7 +117,7 @@ impl Traffic {
         requires frames { vec_len self.old.frames < vec_capacity self.old.frames }
         requires fits { self.old.errors < most_run_quanta }
         ensures traffic { (setup : NodeSetup) (h : History) → setup.queue ≡ queue.now → length h.seen ≡ quantum
-            → IsTraffic setup self.old h → IsTraffic setup self.new (sampled setup h level) }
+            → IsTraffic setup self.old h → IsTraffic setup self.new (history_after_sample setup h level) }
         ensures errors { self.new.errors ≤ self.old.errors + 1 }
     {
         wl_machine::laws::a_sent_frame_is_the_head_that_began_its_stretch();

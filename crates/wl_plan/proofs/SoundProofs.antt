@@ -27,7 +27,7 @@ pub record ClockLaws : Type 0 where
   pub first : (t : Timing) → tick_of t 0 ≡ t.offset
   pub high : (t : Timing) → IsTiming t → (k n : ℕ) → tick_of t (k + n) ≤ tick_of t k + n * slowest_rate
 
--- What the laws of nodes give: a promise is kept, and isn't too long to be told; and a drive changes few times.
+-- What the laws of nodes give: a promise is kept, and isn't too long for a record; and a drive changes few times.
 pub record QuietLaws : Type 0 where
   pub stays : (setup : NodeSetup) (levels more : List Level) → length more ≤ quiet_of setup levels
       → (history_of setup (levels ++ more)).drive ≡ (history_of setup levels).drive

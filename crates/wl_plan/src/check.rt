@@ -5,12 +5,12 @@ ghost use Rattle.std.specs.List.{enumerate_from};
 ghost use Rattle.wl_clock.specs.Timing.{IsTiming, tick_of};
 ghost use Rattle.wl_segments.specs.Lengths.{AreLengths};
 ghost use Rattle.wl_topology.specs.Delays.{IsTopology};
-ghost use Rattle.wl_plan.specs.Checked.{IsChecked, fault_of, has_wrong_nodes, has_many_quanta, has_long_queue, is_refused, is_far, FaultlessIsChecked, CheckedIsSound};
+ghost use Rattle.wl_plan.specs.Checked.{IsChecked, fault_of, has_wrong_nodes, has_many_quanta, has_long_queue, is_refused, is_far};
 ghost use Rattle.wl_plan.specs.Limits.{latest_end, most_quanta};
 
+use crate::laws::simulation_laws;
 use crate::limits::{LATEST_END, MOST_DISTURBANCES, MOST_QUANTA, MOST_QUEUED};
 use crate::plan::{Disturbance, Plan};
-use crate::simulation::simulation_laws;
 use thiserror::Error;
 use wl_clock::Clock;
 use wl_node::NodeSetup;
@@ -147,21 +147,4 @@ fn first_with_long_queue(nodes: &[NodeSetup]) -> Option<usize>
     ensures { result ≡ position has_long_queue nodes.now }
 {
     nodes.iter().position(|node| node.queue.len() > MOST_QUEUED)
-}
-
-/// Law: a plan, whose clocks, segments and cable are what their types keep, has no fault exactly where it can be run.
-pub fn faultless_is_checked()
-    ensures { FaultlessIsChecked }
-{
-    wl_clock::ticks_increase();
-}
-
-/// Law: the line of a plan that can be run is sound: causes come before effects, and no number outgrows what a record can name.
-pub fn checked_is_sound()
-    ensures { CheckedIsSound }
-{
-    wl_level::place_laws();
-    wl_clock::ticks_increase();
-    wl_node::drive_laws();
-    simulation_laws();
 }

@@ -1,6 +1,6 @@
 //! Groupings: which group each node of a plan is in.
 ghost use Rattle.std.specs.Prelude.{◌≡◌, ◌≤◌, ◌^◌, ◌↔◌, IsTrue, IfOk, OnOk, Err, length, slice_get};
-ghost use Rattle.wl_plan.specs.Groupings.{IsGrouping, groups_of, members_of, most_groups, GroupingLaws};
+ghost use Rattle.wl_plan.specs.Groupings.{IsGrouping, groups_of, members_of, most_groups};
 
 use crate::plan::Plan;
 use std::alloc::{AllocError, Global};
@@ -108,9 +108,3 @@ fn is_grouping(nodes: usize, numbers: &[u8]) -> bool
 {
     numbers.len() == nodes && numbers.iter().all(|number| *number < MOST_GROUPS)
 }
-
-#[tactic(auto, using(crate::proofs::GroupingProofs::grouping_laws))]
-/// Law: each node is in one of as many groups as there are, and the last one has a node; a group's members are the nodes in it, each once.
-pub fn grouping_laws()
-    ensures { GroupingLaws }
-{}

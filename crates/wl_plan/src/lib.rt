@@ -3,15 +3,18 @@
 
 mod check;
 mod grouping;
+mod laws;
 mod limits;
 mod plan;
-mod simulation;
 
-pub use check::{PlanFault, checked_is_sound, faultless_is_checked};
-pub use grouping::{Grouping, GroupingFault, MOST_GROUPS, grouping_laws};
+pub use check::PlanFault;
+pub use grouping::{Grouping, GroupingFault, MOST_GROUPS};
+pub use laws::{
+    checked_is_sound, faultless_is_checked, grouping_laws, outcome_is_true, simulation_laws,
+    test_of_truth,
+};
 pub use limits::{LATEST_END, MOST_DISTURBANCES, MOST_QUANTA, MOST_QUEUED};
-pub use plan::{Disturbance, Disturbances, Nodes, Plan, test_of_truth};
-pub use simulation::{outcome_is_true, simulation_laws};
+pub use plan::{Disturbance, Disturbances, Nodes, Plan};
 
 #[cfg(test)]
 mod tests;

@@ -1,7 +1,6 @@
 //! Plans: what is to be simulated.
 ghost use Rattle.std.specs.Prelude.{◌≡◌, ◌+◌, ◌<◌, ◌≤◌, ◌↔◌, nat_lt, nat_le, ◌&&◌, IsTrue, IfOk, length};
 ghost use Rattle.wl_topology.specs.Delays.{disturbance_delay};
-ghost use Rattle.wl_plan.specs.PlanLine.{TestOfTruth};
 
 use std::alloc::{AllocError, Global};
 use wl_level::Listed;
@@ -17,7 +16,7 @@ pub struct Disturbance {
     pub x: u32,
     /// The first tick at which it is dominant there.
     pub from: u64,
-    /// The first tick behind it.
+    /// The first tick after it.
     pub to: u64,
 }
 
@@ -54,7 +53,7 @@ impl Plan {
             .any(|d| is_at(&self.topology, *d, j, t))
     }
 
-    /// An equal plan. Refused for want of memory alone.
+    /// An equal plan. Refused only when out of memory.
     pub fn clone_in(&self, alloc: Global) -> Result<Plan, AllocError>
         ensures { IfOk result (λ copy. copy ≡ self.now) }
     {
@@ -117,8 +116,3 @@ fn copied(alloc: Global, setups: &[NodeSetup]) -> Result<Nodes, AllocError>
     }
     Ok(copy)
 }
-
-/// Law: truth of a record by cases, of the table of a plan's changes, and the test of it agree.
-pub fn test_of_truth()
-    ensures { TestOfTruth }
-{}

@@ -44,7 +44,17 @@ impl Record {
         }
     }
 
-    ghost use Rattle.wl_record_core.specs.Slots.{slot_of};
+    ghost use Rattle.wl_record_core.specs.Slots.{node_of, slot_of};
+
+    /// The node that the record speaks of.
+    pub fn node(&self) -> u8
+        ensures { result ≡ node_of self.now }
+    {
+        match *self {
+            Record::Edge { node, .. } | Record::Clash { node, .. } | Record::Silence { node, .. } =>
+                node,
+        }
+    }
 
     /// The slot that the record speaks of. An edge and a clash of one change share it.
     pub fn slot(&self) -> Slot
@@ -60,7 +70,7 @@ impl Record {
     }
 }
 
-/// A silence of node 0 up to tick 0, which says nothing. Lists of a fixed size hold it where they hold no record.
+/// A silence of node 0 up to tick 0, which promises nothing. Lists of a fixed size hold it where they hold no record.
 impl Default for Record {
     ghost use Rattle.wl_record_core.specs.declared.record.Record.TheVariants.{Silence};
 

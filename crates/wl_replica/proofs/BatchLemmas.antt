@@ -20,7 +20,7 @@ use Rattle.wl_replica.proofs.CallerLemmas.{nothing_more}
 use Rattle.wl_replica.specs.Keys.{Key, key_cmp}
 use Rattle.wl_replica.proofs.States.{edge_maps, silence_maps}
 use Rattle.wl_replica.specs.Kept.{word_in, joined_all, words_shown, holds_edge, holds_silence, AreKept, HasSlot, HaveSlots}
-use Rattle.wl_replica.specs.State.{State, edge_word, silence_word, taken_all, Fits, FitsEdge, FitsSilence}
+use Rattle.wl_replica.specs.State.{State, edge_word, silence_word, state_with_records, Fits, FitsEdge, FitsSilence}
 use Rattle.wl_replica.proofs.RoundTrip.{edge_words_held, silence_words_held}
 use Rattle.wl_replica.proofs.States.{same_parts}
 use Rattle.wl_replica.proofs.Tells.{tells_edge, tells_silence}
@@ -106,8 +106,8 @@ module _ (nodes : ℕ) (edges new_edges : BTreeMap Key FlatWord) (silences new_s
   }
 
   pub all_shown : (t : State) → ◌≡◌ {A = State} (record { nodes = nodes; edges = words_shown holds_edge edges.entries; silences = words_shown holds_silence silences.entries }) t
-      → ◌≡◌ {A = State} (record { nodes = nodes; edges = words_shown holds_edge new_edges.entries; silences = words_shown holds_silence new_silences.entries }) (taken_all t rs)
+      → ◌≡◌ {A = State} (record { nodes = nodes; edges = words_shown holds_edge new_edges.entries; silences = words_shown holds_silence new_silences.entries }) (state_with_records t rs)
   all_shown t is =
       same_parts _ _ _ _ _ _ refl (shown_all edge_maps tells_edge edges new_edges (filter_map edge_word rs) kept.edges_ordered p (edge_words_held rs) e)
       (shown_all silence_maps tells_silence silences new_silences (filter_map silence_word rs) kept.silences_ordered q (silence_words_held rs) s)
-      ∙ ap (λ u. taken_all u rs) is
+      ∙ ap (λ u. state_with_records u rs) is

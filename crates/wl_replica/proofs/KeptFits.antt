@@ -15,10 +15,10 @@ use Rattle.wl_record_core.specs.Limits.{most_edges, tick_end}
 use Rattle.wl_record_core.specs.declared.record.Record.{Record}
 use Rattle.wl_record_core.specs.Truth.{IsIncreasing, AreTrueOf}
 use Rattle.wl_replica.specs.Keys.{Key, key_cmp}
-use Rattle.wl_replica.specs.State.{State, state_of, states_joined, taken_all, slots_of, Fits, FitsEdge, FitsSilence}
+use Rattle.wl_replica.specs.State.{State, state_of, states_joined, state_with_records, slots_of, Fits, FitsEdge, FitsSilence}
 use Rattle.wl_replica.specs.Canonical.{records_of_node}
 use Rattle.wl_replica.specs.Kept.{word_in, edges_in, silences_in, holds_edge, holds_silence, words_shown, AreKept, TicksAreWithin}
-use Rattle.wl_replica.specs.Known.{is_run, greatest, promised, after_edges, known_by, ticks, intervals, run_length, horizon, wave}
+use Rattle.wl_replica.specs.Known.{is_run, greatest_passing, longest_promise, after_edges, known_by, ticks, intervals, run_length, horizon, wave}
 use Rattle.wl_replica.specs.KnownLaws.{KnownLaws}
 use Rattle.wl_replica.specs.Slots.{HoldsTrue, IsBelow, slots_joined}
 use Rattle.wl_replica.specs.SlotsOf.{NoHorizonFalls}
@@ -49,7 +49,7 @@ module _ (laws : KnownLaws) where
       (subst (HoldsTrue s.nodes table) (sym e) (laws.true_joined s.nodes table (slots_of s) (slots_of u) p q))
       (subst (IsBelow (slots_of s)) (sym e) (slots_laws.above_first (slots_of s) (slots_of u)))
 
-  pub taken_keeps : (s t : State) (rs : List Record) → t ≡ taken_all s rs → (table : ℕ → List ℕ) → ((i : ℕ) → IsIncreasing (table i))
+  pub taken_keeps : (s t : State) (rs : List Record) → t ≡ state_with_records s rs → (table : ℕ → List ℕ) → ((i : ℕ) → IsIncreasing (table i))
       → HoldsTrue s.nodes table (slots_of s) → AreTrueOf s.nodes table rs → NoHorizonFalls s t
   taken_keeps s t rs is table order p q =
       joined_keeps s (state_of s.nodes rs) t is table order p (subst (HoldsTrue s.nodes table) (sym (slots_of-records s.nodes rs)) (laws.true_records s.nodes table rs q))
@@ -64,7 +64,7 @@ silence_within nodes edges silences h node n = elim (cases_lt 0 (silences_in sil
   | inr none ↦ omega arith
 ]
 
-pub promise_within : (s : ℕ → ℕ) (m : ℕ) → ((n : ℕ) → s n ≤ tick_end) → promised s m ≤ tick_end
+pub promise_within : (s : ℕ → ℕ) (m : ℕ) → ((n : ℕ) → s n ≤ tick_end) → longest_promise s m ≤ tick_end
 promise_within s zero h = h 0
 promise_within s (suc m) h = omega (arith, promise_within s m h, h (suc m))
 
@@ -76,16 +76,16 @@ module _ (nodes : ℕ) (edges : BTreeMap Key FlatWord) (silences : BTreeMap Key 
   pub silences_shown : silences_in silences node ≡ (slots_of t).silence node
   silences_shown = (λ i n. (sym (word_shown silence_maps tells_silence silences h.silences_ordered (node, n)) i).word) ∙ ap (λ (s : State). (slots_of s).silence node) is
 
-  pub run_shown : greatest most_edges (is_run (edges_in edges node) (silences_in silences node)) ≡ run_length (slots_of t) node
-  run_shown = λ i. greatest most_edges (is_run (edges_shown i) (silences_shown i))
+  pub run_shown : greatest_passing most_edges (is_run (edges_in edges node) (silences_in silences node)) ≡ run_length (slots_of t) node
+  run_shown = λ i. greatest_passing most_edges (is_run (edges_shown i) (silences_shown i))
 
-  pub horizon_shown : (m : ℕ) → m ≡ greatest most_edges (is_run (edges_in edges node) (silences_in silences node))
-      → max (after_edges (edges_in edges node) m) (promised (silences_in silences node) m) ≡ horizon (slots_of t) node
+  pub horizon_shown : (m : ℕ) → m ≡ greatest_passing most_edges (is_run (edges_in edges node) (silences_in silences node))
+      → max (after_edges (edges_in edges node) m) (longest_promise (silences_in silences node) m) ≡ horizon (slots_of t) node
   horizon_shown m e = ap (λ n. known_by (edges_in edges node) (silences_in silences node) n) e ∙ (λ i. known_by (edges_shown i) (silences_shown i) (run_shown i))
 
-  pub known_shown : known_by (edges_in edges node) (silences_in silences node) (greatest most_edges (is_run (edges_in edges node) (silences_in silences node))) ≡ horizon (slots_of t) node
-  known_shown = horizon_shown (greatest most_edges (is_run (edges_in edges node) (silences_in silences node))) refl
+  pub known_shown : known_by (edges_in edges node) (silences_in silences node) (greatest_passing most_edges (is_run (edges_in edges node) (silences_in silences node))) ≡ horizon (slots_of t) node
+  known_shown = horizon_shown (greatest_passing most_edges (is_run (edges_in edges node) (silences_in silences node))) refl
 
-  pub wave_shown : intervals (ticks (edges_in edges node) (greatest most_edges (is_run (edges_in edges node) (silences_in silences node))))
-      (known_by (edges_in edges node) (silences_in silences node) (greatest most_edges (is_run (edges_in edges node) (silences_in silences node)))) ≡ wave (slots_of t) node
+  pub wave_shown : intervals (ticks (edges_in edges node) (greatest_passing most_edges (is_run (edges_in edges node) (silences_in silences node))))
+      (known_by (edges_in edges node) (silences_in silences node) (greatest_passing most_edges (is_run (edges_in edges node) (silences_in silences node)))) ≡ wave (slots_of t) node
   wave_shown = λ i. intervals (ticks (edges_shown i) (run_shown i)) (known_shown i)

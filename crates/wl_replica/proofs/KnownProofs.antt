@@ -11,7 +11,7 @@ use Rattle.wl_record_core.specs.Truth.{count_below, IsIncreasing, odd}
 use Rattle.wl_record_core.specs.TableLaws.{TableLaws}
 use Rattle.wl_replica.proofs.CallerLemmas.{run_part, tick_is}
 use Rattle.wl_replica.specs.Slots.{Contents, HoldsTrue, IsBelow}
-use Rattle.wl_replica.specs.Known.{is_tick, tick_in, run_goes_on, is_run, greatest, run_length, promised, after_edges, known_by, horizon, ticks, intervals, wave_at, least_up_to, place_horizon}
+use Rattle.wl_replica.specs.Known.{is_tick, tick_in, run_goes_on, is_run, greatest_passing, run_length, longest_promise, after_edges, known_by, horizon, ticks, intervals, wave_at, least_up_to, place_horizon}
 use Rattle.wl_replica.proofs.Covers.{covers_odd}
 
 -- Of one node: edge words, ends of silences, and its list in the table.
@@ -42,7 +42,7 @@ run_ticks e s xs f (suc m) h =
     ∙ take_entry xs m _ (f.edges m _ (goes_tick e s m p.1))
 
 -- the greatest number that passes does pass
-greatest_passes : (b : ℕ) (test : ℕ → Bool) → test 0 ≡ true → test (greatest b test) ≡ true
+greatest_passes : (b : ℕ) (test : ℕ → Bool) → test 0 ≡ true → test (greatest_passing b test) ≡ true
 greatest_passes zero test h = h
 greatest_passes (suc b) test h = elim (cases_Bool (test (suc b))) [
   | inl y ↦ subst (λ v. test v ≡ true) (sym (cond-true (test (suc b)) _ _ y)) y
@@ -50,44 +50,44 @@ greatest_passes (suc b) test h = elim (cases_Bool (test (suc b))) [
 ]
 
 -- and none greater does
-greatest_most : (b : ℕ) (test : ℕ → Bool) (m : ℕ) → m ≤ b → test m ≡ true → m ≤ greatest b test
+greatest_most : (b : ℕ) (test : ℕ → Bool) (m : ℕ) → m ≤ b → test m ≡ true → m ≤ greatest_passing b test
 greatest_most zero test m h p = omega arith
 greatest_most (suc b) test m h p = elim (cases_Bool (test (suc b))) [
-  | inl y ↦ (let e : greatest (suc b) test ≡ suc b = cond-true (test (suc b)) _ _ y in omega arith)
+  | inl y ↦ (let e : greatest_passing (suc b) test ≡ suc b = cond-true (test (suc b)) _ _ y in omega arith)
   | inr n ↦
-      let e : greatest (suc b) test ≡ greatest b test = cond-false (test (suc b)) _ _ n in
+      let e : greatest_passing (suc b) test ≡ greatest_passing b test = cond-false (test (suc b)) _ _ n in
       elim (cases_eq m (suc b)) [
         | inl same ↦ absurd (true≢false (sym p ∙ (ap test same ∙ n)))
         | inr other ↦ (let r = greatest_most b test m (omega arith) p in omega arith)
       ]
 ]
 
-greatest_within : (b : ℕ) (test : ℕ → Bool) → greatest b test ≤ b
+greatest_within : (b : ℕ) (test : ℕ → Bool) → greatest_passing b test ≤ b
 greatest_within zero test = omega arith
 greatest_within (suc b) test = elim (cases_Bool (test (suc b))) [
-  | inl y ↦ (let e : greatest (suc b) test ≡ suc b = cond-true (test (suc b)) _ _ y in omega arith)
-  | inr n ↦ (let e : greatest (suc b) test ≡ greatest b test = cond-false (test (suc b)) _ _ n in let r = greatest_within b test in omega arith)
+  | inl y ↦ (let e : greatest_passing (suc b) test ≡ suc b = cond-true (test (suc b)) _ _ y in omega arith)
+  | inr n ↦ (let e : greatest_passing (suc b) test ≡ greatest_passing b test = cond-false (test (suc b)) _ _ n in let r = greatest_within b test in omega arith)
 ]
 
 is_run_length : (w : Contents) (i : ℕ) → is_run (w.edge i) (w.silence i) (run_length w i) ≡ true
 is_run_length w i = greatest_passes most_edges (is_run (w.edge i) (w.silence i)) refl
 
 -- silences that grow promise more
-promised_up : (s : ℕ → ℕ) (m d : ℕ) → promised s m ≤ promised s (m + d)
+promised_up : (s : ℕ → ℕ) (m d : ℕ) → longest_promise s m ≤ longest_promise s (m + d)
 promised_up s m zero = rw add-zero (omega arith)
 promised_up s m (suc d) = rw add-suc (let r = promised_up s m d in omega arith)
 
-promised_slot_up : (s : ℕ → ℕ) (m m' : ℕ) → m ≤ m' → promised s m ≤ promised s m'
-promised_slot_up s m m' h = subst (λ v. promised s m ≤ promised s v) (omega arith) (promised_up s m (m' - m))
+promised_slot_up : (s : ℕ → ℕ) (m m' : ℕ) → m ≤ m' → longest_promise s m ≤ longest_promise s m'
+promised_slot_up s m m' h = subst (λ v. longest_promise s m ≤ longest_promise s v) (omega arith) (promised_up s m (m' - m))
 
-promised_more : (s s' : ℕ → ℕ) (m : ℕ) → ((n : ℕ) → s n ≤ s' n) → promised s m ≤ promised s' m
+promised_more : (s s' : ℕ → ℕ) (m : ℕ) → ((n : ℕ) → s n ≤ s' n) → longest_promise s m ≤ longest_promise s' m
 promised_more s s' zero h = h 0
 promised_more s s' (suc m) h = (let r = promised_more s s' m h in let q = h (suc m) in omega arith)
 
-promised_slot : (s : ℕ → ℕ) (n m : ℕ) → n ≤ m → s n ≤ promised s m
+promised_slot : (s : ℕ → ℕ) (n m : ℕ) → n ≤ m → s n ≤ longest_promise s m
 promised_slot s n m h = (let a = own n in let b = promised_slot_up s n m h in omega arith)
   where
-    own : (n : ℕ) → s n ≤ promised s n
+    own : (n : ℕ) → s n ≤ longest_promise s n
     own zero = omega arith
     own (suc n) = omega arith
 
@@ -127,9 +127,9 @@ module _ (tables : TableLaws) where
     | inr some ↦ (let a = f.silences n (omega arith) in let b = count_less u (s n) xs h in omega arith)
   ]
 
-  promise_bound : (e : ℕ → FlatWord) (s : ℕ → ℕ) (xs : List ℕ) → Fits e s xs → (m u : ℕ) → u ≤ promised s m → count_below u xs ≤ m
+  promise_bound : (e : ℕ → FlatWord) (s : ℕ → ℕ) (xs : List ℕ) → Fits e s xs → (m u : ℕ) → u ≤ longest_promise s m → count_below u xs ≤ m
   promise_bound e s xs f zero u h = slot_bound e s xs f 0 u h
-  promise_bound e s xs f (suc m) u h = elim (cases_lt (promised s m) u) [
+  promise_bound e s xs f (suc m) u h = elim (cases_lt (longest_promise s m) u) [
     | inr low ↦ (let r = promise_bound e s xs f m u low in omega arith)
     | inl high ↦ slot_bound e s xs f (suc m) u (omega arith)
   ]
@@ -143,7 +143,7 @@ module _ (tables : TableLaws) where
 
   -- The heart: below what m edges and their silences make known there are no more than m changes.
   known_bound : (e : ℕ → FlatWord) (s : ℕ → ℕ) (xs : List ℕ) → Fits e s xs → (m u : ℕ) → is_run e s m ≡ true → u ≤ known_by e s m → count_below u xs ≤ m
-  known_bound e s xs f m u r h = elim (cases_lt (promised s m) u) [
+  known_bound e s xs f m u r h = elim (cases_lt (longest_promise s m) u) [
     | inr low ↦ promise_bound e s xs f m u low
     | inl high ↦ edge_bound e s xs f m u r (omega arith)
   ]

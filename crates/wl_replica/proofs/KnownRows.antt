@@ -3,10 +3,10 @@ use Rattle.std.proofs.Common.{◌≡◌, ℕ, zero, suc, ◌+◌, List, [], ◌�
 use Rattle.wl_record_core.specs.declared.record.Record.{Record}
 use Rattle.wl_record_core.specs.declared.record.Record.TheVariants.{Edge, Clash, Silence}
 use Rattle.wl_replica.specs.Slots.{slots_of_records}
-use Rattle.wl_replica.specs.Known.{is_run, greatest, known_by, ticks, intervals, least_up_to}
+use Rattle.wl_replica.specs.Known.{is_run, greatest_passing, known_by, ticks, intervals, least_up_to}
 
 run_of : ℕ → List Record → ℕ
-run_of i rs = greatest 5 (is_run ((slots_of_records rs).edge i) ((slots_of_records rs).silence i))
+run_of i rs = greatest_passing 5 (is_run ((slots_of_records rs).edge i) ((slots_of_records rs).silence i))
 
 known_of : ℕ → List Record → ℕ
 known_of i rs = known_by ((slots_of_records rs).edge i) ((slots_of_records rs).silence i) (run_of i rs)

@@ -13,7 +13,7 @@ use Rattle.wl_lattice.specs.declared.MaxWord.{MaxWord}
 use Rattle.wl_lattice.specs.Words.{max_word}
 use Rattle.wl_replica.specs.Keys.{Key, key_cmp}
 use Rattle.wl_replica.specs.Kept.{word_in, silences_in}
-use Rattle.wl_replica.specs.Known.{promised}
+use Rattle.wl_replica.specs.Known.{longest_promise}
 use Rattle.wl_replica.proofs.KeyLaws.{key_cmp_total}
 use Rattle.wl_replica.proofs.KeptLemmas.{found}
 
@@ -27,14 +27,14 @@ abbrev pub silences_up_to : ℕ → ℕ → List (Key × MaxWord) → List (Key 
 silences_up_to node count es = entries_between key_cmp (Included (node, 0)) (Excluded (node, count + 1)) es
 
 -- ---- promises
-promised_has : (s : ℕ → ℕ) (m n : ℕ) → n ≤ m → s n ≤ promised s m
+promised_has : (s : ℕ → ℕ) (m n : ℕ) → n ≤ m → s n ≤ longest_promise s m
 promised_has s zero n h = let same : n ≡ 0 = omega arith in subst (λ k. s k ≤ s 0) (sym same) (omega arith)
 promised_has s (suc m) n h = elim (cases_eq n (suc m)) [
-  | inl same ↦ subst (λ k. s k ≤ max (promised s m) (s (suc m))) (sym same) (omega arith)
+  | inl same ↦ subst (λ k. s k ≤ max (longest_promise s m) (s (suc m))) (sym same) (omega arith)
   | inr other ↦ omega (arith, promised_has s m n (omega arith))
 ]
 
-promised_least : (s : ℕ → ℕ) (m top : ℕ) → ((n : ℕ) → n ≤ m → s n ≤ top) → promised s m ≤ top
+promised_least : (s : ℕ → ℕ) (m top : ℕ) → ((n : ℕ) → n ≤ m → s n ≤ top) → longest_promise s m ≤ top
 promised_least s zero top h = h 0 (omega arith)
 promised_least s (suc m) top h = omega (arith, promised_least s m top (λ n le. h n (omega arith)), h (suc m) (omega arith))
 
@@ -62,12 +62,12 @@ module _ (s : ℕ → ℕ) (node count : ℕ) where
   abbrev IsAt : Key × MaxWord → Type 0
   IsAt e = e.0.0 ≡ node → e.1.word ≡ s e.0.1
 
-  most_at_most : (es : List (Key × MaxWord)) → AllByRecursion IsAt es → most (silences_up_to node count es) ≤ promised s count
+  most_at_most : (es : List (Key × MaxWord)) → AllByRecursion IsAt es → most (silences_up_to node count es) ≤ longest_promise s count
   most_at_most [] h = omega arith
   most_at_most (e ∷ es) h =
       let rest = most_at_most es h.1 in
       elim (range_contains key_cmp (Included (node, 0)) (Excluded (node, count + 1)) e.0)
-      as (λ b. range_contains key_cmp (Included (node, 0)) (Excluded (node, count + 1)) e.0 ≡ b → most (cond b (e ∷ silences_up_to node count es) (silences_up_to node count es)) ≤ promised s count) [
+      as (λ b. range_contains key_cmp (Included (node, 0)) (Excluded (node, count + 1)) e.0 ≡ b → most (cond b (e ∷ silences_up_to node count es) (silences_up_to node count es)) ≤ longest_promise s count) [
         | true ↦ λ is.
             let here = in_range node count e.0 is in
             omega (arith, promised_has s count e.0.1 here.1, h.0 here.0, rest)
@@ -75,12 +75,12 @@ module _ (s : ℕ → ℕ) (node count : ℕ) where
       ] refl
 
 pub most_is_promised : (silences : BTreeMap Key MaxWord) (node count : ℕ) → IsOrdered key_cmp silences
-    → most (silences_up_to node count silences.entries) ≡ promised (silences_in silences node) count
+    → most (silences_up_to node count silences.entries) ≡ longest_promise (silences_in silences node) count
 most_is_promised silences node count h =
     let s = silences_in silences node in
     let each : AllByRecursion (IsAt s node count) silences.entries =
     recursion_from_All (IsAt s node count) silences.entries (All-weaker (λ e. get key_cmp silences e.0 ≡ Some e.1) (IsAt s node count) at silences.entries (All-found key_cmp_total silences h)) in
-    let above : promised s count ≤ most (silences_up_to node count silences.entries) = promised_least s count (most (silences_up_to node count silences.entries)) (λ n le.
+    let above : longest_promise s count ≤ most (silences_up_to node count silences.entries) = promised_least s count (most (silences_up_to node count silences.entries)) (λ n le.
     subst (λ o. (unwrap_or o (max_word 0)).word ≤ most (silences_up_to node count silences.entries))
     (lookup-filter-keys (is_at (key_cmp (node, n))) (range_contains key_cmp (Included (node, 0)) (Excluded (node, count + 1))) true (range_has node count n le) silences.entries)
     (found_at_most (silences_up_to node count silences.entries) (node, n))) in

@@ -18,8 +18,9 @@ use Rattle.wl_replica.proofs.States.{edge_maps, silence_maps}
 use Rattle.wl_lattice.specs.Maps.{joined_options, map_of, words_at, MapLaws}
 use Rattle.wl_record_core.specs.declared.record.Record.{Record}
 use Rattle.wl_record_core.specs.declared.record.Record.TheVariants.{Edge, Clash, Silence}
+use Rattle.wl_record_core.specs.Slots.{node_of}
 use Rattle.wl_replica.specs.Keys.{Key, key_cmp}
-use Rattle.wl_replica.specs.State.{State, edge_word, silence_word, state_of, states_joined, node_of}
+use Rattle.wl_replica.specs.State.{State, edge_word, silence_word, state_of, states_joined}
 use Rattle.wl_replica.specs.Canonical.{edge_record, silence_record, of_node, records_of_node, canonical}
 use Rattle.wl_replica.specs.Kept.{holds_edge, holds_silence}
 use Rattle.wl_replica.specs.Laws.{CanonicalDeterminesTheState, MergingIsAppending, JoinsSlotBySlot}

@@ -13,7 +13,7 @@ use Rattle.wl_lattice.specs.Maps.{map_of}
 use Rattle.wl_record_core.specs.declared.record.Record.{Record}
 use Rattle.wl_record_core.specs.declared.record.Record.TheVariants.{Edge, Clash, Silence}
 use Rattle.wl_replica.specs.Keys.{Key, key_cmp}
-use Rattle.wl_replica.specs.State.{State, silence_word, states_joined, taken, state_of, slots_of}
+use Rattle.wl_replica.specs.State.{State, silence_word, states_joined, state_with_record, state_of, slots_of}
 use Rattle.wl_replica.specs.Slots.{slots_joined, slots_only, slots_of_records}
 use Rattle.wl_replica.specs.SlotsOf.{SlotsOfStates}
 use Rattle.wl_replica.proofs.SlotBySlot.{edge_at-joined, silence_at-joined, edge_at-none, silence_at-none}
@@ -58,7 +58,7 @@ slots_of-one nodes (Silence i c u) = slots_same _ _ (λ j n. edge_at-none nodes 
     told j n (inl e) = ap (word j n) (cond-true (u == 0) None (Some ((i, c), max_word u)) (eq-eqb u 0 e)) ∙ (silence_at-none nodes (j, n) ∙ none (j == i && (n == c)) e)
     told j n (inr e) = ap (word j n) (cond-false (u == 0) None (Some ((i, c), max_word u)) (ne_eqb u 0 e)) ∙ (one_silence (i, c) u (j, n) ∙ ap (λ b. cond b u 0) (key_eq j n i c))
 
-pub slots_of-taken : (s : State) (r : Record) → slots_of (taken s r) ≡ slots_joined (slots_of s) (slots_only r)
+pub slots_of-taken : (s : State) (r : Record) → slots_of (state_with_record s r) ≡ slots_joined (slots_of s) (slots_only r)
 slots_of-taken s r = slots_of-joined s (state_of s.nodes (r ∷ [])) ∙ ap (slots_joined (slots_of s)) (slots_of-one s.nodes r)
 
 pub slots_of-records : (nodes : ℕ) (rs : List Record) → slots_of (state_of nodes rs) ≡ slots_of_records rs

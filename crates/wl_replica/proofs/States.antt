@@ -13,7 +13,7 @@ use Rattle.wl_lattice.specs.KeyByKey.{map_laws}
 use Rattle.wl_record_core.specs.declared.record.Record.{Record}
 use Rattle.wl_replica.specs.Keys.{Key, key_cmp}
 use Rattle.wl_replica.proofs.KeyLaws.{key_cmp_total, exact_keys}
-use Rattle.wl_replica.specs.State.{State, edge_word, silence_word, state_of, states_joined, taken_all}
+use Rattle.wl_replica.specs.State.{State, edge_word, silence_word, state_of, states_joined, state_with_records}
 use Rattle.wl_replica.specs.Laws.{SameRecordsSameState, TakingIsJoining, IsJoining}
 
 -- the maps of edges, and of silences, are joined key by key
@@ -67,7 +67,7 @@ taking = record {
 }
 
 -- what took some records, and takes more, took all of them
-pub taken_after : (s t : State) (more : List Record) → t ≡ taken_all s more → (rs : List Record) → s ≡ state_of s.nodes rs → t ≡ state_of s.nodes (rs ++ more)
+pub taken_after : (s t : State) (more : List Record) → t ≡ state_with_records s more → (rs : List Record) → s ≡ state_of s.nodes rs → t ≡ state_of s.nodes (rs ++ more)
 taken_after s t more is rs before = is ∙ (ap (λ u. states_joined u (state_of s.nodes more)) before ∙ state_of-append s.nodes rs more)
 
 pub joined_after : (s t u : State) → u ≡ states_joined s t → (mine theirs : List Record) → s ≡ state_of s.nodes mine → t ≡ state_of s.nodes theirs → u ≡ state_of s.nodes (mine ++ theirs)

@@ -92,7 +92,7 @@ silences_weigh : (ss : List (Key × MaxWord)) → length (text_of (filter_map si
 silences_weigh [] = refl
 silences_weigh (e ∷ ss) = text_of-cons_option (silence_record e) (filter_map silence_record ss) ∙ ap (λ n. silence_weight e + n) (silences_weigh ss)
 
--- what f comes to over the nodes below n
+-- the sum of f over the nodes below n
 abbrev over_nodes : ℕ → (ℕ → ℕ) → ℕ
 over_nodes zero f = 0
 over_nodes (suc n) f = over_nodes n f + f n

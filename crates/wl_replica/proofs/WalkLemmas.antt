@@ -16,21 +16,21 @@ use Rattle.wl_lattice.specs.declared.FlatWord.TheVariants as flat
 use Rattle.wl_replica.specs.Keys.{Key, key_cmp}
 use Rattle.wl_replica.specs.Canonical.{of_node}
 use Rattle.wl_replica.specs.Kept.{edges_in}
-use Rattle.wl_replica.specs.Known.{is_tick, tick_in, run_goes_on, is_run, greatest, after_edges}
+use Rattle.wl_replica.specs.Known.{is_tick, tick_in, run_goes_on, is_run, greatest_passing, after_edges}
 use Rattle.wl_replica.proofs.KeptLemmas.{found}
 
 -- ---- the greatest number that passes
-greatest_is : (b m : ℕ) (test : ℕ → Bool) → m ≤ b → test m ≡ true → ((n : ℕ) → m < n → test n ≡ false) → greatest b test ≡ m
+greatest_is : (b m : ℕ) (test : ℕ → Bool) → m ≤ b → test m ≡ true → ((n : ℕ) → m < n → test n ≡ false) → greatest_passing b test ≡ m
 greatest_is zero m test h p q = omega arith
 greatest_is (suc b) m test h p q = elim (cases_eq m (suc b)) [
-  | inl same ↦ cond-true (test (suc b)) (suc b) (greatest b test) (sym (ap test same) ∙ p) ∙ sym same
-  | inr other ↦ cond-false (test (suc b)) (suc b) (greatest b test) (q (suc b) (omega arith)) ∙ greatest_is b m test (omega arith) p q
+  | inl same ↦ cond-true (test (suc b)) (suc b) (greatest_passing b test) (sym (ap test same) ∙ p) ∙ sym same
+  | inr other ↦ cond-false (test (suc b)) (suc b) (greatest_passing b test) (q (suc b) (omega arith)) ∙ greatest_is b m test (omega arith) p q
 ]
 
 -- the greatest number of a run is the length of one
-pub longest_passes : (e : ℕ → FlatWord) (s : ℕ → ℕ) (b : ℕ) → is_run e s (greatest b (is_run e s)) ≡ true
+pub longest_passes : (e : ℕ → FlatWord) (s : ℕ → ℕ) (b : ℕ) → is_run e s (greatest_passing b (is_run e s)) ≡ true
 longest_passes e s zero = refl
-longest_passes e s (suc b) = elim (is_run e s (suc b)) as (λ v. is_run e s (suc b) ≡ v → is_run e s (cond v (suc b) (greatest b (is_run e s))) ≡ true) [
+longest_passes e s (suc b) = elim (is_run e s (suc b)) as (λ v. is_run e s (suc b) ≡ v → is_run e s (cond v (suc b) (greatest_passing b (is_run e s))) ≡ true) [
   | true ↦ λ is. is
   | false ↦ λ is. longest_passes e s b
 ] refl
@@ -43,7 +43,7 @@ run_stops e s m (suc n) stop lt = elim (cases_eq m n) [
   | inr other ↦ and_left (is_run e s n) (run_goes_on e s n) (run_stops e s m n stop (omega arith))
 ]
 
-pub longest_run : (e : ℕ → FlatWord) (s : ℕ → ℕ) (b m : ℕ) → m ≤ b → is_run e s m ≡ true → run_goes_on e s m ≡ false → m ≡ greatest b (is_run e s)
+pub longest_run : (e : ℕ → FlatWord) (s : ℕ → ℕ) (b m : ℕ) → m ≤ b → is_run e s m ≡ true → run_goes_on e s m ≡ false → m ≡ greatest_passing b (is_run e s)
 longest_run e s b m h run stop = sym (greatest_is b m (is_run e s) h run (λ n lt. run_stops e s m n stop lt))
 
 -- what does not go on: no tick, one inside a silence, or one not above the last

@@ -32,14 +32,14 @@ is_run e s zero = true
 is_run e s (suc m) = is_run e s m && run_goes_on e s m
 
 -- the greatest number up to a bound that passes, or 0
-abbrev pub greatest : ℕ → (ℕ → Bool) → ℕ
-greatest zero test = zero
-greatest (suc b) test = if test (suc b) then suc b else greatest b test
+abbrev pub greatest_passing : ℕ → (ℕ → Bool) → ℕ
+greatest_passing zero test = zero
+greatest_passing (suc b) test = if test (suc b) then suc b else greatest_passing b test
 
 -- the end of the longest of the silences of count at most m
-abbrev pub promised : (ℕ → ℕ) → ℕ → ℕ
-promised s zero = s 0
-promised s (suc m) = max (promised s m) (s (suc m))
+abbrev pub longest_promise : (ℕ → ℕ) → ℕ → ℕ
+longest_promise s zero = s 0
+longest_promise s (suc m) = max (longest_promise s m) (s (suc m))
 
 -- the tick after the last of m edges, 0 for none
 abbrev pub after_edges : (ℕ → FlatWord) → ℕ → ℕ
@@ -48,7 +48,7 @@ after_edges e (suc m) = suc (tick_in (e m))
 
 -- below what tick a run of m edges tells all
 abbrev pub known_by : (ℕ → FlatWord) → (ℕ → ℕ) → ℕ → ℕ
-known_by e s m = max (after_edges e m) (promised s m)
+known_by e s m = max (after_edges e m) (longest_promise s m)
 
 -- the ticks of the first m edges
 abbrev pub ticks : (ℕ → FlatWord) → ℕ → List ℕ
@@ -65,7 +65,7 @@ intervals (a ∷ b ∷ ts) h = (a, b) ∷ intervals ts h
 
 -- how many of node i's first changes are known without a gap
 abbrev pub run_length : Contents → ℕ → ℕ
-run_length w i = greatest most_edges (is_run (w.edge i) (w.silence i))
+run_length w i = greatest_passing most_edges (is_run (w.edge i) (w.silence i))
 
 -- the tick below which node i is known
 abbrev pub horizon : Contents → ℕ → ℕ

@@ -5,9 +5,10 @@ use Rattle.wl_lattice.specs.Words.{joined_flat}
 use Rattle.wl_lattice.specs.declared.FlatWord.TheVariants as flat
 use Rattle.wl_lattice.specs.Maps.{SameMembers}
 use Rattle.wl_record_core.specs.declared.record.Record.{Record}
+use Rattle.wl_record_core.specs.Slots.{node_of}
 use Rattle.wl_record_core.specs.Text.{text_of}
 use Rattle.wl_replica.specs.Keys.{Key}
-use Rattle.wl_replica.specs.State.{State, state_of, states_joined, taken_all, edge_at, silence_at, node_of, Fits}
+use Rattle.wl_replica.specs.State.{State, state_of, states_joined, state_with_records, edge_at, silence_at, Fits}
 use Rattle.wl_replica.specs.Canonical.{canonical}
 
 -- the same records, in any order and however often each, make the same state
@@ -17,8 +18,8 @@ SameRecordsSameState = (nodes : ℕ) (xs ys : List Record) → SameMembers xs ys
 -- the states of two lists, joined, are the state of both; so is what one list adds to the state of the other
 pub record TakingIsJoining : Type 0 where
   pub both : (nodes : ℕ) (xs ys : List Record) → states_joined (state_of nodes xs) (state_of nodes ys) ≡ state_of nodes (xs ++ ys)
-  pub more : (nodes : ℕ) (xs ys : List Record) → taken_all (state_of nodes xs) ys ≡ state_of nodes (xs ++ ys)
-  pub in_parts : (s : State) (xs ys : List Record) → taken_all (taken_all s xs) ys ≡ taken_all s (xs ++ ys)
+  pub more : (nodes : ℕ) (xs ys : List Record) → state_with_records (state_of nodes xs) ys ≡ state_of nodes (xs ++ ys)
+  pub in_parts : (s : State) (xs ys : List Record) → state_with_records (state_with_records s xs) ys ≡ state_with_records s (xs ++ ys)
 
 -- joining is commutative, associative and idempotent, and a state that knows nothing is neutral
 pub record IsJoining : Type 0 where
@@ -33,7 +34,7 @@ pub record JoinsSlotBySlot : Type 0 where
   pub silences : (a b : State) (q : Key) → (silence_at (states_joined a b) q).word ≡ max (silence_at a q).word (silence_at b q).word
   pub no_edges : (nodes : ℕ) (q : Key) → edge_at (state_of nodes []) q ≡ flat.Nothing
   pub no_silences : (nodes : ℕ) (q : Key) → (silence_at (state_of nodes []) q).word ≡ 0
-  -- states that have the same word at each slot are equal, where no slot holds a word that says nothing
+  -- states that have the same word at each slot are equal, where no slot holds a word of nothing
   pub same_slots : (nodes : ℕ) (xs ys : List Record) → ((q : Key) → edge_at (state_of nodes xs) q ≡ edge_at (state_of nodes ys) q)
       → ((q : Key) → (silence_at (state_of nodes xs) q).word ≡ (silence_at (state_of nodes ys) q).word)
       → state_of nodes xs ≡ state_of nodes ys

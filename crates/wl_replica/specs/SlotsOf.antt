@@ -4,7 +4,7 @@ use Rattle.wl_lattice.specs.declared.FlatWord.TheVariants as flat
 use Rattle.wl_record_core.specs.declared.record.Record.{Record}
 use Rattle.wl_replica.specs.Slots.{Contents, slots_joined, slots_only, slots_of_records}
 use Rattle.wl_replica.specs.Known.{horizon}
-use Rattle.wl_replica.specs.State.{State, state_of, states_joined, taken, slots_of}
+use Rattle.wl_replica.specs.State.{State, state_of, states_joined, state_with_record, slots_of}
 
 -- no node's horizon falls from one state to the other
 abbrev pub NoHorizonFalls : State → State → Type 0
@@ -18,4 +18,4 @@ ChangesStand w i changes u = (n t : ℕ) → slice_get changes n ≡ Some t → 
 pub record SlotsOfStates : Type 0 where
   pub records : (nodes : ℕ) (rs : List Record) → slots_of (state_of nodes rs) ≡ slots_of_records rs
   pub both : (s t : State) → slots_of (states_joined s t) ≡ slots_joined (slots_of s) (slots_of t)
-  pub one_more : (s : State) (r : Record) → slots_of (taken s r) ≡ slots_joined (slots_of s) (slots_only r)
+  pub one_more : (s : State) (r : Record) → slots_of (state_with_record s r) ≡ slots_joined (slots_of s) (slots_only r)

@@ -9,6 +9,7 @@ use Rattle.wl_lattice.specs.Words.{max_word, joined_max, joined_flat}
 use Rattle.wl_lattice.specs.Maps.{joined_maps, map_of}
 use Rattle.wl_record_core.specs.declared.record.Record.{Record}
 use Rattle.wl_record_core.specs.declared.record.Record.TheVariants.{Edge, Clash, Silence}
+use Rattle.wl_record_core.specs.Slots.{node_of}
 use Rattle.wl_record_core.specs.Within.{IsWithin}
 use Rattle.wl_replica.specs.Keys.{Key, key_cmp}
 use Rattle.wl_replica.specs.Slots.{Contents}
@@ -19,13 +20,13 @@ pub record State : Type 0 where
   pub edges : FinMap key_cmp FlatWord
   pub silences : FinMap key_cmp MaxWord
 
--- what a record says of an edge: its tick, or that two ticks were told
+-- what a record says of an edge: its tick, or that two ticks came
 abbrev pub edge_word : Record → Option (Key × FlatWord)
 edge_word (Edge node seq tick) = Some ((node, seq), flat.Value tick)
 edge_word (Clash node seq) = Some ((node, seq), flat.Clash)
 edge_word (Silence node count until) = None
 
--- what a record says of a silence: how far it reaches; one until 0 says nothing
+-- what a record says of a silence: how far it reaches; one until 0 promises nothing
 abbrev pub silence_word : Record → Option (Key × MaxWord)
 silence_word (Edge node seq tick) = None
 silence_word (Clash node seq) = None
@@ -56,18 +57,12 @@ states_joined s t = record {
 }
 
 -- the state with some records more
-abbrev pub taken_all : State → List Record → State
-taken_all s rs = states_joined s (state_of s.nodes rs)
+abbrev pub state_with_records : State → List Record → State
+state_with_records s rs = states_joined s (state_of s.nodes rs)
 
 -- the state with one record more
-abbrev pub taken : State → Record → State
-taken s r = taken_all s (r ∷ [])
-
--- the node that a record speaks of
-abbrev pub node_of : Record → ℕ
-node_of (Edge node seq tick) = node
-node_of (Clash node seq) = node
-node_of (Silence node count until) = node
+abbrev pub state_with_record : State → Record → State
+state_with_record s r = state_with_records s (r ∷ [])
 
 -- the record is within, and its node is below the number of nodes
 abbrev pub Fits : ℕ → Record → Type 0

@@ -8,7 +8,7 @@ use std::alloc::AllocError;
 use std::collections::BTreeMap;
 use wl_lattice::Join;
 
-/// Joins a word in at one key. Refused where memory is wanted; no word is then seen to change.
+/// Joins a word in at one key. Refused when out of memory; no word is then seen to change.
 pub fn raise<W: Join + Copy>(
     words: &mut BTreeMap<(u8, u32), W>,
     key: (u8, u32),

@@ -4,18 +4,16 @@
 
 mod batch;
 mod kept;
-mod known;
 mod laws;
 mod listed;
 mod replica;
 mod walks;
 mod waves;
 
-pub use known::{known_laws, no_horizon_falls, slots_laws, waves_agree};
 pub use laws::{
-    canonical_determines_the_state, canonical_stays_a_text, joining_is_a_join,
-    merging_is_appending, same_records_same_state, slots_of_states, states_join_slot_by_slot,
-    taking_is_joining,
+    canonical_determines_the_state, canonical_stays_a_text, joining_is_a_join, known_laws,
+    merging_is_appending, no_horizon_falls, same_records_same_state, slots_laws, slots_of_states,
+    states_join_slot_by_slot, taking_is_joining, waves_agree,
 };
 pub use replica::{PREPARED_SLOTS, Prepared, Replica, Word};
 

@@ -3,7 +3,7 @@ ghost use Rattle.std.specs.Prelude.{◌≡◌, ◌↔◌, ℕ, IsTrue, IfOk, IfE
 
 use crate::batch::{join_slots, make_slots};
 use crate::kept::{join_in, make_room, raise};
-use crate::known::known_laws;
+use crate::laws::known_laws;
 use crate::listed::{push_edges, push_silences};
 use crate::walks::{promise_of, run_of};
 use crate::waves::{is_dominant_at, wave_of};
@@ -19,9 +19,9 @@ use wl_topology::Topology;
 /// What a replica has in one slot.
 #[derive(Clone, Copy, Debug, PartialEq, Eq)]
 pub enum Word {
-    /// Of a change: nothing, its tick, or that two different ticks were told.
+    /// Of a change: nothing, its tick, or that two different ticks came.
     Edge(FlatWord),
-    /// Of a silence: the greatest tick up to which it reaches; 0 says nothing.
+    /// Of a silence: the greatest tick up to which it reaches; 0 promises nothing.
     Silence(MaxWord),
 }
 
@@ -53,7 +53,7 @@ impl Model for Replica {
 
 impl Replica {
     ghost use Rattle.std.specs.Prelude.{◌<◌, ◌≤◌};
-    ghost use Rattle.wl_replica.specs.State.{state_of, taken, states_joined, Fits, IsOfRecords};
+    ghost use Rattle.wl_replica.specs.State.{state_of, state_with_record, states_joined, Fits, IsOfRecords};
     ghost use Rattle.wl_replica.specs.Canonical.{canonical};
     ghost use Rattle.wl_replica.specs.Words.{word_at};
     ghost use Rattle.std.specs.Prelude.{List, [], ◌∷◌, ◌++◌, All};
@@ -63,7 +63,7 @@ impl Replica {
     ghost use Rattle.wl_replica.specs.Slots.{HoldsTrue};
     ghost use Rattle.wl_replica.specs.SlotsOf.{NoHorizonFalls, ChangesStand};
 
-    /// A replica of so many nodes that knows nothing. Refused for want of memory alone.
+    /// A replica of so many nodes that knows nothing. Refused only when out of memory.
     pub fn new(alloc: Global, nodes: u8) -> Result<Replica, AllocError>
         ensures { IfOk result (λ made. made ≡ state_of nodes []) }
     {
@@ -87,19 +87,15 @@ impl Replica {
     pub fn fits(&self, told: &Record) -> bool
         ensures { IsTrue result ↔ Fits self.now.nodes told.now }
     {
-        let node = match *told {
-            Record::Edge { node, .. } => node,
-            Record::Clash { node, .. } => node,
-            Record::Silence { node, .. } => node,
-        };
+        let node = told.node();
         node < self.nodes && told.within()
     }
 
-    /// Takes a record that fits: joins what it says into its slot. Refused where memory is wanted;
+    /// Takes a record that fits: joins what it says into its slot. Refused when out of memory;
     /// the replica is then as it was.
     pub fn take(&mut self, told: Record) -> Result<(), AllocError>
         requires { Fits self.old.nodes told }
-        ensures ok { OnOk result (self.new ≡ taken self.old told) }
+        ensures ok { OnOk result (self.new ≡ state_with_record self.old told) }
         // What took some records, and takes this one, took both.
         ensures after { OnOk result ((before : List Record) → self.old ≡ state_of self.old.nodes before
             → self.new ≡ state_of self.old.nodes (before ++ told ∷ [])) }
@@ -123,7 +119,7 @@ impl Replica {
     }
 
     /// Makes room in these slots, so that records of them can be taken without memory. Refused where
-    /// memory is wanted; it then gives the replica back as it was.
+    /// memory runs out; it then gives the replica back as it was.
     pub fn prepare(self, slots: [Slot; PREPARED_SLOTS]) -> Result<Prepared, Replica>
         ensures known { IfOk result (λ prepared. prepared.known ≡ self) }
         ensures slots { IfOk result (λ prepared. prepared.slots ≡ slots) }
@@ -142,7 +138,7 @@ impl Replica {
     }
 
     /// Joins in what the other replica, of as many nodes, knows. It puts nothing at every slot that it
-    /// lacks, and then joins; so where it is refused for want of memory, the replica is as it was.
+    /// lacks, and then joins; so when out of memory, the replica is as it was.
     pub fn join(&mut self, other: &Replica) -> Result<(), AllocError>
         requires { self.old.nodes ≡ other.now.nodes }
         ensures ok { OnOk result (self.new ≡ states_joined self.old other.now) }
@@ -181,7 +177,7 @@ impl Replica {
         }
     }
 
-    /// A replica that knows the same. Refused for want of memory alone.
+    /// A replica that knows the same. Refused only when out of memory.
     pub fn clone_in(&self, alloc: Global) -> Result<Replica, AllocError>
         ensures { IfOk result (λ other. other ≡ self.now) }
     {
@@ -191,7 +187,7 @@ impl Replica {
     }
 
     /// The records that make this replica, each slot once: node by node, the changes by number and
-    /// then the silences by count. Refused for want of memory alone.
+    /// then the silences by count. Refused only when out of memory.
     pub fn canonical(&self, alloc: Global) -> Result<Vec<Record>, AllocError>
         ensures list { IfOk result (λ all. all.items ≡ canonical self.now) }
         ensures fits { IfOk result (λ all. All (Fits self.now.nodes) all.items) }
@@ -243,7 +239,7 @@ impl Replica {
 
     /// The ticks below the node's horizon at which it drives dominant, as far as its run tells:
     /// from each first to each second change, an open last one up to the horizon. Refused for want of
-    /// memory alone.
+    /// memory.
     pub fn wave(&self, alloc: Global, node: u8) -> Result<Intervals, AllocError>
         requires { node < self.now.nodes }
         ensures set { IfOk result (λ set. set ≡ wave (slots_of self.now) node) }
@@ -342,7 +338,7 @@ impl Prepared {
     ghost use Rattle.wl_record_core.specs.declared.record.Record.{Record};
     ghost use Rattle.wl_record_core.specs.Slots.{slot_of};
     ghost use Rattle.wl_record_core.specs.Truth.{IsIncreasing, AreTrueOf};
-    ghost use Rattle.wl_replica.specs.State.{state_of, slots_of, taken_all, Fits};
+    ghost use Rattle.wl_replica.specs.State.{state_of, slots_of, state_with_records, Fits};
     ghost use Rattle.wl_replica.specs.Slots.{HoldsTrue};
     ghost use Rattle.wl_replica.specs.SlotsOf.{NoHorizonFalls};
 
@@ -351,7 +347,7 @@ impl Prepared {
     pub fn take_all(self, told: &[Record]) -> Replica
         requires fits { All (Fits self.known.nodes) told.now }
         requires room { All (λ r. Contains self.slots (slot_of r)) told.now }
-        ensures value { result ≡ taken_all self.known told.now }
+        ensures value { result ≡ state_with_records self.known told.now }
         // What took some records, and takes these, took all of them.
         ensures after { (before : List Record) → self.known ≡ state_of self.known.nodes before
             → result ≡ state_of self.known.nodes (before ++ told.now) }

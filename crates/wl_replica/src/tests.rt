@@ -108,7 +108,7 @@ fn joining_takes_what_both_know(rt: HostRuntime) -> Result<(), Fail> {
     Ok(())
 }
 
-/// Records of a prepared replica's slots, one of them told twice, and a slot that stays empty.
+/// Records of a prepared replica's slots, one of them given twice, and a slot that stays empty.
 #[test]
 fn a_prepared_replica_takes_records_of_its_slots(rt: HostRuntime) -> Result<(), Fail> {
     let slots = [
@@ -154,7 +154,7 @@ fn each_fits(replica: &Replica, records: &[Record]) -> bool
     records.iter().all(|record| replica.fits(record))
 }
 
-/// A change that is missing ends the run, and the silence behind it says nothing yet.
+/// A change that is missing ends the run, and the silence after it promises nothing yet.
 #[test]
 fn a_node_is_known_up_to_a_gap(rt: HostRuntime) -> Result<(), Fail> {
     let records = [

@@ -2,7 +2,7 @@
 ghost use Rattle.std.specs.Prelude.{◌≡◌, ◌<◌, ◌≤◌};
 ghost use Rattle.wl_record_core.specs.Limits.{most_edges, tick_end};
 ghost use Rattle.wl_replica.specs.Kept.{edges_in, silences_in, TicksAreWithin};
-ghost use Rattle.wl_replica.specs.Known.{greatest, is_run, after_edges, promised};
+ghost use Rattle.wl_replica.specs.Known.{greatest_passing, is_run, after_edges, longest_promise};
 
 use std::collections::BTreeMap;
 use wl_lattice::{FlatWord, MaxWord};
@@ -26,7 +26,7 @@ pub fn run_of(
     requires node { node < 255 }
     requires within { TicksAreWithin edges.now }
     ensures length { result.length
-        ≡ greatest most_edges (is_run (edges_in edges.now node) (silences_in silences.now node)) }
+        ≡ greatest_passing most_edges (is_run (edges_in edges.now node) (silences_in silences.now node)) }
     ensures end { result.end ≡ after_edges (edges_in edges.now node) result.length }
     ensures few { result.length ≤ most_edges }
     ensures early { result.end ≤ tick_end }
@@ -60,7 +60,7 @@ fn silence_at(silences: &BTreeMap<(u8, u32), MaxWord>, node: u8, count: u32) -> 
 /// How far the silences after at most so many changes reach, 0 for none.
 pub fn promise_of(silences: &BTreeMap<(u8, u32), MaxWord>, node: u8, count: u32) -> u64
     requires { count ≤ most_edges }
-    ensures { result ≡ promised (silences_in silences.now node) count }
+    ensures { result ≡ longest_promise (silences_in silences.now node) count }
 {
     let mut until = 0;
     for (_, silence) in silences.range((node, 0)..(node, count + 1)) {

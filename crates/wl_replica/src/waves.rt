@@ -3,7 +3,7 @@ ghost use Rattle.std.specs.Prelude.{◌≡◌, ◌<◌, max, [], ◌∷◌, ◌+
 ghost use Rattle.wl_record_core.specs.Limits.{most_edges};
 ghost use Rattle.wl_intervals.specs.Pairs.{covers, last_end};
 ghost use Rattle.wl_replica.specs.Kept.{edges_in, silences_in, TicksAreWithin};
-ghost use Rattle.wl_replica.specs.Known.{greatest, is_run, known_by, ticks, intervals};
+ghost use Rattle.wl_replica.specs.Known.{greatest_passing, is_run, known_by, ticks, intervals};
 
 use crate::walks::{promise_of, run_of};
 use std::alloc::{AllocError, Global};
@@ -11,7 +11,7 @@ use std::collections::BTreeMap;
 use wl_intervals::{Intervals, IntervalsFault};
 use wl_lattice::{FlatWord, MaxWord};
 
-/// Adds an interval behind all others.
+/// Adds an interval after all others.
 fn push_behind(set: &mut Intervals, from: u64, to: u64) -> Result<(), AllocError>
     requires some { from < to }
     requires behind { IfSome (last_end set.old) (λ end. end < from) }
@@ -54,7 +54,7 @@ pub fn wave_of(
     ensures { IfOk result (λ set.
         let e = edges_in edges.now node in
         let s = silences_in silences.now node in
-        let n = greatest most_edges (is_run e s) in
+        let n = greatest_passing most_edges (is_run e s) in
         set ≡ intervals (ticks e n) (known_by e s n)) }
 {
     let run = run_of(edges, silences, node);
@@ -84,10 +84,10 @@ pub fn is_dominant_at(
     requires within { TicksAreWithin edges.now }
     requires known { let e = edges_in edges.now node in
         let s = silences_in silences.now node in
-        tick < known_by e s (greatest most_edges (is_run e s)) }
+        tick < known_by e s (greatest_passing most_edges (is_run e s)) }
     ensures { let e = edges_in edges.now node in
         let s = silences_in silences.now node in
-        let n = greatest most_edges (is_run e s) in
+        let n = greatest_passing most_edges (is_run e s) in
         result ≡ covers (intervals (ticks e n) (known_by e s n)) tick }
 {
     let run = run_of(edges, silences, node);

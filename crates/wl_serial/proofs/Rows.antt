@@ -8,7 +8,7 @@ use Rattle.wl_serial.specs.declared.outcome.NodeOutcome.{NodeOutcome}
 use Rattle.wl_serial.specs.declared.outcome.Outcome.{Outcome}
 use Rattle.wl_serial.specs.Records.{outcome_records, IsRecordable}
 
--- a node of which only the changes of its drive are told
+-- a node of which only the changes of its drive are given
 abbrev changed : List ℕ → NodeOutcome
 changed ticks = record {
   changes = ticks;

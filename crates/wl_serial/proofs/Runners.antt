@@ -16,7 +16,7 @@ abbrev pub ticks_left : ℕ → List Running → ℕ
 ticks_left end [] = 0
 ticks_left end (r ∷ rs) = (end - r.next) + ticks_left end rs
 
--- one more that runs, behind the others
+-- one more that runs, after the others
 get_or_before : (xs : List Running) (x d : Running) (j : ℕ) → j < length xs → get_or (xs ++ x ∷ []) j d ≡ get_or xs j d
 get_or_before [] x d j b = absurd (omega arith)
 get_or_before (y ∷ ys) x d zero b = refl
@@ -64,7 +64,7 @@ fewer_left end [] j r d b before later = absurd (omega arith)
 fewer_left end (x ∷ xs) zero r d b before later = omega arith
 fewer_left end (x ∷ xs) (suc j) r d b before later = (let f = fewer_left end xs j r d (omega arith) before later in omega arith)
 
--- what one more of them did, behind the others
+-- what one more of them did, after the others
 pub told_more : (plan : Plan) (seen : List Running) (r : Running) (told more : List NodeOutcome) (o : NodeOutcome)
     → more ≡ told ++ o ∷ [] → told ≡ map (node_outcome_of plan) (range_with_len 0 (length seen)) → o ≡ node_outcome_of plan (length seen)
     → more ≡ map (node_outcome_of plan) (range_with_len 0 (length (seen ++ r ∷ [])))

@@ -21,7 +21,7 @@ use Rattle.wl_node.specs.Reached.{IsNode, node_setup}
 use Rattle.wl_node.specs.declared.node.Node.{Node}
 use Rattle.wl_serial.specs.declared.running.Running.{Running}
 use Rattle.wl_serial.specs.declared.outcome.NodeOutcome.{NodeOutcome}
-use Rattle.wl_serial.specs.Outcome.{told_of, node_outcome_of}
+use Rattle.wl_serial.specs.Outcome.{outcome_of_history, node_outcome_of}
 use Rattle.wl_serial.specs.Running.{HasRun, IsRunning, finds}
 
 -- what the list of nodes holds at place i
@@ -169,7 +169,7 @@ pub record AreRead (node : Node) (o : NodeOutcome) : Type 0 where
   pub errors : (levels : List Level) → IsNode levels node → o.errors ≡ error_count (history_of (node_setup node) levels)
   pub unsent : (levels : List Level) → IsNode levels node → o.unsent ≡ unsent_count (node_setup node) (history_of (node_setup node) levels)
 
-told_as : (node : Node) (levels : List Level) (o : NodeOutcome) → IsNode levels node → AreRead node o → o ≡ told_of (node_setup node) o.changes (history_of (node_setup node) levels)
+told_as : (node : Node) (levels : List Level) (o : NodeOutcome) → IsNode levels node → AreRead node o → o ≡ outcome_of_history (node_setup node) o.changes (history_of (node_setup node) levels)
 told_as node levels o is read = λ i. record {
   changes = o.changes;
   samples = read.samples levels is i;
@@ -187,7 +187,7 @@ pub outcome_is : (plan : Plan) (i : ℕ) (r : Running) (o : NodeOutcome) → Sim
 outcome_is plan i r o laws sound b run past same read =
     let e = ends plan i r laws sound b run past in
     told_as r.node (seen (line_of plan) i run.0) o run.1.node read
-    ∙ (ap (λ u. told_of u o.changes (history_of u (seen (line_of plan) i run.0))) run.1.setup
-    ∙ (ap (λ xs. told_of (setup_at plan i) xs (history_of (setup_at plan i) (seen (line_of plan) i run.0))) (same ∙ e.1)
-    ∙ ap (λ levels. told_of (setup_at plan i) (table_of plan i) (history_of (setup_at plan i) levels))
+    ∙ (ap (λ u. outcome_of_history u o.changes (history_of u (seen (line_of plan) i run.0))) run.1.setup
+    ∙ (ap (λ xs. outcome_of_history (setup_at plan i) xs (history_of (setup_at plan i) (seen (line_of plan) i run.0))) (same ∙ e.1)
+    ∙ ap (λ levels. outcome_of_history (setup_at plan i) (table_of plan i) (history_of (setup_at plan i) levels))
     (ap (λ k. seen (line_of plan) i k) (sym e.0) ∙ sym (laws.history_seen (line_of plan) i plan.end sound.causal b))))

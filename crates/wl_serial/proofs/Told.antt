@@ -1,4 +1,4 @@
--- What a plan comes to can be told in records, and these are true.
+-- The outcome of a plan can be written as records, and these are true.
 use Rattle.std.proofs.Common.{◌≡◌, ℕ, zero, suc, ◌+◌, ◌<◌, ◌≤◌, List, [], ◌∷◌, ◌++◌, length, map, take, get_or, append_assoc, append-nil, refl, sym, ◌∙◌, ap, subst, arith, Some, slice_get, All, zero-add, add-zero, add-one}
 use Rattle.std.specs.List.{range_with_len, enumerate_from, flat_map}
 use Rattle.std.proofs.Math.Seq.{take-suc}
@@ -60,7 +60,7 @@ records_are_true sounds truth plan checked =
     (λ k u h. subst (λ n. IsTrueOfPlan plan (Edge i n u) × IsWithin (Edge i n u)) (sym (zero-add k)) (t.0 k u h, (t.0 k u h).2)))
     (All-cons (λ told. IsTrueOfPlan plan told × IsWithin told) (Silence i (length (table_of plan i)) plan.end) [] (t.1, t.1.2) (none (λ told. IsTrueOfPlan plan told × IsWithin told))))
 
--- one edge more, behind the others
+-- one edge more, after the others
 edges_behind : (i s t : ℕ) (ts : List ℕ) → edges_from i s (ts ++ t ∷ []) ≡ edges_from i s ts ++ Edge i (s + length ts) t ∷ []
 edges_behind i s t [] = ap (λ n. Edge i n t ∷ []) (sym (add-zero s))
 edges_behind i s t (u ∷ us) =
@@ -74,7 +74,7 @@ edges_more i k t ts b e =
     ∙ (ap (λ n. edges_from i 0 (take k ts) ++ Edge i n (get_or ts k 0) ∷ []) (zero-add (length (take k ts)) ∙ length-take-le k ts (omega arith))
     ∙ ap (λ u. edges_from i 0 (take k ts) ++ Edge i k u ∷ []) (sym e))))
 
--- the records of one node more, behind those of the others
+-- the records of one node more, after those of the others
 nodes_behind : (end a : ℕ) (x : NodeOutcome) (xs : List NodeOutcome)
     → flat_map (λ (i, node). node_records end i node.changes) (enumerate_from a (xs ++ x ∷ []))
     ≡ flat_map (λ (i, node). node_records end i node.changes) (enumerate_from a xs) ++ node_records end (a + length xs) x.changes

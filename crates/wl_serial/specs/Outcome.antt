@@ -1,4 +1,4 @@
--- What the one-thread simulation of a plan comes to: for each node its changes, and what its history at the end says. This project's profile.
+-- The outcome of the one-thread simulation of a plan: for each node its changes, and what its history at the end says. This project's profile.
 use Rattle.std.specs.Prelude.{ℕ, List, length, map}
 use Rattle.std.specs.List.{range_with_len}
 use Rattle.wl_node.specs.declared.setup.NodeSetup.{NodeSetup}
@@ -10,8 +10,8 @@ use Rattle.wl_serial.specs.declared.outcome.NodeOutcome.{NodeOutcome}
 use Rattle.wl_serial.specs.declared.outcome.Outcome.{Outcome}
 
 -- what a node of this setup did, by the ticks at which its drive changed and by its history
-abbrev pub told_of : NodeSetup → List ℕ → History → NodeOutcome
-told_of setup changes h = record {
+abbrev pub outcome_of_history : NodeSetup → List ℕ → History → NodeOutcome
+outcome_of_history setup changes h = record {
   changes = changes;
   samples = h.samples;
   frames = h.frames;
@@ -27,7 +27,7 @@ abbrev pub history_at_end : Plan → ℕ → History
 history_at_end plan i = history_of (setup_at plan i) ((history (line_of plan) plan.end).seen i)
 
 abbrev pub node_outcome_of : Plan → ℕ → NodeOutcome
-node_outcome_of plan i = told_of (setup_at plan i) (table_of plan i) (history_at_end plan i)
+node_outcome_of plan i = outcome_of_history (setup_at plan i) (table_of plan i) (history_at_end plan i)
 
 -- of each node, and the end
 abbrev pub outcome_of : Plan → Outcome

@@ -31,7 +31,7 @@ pub record IsRecordable (o : Outcome) : Type 0 where
   pub few_changes : All (λ node. length node.changes ≤ most_edges) o.nodes
   pub ends : o.end < tick_end
 
--- what a plan that can be run comes to can be told in records
+-- the outcome of a plan that can be run can be written as records
 abbrev pub OutcomeIsRecordable : Type 0
 OutcomeIsRecordable = (plan : Plan) → IsChecked plan → IsRecordable (outcome_of plan)
 

@@ -1,6 +1,7 @@
-//! The one-thread engine: what the tick-by-tick simulation of a plan comes to, computed from quantum to quantum.
+//! The one-thread engine: the outcome of the tick-by-tick simulation of a plan, computed from quantum to quantum.
 #![tactic(auto)]
 
+mod laws;
 mod line;
 mod outcome;
 mod records;
@@ -8,7 +9,8 @@ mod run;
 mod running;
 mod so_far;
 
+pub use laws::{outcome_is_recordable, records_are_true};
 pub use outcome::{Changes, Frames, NodeOutcome, NodeOutcomes, Outcome, Phases, Samples};
-pub use records::{outcome_is_recordable, records_are_true, records_of};
+pub use records::records_of;
 pub use run::run_serial;
 pub use so_far::node_outcome;

@@ -1,4 +1,4 @@
-//! What a simulation comes to.
+//! The outcome of a simulation.
 
 use wl_confine::Counters;
 use wl_level::{Level, Listed};

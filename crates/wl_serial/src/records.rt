@@ -1,7 +1,7 @@
 //! The records of an outcome.
 ghost use Rattle.std.specs.Prelude.{◌≡◌, ◌≤◌, ◌++◌, ◌↔◌, IsTrue, IfOk, OnOk, All, length};
 ghost use Rattle.wl_record_core.specs.Limits.{most_edges};
-ghost use Rattle.wl_serial.specs.Records.{IsRecordable, OutcomeIsRecordable, RecordsAreTrue, node_records, outcome_records};
+ghost use Rattle.wl_serial.specs.Records.{IsRecordable, node_records, outcome_records};
 
 use crate::outcome::{NodeOutcome, Outcome};
 use std::alloc::{AllocError, Global};
@@ -10,7 +10,7 @@ use wl_record_core::{MOST_EDGES, MOST_NODES, Record, TICK_END};
 impl Outcome {
     /// Whether records can tell all of it: there are at most 16 nodes and at most 262,145 changes of each, and the end is below 2^48.
     ///
-    /// What a plan that passed its check comes to is recordable.
+    /// The outcome of a plan that passed its check is recordable.
     #[tactic(auto, unfolding(wl_record_core::specs::Limits::most_nodes, wl_record_core::specs::Limits::tick_end))]
     pub fn recordable(&self) -> bool
         ensures { IsTrue result ↔ IsRecordable self.now }
@@ -34,7 +34,7 @@ fn have_few_changes(nodes: &[NodeOutcome]) -> bool
 /// The records of an outcome that is recordable: for each node in order all its edges, then one silence with the number of its changes and
 /// the end.
 ///
-/// Refused for want of memory alone.
+/// Refused only when out of memory.
 pub fn records_of(alloc: Global, outcome: &Outcome) -> Result<Vec<Record>, AllocError>
     requires { IsRecordable outcome.now }
     ensures { IfOk result (λ records. records.items ≡ outcome_records outcome.now) }
@@ -46,7 +46,7 @@ pub fn records_of(alloc: Global, outcome: &Outcome) -> Result<Vec<Record>, Alloc
     Ok(records)
 }
 
-/// The records of one node behind those that are there.
+/// The records of one node after those that are there.
 fn push_node(
     records: &mut Vec<Record>,
     node: u8,
@@ -69,19 +69,4 @@ fn push_node(
         until: end,
     })?;
     Ok(())
-}
-
-/// Law: what a plan that passed its check comes to can be told in records.
-pub fn outcome_is_recordable()
-    ensures { OutcomeIsRecordable }
-{
-    wl_plan::checked_is_sound();
-}
-
-/// Law: each record of what a plan that passed its check comes to is true of the plan, and within the limits of records.
-pub fn records_are_true()
-    ensures { RecordsAreTrue }
-{
-    wl_plan::checked_is_sound();
-    wl_plan::outcome_is_true();
 }

@@ -13,9 +13,9 @@ use wl_level::Listed;
 use wl_plan::Plan;
 use wl_topology::MOST_NODES;
 
-/// What the tick-by-tick simulation of a plan that passed its check comes to.
+/// The outcome of the tick-by-tick simulation of a plan that passed its check.
 ///
-/// Only quanta whose tick is below the end are run. Refused for want of memory alone.
+/// Only quanta whose tick is below the end are run. Refused only when out of memory.
 pub fn run_serial(alloc: Global, plan: &Plan) -> Result<Outcome, AllocError>
     requires { IsChecked plan.now }
     ensures { IfOk result (λ outcome. outcome ≡ outcome_of plan.now) }

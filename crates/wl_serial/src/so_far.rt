@@ -3,7 +3,7 @@ ghost use Rattle.std.specs.Prelude.{◌≡◌, List, IfOk};
 ghost use Rattle.wl_level.specs.declared.Level.{Level};
 ghost use Rattle.wl_node.specs.History.{history_of};
 ghost use Rattle.wl_node.specs.Reached.{IsNode, node_setup};
-ghost use Rattle.wl_serial.specs.Outcome.{told_of};
+ghost use Rattle.wl_serial.specs.Outcome.{outcome_of_history};
 
 use crate::outcome::{Changes, NodeOutcome};
 use std::alloc::{AllocError, Global};
@@ -11,10 +11,10 @@ use wl_level::Listed;
 use wl_node::Node;
 
 /// What a node has done so far, with the ticks at which its drive changed, which it doesn't keep itself. The node stays as it is.
-/// Refused for want of memory alone.
+/// Refused only when out of memory.
 pub fn node_outcome(alloc: Global, node: &Node, changes: Changes) -> Result<NodeOutcome, AllocError>
     ensures { IfOk result (λ outcome. (levels : List Level) → IsNode levels node.now
-        → outcome ≡ told_of (node_setup node.now) changes (history_of (node_setup node.now) levels)) }
+        → outcome ≡ outcome_of_history (node_setup node.now) changes (history_of (node_setup node.now) levels)) }
 {
     Ok(NodeOutcome {
         changes,

@@ -11,7 +11,7 @@ use Rattle.wl_setup.specs.Reading.{ReadsPlan}
 use Rattle.wl_setup.specs.Plans.{after, each, named_plan_of, GivesPlan, IsAnswer}
 use Rattle.wl_setup.proofs.Loops.{drop-at}
 
--- these, and what is made of the rest behind them
+-- these, and what is made of the rest after them
 abbrev pub joined : {U : Type 0} → List U → Result (List U) SetupFault → Result (List U) SetupFault
 joined front r = after r (λ ys. Ok (front ++ ys))
 
@@ -87,7 +87,7 @@ pub made_each : {T U : Type 0} (make : T → Result U SetupFault) (front : List 
 made_each make front n xs past part =
     let before = rw (drop_all n xs past, append-nil front) at part in sym before
 
--- an answer that is no want of memory is the one that was wanted
+-- an answer that isn't out of memory is the one that was wanted
 answered : {T : Type 0} (wanted answer : Result T SetupFault) → IsAnswer wanted answer → answer ≢ Err Memory → answer ≡ wanted
 answered wanted (Ok x) given not_memory = sym given
 answered wanted (Err e) given not_memory = sym (given (λ memory. not_memory (ap (λ f. Err f) memory)))

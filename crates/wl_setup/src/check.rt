@@ -162,7 +162,7 @@ fn push_pairs(alloc: Global, topology: &Topology, text: &mut String) -> Result<(
 /// For each node its number and name, the quanta of a bit, the quantum of the sample, the resynchronisation jump width, and the
 /// greatest deviation in parts per million that both oscillators of a pair may have. Then for each pair of nodes, by the first
 /// and then by the second, the ticks that a level takes from the first to the second, and those that it takes back. A node
-/// without a name has an empty one. Refused for want of memory alone.
+/// without a name has an empty one. Refused only when out of memory.
 pub fn check_plan(alloc: Global, plan: &Plan, names: &Names) -> Result<String, AllocError>
     ensures { IfOk result (λ text. IsPlanCheck plan.now names.now (string_bytes text)) }
 {

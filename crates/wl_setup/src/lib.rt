@@ -5,6 +5,7 @@ mod check;
 mod document;
 mod fault;
 mod keys;
+mod laws;
 mod limits;
 mod names;
 mod plan;
@@ -18,8 +19,9 @@ mod values;
 
 pub use check::check_plan;
 pub use fault::SetupFault;
+pub use laws::faults_of_texts;
 pub use names::Names;
 pub use plan::read_plan;
 pub use plan_text::{ClockText, DisturbanceText, FrameText, NodeText, PlanText, RateText};
-pub use read::{faults_of_texts, read_text};
+pub use read::read_text;
 pub use text::Text;

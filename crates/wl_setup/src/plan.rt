@@ -221,7 +221,7 @@ impl PlanText {
 ///
 /// Answers a plan that can be run and the names of its nodes, node i's at place i; or the text's first fault: what `read_text`
 /// refuses; then node by node the clock (`NodeClock`), the segments (`NodeSegments`) and the frames in order (`NodeFrame`); then
-/// `Topology`; then `Plan`. `Memory` may be answered at any point. Nothing is promised of what a reader has left behind a fault.
+/// `Topology`; then `Plan`. `Memory` may be answered at any point. Nothing is promised of what a reader has left after a fault.
 pub fn read_plan<R: Source>(alloc: Global, reader: &mut R) -> Result<(Plan, Names), SetupFault>
     ensures answer { result ≢ Err SetupFault.Memory → GivesPlan R.gives reader.old result reader.new }
     ensures checked { IfOk result (λ r. IsChecked r.0) }

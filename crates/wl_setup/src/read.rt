@@ -2,8 +2,7 @@
 ghost use Rattle.std.specs.Prelude.{◌≡◌, ◌≢◌, Ok, Err, Some, None, IfOk, IfErr};
 ghost use Rattle.toml.specs.View.{table_view};
 ghost use Rattle.wl_setup.specs.Names.{names_of};
-ghost use Rattle.wl_setup.specs.Reading.{document_of, text_answer, ReadsPlan, TomlHasNoDocument};
-ghost use Rattle.wl_setup.specs.Document.{OnlyDocumentFaults};
+ghost use Rattle.wl_setup.specs.Reading.{document_of, text_answer, ReadsPlan};
 
 use crate::document::plan_text;
 use crate::fault::SetupFault;
@@ -61,17 +60,10 @@ pub(crate) fn read_named<R: Source>(
 /// Answers what the document says, key by key, or its first fault: `Read` or `Size`, whichever the reading meets
 /// first; `Toml`; then, in the order of the tables, the version, missing keys, keys of a wrong kind and unknown
 /// keys; then `SameName`. `Memory` may be answered at any point. Nothing is promised of what a reader has left
-/// behind a fault.
+/// after a fault.
 pub fn read_text<R: Source>(alloc: Global, reader: &mut R) -> Result<PlanText, SetupFault>
     ensures { result ≢ Err SetupFault.Memory → ReadsPlan R.gives reader.old result reader.new }
 {
     let (text, _) = read_named(alloc, reader)?;
     Ok(text)
 }
-
-/// A law of the answers: `Toml` is answered to a text that is no document, and a document's own faults are those of the
-/// version, of keys and of names.
-pub fn faults_of_texts()
-    ensures toml { TomlHasNoDocument }
-    ensures document { OnlyDocumentFaults }
-{}

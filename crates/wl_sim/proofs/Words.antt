@@ -76,7 +76,7 @@ one_task t u words h g =
     ∙ (ap (task_at (entered_tick words)) (sym g.0 ∙ h.0) ∙ task_at_word (entered_tick words) t h.1)
 
 module _ {S T : Type 0} (gives : S → Answer → S → Type 0) (takes : T → Answer → T → Type 0) where
-  -- want of memory before anything is read or written
+  -- out of memory before anything is read or written
   does_nothing : (s s' : S) (t t' : T) (task : Task) → t' ≡ t → Does gives takes s s' t t' task (Err run.Memory)
   does_nothing s s' t t' Merge h = h
   does_nothing s s' t t' Horizon h = h
@@ -91,7 +91,7 @@ module _ {S T : Type 0} (gives : S → Answer → S → Type 0) (takes : T → A
   named_is_done s s' t t' words read task r enters named done =
       subst (λ k. Does gives takes s s' t t' k r) (sym (one_task read task words enters (names_enters task words named))) done
 
-  -- words that name a task are refused for want of memory alone
+  -- words that name a task are refused only when out of memory
   pub named_is_refused : (s s' : S) (t t' : T) (words : List Text) (refusal : Refusal) (task : Task) (status : ℕ) → ReadsTask words (Err refusal)
       → NamesTask task words → EndsRefused gives takes s s' t t' refusal status → EndsTask gives takes s s' t t' task status
   named_is_refused s s' t t' words Words task status none named h = absurd (none task (names_enters task words named))

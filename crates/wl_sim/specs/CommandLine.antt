@@ -65,6 +65,6 @@ Enters t words = (entered_word words ≡ Some (task_word t)) × HasTick (entered
 abbrev pub nanosecond : Tick
 nanosecond = record { count = 1; unit = Nanosecond }
 
--- the program's own name, and behind it the word of the task alone: clap enters the task there
+-- the program's own name, and after it the word of the task alone: clap enters the task there
 abbrev pub NamesTask : Task → List Text → Type 0
 NamesTask t words = (name : Text) × HasTick (Some nanosecond) t × (words ≡ name ∷ task_word t ∷ [])

@@ -14,7 +14,7 @@ use Rattle.wl_sim.specs.declared.command.Task.{Task}
 use Rattle.wl_sim.specs.declared.command.Task.TheVariants.{Merge, Horizon, Check, Records, Run, Candump}
 use Rattle.wl_sim.specs.CommandLine.{Enters}
 
--- the status of a run: 0, 1 where the input was refused for what it says, 3 for want of memory or a fault of reading or writing
+-- the status of a run: 0, 1 where the input was refused for what it says, 3 when out of memory or for a fault of reading or writing
 abbrev pub run_status : Result (Unit {0}) RunFault → ℕ
 run_status (Ok u) = 0
 run_status (Err fault) = if is_refusal fault then 1 else 3

@@ -184,7 +184,7 @@ mod tests {
     use std::test::Fail;
     use wl_views::{Tick, TimeUnit};
 
-    /// Words behind the program's name, and what they name.
+    /// Words after the program's name, and what they name.
     const ROWS: [(&str, Option<Task>); 10] = [
         ("merge", Some(Task::Merge)),
         ("horizon", Some(Task::Horizon)),

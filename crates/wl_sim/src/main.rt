@@ -123,7 +123,7 @@ fn ended(rt: &impl Eprint, answer: Result<(), RunFault>) -> ExitCode
     }
 }
 
-/// The status of a command line that named no task. What was wrong with its words has been said; want of memory is said here.
+/// The status of a command line that named no task. What was wrong with its words has been said; out of memory is reported here.
 fn refused(rt: &impl Eprint, refusal: Refusal) -> ExitCode
     ensures { exit_status result ≡ refusal_status refusal }
 {

@@ -9,7 +9,7 @@ use Rattle.wl_sync.specs.Edges.{Seen, longer_by}
 use Rattle.wl_sync.specs.Bits.{quanta_up_to, bit_after, beat_of, first_bit}
 use Rattle.wl_sync.specs.Running.{Running, running, clock_after}
 use Rattle.wl_sync.specs.Steps.{running_due, running_sync, running_restart, running_placed, running_after, is_sampled, end_of}
-use Rattle.wl_sync.specs.SampleLaws.{way}
+use Rattle.wl_sync.specs.SampleLaws.{quanta_to_sample}
 use Rattle.wl_sync.proofs.Cuts.{clock_next, beat_next, bit_next}
 
 fold_keeps : {A B : Type 0} (f : B → A → B) (P : B → Type 0) → ((b : B) (a : A) → P b → P (f b a)) → (xs : List A) (b : B) → P b → P (fold f b xs)
@@ -149,10 +149,10 @@ module _ (l : Lengths) (r : Running) (x : Seen) (p : IsPlaced l r) (on : running
         (some_left (running_placed r x).quanta (sample_at l + (running_placed r x).longer) (omega arith) (omega arith), omega arith),
       )
 
-pub way_some : (l : Lengths) (past : List Seen) (n : ℕ) → way l past ≡ Some n → 0 < n
+pub way_some : (l : Lengths) (past : List Seen) (n : ℕ) → quanta_to_sample l past ≡ Some n → 0 < n
 way_some l past n e = (let f = left_is (clock_after l past).quanta (sample_at l + (clock_after l past).longer) n e in omega arith)
 
-pub way_few : (l : Lengths) (past : List Seen) (n : ℕ) → way l past ≡ Some n → n ≤ sample_at l
+pub way_few : (l : Lengths) (past : List Seen) (n : ℕ) → quanta_to_sample l past ≡ Some n → n ≤ sample_at l
 way_few l past n e =
     (let f = left_is (clock_after l past).quanta (sample_at l + (clock_after l past).longer) n e in let h = (bit_placed l past).longer in omega arith)
 
@@ -160,10 +160,10 @@ module _ (l : Lengths) (past : List Seen) (x : Seen) where
   abbrev r : Running
   r = clock_after l past
 
-  way_next : way l (past ++ x ∷ []) ≡ way_of l (running_after r x)
+  way_next : quanta_to_sample l (past ++ x ∷ []) ≡ way_of l (running_after r x)
   way_next = ap (way_of l) (clock_next l past x)
 
-  pub way_start : beat_of l past x ≡ Start → way l (past ++ x ∷ []) ≡ Some (sample_at l)
+  pub way_start : beat_of l past x ≡ Start → quanta_to_sample l (past ++ x ∷ []) ≡ Some (sample_at l)
   way_start e =
       let one = eqb-true (running_after r x).quanta 1 (start_first _ _ _ (sym (beat_next l past x) ∙ e)) in
       way_next ∙ one_start l (running_after r x) (after_placed l r x (bit_placed l past)) one
@@ -181,13 +181,13 @@ module _ (l : Lengths) (past : List Seen) (x : Seen) where
       let f = sample_here _ _ x.level level (sym (beat_next l past x) ∙ e) in
       (f.0, eqb-true r.quanta (sample_at l + r.longer) (subst (λ (q : Running). is_sampled q ≡ true) (on_due f.0) f.1))
 
-  pub way_sampled : (level : Level) → beat_of l past x ≡ Sample level → way l past ≡ Some 1
+  pub way_sampled : (level : Level) → beat_of l past x ≡ Sample level → quanta_to_sample l past ≡ Some 1
   way_sampled level e =
       let f = sampled_now level e in
       let g = f.1 in
       some_left r.quanta (sample_at l + r.longer) (omega arith) (omega arith) ∙ ap Some (let h : suc (sample_at l + r.longer) - r.quanta ≡ 1 = omega arith in h)
 
-  pub way_sample : (level : Level) → beat_of l past x ≡ Sample level → way l (past ++ x ∷ []) ≡ None
+  pub way_sample : (level : Level) → beat_of l past x ≡ Sample level → quanta_to_sample l (past ++ x ∷ []) ≡ None
   way_sample level e =
       let f = sampled_now level e in
       let g = f.1 in
@@ -200,7 +200,7 @@ module _ (l : Lengths) (past : List Seen) (x : Seen) where
       let f = plain_here _ _ x.level (sym (beat_next l past x) ∙ e) in
       (f.0, eqb-false r.quanta (sample_at l + r.longer) (subst (λ (q : Running). is_sampled q ≡ false) (on_due f.0) f.1))
 
-  pub way_behind : beat_of l past x ≡ Plain → way l past ≡ None → way l (past ++ x ∷ []) ≡ None
+  pub way_behind : beat_of l past x ≡ Plain → quanta_to_sample l past ≡ None → quanta_to_sample l (past ++ x ∷ []) ≡ None
   way_behind e none =
       let f = plain_now e in
       let n = on_first f.0 in
@@ -209,7 +209,7 @@ module _ (l : Lengths) (past : List Seen) (x : Seen) where
       way_next ∙ ap (λ q. way_of l (running_placed q x)) (on_due f.0)
       ∙ stays_behind l r x (bit_placed l past) (restart_not r x (running_restart r x) refl n) some (omega arith)
 
-  pub way_near : (n : ℕ) → beat_of l past x ≡ Plain → way l past ≡ Some n → (m : ℕ) × ((way l (past ++ x ∷ []) ≡ Some m) × (n ≤ suc m))
+  pub way_near : (n : ℕ) → beat_of l past x ≡ Plain → quanta_to_sample l past ≡ Some n → (m : ℕ) × ((quanta_to_sample l (past ++ x ∷ []) ≡ Some m) × (n ≤ suc m))
   way_near n e some =
       let f = plain_now e in
       let g = on_first f.0 in

@@ -7,19 +7,19 @@ use Rattle.wl_sync.specs.Edges.{Seen}
 use Rattle.wl_sync.specs.Bits.{before_sample, bit_of, beat_of}
 
 -- the way to the sample after all that was seen
-abbrev pub way : Lengths → List Seen → Option ℕ
-way l past = before_sample l (bit_of l past)
+abbrev pub quanta_to_sample : Lengths → List Seen → Option ℕ
+quanta_to_sample l past = before_sample l (bit_of l past)
 
 pub record SampleLaws : Type 0 where
-  pub at_first : (l : Lengths) → way l [] ≡ None
-  pub some : (l : Lengths) (past : List Seen) (n : ℕ) → way l past ≡ Some n → 0 < n
-  pub few : (l : Lengths) (past : List Seen) (n : ℕ) → way l past ≡ Some n → n ≤ sample_at l
+  pub at_first : (l : Lengths) → quanta_to_sample l [] ≡ None
+  pub some : (l : Lengths) (past : List Seen) (n : ℕ) → quanta_to_sample l past ≡ Some n → 0 < n
+  pub few : (l : Lengths) (past : List Seen) (n : ℕ) → quanta_to_sample l past ≡ Some n → n ≤ sample_at l
   -- after the start of a bit it is as long as in a bit that nothing moved
-  pub start : (l : Lengths) (past : List Seen) (x : Seen) → beat_of l past x ≡ Start → way l (past ++ x ∷ []) ≡ Some (sample_at l)
+  pub start : (l : Lengths) (past : List Seen) (x : Seen) → beat_of l past x ≡ Start → quanta_to_sample l (past ++ x ∷ []) ≡ Some (sample_at l)
   -- a sample comes at its end, and then there is none up to the next start
-  pub sampled : (l : Lengths) (past : List Seen) (x : Seen) (level : Level) → beat_of l past x ≡ Sample level → way l past ≡ Some 1
-  pub sample : (l : Lengths) (past : List Seen) (x : Seen) (level : Level) → beat_of l past x ≡ Sample level → way l (past ++ x ∷ []) ≡ None
-  pub after : (l : Lengths) (past : List Seen) (x : Seen) → beat_of l past x ≡ Plain → way l past ≡ None → way l (past ++ x ∷ []) ≡ None
+  pub sampled : (l : Lengths) (past : List Seen) (x : Seen) (level : Level) → beat_of l past x ≡ Sample level → quanta_to_sample l past ≡ Some 1
+  pub sample : (l : Lengths) (past : List Seen) (x : Seen) (level : Level) → beat_of l past x ≡ Sample level → quanta_to_sample l (past ++ x ∷ []) ≡ None
+  pub after : (l : Lengths) (past : List Seen) (x : Seen) → beat_of l past x ≡ Plain → quanta_to_sample l past ≡ None → quanta_to_sample l (past ++ x ∷ []) ≡ None
   -- any other quantum takes one off it at most
-  pub near : (l : Lengths) (past : List Seen) (x : Seen) (n : ℕ) → beat_of l past x ≡ Plain → way l past ≡ Some n
-      → (m : ℕ) × ((way l (past ++ x ∷ []) ≡ Some m) × (n ≤ suc m))
+  pub near : (l : Lengths) (past : List Seen) (x : Seen) (n : ℕ) → beat_of l past x ≡ Plain → quanta_to_sample l past ≡ Some n
+      → (m : ℕ) × ((quanta_to_sample l (past ++ x ∷ []) ≡ Some m) × (n ≤ suc m))

@@ -5,10 +5,10 @@ use Rattle.std.proofs.Math.Seq.{take-append_seam, drop-append_seam}
 use Rattle.wl_topology.specs.declared.Place.{Place}
 use Rattle.wl_topology.specs.Limits.{most_places}
 use Rattle.wl_topology.specs.Delays.{IsTopology, nowhere}
-use Rattle.wl_topology.specs.Stored.{stored, IsStored}
+use Rattle.wl_topology.specs.Stored.{padded_places, IsStored}
 
 pub is_stored : (places : List Place) (per : ℕ) → length places ≤ most_places → IsTopology (record { places = places; per = per })
-    → IsStored (stored places) (length places) per
+    → IsStored (padded_places places) (length places) per
 is_stored places per few topology = record {
   room = length-append places (replicate (most_places - length places) nowhere) ∙ omega (arith, length-replicate (most_places - length places) nowhere);
   rest = drop-append_seam places (replicate (most_places - length places) nowhere);

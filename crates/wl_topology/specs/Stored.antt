@@ -8,8 +8,8 @@ abbrev pub cable_in : List Place → ℕ → ℕ → Cable
 cable_in places nodes per = record { places = take nodes places; per = per }
 
 -- the array of a list of places
-abbrev pub stored : List Place → List Place
-stored places = places ++ replicate (most_places - length places) nowhere
+abbrev pub padded_places : List Place → List Place
+padded_places places = places ++ replicate (most_places - length places) nowhere
 
 pub record IsStored (places : List Place) (nodes per : ℕ) : Type 0 where
   pub room : length places ≡ most_places

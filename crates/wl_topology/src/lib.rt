@@ -10,7 +10,7 @@ ghost use Rattle.std.specs.Option.{option_map};
 ghost use Rattle.wl_topology.specs.Limits.{most_places, longest_delay};
 ghost use Rattle.wl_topology.specs.Delays.{IsTopology, IsLeastFrom, IsLeastDelay, delay_between, delay_of, disturbance_delay, topology_of, row, pairs};
 ghost use Rattle.wl_topology.specs.Search.{is_flawed, first_flaw};
-ghost use Rattle.wl_topology.specs.Stored.{stored};
+ghost use Rattle.wl_topology.specs.Stored.{padded_places};
 
 pub use laws::{driven_laws, topology_law};
 use std::marker::Model;
@@ -61,14 +61,14 @@ pub struct Topology {
 impl Model for Topology {
     ghost use Rattle.std.specs.Prelude.{length};
     ghost use Rattle.wl_topology.specs.Delays.{Cable};
-    ghost use Rattle.wl_topology.specs.Stored.{cable_in, stored, IsStored};
+    ghost use Rattle.wl_topology.specs.Stored.{cable_in, padded_places, IsStored};
     ghost use Rattle.wl_topology.specs.StoredLaws.{stored_again, stored_length};
 
     ghost Value = { Cable };
 
     ghost view = { λ t. cable_in t.places t.nodes t.per };
 
-    ghost inverse = { λ c. record { places = stored c.places; nodes = length c.places; per = c.per } };
+    ghost inverse = { λ c. record { places = padded_places c.places; nodes = length c.places; per = c.per } };
 
     ghost inverse_ok = { λ t h i. record { places = stored_again t.places t.nodes t.per h i; nodes = stored_length t.places t.nodes t.per h i; per = t.per } };
 
@@ -254,7 +254,7 @@ fn first_pair(places: &[Place], per: u64, flaw: Flaw) -> Option<(usize, usize)>
 /// The places in an array, with nowhere after them.
 fn stored(places: &[Place]) -> [Place; MOST_NODES]
     requires { length places.now ≤ most_places }
-    ensures { result ≡ stored places.now }
+    ensures { result ≡ padded_places places.now }
 {
     let mut held = [NOWHERE; MOST_NODES];
     held[..places.len()].copy_from_slice(places);

@@ -15,7 +15,7 @@ use Rattle.wl_machine.specs.Stretch.Ended.{NoFrame, Sent, Received}
 use Rattle.wl_machine.specs.Judged.{judged, stretch_of}
 use Rattle.wl_node.specs.declared.setup.NodeSetup.{NodeSetup}
 use Rattle.wl_node.specs.declared.setup.Passed.{Passed}
-use Rattle.wl_node.specs.History.{History, history_of, history_after, no_history, by_beat, passed, sampled_next, seen_next, is_sent}
+use Rattle.wl_node.specs.History.{History, history_of, history_after, no_history, by_beat, passed_frames, sampled_next, seen_next, is_sent}
 use Rattle.wl_plan.specs.declared.plan.Plan.{Plan}
 use Rattle.wl_plan.specs.PlanLine.{line_of, setup_at}
 use Rattle.wl_plan.specs.Limits.{most_quanta, most_quanta-is}
@@ -34,7 +34,7 @@ Before n frames = All (λ p. p.quantum < n) frames
 later : (n : ℕ) (frames : List Passed) → Before n frames → Before (suc n) frames
 later n frames h = λ k d b. let q = h k d b in omega arith
 
-passed_before : (n : ℕ) (ended : Ended) → Before (suc n) (passed n ended)
+passed_before : (n : ℕ) (ended : Ended) → Before (suc n) (passed_frames n ended)
 passed_before n NoFrame = All-nil (λ p. p.quantum < suc n)
 passed_before n (Sent frame) = All-cons (λ p. p.quantum < suc n) _ [] (omega arith) (All-nil (λ p. p.quantum < suc n))
 passed_before n (Received frame) = All-cons (λ p. p.quantum < suc n) _ [] (omega arith) (All-nil (λ p. p.quantum < suc n))
@@ -45,7 +45,7 @@ module _ (setup : NodeSetup) where
   by_beat_before h level beats.Plain b = later (length h.seen) h.frames b
   by_beat_before h level beats.Start b = later (length h.seen) h.frames b
   by_beat_before h level (beats.Sample _) b =
-      All-append (λ p. p.quantum < suc (length h.seen)) h.frames (passed (length h.seen) (judged (stretch_of h.inputs) (sampled_next setup h level)).ended)
+      All-append (λ p. p.quantum < suc (length h.seen)) h.frames (passed_frames (length h.seen) (judged (stretch_of h.inputs) (sampled_next setup h level)).ended)
       (later (length h.seen) h.frames b) (passed_before (length h.seen) (judged (stretch_of h.inputs) (sampled_next setup h level)).ended)
 
   one_more : (h : History) (level : Level) → length (history_after setup h level).seen ≡ suc (length h.seen)

@@ -16,7 +16,7 @@ unfolding digits_of
 no_digit base zero n none = refl
 no_digit base (suc k) n none = absurd (omega arith)
 
--- the last digit stands behind the others
+-- the last digit stands after the others
 pub last_digit : (base k n : ℕ) → 0 < k → digits_of base k n ≡ digits_of base (k - 1) (n / base) ++ digit_glyph true (n % base) ∷ []
 unfolding digits_of
 last_digit base zero n some = absurd (omega arith)

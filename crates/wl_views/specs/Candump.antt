@@ -11,7 +11,7 @@ use Rattle.wl_views.specs.Ticks.{microseconds}
 use Rattle.wl_views.specs.Digits.{digits_of}
 use Rattle.wl_views.specs.Sent.{all_sent, by_tick}
 
--- a data length code above 8, behind the 8 that it means
+-- a data length code above 8, after the 8 that it means
 abbrev pub code_word : ℕ → List ℕ
 code_word dlc = if nat_lt 8 dlc then codes "_" ++ digits_of 16 1 dlc else []
 
@@ -19,11 +19,11 @@ code_word dlc = if nat_lt 8 dlc then codes "_" ++ digits_of 16 1 dlc else []
 abbrev pub wanted_word : ℕ → List ℕ
 wanted_word dlc = if dlc == 0 then [] else digits_of 16 1 (min dlc 8) ++ code_word dlc
 
--- what comes behind the identifier: an `R` and the code of a remote frame, and else the bytes
+-- what comes after the identifier: an `R` and the code of a remote frame, and else the bytes
 abbrev pub carried : Content → List ℕ
 carried c = if c.remote then codes "R" ++ wanted_word c.dlc else flat_map (digits_of 16 2) c.bytes ++ code_word c.dlc
 
--- seconds, and microseconds behind a point
+-- seconds, and microseconds after a point
 abbrev pub time_word : ℕ → List ℕ
 time_word us = digits_of 10 10 (us / 1000000) ++ codes "." ++ digits_of 10 6 (us % 1000000)
 

@@ -31,6 +31,6 @@ pub record AreInTime (plan : Plan) (outcome : Outcome) : Type 0 where
   pub quanta : All (λ node. All (λ p. p.quantum ≤ 2 ^ 21) node.frames) outcome.nodes
   pub ended : All (λ s. s.0 < outcome.end) (all_sent plan outcome)
 
--- what a plan that can be run comes to is so
+-- the outcome of a plan that can be run is so
 abbrev pub SentInTime : Type 0
 SentInTime = (plan : Plan) → IsChecked plan → AreInTime plan (outcome_of plan)

@@ -27,7 +27,7 @@ unit_of word =
     else None)
     else None
 
--- a number with one decimal digit more behind it, as long as it stays below 1000
+-- a number with one decimal digit more after it, as long as it stays below 1000
 abbrev pub with_digit : Option ℕ → ℕ → Option ℕ
 with_digit number digit =
     option_and_then (λ n. if is_ascii_digit digit && nat_lt n 100 then Some (10 * n + (digit - 48)) else None) number
@@ -39,7 +39,7 @@ not_zero n = if n == 0 then None else Some n
 abbrev pub count_of : List ℕ → Option ℕ
 count_of digits = option_and_then not_zero (fold with_digit (Some 0) digits)
 
--- so many of a unit, and the unit's word right behind the number
+-- so many of a unit, and the unit's word right after the number
 abbrev pub read_tick : List ℕ → Option Tick
 read_tick text =
     option_and_then (λ unit. option_map (λ count. record { count = count; unit = unit }) (count_of (take (length text - 2) text)))

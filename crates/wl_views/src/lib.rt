@@ -2,10 +2,11 @@
 #![tactic(auto)]
 
 mod digits;
+mod laws;
 mod log;
 mod sent;
 mod tick;
 
+pub use laws::sent_in_time;
 pub use log::candump;
-pub use sent::sent_in_time;
 pub use tick::{Tick, TimeUnit};

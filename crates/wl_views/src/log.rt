@@ -15,7 +15,7 @@ use wl_frame::frame::Frame;
 use wl_plan::Plan;
 use wl_serial::Outcome;
 
-/// Adds seconds, and microseconds behind a point.
+/// Adds seconds, and microseconds after a point.
 fn push_time(text: &mut Vec<u8>, us: u128) -> Result<(), AllocError>
     ensures { OnOk result (Extends text.old text.new (time_word us)) }
 {
@@ -64,7 +64,7 @@ fn push_bytes(text: &mut Vec<u8>, bytes: &[u8]) -> Result<(), AllocError>
     Ok(())
 }
 
-/// Adds what comes behind the identifier.
+/// Adds what comes after the identifier.
 fn push_carried(text: &mut Vec<u8>, frame: &Frame) -> Result<(), AllocError>
     ensures { OnOk result (Extends text.old text.new (carried frame.now)) }
 {
@@ -95,7 +95,7 @@ fn push_line(text: &mut Vec<u8>, tick: Tick, at: u64, frame: &Frame) -> Result<(
 ///
 /// The time is that of the quantum at which the sender sampled the last bit of end of frame (Bosch CAN 2.0 part B, section 5),
 /// counted from tick 0 and rounded down, 10 digits and 6. The identifier has 3 hexadecimal digits, or 8 of an extended
-/// frame. A remote frame has `R` in place of the bytes, and behind it the data length code where that isn't 0. A code above 8 stands
+/// frame. A remote frame has `R` in place of the bytes, and after it the data length code where that isn't 0. A code above 8 stands
 /// after the 8 bytes, or the `R8`, as `_9` to `_F`. Refused out of memory alone.
 pub fn candump(
     alloc: Global,

@@ -1,7 +1,7 @@
 //! The frames that were sent, each with the tick of its completion.
 ghost use Rattle.std.specs.Prelude.{◌≡◌, ◌≤◌, ◌^◌, ◌++◌, OnOk, IfOk};
 ghost use Rattle.std.specs.List.{All};
-ghost use Rattle.wl_views.specs.Sent.{AreInTime, SentInTime, all_sent, by_tick, sent_by};
+ghost use Rattle.wl_views.specs.Sent.{AreInTime, all_sent, by_tick, sent_by};
 
 use std::alloc::{AllocError, Global};
 use wl_clock::Clock;
@@ -52,13 +52,4 @@ pub(crate) fn sent_by_tick(
     let mut sent = all_sent(alloc, plan, outcome)?;
     sent.sort_by_key(|(tick, _)| *tick)?;
     Ok(sent)
-}
-
-/// Law: each frame of what a plan that passed its check comes to was completed at a quantum that its node's clock knows, and
-/// below the end.
-pub fn sent_in_time()
-    ensures { SentInTime }
-{
-    wl_plan::checked_is_sound();
-    wl_plan::simulation_laws();
 }

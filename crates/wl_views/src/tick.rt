@@ -37,7 +37,7 @@ pub struct Tick {
 }
 
 impl Tick {
-    /// The tick that a text spells: a number from 1 to 999, and `ps`, `ns` or `us` right behind it.
+    /// The tick that a text spells: a number from 1 to 999, and `ps`, `ns` or `us` right after it.
     pub fn from_text(text: &[u8]) -> Option<Tick>
         ensures { result ≡ read_tick text.now }
     {
@@ -82,7 +82,7 @@ fn unit_of(word: &[u8]) -> Option<TimeUnit>
     }
 }
 
-/// A number with one digit more behind it, as long as it stays below 1000.
+/// A number with one digit more after it, as long as it stays below 1000.
 fn with_digit(number: Option<u16>, digit: u8) -> Option<u16>
     ensures { result ≡ with_digit number digit }
 {

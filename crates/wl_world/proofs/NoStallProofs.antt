@@ -10,8 +10,8 @@ use Rattle.wl_world.specs.declared.events.Event.TheVariants.{Advance, Deliver, J
 use Rattle.wl_plan.specs.Line.{Line}
 use Rattle.wl_plan.specs.Simulation.{changes}
 use Rattle.wl_plan.specs.Sound.{IsSound}
-use Rattle.wl_group.specs.Member.{fresh, next_tick, stepped, level_read}
-use Rattle.wl_group.specs.Party.{Party, slots, put, begun, taking}
+use Rattle.wl_group.specs.Member.{fresh, next_tick, member_after_quantum, level_read}
+use Rattle.wl_group.specs.Party.{Party, slots, put, initial_party, party_with}
 use Rattle.wl_group.specs.Advanced.{run_next, emission_of}
 use Rattle.wl_group.specs.Holds.{IsTold}
 use Rattle.wl_group.specs.GroupLaws.{GroupLaws}
@@ -66,20 +66,20 @@ module _ (knows : KnownLaws) (groups : GroupLaws) where
       let x = level_read l i m (slots (w.parties h)) in
       let rs = emission_of l (w.parties h) i in
       let ut : AreTrueOf l.nodes (changes l) (w.emitted ++ rs) = true_append l.nodes (changes l) w.emitted rs v.truth (emission_true knows groups l s c w v h i a) in
-      let next : IsTold l i (stepped l i m x) (slots_of_records (w.emitted ++ rs)) =
+      let next : IsTold l i (member_after_quantum l i m x) (slots_of_records (w.emitted ++ rs)) =
       groups.told_stepped l s (slots (w.parties h)) g.truth i m a.node (g.each i a.node a.member) a.can w.emitted ut
       (subst (λ k. IsTold l i ((w.parties k).members i) (slots_of_records w.emitted)) own (t.told i a.node)) in
       record {
         firsts = λ j b. groups.told_more l j fresh w.emitted rs ut (t.firsts j b);
         told = λ j b. put_at w.parties h (run_next l i (w.parties h)) (λ q. IsTold l j (q.members j) (slots_of_records (w.emitted ++ rs))) (c.group_of j)
-            (λ e. put_at (w.parties h).members i (stepped l i m x) (λ q. IsTold l j q (slots_of_records (w.emitted ++ rs))) j
-            (λ e2. subst (λ k. IsTold l k (stepped l i m x) (slots_of_records (w.emitted ++ rs))) (sym e2) next)
+            (λ e. put_at (w.parties h).members i (member_after_quantum l i m x) (λ q. IsTold l j q (slots_of_records (w.emitted ++ rs))) j
+            (λ e2. subst (λ k. IsTold l k (member_after_quantum l i m x) (slots_of_records (w.emitted ++ rs))) (sym e2) next)
             (λ n. groups.told_more l j ((w.parties h).members j) w.emitted rs ut (subst (λ k. IsTold l j ((w.parties k).members j) (slots_of_records w.emitted)) e (t.told j b))))
             (λ n. groups.told_more l j (member_of w (c.group_of j) j) w.emitted rs ut (t.told j b));
       }
-  event_told l s c w (Deliver h k) v t y = told_same l c w h (taking (at_most_one (slice_get w.emitted k)) (w.parties h)) t (λ i. inl refl)
-  event_told l s c w (Join h k) v t y = told_same l c w h (taking (w.parties k).taken (w.parties h)) t (λ i. inl refl)
-  event_told l s c w (Restart h) v t y = told_same l c w h (begun l (λ i. c.group_of i == h)) t (λ i. inr refl)
+  event_told l s c w (Deliver h k) v t y = told_same l c w h (party_with (at_most_one (slice_get w.emitted k)) (w.parties h)) t (λ i. inl refl)
+  event_told l s c w (Join h k) v t y = told_same l c w h (party_with (w.parties k).taken (w.parties h)) t (λ i. inl refl)
+  event_told l s c w (Restart h) v t y = told_same l c w h (initial_party l (λ i. c.group_of i == h)) t (λ i. inr refl)
 
   pub run_told : (l : Line) → IsSound l → (c : Cast) (es : List Event) (w : Scene) → IsWorld l c w → IsToldWorld l c w → IsToldWorld l c (run l c es w)
   run_told l s c [] w v t = t

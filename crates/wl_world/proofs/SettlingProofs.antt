@@ -10,8 +10,8 @@ use Rattle.wl_plan.specs.Line.{Line}
 use Rattle.wl_plan.specs.Simulation.{ran}
 use Rattle.wl_plan.specs.Sound.{IsSound}
 use Rattle.wl_plan.specs.SimulationLaws.{SimulationLaws}
-use Rattle.wl_group.specs.Member.{next_tick, stepped, level_read}
-use Rattle.wl_group.specs.Party.{Party, slots, put, taking}
+use Rattle.wl_group.specs.Member.{next_tick, member_after_quantum, level_read}
+use Rattle.wl_group.specs.Party.{Party, slots, put, party_with}
 use Rattle.wl_group.specs.Advanced.{run_next, emission_of}
 use Rattle.wl_world.specs.Scene.{Cast, Scene, possible, at_most_one, done, happens}
 use Rattle.wl_world.specs.Headline.{IsFaithful, AllAtEnd, member_of}
@@ -60,7 +60,7 @@ none_of_left l c w (suc m) h = (let r = none_of_left l c w m (λ i b. h i (omega
 -- a delivery changes no member
 delivered_size : (l : Line) (c : Cast) (w : Scene) (h k n : ℕ) → length (member_of (done l c w (Deliver h k)) (c.group_of n) n).saw ≡ length (member_of w (c.group_of n) n).saw
 delivered_size l c w h k n =
-    put_at w.parties h (taking (at_most_one (slice_get w.emitted k)) (w.parties h)) (λ q. length (q.members n).saw ≡ length (member_of w (c.group_of n) n).saw) (c.group_of n)
+    put_at w.parties h (party_with (at_most_one (slice_get w.emitted k)) (w.parties h)) (λ q. length (q.members n).saw ≡ length (member_of w (c.group_of n) n).saw) (c.group_of n)
     (λ e. ap (λ g. length ((w.parties g).members n).saw) (sym e)) (λ o. refl)
 
 pub deliver_keeps : (l : Line) (c : Cast) (w : Scene) (h k : ℕ) → quanta_left_in l c (happens l c w (Deliver h k)) ≡ quanta_left_in l c w
@@ -83,7 +83,7 @@ pub delivered : (l : Line) (c : Cast) (w : Scene) (h k : ℕ) (r : Record) → h
 delivered l c w h k r b e =
     let y : possible l c w (Deliver h k) ≡ true = and_from (nat_lt h c.groups) (nat_lt k (length w.emitted)) (lt-ltb h c.groups b) (lt-ltb k (length w.emitted) (get_below w.emitted k r e)) in
     subst (λ x. Contains (x.parties h).taken r) (sym (cond-true (possible l c w (Deliver h k)) (done l c w (Deliver h k)) w y))
-    (put_at w.parties h (taking (at_most_one (slice_get w.emitted k)) (w.parties h)) (λ q. Contains q.taken r) h (λ e2. taken_there w h k r e) (λ n. absurd (n refl)))
+    (put_at w.parties h (party_with (at_most_one (slice_get w.emitted k)) (w.parties h)) (λ q. Contains q.taken r) h (λ e2. taken_there w h k r e) (λ n. absurd (n refl)))
 
 -- a group that took more has what it had
 kept : (w : Scene) (h g : ℕ) (p : Party) (rs : List Record) → p.taken ≡ rs ++ (w.parties h).taken → (r : Record) → Contains (w.parties g).taken r → Contains (put w.parties h p g).taken r
@@ -94,7 +94,7 @@ kept w h g p rs same r t =
 
 done_keeps : (l : Line) (c : Cast) (w : Scene) (e : Event) → IsMove e → (g : ℕ) (r : Record) → Contains (w.parties g).taken r → Contains ((done l c w e).parties g).taken r
 done_keeps l c w (Advance h i) m g r t = kept w h g (run_next l i (w.parties h)) (emission_of l (w.parties h) i) refl r t
-done_keeps l c w (Deliver h k) m g r t = kept w h g (taking (at_most_one (slice_get w.emitted k)) (w.parties h)) (at_most_one (slice_get w.emitted k)) refl r t
+done_keeps l c w (Deliver h k) m g r t = kept w h g (party_with (at_most_one (slice_get w.emitted k)) (w.parties h)) (at_most_one (slice_get w.emitted k)) refl r t
 done_keeps l c w (Join h k) m g r t = absurd m
 done_keeps l c w (Restart h) m g r t = absurd m
 
@@ -120,7 +120,7 @@ module _ (sims : SimulationLaws) where
       let a = may_advance l c w h i y in
       let own : c.group_of i ≡ h = eqb-true (c.group_of i) h a.member in
       let m = (w.parties h).members i in
-      let n = stepped l i m (level_read l i m (slots (w.parties h))) in
+      let n = member_after_quantum l i m (level_read l i m (slots (w.parties h))) in
       let can = and_parts (nat_lt (next_tick l i m) l.stop) (nat_lt (next_tick l i m) (place_horizon l.nodes l.delay (slots (w.parties h)) i)) a.can in
       let early : next_tick l i m < l.stop = ltb-true (next_tick l i m) l.stop can.0 in
       let some : length (member_of w (c.group_of i) i).saw < ran l i l.stop =

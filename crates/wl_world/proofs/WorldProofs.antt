@@ -13,7 +13,7 @@ use Rattle.wl_plan.specs.Line.{Line}
 use Rattle.wl_plan.specs.Simulation.{changes}
 use Rattle.wl_plan.specs.Sound.{IsSound}
 use Rattle.wl_group.specs.Member.{can_run}
-use Rattle.wl_group.specs.Party.{Party, slots, put, begun, taking}
+use Rattle.wl_group.specs.Party.{Party, slots, put, initial_party, party_with}
 use Rattle.wl_group.specs.Advanced.{can_advance, run_next, emission_of}
 use Rattle.wl_group.specs.Holds.{IsGroup}
 use Rattle.wl_group.specs.GroupLaws.{GroupLaws}
@@ -112,10 +112,10 @@ module _ (knows : KnownLaws) (groups : GroupLaws) where
       }
   event_holds l s c w (Deliver h k) v y = record {
     truth = v.truth;
-    groups = party_put l c w v h (taking (at_most_one (slice_get w.emitted k)) (w.parties h)) (λ b.
+    groups = party_put l c w v h (party_with (at_most_one (slice_get w.emitted k)) (w.parties h)) (λ b.
         groups.taking_holds l s (is_of_group c h) (at_most_one (slice_get w.emitted k)) (w.parties h) (v.groups h b)
         (knows.true_records l.nodes (changes l) (at_most_one (slice_get w.emitted k)) (comes (slice_get w.emitted k) refl)));
-    told = told_kept l c w v h (taking (at_most_one (slice_get w.emitted k)) (w.parties h)) (v.told h);
+    told = told_kept l c w v h (party_with (at_most_one (slice_get w.emitted k)) (w.parties h)) (v.told h);
   }
     where
       comes : (o : Option Record) → slice_get w.emitted k ≡ o → AreTrueOf l.nodes (changes l) (at_most_one o)
@@ -125,14 +125,14 @@ module _ (knows : KnownLaws) (groups : GroupLaws) where
       let p = and_parts (nat_lt h c.groups) (nat_lt k c.groups) y in
       record {
         truth = v.truth;
-        groups = party_put l c w v h (taking (w.parties k).taken (w.parties h))
+        groups = party_put l c w v h (party_with (w.parties k).taken (w.parties h))
             (λ b. groups.taking_holds l s (is_of_group c h) (w.parties k).taken (w.parties h) (v.groups h b) (v.groups k (ltb-true k c.groups p.1)).truth);
-        told = told_kept l c w v h (taking (w.parties k).taken (w.parties h)) (v.told h);
+        told = told_kept l c w v h (party_with (w.parties k).taken (w.parties h)) (v.told h);
       }
   event_holds l s c w (Restart h) v y = record {
     truth = v.truth;
-    groups = party_put l c w v h (begun l (is_of_group c h)) (λ b. groups.begun_holds l s (is_of_group c h));
-    told = told_kept l c w v h (begun l (is_of_group c h)) (nothing_told w.emitted);
+    groups = party_put l c w v h (initial_party l (is_of_group c h)) (λ b. groups.begun_holds l s (is_of_group c h));
+    told = told_kept l c w v h (initial_party l (is_of_group c h)) (nothing_told w.emitted);
   }
 
   pub happens_holds : (l : Line) → IsSound l → (c : Cast) (w : Scene) (e : Event) → IsWorld l c w → IsWorld l c (happens l c w e)

@@ -15,7 +15,7 @@ use Rattle.wl_plan.specs.PlanLine.{line_of, table_of, IsTrueOfPlan}
 use Rattle.wl_plan.specs.Checked.{IsChecked}
 use Rattle.wl_plan.specs.Groupings.{IsGrouping, GroupingLaws, most_groups, groups_of, is_in_group, members_of}
 use Rattle.wl_group.specs.Member.{next_tick, can_run}
-use Rattle.wl_group.specs.Party.{Party, slots, put, firsts, begun, taking}
+use Rattle.wl_group.specs.Party.{Party, slots, put, initial_silences, initial_party, party_with}
 use Rattle.wl_group.specs.Advanced.{Reply, emitted, blocked, ended, can_advance, emission_of, reply_of, run_next, HasAdvanced}
 use Rattle.wl_group.specs.AdvanceLaws.{AdvanceLaws}
 use Rattle.wl_group.specs.GroupValue.{GroupValue, IsGroupValue, Matches, names, may_run, belongs as has}
@@ -116,12 +116,12 @@ one_more_first plan numbers groups more g h n f e is = (
   ],
 )
 
-pub at_first : (plan : Plan) (numbers : List ℕ) (groups : List GroupValue) (es : List Record) → AreFirst plan numbers groups → es ≡ firsts (line_of plan) (λ i. true) (length plan.nodes)
+pub at_first : (plan : Plan) (numbers : List ℕ) (groups : List GroupValue) (es : List Record) → AreFirst plan numbers groups → es ≡ initial_silences (line_of plan) (λ i. true) (length plan.nodes)
     → IsWorldAt (start (line_of plan) (cast_of numbers)) (world_value plan numbers groups es)
 at_first plan numbers groups es f e = record { emitted = e; groups = λ h g q. (f h g q).begun_as }
 
 pub first_world : (plan : Plan) (numbers : List ℕ) (groups : List GroupValue) (es : List Record) → IsChecked plan → IsGrouping (length plan.nodes) numbers → length groups ≡ groups_of numbers
-    → AreFirst plan numbers groups → es ≡ firsts (line_of plan) (λ i. true) (length plan.nodes) → IsWorldValue (world_value plan numbers groups es)
+    → AreFirst plan numbers groups → es ≡ initial_silences (line_of plan) (λ i. true) (length plan.nodes) → IsWorldValue (world_value plan numbers groups es)
 first_world plan numbers groups es checked grouping count f e = record {
   staffed = record { checked = checked; grouping = grouping; count = count; plans = λ h g q. (f h g q).plan_is; members = λ h g q. (f h g q).members };
   reached = ([], at_first plan numbers groups es f e);
@@ -213,13 +213,13 @@ truth_of v h k old other i g f is =
 -- ---- the four steps
 
 pub delivers : (v : WorldValue) (h k : ℕ) (old new : GroupValue) (r : Record) → IsStaffed v → h < length v.groups → slice_get v.groups h ≡ Some old → slice_get v.emitted k ≡ Some r
-    → ((p : Party) → Matches p old → Matches (taking (r ∷ []) p) new)
+    → ((p : Party) → Matches p old → Matches (party_with (r ∷ []) p) new)
     → HasStepped IsWorldAt (line_of v.plan) (cast_of v.numbers) (Deliver h k) v (with_group v h new v.emitted) Done
 delivers v h k old new r s b g t after w at =
     has_done (line_of v.plan) (cast_of v.numbers) w (Deliver h k) (with_group v h new v.emitted)
     (and_from (nat_lt h (groups_of v.numbers)) (nat_lt k (length w.emitted)) (is_group v h s b) (lt-ltb k (length w.emitted) (subst (λ xs. k < length xs) at.emitted (slice_get_within v.emitted k r t))))
-    (at_put v w h new (taking (at_most_one (slice_get w.emitted k)) (w.parties h)) v.emitted w.emitted at b
-    (subst (λ o. Matches (taking (at_most_one o) (w.parties h)) new) (sym (ap (λ xs. slice_get xs k) (sym at.emitted) ∙ t)) (after (w.parties h) (at.groups h old g)))
+    (at_put v w h new (party_with (at_most_one (slice_get w.emitted k)) (w.parties h)) v.emitted w.emitted at b
+    (subst (λ o. Matches (party_with (at_most_one o) (w.parties h)) new) (sym (ap (λ xs. slice_get xs k) (sym at.emitted) ∙ t)) (after (w.parties h) (at.groups h old g)))
     at.emitted)
 
 pub idle_delivery : (v : WorldValue) (h k : ℕ) → IsStaffed v → (length v.groups ≤ h) ⊎ (length v.emitted ≤ k) → HasStepped IsWorldAt (line_of v.plan) (cast_of v.numbers) (Deliver h k) v v Idle
@@ -230,12 +230,12 @@ idle_delivery v h k s (inr b) w at =
     (right_false (nat_lt h (groups_of v.numbers)) (nat_lt k (length w.emitted)) (le-ltb k (length w.emitted) (subst (λ xs. length xs ≤ k) at.emitted b))) at
 
 pub joins : (v : WorldValue) (h k : ℕ) (old other new : GroupValue) → IsStaffed v → h < length v.groups → k < length v.groups → slice_get v.groups h ≡ Some old → slice_get v.groups k ≡ Some other
-    → ((p : Party) (rs : List Record) → Matches p old → other.replica ≡ state_of (length old.plan.nodes) rs → Matches (taking rs p) new)
+    → ((p : Party) (rs : List Record) → Matches p old → other.replica ≡ state_of (length old.plan.nodes) rs → Matches (party_with rs p) new)
     → HasStepped IsWorldAt (line_of v.plan) (cast_of v.numbers) (Join h k) v (with_group v h new v.emitted) Done
 joins v h k old other new s b d g f after w at =
     has_done (line_of v.plan) (cast_of v.numbers) w (Join h k) (with_group v h new v.emitted)
     (and_from (nat_lt h (groups_of v.numbers)) (nat_lt k (groups_of v.numbers)) (is_group v h s b) (is_group v k s d))
-    (at_put v w h new (taking (w.parties k).taken (w.parties h)) v.emitted w.emitted at b
+    (at_put v w h new (party_with (w.parties k).taken (w.parties h)) v.emitted w.emitted at b
     (after (w.parties h) (w.parties k).taken (at.groups h old g)
     (subst (λ (p : Plan). other.replica ≡ state_of (length p.nodes) (w.parties k).taken) (s.plans k other f ∙ sym (s.plans h old g)) (at.groups k other f).replica))
     at.emitted)
@@ -246,12 +246,12 @@ idle_join v h k s (inl b) w at =
 idle_join v h k s (inr b) w at =
     has_idled (line_of v.plan) (cast_of v.numbers) w (Join h k) v (right_false (nat_lt h (groups_of v.numbers)) (nat_lt k (groups_of v.numbers)) (no_group v k s b)) at
 
-pub restarts : (v : WorldValue) (h : ℕ) (old new : GroupValue) → IsStaffed v → h < length v.groups → slice_get v.groups h ≡ Some old → Matches (begun (line_of old.plan) (has old)) new
+pub restarts : (v : WorldValue) (h : ℕ) (old new : GroupValue) → IsStaffed v → h < length v.groups → slice_get v.groups h ≡ Some old → Matches (initial_party (line_of old.plan) (has old)) new
     → HasStepped IsWorldAt (line_of v.plan) (cast_of v.numbers) (Restart h) v (with_group v h new v.emitted) Done
 restarts v h old new s b g m w at =
     has_done (line_of v.plan) (cast_of v.numbers) w (Restart h) (with_group v h new v.emitted) (is_group v h s b)
-    (at_put v w h new (begun (line_of v.plan) (is_of_group (cast_of v.numbers) h)) v.emitted w.emitted at b
-    (subst (λ f. Matches (begun (line_of v.plan) f) new) (s.members h old g) (subst (λ (p : Plan). Matches (begun (line_of p) (has old)) new) (s.plans h old g) m))
+    (at_put v w h new (initial_party (line_of v.plan) (is_of_group (cast_of v.numbers) h)) v.emitted w.emitted at b
+    (subst (λ f. Matches (initial_party (line_of v.plan) f) new) (s.members h old g) (subst (λ (p : Plan). Matches (initial_party (line_of p) (has old)) new) (s.plans h old g) m))
     at.emitted)
 
 pub idle_restart : (v : WorldValue) (h : ℕ) → IsStaffed v → length v.groups ≤ h → HasStepped IsWorldAt (line_of v.plan) (cast_of v.numbers) (Restart h) v v Idle

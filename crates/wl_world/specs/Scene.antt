@@ -7,7 +7,7 @@ use Rattle.wl_world.specs.declared.events.Event.TheVariants.{Advance, Deliver, J
 use Rattle.wl_world.specs.declared.events.Answer.{Answer}
 use Rattle.wl_world.specs.declared.events.Answer.TheVariants.{Done, Idle}
 use Rattle.wl_plan.specs.Line.{Line}
-use Rattle.wl_group.specs.Party.{Party, put, firsts, begun, taking}
+use Rattle.wl_group.specs.Party.{Party, put, initial_silences, initial_party, party_with}
 use Rattle.wl_group.specs.Advanced.{can_advance, run_next, emission_of}
 
 -- how many groups there are, and which one each node is in; a group may be without nodes
@@ -26,7 +26,7 @@ pub record Scene : Type 0 where
 
 -- at the start each group begins, and each node's first silence is emitted
 abbrev pub start : Line → Cast → Scene
-start l c = record { parties = λ h. begun l (is_of_group c h); emitted = firsts l (λ i. true) l.nodes }
+start l c = record { parties = λ h. initial_party l (is_of_group c h); emitted = initial_silences l (λ i. true) l.nodes }
 
 -- whether an event may happen: its group, record or node is there, and the node may run its next quantum
 abbrev pub possible : Line → Cast → Scene → Event → Bool
@@ -43,9 +43,9 @@ at_most_one (Some r) = r ∷ []
 -- after an event that may happen: a node runs, a group takes one emitted record, takes all that another took, or begins again
 abbrev pub done : Line → Cast → Scene → Event → Scene
 done l c w (Advance h i) = record { parties = put w.parties h (run_next l i (w.parties h)); emitted = w.emitted ++ emission_of l (w.parties h) i }
-done l c w (Deliver h k) = record { parties = put w.parties h (taking (at_most_one (slice_get w.emitted k)) (w.parties h)); emitted = w.emitted }
-done l c w (Join h k) = record { parties = put w.parties h (taking (w.parties k).taken (w.parties h)); emitted = w.emitted }
-done l c w (Restart h) = record { parties = put w.parties h (begun l (is_of_group c h)); emitted = w.emitted }
+done l c w (Deliver h k) = record { parties = put w.parties h (party_with (at_most_one (slice_get w.emitted k)) (w.parties h)); emitted = w.emitted }
+done l c w (Join h k) = record { parties = put w.parties h (party_with (w.parties k).taken (w.parties h)); emitted = w.emitted }
+done l c w (Restart h) = record { parties = put w.parties h (initial_party l (is_of_group c h)); emitted = w.emitted }
 
 -- an event that may not happen changes nothing
 abbrev pub happens : Line → Cast → Scene → Event → Scene

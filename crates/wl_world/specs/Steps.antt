@@ -23,7 +23,7 @@ module _ {W : Type 0} (at : Scene → W → Type 0) (l : Line) (c : Cast) where
       (before : List Event) → at (run l c before (start l c)) old
       → (told ≡ answers l c events (run l c before (start l c))) × at (run l c (before ++ events) (start l c)) new
 
-  -- a list of events that stopped after some of them, before the next one, for want of memory
+  -- a list of events that stopped after some of them, before the next one, because memory ran out
   abbrev pub HasStopped : List Event → W → W → ℕ → Type 0
   HasStopped events old new count =
       (count < length events)
@@ -37,7 +37,7 @@ module _ {W : Type 0} (at : Scene → W → Type 0) (l : Line) (c : Cast) where
       (before : List Event) → at (run l c before (start l c)) old
       → (moves : List Event) × Rounds l c (run l c before (start l c)) rounds moves × at (run l c (before ++ moves) (start l c)) new
 
-  -- it stopped on the way, for want of memory
+  -- it stopped on the way, because memory ran out
   abbrev pub HasMoved : W → W → Type 0
   HasMoved old new =
       (before : List Event) → at (run l c before (start l c)) old

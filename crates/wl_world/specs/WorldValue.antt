@@ -5,7 +5,7 @@ use Rattle.wl_plan.specs.declared.plan.Plan.{Plan}
 use Rattle.wl_plan.specs.PlanLine.{line_of}
 use Rattle.wl_plan.specs.Checked.{IsChecked}
 use Rattle.wl_plan.specs.Groupings.{IsGrouping, groups_of, group_of}
-use Rattle.wl_group.specs.Party.{begun}
+use Rattle.wl_group.specs.Party.{initial_party}
 use Rattle.wl_group.specs.GroupValue.{GroupValue, Matches, belongs as has}
 use Rattle.wl_world.specs.declared.events.Event.{Event}
 use Rattle.wl_world.specs.Scene.{Cast, Scene, start, run, is_of_group}
@@ -52,7 +52,7 @@ world_value plan numbers groups emitted = record { plan = plan; numbers = number
 pub record IsFirstGroup (plan : Plan) (numbers : List ℕ) (h : ℕ) (g : GroupValue) : Type 0 where
   pub plan_is : g.plan ≡ plan
   pub members : has g ≡ is_of_group (cast_of numbers) h
-  pub begun_as : Matches (begun (line_of plan) (is_of_group (cast_of numbers) h)) g
+  pub begun_as : Matches (initial_party (line_of plan) (is_of_group (cast_of numbers) h)) g
 
 abbrev pub AreFirst : Plan → List ℕ → List GroupValue → Type 0
 AreFirst plan numbers groups = (h : ℕ) (g : GroupValue) → slice_get groups h ≡ Some g → IsFirstGroup plan numbers h g

@@ -4,7 +4,7 @@ ghost use Rattle.wl_plan.specs.Checked.{IsChecked};
 ghost use Rattle.wl_plan.specs.Groupings.{IsGrouping, groups_of};
 ghost use Rattle.wl_plan.specs.PlanLine.{line_of};
 ghost use Rattle.wl_group.specs.GroupValue.{Matches, belongs as has};
-ghost use Rattle.wl_group.specs.Party.{begun, firsts};
+ghost use Rattle.wl_group.specs.Party.{initial_party, initial_silences};
 ghost use Rattle.wl_world.specs.Scene.{is_of_group};
 ghost use Rattle.wl_world.specs.WorldValue.{cast_of, AreFirst};
 
@@ -39,7 +39,7 @@ fn first_group(alloc: Global, plan: &Plan, grouping: &Grouping, h: u8) -> Result
     ensures plan { IfOk result (λ group. group.plan ≡ plan.now) }
     ensures members { IfOk result (λ group. has group ≡ is_of_group (cast_of grouping.now) h) }
     ensures begun { IfOk result (λ group.
-        Matches (begun (line_of plan.now) (is_of_group (cast_of grouping.now) h)) group) }
+        Matches (initial_party (line_of plan.now) (is_of_group (cast_of grouping.now) h)) group) }
 {
     wl_plan::grouping_laws();
     let members = grouping.members(alloc, h)?;
@@ -49,7 +49,8 @@ fn first_group(alloc: Global, plan: &Plan, grouping: &Grouping, h: u8) -> Result
 /// The first silence of each node: that it keeps its first drive up to its first quantum.
 pub(crate) fn first_records(alloc: Global, plan: &Plan) -> Result<Vec<Record>, AllocError>
     requires { IsChecked plan.now }
-    ensures { IfOk result (λ records. records.items ≡ firsts (line_of plan.now) (λ i. true) (length plan.now.nodes)) }
+    ensures { IfOk result (λ records.
+        records.items ≡ initial_silences (line_of plan.now) (λ i. true) (length plan.now.nodes)) }
 {
     let mut records = Vec::new(alloc);
     for i in 0..plan.topology.nodes() {

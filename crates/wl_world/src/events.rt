@@ -23,7 +23,7 @@ pub enum Answer {
     Idle,
 }
 
-/// A run that ended for want of memory. The world is as the first `done` events left it.
+/// A run that ended because memory ran out. The world is as the first `done` events left it.
 #[derive(Clone, Copy, Debug, PartialEq, Eq)]
 pub struct Stopped {
     /// How many events were handled, those that were not possible too.

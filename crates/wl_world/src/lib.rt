@@ -1,75 +1,14 @@
 //! All groups of a line together, over every schedule.
 #![tactic(auto)]
 
-ghost use Rattle.wl_world.specs.Ended.{EndLaws};
-ghost use Rattle.wl_world.specs.Faithful.{WorldsAreFaithful, WorldsDoNotStall};
-ghost use Rattle.wl_world.specs.Headline.{Headline, NoStall};
-ghost use Rattle.wl_world.specs.Settling.{SettlingLaws};
-
 mod begin;
 mod events;
+mod laws;
 mod outcome;
 mod settle;
 mod steps;
 mod world;
 
 pub use events::{Answer, Event, Stopped};
+pub use laws::{headline, no_stall, settling_laws, worlds_are_faithful};
 pub use world::World;
-
-/// Whatever the groups do, in whatever order records come, repeated or late, whoever joins or
-/// restarts: every emitted record is true, replicas that took the same records are equal, and
-/// below each horizon, at each node and in each read, all is as in the one-thread simulation.
-pub fn headline()
-    ensures { Headline }
-{
-    wl_replica::same_records_same_state();
-    wl_replica::taking_is_joining();
-    wl_replica::joining_is_a_join();
-    wl_replica::slots_of_states();
-    wl_replica::known_laws();
-    wl_group::group_laws();
-}
-
-/// The headline of a world as its calls see it: what was emitted is true, each group knows nothing but the truth, below each horizon
-/// its wave is the level of the one-thread simulation, and each node is where that has it after as many quanta.
-pub fn worlds_are_faithful()
-    ensures { WorldsAreFaithful }
-{
-    headline();
-    wl_replica::slots_of_states();
-    wl_plan::checked_is_sound();
-    wl_plan::simulation_laws();
-    wl_plan::grouping_laws();
-}
-
-/// Where each group has taken all that was emitted, some node can advance, or all are at the end:
-/// the groups never wait for each other in a ring. So it is in every world where each group knows all that was emitted, whatever way
-/// it came to know it.
-pub fn no_stall()
-    ensures scenes { NoStall }
-    ensures worlds { WorldsDoNotStall }
-{
-    wl_replica::known_laws();
-    wl_replica::taking_is_joining();
-    wl_replica::slots_of_states();
-    wl_plan::checked_is_sound();
-    wl_plan::simulation_laws();
-    wl_plan::grouping_laws();
-    wl_group::group_laws();
-    wl_group::value_laws();
-}
-
-/// What settling rests on: each advance runs one of the quanta that are left, a delivery none; no
-/// quantum is left exactly where all nodes are at the end; what is delivered is taken and stays.
-/// Rounds of deliveries to all and of advances until none can end with all nodes at the end, and
-/// there are no more of them than quanta were left. How many are left, and where the end is, a world's value tells.
-pub fn settling_laws()
-    ensures scenes { SettlingLaws }
-    ensures worlds { EndLaws }
-{
-    wl_plan::simulation_laws();
-    wl_plan::checked_is_sound();
-    wl_plan::grouping_laws();
-    wl_replica::known_laws();
-    wl_group::group_laws();
-}

@@ -10,8 +10,8 @@ use wl_serial::{NodeOutcome, Outcome, node_outcome};
 impl World {
     ghost use Rattle.wl_world.specs.Ended.{AreAtEnd};
 
-    /// What the nodes did, where all of them are at the end: what the one-thread simulation of the plan comes to. Refused for want of
-    /// memory alone.
+    /// What the nodes did, where all of them are at the end: the outcome of the one-thread simulation of the plan. Refused only when out of
+    /// memory.
     pub fn outcome(&self, alloc: Global) -> Result<Outcome, AllocError>
         requires { AreAtEnd self.now }
         ensures { IfOk result (λ outcome. outcome ≡ outcome_of self.now.plan) }

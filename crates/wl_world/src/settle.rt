@@ -62,7 +62,7 @@ impl World {
 
     /// Goes on until all nodes are at the end, and answers in how many rounds. In a round each group is handed all records that were
     /// emitted before it, and then nodes advance until none can. There are no more rounds than quanta were left, and none where all
-    /// were at the end. Refused for want of memory, the deliveries and advances that were made stand.
+    /// were at the end. Refused when out of memory, the deliveries and advances that were made stand.
     pub fn settle(&mut self) -> Result<u64, AllocError>
         ensures settled { IfOk result (λ n. SettlesIn self.old self.new n) }
         ensures few { IfOk result (λ n. n ≤ quanta_left_of self.old) }

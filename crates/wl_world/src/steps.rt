@@ -18,7 +18,7 @@ impl World {
     ghost use Rattle.wl_world.specs.WorldValue.{IsWorldValue};
 
     /// Handles events in order, and answers for each whether it was possible; one that is not changes
-    /// nothing. Refused for want of memory, the world is as the first `done` events left it.
+    /// nothing. Refused when out of memory, the world is as the first `done` events left it.
     pub fn run(&mut self, alloc: Global, events: &[Event]) -> Result<Vec<Answer>, Stopped>
         ensures ok { IfOk result (λ told. RunsEvents events.now self.old self.new told.items) }
         ensures stopped { IfErr result (λ s. StopsAfter events.now self.old self.new s.done) }
@@ -59,7 +59,7 @@ impl World {
         Ok(told)
     }
 
-    /// Handles one event. Refused for want of memory, the world is as it was.
+    /// Handles one event. Refused when out of memory, the world is as it was.
     fn step(&mut self, event: Event) -> Result<Answer, AllocError>
         ensures ok { IfOk result (λ a. StepsBy event self.old self.new a) }
         ensures err { OnErr result (self.new ≡ self.old) }

@@ -45,7 +45,7 @@ impl World {
 
     /// The world of a plan that passed its check and a grouping of its nodes, before the first quanta:
     /// the first silence of each node is emitted, in the order of the nodes, and each group has taken
-    /// those of its members. Refused for want of memory alone.
+    /// those of its members. Refused only when out of memory.
     pub fn new(alloc: Global, plan: Plan, grouping: Grouping) -> Result<World, AllocError>
         requires checked { IsChecked plan }
         requires grouping { length grouping ≡ length plan.nodes }

@@ -11,7 +11,7 @@ use Rattle.wl_record_core.specs.declared.record.Slot.TheVariants.{SilenceAt}
 use Rattle.wl_record_core.specs.Slots.{slot_of}
 use Rattle.wl_plan.specs.Line.{Line, reach}
 use Rattle.wl_plan.specs.PlanLine.{line_of}
-use Rattle.wl_group.specs.Member.{Member, next_tick, turns, stepped, emission}
+use Rattle.wl_group.specs.Member.{Member, next_tick, turns, member_after_quantum, emission}
 use Rattle.wl_group.specs.Running.{IsCellOf, slots_ahead}
 use Rattle.wl_group.proofs.advance.run_cell.Goals as goal
 
@@ -25,7 +25,7 @@ with_turn i n t u false = ((1, omega arith, refl), tt)
 
 said_ahead : (l : Line) (i : ℕ) (m : Member) (level : Level) → All (IsAhead i m.changed) (emission l i m level)
 said_ahead l i m level =
-    All-from_recursion (IsAhead i m.changed) (emission l i m level) (with_turn i m.changed (next_tick l i m) (reach l i (stepped l i m level).saw) (turns l i m level))
+    All-from_recursion (IsAhead i m.changed) (emission l i m level) (with_turn i m.changed (next_tick l i m) (reach l i (member_after_quantum l i m level).saw) (turns l i m level))
 
 pub take_all-requires-clause-room : goal.take_all-requires-clause-room
 take_all-requires-clause-room c =

@@ -3,7 +3,7 @@ use Rattle.std.specs.List.{filter_map}
 use Rattle.wl_replica.specs.Canonical.{edge_record, of_node}
 use Rattle.wl_replica.proofs.listed.push_edges.Given as goal
 
--- what is told so far, and the entries that are left
+-- what is listed so far, and the entries that are left
 abbrev pub invariant-loop-key : goal.invariant-loop-key
 invariant-loop-key l = record {
   can_next : (goal.iterator-loop-key).can_next l.key-iterator;

@@ -1,4 +1,4 @@
--- Each edge stands behind those before it, and all numbers fit.
+-- Each edge stands after those before it, and all numbers fit.
 use Rattle.std.proofs.Common.{◌++◌, ◌∷◌, [], ◌∙◌, ap, sym, append_assoc, get_or, take, refl, arith}
 use Rattle.wl_record_core.specs.declared.record.Record.TheVariants.{Edge}
 use Rattle.wl_record_core.specs.Limits.{most_edges-is}

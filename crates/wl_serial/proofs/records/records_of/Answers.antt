@@ -1,4 +1,4 @@
--- The records of each node stand behind those of the nodes before it.
+-- The records of each node stand after those of the nodes before it.
 use Rattle.std.proofs.Common.{◌++◌, ◌<◌, ◌∙◌, ap, sym, length, take, get_or, arith}
 use Rattle.std.specs.List.{enumerate_from, flat_map}
 use Rattle.wl_record_core.specs.Limits.{most_nodes-is}

@@ -1,4 +1,4 @@
--- Each node begins behind the ones before it.
+-- Each node begins after the ones before it.
 use Rattle.wl_serial.proofs.Runners.{one_more}
 use Rattle.wl_serial.proofs.run.begin.Goals as goal
 

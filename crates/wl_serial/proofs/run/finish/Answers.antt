@@ -1,4 +1,4 @@
--- Each node's outcome stands behind those of the nodes before it.
+-- Each node's outcome stands after those of the nodes before it.
 use Rattle.std.proofs.Common.{◌<◌, ◌≤◌, length, sym, subst, ◌∙◌, arith}
 use Rattle.std.proofs.lemmas.Iterator.Adapters.{YieldsList-from_vec}
 use Rattle.std.proofs.lemmas.Iterator.Consumers.{YieldsList-turn}

@@ -1,4 +1,4 @@
--- One advance more behind the others.
+-- One advance more after the others.
 use Rattle.std.proofs.Common.{List, ◌++◌, ◌∙◌, ap, subst, sym}
 use Rattle.wl_record_core.specs.declared.record.Record.{Record}
 use Rattle.wl_group.specs.Running.{Ran, none}

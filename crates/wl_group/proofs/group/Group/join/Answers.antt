@@ -1,5 +1,5 @@
 use Rattle.std.proofs.Common.{sym, subst}
-use Rattle.wl_group.specs.Party.{taking}
+use Rattle.wl_group.specs.Party.{party_with}
 use Rattle.wl_group.specs.GroupValue.{Matches}
 use Rattle.wl_group.proofs.BeginProofs.{joined_value, joined_kept}
 use Rattle.wl_group.proofs.group.Group.join.Goals as goal
@@ -11,6 +11,6 @@ invariant_of-self-2 c =
 
 pub returns-clause-after : goal.returns-clause-after
 returns-clause-after c p rs h e =
-    subst (Matches (taking rs p))
+    subst (Matches (party_with rs p))
     (sym (joined_value c.self.inside.plan c.self.inside.cells.items c.self.inside.replica c.join.new.self c.self.inside.told.items c.args.other.now c.args.self.now c.self.view_is c.in_ok-join.ensures.ok))
     (c.value_laws.ensures.joins_as c.args.self.now p c.args.other.now rs h e)

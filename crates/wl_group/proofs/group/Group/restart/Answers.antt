@@ -1,7 +1,7 @@
 use Rattle.std.proofs.Common.{refl, sym, ◌∙◌, ap, subst}
 use Rattle.wl_plan.specs.PlanLine.{line_of}
-use Rattle.wl_group.specs.Party.{begun}
-use Rattle.wl_group.specs.GroupValue.{GroupValue, IsGroupValue, Matches, belongs, begun_of}
+use Rattle.wl_group.specs.Party.{initial_party}
+use Rattle.wl_group.specs.GroupValue.{GroupValue, IsGroupValue, Matches, belongs, initial_group}
 use Rattle.wl_group.specs.Chosen.{is_chosen}
 use Rattle.wl_group.proofs.BeginProofs.{begun_value, belongs_past}
 use Rattle.wl_group.proofs.group.Group.restart.Goals as goal
@@ -11,12 +11,12 @@ returns-clause-ok c =
     begun_value c.self.inside.plan c.self.inside.plan (is_chosen c.chosen-chosen.result) (belongs c.args.self.now)
     c.in_ok-cells.cells.items c.in_ok-replica.replica c.clear.new.self.items refl c.chosen-chosen.ensures
     c.in_ok-cells.ensures.ran c.in_ok-replica.ensures c.clear.ensures.items
-    ∙ ap (λ (v : GroupValue). begun_of v.plan (belongs c.args.self.now)) c.self.view_is
+    ∙ ap (λ (v : GroupValue). initial_group v.plan (belongs c.args.self.now)) c.self.view_is
 
 pub returns-clause-begun : goal.returns-clause-begun
 returns-clause-begun c =
     let v = subst IsGroupValue c.self.view_is c.self.invariant.value in
-    subst (Matches (begun (line_of c.args.self.now.plan) (belongs c.args.self.now))) (sym (returns-clause-ok c))
+    subst (Matches (initial_party (line_of c.args.self.now.plan) (belongs c.args.self.now))) (sym (returns-clause-ok c))
     (c.value_laws.ensures.begins_as c.args.self.now.plan v.checked (belongs c.args.self.now))
 
 pub returns-clause-members : goal.returns-clause-members

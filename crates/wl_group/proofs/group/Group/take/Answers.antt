@@ -1,5 +1,5 @@
 use Rattle.std.proofs.Common.{[], ◌∷◌, sym, subst}
-use Rattle.wl_group.specs.Party.{taking}
+use Rattle.wl_group.specs.Party.{party_with}
 use Rattle.wl_group.specs.GroupValue.{Matches}
 use Rattle.wl_group.proofs.BeginProofs.{taken_value, taken_kept}
 use Rattle.wl_group.proofs.group.Group.take.Goals as goal
@@ -11,6 +11,6 @@ invariant_of-self-2 c =
 
 pub returns-clause-after : goal.returns-clause-after
 returns-clause-after c p h =
-    subst (Matches (taking (c.args.told ∷ []) p))
+    subst (Matches (party_with (c.args.told ∷ []) p))
     (sym (taken_value c.self.inside.plan c.self.inside.cells.items c.self.inside.replica c.take.new.self c.self.inside.told.items c.args.told c.args.self.now c.self.view_is c.in_ok-take.ensures.ok))
     (c.value_laws.ensures.takes_as c.args.self.now p (c.args.told ∷ []) h)

@@ -1,6 +1,6 @@
 use Rattle.std.proofs.Common.{◌≡◌, ◌∙◌, true, refl, sym, ap, arith}
 use Rattle.wl_level.specs.Levels.{is_dominant}
-use Rattle.wl_frame.specs.Stuffing.{kept}
+use Rattle.wl_frame.specs.Stuffing.{destuffed_bits}
 use Rattle.wl_frame.specs.Grammar.{is_crc_right}
 use Rattle.wl_confine.specs.declared.Happened.TheVariants as happens
 use Rattle.wl_machine.specs.Stretch.Ended.{NoFrame}
@@ -17,12 +17,12 @@ returns-then-is_crc_right-2 c head given own end role t =
     ] in
     received_tail_on _ _ head own (sample_of c.args.level given c.args.mode) 1 end c.args.is_crc_right c.args.self.now.bits.items happens.Acked NoFrame
     role t (omega arith)
-    (answered (kept own end) (sample_of c.args.level given c.args.mode) c.args.is_crc_right (t.right_is ∙ ap is_crc_right t.bits_are) c.if-is_crc_right-2.true d)
+    (answered (destuffed_bits own end) (sample_of c.args.level given c.args.mode) c.args.is_crc_right (t.right_is ∙ ap is_crc_right t.bits_are) c.if-is_crc_right-2.true d)
     c.plain-then-is_crc_right-2.ensures refl refl
 
 pub returns-else-is_crc_right-2 : goal.returns-else-is_crc_right-2
 returns-else-is_crc_right-2 c head given own end role t =
     received_tail_on _ _ head own (sample_of c.args.level given c.args.mode) 1 end c.args.is_crc_right c.args.self.now.bits.items happens.Nothing NoFrame
     role t (omega arith)
-    (not_answered (kept own end) (sample_of c.args.level given c.args.mode) c.args.is_crc_right (t.right_is ∙ ap is_crc_right t.bits_are) c.if-is_crc_right-2.false)
+    (not_answered (destuffed_bits own end) (sample_of c.args.level given c.args.mode) c.args.is_crc_right (t.right_is ∙ ap is_crc_right t.bits_are) c.if-is_crc_right-2.false)
     c.plain-else-is_crc_right-2.ensures refl refl

@@ -1,7 +1,7 @@
 use Rattle.std.proofs.Common.{◌≡◌, ◌∙◌, length, nat_lt, ap, arith, min}
 use Rattle.wl_level.specs.Levels.{same}
 use Rattle.wl_segments.specs.Lengths.{sample_at}
-use Rattle.wl_sync.specs.SampleLaws.{way as way_at}
+use Rattle.wl_sync.specs.SampleLaws.{quanta_to_sample as way_at}
 use Rattle.wl_machine.specs.Judged.{stretch_of}
 use Rattle.wl_machine.specs.Silence.{silence_of}
 use Rattle.wl_node.specs.declared.setup.NodeSetup.{NodeSetup}

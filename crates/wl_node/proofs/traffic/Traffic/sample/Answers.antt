@@ -10,7 +10,7 @@ use Rattle.wl_machine.specs.Judged.{judged, stretch_of, head_of}
 use Rattle.wl_machine.specs.Laws.{HeadLaws}
 use Rattle.wl_machine.specs.States.{sample_of}
 use Rattle.wl_node.specs.declared.traffic.Traffic.{Traffic}
-use Rattle.wl_node.specs.History.{History, sampled_next, judged_so, passed, is_sent, switched_off, ready_head, unsent_of}
+use Rattle.wl_node.specs.History.{History, sampled_next, history_after_judgement, passed_frames, is_sent, switched_off, ready_head, unsent_of}
 use Rattle.wl_node.specs.Kept.{IsTraffic, first_frame}
 use Rattle.wl_node.proofs.Sends.{count_append, sends_next}
 use Rattle.wl_node.proofs.traffic.Traffic.sample.Goals as goal
@@ -22,7 +22,7 @@ made h x happened ended after = record {
   inputs = (h.inputs ++ Sample x ∷ []) ++ switched_off x.mode after;
   happened = h.happened ++ happened ∷ [];
   samples = h.samples ++ (length h.seen, x.level) ∷ [];
-  frames = h.frames ++ passed (length h.seen) ended;
+  frames = h.frames ++ passed_frames (length h.seen) ended;
   syncs = h.syncs;
   drive = h.drive;
 }
@@ -52,14 +52,14 @@ returns-clause-traffic c setup h q n old =
       machine = off.0;
       counters = counted;
       pending = off.1;
-      sent = kept.1 ∙ (ap (λ k. k + count_by is_sent (passed c.args.quantum ended)) old.sent ∙ (ap (λ k. count_by is_sent h.frames + count_by is_sent (passed k ended)) (sym n) ∙ sym (count_append is_sent h.frames (passed (length h.seen) ended))));
+      sent = kept.1 ∙ (ap (λ k. k + count_by is_sent (passed_frames c.args.quantum ended)) old.sent ∙ (ap (λ k. count_by is_sent h.frames + count_by is_sent (passed_frames k ended)) (sym n) ∙ sym (count_append is_sent h.frames (passed_frames (length h.seen) ended))));
       errors = c.count.ensures ∙ (ap (λ k. k + count_by is_error (c.bit-turn.result.happened ∷ [])) old.errors ∙ sym (count_append is_error h.happened (c.bit-turn.result.happened ∷ [])));
       samples = c.push_reserved.ensures.items ∙ (ap (λ l. l ++ (c.args.quantum, c.args.level) ∷ []) old.samples ∙ ap (λ k. h.samples ++ (k, c.args.level) ∷ []) (sym n));
-      frames = kept.0 ∙ (ap (λ l. l ++ passed c.args.quantum ended) old.frames ∙ ap (λ k. h.frames ++ passed k ended) (sym n));
-      sends = λ frame e. ap (λ k. first_frame (drop k setup.queue)) (count_append is_sent h.frames (passed (length h.seen) ended)) ∙ sends_next laws h.inputs x setup.queue (count_by is_sent h.frames) (length h.seen) c.mode-after.result old.sends head frame e;
+      frames = kept.0 ∙ (ap (λ l. l ++ passed_frames c.args.quantum ended) old.frames ∙ ap (λ k. h.frames ++ passed_frames k ended) (sym n));
+      sends = λ frame e. ap (λ k. first_frame (drop k setup.queue)) (count_append is_sent h.frames (passed_frames (length h.seen) ended)) ∙ sends_next laws h.inputs x setup.queue (count_by is_sent h.frames) (length h.seen) c.mode-after.result old.sends head frame e;
     } in
     let happened = c.bit-turn.ensures.happened h.inputs old.machine in
     let after : c.mode-after.result ≡ mode_of (counts_of (h.happened ++ c.bit-turn.result.happened ∷ [])) = c.mode-after.ensures ∙ ap mode_of counted in
     let placed = subst (λ (m : Mode). IsTraffic setup now (made h x c.bit-turn.result.happened ended m)) after code in
     let told = subst (λ (y : Happened). IsTraffic setup now (made h x y ended (mode_of (counts_of (h.happened ++ y ∷ []))))) happened placed in
-    subst (λ (y : Sampled). IsTraffic setup now (judged_so h y (judged (stretch_of h.inputs) y))) same told
+    subst (λ (y : Sampled). IsTraffic setup now (history_after_judgement h y (judged (stretch_of h.inputs) y))) same told

@@ -7,7 +7,7 @@ use Rattle.std.specs.Prelude.{◌==◌, ◌∷◌, []}
 use Rattle.wl_lattice.specs.Maps.{joined_maps, map_of}
 use Rattle.wl_replica.specs.Keys.{Key, key_cmp}
 use Rattle.wl_replica.specs.Kept.{words_shown}
-use Rattle.wl_replica.specs.State.{taken}
+use Rattle.wl_replica.specs.State.{state_with_record}
 use Rattle.wl_replica.specs.Kept.{holds_silence}
 use Rattle.wl_replica.proofs.Shown.{shown_raised, joined_nothing}
 use Rattle.wl_replica.proofs.States.{taken_after}
@@ -18,19 +18,19 @@ use Rattle.wl_replica.proofs.replica.Replica.take.Goals as goal
 pub returns-in_ok-raise-in-Edge-clause-ok : goal.returns-in_ok-raise-in-Edge-clause-ok
 returns-in_ok-raise-in-Edge-clause-ok c =
     let edges = shown_raised edge_maps tells_edge c.self.inside.edges c.raise.new.words (c.in-Edge.node, c.in-Edge.seq) (flat.Value c.in-Edge.tick) c.self.invariant.edges_ordered c.raise.ensures.ordered c.in_ok-raise-in-Edge.ensures.ok in
-    same_parts c.self.inside.nodes _ _ _ _ _ refl edges (sym (joined_nothing silence_maps tells_silence _)) ∙ (λ i. taken (c.self.view_is i) (sym c.in-Edge.is i))
+    same_parts c.self.inside.nodes _ _ _ _ _ refl edges (sym (joined_nothing silence_maps tells_silence _)) ∙ (λ i. state_with_record (c.self.view_is i) (sym c.in-Edge.is i))
 
 pub returns-in_ok-raise-in-Clash-clause-ok : goal.returns-in_ok-raise-in-Clash-clause-ok
 returns-in_ok-raise-in-Clash-clause-ok c =
     let edges = shown_raised edge_maps tells_edge c.self.inside.edges c.raise-in-Clash.new.words (c.in-Clash.node, c.in-Clash.seq) flat.Clash c.self.invariant.edges_ordered c.raise-in-Clash.ensures.ordered c.in_ok-raise-in-Clash.ensures.ok in
-    same_parts c.self.inside.nodes _ _ _ _ _ refl edges (sym (joined_nothing silence_maps tells_silence _)) ∙ (λ i. taken (c.self.view_is i) (sym c.in-Clash.is i))
+    same_parts c.self.inside.nodes _ _ _ _ _ refl edges (sym (joined_nothing silence_maps tells_silence _)) ∙ (λ i. state_with_record (c.self.view_is i) (sym c.in-Clash.is i))
 
 pub returns-in_ok-raise-in-Silence-clause-ok : goal.returns-in_ok-raise-in-Silence-clause-ok
 returns-in_ok-raise-in-Silence-clause-ok c =
     let key : Key = (c.in-Silence.node, c.in-Silence.count) in
     let silences = shown_raised silence_maps tells_silence c.self.inside.silences c.raise-in-Silence.new.words key (max_word c.in-Silence.until) c.self.invariant.silences_ordered c.raise-in-Silence.ensures.ordered c.in_ok-raise-in-Silence.ensures.ok in
     let told = ap (λ es. joined_maps joined_max (words_shown holds_silence c.self.inside.silences.entries) (map_of key_cmp joined_max es)) (one_silence (c.in-Silence.until == 0) (key, max_word c.in-Silence.until)) in
-    same_parts c.self.inside.nodes _ _ _ _ _ refl (sym (joined_nothing edge_maps tells_edge _)) (silences ∙ told) ∙ (λ i. taken (c.self.view_is i) (sym c.in-Silence.is i))
+    same_parts c.self.inside.nodes _ _ _ _ _ refl (sym (joined_nothing edge_maps tells_edge _)) (silences ∙ told) ∙ (λ i. state_with_record (c.self.view_is i) (sym c.in-Silence.is i))
 
 pub returns-in_ok-raise-in-Edge-clause-after : goal.returns-in_ok-raise-in-Edge-clause-after
 returns-in_ok-raise-in-Edge-clause-after c = taken_after c.args.self.now _ (c.args.told ∷ []) (returns-in_ok-raise-in-Edge-clause-ok c)

@@ -11,7 +11,7 @@ nothing_after : (xs : List ℕ) → xs ++ [] ≡ xs
 nothing_after [] = refl
 nothing_after (x ∷ xs) = ap (λ z. x ∷ z) (nothing_after xs)
 
--- one letter more is shown behind those before it
+-- one letter more is shown after those before it
 one_more : (letters : List ℕ) (c : ℕ) → flat_map shown_letter letters ++ shown_letter c ≡ flat_map shown_letter (letters ++ c ∷ [])
 one_more letters c = sym (flat_map-append shown_letter letters (c ∷ []) ∙ ap (λ z. flat_map shown_letter letters ++ z) (nothing_after (shown_letter c)))
 

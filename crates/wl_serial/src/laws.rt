@@ -1,0 +1,18 @@
+//! Laws of what the engine answers, as contracts of functions with an empty body.
+
+ghost use Rattle.wl_serial.specs.Records.{OutcomeIsRecordable, RecordsAreTrue};
+
+/// Law: the outcome of a plan that passed its check can be written as records.
+pub fn outcome_is_recordable()
+    ensures { OutcomeIsRecordable }
+{
+    wl_plan::checked_is_sound();
+}
+
+/// Law: each record of the outcome of a plan that passed its check is true of the plan, and within the limits of records.
+pub fn records_are_true()
+    ensures { RecordsAreTrue }
+{
+    wl_plan::checked_is_sound();
+    wl_plan::outcome_is_true();
+}

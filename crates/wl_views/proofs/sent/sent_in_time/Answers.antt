@@ -1,5 +1,0 @@
-use Rattle.wl_views.proofs.InTime.{in_time}
-use Rattle.wl_views.proofs.sent.sent_in_time.Goals as goal
-
-pub returns : goal.returns
-returns c = in_time c.checked_is_sound.ensures c.simulation_laws.ensures
