@@ -2,6 +2,7 @@ pub mod CallerLemmas
 mod AdvanceProofs
 mod BeginProofs
 mod ChangesProofs
+mod CountedProofs
 mod GroupProofs
 mod Rows
 mod ValueProofs

@@ -11,11 +11,13 @@ ghost use Rattle.wl_plan.specs.Limits.{most_quanta};
 ghost use Rattle.wl_plan.specs.declared.plan.Plan.{Plan as GivenPlan};
 ghost use Rattle.wl_plan.specs.PlanLine.{line_of};
 ghost use Rattle.wl_plan.specs.Line.{found};
+ghost use Rattle.wl_group.specs.Counted.{AreCounted, IsTrueState};
 ghost use Rattle.wl_group.specs.Member.{Member};
 ghost use Rattle.wl_group.specs.Running.{StepsCell, KeepsCell, SaysOf, MaySay};
 
 use crate::answer::{Advance, Emission};
 use crate::cell::Cell;
+use crate::counted::{Come, Runs, caught_up, laws_of_counts, seen};
 use crate::group::Group;
 use crate::laws::value_laws;
 use std::alloc::{AllocError, Global};
@@ -94,8 +96,18 @@ impl Group {
     {
         value_laws();
         wl_plan::checked_is_sound();
+        wl_plan::simulation_laws();
+        laws_of_counts();
         let tick = self.due(i);
-        let level = level_at(&self.plan, &self.replica, i, tick);
+        self.runs = caught_up(&self.replica, &self.runs);
+        let level = level_at(
+            &self.plan,
+            &self.replica,
+            &self.runs,
+            &mut self.come,
+            i,
+            tick,
+        );
         let Some(cell) = &mut self.cells[i as usize] else {
             unreachable!()
         };
@@ -115,10 +127,12 @@ impl Group {
 const MOST_EMITTED: usize = 2;
 
 /// The level that node `i` reads at a tick: by what is known of all nodes, and by the disturbances.
-fn level_at(plan: &Plan, replica: &Replica, i: u8, tick: u64) -> Level
+fn level_at(plan: &Plan, replica: &Replica, runs: &Runs, come: &mut Come, i: u8, tick: u64) -> Level
     requires nodes { replica.now.nodes ≡ length plan.now.nodes }
     requires places { length plan.now.topology.places ≡ length plan.now.nodes }
     requires node { i < length plan.now.nodes }
+    requires truth { IsTrueState replica.now }
+    requires counted { AreCounted (slots_of replica.now) runs.now }
     requires known { let delay = delay_of plan.now.topology in
         tick < place_horizon (length plan.now.nodes) delay (slots_of replica.now) i }
     ensures { result ≡ level_of (found (line_of plan.now) (wave_at (slots_of replica.now)) i tick) }
@@ -126,7 +140,7 @@ fn level_at(plan: &Plan, replica: &Replica, i: u8, tick: u64) -> Level
     if plan.disturbed(i, tick) {
         return Level::Dominant;
     }
-    replica.seen(&plan.topology, i, tick)
+    seen(replica, &plan.topology, runs, come, i, tick)
 }
 
 /// Runs a member's next quantum, at which it reads this level. The replica takes what is emitted

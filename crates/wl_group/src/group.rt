@@ -4,6 +4,7 @@ ghost use Rattle.std.specs.Prelude.{◌≡◌, ◌<◌, ℕ, true, List, [], ◌
 
 use crate::begin::{Chosen, chosen_of, first_replica, fresh_cells};
 use crate::cell::Cell;
+use crate::counted::{Come, Runs, laws_of_counts, no_runs, place_horizon};
 use crate::laws::value_laws;
 use std::alloc::{AllocError, Global};
 use std::marker::Model;
@@ -25,6 +26,8 @@ pub struct Group {
     pub(crate) cells: Vec<Option<Cell>>,
     pub(crate) replica: Replica,
     pub(crate) told: Vec<Record>,
+    pub(crate) runs: Runs,
+    pub(crate) come: Come,
 }
 
 impl Model for Group {
@@ -35,11 +38,12 @@ impl Model for Group {
 
     ghost coded = { coded_group };
 
-    ghost use Rattle.wl_group.specs.Kept.{group_value, IsKept};
+    ghost use Rattle.wl_group.specs.Kept.{group_value};
+    ghost use Rattle.wl_group.specs.Counted.{IsCounting};
 
     ghost view = { λ g. group_value g.plan g.cells.items g.replica g.told.items };
 
-    ghost invariant = { λ g. IsKept g.plan g.cells.items g.replica g.told.items };
+    ghost invariant = { λ g. IsCounting g.plan g.cells.items g.replica g.told.items g.runs };
 }
 
 impl Group {
@@ -76,6 +80,8 @@ impl Group {
             cells,
             replica,
             told: Vec::new(alloc),
+            runs: no_runs(),
+            come: [0; MOST_NODES],
         })
     }
 
@@ -94,6 +100,7 @@ impl Group {
         self.cells = cells;
         self.replica = replica;
         self.told.clear();
+        self.runs = no_runs();
         Ok(())
     }
 
@@ -105,6 +112,7 @@ impl Group {
         ensures err { OnErr result (self.new ≡ self.old) }
     {
         value_laws();
+        laws_of_counts();
         self.replica.take(told)?;
         Ok(())
     }
@@ -119,6 +127,7 @@ impl Group {
         ensures err { OnErr result (self.new ≡ self.old) }
     {
         value_laws();
+        laws_of_counts();
         // (what it knows is what some records say)
         let _ = other.nodes();
         self.replica.join(other)?;
@@ -138,11 +147,13 @@ impl Group {
         ensures { result ≡ may_run self.now node }
     {
         value_laws();
+        wl_plan::simulation_laws();
         if !self.has(node) {
             return false;
         }
         let due = self.due(node);
-        due < self.plan.end && due < self.replica.place_horizon(&self.plan.topology, node)
+        due < self.plan.end
+            && due < place_horizon(&self.replica, &self.plan.topology, &self.runs, node)
     }
 
     /// Whether this node is at the end: it is a member, and its next quantum isn't below the end. A node

@@ -6,6 +6,7 @@ mod answer;
 mod begin;
 mod cell;
 mod changes;
+mod counted;
 mod group;
 mod laws;
 

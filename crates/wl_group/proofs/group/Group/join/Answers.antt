@@ -2,12 +2,15 @@ use Rattle.std.proofs.Common.{sym, subst}
 use Rattle.wl_group.specs.Party.{party_with}
 use Rattle.wl_group.specs.GroupValue.{Matches}
 use Rattle.wl_group.proofs.BeginProofs.{joined_value, joined_kept}
+use Rattle.wl_group.proofs.CountedProofs.{counting_stays}
 use Rattle.wl_group.proofs.group.Group.join.Goals as goal
 
 pub invariant_of-self-2 : goal.invariant_of-self-2
 invariant_of-self-2 c =
-    joined_kept c.value_laws.ensures c.self.inside.plan c.self.inside.cells.items c.self.inside.replica c.join.new.self c.self.inside.told.items c.args.other.now c.args.self.now
-    c.self.view_is c.self.invariant c.requires.nodes c.nodes.ensures.records c.requires.truth c.in_ok-join.ensures.ok
+    counting_stays c.laws_of_counts.ensures.slots c.laws_of_counts.ensures.states c.laws_of_counts.ensures.known c.self.inside.plan c.self.inside.cells.items
+    c.self.inside.replica c.args.other.now c.join.new.self c.self.inside.told.items c.self.inside.runs c.in_ok-join.ensures.ok c.self.invariant.counted
+    (joined_kept c.value_laws.ensures c.self.inside.plan c.self.inside.cells.items c.self.inside.replica c.join.new.self c.self.inside.told.items c.args.other.now c.args.self.now
+    c.self.view_is c.self.invariant.kept c.requires.nodes c.nodes.ensures.records c.requires.truth c.in_ok-join.ensures.ok)
 
 pub returns-clause-after : goal.returns-clause-after
 returns-clause-after c p rs h e =

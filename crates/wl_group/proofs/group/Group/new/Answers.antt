@@ -1,4 +1,5 @@
 use Rattle.std.proofs.Common.{◌∙◌, ap, length}
+use Rattle.wl_replica.specs.State.{slots_of}
 use Rattle.wl_group.specs.GroupValue.{names, belongs}
 use Rattle.wl_group.specs.Chosen.{is_chosen}
 use Rattle.wl_group.proofs.BeginProofs.{begun_value, begun_kept, names_past}
@@ -6,9 +7,12 @@ use Rattle.wl_group.proofs.group.Group.new.Goals as goal
 
 pub invariant_of-result : goal.invariant_of-result
 invariant_of-result c =
-    begun_kept c.value_laws.ensures c.args.plan.now c.in_ok-clone_in.field-0 (is_chosen c.chosen_of-chosen.result) (names c.args.members.now)
-    c.in_ok-cells.cells.items c.in_ok-replica.replica c.new.result.items c.requires.checked c.in_ok-clone_in.ensures c.chosen_of-chosen.ensures
-    c.in_ok-cells.ensures.ran c.in_ok-cells.ensures.cells c.in_ok-replica.ensures c.new.ensures.items
+    record {
+      kept = begun_kept c.value_laws.ensures c.args.plan.now c.in_ok-clone_in.field-0 (is_chosen c.chosen_of-chosen.result) (names c.args.members.now)
+          c.in_ok-cells.cells.items c.in_ok-replica.replica c.new.result.items c.requires.checked c.in_ok-clone_in.ensures c.chosen_of-chosen.ensures
+          c.in_ok-cells.ensures.ran c.in_ok-cells.ensures.cells c.in_ok-replica.ensures c.new.ensures.items;
+      counted = c.no_runs.ensures (slots_of c.in_ok-replica.replica);
+    }
 
 pub returns-clause-value : goal.returns-clause-value
 returns-clause-value c =

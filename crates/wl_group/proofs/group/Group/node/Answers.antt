@@ -16,4 +16,4 @@ returns-clause-node c =
     subst (λ (v : GroupValue). IsNode (members_now v c.args.i).saw c.in-Some.cell.node) c.self.view_is
     (subst (λ m. IsNode m.saw c.in-Some.cell.node)
     (sym (kept_member c.self.inside.plan c.self.inside.cells.items c.self.inside.replica c.self.inside.told.items c.args.i c.in-Some.cell e))
-    (c.self.invariant.placed c.args.i c.in-Some.cell e).node)
+    (c.self.invariant.kept.placed c.args.i c.in-Some.cell e).node)

@@ -1,10 +1,20 @@
 use Rattle.std.proofs.Common.{refl, sym, ◌∙◌, ap, subst}
+use Rattle.wl_replica.specs.State.{slots_of}
 use Rattle.wl_plan.specs.PlanLine.{line_of}
 use Rattle.wl_group.specs.Party.{initial_party}
 use Rattle.wl_group.specs.GroupValue.{GroupValue, IsGroupValue, Matches, belongs, initial_group}
 use Rattle.wl_group.specs.Chosen.{is_chosen}
-use Rattle.wl_group.proofs.BeginProofs.{begun_value, belongs_past}
+use Rattle.wl_group.proofs.BeginProofs.{begun_value, begun_kept, belongs_past}
 use Rattle.wl_group.proofs.group.Group.restart.Goals as goal
+
+pub invariant_of-self : goal.invariant_of-self
+invariant_of-self c =
+    record {
+      kept = begun_kept c.value_laws.ensures c.self.inside.plan c.self.inside.plan (is_chosen c.chosen-chosen.result) (is_chosen c.chosen-chosen.result)
+          c.in_ok-cells.cells.items c.in_ok-replica.replica c.clear.new.self.items c.self.invariant.kept.value.checked refl (λ i. refl)
+          c.in_ok-cells.ensures.ran c.in_ok-cells.ensures.cells c.in_ok-replica.ensures c.clear.ensures.items;
+      counted = c.no_runs-self-inside.ensures (slots_of c.in_ok-replica.replica);
+    }
 
 pub returns-clause-ok : goal.returns-clause-ok
 returns-clause-ok c =
@@ -15,12 +25,12 @@ returns-clause-ok c =
 
 pub returns-clause-begun : goal.returns-clause-begun
 returns-clause-begun c =
-    let v = subst IsGroupValue c.self.view_is c.self.invariant.value in
-    subst (Matches (initial_party (line_of c.args.self.now.plan) (belongs c.args.self.now))) (sym (returns-clause-ok c))
+    let v = subst IsGroupValue c.self.view_is c.self.invariant.kept.value in
+    subst (Matches (begun (line_of c.args.self.now.plan) (belongs c.args.self.now))) (sym (returns-clause-ok c))
     (c.value_laws.ensures.begins_as c.args.self.now.plan v.checked (belongs c.args.self.now))
 
 pub returns-clause-members : goal.returns-clause-members
 returns-clause-members c =
-    let v = subst IsGroupValue c.self.view_is c.self.invariant.value in
+    let v = subst IsGroupValue c.self.view_is c.self.invariant.kept.value in
     ap belongs (returns-clause-ok c)
     ∙ c.value_laws.ensures.begins_with c.args.self.now.plan (belongs c.args.self.now) (λ i b. belongs_past c.args.self.now v i b)

@@ -1,13 +1,17 @@
 use Rattle.std.proofs.Common.{[], ◌∷◌, sym, subst}
-use Rattle.wl_group.specs.Party.{party_with}
+use Rattle.wl_replica.specs.State.{state_of}
+use Rattle.wl_group.specs.Party.{taking}
 use Rattle.wl_group.specs.GroupValue.{Matches}
 use Rattle.wl_group.proofs.BeginProofs.{taken_value, taken_kept}
+use Rattle.wl_group.proofs.CountedProofs.{counting_stays}
 use Rattle.wl_group.proofs.group.Group.take.Goals as goal
 
 pub invariant_of-self-2 : goal.invariant_of-self-2
 invariant_of-self-2 c =
-    taken_kept c.value_laws.ensures c.self.inside.plan c.self.inside.cells.items c.self.inside.replica c.take.new.self c.self.inside.told.items c.args.told c.args.self.now
-    c.self.view_is c.self.invariant c.requires c.in_ok-take.ensures.ok
+    counting_stays c.laws_of_counts.ensures.slots c.laws_of_counts.ensures.states c.laws_of_counts.ensures.known c.self.inside.plan c.self.inside.cells.items
+    c.self.inside.replica (state_of c.self.inside.replica.nodes (c.args.told ∷ [])) c.take.new.self c.self.inside.told.items c.self.inside.runs c.in_ok-take.ensures.ok c.self.invariant.counted
+    (taken_kept c.value_laws.ensures c.self.inside.plan c.self.inside.cells.items c.self.inside.replica c.take.new.self c.self.inside.told.items c.args.told c.args.self.now
+    c.self.view_is c.self.invariant.kept c.requires c.in_ok-take.ensures.ok)
 
 pub returns-clause-after : goal.returns-clause-after
 returns-clause-after c p h =

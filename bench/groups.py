@@ -1,0 +1,55 @@
+#!/usr/bin/env python3
+"""Settles worlds of groups by the built `world_rows`, with twice as many quanta at each step, and prints a table: seconds of processor time
+(the least of RUNS, 3 by default) and peak memory, and how many times as long as the row before.
+
+usage: groups.py [PROGRAM [MOST_OF_TWO [MOST_OF_SIXTEEN]]]      the most quanta a node, 64,000 and 16,000 by default: of the plan of two nodes with
+                                                               one frame, one group a node; of the busy plan of 16 nodes (bench/plan.py 21), in
+                                                               one group, in two and in sixteen
+"""
+import os
+import subprocess
+import sys
+import tempfile
+from pathlib import Path
+
+HERE = Path(__file__).resolve().parent
+WORDS = sys.argv[1:] + [str(HERE / "../crates/world_rows/out/world_rows"), "64000", "16000"][len(sys.argv) - 1:]
+
+
+def of_two(quanta: int) -> str:
+    nodes = "".join(f'\n[[node]]\nname = "{name}"\noffset = 0\nnum = 100\nden = 1\nprop = 3\nps1 = 3\nps2 = 3\nsjw = 2\nx = {x}\nout = 0\nin = 1\n{frame}'
+                    for name, x, frame in (("a", 0, "\n[[node.frame]]\nid = 0\ndlc = 0\n"), ("b", 50, "")))
+    return f"version = 1\nend = {100 * quanta}\nper = 1\n{nodes}"
+
+
+def of_sixteen(quanta: int) -> str:
+    return subprocess.run([sys.executable, HERE / "plan.py", "21", str(quanta)], check=True, capture_output=True, text=True).stdout
+
+
+def measured(script: str, work: Path) -> tuple[float, float, list[str]]:
+    (work / "in").write_text(script)
+    least, peak = float("inf"), 0
+    for _ in range(int(os.environ.get("RUNS", "3"))):
+        with open(work / "in", "rb") as source, open(work / "out", "wb") as sink:
+            child = subprocess.Popen([WORDS[0]], stdin=source, stdout=sink)
+            _, status, usage = os.wait4(child.pid, 0)
+        if status: sys.exit(f"status {os.waitstatus_to_exitcode(status)}")
+        least, peak = min(least, usage.ru_utime + usage.ru_stime), max(peak, usage.ru_maxrss)
+    return least, peak / 1024, (work / "out").read_text().split()
+
+
+def main() -> None:
+    print("| World | Quanta a node | Rounds | Records | Seconds | Times the row before | Peak memory |\n|---|---|---|---|---|---|---|")
+    worlds = [("2 nodes, 2 groups", [0, 1], of_two, int(WORDS[1]))]
+    worlds += [(f"16 nodes, {count} group{'s' * (count > 1)}", [node % count for node in range(16)], of_sixteen, int(WORDS[2])) for count in (1, 2, 16)]
+    with tempfile.TemporaryDirectory() as folder:
+        for name, groups, plan_of, most in worlds:
+            quanta, before = 1_000, 0.0
+            while quanta <= most:
+                script = f"groups {' '.join(map(str, groups))}\nsettle\nemitted\nplan\n{plan_of(quanta)}"
+                seconds, peak, told = measured(script, Path(folder))
+                print(f"| {name} | {quanta:,} | {int(told[0]):,} | {int(told[1]):,} | {seconds:.3f} | {f'{seconds / before:.2f}' if before else ''} | {peak:.1f} MiB |", flush=True)
+                quanta, before = 2 * quanta, seconds
+
+
+main()

@@ -1,0 +1,235 @@
+//! What is known of each node, by a count of its first changes that are known, so that no call walks over all of them.
+
+ghost use Rattle.std.specs.Prelude.{◌≡◌, ◌+◌, ◌-◌, ◌<◌, ◌≤◌, ◌&&◌, ℕ, length, nat_le, slice_index_or};
+ghost use Rattle.wl_level.specs.Levels.{level_of};
+ghost use Rattle.wl_topology.specs.Delays.{delay_of};
+ghost use Rattle.wl_topology.specs.Driven.{driven};
+ghost use Rattle.wl_record_core.specs.Limits.{tick_end};
+ghost use Rattle.wl_replica.specs.State.{slots_of};
+ghost use Rattle.wl_replica.specs.Known.{is_tick, tick_in, after_edges, horizon, place_horizon as known_at, wave_at};
+ghost use Rattle.wl_replica.specs.Slots.{Contents};
+ghost use Rattle.wl_replica.specs.KnownLaws.{SlotsLaws, KnownLaws};
+ghost use Rattle.wl_replica.specs.SlotsOf.{SlotsOfStates};
+ghost use Rattle.wl_group.specs.Counted.{KnowsFirst, KnowsNoMore, AreCounted, IsTrueState, AreNotAfter};
+
+use wl_lattice::FlatWord;
+use wl_level::Level;
+use wl_record_core::{MOST_EDGES, Slot};
+use wl_replica::{Replica, Word};
+use wl_topology::{MOST_NODES, Topology};
+
+/// For each node, how many of its first changes are known, as far as they were counted.
+pub(crate) type Runs = [u32; MOST_NODES];
+
+/// For each node, how many of its changes had come when a member last asked. It speeds up the next time, and decides nothing.
+pub(crate) type Come = [u32; MOST_NODES];
+
+/// What counts rest on: joining keeps what was known, and what is true stays.
+pub(crate) fn laws_of_counts()
+    ensures slots { SlotsLaws }
+    ensures states { SlotsOfStates }
+    ensures known { KnownLaws }
+{
+    wl_replica::slots_laws();
+    wl_replica::slots_of_states();
+    wl_replica::known_laws();
+}
+
+/// No change is counted yet.
+pub(crate) fn no_runs() -> Runs
+    ensures { (w : Contents) → AreCounted w result }
+{
+    [0; MOST_NODES]
+}
+
+/// Whether a node's change is known.
+fn is_known(replica: &Replica, node: u8, seq: u32) -> bool
+    ensures { result ≡ is_tick ((slots_of replica.now).edge node seq) }
+{
+    match replica.slot(Slot::EdgeAt { node, seq }) {
+        Word::Edge(FlatWord::Value(_)) => true,
+        _ => false,
+    }
+}
+
+/// The tick of a node's change; 0 where it isn't known.
+fn change_at(replica: &Replica, node: u8, seq: u32) -> u64
+    ensures { result ≡ tick_in ((slots_of replica.now).edge node seq) }
+{
+    match replica.slot(Slot::EdgeAt { node, seq }) {
+        Word::Edge(FlatWord::Value(tick)) => tick,
+        _ => 0,
+    }
+}
+
+/// How far a node's silence after so many changes reaches; 0 where none is known.
+fn silence_after(replica: &Replica, node: u8, count: u32) -> u64
+    ensures { result ≡ (slots_of replica.now).silence node count }
+{
+    match replica.slot(Slot::SilenceAt { node, count }) {
+        Word::Silence(silence) => silence.word,
+        Word::Edge(_) => unreachable!(),
+    }
+}
+
+/// How many of a node's first changes are known, where so many are.
+fn run_from(replica: &Replica, node: u8, from: u32) -> u32
+    requires { KnowsFirst (slots_of replica.now) node from }
+    ensures first { KnowsFirst (slots_of replica.now) node result }
+    ensures last { KnowsNoMore (slots_of replica.now) node result }
+{
+    let mut run = from;
+    while run < MOST_EDGES {
+        if !is_known(replica, node, run) {
+            return run;
+        }
+        run += 1;
+    }
+    run
+}
+
+/// The counts, with what has become known since.
+pub(crate) fn caught_up(replica: &Replica, runs: &Runs) -> Runs
+    requires { AreCounted (slots_of replica.now) runs.now }
+    ensures { AreCounted (slots_of replica.now) result }
+{
+    let mut more = [0; MOST_NODES];
+    for i in 0..MOST_NODES as u8 {
+        more[i as usize] = run_from(replica, i, runs[i as usize]);
+    }
+    more
+}
+
+/// The tick after the last of a node's first changes; 0 for none.
+fn end_of_run(replica: &Replica, node: u8, run: u32) -> u64
+    requires { IsTrueState replica.now }
+    ensures end { result ≡ after_edges ((slots_of replica.now).edge node) run }
+    ensures early { result ≤ tick_end }
+{
+    if run == 0 {
+        return 0;
+    }
+    change_at(replica, node, run - 1) + 1
+}
+
+/// The tick below which a node is known, where so many of its first changes are.
+fn horizon_of(replica: &Replica, node: u8, from: u32) -> u64
+    requires truth { IsTrueState replica.now }
+    requires first { KnowsFirst (slots_of replica.now) node from }
+    ensures tick { result ≡ horizon (slots_of replica.now) node }
+    ensures early { result ≤ tick_end }
+{
+    wl_record_core::table_laws();
+    let run = run_from(replica, node, from);
+    let end = end_of_run(replica, node, run);
+    end.max(silence_after(replica, node, run))
+}
+
+/// The tick below which what node `i` drives is known at node `j`.
+fn known_until(replica: &Replica, topology: &Topology, runs: &Runs, i: u8, j: u8) -> u64
+    requires nodes { length topology.now.places ≡ replica.now.nodes }
+    requires from { i < replica.now.nodes }
+    requires to { j < replica.now.nodes }
+    requires truth { IsTrueState replica.now }
+    requires counted { AreCounted (slots_of replica.now) runs.now }
+    ensures { result ≡ horizon (slots_of replica.now) i + delay_of topology.now i j }
+{
+    let delay = topology.delay(i, j);
+    horizon_of(replica, i, runs[i as usize]) + delay
+}
+
+/// The tick below which the line at node `j` is known. `topology` has the replica's nodes.
+pub(crate) fn place_horizon(replica: &Replica, topology: &Topology, runs: &Runs, j: u8) -> u64
+    requires nodes { length topology.now.places ≡ replica.now.nodes }
+    requires place { j < replica.now.nodes }
+    requires truth { IsTrueState replica.now }
+    requires counted { AreCounted (slots_of replica.now) runs.now }
+    ensures { result ≡ known_at replica.now.nodes (delay_of topology.now) (slots_of replica.now) j }
+{
+    let mut least = known_until(replica, topology, runs, 0, j);
+    for i in 1..topology.nodes() {
+        least = least.min(known_until(replica, topology, runs, i, j));
+    }
+    least
+}
+
+/// The most of a node's first changes up to a guess, of which the last is not after a tick.
+fn sure(replica: &Replica, node: u8, tick: u64, guess: u32) -> u32
+    ensures few { result ≤ guess }
+    ensures come { 0 < result → tick_in ((slots_of replica.now).edge node (result - 1)) ≤ tick }
+{
+    let mut count = guess;
+    while count > 0 {
+        if change_at(replica, node, count - 1) <= tick {
+            return count;
+        }
+        count -= 1;
+    }
+    count
+}
+
+/// How many of a node's first `run` changes are not after a tick, where a guess says how many it may be.
+fn changes_until(replica: &Replica, node: u8, run: u32, tick: u64, guess: u32) -> u32
+    ensures { AreNotAfter (slots_of replica.now) node run tick result }
+{
+    let mut count = sure(replica, node, tick, guess.min(run));
+    while count < run {
+        if tick < change_at(replica, node, count) {
+            return count;
+        }
+        count += 1;
+    }
+    count
+}
+
+/// Whether a node, of which so many first changes are known, drove dominant `delay` ticks before tick `t`.
+fn drove(replica: &Replica, node: u8, from: u32, delay: u64, t: u64, come: &mut u32) -> bool
+    requires truth { IsTrueState replica.now }
+    requires first { KnowsFirst (slots_of replica.now) node from }
+    requires known { t < horizon (slots_of replica.now) node + delay }
+    ensures { result ≡ (nat_le delay t && wave_at (slots_of replica.now) node (t - delay)) }
+{
+    wl_record_core::table_laws();
+    wl_replica::known_laws();
+    if t < delay {
+        return false;
+    }
+    let run = run_from(replica, node, from);
+    *come = changes_until(replica, node, run, t - delay, *come);
+    *come % 2 == 1
+}
+
+/// The level that node `j` finds at tick `t`, by what all nodes drove, without disturbances. `topology` has the replica's nodes, and `t`
+/// is below the place horizon.
+pub(crate) fn seen(
+    replica: &Replica,
+    topology: &Topology,
+    runs: &Runs,
+    come: &mut Come,
+    j: u8,
+    t: u64,
+) -> Level
+    requires nodes { length topology.now.places ≡ replica.now.nodes }
+    requires place { j < replica.now.nodes }
+    requires truth { IsTrueState replica.now }
+    requires counted { AreCounted (slots_of replica.now) runs.now }
+    requires known { t < known_at replica.now.nodes (delay_of topology.now) (slots_of replica.now) j }
+    ensures { result ≡ level_of (driven replica.now.nodes (delay_of topology.now) (wave_at (slots_of replica.now)) j t) }
+{
+    wl_replica::known_laws();
+    wl_topology::driven_laws();
+    for i in 0..topology.nodes() {
+        let delay = topology.delay(i, j);
+        if drove(
+            replica,
+            i,
+            runs[i as usize],
+            delay,
+            t,
+            &mut come[i as usize],
+        ) {
+            return Level::Dominant;
+        }
+    }
+    Level::Recessive
+}
