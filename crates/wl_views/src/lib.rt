@@ -1,11 +1,18 @@
-//! Views of a run in the formats of other tools: the log of can-utils.
+//! Views of a run in the formats of other tools: the log of can-utils, and the waveform as a Value Change Dump.
 #![tactic(auto)]
 
 mod digits;
+mod dump;
+mod held;
 mod log;
+mod samples;
 mod sent;
+mod signals;
 mod tick;
+mod turned;
 
+pub use dump::vcd;
 pub use log::candump;
 pub use sent::sent_in_time;
+pub use signals::NodeSignals;
 pub use tick::{Tick, TimeUnit};
