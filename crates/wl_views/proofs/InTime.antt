@@ -48,7 +48,7 @@ module _ (setup : NodeSetup) where
       All-append (λ p. p.quantum < suc (length h.seen)) h.frames (passed_frames (length h.seen) (judged (stretch_of h.inputs) (sampled_next setup h level)).ended)
       (later (length h.seen) h.frames b) (passed_before (length h.seen) (judged (stretch_of h.inputs) (sampled_next setup h level)).ended)
 
-  one_more : (h : History) (level : Level) → length (history_after setup h level).seen ≡ suc (length h.seen)
+  pub one_more : (h : History) (level : Level) → length (history_after setup h level).seen ≡ suc (length h.seen)
   one_more h level = length-append h.seen (seen_next h level ∷ []) ∙ (let e : length h.seen + 1 ≡ suc (length h.seen) = omega arith in e)
 
   after_before : (h : History) (level : Level) → Before (length h.seen) h.frames
@@ -85,15 +85,15 @@ all_entries P F f a zero each = All-nil P
 all_entries P F f a (suc n) each =
     All-append P (F a (f a)) _ (each a (omega arith)) (all_entries P F f (a + 1) n (λ i b. each i (omega arith)))
 
-few : most_quanta ≤ 2 ^ 21
+pub few : most_quanta ≤ 2 ^ 21
 few = omega (arith, most_quanta-is)
 
 module _ (sounds : CheckedIsSound) (laws : SimulationLaws) (plan : Plan) (checked : IsChecked plan) where
-  sound : IsSound (line_of plan)
+  pub sound : IsSound (line_of plan)
   sound = sounds plan checked
 
   -- a quantum that a node has run at the end began below it
-  inside : (i q : ℕ) → i < length plan.nodes → q < ran (line_of plan) i plan.end → tick_of (setup_at plan i).clock q < plan.end
+  pub inside : (i q : ℕ) → i < length plan.nodes → q < ran (line_of plan) i plan.end → tick_of (setup_at plan i).clock q < plan.end
   inside i q b h = laws.ran_inside (line_of plan) i plan.end sound.causal b q h
 
   frames_ran : (i : ℕ) → Before (ran (line_of plan) i plan.end) (node_outcome_of plan i).frames

@@ -1,12 +1,19 @@
-//! Views of a run in the formats of other tools: the log of can-utils.
+//! Views of a run in the formats of other tools: the log of can-utils, and a Value Change Dump.
 #![tactic(auto)]
 
 mod digits;
+mod dump;
+mod held;
 mod laws;
 mod log;
+mod samples;
 mod sent;
+mod signals;
 mod tick;
+mod turned;
 
+pub use dump::vcd;
 pub use laws::sent_in_time;
 pub use log::candump;
+pub use signals::NodeSignals;
 pub use tick::{Tick, TimeUnit};

@@ -1,0 +1,14 @@
+-- The lines of one node more behind those of the nodes before it.
+use Rattle.std.proofs.Common.{◌∙◌, ◌++◌, false, string_bytes}
+use Rattle.wl_views.specs.declared.signals.NodeSignals.{NodeSignals}
+use Rattle.wl_views.specs.Vcd.{node_values}
+use Rattle.wl_views.proofs.Lists.{next_piece}
+use Rattle.wl_views.proofs.dump.push_all_values.Goals as goal
+
+abbrev low : NodeSignals
+low = record { tx = false; rx = false; sample = false }
+
+pub loop-i-preserved : goal.loop-i-preserved
+loop-i-preserved c =
+    c.in_ok-push_values.ensures
+    ∙ next_piece node_values (string_bytes c.args.text.now) (string_bytes c.loop-i.text) c.args.now.now c.loop-i.i low c.loop-i-test.true c.loop-i.invariant

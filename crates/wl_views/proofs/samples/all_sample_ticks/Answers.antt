@@ -1,0 +1,50 @@
+-- One node's ticks behind those of the nodes before it.
+use Rattle.std.proofs.Common.{◌≡◌, ◌∙◌, ◌<◌, ◌≤◌, ◌^◌, ◌++◌, ◌∷◌, [], ℕ, List, length, get_or, ap, ap₂, sym, subst, arith, zero-add}
+use Rattle.std.specs.List.{All}
+use Rattle.std.proofs.lemmas.List.{get_or_default}
+use Rattle.std.proofs.lemmas.List.FromFn.{map-range_with_len_more}
+use Rattle.wl_level.specs.declared.Level.{Level}
+use Rattle.wl_node.specs.declared.setup.NodeSetup.{NodeSetup}
+use Rattle.wl_plan.specs.PlanLine.{setup_at, no_setup}
+use Rattle.wl_serial.specs.declared.outcome.NodeOutcome.{NodeOutcome}
+use Rattle.wl_serial.specs.Outcome.{history_at_end}
+use Rattle.wl_views.specs.Signals.{sample_ticks, sampled_at}
+use Rattle.wl_views.proofs.SampleOrder.{samples_known}
+use Rattle.wl_views.proofs.SignalProofs.{node_is, nodes_all}
+use Rattle.wl_views.proofs.samples.all_sample_ticks.Goals as goal
+
+pub bounds-nodes-i : goal.bounds-nodes-i
+bounds-nodes-i c =
+    let e = ap length c.as_slice-nodes.ensures in
+    let f = ap length c.as_slice-setups.ensures in
+    let n = nodes_all c.args.plan.now c.args.outcome.now c.requires.outcome in
+    omega arith
+
+pub sampled_at-requires : goal.sampled_at-requires
+sampled_at-requires c =
+    let f = ap length c.as_slice-setups.ensures in
+    let b : c.loop-i.i < length c.args.plan.now.nodes = omega arith in
+    let samples : c.as_slice-samples.result.now ≡ (history_at_end c.args.plan.now c.loop-i.i).samples =
+    c.as_slice-samples.ensures
+    ∙ ap (λ (n : NodeOutcome). n.samples)
+    (ap (λ (xs : List NodeOutcome). get_or xs c.loop-i.i c.index-nodes-i.result) c.as_slice-nodes.ensures ∙ node_is c.args.plan.now c.args.outcome.now c.loop-i.i c.index-nodes-i.result c.requires.outcome b)
+    in
+    subst (All (λ (s : ℕ × Level). s.0 ≤ 2 ^ 21)) (sym samples)
+    (samples_known c.checked_is_sound.ensures c.simulation_laws.ensures c.args.plan.now c.requires.checked c.loop-i.i b)
+
+pub loop-i-preserved : goal.loop-i-preserved
+loop-i-preserved c =
+    let f = ap length c.as_slice-setups.ensures in
+    let b : c.loop-i.i < length c.args.plan.now.nodes = omega arith in
+    let setup : get_or c.as_slice-setups.result.now c.loop-i.i c.index-setups-i.result ≡ setup_at c.args.plan.now c.loop-i.i =
+    ap (λ (xs : List NodeSetup). get_or xs c.loop-i.i c.index-setups-i.result) c.as_slice-setups.ensures ∙ get_or_default c.args.plan.now.nodes c.loop-i.i c.index-setups-i.result no_setup b
+    in
+    let samples : c.as_slice-samples.result.now ≡ (history_at_end c.args.plan.now c.loop-i.i).samples =
+    c.as_slice-samples.ensures
+    ∙ ap (λ (n : NodeOutcome). n.samples)
+    (ap (λ (xs : List NodeOutcome). get_or xs c.loop-i.i c.index-nodes-i.result) c.as_slice-nodes.ensures ∙ node_is c.args.plan.now c.args.outcome.now c.loop-i.i c.index-nodes-i.result c.requires.outcome b)
+    in
+    c.in_ok-push.ensures.items
+    ∙ ap₂ (λ (xs : List (List ℕ)) x. xs ++ x ∷ []) c.loop-i.invariant
+    (c.from_vec.ensures ∙ c.in_ok-ticks.ensures ∙ ap₂ (λ (s : NodeSetup) xs. sampled_at s.clock xs) setup samples)
+    ∙ sym (map-range_with_len_more (sample_ticks c.args.plan.now) 0 c.loop-i.i c.loop-i.i (zero-add c.loop-i.i))

@@ -1,0 +1,33 @@
+-- What of a simulation a waveform shows, at each tick: the logic levels of each node's signals. Recessive is high (Bosch CAN 2.0 part A,
+-- section 2, "Bus values"; ISO 11898-1, where a transceiver's TXD and RXD are high for recessive). The mark of samples is this project's profile.
+use Rattle.std.specs.Prelude.{ℕ, suc, not, List, map, length}
+use Rattle.std.specs.List.{range_with_len}
+use Rattle.wl_level.specs.declared.Level.{Level}
+use Rattle.wl_clock.specs.Timing.{Timing, tick_of}
+use Rattle.wl_record_core.specs.Truth.{count_below, odd}
+use Rattle.wl_plan.specs.declared.plan.Plan.{Plan}
+use Rattle.wl_plan.specs.Line.{found}
+use Rattle.wl_plan.specs.PlanLine.{setup_at, line_of}
+use Rattle.wl_plan.specs.Simulation.{level}
+use Rattle.wl_serial.specs.Outcome.{history_at_end}
+use Rattle.wl_views.specs.declared.signals.NodeSignals.{NodeSignals}
+
+-- the ticks at which the quanta of these samples begin
+abbrev pub sampled_at : Timing → List (ℕ × Level) → List ℕ
+sampled_at clock samples = map (λ s. tick_of clock s.0) samples
+
+-- those of node i's samples in the simulation
+abbrev pub sample_ticks : Plan → ℕ → List ℕ
+sample_ticks plan i = sampled_at (setup_at plan i).clock (history_at_end plan i).samples
+
+-- Node i at tick t: what it drives, what it finds on the line at its place, and a mark that is low at first and turns at each sample.
+unfoldable pub node_signals : Plan → ℕ → ℕ → NodeSignals
+node_signals plan t i = record {
+  tx = not (level (line_of plan) i t);
+  rx = not (found (line_of plan) (level (line_of plan)) i t);
+  sample = odd (count_below (suc t) (sample_ticks plan i));
+}
+
+-- all nodes
+abbrev pub signals : Plan → ℕ → List NodeSignals
+signals plan t = map (node_signals plan t) (range_with_len 0 (length plan.nodes))

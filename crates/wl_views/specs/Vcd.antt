@@ -1,0 +1,90 @@
+-- Value Change Dump (IEEE 1364-2005, clause 18.2): the signals of a simulation, with the ticks at which they change. Which signals
+-- there are and how they are named is this project's profile.
+use Rattle.std.specs.Prelude.{ℕ, suc, ◌+◌, ◌-◌, ◌*◌, Bool, List, [], ◌∷◌, ◌++◌, codes, if◌then◌else◌}
+use Rattle.std.specs.List.{flat_map, range_with_len, enumerate_from}
+use Rattle.std.specs.Fmt.{decimal}
+use Rattle.wl_plan.specs.declared.plan.Plan.{Plan}
+use Rattle.wl_plan.specs.Simulation.{differs}
+use Rattle.wl_views.specs.declared.tick.TimeUnit.{TimeUnit}
+use Rattle.wl_views.specs.declared.tick.TimeUnit.TheVariants.{Picosecond, Nanosecond, Microsecond}
+use Rattle.wl_views.specs.declared.tick.Tick.{Tick}
+use Rattle.wl_views.specs.declared.signals.NodeSignals.{NodeSignals}
+use Rattle.wl_views.specs.Signals.{signals}
+
+abbrev pub unit_word : TimeUnit → List ℕ
+unit_word Picosecond = codes "ps"
+unit_word Nanosecond = codes "ns"
+unit_word Microsecond = codes "us"
+
+-- the name of a signal of node i in the dump: a letter and the node's number
+abbrev pub signal_id : List ℕ → ℕ → List ℕ
+signal_id letter i = letter ++ decimal i
+
+-- the name that a reader sees: the node's, and a word
+abbrev pub shown_name : List ℕ → List ℕ → List ℕ
+shown_name name word = name ++ codes "_" ++ word
+
+abbrev pub var_line : List ℕ → ℕ → List ℕ → List ℕ → List ℕ
+var_line letter i name word = codes "$var wire 1 " ++ signal_id letter i ++ codes " " ++ shown_name name word ++ codes " $end\n"
+
+-- the three signals of node i
+abbrev pub var_lines : ℕ → List ℕ → List ℕ
+var_lines i name = var_line (codes "t") i name (codes "tx") ++ var_line (codes "r") i name (codes "rx") ++ var_line (codes "s") i name (codes "sample")
+
+-- those of a numbered node, under its name
+abbrev pub scope_lines : ℕ × List ℕ → List ℕ
+scope_lines (i, name) = codes "$scope module " ++ name ++ codes " $end\n" ++ var_lines i name ++ codes "$upscope $end\n"
+
+-- the unit of time and the signals of all nodes
+abbrev pub header : Tick → List (List ℕ) → List ℕ
+header tick names =
+    codes "$timescale 1 " ++ unit_word tick.unit ++ codes " $end\n" ++ flat_map scope_lines (enumerate_from 0 names) ++ codes "$enddefinitions $end\n"
+
+-- the time of tick t in units; formats allow units of 1, 10 and 100 alone, so a tick's count is multiplied in
+abbrev pub time_line : Tick → ℕ → List ℕ
+time_line tick t = codes "#" ++ decimal (t * tick.count) ++ codes "\n"
+
+-- a signal is high, or low
+abbrev pub value_line : List ℕ → ℕ → Bool → List ℕ
+value_line letter i high = (if high then codes "1" else codes "0") ++ letter ++ decimal i ++ codes "\n"
+
+-- all signals of a numbered node
+abbrev pub node_values : ℕ × NodeSignals → List ℕ
+node_values (i, now) = value_line (codes "t") i now.tx ++ value_line (codes "r") i now.rx ++ value_line (codes "s") i now.sample
+
+-- a signal whose level is another than before
+abbrev pub change_line : List ℕ → ℕ → Bool → Bool → List ℕ
+change_line letter i was now = if differs was now then value_line letter i now else []
+
+-- those of node i
+abbrev pub node_changes : ℕ → NodeSignals → NodeSignals → List ℕ
+node_changes i was now =
+    change_line (codes "t") i was.tx now.tx ++ change_line (codes "r") i was.rx now.rx ++ change_line (codes "s") i was.sample now.sample
+
+-- those of all nodes, numbered from i on
+abbrev pub changes_from : ℕ → List NodeSignals → List NodeSignals → List ℕ
+changes_from i [] now = []
+changes_from i (w ∷ was) [] = []
+changes_from i (w ∷ was) (n ∷ now) = node_changes i w n ++ changes_from (suc i) was now
+
+-- these lines under their time, and nothing where there are none
+abbrev pub under : List ℕ → List ℕ → List ℕ
+under time [] = []
+under time (byte ∷ more) = time ++ (byte ∷ more)
+
+-- tick t: the signals whose level isn't that of the tick before
+unfoldable pub tick_lines : Tick → (ℕ → List NodeSignals) → ℕ → List ℕ
+tick_lines tick levels t = under (time_line tick t) (changes_from 0 (levels (t - 1)) (levels t))
+
+-- all levels at tick 0
+abbrev pub first_lines : Tick → List NodeSignals → List ℕ
+first_lines tick now = time_line tick 0 ++ codes "$dumpvars\n" ++ flat_map node_values (enumerate_from 0 now) ++ codes "$end\n"
+
+-- the levels at tick 0, what changes at each tick after it and below the end, and the time of the end
+abbrev pub dump_lines : Tick → (ℕ → List NodeSignals) → ℕ → List ℕ
+dump_lines tick levels end =
+    first_lines tick (levels 0) ++ flat_map (tick_lines tick levels) (range_with_len 1 (end - 1)) ++ time_line tick end
+
+-- the dump of what the one-thread simulation does, under these names of the nodes
+abbrev pub vcd_text : Tick → Plan → List (List ℕ) → List ℕ
+vcd_text tick plan names = header tick names ++ dump_lines tick (signals plan) plan.end

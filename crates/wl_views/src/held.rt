@@ -1,0 +1,28 @@
+//! Values that stay for some ticks.
+ghost use Rattle.std.specs.Prelude.{◌≡◌, ℕ, ◌||◌, false, Bool};
+ghost use Rattle.wl_views.specs.Held.{Holds};
+
+/// A value at a tick, and a later tick up to which it stays.
+#[derive(Clone, Copy)]
+pub(crate) struct Held {
+    /// The value.
+    pub(crate) value: bool,
+    /// The first tick at which it may be another.
+    pub(crate) until: u64,
+}
+
+impl Held {
+    /// Whether this or another value is true, for as long as both stay.
+    pub(crate) fn or(self, other: Held) -> Held
+        ensures { (f g : ℕ → Bool) (t : ℕ) → Holds f t self → Holds g t other → Holds (λ u. f u || g u) t result }
+    {
+        let until = self.until.min(other.until);
+        if self.value {
+            return Held { value: true, until };
+        }
+        Held {
+            value: other.value,
+            until,
+        }
+    }
+}
