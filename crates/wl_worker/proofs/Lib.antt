@@ -1,0 +1,6 @@
+mod Fits
+mod Given
+mod Named
+mod Steps
+mod Told
+mod Took

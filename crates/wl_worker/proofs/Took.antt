@@ -1,0 +1,92 @@
+-- What a group takes by a fetch, record by record, and whether that changed what it knows.
+use Rattle.std.proofs.Common.{◌≡◌, ◌≢◌, ℕ, ◌<◌, max, Bool, true, false, ◌||◌, ◌&&◌, ◌==◌, List, [], ◌∷◌, ◌++◌, refl, sym, subst, ap, ◌∙◌, arith}
+use Rattle.std.proofs.lemmas.Bool.Decides.{nat_tests}
+use Rattle.wl_lattice.specs.declared.FlatWord.TheVariants as flat
+use Rattle.wl_lattice.specs.Words.{joined_flat}
+use Rattle.wl_record_core.specs.declared.record.Record.{Record}
+use Rattle.wl_record_core.specs.declared.record.Record.TheVariants.{Edge, Silence}
+use Rattle.wl_replica.specs.Slots.{edge_in, silence_in}
+use Rattle.wl_replica.specs.State.{State, state_of, states_joined, edge_at, silence_at}
+use Rattle.wl_replica.specs.SlotsOf.{SlotsOfStates}
+use Rattle.wl_replica.specs.Laws.{TakingIsJoining, IsJoining}
+use Rattle.wl_plan.specs.declared.plan.Plan.{Plan}
+use Rattle.wl_plan.specs.PlanLine.{IsTrueOfPlan}
+use Rattle.wl_group.specs.GroupValue.{GroupValue, with_records}
+use Rattle.wl_worker.specs.Handed.{AreTrueOfPlan, Took, HasChanged}
+use Rattle.wl_worker.proofs.Steps.{took_plan}
+
+-- ---- nothing, one record, and more of them
+
+pub took_nothing : IsJoining → (old new : GroupValue) → new ≡ old → Took old new
+took_nothing laws old new e = record {
+  more = [];
+  are_true = tt;
+  taken = e ∙ ap (λ (s : State). record { plan = old.plan; ran = old.ran; replica = s; told = old.told }) (sym (laws.neutral old.replica));
+}
+
+pub took_one : (old new : GroupValue) (r : Record) → IsTrueOfPlan old.plan r → new ≡ with_records (r ∷ []) old → Took old new
+took_one old new r h e = record { more = r ∷ []; are_true = (h, tt); taken = e }
+
+both_true : (plan : Plan) (xs ys : List Record) → AreTrueOfPlan plan xs → AreTrueOfPlan plan ys → AreTrueOfPlan plan (xs ++ ys)
+both_true plan [] ys h g = g
+both_true plan (x ∷ xs) ys h g = (h.0, both_true plan xs ys h.1 g)
+
+pub took_both : TakingIsJoining → (a b c : GroupValue) → Took a b → Took b c → Took a c
+took_both laws a b c t u = record {
+  more = t.more ++ u.more;
+  are_true = both_true a.plan t.more u.more t.are_true (subst (λ p. AreTrueOfPlan p u.more) (took_plan a b t) u.are_true);
+  taken = u.taken ∙ ap (with_records u.more) t.taken
+      ∙ ap (λ (s : State). record { plan = a.plan; ran = a.ran; replica = s; told = a.told }) (laws.in_parts a.replica t.more u.more);
+}
+
+-- ---- whether it changed
+
+edge_here : (n s t : ℕ) → edge_in (Edge n s t) n s ≡ flat.Value t
+edge_here n s t = let e : ((n == n) && (s == s)) ≡ true = grind (arith, nat_tests) in rw e refl
+
+silence_here : (n c u : ℕ) → silence_in (Silence n c u) n c ≡ u
+silence_here n c u = let e : ((n == n) && (c == c)) ≡ true = grind (arith, nat_tests) in rw e refl
+
+-- an edge whose slot had nothing
+pub edge_changes : SlotsOfStates → (old new : GroupValue) (n s t : ℕ) → edge_at old.replica (n, s) ≡ flat.Nothing → new ≡ with_records (Edge n s t ∷ []) old
+    → new.replica ≢ old.replica
+edge_changes laws old new n s t none e same =
+    let now : edge_at new.replica (n, s) ≡ joined_flat (edge_at old.replica (n, s)) (edge_in (Edge n s t) n s)
+    = ap (λ (g : GroupValue). edge_at g.replica (n, s)) e ∙ ap (λ w. w.edge n s) (laws.one_more old.replica (Edge n s t)) in
+    let tick : edge_at new.replica (n, s) ≡ flat.Value t = now ∙ (ap (λ w. joined_flat w (edge_in (Edge n s t) n s)) none ∙ edge_here n s t) in
+    let still : edge_at new.replica (n, s) ≡ flat.Nothing = ap (λ (x : State). edge_at x (n, s)) same ∙ none in
+    let clash : flat.Nothing ≡ flat.Value t = sym still ∙ tick in
+    cc
+
+-- a silence that reaches further
+pub silence_changes : SlotsOfStates → (old new : GroupValue) (n c u : ℕ) → (silence_at old.replica (n, c)).word < u → new ≡ with_records (Silence n c u ∷ []) old
+    → new.replica ≢ old.replica
+silence_changes laws old new n c u less e same =
+    let now : (silence_at new.replica (n, c)).word ≡ max (silence_at old.replica (n, c)).word (silence_in (Silence n c u) n c)
+    = ap (λ (g : GroupValue). (silence_at g.replica (n, c)).word) e ∙ ap (λ w. w.silence n c) (laws.one_more old.replica (Silence n c u)) in
+    let here = silence_here n c u in
+    let still : (silence_at new.replica (n, c)).word ≡ (silence_at old.replica (n, c)).word = ap (λ (x : State). (silence_at x (n, c)).word) same in
+    absurd (omega arith)
+
+-- what was joined in can't be lost by joining more
+stays : IsJoining → (s a b : State) → b.nodes ≡ a.nodes → states_joined (states_joined s a) b ≡ s → states_joined s a ≡ s
+stays laws s a b n e =
+    ap (λ x. states_joined x a) (sym e)
+    ∙ (laws.associates (states_joined s a) b a
+    ∙ (ap (states_joined (states_joined s a)) (laws.commutes b a n)
+    ∙ (sym (laws.associates (states_joined s a) a b)
+    ∙ (ap (λ x. states_joined x b) (laws.associates s a a ∙ ap (states_joined s) (laws.idempotent a))
+    ∙ e))))
+
+changed_before : IsJoining → (a b c : GroupValue) → Took a b → Took b c → b.replica ≢ a.replica → c.replica ≢ a.replica
+changed_before laws a b c t u h same =
+    let x : b.replica ≡ states_joined a.replica (state_of a.replica.nodes t.more) = ap (λ (g : GroupValue). g.replica) t.taken in
+    let y : c.replica ≡ states_joined b.replica (state_of b.replica.nodes u.more) = ap (λ (g : GroupValue). g.replica) u.taken in
+    let both : states_joined (states_joined a.replica (state_of a.replica.nodes t.more)) (state_of b.replica.nodes u.more) ≡ a.replica
+    = ap (λ z. states_joined z (state_of b.replica.nodes u.more)) (sym x) ∙ (sym y ∙ same) in
+    h (x ∙ stays laws a.replica (state_of a.replica.nodes t.more) (state_of b.replica.nodes u.more) (ap (λ (z : State). z.nodes) x) both)
+
+pub changed_both : IsJoining → (a b c : GroupValue) → Took a b → Took b c → (x y : Bool) → HasChanged a b x → HasChanged b c y → HasChanged a c (x || y)
+changed_both laws a b c t u true y h g = changed_before laws a b c t u h
+changed_both laws a b c t u false true h g = subst (λ (z : GroupValue). c.replica ≢ z.replica) h g
+changed_both laws a b c t u false false h g = g ∙ h

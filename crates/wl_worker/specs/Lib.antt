@@ -1,0 +1,3 @@
+pub mod Finished
+pub mod Handed
+pub mod Shared

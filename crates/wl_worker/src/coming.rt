@@ -1,0 +1,183 @@
+//! What a pass sees in a hub that a group does not know yet.
+ghost use Rattle.std.specs.Prelude.{◌≡◌, ◌<◌, ◌||◌, ℕ, Some, IfOk, IfSome, length};
+ghost use Rattle.wl_record_core.specs.declared.record.Record.TheVariants.{Edge, Silence};
+ghost use Rattle.wl_plan.specs.PlanLine.{IsTrueOfPlan};
+ghost use Rattle.wl_hub.specs.Passes.{IsPassOf, name_of};
+ghost use Rattle.wl_worker.specs.Handed.{Took, HasChanged};
+ghost use Rattle.wl_worker.specs.Shared.{name_of_plan, IsTrueOfName};
+
+use crate::shared::PlanName;
+use std::alloc::AllocError;
+use wl_group::Group;
+use wl_hub::{Hub, Pass, words_tell_records};
+use wl_lattice::FlatWord;
+use wl_record_core::{Record, Slot};
+use wl_replica::{Word, joining_is_a_join, slots_of_states, taking_is_joining};
+
+/// Whether one of the two is.
+fn either(one: bool, other: bool) -> bool
+    ensures { result ≡ (one || other) }
+{
+    one || other
+}
+
+/// The tick of a change, where the hub has it.
+fn edge_seen(hub: &Hub<PlanName>, pass: &mut Pass<PlanName>, node: u8, seq: u32) -> Option<u64>
+    requires here { IsPassOf hub.now pass.old }
+    ensures here { IsPassOf hub.now pass.new }
+    ensures name { name_of pass.new ≡ name_of pass.old }
+    ensures truth { IfSome result (λ tick. IsTrueOfName (name_of pass.old) (Edge node seq tick)) }
+{
+    words_tell_records::<PlanName>();
+    let slot = Slot::EdgeAt { node, seq };
+    if !hub.has_word(slot) {
+        return None;
+    }
+    let word = hub.look(pass, slot);
+    if word == 0 {
+        return None;
+    }
+    Some(word - 1)
+}
+
+/// How far the silence after so many changes reaches, where the hub has one.
+fn silence_seen(hub: &Hub<PlanName>, pass: &mut Pass<PlanName>, node: u8, count: u32) -> Option<u64>
+    requires here { IsPassOf hub.now pass.old }
+    ensures here { IsPassOf hub.now pass.new }
+    ensures name { name_of pass.new ≡ name_of pass.old }
+    ensures truth { IfSome result (λ until. IsTrueOfName (name_of pass.old) (Silence node count until)) }
+{
+    words_tell_records::<PlanName>();
+    let slot = Slot::SilenceAt { node, count };
+    if !hub.has_word(slot) {
+        return None;
+    }
+    let word = hub.look(pass, slot);
+    if word == 0 {
+        return None;
+    }
+    Some(word)
+}
+
+/// Takes an edge of which the group knows nothing yet. Answers whether it took it.
+#[tactic(auto, using(crate::proofs::Took::took_nothing, crate::proofs::Took::took_one, crate::proofs::Took::edge_changes))]
+fn learn_edge(group: &mut Group, node: u8, seq: u32, tick: u64) -> Result<bool, AllocError>
+    requires { IsTrueOfPlan group.old.plan (Edge node seq tick) }
+    ensures took { Took group.old group.new }
+    ensures changed { IfOk result (λ b. HasChanged group.old group.new b) }
+{
+    joining_is_a_join();
+    slots_of_states();
+    let Word::Edge(FlatWord::Nothing) = group.replica().slot(Slot::EdgeAt { node, seq }) else {
+        return Ok(false);
+    };
+    group.take(Record::Edge { node, seq, tick })?;
+    Ok(true)
+}
+
+/// Takes a silence that reaches further than what the group knows. Answers whether it took it.
+#[tactic(auto, using(crate::proofs::Took::took_nothing, crate::proofs::Took::took_one, crate::proofs::Took::silence_changes))]
+fn learn_silence(group: &mut Group, node: u8, count: u32, until: u64) -> Result<bool, AllocError>
+    requires { IsTrueOfPlan group.old.plan (Silence node count until) }
+    ensures took { Took group.old group.new }
+    ensures changed { IfOk result (λ b. HasChanged group.old group.new b) }
+{
+    joining_is_a_join();
+    slots_of_states();
+    let known = match group.replica().slot(Slot::SilenceAt { node, count }) {
+        Word::Silence(known) => known.word,
+        Word::Edge(_) => return Ok(false),
+    };
+    if until <= known {
+        return Ok(false);
+    }
+    group.take(Record::Silence { node, count, until })?;
+    Ok(true)
+}
+
+/// Takes the changes of a node that the hub has, from change `first` on, up to one that it hasn't. Answers whether some were taken, and
+/// the number of that one.
+#[tactic(auto, using(crate::proofs::Took::took_nothing, crate::proofs::Took::took_both, crate::proofs::Named::still_named))]
+fn learn_edges(
+    hub: &Hub<PlanName>,
+    pass: &mut Pass<PlanName>,
+    group: &mut Group,
+    node: u8,
+    first: u32,
+) -> Result<(bool, u32), AllocError>
+    requires here { IsPassOf hub.now pass.old }
+    requires name { name_of pass.old ≡ Some (name_of_plan group.old.plan) }
+    ensures here { IsPassOf hub.now pass.new }
+    ensures name { name_of pass.new ≡ name_of pass.old }
+    ensures took { Took group.old group.new }
+    ensures changed { IfOk result (λ r. HasChanged group.old group.new r.0) }
+{
+    joining_is_a_join();
+    taking_is_joining();
+    let mut came = false;
+    let mut next = first;
+    for seq in first..u32::MAX {
+        let Some(tick) = edge_seen(hub, pass, node, seq) else {
+            break;
+        };
+        let taken = learn_edge(group, node, seq, tick)?;
+        came = either(came, taken);
+        next = seq + 1;
+    }
+    Ok((came, next))
+}
+
+/// Takes what the hub has of a node's next changes and of the silence after them, where the node is no member. Answers whether something
+/// was taken.
+#[tactic(auto, using(crate::proofs::Took::took_nothing, crate::proofs::Took::took_both, crate::proofs::Named::still_named))]
+fn learn_node(
+    hub: &Hub<PlanName>,
+    pass: &mut Pass<PlanName>,
+    group: &mut Group,
+    node: u8,
+) -> Result<bool, AllocError>
+    requires here { IsPassOf hub.now pass.old }
+    requires name { name_of pass.old ≡ Some (name_of_plan group.old.plan) }
+    requires node { node < length group.old.plan.nodes }
+    ensures here { IsPassOf hub.now pass.new }
+    ensures name { name_of pass.new ≡ name_of pass.old }
+    ensures took { Took group.old group.new }
+    ensures changed { IfOk result (λ b. HasChanged group.old group.new b) }
+{
+    joining_is_a_join();
+    taking_is_joining();
+    if group.has(node) {
+        return Ok(false);
+    }
+    let first = group.replica().run_length(node);
+    let (edges, next) = learn_edges(hub, pass, group, node, first)?;
+    let Some(until) = silence_seen(hub, pass, node, next) else {
+        return Ok(edges);
+    };
+    let silence = learn_silence(group, node, next, until)?;
+    Ok(either(edges, silence))
+}
+
+/// Takes what the hub has of all nodes that are no members of the group. Answers whether something was taken.
+#[tactic(auto, using(crate::proofs::Took::took_nothing, crate::proofs::Took::took_both, crate::proofs::Named::still_named))]
+pub(crate) fn learn_all(
+    hub: &Hub<PlanName>,
+    pass: &mut Pass<PlanName>,
+    group: &mut Group,
+) -> Result<bool, AllocError>
+    requires here { IsPassOf hub.now pass.old }
+    requires name { name_of pass.old ≡ Some (name_of_plan group.old.plan) }
+    ensures here { IsPassOf hub.now pass.new }
+    ensures name { name_of pass.new ≡ name_of pass.old }
+    ensures took { Took group.old group.new }
+    ensures changed { IfOk result (λ b. HasChanged group.old group.new b) }
+{
+    joining_is_a_join();
+    taking_is_joining();
+    let mut came = false;
+    for node in 0..group.replica().nodes() {
+        let taken = learn_node(hub, pass, group, node)?;
+        came = either(came, taken);
+    }
+    Ok(came)
+}

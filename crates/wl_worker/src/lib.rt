@@ -1,0 +1,15 @@
+//! Workers: threads that run the groups of a plan, each as far as it knows the others, and hand records to one another.
+#![tactic(auto)]
+
+mod bell;
+mod coming;
+mod hub_link;
+mod link;
+mod shared;
+mod turns;
+
+pub use bell::{Bell, MOST_WORKERS};
+pub use hub_link::HubLink;
+pub use link::{Fault, Gate, Link, LinkFault};
+pub use shared::{PlanName, shape_of_plan};
+pub use turns::work;

@@ -1,0 +1,91 @@
+//! How workers hand records to one another, and what may stop them.
+ghost use Rattle.std.specs.Prelude.{◌≡◌, IfOk};
+
+use std::alloc::{AllocError, Global};
+use thiserror::Error;
+use wl_group::Group;
+use wl_record_core::Record;
+
+/// Why a link failed.
+#[derive(Clone, Copy, Debug, PartialEq, Eq, Error)]
+pub enum LinkFault {
+    /// What came is of another plan.
+    #[error("Foreign")]
+    Foreign,
+    /// The other end was given up.
+    #[error("Gone")]
+    Gone,
+    /// Memory was refused.
+    #[error("Memory")]
+    Memory,
+}
+
+impl From<AllocError> for LinkFault {
+    fn from(_: AllocError) -> LinkFault {
+        LinkFault::Memory
+    }
+}
+
+/// Why workers came to no outcome. Where several apply, the first of these.
+#[derive(Clone, Copy, Debug, PartialEq, Eq, Error)]
+pub enum Fault {
+    /// There is no worker, or there are more than 8.
+    #[error("Workers")]
+    Workers,
+    /// Memory was refused.
+    #[error("Memory")]
+    Memory,
+    /// A record of another plan came.
+    #[error("Foreign")]
+    Foreign,
+    /// This worker stopped: its gate refused a turn, its link was given up, or no thread could be made for it.
+    #[error("Worker({0})")]
+    Worker(u8),
+}
+
+impl From<AllocError> for Fault {
+    fn from(_: AllocError) -> Fault {
+        Fault::Memory
+    }
+}
+
+/// What a worker hands records by, to all others and from all others. A link is of one plan, and of one worker.
+///
+/// A call that fails keeps what it gave or took before the fault.
+pub trait Link {
+    ghost use Rattle.wl_plan.specs.declared.plan.Plan.{Plan as GivenPlan};
+    ghost use Rattle.wl_worker.specs.Handed.{AreTrueOfPlan, Took, HasChanged};
+
+    /// The link is of this plan.
+    ghost is_of: { Self → GivenPlan → Type 0 };
+
+    /// The number of the worker whose link this is, from 0.
+    fn worker(&self) -> u8;
+
+    /// Gives records that are true of the link's plan to all other workers.
+    fn give(&mut self, alloc: Global, records: &[Record]) -> Result<(), LinkFault>
+        requires { (p : GivenPlan) × is_of self.old p × AreTrueOfPlan p records.now }
+        ensures same { (p : GivenPlan) → is_of self.old p → is_of self.new p };
+
+    /// Hands to a group of the link's plan what others gave, and answers whether that changed what the group knows.
+    fn fetch(&mut self, alloc: Global, group: &mut Group) -> Result<bool, LinkFault>
+        requires { is_of self.old group.old.plan }
+        ensures same { (p : GivenPlan) → is_of self.old p → is_of self.new p }
+        ensures took { Took group.old group.new }
+        ensures changed { IfOk result (λ b. HasChanged group.old group.new b) };
+
+    /// Waits until some worker gave something after this link's last `fetch` began, or some worker stopped. Answers the first one
+    /// that stopped, if any.
+    fn wait(&mut self) -> Option<u8>
+        ensures same { (p : GivenPlan) → is_of self.old p → is_of self.new p };
+
+    /// Tells the others that this worker stopped.
+    fn stop(&mut self)
+        ensures same { (p : GivenPlan) → is_of self.old p → is_of self.new p };
+}
+
+/// What is asked before each turn of a worker, so that workers can be watched and stopped.
+pub trait Gate {
+    /// Whether the worker may begin this turn; turns count from 0. Where it may not, the worker ends with its fault.
+    fn turn(&self, worker: u8, turn: u64) -> bool;
+}

@@ -1,0 +1,44 @@
+//! A plan as the name of a hub, and the words that it needs there.
+ghost use Rattle.std.specs.Prelude.{◌≡◌, ◌<◌, IfOk, length};
+ghost use Rattle.wl_plan.specs.Checked.{IsChecked};
+ghost use Rattle.wl_worker.specs.Shared.{HasWords, IsShapeOf};
+
+use std::alloc::{AllocError, Global};
+use wl_hub::Truth;
+use wl_plan::Plan;
+
+/// A plan as the name of a hub's passes: of it those records are true that are true of the plan.
+#[derive(Drop)]
+pub struct PlanName {
+    pub plan: Plan,
+}
+
+impl Truth for PlanName {
+    ghost use Rattle.wl_worker.specs.Shared.{is_told};
+
+    ghost is_true = { is_told };
+}
+
+/// The shape of a hub for a plan that passed its check: a node with so many quanta before the end has as many edge words and one
+/// silence word more. Refused for want of memory alone.
+pub fn shape_of_plan(alloc: Global, plan: &Plan) -> Result<Vec<(u32, u32)>, AllocError>
+    requires { IsChecked plan.now }
+    ensures { IfOk result (λ shape. IsShapeOf plan.now shape.items) }
+{
+    let mut shape = Vec::new(alloc);
+    for i in 0..plan.nodes.len() {
+        shape.push(words_of(plan, i))?;
+    }
+    Ok(shape)
+}
+
+/// The numbers of edge words and of silence words of node `i`.
+fn words_of(plan: &Plan, i: usize) -> (u32, u32)
+    requires checked { IsChecked plan.now }
+    requires node { i < length plan.now.nodes }
+    ensures { HasWords plan.now i result }
+{
+    wl_plan::checked_is_sound();
+    let quanta = plan.nodes.as_slice()[i].clock.first_not_before(plan.end) as u32;
+    (quanta, quanta + 1)
+}

@@ -1,0 +1,173 @@
+//! One worker: its turns, from the first silences of its members to their end.
+ghost use Rattle.std.specs.Prelude.{◌≡◌, ◌↔◌, ℕ, true, length, IsTrue, IfOk, OnOk};
+ghost use Rattle.wl_plan.specs.declared.plan.Plan.{Plan as GivenPlan};
+ghost use Rattle.wl_group.specs.GroupValue.{belongs};
+ghost use Rattle.wl_worker.specs.Handed.{AreTrueOfPlan};
+ghost use Rattle.wl_worker.specs.Finished.{MembersEnded, HasFinished};
+
+use crate::link::{Fault, Gate, Link, LinkFault};
+use std::alloc::{AllocError, Global};
+use std::sync::Wait;
+use wl_group::{Group, first_silence, value_laws};
+use wl_record_core::Record;
+
+/// A worker has no turn of this number: there it ends with its fault.
+const MOST_TURNS: u64 = 1 << 63;
+
+/// Runs a group to its end, with what comes by its link.
+///
+/// The worker gives its members' first silences. Then in each turn it asks the gate, fetches, advances all members, and gives what they
+/// emitted, if anything; it waits where nothing came and nothing was emitted. It ends when all its members are at the end. Where it
+/// fails, it tells the others by `stop`.
+pub fn work<R: Wait, L: Link + Drop, G: Gate>(
+    rt: &R,
+    alloc: Global,
+    group: Group,
+    link: L,
+    gate: &G,
+) -> Result<Group, Fault>
+    requires { L.is_of link group.plan }
+    ensures { IfOk result (λ done. HasFinished group done) }
+{
+    let _ = rt;
+    let mut group = group;
+    let mut link = link;
+    match run(alloc, &mut group, &mut link, gate) {
+        Ok(()) => Ok(group),
+        Err(fault) => {
+            link.stop();
+            Err(fault)
+        }
+    }
+}
+
+/// All turns of a worker.
+fn run<L: Link, G: Gate>(
+    alloc: Global,
+    group: &mut Group,
+    link: &mut L,
+    gate: &G,
+) -> Result<(), Fault>
+    requires { L.is_of link.old group.old.plan }
+    ensures same { (p : GivenPlan) → L.is_of link.old p → L.is_of link.new p }
+    ensures finished { OnOk result (HasFinished group.old group.new) }
+{
+    let worker = link.worker();
+    begin(alloc, group, link).map_err(|fault| fault_of(fault, worker))?;
+    for turn in 0..MOST_TURNS {
+        if !gate.turn(worker, turn) {
+            return Err(Fault::Worker(worker));
+        }
+        let moved = step(alloc, group, link).map_err(|fault| fault_of(fault, worker))?;
+        if is_at_end(group) {
+            return Ok(());
+        }
+        if moved {
+            continue;
+        }
+        if let Some(stopped) = link.wait() {
+            return Err(Fault::Worker(stopped));
+        }
+    }
+    Err(Fault::Worker(worker))
+}
+
+/// The worker's fault where its link has this one.
+fn fault_of(fault: LinkFault, worker: u8) -> Fault {
+    match fault {
+        LinkFault::Foreign => Fault::Foreign,
+        LinkFault::Gone => Fault::Worker(worker),
+        LinkFault::Memory => Fault::Memory,
+    }
+}
+
+/// Gives the first silences of the group's members.
+fn begin<L: Link>(alloc: Global, group: &Group, link: &mut L) -> Result<(), LinkFault>
+    requires { L.is_of link.old group.now.plan }
+    ensures same { (p : GivenPlan) → L.is_of link.old p → L.is_of link.new p }
+{
+    let first = first_silences(alloc, group)?;
+    hand(alloc, group, link, first.as_slice())
+}
+
+/// What the members say before their first quanta.
+#[tactic(auto, using(crate::proofs::Steps::pushed_true))]
+fn first_silences(alloc: Global, group: &Group) -> Result<Vec<Record>, AllocError>
+    ensures { IfOk result (λ first. AreTrueOfPlan group.now.plan first.items) }
+{
+    let plan = group.plan();
+    let mut first = Vec::new(alloc);
+    for i in 0..plan.topology.nodes() {
+        if group.has(i) {
+            first.push(first_silence(plan, i))?;
+        }
+    }
+    Ok(first)
+}
+
+/// Fetches, advances all members and gives what they emitted, if anything. Answers whether something came or was emitted.
+fn step<L: Link>(alloc: Global, group: &mut Group, link: &mut L) -> Result<bool, LinkFault>
+    requires { L.is_of link.old group.old.plan }
+    ensures same { (p : GivenPlan) → L.is_of link.old p → L.is_of link.new p }
+    ensures plan { group.new.plan ≡ group.old.plan }
+    ensures members { belongs group.new ≡ belongs group.old }
+{
+    let came = come(alloc, group, link)?;
+    let said = say(alloc, group)?;
+    hand(alloc, group, link, said.as_slice())?;
+    Ok(came || !said.is_empty())
+}
+
+/// Fetches what others gave. Answers whether something came.
+#[tactic(auto, using(crate::proofs::Steps::took_members))]
+fn come<L: Link>(alloc: Global, group: &mut Group, link: &mut L) -> Result<bool, LinkFault>
+    requires { L.is_of link.old group.old.plan }
+    ensures same { (p : GivenPlan) → L.is_of link.old p → L.is_of link.new p }
+    ensures plan { group.new.plan ≡ group.old.plan }
+    ensures members { belongs group.new ≡ belongs group.old }
+{
+    link.fetch(alloc, group)
+}
+
+/// Advances all members, and answers what they emitted.
+#[tactic(auto, using(crate::proofs::Steps::said_true))]
+fn say(alloc: Global, group: &mut Group) -> Result<Vec<Record>, AllocError>
+    ensures truth { IfOk result (λ said. AreTrueOfPlan group.old.plan said.items) }
+    ensures plan { group.new.plan ≡ group.old.plan }
+    ensures members { belongs group.new ≡ belongs group.old }
+{
+    value_laws();
+    // (reading a part gives the proof what the type keeps)
+    let _ = group.plan();
+    group.advance_all(alloc)
+}
+
+/// Gives what members of the group said, if anything.
+fn hand<L: Link>(
+    alloc: Global,
+    group: &Group,
+    link: &mut L,
+    said: &[Record],
+) -> Result<(), LinkFault>
+    requires of { L.is_of link.old group.now.plan }
+    requires truth { AreTrueOfPlan group.now.plan said.now }
+    ensures same { (p : GivenPlan) → L.is_of link.old p → L.is_of link.new p }
+{
+    let _ = group;
+    if said.is_empty() {
+        return Ok(());
+    }
+    link.give(alloc, said)
+}
+
+/// Whether all members of a group are at the end.
+fn is_at_end(group: &Group) -> bool
+    ensures { IsTrue result ↔ MembersEnded group.now }
+{
+    for i in 0..group.replica().nodes() {
+        if group.has(i) && !group.has_ended(i) {
+            return false;
+        }
+    }
+    true
+}
