@@ -13,7 +13,7 @@ use Rattle.wl_record_core.specs.TableLaws.{TableLaws}
 use Rattle.wl_replica.specs.State.{State, slots_of, states_joined}
 use Rattle.wl_replica.specs.Slots.{Contents, HoldsTrue, IsBelow}
 use Rattle.wl_replica.specs.SlotsOf.{SlotsOfStates}
-use Rattle.wl_replica.specs.Known.{is_tick, tick_in, run_goes_on, is_run, greatest, run_length, promised, after_edges, known_by, horizon, wave_at, least_up_to}
+use Rattle.wl_replica.specs.Known.{is_tick, tick_in, run_goes_on, is_run, greatest_passing, run_length, longest_promise, after_edges, known_by, horizon, wave_at, least_up_to}
 use Rattle.wl_replica.specs.KnownLaws.{SlotsLaws, KnownLaws}
 use Rattle.wl_replica.proofs.CallerLemmas.{run_part, tick_is}
 use Rattle.wl_plan.specs.declared.plan.Plan.{Plan}
@@ -103,22 +103,22 @@ after_early nodes table w truth i (suc m) = (let b = tick_early nodes table w tr
 
 -- ---- the greatest number that passes
 
-greatest_is : (b m : ℕ) (test : ℕ → Bool) → m ≤ b → test m ≡ true → ((n : ℕ) → m < n → test n ≡ false) → greatest b test ≡ m
+greatest_is : (b m : ℕ) (test : ℕ → Bool) → m ≤ b → test m ≡ true → ((n : ℕ) → m < n → test n ≡ false) → greatest_passing b test ≡ m
 greatest_is zero m test h p q = omega arith
 greatest_is (suc b) m test h p q = elim (cases_eq m (suc b)) [
-  | inl same ↦ cond-true (test (suc b)) (suc b) (greatest b test) (sym (ap test same) ∙ p) ∙ sym same
-  | inr other ↦ cond-false (test (suc b)) (suc b) (greatest b test) (q (suc b) (omega arith)) ∙ greatest_is b m test (omega arith) p q
+  | inl same ↦ cond-true (test (suc b)) (suc b) (greatest_passing b test) (sym (ap test same) ∙ p) ∙ sym same
+  | inr other ↦ cond-false (test (suc b)) (suc b) (greatest_passing b test) (q (suc b) (omega arith)) ∙ greatest_is b m test (omega arith) p q
 ]
 
 goes_tick : (e : ℕ → FlatWord) (s : ℕ → ℕ) (n : ℕ) → run_goes_on e s n ≡ true → is_tick (e n) ≡ true
 goes_tick e s zero h = (and_parts _ _ h).0
 goes_tick e s (suc n) h = (and_parts _ _ (and_parts _ _ h).0).0
 
-promised_within : (s : ℕ → ℕ) (b m : ℕ) → ((n : ℕ) → n ≤ m → s n ≤ b) → promised s m ≤ b
+promised_within : (s : ℕ → ℕ) (b m : ℕ) → ((n : ℕ) → n ≤ m → s n ≤ b) → longest_promise s m ≤ b
 promised_within s b zero h = h 0 (omega arith)
 promised_within s b (suc m) h = (let r = promised_within s b m (λ n le. h n (omega arith)) in let q = h (suc m) (omega arith) in omega arith)
 
-own_promise : (s : ℕ → ℕ) (m : ℕ) → s m ≤ promised s m
+own_promise : (s : ℕ → ℕ) (m : ℕ) → s m ≤ longest_promise s m
 own_promise s zero = omega arith
 own_promise s (suc m) = omega arith
 
@@ -186,7 +186,7 @@ module _ (tables : TableLaws) (nodes : ℕ) (table : ℕ → List ℕ) (w : Cont
     -- its horizon: past the last of them, or the end of the silence after them
     pub horizon_is : max (after_edges (w.edge i) m) (w.silence i m) ≡ horizon w i
     horizon_is =
-        same_max (after_edges (w.edge i) m) (w.silence i m) (promised (w.silence i) m) (own_promise (w.silence i) m)
+        same_max (after_edges (w.edge i) m) (w.silence i m) (longest_promise (w.silence i) m) (own_promise (w.silence i) m)
         (promised_within (w.silence i) (max (after_edges (w.edge i) m) (w.silence i m)) m silence_within)
         ∙ ap (known_by (w.edge i) (w.silence i)) (sym length_is)
 

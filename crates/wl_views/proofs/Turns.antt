@@ -15,7 +15,7 @@ reached laws xs g tick inc b h =
     let m = laws.count_less (suc (get_or xs g 0)) (tick + 1) xs (omega arith) in
     omega arith
 
--- one that is after it does not, nor those behind it
+-- one that is after it does not, nor those after it
 pub not_reached : TableLaws → (xs : List ℕ) (g tick : ℕ) → IsIncreasing xs → g < length xs → tick < get_or xs g 0 → count_below (tick + 1) xs ≤ g
 not_reached laws xs g tick inc b h =
     let e = laws.entry_is_step xs g (get_or xs g 0) inc (slice_get-get_or xs g 0 b) in

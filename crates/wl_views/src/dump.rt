@@ -222,7 +222,7 @@ fn keep(was: &mut Vec<NodeSignals>, now: &mut Vec<NodeSignals>)
     swap(was, now);
 }
 
-/// Adds all levels at tick 0, what changes behind it below the end, and the end.
+/// Adds all levels at tick 0, what changes after it below the end, and the end.
 fn push_dump(
     alloc: Global,
     text: &mut String,

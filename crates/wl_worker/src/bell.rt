@@ -30,7 +30,7 @@ pub struct Bell {
 }
 
 impl Bell {
-    /// A bell for so many workers, at which none gave anything or stopped. Refused for want of memory alone.
+    /// A bell for so many workers, at which none gave anything or stopped. Refused only when out of memory.
     pub fn new(alloc: Global, workers: u8) -> Result<Bell, AllocError> {
         let gives = vec![in alloc; 0u64; usize::from(workers)]?;
         Ok(Bell {

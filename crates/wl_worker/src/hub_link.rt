@@ -31,7 +31,7 @@ pub struct HubLink<'h, R: Wait> {
 }
 
 impl<'h, R: Wait> HubLink<'h, R> {
-    /// The link of a worker over a pass of a hub that has the words of the plan that is the pass's name. Refused for want of memory alone.
+    /// The link of a worker over a pass of a hub that has the words of the plan that is the pass's name. Refused only when out of memory.
     pub fn new(
         rt: &'h R,
         alloc: Global,

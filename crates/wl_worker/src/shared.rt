@@ -20,7 +20,7 @@ impl Truth for PlanName {
 }
 
 /// The shape of a hub for a plan that passed its check: a node with so many quanta before the end has as many edge words and one
-/// silence word more. Refused for want of memory alone.
+/// silence word more. Refused only when out of memory.
 pub fn shape_of_plan(alloc: Global, plan: &Plan) -> Result<Vec<(u32, u32)>, AllocError>
     requires { IsChecked plan.now }
     ensures { IfOk result (λ shape. IsShapeOf plan.now shape.items) }

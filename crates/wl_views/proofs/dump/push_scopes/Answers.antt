@@ -1,4 +1,4 @@
--- The lines of one node more behind those of the nodes before it.
+-- The lines of one node more after those of the nodes before it.
 use Rattle.std.proofs.Common.{◌∙◌, ◌++◌, ◌<◌, [], ap, arith, length, string_bytes}
 use Rattle.wl_views.specs.Vcd.{scope_lines}
 use Rattle.wl_views.proofs.Lists.{next_piece}

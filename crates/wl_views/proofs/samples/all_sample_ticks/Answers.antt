@@ -1,4 +1,4 @@
--- One node's ticks behind those of the nodes before it.
+-- One node's ticks after those of the nodes before it.
 use Rattle.std.proofs.Common.{◌≡◌, ◌∙◌, ◌<◌, ◌≤◌, ◌^◌, ◌++◌, ◌∷◌, [], ℕ, List, length, get_or, ap, ap₂, sym, subst, arith, zero-add}
 use Rattle.std.specs.List.{All}
 use Rattle.std.proofs.lemmas.List.{get_or_default}

@@ -1,4 +1,4 @@
--- Before the first tick and the delay nothing has turned, and behind it nothing turns until the next tick has come.
+-- Before the first tick and the delay nothing has turned, and after it nothing turns until the next tick has come.
 use Rattle.std.proofs.Common.{◌≡◌, ◌+◌, ◌-◌, ◌<◌}
 use Rattle.wl_record_core.specs.Truth.{count_below}
 use Rattle.wl_views.proofs.Turns.{before_all, comes_later, from_here}

@@ -1,6 +1,6 @@
 use Rattle.std.proofs.Common.{[], ◌∷◌, sym, subst}
 use Rattle.wl_replica.specs.State.{state_of}
-use Rattle.wl_group.specs.Party.{taking}
+use Rattle.wl_group.specs.Party.{party_with}
 use Rattle.wl_group.specs.GroupValue.{Matches}
 use Rattle.wl_group.proofs.BeginProofs.{taken_value, taken_kept}
 use Rattle.wl_group.proofs.CountedProofs.{counting_stays}
