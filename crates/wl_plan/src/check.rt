@@ -8,7 +8,7 @@ ghost use Rattle.wl_topology.specs.Delays.{IsTopology};
 ghost use Rattle.wl_plan.specs.Checked.{IsChecked, fault_of, has_wrong_nodes, has_many_quanta, has_long_queue, is_refused, is_far};
 ghost use Rattle.wl_plan.specs.Limits.{latest_end, most_quanta};
 
-use crate::laws::simulation_laws;
+use crate::laws::faultless_is_checked;
 use crate::limits::{LATEST_END, MOST_DISTURBANCES, MOST_QUANTA, MOST_QUEUED};
 use crate::plan::{Disturbance, Plan};
 use thiserror::Error;
