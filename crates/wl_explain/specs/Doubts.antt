@@ -1,5 +1,5 @@
 -- What is doubtful of a plan that can be run: arithmetic on its settings (this project's profile).
-use Rattle.std.specs.Prelude.{ℕ, zero, suc, ◌+◌, ◌-◌, ◌*◌, ◌/◌, ◌≤◌, nat_lt, not, min, max, Bool, if◌then◌else◌, length, Option}
+use Rattle.std.specs.Prelude.{ℕ, zero, suc, ◌+◌, ◌-◌, ◌*◌, ◌/◌, nat_lt, not, min, max, Bool, if◌then◌else◌, length, Option}
 use Rattle.std.specs.Int.{abs_diff}
 use Rattle.std.specs.List.{position, sum_by}
 use Rattle.wl_clock.specs.Timing.{tick_of}

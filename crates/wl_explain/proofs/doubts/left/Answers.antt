@@ -1,4 +1,4 @@
-use Rattle.std.proofs.Common.{◌≡◌, ◌∙◌, ◌+◌, ◌-◌, ap, ap₂, ℕ, suc, min, arith}
+use Rattle.std.proofs.Common.{◌∙◌, ◌+◌, ◌-◌, ap, ap₂, ℕ, suc, min, arith}
 use Rattle.wl_plan.specs.declared.plan.Plan.{Plan}
 use Rattle.wl_explain.specs.Doubts.{borne, difference, left_below}
 use Rattle.wl_explain.proofs.doubts.left.Goals as goal

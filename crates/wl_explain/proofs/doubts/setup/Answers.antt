@@ -1,4 +1,4 @@
-use Rattle.std.proofs.Common.{◌≡◌, ◌∙◌, ap, List, get_or}
+use Rattle.std.proofs.Common.{◌∙◌, ap, List, get_or}
 use Rattle.std.proofs.lemmas.List.{get_or_default}
 use Rattle.wl_node.specs.declared.setup.NodeSetup.{NodeSetup}
 use Rattle.wl_plan.specs.PlanLine.{no_setup}
