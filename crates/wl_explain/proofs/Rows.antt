@@ -1,7 +1,7 @@
 -- Worked settings: 500 kbit/s and 1 Mbit/s as can-utils' can-calc-bit-timing proposes them, and the figures that it prints.
 use Rattle.std.proofs.Common.{◌≡◌, ℕ, Some, None, refl, arith}
 use Rattle.wl_segments.specs.Lengths.{Lengths}
-use Rattle.wl_explain.specs.Figures.{Ratio, ComesBack, quantum_of, picoseconds, bits_per_second, sample_point}
+use Rattle.wl_explain.specs.Figures.{Ratio, ComesBack, quantum_of, picoseconds, bits_per_second, sample_point, furthest_way, longest_cable, longest_trip, tolerance}
 
 abbrev half : Lengths
 half = record { prop = 6; ps1 = 7; ps2 = 2; sjw = 1 }
@@ -42,3 +42,22 @@ megabit_sampled = refl
 -- 25 m with 220 ns of transceivers: 345 ns; there and back and a quantum are 740 of the 750 ns up to the sample
 comes_back : ComesBack (ratio 50 1) whole 345
 comes_back = record { in_time = omega arith }
+
+megabit_way : furthest_way (ratio 50 1) whole ≡ 350
+megabit_way = refl
+
+megabit_cable : longest_cable 350 220 5 ≡ Some 26
+megabit_cable = refl
+
+no_cable : longest_cable 219 220 5 ≡ None
+no_cable = refl
+
+-- the values that `check` prints of these segments
+half_tolerance : tolerance half ≡ 3125
+half_tolerance = refl
+
+resonators : tolerance (record { prop = 7; ps1 = 4; ps2 = 4; sjw = 4 }) ≡ 9803
+resonators = refl
+
+megabit_trip : longest_trip (ratio 50 1) whole ≡ 700
+megabit_trip = refl

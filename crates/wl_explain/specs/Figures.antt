@@ -1,5 +1,6 @@
 -- What is read off a node's settings, in whole numbers. A tick is taken for a nanosecond.
-use Rattle.std.specs.Prelude.{ℕ, ◌+◌, ◌*◌, ◌/◌, ◌<◌, ◌≤◌, ◌||◌, ◌==◌, nat_lt, Option, Some, None, if◌then◌else◌}
+use Rattle.std.specs.Prelude.{ℕ, ◌+◌, ◌*◌, ◌-◌, ◌/◌, ◌<◌, ◌≤◌, ◌||◌, ◌==◌, nat_lt, min, Option, Some, None, if◌then◌else◌}
+use Rattle.wl_clock.specs.Timing.{Timing, tick_of}
 use Rattle.wl_segments.specs.Lengths.{Lengths, sample_at, bit_quanta}
 
 -- the most ticks that a quantum may take, and the largest denominator (this project's profile, as for a clock)
@@ -27,6 +28,10 @@ quantum_of num den =
     if den == 0 || nat_lt largest_den den || nat_lt num den || nat_lt (longest_quantum * den) num then None
     else Some (record { num = num; den = den })
 
+-- the mean of the first 1,000,000 quanta of a clock, in millionths of a tick: that of a clock with one rate in these units is its rate
+abbrev pub mean_quantum : Timing → Ratio
+mean_quantum t = record { num = tick_of t 1000000 - tick_of t 0; den = 1000000 }
+
 -- the length of a quantum in picoseconds, rounded down
 abbrev pub picoseconds : Ratio → ℕ
 picoseconds q = 1000 * q.num / q.den
@@ -43,3 +48,19 @@ sample_point l = 10000 * sample_at l / bit_quanta l
 -- the bit in which it set out (Bosch CAN 2.0 part B, section 10, PROP_SEG; the quantum: this project's profile)
 pub record ComesBack (q : Ratio) (l : Lengths) (way : ℕ) : Type 0 where
   pub in_time : 2 * way * q.den + q.num ≤ sample_at l * q.num
+
+-- the greatest such way
+abbrev pub furthest_way : Ratio → Lengths → ℕ
+furthest_way q l = (sample_at l - 1) * q.num / (2 * q.den)
+
+-- the most ticks that a level may be on its way there and back
+abbrev pub longest_trip : Ratio → Lengths → ℕ
+longest_trip q l = (sample_at l - 1) * q.num / q.den
+
+-- the greatest length that takes at most `way` ticks, where `ends` are the nodes' own and `per` go with each unit of length
+abbrev pub longest_cable : ℕ → ℕ → ℕ → Option ℕ
+longest_cable way ends per = if nat_lt way ends then None else Some ((way - ends) / per)
+
+-- the greatest deviation in parts per million that both oscillators of a pair may have with these segments (this project's profile)
+abbrev pub tolerance : Lengths → ℕ
+tolerance l = min (1000000 * min l.ps1 l.ps2 / (2 * (13 * bit_quanta l - l.ps2))) (1000000 * l.sjw / (20 * bit_quanta l))

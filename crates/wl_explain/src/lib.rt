@@ -1,14 +1,21 @@
-//! What an engineer reads off a node's settings: the length of a quantum, the bit rate, the sample point, and how far a level may go
-//! and still be back at the sample.
+//! What an engineer reads off a plan's settings: the length of a quantum, the bit rate, the sample point, how far a level may go and
+//! still be back at the sample, and what is doubtful of a plan that can be run.
 //!
 //! A tick is taken for a nanosecond. The rules are those of Bosch CAN 2.0 part B, section 10; that a level is seen up to a quantum
 //! after it came is this project's profile. The tolerance of an oscillator is `Segments::greatest_ppm`.
 #![tactic(auto)]
 
 ghost use Rattle.std.specs.Prelude.{◌≡◌, ℕ, ◌+◌, ◌*◌, ◌<◌, ◌≤◌, ◌↔◌, IfSome, None};
-ghost use Rattle.wl_explain.specs.Figures.{Ratio, IsQuantum, quantum_of, picoseconds, bits_per_second, sample_point, ComesBack};
+ghost use Rattle.wl_explain.specs.Figures.{Ratio, IsQuantum, quantum_of, picoseconds, bits_per_second, sample_point, ComesBack, furthest_way, longest_cable, longest_trip, mean_quantum, tolerance};
 
+mod doubts;
+
+pub use doubts::{
+    borne, difference, first_early, first_late, has_no_room, idle_from, left, longest_round,
+    queued_bits, round_trip, wanted_bits,
+};
 use std::marker::Model;
+use wl_clock::Clock;
 use wl_segments::Segments;
 
 /// The most ticks that a quantum may take.
@@ -16,6 +23,8 @@ const LONGEST_QUANTUM: u64 = 1_048_576;
 
 /// The largest denominator of a quantum's ticks.
 const LARGEST_DEN: u64 = 1_000_000;
+
+const MILLION: u64 = 1_000_000;
 
 /// A quantum of `num / den` ticks, from 1 to 1,048,576.
 #[derive(Clone, Copy, Debug, PartialEq, Eq)]
@@ -44,6 +53,15 @@ impl Quantum {
             return None;
         }
         Some(Quantum { num, den })
+    }
+
+    /// The mean of a clock's first 1,000,000 quanta, in millionths of a tick.
+    pub fn of_clock(clock: &Clock) -> Quantum
+        ensures { result ≡ mean_quantum clock.now }
+    {
+        wl_clock::ticks_increase();
+        let num = clock.at(MILLION) - clock.at(0);
+        Quantum { num, den: MILLION }
     }
 
     /// The numerator of its ticks.
@@ -81,8 +99,17 @@ impl Quantum {
     pub fn furthest_way(&self, segments: &Segments) -> u64
         ensures reached { ComesBack self.now segments.now result }
         ensures furthest { (way : ℕ) → ComesBack self.now segments.now way → way ≤ result }
+        ensures value { result ≡ furthest_way self.now segments.now }
     {
         (segments.sample_at() - 1) * self.num() / (2 * self.den())
+    }
+
+    /// The most ticks that a level may take to another node and back, with which it, seen up to a quantum later, is there at the sample
+    /// of the bit in which it set out.
+    pub fn longest_trip(&self, segments: &Segments) -> u64
+        ensures { result ≡ longest_trip self.now segments.now }
+    {
+        (segments.sample_at() - 1) * self.num() / self.den()
     }
 }
 
@@ -93,6 +120,13 @@ pub fn sample_point(segments: &Segments) -> u64
     10_000 * segments.sample_at() / segments.bit_quanta()
 }
 
+/// The greatest deviation in parts per million that both oscillators of a pair may have with these segments, as a number.
+pub fn tolerance(segments: &Segments) -> u32
+    ensures { result ≡ tolerance segments.now }
+{
+    segments.greatest_ppm()
+}
+
 /// The greatest length of a cable, in its units, that takes at most `way` ticks where `ends` of them are out of the one node and into the
 /// other and `per` go with each unit; `None` where the nodes' own are too many for any cable.
 pub fn longest_cable(way: u64, ends: u64, per: u64) -> Option<u64>
@@ -100,6 +134,7 @@ pub fn longest_cable(way: u64, ends: u64, per: u64) -> Option<u64>
     ensures reached { IfSome result (λ length. ends + length * per ≤ way) }
     ensures longest { IfSome result (λ length. (x : ℕ) → ends + x * per ≤ way → x ≤ length) }
     ensures none { (result ≡ None) ↔ (way < ends) }
+    ensures value { result ≡ longest_cable way ends per }
 {
     if way < ends {
         return None;

@@ -1,0 +1,50 @@
+-- Two nodes and their doubts, computed: 500 kbit/s by quanta of 125 ns, and the same 2 % slow.
+use Rattle.std.proofs.Common.{◌≡◌, ℕ, Bool, true, false, List, [], ◌∷◌, refl}
+use Rattle.wl_clock.specs.Timing.{tick_of}
+use Rattle.wl_frame.specs.Grammar.{Content}
+use Rattle.wl_node.specs.declared.setup.NodeSetup.{NodeSetup}
+use Rattle.wl_explain.specs.Doubts.{frame_bits, difference, borne, longest_round, idle_at, begins_before}
+
+abbrev node : ℕ → ℕ → NodeSetup
+node offset num = record {
+  clock = record { offset = offset; rates = record { from = 0; num = num; den = 1000 } ∷ [] };
+  segments = record { prop = 8; ps1 = 4; ps2 = 3; sjw = 2 };
+  queue = [];
+}
+
+abbrev content : Bool → List ℕ → Content
+content extended bytes = record { extended = extended; id = 1; remote = false; dlc = 2; bytes = bytes }
+
+-- by hand, from the fields of a frame
+base : frame_bits (content false (1 ∷ 2 ∷ [])) ≡ 63
+base = refl
+
+extended : frame_bits (content true []) ≡ 67
+extended = refl
+
+slow : difference (node 0 125000) (node 700 127500) ≡ 20000
+unfolding tick_of
+slow = refl
+
+alike : difference (node 0 125000) (node 700 125000) ≡ 0
+unfolding tick_of
+alike = refl
+
+bear : borne (node 0 125000) (node 0 127500) ≡ 12500
+bear = refl
+
+round : longest_round (node 0 125000) (node 0 127500) ≡ 1500
+unfolding tick_of
+round = refl
+
+idle : idle_at (node 777 125000) ≡ 22777
+unfolding tick_of
+idle = refl
+
+before : begins_before (node 777 125000) 176 22778 ≡ true
+unfolding tick_of
+before = refl
+
+at_it : begins_before (node 777 125000) 176 22777 ≡ false
+unfolding tick_of
+at_it = refl

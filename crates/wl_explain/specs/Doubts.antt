@@ -1,0 +1,93 @@
+-- What is doubtful of a plan that can be run: arithmetic on its settings (this project's profile).
+use Rattle.std.specs.Prelude.{ℕ, zero, suc, ◌+◌, ◌-◌, ◌*◌, ◌/◌, nat_lt, not, min, max, Bool, if◌then◌else◌, length, Option}
+use Rattle.std.specs.Int.{abs_diff}
+use Rattle.std.specs.List.{position, sum_by}
+use Rattle.wl_clock.specs.Timing.{tick_of}
+use Rattle.wl_segments.specs.Lengths.{bit_quanta}
+use Rattle.wl_topology.specs.Delays.{delay_of}
+use Rattle.wl_frame.specs.Grammar.{Content}
+use Rattle.wl_node.specs.declared.setup.NodeSetup.{NodeSetup}
+use Rattle.wl_plan.specs.declared.plan.Plan.{Plan}
+use Rattle.wl_plan.specs.PlanLine.{setup_at}
+use Rattle.wl_explain.specs.Figures.{mean_quantum, longest_trip, tolerance}
+
+-- the length of a node's bit, in millionths of a tick
+abbrev pub bit_length : NodeSetup → ℕ
+bit_length s = bit_quanta s.segments * (mean_quantum s.clock).num
+
+-- by how many millionths of the shorter of two bits the longer one is longer, rounded down
+abbrev pub difference : NodeSetup → NodeSetup → ℕ
+difference s u = 1000000 * abs_diff (bit_length s) (bit_length u) / min (bit_length s) (bit_length u)
+
+-- by how many they may differ: each of the two by what the segments of both bear
+abbrev pub borne : NodeSetup → NodeSetup → ℕ
+borne s u = 2 * min (tolerance s.segments) (tolerance u.segments)
+
+-- clocks of one nominal bit rate that differ by more than this are refused: each deviates by a tenth at most
+abbrev pub unlike : ℕ
+unlike = 222222
+
+-- what the clocks of all others leave of what the clocks of node i and each of them may differ by
+abbrev pub left_below : Plan → ℕ → ℕ → ℕ
+left_below plan i zero = 2 * tolerance (setup_at plan i).segments
+left_below plan i (suc j) =
+    min (left_below plan i j) (borne (setup_at plan i) (setup_at plan j) - difference (setup_at plan i) (setup_at plan j))
+
+abbrev pub left : Plan → ℕ → ℕ
+left plan i = left_below plan i (length plan.topology.places)
+
+-- from node i to node j and back, in ticks
+abbrev pub round_trip : Plan → ℕ → ℕ → ℕ
+round_trip plan i j = delay_of plan.topology i j + delay_of plan.topology j i
+
+-- the longest that is back, with a quantum, at the earlier of the two samples
+abbrev pub longest_round : NodeSetup → NodeSetup → ℕ
+longest_round s u = min (longest_trip (mean_quantum s.clock) s.segments) (longest_trip (mean_quantum u.clock) u.segments)
+
+-- the bits of a frame without stuff bits, and three of intermission (Bosch CAN 2.0 part B, section 3.1)
+abbrev pub frame_bits : Content → ℕ
+frame_bits c = (if c.extended then 67 else 47) + 8 * length c.bytes
+
+-- those of all frames that wait at a node
+abbrev pub queue_bits : NodeSetup → ℕ
+queue_bits s = sum_by (λ w. frame_bits w.frame) s.queue
+
+-- and at the nodes below a number
+abbrev pub bits_below : Plan → ℕ → ℕ
+bits_below plan zero = 0
+bits_below plan (suc j) = bits_below plan j + queue_bits (setup_at plan j)
+
+abbrev pub queued_bits : Plan → ℕ
+queued_bits plan = bits_below plan (length plan.topology.places)
+
+-- the tick at which a node has counted the 11 bits that it waits for (Bosch CAN 2.0 part B, section 9)
+abbrev pub idle_at : NodeSetup → ℕ
+idle_at s = tick_of s.clock (11 * bit_quanta s.segments)
+
+-- that at which each of the nodes below a number has
+abbrev pub idle_below : Plan → ℕ → ℕ
+idle_below plan zero = 0
+idle_below plan (suc j) = max (idle_below plan j) (idle_at (setup_at plan j))
+
+abbrev pub idle_from : Plan → ℕ
+idle_from plan = idle_below plan (length plan.topology.places)
+
+-- quantum k of a node begins before a tick
+abbrev pub begins_before : NodeSetup → ℕ → ℕ → Bool
+begins_before s k t = nat_lt (tick_of s.clock k) t
+
+-- the number of the first frame of a node that becomes ready before a tick, and of the first that does so there or later
+abbrev pub first_early : ℕ → NodeSetup → Option ℕ
+first_early t s = position (λ w. begins_before s w.ready t) s.queue
+
+abbrev pub first_late : ℕ → NodeSetup → Option ℕ
+first_late t s = position (λ w. not (begins_before s w.ready t)) s.queue
+
+-- the bits that the frames of all nodes take at least, with the 11 in front of them
+abbrev pub wanted_bits : Plan → ℕ
+wanted_bits plan = 11 + queued_bits plan
+
+-- these bits of node 0 last beyond the end
+abbrev pub has_no_room : Plan → Bool
+has_no_room plan =
+    not (begins_before (setup_at plan 0) (wanted_bits plan * bit_quanta (setup_at plan 0).segments) (plan.end + 1))

@@ -1,0 +1,187 @@
+//! What is doubtful of a plan that can be run, as numbers.
+ghost use Rattle.std.specs.Prelude.{◌≡◌, ◌+◌, ◌*◌, ◌^◌, ◌<◌, ◌≤◌, nat_lt, length};
+ghost use Rattle.wl_clock.specs.Timing.{tick_of};
+ghost use Rattle.wl_plan.specs.Checked.{IsChecked};
+ghost use Rattle.wl_plan.specs.PlanLine.{setup_at};
+ghost use Rattle.wl_explain.specs.Doubts.{begins_before, bit_length, borne, difference, first_early, first_late, frame_bits, has_no_room, idle_at, idle_from, left, longest_round, queue_bits, queued_bits, round_trip, wanted_bits};
+
+use crate::{Quantum, tolerance};
+use wl_frame::frame::Frame;
+use wl_node::NodeSetup;
+use wl_plan::Plan;
+
+/// Node `i` of a plan.
+fn setup(plan: &Plan, i: u8) -> &NodeSetup
+    requires { i < length plan.now.nodes }
+    ensures { result.now ≡ setup_at plan.now i }
+{
+    let nodes = plan.nodes.as_slice();
+    let place = i as usize;
+    &nodes[place]
+}
+
+/// The length of a node's bit, in millionths of a tick.
+fn bit_length(node: &NodeSetup) -> u128
+    ensures value { result ≡ bit_length node.now }
+    ensures some { 0 < result }
+    ensures most { result < 2 ^ 60 }
+{
+    let quanta = node.segments.bit_quanta();
+    quanta as u128 * Quantum::of_clock(&node.clock).num() as u128
+}
+
+/// By how many millionths of the shorter of two nodes' bits the longer one is longer, rounded down.
+pub fn difference(one: &NodeSetup, other: &NodeSetup) -> u128
+    ensures { result ≡ difference one.now other.now }
+{
+    let first = bit_length(one);
+    let second = bit_length(other);
+    1_000_000 * first.abs_diff(second) / first.min(second)
+}
+
+/// By how many parts per million the bits of two nodes may differ: each by what the segments of both bear.
+pub fn borne(one: &NodeSetup, other: &NodeSetup) -> u128
+    ensures { result ≡ borne one.now other.now }
+{
+    2 * tolerance(&one.segments).min(tolerance(&other.segments)) as u128
+}
+
+/// What the clocks of all others leave of what the clocks of node `i` and each of them may differ by, in parts per million.
+pub fn left(plan: &Plan, i: u8) -> u128
+    requires checked { IsChecked plan.now }
+    requires node { i < length plan.now.nodes }
+    ensures { result ≡ left plan.now i }
+{
+    let node = setup(plan, i);
+    let mut left = 2 * tolerance(&node.segments) as u128;
+    for j in 0..plan.topology.nodes() {
+        let other = setup(plan, j);
+        left = left.min(borne(node, other).saturating_sub(difference(node, other)));
+    }
+    left
+}
+
+/// How many ticks a level takes from node `i` to node `j` and back.
+pub fn round_trip(plan: &Plan, i: u8, j: u8) -> u64
+    requires from { i < length plan.now.topology.places }
+    requires to { j < length plan.now.topology.places }
+    ensures { result ≡ round_trip plan.now i j }
+{
+    plan.topology.delay(i, j) + plan.topology.delay(j, i)
+}
+
+/// The most ticks there and back with which a level is there at the earlier sample of two nodes.
+pub fn longest_round(one: &NodeSetup, other: &NodeSetup) -> u64
+    ensures { result ≡ longest_round one.now other.now }
+{
+    let first = Quantum::of_clock(&one.clock).longest_trip(&one.segments);
+    let second = Quantum::of_clock(&other.clock).longest_trip(&other.segments);
+    first.min(second)
+}
+
+/// The bits of a frame without stuff bits, and three of intermission.
+fn frame_bits(frame: &Frame) -> u128
+    ensures value { result ≡ frame_bits frame.now }
+    ensures few { result ≤ 131 }
+{
+    let own = if frame.is_extended() { 67 } else { 47 };
+    own + 8 * frame.bytes().len() as u128
+}
+
+/// Those of all frames that wait at a node.
+fn queue_bits(node: &NodeSetup) -> u128
+    ensures value { result ≡ queue_bits node.now }
+    ensures few { result < 2 ^ 80 }
+{
+    let mut bits = 0;
+    // the frames are fewer than 2^64
+    let _ = node.queue.len();
+    for waiting in node.queue.as_slice() {
+        bits += frame_bits(&waiting.frame);
+    }
+    bits
+}
+
+/// The least bits of the frames of all nodes, with three of intermission behind each.
+pub fn queued_bits(plan: &Plan) -> u128
+    requires { IsChecked plan.now }
+    ensures value { result ≡ queued_bits plan.now }
+    ensures few { result < 2 ^ 90 }
+{
+    let mut bits = 0;
+    for j in 0..plan.topology.nodes() {
+        bits += queue_bits(setup(plan, j));
+    }
+    bits
+}
+
+/// The least bits that the frames of all nodes take, with the 11 in front of them.
+pub fn wanted_bits(plan: &Plan) -> u128
+    requires { IsChecked plan.now }
+    ensures value { result ≡ wanted_bits plan.now }
+    ensures few { result < 2 ^ 91 }
+{
+    11 + queued_bits(plan)
+}
+
+/// The tick at which a node has counted the 11 bits that it waits for (Bosch CAN 2.0 part B, section 9).
+fn idle_at(node: &NodeSetup) -> u64
+    ensures value { result ≡ idle_at node.now }
+    ensures soon { result < 2 ^ 40 }
+{
+    node.clock.at(11 * node.segments.bit_quanta())
+}
+
+/// The tick from which on all nodes can be idle.
+pub fn idle_from(plan: &Plan) -> u64
+    requires { IsChecked plan.now }
+    ensures value { result ≡ idle_from plan.now }
+    ensures soon { result < 2 ^ 40 }
+{
+    let mut latest = 0;
+    for j in 0..plan.topology.nodes() {
+        latest = latest.max(idle_at(setup(plan, j)));
+    }
+    latest
+}
+
+/// Whether quantum `k` of a node begins before tick `t`.
+fn begins_before(node: &NodeSetup, k: u128, t: u64) -> bool
+    requires { t < 2 ^ 48 }
+    ensures { result ≡ begins_before node.now k t }
+{
+    wl_clock::ticks_increase();
+    node.clock.first_not_before(t) as u128 > k
+}
+
+/// The number of the first frame of a node that becomes ready before tick `t`.
+pub fn first_early(t: u64, node: &NodeSetup) -> Option<usize>
+    requires { t < 2 ^ 48 }
+    ensures { result ≡ first_early t node.now }
+{
+    node.queue
+        .as_slice()
+        .iter()
+        .position(|waiting| begins_before(node, waiting.ready as u128, t))
+}
+
+/// The number of the first frame of a node that becomes ready at tick `t` or later.
+pub fn first_late(t: u64, node: &NodeSetup) -> Option<usize>
+    requires { t < 2 ^ 48 }
+    ensures { result ≡ first_late t node.now }
+{
+    node.queue
+        .as_slice()
+        .iter()
+        .position(|waiting| !begins_before(node, waiting.ready as u128, t))
+}
+
+/// Whether the bits that the frames of all nodes take at least, and 11 in front of them, last beyond the end by the clock of node 0.
+pub fn has_no_room(plan: &Plan) -> bool
+    requires { IsChecked plan.now }
+    ensures { result ≡ has_no_room plan.now }
+{
+    let node = setup(plan, 0);
+    let quanta = wanted_bits(plan) * node.segments.bit_quanta() as u128;
+    !begins_before(node, quanta, plan.end + 1)
+}
