@@ -102,7 +102,7 @@ fn queue_bits(node: &NodeSetup) -> u128
     bits
 }
 
-/// The least bits of the frames of all nodes, with three of intermission behind each.
+/// The least bits of the frames of all nodes, with three of intermission after each.
 pub fn queued_bits(plan: &Plan) -> u128
     requires { IsChecked plan.now }
     ensures value { result ≡ queued_bits plan.now }
