@@ -1,6 +1,7 @@
 mod Fits
 mod Given
 mod Named
+mod Shares
 mod Steps
 mod Told
 mod Took

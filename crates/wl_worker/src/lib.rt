@@ -3,13 +3,18 @@
 
 mod bell;
 mod coming;
+mod crew;
 mod hub_link;
 mod link;
+mod over_hub;
+mod share;
 mod shared;
 mod turns;
 
 pub use bell::{Bell, MOST_WORKERS};
+pub use crew::simulate_over;
 pub use hub_link::HubLink;
 pub use link::{Fault, Gate, Link, LinkFault};
+pub use over_hub::simulate;
 pub use shared::{PlanName, shape_of_plan};
 pub use turns::work;

@@ -43,6 +43,27 @@ pub enum Fault {
     Worker(u8),
 }
 
+impl Fault {
+    // The place in the order of faults; workers by their numbers.
+    fn rank(self) -> u16 {
+        match self {
+            Fault::Workers => 0,
+            Fault::Memory => 1,
+            Fault::Foreign => 2,
+            Fault::Worker(worker) => 3 + u16::from(worker),
+        }
+    }
+
+    /// The first of two faults, by their order, and then by worker.
+    pub(crate) fn or_lower(self, other: Fault) -> Fault {
+        if other.rank() < self.rank() {
+            other
+        } else {
+            self
+        }
+    }
+}
+
 impl From<AllocError> for Fault {
     fn from(_: AllocError) -> Fault {
         Fault::Memory

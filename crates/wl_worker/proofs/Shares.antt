@@ -1,0 +1,94 @@
+-- The members of a worker, what a worker comes to, and what all of them come to.
+use Rattle.std.proofs.Common.{◌≡◌, ℕ, ◌+◌, ◌<◌, ◌≤◌, ◌%◌, ◌==◌, ◌||◌, Bool, true, false, All, Result, Ok, Err, IfOk, List, [], ◌∷◌, ◌++◌, length, map, refl, sym, ap, subst, ◌∙◌, arith, zero-add, slice_index_or, below_more}
+use Rattle.std.specs.List.{range_with_len}
+use Rattle.std.proofs.lemmas.Bool.Decides.{nat_tests}
+use Rattle.std.proofs.lemmas.List.Elements.{All-append, All-cons, All-nil}
+use Rattle.std.proofs.lemmas.List.Folds.{list_any-append}
+use Rattle.std.proofs.lemmas.List.{get_or_append_left, get_or_push}
+use Rattle.std.proofs.lemmas.List.FromFn.{map-range_with_len_more}
+use Rattle.wl_node.specs.declared.setup.NodeSetup.{NodeSetup}
+use Rattle.wl_node.specs.History.{history_of}
+use Rattle.wl_plan.specs.declared.plan.Plan.{Plan}
+use Rattle.wl_plan.specs.PlanLine.{setup_at, line_of, table_of}
+use Rattle.wl_plan.specs.Checked.{CheckedIsSound}
+use Rattle.wl_group.specs.Member.{next_tick}
+use Rattle.wl_group.specs.GroupLaws.{GroupLaws}
+use Rattle.wl_group.specs.GroupValue.{GroupValue, IsGroupValue, members_now, belongs, names}
+use Rattle.wl_serial.specs.declared.outcome.NodeOutcome.{NodeOutcome}
+use Rattle.wl_serial.specs.Outcome.{told_of, node_outcome_of}
+use Rattle.wl_worker.specs.Finished.{HasFinished}
+use Rattle.wl_worker.specs.Shares.{IsShare, IsDone}
+
+-- ---- members
+
+or_first : (b c : Bool) → b ≡ true → (b || c) ≡ true
+or_first b c e = ap (λ x. x || c) e
+
+or_second : (b c : Bool) → c ≡ true → (b || c) ≡ true
+or_second true c e = refl
+or_second false c e = e
+
+pub names_more : (xs ys : List ℕ) (i k : ℕ) → ys ≡ xs ++ i ∷ [] → names xs k ≡ true → names ys k ≡ true
+names_more xs ys i k e h = ap (λ zs. names zs k) e ∙ (list_any-append (λ m. m == k) xs (i ∷ []) ∙ or_first (names xs k) (names (i ∷ []) k) h)
+
+pub names_new : (xs ys : List ℕ) (i : ℕ) → ys ≡ xs ++ i ∷ [] → names ys i ≡ true
+names_new xs ys i e =
+    let same : (i == i) ≡ true = grind (arith, nat_tests) in
+    ap (λ zs. names zs i) e ∙ (list_any-append (λ m. m == i) xs (i ∷ []) ∙ or_second (names xs i) (names (i ∷ []) i) (or_first (i == i) false same))
+
+pub below_pushed : (xs ys : List ℕ) (i n : ℕ) → ys ≡ xs ++ i ∷ [] → i < n → All (λ m. m < n) xs → All (λ m. m < n) ys
+below_pushed xs ys i n e b h =
+    subst (All (λ m. m < n)) (sym e) (All-append (λ m. m < n) xs (i ∷ []) h (All-cons (λ m. m < n) i [] b (All-nil (λ m. m < n))))
+
+pub share_is : (plan : Plan) (workers worker n : ℕ) (g : GroupValue) (ms xs : List ℕ) → n ≡ length plan.nodes → xs ≡ ms → g.plan ≡ plan → belongs g ≡ names xs
+    → ((i : ℕ) → i < n → i % workers ≡ worker → names ms i ≡ true) → IsShare plan workers worker g
+share_is plan workers worker n g ms xs count same plan_is members all = record {
+  plan_is = plan_is;
+  members = λ i b e. ap (λ f. f i) members ∙ (ap (λ ys. names ys i) same ∙ all i (omega arith) e);
+}
+
+-- ---- what a worker comes to
+
+pub done_is : (plan : Plan) (workers worker : ℕ) (old new : GroupValue) → IsShare plan workers worker old → HasFinished old new → IsDone plan workers worker new
+done_is plan workers worker old new s f = record {
+  share = record { plan_is = f.plan ∙ s.plan_is; members = λ i b e. ap (λ has. has i) f.members ∙ s.members i b e };
+  ended = f.ended;
+}
+
+pub ok_as : {A E : Type 0} (r : Result A E) (P Q : A → Type 0) → ((x : A) → P x → Q x) → IfOk r P → IfOk r Q
+ok_as (Ok x) P Q f p = f x p
+ok_as (Err e) P Q f p = tt
+
+pub both_ok : {A E : Type 0} (r : Result A E) (P Q S : A → Type 0) → ((x : A) → P x → Q x → S x) → IfOk r P → IfOk r Q → IfOk r S
+both_ok (Ok x) P Q S f p q = f x p q
+both_ok (Err e) P Q S f p q = tt
+
+-- ---- what all come to
+
+-- a member at the end has seen all that its node sees in the one-thread simulation, and has made all its changes
+pub outcome_here : GroupLaws → CheckedIsSound → (g : GroupValue) → IsGroupValue g → (i : ℕ) → i < length g.plan.nodes → belongs g i ≡ true → g.plan.end ≤ next_tick (line_of g.plan) i (members_now g i)
+    → (setup : NodeSetup) → setup ≡ setup_at g.plan i → (changes : List ℕ) → changes ≡ table_of g.plan i
+    → (told : NodeOutcome) → told ≡ told_of setup changes (history_of setup (members_now g i).saw) → told ≡ node_outcome_of g.plan i
+outcome_here groups sounds g is i b m late setup e changes f told t =
+    let all = groups.member_ended (line_of g.plan) (sounds g.plan is.checked) i (members_now g i) _ b (is.holds.each i b m) late in
+    t
+    ∙ (ap (λ x. told_of x changes (history_of x (members_now g i).saw)) e
+    ∙ (ap (λ cs. told_of (setup_at g.plan i) cs (history_of (setup_at g.plan i) (members_now g i).saw)) f
+    ∙ ap (λ saw. told_of (setup_at g.plan i) (table_of g.plan i) (history_of (setup_at g.plan i) saw)) all.0))
+
+-- one node more, behind the others
+pub outcome_more : (plan : Plan) (n : ℕ) (list more : List NodeOutcome) (x : NodeOutcome) → more ≡ list ++ x ∷ [] → list ≡ map (node_outcome_of plan) (range_with_len 0 n) → x ≡ node_outcome_of plan n
+    → more ≡ map (node_outcome_of plan) (range_with_len 0 (n + 1))
+outcome_more plan n list more x e p q =
+    e ∙ (ap (λ l. l ++ x ∷ []) p ∙ (ap (λ y. map (node_outcome_of plan) (range_with_len 0 n) ++ y ∷ []) q ∙ sym (map-range_with_len_more (node_outcome_of plan) 0 n n (zero-add n))))
+
+-- ---- one more of a list
+
+-- what holds of each at its place holds of them and of one more behind them
+pub one_behind : {X : Type 0} (xs ys : List X) (y : X) (n : ℕ) (Q : ℕ → X → Type 0) → ys ≡ xs ++ y ∷ [] → length xs ≡ n
+    → ((k : ℕ) (d : X) → k < n → Q k (slice_index_or xs k d)) → Q n y → (k : ℕ) (d : X) → k < n + 1 → Q k (slice_index_or ys k d)
+one_behind {X} xs ys y n Q e len h q k d b =
+    below_more (λ j. (u : X) → Q j (slice_index_or ys j u)) n
+    (λ j low u. subst (λ (zs : List X). Q j (slice_index_or zs j u)) (sym e) (subst (Q j) (sym (get_or_append_left xs (y ∷ []) u j (omega arith))) (h j u low)))
+    (λ u. subst (λ (zs : List X). Q n (slice_index_or zs n u)) (sym e) (subst (Q n) (sym (get_or_push xs y u n len)) q))
+    k b d

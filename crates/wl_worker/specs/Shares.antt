@@ -1,0 +1,31 @@
+-- Which nodes a worker has, and what its thread promises. This project's profile.
+use Rattle.std.specs.Prelude.{◌≡◌, ℕ, ◌<◌, ◌%◌, List, length, true, Result, IfOk, slice_index_or}
+use Rattle.wl_plan.specs.declared.plan.Plan.{Plan}
+use Rattle.wl_group.specs.GroupValue.{GroupValue, belongs}
+use Rattle.wl_worker.specs.declared.link.Fault.{Fault}
+use Rattle.wl_worker.specs.declared.crew.OfShare.{OfShare}
+use Rattle.wl_worker.specs.Finished.{MembersEnded}
+
+-- the group of a worker has the nodes of the plan whose number leaves the worker's, divided by the number of workers
+pub record IsShare (plan : Plan) (workers worker : ℕ) (g : GroupValue) : Type 0 where
+  pub plan_is : g.plan ≡ plan
+  pub members : (i : ℕ) → i < length plan.nodes → i % workers ≡ worker → belongs g i ≡ true
+
+-- and has come to the end
+pub record IsDone (plan : Plan) (workers worker : ℕ) (g : GroupValue) : Type 0 where
+  pub share : IsShare plan workers worker g
+  pub ended : MembersEnded g
+
+-- what a worker's thread promises
+abbrev pub KeepsPromise : OfShare → Result GroupValue Fault → Type 0
+KeepsPromise p r = IfOk r (IsDone p.plan.value p.workers p.worker)
+
+-- the promise of this worker
+pub record IsPromise (plan : Plan) (workers worker : ℕ) (p : OfShare) : Type 0 where
+  pub plan_is : p.plan.value ≡ plan
+  pub workers_are : p.workers ≡ workers
+  pub worker_is : p.worker ≡ worker
+
+-- what the threads of all workers came to, in order
+abbrev pub EndsKept : Plan → ℕ → List (Result GroupValue Fault) → Type 0
+EndsKept plan workers ends = (w : ℕ) (d : Result GroupValue Fault) → w < workers → IfOk (slice_index_or ends w d) (IsDone plan workers w)

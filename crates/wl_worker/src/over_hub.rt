@@ -1,0 +1,68 @@
+//! All workers of a plan over one hub.
+ghost use Rattle.std.specs.Prelude.{◌≡◌, ◌<◌, ◌⊎◌, All, Err, IfOk, vec_len};
+ghost use Rattle.wl_hub.specs.Passes.{IsPassOf};
+ghost use Rattle.wl_plan.specs.declared.plan.Plan.{Plan as GivenPlan};
+ghost use Rattle.wl_plan.specs.Checked.{IsChecked};
+ghost use Rattle.wl_serial.specs.Outcome.{outcome_of};
+ghost use Rattle.wl_worker.specs.Shared.{IsOfPlan};
+
+use crate::bell::{Bell, MOST_WORKERS};
+use crate::crew::simulate_over;
+use crate::hub_link::HubLink;
+use crate::link::{Fault, Gate};
+use crate::shared::{PlanName, shape_of_plan};
+use std::alloc::{AllocError, Global};
+use std::sync::Wait;
+use std::thread::Threads;
+use wl_hub::{Hub, Pass};
+use wl_plan::Plan;
+use wl_serial::Outcome;
+
+/// What the one-thread simulation of a plan comes to, by so many workers over one hub. Its refusals are those of `simulate_over`.
+pub fn simulate<R: Threads + Wait + Sync, G: Gate + Sync>(
+    rt: &R,
+    alloc: Global,
+    plan: Plan,
+    workers: u8,
+    gate: &G,
+) -> Result<Outcome, Fault>
+    requires { IsChecked plan }
+    ensures outcome { IfOk result (λ outcome. outcome ≡ outcome_of plan) }
+    ensures workers { (workers ≡ 0) ⊎ (8 < workers) → result ≡ Err Fault.Workers }
+{
+    if workers == 0 || usize::from(workers) > MOST_WORKERS {
+        return Err(Fault::Workers);
+    }
+    let shape = shape_of_plan(alloc, &plan)?;
+    let name = PlanName {
+        plan: plan.clone_in(alloc)?,
+    };
+    let (hub, pass) = Hub::start(alloc, shape.as_slice(), &name)?;
+    let bell = Bell::new(alloc, workers)?;
+    let links = hub_links(rt, alloc, &hub, pass, &bell, workers)?;
+    simulate_over(rt, alloc, plan, links, gate)
+}
+
+/// A link for each worker, over a pass of its own.
+fn hub_links<'h, R: Wait>(
+    rt: &'h R,
+    alloc: Global,
+    hub: &'h Hub<PlanName>,
+    pass: Pass<PlanName>,
+    bell: &'h Bell,
+    workers: u8,
+) -> Result<Vec<HubLink<'h, R>>, AllocError>
+    requires { IsPassOf hub.now pass }
+    ensures count { IfOk result (λ links. vec_len links ≡ workers) }
+    ensures of { IfOk result (λ links. (plan : GivenPlan) → IsOfPlan hub.now pass plan
+        → All (λ link. IsOfPlan link.hub.now link.pass plan) links.items) }
+{
+    let mut pass = pass;
+    let mut links = Vec::with_capacity(alloc, usize::from(workers))?;
+    for worker in 0..workers {
+        let own = hub.split(&mut pass);
+        let link = HubLink::new(rt, alloc, hub, own, bell, worker)?;
+        links.push_reserved(link);
+    }
+    Ok(links)
+}

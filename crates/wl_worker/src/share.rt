@@ -1,0 +1,50 @@
+//! The nodes of a worker.
+ghost use Rattle.std.specs.Prelude.{◌≡◌, ◌<◌, ◌%◌, ℕ, true, All, IfOk, OnOk, length};
+ghost use Rattle.wl_plan.specs.Checked.{IsChecked};
+ghost use Rattle.wl_group.specs.GroupValue.{names};
+ghost use Rattle.wl_worker.specs.Shares.{IsShare};
+
+use std::alloc::{AllocError, Global};
+use wl_group::Group;
+use wl_plan::Plan;
+
+/// The group of a worker, before its first quanta: the nodes `i` with `i` mod `workers` equal to `worker`.
+pub(crate) fn share_of(
+    alloc: Global,
+    plan: &Plan,
+    workers: u8,
+    worker: u8,
+) -> Result<Group, AllocError>
+    requires checked { IsChecked plan.now }
+    requires worker { worker < workers }
+    ensures { IfOk result (IsShare plan.now workers worker) }
+{
+    let members = members_of(alloc, plan.topology.nodes(), workers, worker)?;
+    Group::new(alloc, plan, members.as_slice())
+}
+
+/// Its numbers, of so many nodes.
+fn members_of(alloc: Global, nodes: u8, workers: u8, worker: u8) -> Result<Vec<u8>, AllocError>
+    requires { worker < workers }
+    ensures below { IfOk result (λ members. All (λ m. m < nodes) members.items) }
+    ensures all { IfOk result (λ members. (i : ℕ) → i < nodes → i % workers ≡ worker
+        → names members.items i ≡ true) }
+{
+    let mut members = Vec::new(alloc);
+    for i in 0..nodes {
+        add_member(&mut members, i, i % workers == worker)?;
+    }
+    Ok(members)
+}
+
+/// One number more, if it is wanted.
+fn add_member(members: &mut Vec<u8>, i: u8, wanted: bool) -> Result<(), AllocError>
+    ensures below { OnOk result ((n : ℕ) → i < n → All (λ m. m < n) members.old.items → All (λ m. m < n) members.new.items) }
+    ensures kept { OnOk result ((k : ℕ) → names members.old.items k ≡ true → names members.new.items k ≡ true) }
+    ensures new { OnOk result (wanted ≡ true → names members.new.items i ≡ true) }
+{
+    if wanted {
+        members.push(i)?;
+    }
+    Ok(())
+}
