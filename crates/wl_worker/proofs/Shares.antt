@@ -15,7 +15,7 @@ use Rattle.wl_group.specs.Member.{next_tick}
 use Rattle.wl_group.specs.GroupLaws.{GroupLaws}
 use Rattle.wl_group.specs.GroupValue.{GroupValue, IsGroupValue, members_now, belongs, names}
 use Rattle.wl_serial.specs.declared.outcome.NodeOutcome.{NodeOutcome}
-use Rattle.wl_serial.specs.Outcome.{told_of, node_outcome_of}
+use Rattle.wl_serial.specs.Outcome.{outcome_of_history, node_outcome_of}
 use Rattle.wl_worker.specs.Finished.{HasFinished}
 use Rattle.wl_worker.specs.Shares.{IsShare, IsDone}
 
@@ -68,15 +68,15 @@ both_ok (Err e) P Q S f p q = tt
 -- a member at the end has seen all that its node sees in the one-thread simulation, and has made all its changes
 pub outcome_here : GroupLaws → CheckedIsSound → (g : GroupValue) → IsGroupValue g → (i : ℕ) → i < length g.plan.nodes → belongs g i ≡ true → g.plan.end ≤ next_tick (line_of g.plan) i (members_now g i)
     → (setup : NodeSetup) → setup ≡ setup_at g.plan i → (changes : List ℕ) → changes ≡ table_of g.plan i
-    → (told : NodeOutcome) → told ≡ told_of setup changes (history_of setup (members_now g i).saw) → told ≡ node_outcome_of g.plan i
+    → (told : NodeOutcome) → told ≡ outcome_of_history setup changes (history_of setup (members_now g i).saw) → told ≡ node_outcome_of g.plan i
 outcome_here groups sounds g is i b m late setup e changes f told t =
     let all = groups.member_ended (line_of g.plan) (sounds g.plan is.checked) i (members_now g i) _ b (is.holds.each i b m) late in
     t
-    ∙ (ap (λ x. told_of x changes (history_of x (members_now g i).saw)) e
-    ∙ (ap (λ cs. told_of (setup_at g.plan i) cs (history_of (setup_at g.plan i) (members_now g i).saw)) f
-    ∙ ap (λ saw. told_of (setup_at g.plan i) (table_of g.plan i) (history_of (setup_at g.plan i) saw)) all.0))
+    ∙ (ap (λ x. outcome_of_history x changes (history_of x (members_now g i).saw)) e
+    ∙ (ap (λ cs. outcome_of_history (setup_at g.plan i) cs (history_of (setup_at g.plan i) (members_now g i).saw)) f
+    ∙ ap (λ saw. outcome_of_history (setup_at g.plan i) (table_of g.plan i) (history_of (setup_at g.plan i) saw)) all.0))
 
--- one node more, behind the others
+-- one node more, after the others
 pub outcome_more : (plan : Plan) (n : ℕ) (list more : List NodeOutcome) (x : NodeOutcome) → more ≡ list ++ x ∷ [] → list ≡ map (node_outcome_of plan) (range_with_len 0 n) → x ≡ node_outcome_of plan n
     → more ≡ map (node_outcome_of plan) (range_with_len 0 (n + 1))
 outcome_more plan n list more x e p q =
@@ -84,7 +84,7 @@ outcome_more plan n list more x e p q =
 
 -- ---- one more of a list
 
--- what holds of each at its place holds of them and of one more behind them
+-- what holds of each at its place holds of them and of one more after them
 pub one_behind : {X : Type 0} (xs ys : List X) (y : X) (n : ℕ) (Q : ℕ → X → Type 0) → ys ≡ xs ++ y ∷ [] → length xs ≡ n
     → ((k : ℕ) (d : X) → k < n → Q k (slice_index_or xs k d)) → Q n y → (k : ℕ) (d : X) → k < n + 1 → Q k (slice_index_or ys k d)
 one_behind {X} xs ys y n Q e len h q k d b =

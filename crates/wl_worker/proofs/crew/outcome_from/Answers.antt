@@ -1,4 +1,4 @@
--- Each node's outcome stands behind those of the nodes before it.
+-- Each node's outcome stands after those of the nodes before it.
 use Rattle.wl_worker.proofs.Shares.{outcome_more}
 use Rattle.wl_worker.proofs.crew.outcome_from.Goals as goal
 
