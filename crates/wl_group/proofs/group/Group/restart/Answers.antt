@@ -26,7 +26,7 @@ returns-clause-ok c =
 pub returns-clause-begun : goal.returns-clause-begun
 returns-clause-begun c =
     let v = subst IsGroupValue c.self.view_is c.self.invariant.kept.value in
-    subst (Matches (begun (line_of c.args.self.now.plan) (belongs c.args.self.now))) (sym (returns-clause-ok c))
+    subst (Matches (initial_party (line_of c.args.self.now.plan) (belongs c.args.self.now))) (sym (returns-clause-ok c))
     (c.value_laws.ensures.begins_as c.args.self.now.plan v.checked (belongs c.args.self.now))
 
 pub returns-clause-members : goal.returns-clause-members
