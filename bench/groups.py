@@ -31,10 +31,10 @@ def measured(script: str, work: Path) -> tuple[float, float, list[str]]:
     least, peak = float("inf"), 0
     for _ in range(int(os.environ.get("RUNS", "3"))):
         with open(work / "in", "rb") as source, open(work / "out", "wb") as sink:
-            child = subprocess.Popen([WORDS[0]], stdin=source, stdout=sink)
-            _, status, usage = os.wait4(child.pid, 0)
-        if status: sys.exit(f"status {os.waitstatus_to_exitcode(status)}")
-        least, peak = min(least, usage.ru_utime + usage.ru_stime), max(peak, usage.ru_maxrss)
+            # GNU time forks the program, so that the peak is not that of this script.
+            subprocess.run(["/usr/bin/time", "-o", work / "time", "-f", "%U %S %M", WORDS[0]], stdin=source, stdout=sink, check=True)
+        user, system, memory = (work / "time").read_text().split()
+        least, peak = min(least, float(user) + float(system)), max(peak, int(memory))
     return least, peak / 1024, (work / "out").read_text().split()
 
 
@@ -48,7 +48,7 @@ def main() -> None:
             while quanta <= most:
                 script = f"groups {' '.join(map(str, groups))}\nsettle\nemitted\nplan\n{plan_of(quanta)}"
                 seconds, peak, told = measured(script, Path(folder))
-                print(f"| {name} | {quanta:,} | {int(told[0]):,} | {int(told[1]):,} | {seconds:.3f} | {f'{seconds / before:.2f}' if before else ''} | {peak:.1f} MiB |", flush=True)
+                print(f"| {name} | {quanta:,} | {int(told[0]):,} | {int(told[1]):,} | {seconds:.2f} | {f'{seconds / before:.2f}' if before else ''} | {peak:.1f} MiB |", flush=True)
                 quanta, before = 2 * quanta, seconds
 
 

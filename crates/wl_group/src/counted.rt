@@ -214,7 +214,8 @@ pub(crate) fn seen(
     requires truth { IsTrueState replica.now }
     requires counted { AreCounted (slots_of replica.now) runs.now }
     requires known { t < known_at replica.now.nodes (delay_of topology.now) (slots_of replica.now) j }
-    ensures { result ≡ level_of (driven replica.now.nodes (delay_of topology.now) (wave_at (slots_of replica.now)) j t) }
+    ensures { let delay = delay_of topology.now in
+        result ≡ level_of (driven replica.now.nodes delay (wave_at (slots_of replica.now)) j t) }
 {
     wl_replica::known_laws();
     wl_topology::driven_laws();
