@@ -11,6 +11,7 @@ use Rattle.wl_serial.specs.Records.{outcome_records}
 use Rattle.wl_report.specs.Report.{report_text}
 use Rattle.wl_views.specs.declared.tick.Tick.{Tick}
 use Rattle.wl_views.specs.Candump.{log_text}
+use Rattle.wl_views.specs.Vcd.{vcd_text}
 use Rattle.wl_setup.specs.declared.fault.SetupFault.TheVariants as setup
 use Rattle.wl_setup.specs.Plans.{GivesPlan}
 use Rattle.wl_engines.specs.declared.fault.RunFault.{RunFault}
@@ -32,6 +33,10 @@ IsRunOutput plan names text = text ≡ report_text (outcome_of plan)
 -- the log of the frames that the one-thread simulation sends, at ticks that last so long
 abbrev pub IsCandumpOutput : Tick → Plan → List (List ℕ) → List ℕ → Type 0
 IsCandumpOutput tick plan names text = text ≡ log_text tick plan
+
+-- the waveform of the one-thread simulation, at ticks that last so long, under the names of the nodes
+abbrev pub IsVcdOutput : Tick → Plan → List (List ℕ) → List ℕ → Type 0
+IsVcdOutput tick plan names text = text ≡ vcd_text tick plan names
 
 module _ {S T : Type 0} (gives : S → Answer → S → Type 0) (takes : T → Answer → T → Type 0) (IsOutput : Plan → List (List ℕ) → List ℕ → Type 0) (s s' : S) (t t' : T) where
   -- the output of the plan and the names that were read went out, as far as it went

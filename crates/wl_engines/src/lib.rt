@@ -3,7 +3,8 @@
 //! `merge_run` and `horizon_run` read a record text: the one writes the canonical text of the replica that its records make, the
 //! other what that replica knows of each node, and up to when. `check_run`, `records_run` and `plan_run` read a plan text: the first
 //! writes what the bit segments allow and how long the cable takes, the second the records of the plan's simulation, the third its
-//! report. `candump_run` reads a plan text too, and writes the log of the frames that were sent.
+//! report. `candump_run` and `vcd_run` read a plan text too: the one writes the log of the frames that were sent, the other the
+//! waveform.
 #![tactic(auto)]
 
 mod check;
@@ -25,4 +26,4 @@ pub use laws::merges_as_one;
 pub use merge::merge_run;
 pub use plan::plan_run;
 pub use records::records_run;
-pub use views::candump_run;
+pub use views::{candump_run, vcd_run};

@@ -6,4 +6,6 @@ pub mod SampleOrder
 pub mod SignalProofs
 pub mod Turns
 pub mod Walk
+mod PlanRows
 mod Rows
+mod WaveRows
