@@ -2,7 +2,7 @@
 # Runs a built program of Wireline as a user would, and compares status, standard output and the fault's line, byte for byte.
 # usage: program.sh PROGRAM
 # - each plan of examples/ with the report beside it, and each of those plans through check, records and candump, which must accept it
-# - the log of one plan, as ticks of three lengths have it
+# - the log of one plan, as ticks of three lengths have it, and the waveform of one, as ticks of two have it
 # - each row of .ci/refused.txt: the status, the one line on standard error, and nothing on standard output
 # - command lines that name no task: status 2, and nothing on standard output
 # - a reader and a writer that fail: status 3
@@ -55,6 +55,9 @@ logged 299 432
 logged 299 432 --tick 1ns
 logged 37 54 --tick 125ps
 logged 299490 432980 --tick=1us
+runs "vcd" examples/one_megabit_25m.toml 0 examples/one_megabit_25m.vcd "$room/none" vcd
+sed -E 's/^(\$timescale 1 )ns/\1us/; s/^#([0-9]+)$/#\10/; s/^#00$/#0/' examples/one_megabit_25m.vcd > "$room/wave"
+runs "vcd --tick 10us" examples/one_megabit_25m.toml 0 "$room/wave" "$room/none" vcd --tick 10us
 
 # a row: the command, the status, how the input is made, the fault's line, the input. 'text': with printf's escapes; 'sed': of examples/clean_500k.toml;
 # 'bash': of a command
@@ -88,9 +91,11 @@ candump --tick 1
 candump --tick 0ns
 candump --tick 1000ns
 candump --tick 1ns --tick 1ns
+vcd --tick
+vcd --tick 1ms
 WORDS
 
-for word in merge horizon check records run candump; do
+for word in merge horizon check records run candump vcd; do
   printf 'fault: Read\n' > "$room/fault"
   runs "$word of a reader that fails" / 3 "$room/none" "$room/fault" "$word"
 done

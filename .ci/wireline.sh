@@ -62,6 +62,8 @@ ends 0 candump --tick 125ps "$plan"
 is "the option of candump" cmp -s "$room/out" <("$program" candump --tick 125ps < "$plan")
 ends 0 candump "$plan" --tick=1us
 is "its other form" cmp -s "$room/out" <("$program" candump --tick=1us < "$plan")
+ends 0 vcd --tick 125ps "$plan"
+is "the option of vcd" cmp -s "$room/out" <("$program" vcd --tick 125ps < "$plan")
 ends 2 candump --tick && is "no log without a time" [ ! -s "$room/out" ]
 ends 2 candump --tick 1 "$plan" && says "a time that is none" "--tick wants 1 to 999"
 ends 2 run --tick 1ns "$plan" && says "a tick of another command" "unexpected argument"

@@ -60,8 +60,13 @@ def read_frames(line):
         file.write(line), file.flush()
         done = subprocess.run(["sigrok-cli", "-i", file.name, "-I", f"binary:numchannels=1:samplerate={10**6 * QUANTA_OF_A_BIT}", "-P",
                                "can:can_rx=0:nominal_bitrate=1000000:sample_point=70"], capture_output=True, text=True, check=True)
+    yield from said_frames(done.stdout)
+
+
+def said_frames(annotations):
+    """The acknowledged frames in the decoder's annotations, each with its CRC sequence."""
     said = {}
-    for text in re.findall("can-1: (.*)", done.stdout):
+    for text in re.findall("can-1: (.*)", annotations):
         word, _, value = text.strip('"').partition(": ")
         if word == "Start of frame": said = {"data": b""}
         if word.startswith("Data byte"): said["data"] += bytes([int(value, 16)])

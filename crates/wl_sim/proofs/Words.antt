@@ -1,8 +1,10 @@
 -- What clap makes of the command line of the program.
-use Rattle.std.proofs.Common.{◌≡◌, ◌∙◌, refl, sym, subst, ap, ℕ, ◌==◌, ◌+◌, true, [], ◌∷◌, List, length, slice_index, if◌then◌else◌, Option, Some, None, option_map, option_and_then, unwrap_or, codes}
+use Rattle.std.proofs.Common.{◌≡◌, ◌∙◌, refl, sym, subst, ap, inl, inr, ℕ, ◌==◌, ◌+◌, ◌*◌, true, [], ◌∷◌, List, length, slice_index, if◌then◌else◌, Option, Some, None, option_map, option_and_then, unwrap_or, codes}
 use Rattle.std.specs.Prelude.{Box, Result, Ok, Err, IfOk}
 use Rattle.std.specs.Box.{box_value}
-use Rattle.clap.specs.Words.{Text, first_value, rows_of, is_simple, is_simple_and_free, subcommand_rows}
+use Rattle.clap.specs.Words.{App, HasKind, Text, fault_of, first_value, kind_of, rows_of, is_simple, is_simple_and_free, subcommand_rows}
+use Rattle.clap.specs.declared.error.Error.{Error}
+use Rattle.clap.specs.declared.error.kind.ErrorKind.TheVariants.{OutOfMemory}
 use Rattle.clap.specs.declared.parser.matches.ArgMatches.TheViews.{out-SubCommand}
 use Rattle.clap.specs.declared.parser.matches.Found.{Found}
 use Rattle.clap.specs.declared.parser.matches.SubCommand.{SubCommand}
@@ -18,7 +20,7 @@ use Rattle.wl_sim.specs.Tasks.{Does, EndsTask, EndsRefused, ReadsTask}
 use Rattle.wl_sim.specs.declared.command.Refusal.{Refusal}
 use Rattle.wl_sim.specs.declared.command.Refusal.TheVariants.{Words, Memory}
 use Rattle.wl_sim.specs.declared.command.Task.{Task}
-use Rattle.wl_sim.specs.declared.command.Task.TheVariants.{Merge, Horizon, Check, Records, Run, Candump}
+use Rattle.wl_sim.specs.declared.command.Task.TheVariants.{Merge, Horizon, Check, Records, Run, Candump, Vcd}
 
 pub program_is_simple : is_simple program ≡ true
 unfolding clap_on_literals
@@ -37,6 +39,7 @@ word_enters Check name h = (refl, tt, refl)
 word_enters Records name h = (refl, tt, refl)
 word_enters Run name h = (refl, tt, refl)
 word_enters (Candump tick) name h = (refl, h, refl)
+word_enters (Vcd tick) name h = (refl, h, refl)
 
 names_enters : (t : Task) (words : List Text) → NamesTask t words → Enters t words
 names_enters t words n = subst (λ ws. Enters t ws) (sym n.2) (word_enters t n.0 n.1)
@@ -47,18 +50,29 @@ pub name_in_front : {Z : Type 0} (o : Option (Box SubCommand Z))
 name_in_front None = refl
 name_in_front (Some b) = refl
 
+-- of words that enter a task, clap says no error but one of memory
+pub memory_alone : (a : App) (words : List Text) (e : Error) → a ≡ program → (is_simple_and_free a ≡ true → HasKind (fault_of a words) e)
+    → (t : Task) → Enters t words → kind_of e ≡ OutOfMemory
+memory_alone a words e is fails t enters =
+    let has : HasKind [] e = subst (λ ks. HasKind ks e) (ap (λ (b : App). fault_of b words) is ∙ enters.2) (fails (ap is_simple_and_free is ∙ program_is_free)) in
+    elim has [
+      | inl memory ↦ memory
+      | inr none ↦ absurd none
+    ]
+
 -- the tick of an option, by its text
 pub tick_text : (f : Found) → tick_among (rows_of f) ≡ option_and_then read_tick (first_value f (codes "tick"))
 tick_text f = ap (option_and_then read_tick) (sym (first_value-rows f (codes "tick")))
 
--- which task has a word, by its first letter and its length, and a tick
+-- which task has a word, by its first letter and twice its length, and a tick
 task_by : Tick → ℕ → Task
 task_by tick n =
-    if n == 114 then Merge else (if n == 111 then Horizon else (if n == 104 then Check else (if n == 121 then Records else (if n == 106 then Candump tick else Run))))
+    if n == 119 then Merge else (if n == 118 then Horizon else (if n == 109 then Check else (if n == 128 then Records else
+    (if n == 113 then Candump tick else (if n == 124 then Vcd tick else Run)))))
 
 task_at : Option Tick → Option Text → Task
 task_at given None = Run
-task_at given (Some w) = task_by (unwrap_or given nanosecond) (slice_index w 0 + length w)
+task_at given (Some w) = task_by (unwrap_or given nanosecond) (slice_index w 0 + 2 * length w)
 
 task_at_word : (given : Option Tick) (t : Task) → HasTick given t → task_at given (Some (task_word t)) ≡ t
 unfolding task_at task_by
@@ -68,6 +82,7 @@ task_at_word given Check h = refl
 task_at_word given Records h = refl
 task_at_word given Run h = refl
 task_at_word given (Candump tick) h = ap (λ o. Candump (unwrap_or o nanosecond)) h
+task_at_word given (Vcd tick) h = ap (λ o. Vcd (unwrap_or o nanosecond)) h
 
 -- words enter at most one task
 one_task : (t u : Task) (words : List Text) → Enters t words → Enters u words → u ≡ t
@@ -84,6 +99,7 @@ module _ {S T : Type 0} (gives : S → Answer → S → Type 0) (takes : T → A
   does_nothing s s' t t' Records h = h
   does_nothing s s' t t' Run h = h
   does_nothing s s' t t' (Candump tick) h = h
+  does_nothing s s' t t' (Vcd tick) h = h
 
   -- the task that was read is the one that the words name
   pub named_is_done : (s s' : S) (t t' : T) (words : List Text) (read task : Task) (r : Result (Unit {0}) RunFault) → Enters read words

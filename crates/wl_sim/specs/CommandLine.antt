@@ -3,7 +3,7 @@ use Rattle.std.specs.Prelude.{◌≡◌, true, List, [], ◌∷◌, codes, Optio
 use Rattle.clap.specs.Words.{App, Row, Rule, Text, first_of, new_app, new_rule, with_rule, with_subcommand, subcommand_of, fault_of}
 use Rattle.clap.specs.Simple.{on_top}
 use Rattle.wl_sim.specs.declared.command.Task.{Task}
-use Rattle.wl_sim.specs.declared.command.Task.TheVariants.{Merge, Horizon, Check, Records, Run, Candump}
+use Rattle.wl_sim.specs.declared.command.Task.TheVariants.{Merge, Horizon, Check, Records, Run, Candump, Vcd}
 use Rattle.wl_views.specs.declared.tick.Tick.{Tick}
 use Rattle.wl_views.specs.declared.tick.TimeUnit.TheVariants.{Nanosecond}
 use Rattle.wl_views.specs.Ticks.{read_tick}
@@ -16,6 +16,7 @@ task_word Check = codes "check"
 task_word Records = codes "records"
 task_word Run = codes "run"
 task_word (Candump tick) = codes "candump"
+task_word (Vcd tick) = codes "vcd"
 
 -- a command with one subcommand more, which has no arguments
 abbrev pub with_task : App → Task → App
@@ -25,16 +26,20 @@ with_task a t = with_subcommand a (new_app (task_word t)).top
 abbrev pub tick_rule : Rule
 tick_rule = record (new_rule (codes "tick")) { long = Some (codes "tick"); value_names = 1; defaults = codes "1ns" ∷ [] }
 
--- the subcommand that logs frames
-abbrev pub logger : App
-logger = with_rule (new_app (codes "candump")) tick_rule
+-- a subcommand that has this option
+abbrev pub timed : Text → App
+timed word = with_rule (new_app word) tick_rule
 
--- the program's command line: one of the tasks has to be named
-abbrev pub program : App
-program =
-    with_subcommand (with_task (with_task (with_task (with_task (with_task
+-- the command line of the tasks without a tick: one of the tasks has to be named
+abbrev pub untimed_program : App
+untimed_program =
+    with_task (with_task (with_task (with_task (with_task
     (on_top (λ s. record s { subcommand_required = true }) (new_app (codes "wl_sim")))
-    Merge) Horizon) Check) Records) Run) logger.top
+    Merge) Horizon) Check) Records) Run
+
+-- the program's command line: after those, the tasks with one
+abbrev pub program : App
+program = with_subcommand (with_subcommand untimed_program (timed (codes "candump")).top) (timed (codes "vcd")).top
 
 -- the subcommand that clap enters at these words
 abbrev pub entered_word : List Text → Option Text
@@ -51,6 +56,7 @@ entered_tick words = option_and_then tick_among (option_map (λ p. p.1) (subcomm
 -- a task that has a tick has this one
 abbrev pub HasTick : Option Tick → Task → Type 0
 HasTick given (Candump tick) = given ≡ Some tick
+HasTick given (Vcd tick) = given ≡ Some tick
 HasTick given Merge = Unit {0}
 HasTick given Horizon = Unit {0}
 HasTick given Check = Unit {0}

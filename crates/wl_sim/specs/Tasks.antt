@@ -7,11 +7,11 @@ use Rattle.wl_engines.specs.declared.fault.RunFault.{RunFault}
 use Rattle.wl_engines.specs.Faults.{is_refusal}
 use Rattle.wl_engines.specs.Horizon.{TellsHorizons}
 use Rattle.wl_engines.specs.Merge.{Merges}
-use Rattle.wl_engines.specs.Plans.{RunsPlan, IsRecordsOutput, IsRunOutput, IsCandumpOutput}
+use Rattle.wl_engines.specs.Plans.{RunsPlan, IsRecordsOutput, IsRunOutput, IsCandumpOutput, IsVcdOutput}
 use Rattle.wl_sim.specs.declared.command.Refusal.{Refusal}
 use Rattle.wl_sim.specs.declared.command.Refusal.TheVariants.{Words, Memory}
 use Rattle.wl_sim.specs.declared.command.Task.{Task}
-use Rattle.wl_sim.specs.declared.command.Task.TheVariants.{Merge, Horizon, Check, Records, Run, Candump}
+use Rattle.wl_sim.specs.declared.command.Task.TheVariants.{Merge, Horizon, Check, Records, Run, Candump, Vcd}
 use Rattle.wl_sim.specs.CommandLine.{Enters}
 
 -- the status of a run: 0, 1 where the input was refused for what it says, 3 when out of memory or for a fault of reading or writing
@@ -39,6 +39,7 @@ module _ {S T : Type 0} (gives : S → Answer → S → Type 0) (takes : T → A
   Does Records r = RunsPlan gives takes IsRecordsOutput s s' t t' r
   Does Run r = RunsPlan gives takes IsRunOutput s s' t t' r
   Does (Candump tick) r = RunsPlan gives takes (IsCandumpOutput tick) s s' t t' r
+  Does (Vcd tick) r = RunsPlan gives takes (IsVcdOutput tick) s s' t t' r
 
   -- the task was done, nothing else was read or written, and the status is that of what was answered
   abbrev pub EndsTask : Task → ℕ → Type 0

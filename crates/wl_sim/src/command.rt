@@ -2,7 +2,7 @@
 ghost use Rattle.std.specs.Prelude.{◌≡◌, ◌≢◌, ◌↔◌, map, string_bytes, IfOk, IfErr, false, Some, option_and_then, option_map};
 ghost use Rattle.clap.specs.Words.{app_of, found_of, kind_of, rows_of, rule_of, subcommand_rows_of};
 ghost use Rattle.clap.specs.declared.builder.command.Command.TheViews.{out-Command};
-ghost use Rattle.wl_sim.specs.CommandLine.{logger, program, task_word, tick_among, tick_rule, Enters, HasTick};
+ghost use Rattle.wl_sim.specs.CommandLine.{timed, untimed_program, program, task_word, tick_among, tick_rule, Enters, HasTick};
 ghost use Rattle.wl_sim.specs.Tasks.{ReadsTask};
 
 use clap::error::ErrorKind;
@@ -27,6 +27,8 @@ pub enum Task {
     Run,
     /// The log of the frames that a plan's simulation sends, at ticks that take so long.
     Candump(Tick),
+    /// The waveform of a plan's simulation, at ticks that take so long.
+    Vcd(Tick),
 }
 
 /// Why no task could be read from the command line.
@@ -50,20 +52,19 @@ fn tick_option<'a>(alloc: Global) -> Arg<'a>
         .default_value("1ns")
 }
 
-/// The subcommand that logs frames.
-fn candump<'a>(alloc: Global) -> Result<Command<'a>, AllocError>
-    ensures app { IfOk result (λ sub. app_of sub ≡ logger) }
+/// A subcommand that has the option that says how long a tick takes.
+fn timed<'a>(alloc: Global, word: &'a str, about: &'a str) -> Result<Command<'a>, AllocError>
+    ensures app { IfOk result (λ sub. app_of sub ≡ timed word.now) }
     ensures local { IfOk result (λ sub. (out-Command sub).has_globals ≡ false) }
 {
-    Command::new(alloc, "candump")
-        .about("Simulates the plan, and writes the frames that were sent as can-utils logs them")
+    Command::new(alloc, word)
+        .about(about)
         .arg(tick_option(alloc))
 }
 
-/// The subcommands, each with one line of help.
-fn command<'a>(alloc: Global) -> Result<Command<'a>, Error>
-    ensures app { IfOk result (λ all. app_of all ≡ program) }
-    ensures memory { IfErr result (λ e. kind_of e ≡ ErrorKind.OutOfMemory) }
+/// The program's command with the subcommands that have no option, each with one line of help.
+fn untimed<'a>(alloc: Global) -> Result<Command<'a>, AllocError>
+    ensures { IfOk result (λ all. app_of all ≡ untimed_program) }
 {
     let merge = Command::new(alloc, "merge").about(
         "Writes the canonical text of the records that standard input has",
@@ -87,8 +88,25 @@ fn command<'a>(alloc: Global) -> Result<Command<'a>, Error>
         .subcommand(horizon)?
         .subcommand(check)?
         .subcommand(records)?
-        .subcommand(run)?
-        .subcommand(candump(alloc)?)?;
+        .subcommand(run)?;
+    Ok(all)
+}
+
+/// The whole command line: after those, the subcommands that have a tick.
+fn command<'a>(alloc: Global) -> Result<Command<'a>, AllocError>
+    ensures { IfOk result (λ all. app_of all ≡ program) }
+{
+    let candump = timed(
+        alloc,
+        "candump",
+        "Simulates the plan, and writes the frames that were sent as can-utils logs them",
+    )?;
+    let vcd = timed(
+        alloc,
+        "vcd",
+        "Simulates the plan, and writes the waveform of its nodes as a Value Change Dump",
+    )?;
+    let all = untimed(alloc)?.subcommand(candump)?.subcommand(vcd)?;
     Ok(all)
 }
 
@@ -125,6 +143,7 @@ fn task_named(name: Option<&str>, tick: Option<Tick>) -> Option<Task>
         "records" => Some(Task::Records),
         "run" => Some(Task::Run),
         "candump" => Some(Task::Candump(tick?)),
+        "vcd" => Some(Task::Vcd(tick?)),
         _ => None,
     }
 }

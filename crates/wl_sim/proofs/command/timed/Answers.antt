@@ -4,7 +4,7 @@ use Rattle.clap.specs.Words.{with_rule}
 use Rattle.clap.specs.Simple.{app_of_fields}
 use Rattle.clap.specs.declared.builder.command.Command.{Command}
 use Rattle.clap.specs.declared.builder.command.Command.TheOpen.{Command-F}
-use Rattle.wl_sim.proofs.command.candump.Goals as goal
+use Rattle.wl_sim.proofs.command.timed.Goals as goal
 
 abbrev is_global : Command-F Command → Bool
 is_global f = f.has_globals
