@@ -67,6 +67,7 @@ class Segments(NamedTuple):
     ps1: int
     ps2: int
     sjw: int
+    inside: bool = False  # an edge lies in the quantum before the one that finds it
 
     def sample_at(self):
         return 1 + self.prop + self.ps1
@@ -93,7 +94,7 @@ class BitClock:
     def __init__(self, segments):
         self.segments = segments
         self.before = self.sampled = RECESSIVE
-        self.place, self.longer, self.shorter, self.synchronised = -1, 0, 0, False
+        self.place, self.longer, self.shorter, self.synchronised = segments.bit_quanta() - 1 if segments.inside else -1, 0, 0, False
         self.first = True
 
     def start(self, synchronised):
@@ -101,6 +102,9 @@ class BitClock:
 
     def step(self, level, idle, driving):
         before, self.before = self.before, level
+        if self.segments.inside:
+            edge = level == DOMINANT and before == RECESSIVE and self.sampled == RECESSIVE and not self.synchronised
+            return self.step_inside(level, idle, driving, edge)
         self.place += 1
         sample_at = self.segments.sample_at() + self.longer
         if self.first or self.place == sample_at + self.segments.ps2 - self.shorter:
@@ -132,6 +136,40 @@ class BitClock:
         else:
             self.shorter, self.synchronised = self.segments.sjw, True
         return error
+
+
+    def step_inside(self, level, idle, driving, edge):
+        """The same by the book: the place is still that of the quantum before, in which the edge lies."""
+        sync = None
+        if edge and idle:
+            sync, anew = "Hard", True
+        elif edge and self.place + 1 != self.segments.sample_at():  # in the sample's quantum it counts for idle nodes alone (P)
+            sync, anew = self.resynchronise(driving)
+        if sync is not None and anew:
+            self.start(True)
+            self.place = 1
+            return "Start", sync
+        self.place += 1
+        sample_at = self.segments.sample_at() + self.longer
+        if self.place == sample_at + self.segments.ps2 - self.shorter:
+            self.start(False)
+            return "Start", sync
+        if self.place == sample_at:
+            self.sampled = level
+            return "Sample", sync
+        return "Plain", sync
+
+    def resynchronise(self, driving):
+        """The phase error, and whether the bit begins anew with the quantum before."""
+        if self.place < self.segments.sample_at():
+            if self.place > 0 and driving: return None, False
+            self.longer, self.synchronised = min(self.place, self.segments.sjw), True
+            return self.place, False
+        error = self.place - self.segments.bit_quanta()
+        if -error > self.segments.sjw:
+            self.shorter, self.synchronised = self.segments.sjw, True
+            return error, False
+        return error, True
 
 
 # ---- Frames: fields, CRC sequence, bit stuffing (B 3.2.1, 3.2.2, 6)
@@ -516,7 +554,8 @@ class Plan(NamedTuple):
     def fault(self):
         if self.end > 2**36: return "End"
         for i, node in enumerate(self.nodes):
-            if node.clock.quanta_before(self.end) > 1_048_576: return f"Quanta({i})"
+            short = node.segments.inside and node.segments.sample_at() == 3  # it may sample every third quantum
+            if node.clock.quanta_before(self.end) > (786_432 if short else 1_048_576): return f"Quanta({i})"
         for i, node in enumerate(self.nodes):
             if len(node.queue) > 64: return f"Queue({i})"
         for n, (x, start, end) in enumerate(self.disturbances):
@@ -535,6 +574,7 @@ def array_of(kind):
 NUMBER, SMALL, BYTE, PPM = whole(0, NUMBER_END), whole(0, SMALL_END), whole(0, 256), whole(-10**9, 10**9 + 1)
 TABLES = array_of(lambda value: type(value) is dict)
 TRUTH = lambda value: type(value) is bool
+SYNC = lambda value: type(value) is str and value in ("after", "inside")
 NAME = lambda value: type(value) is str and re.fullmatch("[A-Za-z0-9_-]{1,32}", value)
 TOP = {"version": NUMBER, "end": NUMBER, "per": NUMBER, "node": TABLES}
 FRACTION, NOMINAL = {"num": NUMBER, "den": NUMBER}, {"quantum": NUMBER, "ppm": PPM}
@@ -577,7 +617,7 @@ def clock_keys(table):
 def read_plan(text):
     top = read_toml(text)
     if "version" in top and NUMBER(top["version"]) and top["version"] not in (1, 2): raise Fault("Version")
-    test_keys(top, TOP, {"disturbance": TABLES})
+    test_keys(top, TOP, {"disturbance": TABLES, "sync": SYNC})
     for node in top["node"]:
         clock = {"rates": TABLES} if top["version"] == 2 else clock_keys(node)
         test_keys(node, {"name": NAME, "offset": NUMBER} | clock | LENGTHS, {"frame": TABLES})
@@ -585,7 +625,8 @@ def read_plan(text):
         for frame in node.get("frame", []): test_keys(frame, *FRAME)
     for disturbance in top.get("disturbance", []): test_keys(disturbance, *DISTURBANCE)
     if len({node["name"] for node in top["node"]}) < len(top["node"]): raise Fault("SameName")
-    nodes = [read_node(i, node) for i, node in enumerate(top["node"])]
+    inside = top.get("sync") == "inside"
+    nodes = [read_node(i, node, inside) for i, node in enumerate(top["node"])]
     places = [Place(node["x"], node["out"], node["in"]) for node in top["node"]]
     disturbances = [(table["x"], table["from"], table["to"]) for table in top.get("disturbance", [])]
     plan = Plan(nodes, places, top["per"], disturbances, top["end"])
@@ -604,13 +645,13 @@ def table_rate(i, start, table):
     return Rate(start, table["quantum"] * (1_000_000 + table["ppm"]), 1_000_000)
 
 
-def read_node(i, node):
+def read_node(i, node, inside):
     if "rates" in node:
         rates = [table_rate(i, table["from"], table) for table in node["rates"]]
     else:
         rates = [table_rate(i, 0, node)]
     clock = Clock(node["offset"], rates)
-    segments = Segments(node["prop"], node["ps1"], node["ps2"], node["sjw"])
+    segments = Segments(node["prop"], node["ps1"], node["ps2"], node["sjw"], inside)
     refuse(f"NodeClock({i}, %s)", clock.fault())
     refuse(f"NodeSegments({i}, %s)", segments.fault())
     queue = []

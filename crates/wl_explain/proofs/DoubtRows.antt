@@ -1,6 +1,7 @@
 -- Two nodes and their doubts, computed: 500 kbit/s by quanta of 125 ns, and the same 2 % slow.
 use Rattle.std.proofs.Common.{◌≡◌, ℕ, Bool, true, false, List, [], ◌∷◌, refl}
 use Rattle.wl_clock.specs.Timing.{tick_of}
+use Rattle.wl_segments.specs.declared.SyncSeg.TheVariants.{After}
 use Rattle.wl_frame.specs.Grammar.{Content}
 use Rattle.wl_node.specs.declared.setup.NodeSetup.{NodeSetup}
 use Rattle.wl_explain.specs.Doubts.{frame_bits, difference, borne, longest_round, idle_at, begins_before}
@@ -8,7 +9,7 @@ use Rattle.wl_explain.specs.Doubts.{frame_bits, difference, borne, longest_round
 abbrev node : ℕ → ℕ → NodeSetup
 node offset num = record {
   clock = record { offset = offset; rates = record { from = 0; num = num; den = 1000 } ∷ [] };
-  segments = record { prop = 8; ps1 = 4; ps2 = 3; sjw = 2 };
+  segments = record { prop = 8; ps1 = 4; ps2 = 3; sjw = 2; sync = After };
   queue = [];
 }
 

@@ -1,13 +1,14 @@
 -- Worked settings: 500 kbit/s and 1 Mbit/s as can-utils' can-calc-bit-timing proposes them, and the figures that it prints.
 use Rattle.std.proofs.Common.{◌≡◌, ℕ, Some, None, refl, arith}
+use Rattle.wl_segments.specs.declared.SyncSeg.TheVariants.{After}
 use Rattle.wl_segments.specs.Lengths.{Lengths}
 use Rattle.wl_explain.specs.Figures.{Ratio, ComesBack, quantum_of, picoseconds, bits_per_second, sample_point, furthest_way, longest_cable, longest_trip, tolerance}
 
 abbrev half : Lengths
-half = record { prop = 6; ps1 = 7; ps2 = 2; sjw = 1 }
+half = record { prop = 6; ps1 = 7; ps2 = 2; sjw = 1; sync = After }
 
 abbrev whole : Lengths
-whole = record { prop = 7; ps1 = 7; ps2 = 5; sjw = 1 }
+whole = record { prop = 7; ps1 = 7; ps2 = 5; sjw = 1; sync = After }
 
 abbrev ratio : ℕ → ℕ → Ratio
 ratio num den = record { num = num; den = den }
@@ -56,7 +57,7 @@ no_cable = refl
 half_tolerance : tolerance half ≡ 3125
 half_tolerance = refl
 
-resonators : tolerance (record { prop = 7; ps1 = 4; ps2 = 4; sjw = 4 }) ≡ 9803
+resonators : tolerance (record { prop = 7; ps1 = 4; ps2 = 4; sjw = 4; sync = After }) ≡ 9803
 resonators = refl
 
 megabit_trip : longest_trip (ratio 50 1) whole ≡ 700

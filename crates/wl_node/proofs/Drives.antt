@@ -9,7 +9,7 @@ use Rattle.wl_level.specs.declared.Level.TheVariants.{Dominant, Recessive}
 use Rattle.wl_level.specs.Levels.{same}
 use Rattle.wl_level.specs.Places.{count_places}
 use Rattle.wl_level.proofs.Callers.{length_more, same_self, same_equal}
-use Rattle.wl_segments.specs.Lengths.{AreLengths, sample_at}
+use Rattle.wl_segments.specs.Lengths.{AreLengths, sample_at, least_way}
 use Rattle.wl_sync.specs.declared.Beat.{Beat}
 use Rattle.wl_sync.specs.declared.Beat.TheVariants.{Plain, Sample, Start}
 use Rattle.wl_sync.specs.Bits.{beat_of, sync_of}
@@ -60,7 +60,7 @@ longer_least zero s p = omega arith
 longer_least (suc f) s p = omega arith
 
 abbrev pub place_of : NodeSetup → ℕ
-place_of setup = sample_at setup.segments
+place_of setup = least_way setup.segments
 
 abbrev pub way_at : NodeSetup → History → Option ℕ
 way_at setup h = quanta_to_sample setup.segments h.seen
@@ -80,7 +80,7 @@ module _ (ways : SampleLaws) (setup : NodeSetup) where
       before None f = (let g = ways.after setup.segments h.seen (seen_next h level) e f in cc)
 
   settled_first : IsSettled setup no_history
-  settled_first n w = (let g = ways.at_first setup.segments in cc)
+  settled_first n w = refl
 
   pub settled : (levels : List Level) → IsSettled setup (history_of setup levels)
   settled =
@@ -88,7 +88,7 @@ module _ (ways : SampleLaws) (setup : NodeSetup) where
       (λ levels x s. subst (IsSettled setup) (sym (history_next setup levels x)) (settled_by (history_of setup levels) x (beat_next setup (history_of setup levels) x) refl s))
 
   floor_few : (h : History) (o : Option ℕ) (t : Bool) → way_at setup h ≡ o → floor_by o t (place_of setup) ≤ suc (place_of setup)
-  floor_few h (Some n) t e = (let m = ways.few setup.segments h.seen n e in omega arith)
+  floor_few h (Some n) t e = (let m = ways.few setup.segments h.seen n e in let f = ways.least setup.segments in omega arith)
   floor_few h None true e = omega arith
   floor_few h None false e = omega arith
 
@@ -99,7 +99,7 @@ module _ (ways : SampleLaws) (setup : NodeSetup) where
       let m = most_quiet-is in
       let a = l.prop_high in
       let b = l.ps1_high in
-      let g = longer_least (floor_at setup (history_of setup levels)) (silence_of (is_waiting setup (history_of setup levels)) (stretch_of (history_of setup levels).inputs)) (sample_at setup.segments) in
+      let g = longer_least (floor_at setup (history_of setup levels)) (silence_of (is_waiting setup (history_of setup levels)) (stretch_of (history_of setup levels).inputs)) (least_way setup.segments) in
       omega arith
 
   pub most : (levels : List Level) → quiet_of setup levels ≤ most_quiet
@@ -132,15 +132,18 @@ module _ (silences : SilenceLaws) (ways : SampleLaws) (setup : NodeSetup) where
   keeps_start h level e s k q = record {
     drive = (starts (way_at setup h) refl (same h.drive (pending_of h)) refl some).0;
     promise =
-        subst (λ o. k ≤ floor_and_silence (floor_by o (same (pending_of h) (pending_of h)) (place_of setup)) (silence_at h) (place_of setup)) (sym (ways.start setup.segments h.seen (seen_next h level) e))
-        (longer_near (floor_at setup h) (place_of setup) (silence_at h) k (starts (way_at setup h) refl (same h.drive (pending_of h)) refl some).1 (omega arith) q);
+        subst (λ o. k ≤ floor_and_silence (floor_by o (same (pending_of h) (pending_of h)) (place_of setup)) (silence_at h) (place_of setup)) (sym after.1.0)
+        (longer_near (floor_at setup h) after.0 (silence_at h) k (let f = (starts (way_at setup h) refl (same h.drive (pending_of h)) refl some).1 in let low = after.1.1 in omega arith) (let low = after.1.1 in omega arith) q);
   }
     where
+      after : (m : ℕ) × ((quanta_to_sample setup.segments (h.seen ++ seen_next h level ∷ []) ≡ Some m) × (least_way setup.segments ≤ m))
+      after = ways.start setup.segments h.seen (seen_next h level) e
+
       some : 0 < floor_at setup h
       some = some_floor (floor_at setup h) (silence_at h) k q
 
       starts : (o : Option ℕ) → way_at setup h ≡ o → (t : Bool) → same h.drive (pending_of h) ≡ t → 0 < floor_by o t (place_of setup) → (pending_of h ≡ h.drive) × (floor_by o t (place_of setup) ≤ suc (place_of setup))
-      starts (Some n) f t g r = (sym (s n f), (let m = ways.few setup.segments h.seen n f in omega arith))
+      starts (Some n) f t g r = (sym (s n f), (let m = ways.few setup.segments h.seen n f in let low = ways.least setup.segments in omega arith))
       starts None f true g r = (sym (same_equal h.drive (pending_of h) g), omega arith)
       starts None f false g r = absurd (omega arith)
 
@@ -273,10 +276,10 @@ module _ (counts : CountsBelow) (ways : SampleLaws) (setup : NodeSetup) where
 
   -- the quanta of as many parts of bits from a start to its sample as there were changes
   abbrev IsFew : List Level → Type 0
-  IsFew levels = changes_of setup levels * suc (sample_at setup.segments) ≤ length levels + left (quanta_to_sample setup.segments (history_of setup levels).seen)
+  IsFew levels = changes_of setup levels * suc (least_way setup.segments) ≤ length levels + left (quanta_to_sample setup.segments (history_of setup levels).seen)
 
   abbrev part : ℕ
-  part = suc (sample_at setup.segments)
+  part = suc (least_way setup.segments)
 
   none_more : (d e : Level) → d ≡ e → one_if (not (same d e)) ≡ 0
   none_more d e h = ap (λ b. one_if (not b)) (same_when d e h)
@@ -284,7 +287,7 @@ module _ (counts : CountsBelow) (ways : SampleLaws) (setup : NodeSetup) where
   stays_few : (c u a b : ℕ) → u ≡ 0 → c * part ≤ a → a ≤ b → (c + u) * part ≤ b
   stays_few c u a b h q r = (let e : (c + u) * part ≡ c * part = ap (λ n. n * part) (let f : c + u ≡ c = omega arith in f) in omega arith)
 
-  one_more : (t : Bool) (c n : ℕ) → c * part ≤ n → (c + one_if t) * part ≤ suc n + sample_at setup.segments
+  one_more : (t : Bool) (c n : ℕ) → c * part ≤ n → (c + one_if t) * part ≤ suc n + least_way setup.segments
   one_more true c n q = omega arith
   one_more false c n q = omega arith
 
@@ -292,11 +295,14 @@ module _ (counts : CountsBelow) (ways : SampleLaws) (setup : NodeSetup) where
       → c * part ≤ n + left (quanta_to_sample setup.segments h.seen)
       → (c + one_if (not (same h.drive (behind setup h level b).drive))) * part ≤ suc n + left (quanta_to_sample setup.segments (behind setup h level b).seen)
   few_by c n h level Start e s q =
-      subst (λ o. (c + one_if (not (same h.drive (pending_of h)))) * part ≤ suc n + left o) (sym (ways.start setup.segments h.seen (seen_next h level) e))
-      (starts (quanta_to_sample setup.segments h.seen) refl q)
+      subst (λ o. (c + one_if (not (same h.drive (pending_of h)))) * part ≤ suc n + left o) (sym after.1.0)
+      (let low = after.1.1 in let r = starts (quanta_to_sample setup.segments h.seen) refl q in omega arith)
     where
-      starts : (o : Option ℕ) → quanta_to_sample setup.segments h.seen ≡ o → c * part ≤ n + left o → (c + one_if (not (same h.drive (pending_of h)))) * part ≤ suc n + sample_at setup.segments
-      starts (Some m) f r = stays_few c _ (n + m) _ (none_more h.drive (pending_of h) (s m f)) r (let l = ways.few setup.segments h.seen m f in omega arith)
+      after : (m : ℕ) × ((quanta_to_sample setup.segments (h.seen ++ seen_next h level ∷ []) ≡ Some m) × (least_way setup.segments ≤ m))
+      after = ways.start setup.segments h.seen (seen_next h level) e
+
+      starts : (o : Option ℕ) → quanta_to_sample setup.segments h.seen ≡ o → c * part ≤ n + left o → (c + one_if (not (same h.drive (pending_of h)))) * part ≤ suc n + least_way setup.segments
+      starts (Some m) f r = stays_few c _ (n + m) _ (none_more h.drive (pending_of h) (s m f)) r (let l = ways.few setup.segments h.seen m f in let low = ways.least setup.segments in omega arith)
       starts None f r = one_more (not (same h.drive (pending_of h))) c n (omega arith)
   few_by c n h level (Sample v) e s q =
       stays_few c _ (n + 1) _ (none_more h.drive h.drive refl) (subst (λ o. c * part ≤ n + left o) (ways.sampled setup.segments h.seen (seen_next h level) v e) q) (omega arith)
@@ -332,9 +338,10 @@ module _ (counts : CountsBelow) (ways : SampleLaws) (setup : NodeSetup) where
         let q : changes_of setup levels * part ≤ length levels + left (quanta_to_sample setup.segments (history_of setup levels).seen) = few levels in
         let r = left_few (history_of setup levels) (quanta_to_sample setup.segments (history_of setup levels).seen) refl in
         let two : part * (length levels / part + 2) ≤ part * changes_of setup levels = mul-le-mul_left part (omega arith) in
-        far (length levels) (changes_of setup levels) (sample_at setup.segments) (omega arith) two)
+        let low = ways.least setup.segments in
+        far (length levels) (changes_of setup levels) (least_way setup.segments) (omega arith) two)
     | inr h ↦ h
   ]
     where
-      far : (n c p : ℕ) → c * suc p ≤ n + p → suc p * (n / suc p + 2) ≤ suc p * c → ⊥
+      far : (n c p : ℕ) → c * suc p ≤ n + suc p → suc p * (n / suc p + 2) ≤ suc p * c → ⊥
       far n c p q two = (let d = div-add-mod n (suc p) in omega arith)

@@ -1,15 +1,17 @@
 -- A node of bits of 1 + 3 + 3 + 3 quanta with a frame to send, on a silent line: by computation.
-use Rattle.std.proofs.Common.{◌≡◌, ℕ, [], ◌∷◌, false, refl}
+use Rattle.std.proofs.Common.{◌≡◌, ℕ, List, [], ◌∷◌, ◌++◌, false, length, refl}
 use Rattle.std.specs.Prelude.{replicate}
+use Rattle.wl_level.specs.declared.Level.{Level}
 use Rattle.wl_level.specs.declared.Level.TheVariants.{Dominant, Recessive}
 use Rattle.wl_frame.specs.Grammar.{bits_of, number_bits}
+use Rattle.wl_segments.specs.declared.SyncSeg.TheVariants.{After, Inside}
 use Rattle.wl_node.specs.declared.setup.NodeSetup.{NodeSetup}
-use Rattle.wl_node.specs.History.{History, history_of, unsent_count}
+use Rattle.wl_node.specs.History.{History, history_of, hards_of, unsent_count}
 
 abbrev setup : NodeSetup
 setup = record {
   clock = record { offset = 0; rates = record { from = 0; num = 100; den = 1 } ∷ [] };
-  segments = record { prop = 3; ps1 = 3; ps2 = 3; sjw = 2 };
+  segments = record { prop = 3; ps1 = 3; ps2 = 3; sjw = 2; sync = After };
   queue = record { frame = record { extended = false; id = 0; remote = false; dlc = 0; bytes = [] }; ready = 0 } ∷ [];
 }
 
@@ -33,3 +35,31 @@ begins = refl
 unsent : unsent_count setup (after 111) ≡ 1
 unfolding history_of bits_of number_bits
 unsent = refl
+
+-- the same node where an edge lies in SYNC_SEG: early by 2, the edge that quantum 109 finds makes it place 1 of a bit, where the frame starts
+abbrev by_the_book : NodeSetup
+by_the_book = record setup { segments = record { prop = 3; ps1 = 3; ps2 = 3; sjw = 2; sync = Inside } }
+
+before_place_1 : (history_of by_the_book (replicate 109 Recessive)).drive ≡ Recessive
+unfolding history_of bits_of number_bits
+before_place_1 = refl
+
+begins_at_place_1 : (history_of by_the_book (replicate 109 Recessive ++ Dominant ∷ [])).drive ≡ Dominant
+unfolding history_of bits_of number_bits
+begins_at_place_1 = refl
+
+-- with nothing to send it is idle then: the edge that the sample's quantum 117 finds synchronises hard, and that quantum is no sample
+abbrev listening : List Level → History
+listening levels = history_of (record by_the_book { queue = [] }) levels
+
+hard_in_the_sample : hards_of (listening (replicate 117 Recessive ++ replicate 6 Dominant)) ≡ 1
+unfolding history_of bits_of number_bits
+hard_in_the_sample = refl
+
+no_sample : length (listening (replicate 117 Recessive ++ replicate 6 Dominant)).samples ≡ 11
+unfolding history_of bits_of number_bits
+no_sample = refl
+
+sample_of_the_start : length (listening (replicate 117 Recessive ++ replicate 7 Dominant)).samples ≡ 12
+unfolding history_of bits_of number_bits
+sample_of_the_start = refl

@@ -1,7 +1,7 @@
 -- What holds of every node.
 use Rattle.std.specs.Prelude.{◌≡◌, ℕ, suc, ◌+◌, ◌/◌, ◌≤◌, List, ◌++◌, length, Some}
 use Rattle.wl_level.specs.declared.Level.{Level}
-use Rattle.wl_segments.specs.Lengths.{AreLengths, sample_at}
+use Rattle.wl_segments.specs.Lengths.{AreLengths, least_way}
 use Rattle.wl_sync.specs.SampleLaws.{quanta_to_sample}
 use Rattle.wl_node.specs.declared.setup.NodeSetup.{NodeSetup}
 use Rattle.wl_node.specs.declared.node.Node.{Node}
@@ -28,4 +28,4 @@ pub record DriveLaws : Type 0 where
   pub floor : (setup : NodeSetup) (levels : List Level) → AreLengths setup.segments → floor_at setup (history_of setup levels) ≤ quiet_of setup levels
   pub most : (setup : NodeSetup) (levels : List Level) → quiet_of setup levels ≤ most_quiet
   -- two changes are as far apart as a start and its sample: the quanta of that part of a bit give room for one change, and there is one more
-  pub few_changes : (setup : NodeSetup) (levels : List Level) → changes_of setup levels ≤ length levels / suc (sample_at setup.segments) + 1
+  pub few_changes : (setup : NodeSetup) (levels : List Level) → changes_of setup levels ≤ length levels / suc (least_way setup.segments) + 1

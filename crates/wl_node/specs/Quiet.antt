@@ -1,11 +1,11 @@
 -- For how many quanta more the drive of a node is sure to stay, whatever it sees. A drive changes only where a bit starts, to what the machine wants
--- since the last sample, and a sample comes at its place at the earliest (Bosch CAN 2.0 part B, section 10; that a node tells it is the lookahead of
+-- since the last sample, and a sample comes the least way after that at the earliest (Bosch CAN 2.0 part B, section 10; that a node tells it is the lookahead of
 -- Chandy and Misra 1979).
 use Rattle.std.specs.Prelude.{◌≡◌, ℕ, zero, suc, ◌+◌, ◌*◌, nat_lt, not, min, count_by, Bool, true, false, List, length, take, Option, Some, None}
 use Rattle.wl_level.specs.declared.Level.{Level}
 use Rattle.wl_level.specs.Levels.{same}
 use Rattle.wl_level.specs.Places.{count_places}
-use Rattle.wl_segments.specs.Lengths.{sample_at}
+use Rattle.wl_segments.specs.Lengths.{least_way}
 use Rattle.wl_sync.specs.SampleLaws.{quanta_to_sample}
 use Rattle.wl_machine.specs.Judged.{stretch_of, drive_of}
 use Rattle.wl_machine.specs.Silence.{silence_of}
@@ -17,19 +17,19 @@ use Rattle.wl_node.specs.Limits.{most_quiet}
 abbrev pub pending_of : History → Level
 pending_of h = drive_of (stretch_of h.inputs)
 
--- The least promise, from the way to the sample, whether the node drives what its machine wants, and the place of a sample: up to the next sample. Between a
+-- The least promise, from the way to the sample, whether the node drives what its machine wants, and the least way from a start to a sample: up to the next sample. Between a
 -- start and its sample that is the way to it. From the sample on, and before quantum 0, the next start may change the drive at once, unless the machine wants
--- it as it is; the sample of the bit that starts then comes a whole place later.
+-- it as it is; the sample of the bit that starts then comes a whole way later.
 abbrev pub floor_by : Option ℕ → Bool → ℕ → ℕ
 floor_by (Some n) settled place = n
 floor_by None true place = suc place
 floor_by None false place = 0
 
 abbrev pub floor_at : NodeSetup → History → ℕ
-floor_at setup h = floor_by (quanta_to_sample setup.segments h.seen) (same h.drive (pending_of h)) (sample_at setup.segments)
+floor_at setup h = floor_by (quanta_to_sample setup.segments h.seen) (same h.drive (pending_of h)) (least_way setup.segments)
 
 -- And by so many samples more as the machine is silent for, where the node drives what it wants: from one sample to the next there are the start of a bit and
--- a whole place at least.
+-- a whole way at least.
 abbrev pub floor_and_silence : ℕ → ℕ → ℕ → ℕ
 floor_and_silence zero silence place = 0
 floor_and_silence (suc n) silence place = suc n + silence * suc place
@@ -39,7 +39,7 @@ abbrev pub is_waiting : NodeSetup → History → Bool
 is_waiting setup h = nat_lt (count_by is_sent h.frames) (length setup.queue)
 
 abbrev pub promise_at : NodeSetup → History → ℕ
-promise_at setup h = floor_and_silence (floor_at setup h) (silence_of (is_waiting setup h) (stretch_of h.inputs)) (sample_at setup.segments)
+promise_at setup h = floor_and_silence (floor_at setup h) (silence_of (is_waiting setup h) (stretch_of h.inputs)) (least_way setup.segments)
 
 -- what a node promises
 abbrev pub quiet_at : NodeSetup → History → ℕ

@@ -1,17 +1,25 @@
 -- When two setups are equal: where clock, segments and queue are, number by number (this project's profile).
-use Rattle.std.specs.Prelude.{◌≡◌, ◌==◌, ◌&&◌, Bool}
+use Rattle.std.specs.Prelude.{◌≡◌, ◌==◌, ◌&&◌, Bool, true, false, refl}
 use Rattle.std.specs.Bool.{Decides}
 use Rattle.std.specs.Cmp.{IsEquivalence, IsPartialEquivalence, decided, partial_equiv_from_equiv, unsigned_Decides}
 use Rattle.std.specs.Cmp.Lexicographic.{pointwise, pointwise_decides}
 use Rattle.std.proofs.lemmas.Bool.Decides.{Decides-and, Decides-like}
 use Rattle.wl_clock.specs.Same.{same_timing, timing_decides}
+use Rattle.wl_segments.specs.declared.SyncSeg.{SyncSeg}
+use Rattle.wl_segments.specs.declared.SyncSeg.TheVariants.{After, Inside}
 use Rattle.wl_segments.specs.Lengths.{Lengths}
 use Rattle.wl_frame.specs.Same.{same_content, content_decides}
 use Rattle.wl_node.specs.declared.setup.Queued.{Queued}
 use Rattle.wl_node.specs.declared.setup.NodeSetup.{NodeSetup}
 
+abbrev pub same_sync : SyncSeg → SyncSeg → Bool
+same_sync After After = true
+same_sync After Inside = false
+same_sync Inside After = false
+same_sync Inside Inside = true
+
 abbrev pub same_lengths : Lengths → Lengths → Bool
-same_lengths a b = a.prop == b.prop && (a.ps1 == b.ps1 && (a.ps2 == b.ps2 && a.sjw == b.sjw))
+same_lengths a b = a.prop == b.prop && (a.ps1 == b.ps1 && (a.ps2 == b.ps2 && (a.sjw == b.sjw && same_sync a.sync b.sync)))
 
 abbrev pub same_queued : Queued → Queued → Bool
 same_queued a b = same_content a.frame b.frame && a.ready == b.ready
@@ -20,14 +28,21 @@ same_queued a b = same_content a.frame b.frame && a.ready == b.ready
 abbrev pub same_setup : NodeSetup → NodeSetup → Bool
 same_setup a b = same_timing a.clock b.clock && (same_lengths a.segments b.segments && pointwise same_queued a.queue b.queue)
 
+sync_decides : (a b : SyncSeg) → Decides (same_sync a b) (a ≡ b)
+sync_decides After After = (λ e. refl, λ e. refl)
+sync_decides After Inside = (λ e. cc, λ e. cc)
+sync_decides Inside After = (λ e. cc, λ e. cc)
+sync_decides Inside Inside = (λ e. refl, λ e. refl)
+
 lengths_decides : (a b : Lengths) → Decides (same_lengths a b) (a ≡ b)
 lengths_decides a b =
     Decides-like (same_lengths a b)
-    (λ e i. record { prop = e.0 i; ps1 = e.1.0 i; ps2 = e.1.1.0 i; sjw = e.1.1.1 i })
-    (λ e. (λ i. (e i).prop, (λ i. (e i).ps1, (λ i. (e i).ps2, λ i. (e i).sjw))))
-    (Decides-and (a.prop == b.prop) (a.ps1 == b.ps1 && (a.ps2 == b.ps2 && a.sjw == b.sjw)) (unsigned_Decides a.prop b.prop)
-    (Decides-and (a.ps1 == b.ps1) (a.ps2 == b.ps2 && a.sjw == b.sjw) (unsigned_Decides a.ps1 b.ps1)
-    (Decides-and (a.ps2 == b.ps2) (a.sjw == b.sjw) (unsigned_Decides a.ps2 b.ps2) (unsigned_Decides a.sjw b.sjw))))
+    (λ e i. record { prop = e.0 i; ps1 = e.1.0 i; ps2 = e.1.1.0 i; sjw = e.1.1.1.0 i; sync = e.1.1.1.1 i })
+    (λ e. (λ i. (e i).prop, (λ i. (e i).ps1, (λ i. (e i).ps2, (λ i. (e i).sjw, λ i. (e i).sync)))))
+    (Decides-and (a.prop == b.prop) (a.ps1 == b.ps1 && (a.ps2 == b.ps2 && (a.sjw == b.sjw && same_sync a.sync b.sync))) (unsigned_Decides a.prop b.prop)
+    (Decides-and (a.ps1 == b.ps1) (a.ps2 == b.ps2 && (a.sjw == b.sjw && same_sync a.sync b.sync)) (unsigned_Decides a.ps1 b.ps1)
+    (Decides-and (a.ps2 == b.ps2) (a.sjw == b.sjw && same_sync a.sync b.sync) (unsigned_Decides a.ps2 b.ps2)
+    (Decides-and (a.sjw == b.sjw) (same_sync a.sync b.sync) (unsigned_Decides a.sjw b.sjw) (sync_decides a.sync b.sync)))))
 
 pub queued_decides : (a b : Queued) → Decides (same_queued a b) (a ≡ b)
 queued_decides a b =

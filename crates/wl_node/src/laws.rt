@@ -8,8 +8,8 @@ pub fn node_laws()
 {}
 
 /// Law: what a node promises of its drive is kept, whatever it sees; between the start of a bit and its
-/// sample it drives what its machine wants; and in `n` quanta its drive changes `n / (sample_at + 1) + 1`
-/// times at most, rounded down.
+/// sample it drives what its machine wants; and in `n` quanta its drive changes `n / (least_way + 1) + 1`
+/// times at most, rounded down (`Segments::least_way`).
 pub fn drive_laws()
     ensures { DriveLaws }
 {

@@ -19,7 +19,7 @@ impl Progress {
         ensures most { result ≤ most_quiet }
     {
         let settled = self.drive.is(self.traffic.pending);
-        let place = setup.segments.sample_at() as u32;
+        let place = setup.segments.least_way() as u32;
         let least = floor(self.clock.before_sample(), settled, place);
         let waiting = self.traffic.sent < setup.queue.len();
         let silence = self.traffic.machine.silence(waiting);
@@ -34,14 +34,15 @@ impl NodeSetup {
         ensures value { result ≡ quiet_of self.now [] }
         ensures most { result ≤ most_quiet }
     {
-        let place = self.segments.sample_at() as u32;
+        wl_sync::the_sample_comes_near();
+        let place = self.segments.least_way() as u32;
         let silence = Machine::new().silence(0 < self.queue.len());
         longer(place + 1, silence, place).min(MOST_QUIET)
     }
 }
 
 /// Up to the next sample, by the way to it, whether the node drives what its machine wants, and the
-/// place of a sample.
+/// least way from a bit's start to a sample.
 fn floor(way: Option<u8>, settled: bool, place: u32) -> u32
     requires { place ≤ 17 }
     ensures value { result ≡ floor_by way settled place }

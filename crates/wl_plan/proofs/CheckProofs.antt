@@ -14,9 +14,9 @@ use Rattle.wl_topology.specs.Limits.{most_places, longest_delay}
 use Rattle.wl_plan.specs.declared.plan.Disturbance.{Disturbance}
 use Rattle.wl_plan.specs.declared.plan.Plan.{Plan}
 use Rattle.wl_plan.specs.declared.check.PlanFault.TheVariants as faults
-use Rattle.wl_plan.specs.Limits.{latest_end, most_quanta, most_disturbances}
+use Rattle.wl_plan.specs.Limits.{latest_end, most_disturbances}
 use Rattle.wl_plan.specs.PlanLine.{no_setup}
-use Rattle.wl_plan.specs.Checked.{IsChecked, IsDisturbance, first_fault, has_wrong_nodes, has_many_quanta, has_long_queue, is_refused, is_far, FaultlessIsChecked}
+use Rattle.wl_plan.specs.Checked.{IsChecked, most_quanta_of, IsDisturbance, first_fault, has_wrong_nodes, has_many_quanta, has_long_queue, is_refused, is_far, FaultlessIsChecked}
 
 -- where numbers grow, the first that is not below the end is above `most` exactly where that of `most` is below the end
 pub many_below : (q : ℕ → ℕ) → ((j k : ℕ) → j < k → q j < q k) → (most last r : ℕ) → last ≤ q r → ((k : ℕ) → k < r → q k < last)
@@ -195,7 +195,7 @@ module _ (later : (t : Timing) → IsTiming t → (j k : ℕ) → j < k → tick
         placed = nodes.2;
         ends = ltb-false _ _ h.early;
         few_quanta = λ i d b k below.
-            few_from (tick_of (get_or plan.nodes i d).clock) (later (get_or plan.nodes i d).clock (clocks i d b)) most_quanta plan.end
+            few_from (tick_of (get_or plan.nodes i d).clock) (later (get_or plan.nodes i d).clock (clocks i d b)) (most_quanta_of (get_or plan.nodes i d).segments) plan.end
             (none_position (has_many_quanta plan.end) plan.nodes h.few i d b) k below;
         short_queues = λ i d b. ltb-false _ _ (none_position has_long_queue plan.nodes h.short i d b);
         few_disturbances = few_accepted accepts;
@@ -209,7 +209,7 @@ module _ (later : (t : Timing) → IsTiming t → (j k : ℕ) → j < k → tick
     right = wrong_nodes h.some_node h.few_nodes h.placed;
     early = le-ltb _ _ h.ends;
     few = position_none (has_many_quanta plan.end) plan.nodes no_setup
-        (λ i b. few_to (tick_of (get_or plan.nodes i no_setup).clock) most_quanta plan.end (h.few_quanta i no_setup b));
+        (λ i b. few_to (tick_of (get_or plan.nodes i no_setup).clock) (most_quanta_of (get_or plan.nodes i no_setup).segments) plan.end (h.few_quanta i no_setup b));
     short = position_none has_long_queue plan.nodes no_setup (λ i b. le-ltb _ _ (h.short_queues i no_setup b));
     accepted = refused_none plan no_disturbance
         (λ n b. not_refused n (get_or plan.disturbances n no_disturbance) (h.disturbances n no_disturbance b) (let few = h.few_disturbances in omega arith));

@@ -1,12 +1,15 @@
 -- The line of a checked plan is sound.
-use Rattle.std.proofs.Common.{◌≡◌, ℕ, zero, suc, ◌+◌, ◌*◌, ◌/◌, ◌<◌, ◌≤◌, List, [], ◌++◌, length, take, refl, sym, ◌∙◌, ap, arith, false, not, inl, inr}
+use Rattle.std.proofs.Common.{◌≡◌, ℕ, zero, suc, ◌+◌, ◌*◌, ◌/◌, ◌<◌, ◌≤◌, List, [], ◌++◌, length, take, refl, sym, ◌∙◌, ap, arith, Bool, true, false, cond, not, inl, inr, nat_lt}
 use Rattle.std.proofs.Math.Nat.{div-mul-le_self, mul-le-mul_left}
 use Rattle.std.proofs.Math.Seq.{take-append_seam}
 use Rattle.wl_level.specs.declared.Level.{Level}
 use Rattle.wl_level.specs.declared.Level.TheVariants.{Dominant, Recessive}
 use Rattle.wl_level.specs.Levels.{is_dominant, same}
 use Rattle.wl_level.specs.Places.{count_places, PlaceLaws}
-use Rattle.wl_segments.specs.Lengths.{sample_at}
+use Rattle.wl_segments.specs.declared.SyncSeg.{SyncSeg}
+use Rattle.wl_segments.specs.declared.SyncSeg.TheVariants.{After, Inside}
+use Rattle.wl_segments.specs.Lengths.{Lengths, least_way, found_by}
+use Rattle.std.proofs.lemmas.Bool.{ltb-false}
 use Rattle.wl_clock.specs.Timing.{Timing, IsTiming, tick_of, slowest_rate, largest_offset}
 use Rattle.wl_record_core.specs.Limits.{most_nodes-is, most_edges, most_edges-is, tick_end, tick_end-is}
 use Rattle.wl_node.specs.declared.setup.NodeSetup.{NodeSetup}
@@ -14,12 +17,12 @@ use Rattle.wl_node.specs.History.{history_of}
 use Rattle.wl_node.specs.Quiet.{quiet_of, drive_at, changes_of}
 use Rattle.wl_node.specs.declared.limits.TheConstants.{MOST_QUIET}
 use Rattle.wl_plan.specs.declared.plan.Plan.{Plan}
-use Rattle.wl_plan.specs.Limits.{latest_end, most_quanta, most_quanta-is, most_quiet, most_quiet-is}
+use Rattle.wl_plan.specs.Limits.{latest_end, most_quanta, most_quanta-is, most_short_quanta, most_short_quanta-is, most_quiet, most_quiet-is}
 use Rattle.wl_plan.specs.PlanLine.{line_of, setup_at, no_setup, table_of}
 use Rattle.wl_plan.specs.Simulation.{seen, differs, ran, AreInside}
 use Rattle.wl_plan.specs.SimulationLaws.{SimulationLaws}
 use Rattle.wl_plan.specs.Sound.{IsCausal, IsSound}
-use Rattle.wl_plan.specs.Checked.{IsChecked, CheckedIsSound}
+use Rattle.wl_plan.specs.Checked.{IsChecked, CheckedIsSound, most_quanta_of}
 
 -- What the clock's laws give.
 pub record ClockLaws : Type 0 where
@@ -32,7 +35,7 @@ pub record QuietLaws : Type 0 where
   pub stays : (setup : NodeSetup) (levels more : List Level) → length more ≤ quiet_of setup levels
       → (history_of setup (levels ++ more)).drive ≡ (history_of setup levels).drive
   pub most : (setup : NodeSetup) (levels : List Level) → quiet_of setup levels ≤ most_quiet
-  pub few : (setup : NodeSetup) (levels : List Level) → changes_of setup levels ≤ length levels / suc (sample_at setup.segments) + 1
+  pub few : (setup : NodeSetup) (levels : List Level) → changes_of setup levels ≤ length levels / suc (least_way setup.segments) + 1
 
 -- a node that has seen nothing drives recessive
 begins : (setup : NodeSetup) → is_dominant (history_of setup []).drive ≡ false
@@ -46,12 +49,34 @@ differs_as Dominant Recessive = refl
 differs_as Recessive Dominant = refl
 differs_as Recessive Recessive = refl
 
--- so many quanta give room for so many parts of bits from a start to its sample, the shortest of which has four quanta
-few_parts : (n place : ℕ) → n ≤ most_quanta → 3 ≤ place → n / suc place + 1 ≤ most_edges
-few_parts n place few long =
-    let d : n / suc place * suc place ≤ n = div-mul-le_self n (suc place) in
-    let m : n / suc place * 4 ≤ n / suc place * suc place = mul-le-mul_left (n / suc place) (omega arith) in
-    omega (arith, most_quanta-is, most_edges-is)
+-- so many quanta give room for so many parts of bits from a start to its sample: of four quanta at least, or of three where a node has fewer quanta
+few_parts : (n way : ℕ) → n ≤ cond (nat_lt way 3) most_short_quanta most_quanta → 2 ≤ way → n / suc way + 1 ≤ most_edges
+few_parts n way few long = by_way (nat_lt way 3) refl few
+  where
+    d : n / suc way * suc way ≤ n
+    d = div-mul-le_self n (suc way)
+
+    by_way : (b : Bool) → nat_lt way 3 ≡ b → n ≤ cond b most_short_quanta most_quanta → n / suc way + 1 ≤ most_edges
+    by_way true e f =
+        let m : n / suc way * 3 ≤ n / suc way * suc way = mul-le-mul_left (n / suc way) (omega arith) in
+        omega (arith, d, most_short_quanta-is, most_edges-is)
+    by_way false e f =
+        let long : 3 ≤ way = ltb-false way 3 e in
+        let m : n / suc way * 4 ≤ n / suc way * suc way = mul-le-mul_left (n / suc way) (omega arith) in
+        omega (arith, d, most_quanta-is, most_edges-is)
+
+-- no node has more than the most
+few_of_all : (l : Lengths) → most_quanta_of l ≤ most_quanta
+few_of_all l = by_way (nat_lt (least_way l) 3)
+  where
+    by_way : (b : Bool) → cond b most_short_quanta most_quanta ≤ most_quanta
+    by_way true = omega (arith, most_short_quanta-is, most_quanta-is)
+    by_way false = omega arith
+
+-- a sample comes two quanta after a start at least
+found_near : (s : SyncSeg) → found_by s ≤ 1
+found_near After = omega arith
+found_near Inside = omega arith
 
 module _ (places : PlaceLaws) (clocks : ClockLaws) (drives : QuietLaws) (laws : SimulationLaws) (plan : Plan) (h : IsChecked plan) where
   timed : (i : ℕ) → i < length plan.nodes → IsTiming (setup_at plan i).clock
@@ -66,7 +91,7 @@ module _ (places : PlaceLaws) (clocks : ClockLaws) (drives : QuietLaws) (laws : 
   }
 
   few : (i k : ℕ) → i < length plan.nodes → tick_of (setup_at plan i).clock k < plan.end → k < most_quanta
-  few i k b below = h.few_quanta i no_setup b k below
+  few i k b below = (let f = h.few_quanta i no_setup b k below in let g = few_of_all (setup_at plan i).segments in omega arith)
 
   -- all that a node sees, and the first levels of it
   abbrev all_seen : ℕ → List Level
@@ -92,18 +117,18 @@ module _ (places : PlaceLaws) (clocks : ClockLaws) (drives : QuietLaws) (laws : 
       ∙ ap (count_places (λ k. not (same (drive_at (setup_at plan i) (all_seen i) k) (drive_at (setup_at plan i) (all_seen i) (suc k))))) (sym (laws.length_seen l i n))))
 
   -- no more quanta than may be
-  quanta_few : (i n : ℕ) → i < length plan.nodes → AreInside (line_of plan) i n → n ≤ most_quanta
+  quanta_few : (i n : ℕ) → i < length plan.nodes → AreInside (line_of plan) i n → n ≤ most_quanta_of (setup_at plan i).segments
   quanta_few i zero b inside = omega arith
-  quanta_few i (suc n) b inside = few i n b (inside n (omega arith))
+  quanta_few i (suc n) b inside = (let f = h.few_quanta i no_setup b n (inside n (omega arith)) in omega arith)
 
   changes_few : (i : ℕ) → i < length plan.nodes → length (table_of plan i) ≤ most_edges
   changes_few i b =
       let n = ran (line_of plan) i plan.end in
       let lengths = h.segments i no_setup b in
-      let least : 3 ≤ sample_at (setup_at plan i).segments = (let p = lengths.prop_low in let q = lengths.ps1_low in omega arith) in
-      let room = few_parts n (sample_at (setup_at plan i).segments) (quanta_few i n b (laws.ran_inside (line_of plan) i plan.end causal b)) least in
+      let least : 2 ≤ least_way (setup_at plan i).segments = (let p = lengths.prop_low in let q = lengths.ps1_low in let s = found_near (setup_at plan i).segments.sync in omega arith) in
+      let room = few_parts n (least_way (setup_at plan i).segments) (quanta_few i n b (laws.ran_inside (line_of plan) i plan.end causal b)) least in
       let counted = drives.few (setup_at plan i) (all_seen i) in
-      let all = ap (λ k. k / suc (sample_at (setup_at plan i).segments) + 1) (laws.length_seen (line_of plan) i n) in
+      let all = ap (λ k. k / suc (least_way (setup_at plan i).segments) + 1) (laws.length_seen (line_of plan) i n) in
       let are = changes_are i b in
       omega arith
 

@@ -1,8 +1,8 @@
 -- When a plan can be run, and what is wrong with one that can't. This project's profile.
-use Rattle.std.specs.Prelude.{◌≡◌, ℕ, ◌<◌, ◌≤◌, ◌==◌, ◌||◌, ◌↔◌, nat_le, nat_lt, not, Bool, true, false, length, position, All, Option, None, Some}
+use Rattle.std.specs.Prelude.{◌≡◌, ℕ, ◌<◌, ◌≤◌, ◌==◌, ◌||◌, ◌↔◌, nat_le, nat_lt, not, Bool, true, false, length, position, All, Option, None, Some, if◌then◌else◌}
 use Rattle.std.specs.List.{enumerate_from}
 use Rattle.wl_clock.specs.Timing.{IsTiming, tick_of}
-use Rattle.wl_segments.specs.Lengths.{AreLengths}
+use Rattle.wl_segments.specs.Lengths.{Lengths, AreLengths, least_way}
 use Rattle.wl_topology.specs.Delays.{IsTopology, disturbance_delay}
 use Rattle.wl_topology.specs.Driven.{any_below}
 use Rattle.wl_topology.specs.Limits.{most_places, longest_delay}
@@ -11,13 +11,17 @@ use Rattle.wl_plan.specs.declared.check.PlanFault.{PlanFault}
 use Rattle.wl_plan.specs.declared.check.PlanFault.TheVariants as faults
 use Rattle.wl_plan.specs.declared.plan.Disturbance.{Disturbance}
 use Rattle.wl_plan.specs.declared.plan.Plan.{Plan}
-use Rattle.wl_plan.specs.Limits.{latest_end, most_quanta, most_queued, most_disturbances}
+use Rattle.wl_plan.specs.Limits.{latest_end, most_quanta, most_short_quanta, most_queued, most_disturbances}
 use Rattle.wl_plan.specs.PlanLine.{line_of}
 use Rattle.wl_plan.specs.Sound.{IsSound}
 
+-- the most quanta of a node before the end: so many that records can tell each of its changes, between which a start and its sample come
+abbrev pub most_quanta_of : Lengths → ℕ
+most_quanta_of l = if nat_lt (least_way l) 3 then most_short_quanta else most_quanta
+
 -- few quanta of a node begin before the end; quanta count from 0
 abbrev pub HasFewQuanta : ℕ → NodeSetup → Type 0
-HasFewQuanta end node = (k : ℕ) → tick_of node.clock k < end → k < most_quanta
+HasFewQuanta end node = (k : ℕ) → tick_of node.clock k < end → k < most_quanta_of node.segments
 
 -- A disturbance takes some ticks, ends in time, and comes to each node soon.
 pub record IsDisturbance (plan : Plan) (d : Disturbance) : Type 0 where
@@ -46,7 +50,7 @@ has_wrong_nodes plan =
 
 -- one quantum more than allowed begins before the end
 abbrev pub has_many_quanta : ℕ → NodeSetup → Bool
-has_many_quanta end node = nat_lt (tick_of node.clock most_quanta) end
+has_many_quanta end node = nat_lt (tick_of node.clock (most_quanta_of node.segments)) end
 
 abbrev pub has_long_queue : NodeSetup → Bool
 has_long_queue node = nat_lt most_queued (length node.queue)

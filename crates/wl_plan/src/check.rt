@@ -5,15 +5,16 @@ ghost use Rattle.std.specs.List.{enumerate_from};
 ghost use Rattle.wl_clock.specs.Timing.{IsTiming, tick_of};
 ghost use Rattle.wl_segments.specs.Lengths.{AreLengths};
 ghost use Rattle.wl_topology.specs.Delays.{IsTopology};
-ghost use Rattle.wl_plan.specs.Checked.{IsChecked, fault_of, has_wrong_nodes, has_many_quanta, has_long_queue, is_refused, is_far};
-ghost use Rattle.wl_plan.specs.Limits.{latest_end, most_quanta};
+ghost use Rattle.wl_plan.specs.Checked.{IsChecked, most_quanta_of, fault_of, has_wrong_nodes, has_many_quanta, has_long_queue, is_refused, is_far};
+ghost use Rattle.wl_plan.specs.Limits.{latest_end};
 
 use crate::laws::faultless_is_checked;
-use crate::limits::{LATEST_END, MOST_DISTURBANCES, MOST_QUANTA, MOST_QUEUED};
+use crate::limits::{LATEST_END, MOST_DISTURBANCES, MOST_QUANTA, MOST_QUEUED, MOST_SHORT_QUANTA};
 use crate::plan::{Disturbance, Plan};
 use thiserror::Error;
 use wl_clock::Clock;
 use wl_node::NodeSetup;
+use wl_segments::Segments;
 use wl_topology::{LONGEST_DELAY, MOST_NODES};
 
 /// Why a plan can't be run: the first that applies, in this order. Numbers of nodes and disturbances count from 0, and the first is named.
@@ -25,7 +26,8 @@ pub enum PlanFault {
     /// The end is above 2^36 ticks.
     #[error("End")]
     End,
-    /// More than 1,048,576 quanta of this node begin before the end.
+    /// More than 1,048,576 quanta of this node begin before the end, or more than 786,432 where it may sample every third one: an edge lies in
+    /// SYNC_SEG, and the sample is at place 3.
     #[error("Quanta({0})")]
     Quanta(u64),
     /// More than 64 frames wait at this node.
@@ -114,14 +116,27 @@ impl Plan {
     }
 }
 
-/// Whether more quanta begin before the end than a plan may have.
-fn has_many_quanta(clock: &Clock, end: u64) -> bool
+/// The most quanta of a node with these segments before the end.
+#[tactic(auto, unfolding(crate::specs::Limits::most_quanta, crate::specs::Limits::most_short_quanta))]
+fn most_quanta(segments: &Segments) -> u64
+    ensures most { result ≡ most_quanta_of segments.now }
+    ensures lengths { AreLengths segments.now }
+{
+    if segments.least_way() < 3 {
+        MOST_SHORT_QUANTA
+    } else {
+        MOST_QUANTA
+    }
+}
+
+/// Whether more than `most` quanta begin before the end.
+fn has_many_quanta(clock: &Clock, most: u64, end: u64) -> bool
     requires { end ≤ latest_end }
-    ensures many { result ≡ nat_lt (tick_of clock.now most_quanta) end }
+    ensures many { result ≡ nat_lt (tick_of clock.now most) end }
     ensures timing { IsTiming clock.now }
 {
     wl_clock::ticks_increase();
-    clock.first_not_before(end) > MOST_QUANTA
+    clock.first_not_before(end) > most
 }
 
 /// The first node with too many quanta before the end.
@@ -133,9 +148,7 @@ fn first_with_many_quanta(nodes: &[NodeSetup], end: u64) -> Option<usize>
     ensures segments { IfNone result (All (λ node. AreLengths node.segments) nodes.now) }
 {
     for (i, node) in nodes.iter().enumerate() {
-        // each node's segments are some
-        let _ = node.segments.sample_at();
-        if has_many_quanta(&node.clock, end) {
+        if has_many_quanta(&node.clock, most_quanta(&node.segments), end) {
             return Some(i);
         }
     }

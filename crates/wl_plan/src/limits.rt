@@ -6,6 +6,10 @@ pub const LATEST_END: u64 = 68_719_476_736;
 /// The most quanta of a node before the end of a plan.
 pub const MOST_QUANTA: u64 = 1_048_576;
 
+/// The most quanta before the end of a plan of a node that may sample every third quantum, where an edge lies in SYNC_SEG and the sample is at
+/// place 3: its changes are as few as those of others then.
+pub const MOST_SHORT_QUANTA: u64 = 786_432;
+
 /// The most frames that wait at a node.
 pub const MOST_QUEUED: usize = 64;
 

@@ -1,10 +1,11 @@
 -- Worked segments: which are accepted, where they are sampled, and the greatest deviation that is tolerated.
 use Rattle.std.proofs.Common.{◌≡◌, ℕ, Ok, Err, refl, arith}
 use Rattle.wl_segments.specs.declared.SegmentsFault.TheVariants.{Prop, Jump, Length}
-use Rattle.wl_segments.specs.Lengths.{Lengths, IsTolerated, bit_quanta, sample_at, segments_of}
+use Rattle.wl_segments.specs.declared.SyncSeg.TheVariants.{After, Inside}
+use Rattle.wl_segments.specs.Lengths.{Lengths, IsTolerated, bit_quanta, sample_at, least_way, segments_of}
 
 abbrev lengths : ℕ → ℕ → ℕ → ℕ → Lengths
-lengths prop ps1 ps2 sjw = record { prop = prop; ps1 = ps1; ps2 = ps2; sjw = sjw }
+lengths prop ps1 ps2 sjw = record { prop = prop; ps1 = ps1; ps2 = ps2; sjw = sjw; sync = After }
 
 accepted : segments_of 3 3 3 2 ≡ Ok (lengths 3 3 3 2)
 accepted = refl
@@ -14,6 +15,16 @@ quanta = refl
 
 sample : sample_at (lengths 3 3 3 2) ≡ 7
 sample = refl
+
+way_after : least_way (lengths 3 3 3 2) ≡ 7
+way_after = refl
+
+way_inside : least_way (record (lengths 3 3 3 2) { sync = Inside }) ≡ 6
+way_inside = refl
+
+-- without the choice of the book a way is the place of the sample, whatever the lengths
+way_as_before : (prop ps1 ps2 sjw : ℕ) → least_way (lengths prop ps1 ps2 sjw) ≡ sample_at (lengths prop ps1 ps2 sjw)
+way_as_before prop ps1 ps2 sjw = omega arith
 
 no_prop : segments_of 0 3 3 2 ≡ Err Prop
 no_prop = refl

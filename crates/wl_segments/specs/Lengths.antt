@@ -2,13 +2,17 @@
 use Rattle.std.specs.Prelude.{ℕ, ◌+◌, ◌-◌, ◌*◌, ◌≤◌, ◌||◌, nat_lt, min, Result, Ok, Err, if◌then◌else◌}
 use Rattle.wl_segments.specs.declared.SegmentsFault.{SegmentsFault}
 use Rattle.wl_segments.specs.declared.SegmentsFault.TheVariants.{Prop, Phase1, Phase2, Jump, Length}
+use Rattle.wl_segments.specs.declared.SyncSeg.{SyncSeg}
+use Rattle.wl_segments.specs.declared.SyncSeg.TheVariants.{After, Inside}
 
--- PROP_SEG, PHASE_SEG1, PHASE_SEG2 and the resynchronisation jump width (Bosch CAN 2.0 part B, section 10)
+-- PROP_SEG, PHASE_SEG1, PHASE_SEG2 and the resynchronisation jump width (Bosch CAN 2.0 part B, section 10); and where
+-- SYNC_SEG lies in a bit that an edge begins
 pub record Lengths : Type 0 where
   pub prop : ℕ
   pub ps1 : ℕ
   pub ps2 : ℕ
   pub sjw : ℕ
+  pub sync : SyncSeg
 
 -- the place of the sample in a bit that nothing moved: after SYNC_SEG of 1 quantum, PROP_SEG and PHASE_SEG1
 -- (Bosch CAN 2.0 part B, section 10)
@@ -18,6 +22,20 @@ sample_at l = 1 + l.prop + l.ps1
 -- the quanta of a bit that nothing moved: the nominal bit time (Bosch CAN 2.0 part B, section 10)
 abbrev pub bit_quanta : Lengths → ℕ
 bit_quanta l = sample_at l + l.ps2
+
+-- The place, in the bit that an edge begins, of the quantum that finds the edge: SYNC_SEG itself, so that the edge lies before it (this
+-- project's profile), or the first quantum after it, so that the edge lies within it (Bosch CAN 2.0 part B, section 10, hard synchronization).
+abbrev pub found_by : SyncSeg → ℕ
+found_by After = 0
+found_by Inside = 1
+
+-- the same in a bit of these lengths, of which the sample is one quantum after it at least
+abbrev pub found_at : Lengths → ℕ
+found_at l = min (found_by l.sync) (l.prop + l.ps1)
+
+-- from the start of a bit that nothing moves up to its sample, that quantum too, at least
+abbrev pub least_way : Lengths → ℕ
+least_way l = sample_at l - found_at l
 
 -- what holds of all segments: each length is in its range (Bosch CAN 2.0 part B, section 10; PHASE_SEG2 from 2 to 8,
 -- whatever PHASE_SEG1 is: this project's profile)
@@ -35,7 +53,7 @@ pub record AreLengths (l : Lengths) : Type 0 where
   pub high : bit_quanta l ≤ 25
 
 -- the segments of these lengths, or the first refusal that applies (the ranges of Bosch CAN 2.0 part B, section 10;
--- the order is this project's profile)
+-- the order, and that SYNC_SEG comes after an edge, are this project's profile)
 abbrev pub segments_of : ℕ → ℕ → ℕ → ℕ → Result Lengths SegmentsFault
 segments_of prop ps1 ps2 sjw =
     if nat_lt prop 1 || nat_lt 8 prop then Err Prop
@@ -43,7 +61,7 @@ segments_of prop ps1 ps2 sjw =
     else if nat_lt ps2 2 || nat_lt 8 ps2 then Err Phase2
     else if nat_lt sjw 1 || nat_lt (min 4 ps1) sjw then Err Jump
     else if nat_lt (1 + prop + ps1 + ps2) 8 || nat_lt 25 (1 + prop + ps1 + ps2) then Err Length
-    else Ok (record { prop = prop; ps1 = ps1; ps2 = ps2; sjw = sjw })
+    else Ok (record { prop = prop; ps1 = ps1; ps2 = ps2; sjw = sjw; sync = After })
 
 -- Two oscillators that each deviate by so many parts per million stay in step over 13 bits but for PHASE_SEG2, as
 -- after an error flag, and over the 10 bits between two resynchronisations (this project's profile)

@@ -6,7 +6,7 @@
 #![tactic(auto)]
 
 ghost use Rattle.std.specs.Prelude.{◌≡◌, ℕ, ◌≤◌, ◌↔◌, IsTrue};
-ghost use Rattle.wl_segments.specs.Lengths.{Lengths, AreLengths, IsTolerated, segments_of, sample_at, bit_quanta};
+ghost use Rattle.wl_segments.specs.Lengths.{Lengths, AreLengths, IsTolerated, segments_of, sample_at, bit_quanta, found_at, least_way};
 
 use std::marker::Model;
 use thiserror::Error;
@@ -31,27 +31,37 @@ pub enum SegmentsFault {
     Length,
 }
 
-/// The segments of a bit and the resynchronisation jump width, in quanta.
+/// Where SYNC_SEG lies in a bit that an edge begins: an edge is found by the first quantum that begins on a dominant line.
+#[derive(Clone, Copy, Debug, PartialEq, Eq)]
+pub enum SyncSeg {
+    /// The quantum that finds the edge is SYNC_SEG, so the edge lies before it, by a quantum at most: this project's profile.
+    After,
+    /// The quantum before it is SYNC_SEG, so the edge lies within it (Bosch CAN 2.0 part B, section 10).
+    Inside,
+}
+
+/// The segments of a bit and the resynchronisation jump width, in quanta, and where SYNC_SEG lies in a bit that an edge begins.
 #[derive(Clone, Copy, Debug, PartialEq, Eq)]
 pub struct Segments {
     prop: u8,
     ps1: u8,
     ps2: u8,
     sjw: u8,
+    sync: SyncSeg,
 }
 
 impl Model for Segments {
     ghost Value = { Lengths };
 
-    ghost view = { λ s. record { prop = s.prop; ps1 = s.ps1; ps2 = s.ps2; sjw = s.sjw } };
+    ghost view = { λ s. record { prop = s.prop; ps1 = s.ps1; ps2 = s.ps2; sjw = s.sjw; sync = s.sync } };
 
-    ghost inverse = { λ l. record { prop = l.prop; ps1 = l.ps1; ps2 = l.ps2; sjw = l.sjw } };
+    ghost inverse = { λ l. record { prop = l.prop; ps1 = l.ps1; ps2 = l.ps2; sjw = l.sjw; sync = l.sync } };
 
-    ghost invariant = { λ s. AreLengths (record { prop = s.prop; ps1 = s.ps1; ps2 = s.ps2; sjw = s.sjw }) };
+    ghost invariant = { λ s. AreLengths (record { prop = s.prop; ps1 = s.ps1; ps2 = s.ps2; sjw = s.sjw; sync = s.sync }) };
 }
 
 impl Segments {
-    /// The segments with PROP_SEG, PHASE_SEG1 and PHASE_SEG2 of these quanta, and this jump width.
+    /// The segments with PROP_SEG, PHASE_SEG1 and PHASE_SEG2 of these quanta, and this jump width. SYNC_SEG comes after an edge.
     ///
     /// Refused as `Prop` (not 1 to 8), `Phase1` (not 1 to 8), `Phase2` (not 2 to 8), `Jump` (not 1 to the lesser of 4
     /// and `ps1`) or `Length` (all four segments together below 8 quanta or above 25); where several apply, the first
@@ -80,7 +90,40 @@ impl Segments {
             ps1: ps1 as u8,
             ps2: ps2 as u8,
             sjw: sjw as u8,
+            sync: SyncSeg::After,
         })
+    }
+
+    /// The same segments, with SYNC_SEG there in a bit that an edge begins.
+    pub fn with_sync(self, sync: SyncSeg) -> Segments
+        ensures { result ≡ record self { sync = sync } }
+    {
+        Segments { sync, ..self }
+    }
+
+    /// Where SYNC_SEG lies in a bit that an edge begins.
+    pub fn sync(&self) -> SyncSeg
+        ensures { result ≡ self.now.sync }
+    {
+        self.sync
+    }
+
+    /// The place, in the bit that an edge begins, of the quantum that finds the edge: 0 or 1.
+    pub fn found_at(&self) -> u64
+        ensures { result ≡ found_at self.now }
+    {
+        match self.sync {
+            SyncSeg::After => 0,
+            SyncSeg::Inside => 1,
+        }
+    }
+
+    /// The least quanta from the start of a bit up to its sample, that quantum too: 2 to 17.
+    pub fn least_way(&self) -> u64
+        ensures way { result ≡ least_way self.now }
+        ensures lengths { AreLengths self.now }
+    {
+        self.sample_at() - self.found_at()
     }
 
     /// PROP_SEG: 1 to 8 quanta.

@@ -18,6 +18,7 @@ use Rattle.wl_setup.specs.declared.plan_text.PlanText.{PlanText}
 use Rattle.wl_setup.specs.declared.plan_text.NodeText.{NodeText}
 use Rattle.wl_setup.specs.declared.plan_text.FrameText.{FrameText}
 use Rattle.wl_setup.specs.declared.plan_text.ClockText.TheVariants.{Rate}
+use Rattle.wl_segments.specs.declared.SyncSeg.TheVariants.{After}
 use Rattle.wl_setup.specs.Limits.{most_bytes, largest_number, largest_small, largest_ppm, largest_byte, longest_name, first_version, version_of_rates}
 use Rattle.wl_setup.specs.Plans.{plan_of_text, queued_of}
 
@@ -47,12 +48,13 @@ text_with id in_delay end = record {
   per = 1;
   node = node_text (codes "a") 0 in_delay (frame_text id ∷ []) ∷ node_text (codes "b") 50 1 [] ∷ [];
   disturbance = [];
+  sync = After;
 }
 
 abbrev setup_with : List Queued → NodeSetup
 setup_with queue = record {
   clock = record { offset = 0; rates = record { from = 0; num = 100; den = 1 } ∷ [] };
-  segments = record { prop = 3; ps1 = 3; ps2 = 3; sjw = 2 };
+  segments = record { prop = 3; ps1 = 3; ps2 = 3; sjw = 2; sync = After };
   queue = queue;
 }
 

@@ -1,7 +1,7 @@
 -- The keys of a plan's tables (this project's profile).
 use Rattle.std.specs.Prelude.{ℕ, List, [], ◌∷◌, codes}
 use Rattle.wl_setup.specs.declared.keys.Key.{Key}
-use Rattle.wl_setup.specs.declared.keys.Key.TheVariants.{Version, End, Per, Node, Disturbance, Name, Offset, Num, Den, Quantum, Ppm, Rates, Prop, Ps1, Ps2, Sjw, X, Out, In, Frame, Id, Dlc, Remote, Bytes, Ready, Extended, From, To}
+use Rattle.wl_setup.specs.declared.keys.Key.TheVariants.{Version, End, Per, Node, Disturbance, Sync, Name, Offset, Num, Den, Quantum, Ppm, Rates, Prop, Ps1, Ps2, Sjw, X, Out, In, Frame, Id, Dlc, Remote, Bytes, Ready, Extended, From, To}
 use Rattle.wl_setup.specs.declared.keys.Kind.{Kind}
 use Rattle.wl_setup.specs.declared.keys.Kind.TheVariants as kind
 
@@ -12,6 +12,7 @@ key_text End = codes "end"
 key_text Per = codes "per"
 key_text Node = codes "node"
 key_text Disturbance = codes "disturbance"
+key_text Sync = codes "sync"
 key_text Name = codes "name"
 key_text Offset = codes "offset"
 key_text Num = codes "num"
@@ -50,6 +51,7 @@ kind_of Ppm = kind.Ppm
 kind_of Remote = kind.Truth
 kind_of Extended = kind.Truth
 kind_of Bytes = kind.Bytes
+kind_of Sync = kind.Sync
 kind_of _ = kind.Number
 
 -- the keys of a table, in the order in which they are tested
@@ -58,7 +60,7 @@ pub record TableKeys : Type 0 where
   pub optional : List Key
 
 abbrev pub top_keys : TableKeys
-top_keys = record { required = Version ∷ End ∷ Per ∷ Node ∷ []; optional = Disturbance ∷ [] }
+top_keys = record { required = Version ∷ End ∷ Per ∷ Node ∷ []; optional = Disturbance ∷ Sync ∷ [] }
 
 -- of a node whose rate is written as a fraction
 abbrev pub node_keys_by_rate : TableKeys

@@ -7,6 +7,7 @@ use Rattle.wl_clock.specs.declared.Rate.{Rate}
 use Rattle.wl_clock.specs.declared.ClockFault.{ClockFault}
 use Rattle.wl_segments.specs.Lengths.{Lengths, segments_of}
 use Rattle.wl_segments.specs.declared.SegmentsFault.{SegmentsFault}
+use Rattle.wl_segments.specs.declared.SyncSeg.{SyncSeg}
 use Rattle.wl_frame.specs.Grammar.{frame_of_numbers}
 use Rattle.wl_topology.specs.declared.Place.{Place}
 use Rattle.wl_topology.specs.Delays.{Cable, topology_of}
@@ -56,9 +57,14 @@ rate_in i text = named (fault.NodeClock i) (rate_from text.from text.clock)
 abbrev pub clock_in : ℕ → NodeText → Result Timing SetupFault
 clock_in i node = after (each (rate_in i) node.rates) (λ rates. named (fault.NodeClock i) (timing_of_rates node.offset rates))
 
+-- segments with SYNC_SEG there in a bit that an edge begins
+abbrev pub with_sync : SyncSeg → Result Lengths SegmentsFault → Result Lengths SegmentsFault
+with_sync sync (Ok lengths) = Ok (record lengths { sync = sync })
+with_sync sync (Err e) = Err e
+
 -- the bit segments that they make, or their fault
-abbrev pub segments_of_node : NodeText → Result Lengths SegmentsFault
-segments_of_node node = segments_of node.prop node.ps1 node.ps2 node.sjw
+abbrev pub segments_of_node : SyncSeg → NodeText → Result Lengths SegmentsFault
+segments_of_node sync node = with_sync sync (segments_of node.prop node.ps1 node.ps2 node.sjw)
 
 -- a numbered frame of node i: a frame that waits from its quantum `ready` on
 abbrev pub queued_of : ℕ → ℕ × FrameText → Result Queued SetupFault
@@ -67,10 +73,10 @@ queued_of i (n, text) =
     (λ frame. Ok (record { frame = frame; ready = text.ready }))
 
 -- a numbered node: its clock, then its segments, then its frames in order
-abbrev pub setup_of : ℕ × NodeText → Result NodeSetup SetupFault
-setup_of (i, node) =
+abbrev pub setup_of : SyncSeg → ℕ × NodeText → Result NodeSetup SetupFault
+setup_of sync (i, node) =
     after (clock_in i node)
-    (λ clock. after (named (fault.NodeSegments i) (segments_of_node node))
+    (λ clock. after (named (fault.NodeSegments i) (segments_of_node sync node))
     (λ segments. after (each (queued_of i) (enumerate_from 0 node.frame))
     (λ queue. Ok (record { clock = clock; segments = segments; queue = queue }))))
 
@@ -95,7 +101,7 @@ runnable plan = unless_refused plan (fault_of plan)
 -- the plan of a text, or its first fault: of the nodes in order, of the topology, of the whole plan
 abbrev pub plan_of_text : PlanText → Result Plan SetupFault
 plan_of_text text =
-    after (each setup_of (enumerate_from 0 text.node))
+    after (each (setup_of text.sync) (enumerate_from 0 text.node))
     (λ nodes. after (cable_of text)
     (λ cable. runnable (record { nodes = nodes; topology = cable; disturbances = map disturbance_in text.disturbance; end = text.end })))
 

@@ -25,6 +25,8 @@ pub enum Kind {
     Bytes,
     /// An array of tables.
     Tables,
+    /// `"after"` or `"inside"`.
+    Sync,
 }
 
 /// A key of one of the tables of a plan.
@@ -35,6 +37,7 @@ pub enum Key {
     Per,
     Node,
     Disturbance,
+    Sync,
     Name,
     Offset,
     Num,
@@ -71,6 +74,7 @@ impl Key {
             Key::Per => "per",
             Key::Node => "node",
             Key::Disturbance => "disturbance",
+            Key::Sync => "sync",
             Key::Name => "name",
             Key::Offset => "offset",
             Key::Num => "num",
@@ -108,6 +112,7 @@ impl Key {
             Key::Ppm => Kind::Ppm,
             Key::Remote | Key::Extended => Kind::Truth,
             Key::Bytes => Kind::Bytes,
+            Key::Sync => Kind::Sync,
             _ => Kind::Number,
         }
     }
@@ -127,7 +132,7 @@ pub(crate) fn top_keys() -> Keys
 {
     Keys {
         required: &[Key::Version, Key::End, Key::Per, Key::Node],
-        optional: &[Key::Disturbance],
+        optional: &[Key::Disturbance, Key::Sync],
     }
 }
 

@@ -16,7 +16,7 @@ use wl_frame::frame::Frame;
 use wl_level::Listed;
 use wl_node::{NodeSetup, Queue, Queued};
 use wl_plan::{Disturbance, Disturbances, Nodes, Plan};
-use wl_segments::{Segments, SegmentsFault};
+use wl_segments::{Segments, SegmentsFault, SyncSeg};
 use wl_topology::{Place, Topology};
 
 impl FrameText {
@@ -94,19 +94,22 @@ impl NodeText {
         }
     }
 
-    /// The bit segments that the keys `prop`, `ps1`, `ps2` and `sjw` make.
-    fn make_segments(&self) -> Result<Segments, SegmentsFault>
-        ensures { result ≡ segments_of_node self.now }
+    /// The bit segments that the keys `prop`, `ps1`, `ps2` and `sjw` make, with SYNC_SEG there in a bit that an edge begins.
+    fn make_segments(&self, sync: SyncSeg) -> Result<Segments, SegmentsFault>
+        ensures { result ≡ segments_of_node sync self.now }
     {
-        Segments::new(self.prop, self.ps1, self.ps2, self.sjw)
+        match Segments::new(self.prop, self.ps1, self.ps2, self.sjw) {
+            Ok(segments) => Ok(segments.with_sync(sync)),
+            Err(fault) => Err(fault),
+        }
     }
 
     /// What node `i` is made of: its clock, its segments and its frames, or the first fault of these in order.
-    fn setup(&self, alloc: Global, i: u64) -> Result<NodeSetup, SetupFault>
-        ensures { IsAnswer (setup_of (i, self.now)) result }
+    fn setup(&self, alloc: Global, i: u64, sync: SyncSeg) -> Result<NodeSetup, SetupFault>
+        ensures { IsAnswer (setup_of sync (i, self.now)) result }
     {
         let clock = self.make_clock(alloc, i)?;
-        let segments = match self.make_segments() {
+        let segments = match self.make_segments(sync) {
             Ok(segments) => segments,
             Err(fault) => return Err(SetupFault::NodeSegments(i, fault)),
         };
@@ -131,12 +134,12 @@ impl NodeText {
 }
 
 /// What the nodes are made of, or the first fault, node by node.
-fn setups(alloc: Global, nodes: &[NodeText]) -> Result<Nodes, SetupFault>
-    ensures { IsAnswer (each setup_of (enumerate_from 0 nodes.now)) result }
+fn setups(alloc: Global, nodes: &[NodeText], sync: SyncSeg) -> Result<Nodes, SetupFault>
+    ensures { IsAnswer (each (setup_of sync) (enumerate_from 0 nodes.now)) result }
 {
     let mut setups = Listed::new(alloc);
     for (i, node) in nodes.iter().enumerate() {
-        setups.push(node.setup(alloc, i as u64)?)?;
+        setups.push(node.setup(alloc, i as u64, sync)?)?;
     }
     Ok(setups)
 }
@@ -181,7 +184,7 @@ impl PlanText {
         ensures answer { IsAnswer (plan_of_text self.now) result }
         ensures checked { IfOk result IsChecked }
     {
-        let nodes = setups(alloc, self.node.as_slice())?;
+        let nodes = setups(alloc, self.node.as_slice(), self.sync)?;
         let plan = Plan {
             nodes,
             topology: self.topology(alloc)?,

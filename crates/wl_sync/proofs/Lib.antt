@@ -1,4 +1,5 @@
 mod Rows
 mod Ways
+mod AsBefore
 mod Cuts
 mod Remembered

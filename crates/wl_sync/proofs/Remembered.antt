@@ -1,14 +1,16 @@
 -- A bit clock keeps the last level of the line and the last sample, across the borders of bits.
-use Rattle.std.proofs.Common.{◌≡◌, ◌+◌, ◌∙◌, List, [], ◌∷◌, ◌++◌, Bool, true, false, cond, refl, sym, ap, arith}
+use Rattle.std.proofs.Common.{◌≡◌, ◌+◌, ◌∙◌, List, [], ◌∷◌, ◌++◌, Bool, true, false, cond, refl, sym, ap, subst, arith, ◌||◌, ◌&&◌, not}
 use Rattle.std.specs.Prelude.{◌==◌}
 use Rattle.std.proofs.lemmas.Bool.{eqb-true, ne_eqb}
+use Rattle.wl_segments.specs.declared.SyncSeg.{SyncSeg}
+use Rattle.wl_segments.specs.declared.SyncSeg.TheVariants.{After, Inside}
 use Rattle.wl_level.specs.declared.Level.{Level}
 use Rattle.wl_segments.specs.Lengths.{Lengths, sample_at}
 use Rattle.wl_sync.specs.declared.Beat.TheVariants.{Plain, Sample, Start}
 use Rattle.wl_sync.specs.Edges.{Seen}
 use Rattle.wl_sync.specs.Bits.{beat_of}
 use Rattle.wl_sync.specs.Running.{Running, clock_after, sample_after}
-use Rattle.wl_sync.specs.Steps.{running_due, running_restart, running_placed, running_beat, is_sampled, end_of}
+use Rattle.wl_sync.specs.Steps.{running_due, running_edge, running_edge_by, running_sync, running_restart, running_moved, running_first, running_over, running_placed, running_beat, is_sampled, end_of}
 use Rattle.wl_sync.proofs.Cuts.{clock_next, beat_next}
 
 -- a bit begins with the last sample of the one before
@@ -30,16 +32,45 @@ first_apart r h =
     let here : r.quanta ≡ sample_at r.lengths + r.longer = eqb-true r.quanta (sample_at r.lengths + r.longer) h in
     ne_eqb (r.quanta + 1) 1 (λ e. omega arith)
 
+-- nor is the first quantum of a bit that follows one: that one is over
+over_sample : (s : SyncSeg) (r m : Running) (level : Level) → m.quanta ≡ r.quanta + 1 → m.sample ≡ cond (is_sampled r) level r.sample
+    → (running_over s r m false level).sample
+    ≡ sample_after (cond ((running_over s r m false level).quanta == 1) Start (cond (is_sampled r) (Sample level) Plain)) r.sample
+over_sample After r m level q k =
+    k ∙ apart (r.quanta + 1 == 1) (is_sampled r) level r.sample (first_apart r)
+    ∙ ap (λ n. sample_after (cond (n == 1) Start (cond (is_sampled r) (Sample level) Plain)) r.sample) (sym q)
+over_sample Inside r m level q k = by_test (r.quanta == end_of m) refl
+  where
+    by_test : (b : Bool) → (r.quanta == end_of m) ≡ b
+        → (cond b (running_first r level) m).sample ≡ sample_after (cond ((cond b (running_first r level) m).quanta == 1) Start (cond (is_sampled r) (Sample level) Plain)) r.sample
+    by_test true e = refl
+    by_test false e =
+        k ∙ apart (r.quanta + 1 == 1) (is_sampled r) level r.sample (first_apart r)
+        ∙ ap (λ n. sample_after (cond (n == 1) Start (cond (is_sampled r) (Sample level) Plain)) r.sample) (sym q)
+
+edge_sample : (s : SyncSeg) (r : Running) → (running_edge_by s r).sample ≡ r.sample
+edge_sample After r = due_sample r (r.quanta == end_of r)
+edge_sample Inside r = refl
+
 placed_sample : (r : Running) (x : Seen) (b : Bool) → running_restart r x ≡ b
     → (running_placed r x).sample ≡ sample_after (running_beat r x) r.sample
-placed_sample r x true h = rw h refl
-placed_sample r x false h = rw h (apart (r.quanta + 1 == 1) (is_sampled r) x.level r.sample (first_apart r))
+placed_sample r x true h = restarts r.lengths.sync
+  where
+    m : Running
+    m = running_moved r (running_sync r x) (running_restart r x) x.level
+
+    restarts : (s : SyncSeg) → (running_over s r m (running_restart r x) x.level).sample
+        ≡ sample_after (cond (running_restart r x || (running_over s r m (running_restart r x) x.level).quanta == 1) Start (cond (is_sampled r) (Sample x.level) Plain)) r.sample
+    restarts After = rw h refl
+    restarts Inside = rw h refl
+placed_sample r x false h =
+    rw h (over_sample r.lengths.sync r (running_moved r (running_sync r x) false x.level) x.level refl refl)
 
 -- the last sample is that of the latest quantum that was a sample
 pub sample_kept : (l : Lengths) (past : List Seen) (x : Seen)
     → (clock_after l (past ++ x ∷ [])).sample ≡ sample_after (beat_of l past x) (clock_after l past).sample
 sample_kept l past x =
     ap (λ r. r.sample) (clock_next l past x)
-    ∙ placed_sample (running_due (clock_after l past)) x (running_restart (running_due (clock_after l past)) x) refl
-    ∙ ap (λ b. sample_after b (running_due (clock_after l past)).sample) (sym (beat_next l past x))
-    ∙ ap (sample_after (beat_of l past x)) (due_sample (clock_after l past) ((clock_after l past).quanta == end_of (clock_after l past)))
+    ∙ placed_sample (running_edge (clock_after l past)) x (running_restart (running_edge (clock_after l past)) x) refl
+    ∙ ap (λ b. sample_after b (running_edge (clock_after l past)).sample) (sym (beat_next l past x))
+    ∙ ap (sample_after (beat_of l past x)) (edge_sample l.sync (clock_after l past))

@@ -1,18 +1,20 @@
 -- Worked examples of the bit clock, by computation.
 use Rattle.std.proofs.Common.{◌≡◌, ℕ, List, ◌++◌, Bool, true, false, Option, Some, None, refl, replicate, take}
-use Rattle.std.specs.Prelude.{pos, negsuc, nat_lt, if◌then◌else◌}
+use Rattle.std.specs.Prelude.{◌-◌, pos, negsuc, nat_lt, if◌then◌else◌}
 use Rattle.wl_level.specs.declared.Level.{Level}
 use Rattle.wl_level.specs.declared.Level.TheVariants.{Dominant, Recessive}
+use Rattle.wl_segments.specs.declared.SyncSeg.{SyncSeg}
+use Rattle.wl_segments.specs.declared.SyncSeg.TheVariants.{After, Inside}
 use Rattle.wl_segments.specs.Lengths.{Lengths}
 use Rattle.wl_sync.specs.declared.Sync.{Sync}
-use Rattle.wl_sync.specs.declared.Sync.TheVariants.{Error}
+use Rattle.wl_sync.specs.declared.Sync.TheVariants.{Hard, Error}
 use Rattle.wl_sync.specs.declared.Beat.{Beat}
 use Rattle.wl_sync.specs.declared.Beat.TheVariants.{Plain, Sample, Start}
 use Rattle.wl_sync.specs.Edges.{Seen}
 use Rattle.wl_sync.specs.Bits.{beat_of, sync_of}
 
 abbrev l : ℕ → Lengths
-l jump = record { prop = 3; ps1 = 3; ps2 = 3; sjw = jump }
+l jump = record { prop = 3; ps1 = 3; ps2 = 3; sjw = jump; sync = After }
 
 abbrev seen : Bool → Level → Seen
 seen driving level = record { level = level; idle = false; driving = driving }
@@ -84,3 +86,179 @@ driven = refl
 
 driven_sample : at 2 true 1 7 ≡ (Sample Dominant, None)
 driven_sample = refl
+
+-- Where an edge lies in the quantum before the one that finds it: what quantum k of a line answers.
+abbrev answered : ℕ → List Seen → ℕ → Seen → Answer
+answered jump before k x =
+    let m = record (l jump) { sync = Inside } in
+    (beat_of m (take k before) x, sync_of m (take k before) x)
+
+abbrev in_sync_seg : ℕ → Bool → ℕ → ℕ → Answer
+in_sync_seg jump driving from k =
+    answered jump (line driving from 40) k (seen driving (if nat_lt k from then Recessive else Dominant))
+
+-- no edge: as before
+nothing_first : in_sync_seg 2 false 40 0 ≡ (Start, None)
+nothing_first = refl
+
+nothing_sample : in_sync_seg 2 false 40 7 ≡ (Sample Recessive, None)
+nothing_sample = refl
+
+nothing_next : in_sync_seg 2 false 40 10 ≡ (Start, None)
+nothing_next = refl
+
+-- dominant from quantum 0: the edge lies in the quantum before, so this one is place 1
+zero_inside : in_sync_seg 2 false 0 0 ≡ (Start, Some (Error (negsuc 0)))
+zero_inside = refl
+
+zero_sample : in_sync_seg 2 false 0 6 ≡ (Sample Dominant, None)
+zero_sample = refl
+
+zero_next : in_sync_seg 2 false 0 9 ≡ (Start, None)
+zero_next = refl
+
+-- from 1: within SYNC_SEG
+one_inside : in_sync_seg 2 false 1 1 ≡ (Plain, Some (Error (pos 0)))
+one_inside = refl
+
+one_sample : in_sync_seg 2 false 1 7 ≡ (Sample Dominant, None)
+one_sample = refl
+
+one_next : in_sync_seg 2 false 1 10 ≡ (Start, None)
+one_next = refl
+
+-- from 2: late by 1
+two_inside : in_sync_seg 2 false 2 2 ≡ (Plain, Some (Error (pos 1)))
+two_inside = refl
+
+two_sample : in_sync_seg 2 false 2 8 ≡ (Sample Dominant, None)
+two_sample = refl
+
+two_next : in_sync_seg 2 false 2 11 ≡ (Start, None)
+two_next = refl
+
+-- from 6: late by 5, and longer by the jump width
+six_inside : in_sync_seg 2 false 6 6 ≡ (Plain, Some (Error (pos 5)))
+six_inside = refl
+
+six_sample : in_sync_seg 2 false 6 9 ≡ (Sample Dominant, None)
+six_sample = refl
+
+-- from 7, the sample's quantum
+seven_inside : in_sync_seg 2 false 7 7 ≡ (Sample Dominant, None)
+seven_inside = refl
+
+-- from 8: early by 3, one more than the jump width, so the bit ends before this very quantum
+eight_inside : in_sync_seg 2 false 8 8 ≡ (Start, Some (Error (negsuc 2)))
+eight_inside = refl
+
+eight_sample_inside : in_sync_seg 2 false 8 15 ≡ (Sample Dominant, None)
+eight_sample_inside = refl
+
+eight_next : in_sync_seg 2 false 8 18 ≡ (Start, None)
+eight_next = refl
+
+-- from 9: early by 2, so SYNC_SEG is quantum 8
+nine_inside : in_sync_seg 2 false 9 9 ≡ (Start, Some (Error (negsuc 1)))
+nine_inside = refl
+
+nine_sample_inside : in_sync_seg 2 false 9 15 ≡ (Sample Dominant, None)
+nine_sample_inside = refl
+
+nine_next : in_sync_seg 2 false 9 18 ≡ (Start, None)
+nine_next = refl
+
+-- from 10, at the border: early by 1, in the last quantum of the bit before
+ten_inside : in_sync_seg 2 false 10 10 ≡ (Start, Some (Error (negsuc 0)))
+ten_inside = refl
+
+ten_sample : in_sync_seg 2 false 10 16 ≡ (Sample Dominant, None)
+ten_sample = refl
+
+-- a jump of 1, from 8 and from 9
+short_inside : in_sync_seg 1 false 8 8 ≡ (Plain, Some (Error (negsuc 2)))
+short_inside = refl
+
+short_next : in_sync_seg 1 false 8 9 ≡ (Start, None)
+short_next = refl
+
+short_sample_inside : in_sync_seg 1 false 8 16 ≡ (Sample Dominant, None)
+short_sample_inside = refl
+
+shorter_inside : in_sync_seg 1 false 9 9 ≡ (Start, Some (Error (negsuc 1)))
+shorter_inside = refl
+
+shorter_sample : in_sync_seg 1 false 9 16 ≡ (Sample Dominant, None)
+shorter_sample = refl
+
+-- driving dominant: an edge without error counts, a late one doesn't
+driven_inside : in_sync_seg 2 true 1 1 ≡ (Plain, Some (Error (pos 0)))
+driven_inside = refl
+
+driven_late : in_sync_seg 2 true 2 2 ≡ (Plain, None)
+driven_late = refl
+
+-- an idle node synchronises hard in any quantum, the sample's too
+abbrev of_idle : Level → Seen
+of_idle level = record { level = level; idle = true; driving = false }
+
+abbrev idle_at : ℕ → ℕ → Answer
+idle_at from k = answered 2 (replicate from (of_idle Recessive) ++ replicate 40 (of_idle Dominant)) k (of_idle (if nat_lt k from then Recessive else Dominant))
+
+idle_one : idle_at 1 1 ≡ (Start, Some Hard)
+idle_one = refl
+
+idle_one_sample : idle_at 1 7 ≡ (Sample Dominant, None)
+idle_one_sample = refl
+
+idle_five : idle_at 5 5 ≡ (Start, Some Hard)
+idle_five = refl
+
+idle_five_sample : idle_at 5 11 ≡ (Sample Dominant, None)
+idle_five_sample = refl
+
+idle_seven : idle_at 7 7 ≡ (Start, Some Hard)
+idle_seven = refl
+
+idle_seven_sample : idle_at 7 13 ≡ (Sample Dominant, None)
+idle_seven_sample = refl
+
+idle_eight : idle_at 8 8 ≡ (Start, Some Hard)
+idle_eight = refl
+
+idle_ten : idle_at 10 10 ≡ (Start, Some Hard)
+idle_ten = refl
+
+idle_ten_sample : idle_at 10 16 ≡ (Sample Dominant, None)
+idle_ten_sample = refl
+
+-- dominant at quantum 2, which makes the bit one quantum longer, and again from 11, at the border: that edge lies in the bit that has synchronised
+abbrev twice : ℕ → ℕ → ℕ → Level → Answer
+twice first second k level =
+    answered 2 (((line false first 1 ++ replicate (second - first - 1) (seen false Recessive)) ++ replicate 40 (seen false Dominant))) k (seen false level)
+
+twice_first : twice 2 11 2 Dominant ≡ (Plain, Some (Error (pos 1)))
+twice_first = refl
+
+twice_sample : twice 2 11 8 Recessive ≡ (Sample Recessive, None)
+twice_sample = refl
+
+twice_border : twice 2 11 11 Dominant ≡ (Start, None)
+twice_border = refl
+
+twice_next : twice 2 11 18 Dominant ≡ (Sample Dominant, None)
+twice_next = refl
+
+-- and at 9, which begins a bit, and again from 11, in the bit that began so
+twice_begun : twice 9 11 9 Dominant ≡ (Start, Some (Error (negsuc 1)))
+twice_begun = refl
+
+twice_in_it : twice 9 11 11 Dominant ≡ (Plain, None)
+twice_in_it = refl
+
+-- and at 8, which ends the bit, and again from 10, in the next, which has not synchronised
+twice_ended : twice 8 10 8 Dominant ≡ (Start, Some (Error (negsuc 2)))
+twice_ended = refl
+
+twice_late : twice 8 10 10 Dominant ≡ (Plain, Some (Error (pos 1)))
+twice_late = refl

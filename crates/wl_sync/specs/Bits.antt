@@ -1,10 +1,12 @@
 -- How the list of what a node saw is cut into bits: where each is sampled, where it ends, and what synchronises it.
 -- Each is a function of the whole list of one bit; the cut goes on with the bit or begins the next one.
-use Rattle.std.specs.Prelude.{ℕ, suc, ◌+◌, ◌-◌, ◌==◌, ◌&&◌, nat_lt, nat_le, not, Bool, true, false, List, [], ◌∷◌, ◌++◌, length, fold, Option, Some, None, slice_index_or, if◌then◌else◌}
+use Rattle.std.specs.Prelude.{ℕ, suc, ◌+◌, ◌-◌, ◌==◌, ◌&&◌, ◌||◌, nat_lt, nat_le, not, replicate, Bool, true, false, List, [], ◌∷◌, ◌++◌, length, fold, Option, Some, None, slice_index_or, if◌then◌else◌}
 use Rattle.wl_level.specs.declared.Level.{Level}
 use Rattle.wl_level.specs.declared.Level.TheVariants.{Recessive}
 use Rattle.wl_level.specs.Places.{first_place, is_found_at}
-use Rattle.wl_segments.specs.Lengths.{Lengths, sample_at}
+use Rattle.wl_segments.specs.declared.SyncSeg.{SyncSeg}
+use Rattle.wl_segments.specs.declared.SyncSeg.TheVariants.{After, Inside}
+use Rattle.wl_segments.specs.Lengths.{Lengths, sample_at, bit_quanta, found_at}
 use Rattle.wl_sync.specs.declared.Sync.{Sync}
 use Rattle.wl_sync.specs.declared.Sync.TheVariants.{Hard, Error}
 use Rattle.wl_sync.specs.declared.Beat.{Beat}
@@ -43,11 +45,11 @@ previous_level bit k = if k == 0 then bit.opening.level else (seen_at_place bit 
 abbrev pub sample_before : Lengths → Bit → ℕ → Level
 sample_before l bit k = if nat_lt (sample_at l) k then (seen_at_place bit (sample_at l)).level else bit.opening.sample
 
--- the edge at place k of a bit counts
+-- the quantum at place k of a bit finds an edge that counts
 abbrev pub is_edge : Lengths → Bit → ℕ → Bool
 is_edge l bit k = edge_counts l (seen_at_place bit k) (previous_level bit k) (sample_before l bit k) k
 
--- the place at which a bit synchronised: one at most in a bit (Bosch CAN 2.0 part B, section 10, synchronization rule 1)
+-- the place at which a bit synchronised, of the quantum that found the edge: one at most in a bit (Bosch CAN 2.0 part B, section 10, synchronization rule 1)
 abbrev pub sync_place : Lengths → Bit → Option ℕ
 sync_place l bit = if bit.opening.synced then Some 0 else first_place (is_edge l bit) (length bit.seen)
 
@@ -79,15 +81,34 @@ opened l bit synced = record {
   seen = [];
 }
 
+-- the quanta of a bit that an edge begins, up to the one that finds the edge: that in which the edge lies, on a line that was recessive as it began
+abbrev pub edge_quanta : Lengths → List Seen
+edge_quanta l = replicate (found_at l) unseen
+
+-- the bit that an edge begins, up to the quantum that finds the edge
+abbrev pub begun_bit : Lengths → Bit → Bit
+begun_bit l bit = record {
+  opening = record { synced = true; sample = last_sample l bit; level = last_level bit };
+  seen = edge_quanta l;
+}
+
 -- the bit to which the next quantum belongs, if it does not begin one anew
 abbrev pub due_bit : Lengths → Bit → Bit
 due_bit l bit = if length bit.seen == end_place l bit then opened l bit false else bit
+
+-- the bit in which the edge lies that the next quantum finds: its own, or that of the quantum before
+abbrev pub edge_bit_by : SyncSeg → Lengths → Bit → Bit
+edge_bit_by After l bit = due_bit l bit
+edge_bit_by Inside l bit = bit
+
+abbrev pub edge_bit : Lengths → Bit → Bit
+edge_bit l bit = edge_bit_by l.sync l bit
 
 -- the bit with one quantum more
 abbrev pub longer : Bit → Seen → Bit
 longer bit x = record { opening = bit.opening; seen = bit.seen ++ x ∷ [] }
 
--- the quantum x, one more of this bit, synchronises it
+-- the edge that the quantum x finds lies in this bit, and synchronises it
 abbrev pub is_sync : Lengths → Bit → Seen → Bool
 is_sync l bit x = not bit.opening.synced && is_found_at (sync_place l (longer bit x)) (length bit.seen)
 
@@ -95,38 +116,50 @@ is_sync l bit x = not bit.opening.synced && is_found_at (sync_place l (longer bi
 abbrev pub is_restart : Lengths → Bit → Seen → Bool
 is_restart l bit x = is_sync l bit x && edge_restarts l x (length bit.seen)
 
--- the running bit, one quantum later
+-- the bit to which the quantum x belongs, where it does not begin one anew: this one, which where an edge lies in the quantum before may be over now, by
+-- that edge too
+abbrev pub going_on : SyncSeg → Lengths → Bit → Seen → Bit
+going_on After l bit x = bit
+going_on Inside l bit x = if length bit.seen == end_place l (longer bit x) then opened l bit false else bit
+
+-- the running bit, one quantum later, from that in which an edge lies
 abbrev pub placed : Lengths → Bit → Seen → Bit
-placed l bit x = longer (if is_restart l bit x then opened l bit true else bit) x
+placed l bit x = longer (if is_restart l bit x then begun_bit l bit else going_on l.sync l bit x) x
 
 -- and with the border between two bits, if the running one is over
 abbrev pub bit_after : Lengths → Bit → Seen → Bit
-bit_after l bit x = placed l (due_bit l bit) x
+bit_after l bit x = placed l (edge_bit l bit) x
 
--- before the first quantum the line was recessive
-abbrev pub first_bit : Bit
-first_bit = record { opening = record { synced = false; sample = Recessive; level = Recessive }; seen = [] }
+-- the quanta of the bit before the first quantum of all
+abbrev pub first_quanta : SyncSeg → ℕ → List Seen
+first_quanta After n = []
+first_quanta Inside n = replicate n unseen
+
+-- Before the first quantum the line was recessive: that begins a bit or, where an edge lies in the quantum before, follows one in which nothing was seen
+-- (this project's profile).
+abbrev pub first_bit : Lengths → Bit
+first_bit l = record { opening = record { synced = false; sample = Recessive; level = Recessive }; seen = first_quanta l.sync (bit_quanta l) }
 
 -- the running bit after all that was seen
 abbrev pub bit_of : Lengths → List Seen → Bit
-bit_of l seen = fold (bit_after l) first_bit seen
+bit_of l seen = fold (bit_after l) (first_bit l) seen
 
--- what the quantum x is in its bit
+-- what the quantum x is, from the bit in which an edge lies that it finds
 abbrev pub beat_at : Lengths → Bit → Seen → Beat
 beat_at l bit x =
-    if length (placed l bit x).seen == 1 then Start
+    if is_restart l bit x || length (placed l bit x).seen == 1 then Start
     else if length bit.seen == sample_place l bit then Sample x.level
     else Plain
 
--- how the quantum x synchronises the bit
+-- how the quantum x synchronises that bit
 abbrev pub sync_at : Lengths → Bit → Seen → Option Sync
 sync_at l bit x =
     if is_sync l bit x then Some (if x.idle then Hard else Error (phase_error l (length bit.seen))) else None
 
 -- the beat at x, after all that was seen before
 abbrev pub beat_of : Lengths → List Seen → Seen → Beat
-beat_of l seen x = beat_at l (due_bit l (bit_of l seen)) x
+beat_of l seen x = beat_at l (edge_bit l (bit_of l seen)) x
 
 -- the synchronisation at x, after all that was seen before
 abbrev pub sync_of : Lengths → List Seen → Seen → Option Sync
-sync_of l seen x = sync_at l (due_bit l (bit_of l seen)) x
+sync_of l seen x = sync_at l (edge_bit l (bit_of l seen)) x

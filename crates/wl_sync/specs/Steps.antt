@@ -1,7 +1,9 @@
 -- One quantum of a bit clock, over what it keeps: what its private methods do.
-use Rattle.std.specs.Prelude.{◌≡◌, ℕ, ◌+◌, ◌-◌, ◌≤◌, ◌==◌, ◌&&◌, ◌||◌, not, Bool, true, false, Option, Some, None, if◌then◌else◌}
+use Rattle.std.specs.Prelude.{◌≡◌, ℕ, suc, ◌+◌, ◌-◌, ◌≤◌, ◌==◌, ◌&&◌, ◌||◌, not, Bool, true, false, Option, Some, None, if◌then◌else◌}
 use Rattle.wl_level.specs.declared.Level.{Level}
-use Rattle.wl_segments.specs.Lengths.{AreLengths, sample_at, bit_quanta}
+use Rattle.wl_segments.specs.declared.SyncSeg.{SyncSeg}
+use Rattle.wl_segments.specs.declared.SyncSeg.TheVariants.{After, Inside}
+use Rattle.wl_segments.specs.Lengths.{AreLengths, sample_at, bit_quanta, found_at}
 use Rattle.wl_sync.specs.declared.Sync.{Sync}
 use Rattle.wl_sync.specs.declared.Sync.TheVariants.{Hard, Error}
 use Rattle.wl_sync.specs.declared.Beat.{Beat}
@@ -29,7 +31,15 @@ running_due r =
     then record { lengths = r.lengths; quanta = 0; longer = 0; shorter = 0; synced = false; level = r.level; sample = r.sample }
     else r
 
--- the edge at x counts
+-- what is kept of the bit in which the edge lies that the next quantum finds
+abbrev pub running_edge_by : SyncSeg → Running → Running
+running_edge_by After r = running_due r
+running_edge_by Inside r = r
+
+abbrev pub running_edge : Running → Running
+running_edge r = running_edge_by r.lengths.sync r
+
+-- the edge that x finds counts
 abbrev pub running_sync : Running → Seen → Bool
 running_sync r x = edge_counts r.lengths x r.level r.sample r.quanta && not r.synced
 
@@ -41,11 +51,11 @@ running_restart r x = running_sync r x && edge_restarts r.lengths x r.quanta
 abbrev pub is_sampled : Running → Bool
 is_sampled r = r.quanta == sample_at r.lengths + r.longer
 
--- the bit that is due, after a quantum of this level: it begins anew with it, or goes on, and an edge that counts moves its sample or its end
+-- the bit in which an edge lies, after a quantum of this level: it begins anew, or goes on, and an edge that counts moves its sample or its end
 abbrev pub running_moved : Running → (counts restarts : Bool) → Level → Running
 running_moved r counts restarts level =
     if restarts
-    then record { lengths = r.lengths; quanta = 1; longer = 0; shorter = 0; synced = true; level = level; sample = r.sample }
+    then record { lengths = r.lengths; quanta = suc (found_at r.lengths); longer = 0; shorter = 0; synced = true; level = level; sample = r.sample }
     else record {
       lengths = r.lengths;
       quanta = r.quanta + 1;
@@ -56,20 +66,36 @@ running_moved r counts restarts level =
       sample = if is_sampled r then level else r.sample;
     }
 
+-- after the first quantum of a bit that no edge begins
+abbrev pub running_first : Running → Level → Running
+running_first r level = record { lengths = r.lengths; quanta = 1; longer = 0; shorter = 0; synced = false; level = level; sample = r.sample }
+
+-- and with the border between two bits, if the one in which an edge lies is over then
+abbrev pub running_over : SyncSeg → Running → (moved : Running) → (restarts : Bool) → Level → Running
+running_over After r moved restarts level = moved
+running_over Inside r moved restarts level = if not restarts && r.quanta == end_of moved then running_first r level else moved
+
+abbrev pub is_inside : SyncSeg → Bool
+is_inside After = false
+is_inside Inside = true
+
+abbrev pub running_passed : Running → (counts restarts : Bool) → Level → Running
+running_passed r counts restarts level = running_over r.lengths.sync r (running_moved r counts restarts level) restarts level
+
 abbrev pub running_placed : Running → Seen → Running
-running_placed r x = running_moved r (running_sync r x) (running_restart r x) x.level
+running_placed r x = running_passed r (running_sync r x) (running_restart r x) x.level
 
 -- after x
 abbrev pub running_after : Running → Seen → Running
-running_after r x = running_placed (running_due r) x
+running_after r x = running_placed (running_edge r) x
 
--- what a quantum of this level is, by the bit that was due and the one after it
-abbrev pub beat_between : Running → Running → Level → Beat
-beat_between old new level = if new.quanta == 1 then Start else if is_sampled old then Sample level else Plain
+-- what a quantum of this level is, by the bit in which an edge lies and the one after it
+abbrev pub beat_between : (restarts : Bool) → Running → Running → Level → Beat
+beat_between restarts old new level = if restarts || new.quanta == 1 then Start else if is_sampled old then Sample level else Plain
 
--- what x is in the bit that is due
+-- what x is, from the bit in which an edge lies
 abbrev pub running_beat : Running → Seen → Beat
-running_beat r x = beat_between r (running_placed r x) x.level
+running_beat r x = beat_between (running_restart r x) r (running_placed r x) x.level
 
 -- and how it synchronises that bit
 abbrev pub running_answer : Running → Seen → Option Sync

@@ -6,10 +6,10 @@ ghost use Rattle.wl_sync.specs.Edges.{Seen};
 ghost use Rattle.wl_sync.specs.Bits.{beat_of, sync_of};
 ghost use Rattle.wl_sync.specs.Running.{clock_after, sample_after};
 ghost use Rattle.wl_sync.specs.SampleLaws.{SampleLaws};
-ghost use Rattle.wl_sync.specs.Steps.{running_after, running_answer, running_beat, running_due};
+ghost use Rattle.wl_sync.specs.Steps.{running_after, running_answer, running_beat, running_edge};
 
-/// Law: a bit's start is followed by a way to the sample as long as in a bit that nothing moved, a
-/// sample comes at the end of that way, and each other quantum takes one quantum off it at most.
+/// Law: a bit's start is followed by a way to the sample as long as in a bit that nothing moved, but for SYNC_SEG where
+/// the edge that began the bit lies within that; a sample comes at the end of that way, and each other quantum takes one quantum off it at most.
 pub fn the_sample_comes_near()
     ensures { SampleLaws }
 {}
@@ -23,9 +23,9 @@ pub fn clock_goes_on()
     ensures clock { (l : Lengths) (past : List Seen) (x : Seen)
         → clock_after l (past ++ x ∷ []) ≡ running_after (clock_after l past) x }
     ensures beat { (l : Lengths) (past : List Seen) (x : Seen)
-        → beat_of l past x ≡ running_beat (running_due (clock_after l past)) x }
+        → beat_of l past x ≡ running_beat (running_edge (clock_after l past)) x }
     ensures sync { (l : Lengths) (past : List Seen) (x : Seen)
-        → sync_of l past x ≡ running_answer (running_due (clock_after l past)) x }
+        → sync_of l past x ≡ running_answer (running_edge (clock_after l past)) x }
     ensures level { (l : Lengths) (past : List Seen) (x : Seen)
         → (clock_after l (past ++ x ∷ [])).level ≡ x.level }
     ensures sample { (l : Lengths) (past : List Seen) (x : Seen)

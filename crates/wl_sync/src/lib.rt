@@ -4,18 +4,18 @@
 //! dominant synchronises the bit: of an idle node it begins a new bit (hard synchronisation), and otherwise it moves
 //! the sample or the end of the bit by the jump width at most (resynchronisation). Bosch CAN 2.0 part B, section 10;
 //! ISO 11898-1, bit timing. The line is looked at once a quantum, at the tick where the quantum begins: that is this
-//! project's profile.
+//! project's profile. Whether an edge lies in the quantum that finds it, or in the one before, is said by the segments.
 #![tactic(auto)]
 
-ghost use Rattle.std.specs.Prelude.{◌≡◌, ◌+◌, ◌-◌, ◌<◌, ◌==◌, ◌&&◌, true, false, List, [], ◌∷◌, ◌++◌, Some, if◌then◌else◌};
-ghost use Rattle.wl_segments.specs.Lengths.{Lengths, AreLengths, sample_at, bit_quanta};
+ghost use Rattle.std.specs.Prelude.{◌≡◌, suc, ◌+◌, ◌-◌, ◌<◌, ◌==◌, ◌&&◌, true, false, List, [], ◌∷◌, ◌++◌, Some, if◌then◌else◌};
+ghost use Rattle.wl_segments.specs.Lengths.{Lengths, AreLengths, sample_at, bit_quanta, found_at};
 
 mod laws;
 
 pub use laws::{clock_goes_on, the_sample_comes_near};
 use std::marker::Model;
 use wl_level::Level;
-use wl_segments::Segments;
+use wl_segments::{Segments, SyncSeg};
 
 /// What a quantum is in its bit.
 #[derive(Clone, Copy, Debug, PartialEq, Eq)]
@@ -31,7 +31,7 @@ pub enum Beat {
 /// How a quantum synchronises its bit.
 #[derive(Clone, Copy, Debug, PartialEq, Eq)]
 pub enum Sync {
-    /// Hard synchronisation: the node is idle, and its bit begins anew with this quantum.
+    /// Hard synchronisation: the node is idle, and its bit begins anew with the quantum in which the edge lies.
     Hard,
     /// Resynchronisation at a phase error, in quanta: 0 at the start of the bit, positive before the sample, negative after it.
     Error(i8),
@@ -87,19 +87,23 @@ impl Model for BitClock {
 }
 
 impl BitClock {
-    ghost use Rattle.wl_sync.specs.Edges.{Seen, seen_as, edge_restarts, longer_by, phase_error, shorter_by};
+    ghost use Rattle.wl_sync.specs.Edges.{Seen, seen_as, edge_restarts, longer_by, looks, phase_error, shorter_by};
     ghost use Rattle.wl_sync.specs.Bits.{beat_of, sync_of, before_sample, bit_of};
     ghost use Rattle.wl_sync.specs.Running.{clock_after, Follows};
-    ghost use Rattle.wl_sync.specs.Steps.{beat_between, running_due, running_moved, running_sync};
+    ghost use Rattle.wl_sync.specs.Steps.{beat_between, is_inside, running_due, running_edge, running_moved, running_passed, running_sync};
 
-    /// The bit clock before the first quantum: a bit begins with it, and the line was recessive.
+    /// The bit clock before the first quantum: a bit begins with it, or where that finds an edge with the edge, and the line was recessive.
     pub fn new(segments: Segments) -> BitClock
         ensures { result ≡ clock_after segments [] }
     {
+        let quanta = match segments.sync() {
+            SyncSeg::After => 0,
+            SyncSeg::Inside => segments.bit_quanta() as u8,
+        };
         let _ = segments.sample_at();
         BitClock {
             segments,
-            quanta: 0,
+            quanta,
             longer: 0,
             shorter: 0,
             synced: false,
@@ -119,7 +123,7 @@ impl BitClock {
         ensures beat { Follows self.old (λ l past. result.0 ≡ beat_of l past (seen_as level idle driving)) }
         ensures sync { Follows self.old (λ l past. result.1 ≡ sync_of l past (seen_as level idle driving)) }
     {
-        self.begin_due();
+        self.reach_edge();
         let counts = self.is_sync(level, idle, driving);
         let sync = if counts { Some(self.sync(idle)) } else { None };
         let restarts = self.is_restart(counts, idle);
@@ -167,6 +171,25 @@ impl BitClock {
         self.segments.sjw() as u8
     }
 
+    /// The place, in the bit that an edge begins, of the quantum that finds the edge.
+    fn found_at(&self) -> u8
+        ensures { result ≡ found_at self.now.lengths }
+    {
+        self.segments.found_at() as u8
+    }
+
+    /// Goes to the bit in which the edge lies that this quantum finds, if it finds one: its own, or that of the quantum before.
+    fn reach_edge(&mut self)
+        ensures edge { self.new ≡ running_edge self.old }
+        ensures room { self.new.lengths.sync ≡ SyncSeg.After
+            → self.new.quanta + self.new.shorter < bit_quanta self.new.lengths + self.new.longer }
+    {
+        match self.segments.sync() {
+            SyncSeg::After => self.begin_due(),
+            SyncSeg::Inside => {}
+        }
+    }
+
     /// Begins a new bit where the running one is over.
     fn begin_due(&mut self)
         ensures due { self.new ≡ running_due self.old }
@@ -180,33 +203,42 @@ impl BitClock {
         }
     }
 
+    /// The quantum looks for an edge.
+    fn looks(&self, idle: bool) -> bool
+        ensures { result ≡ looks self.now.lengths.sync idle (sample_at self.now.lengths) self.now.quanta }
+    {
+        let is_sample = self.quanta == self.sample_at();
+        match self.segments.sync() {
+            SyncSeg::After => !is_sample,
+            SyncSeg::Inside => 0 < self.quanta && (idle || !is_sample),
+        }
+    }
+
     /// The edge that is seen now counts.
     fn is_sync(&self, level: Level, idle: bool, driving: bool) -> bool
         ensures { result ≡ running_sync self.now (seen_as level idle driving) }
     {
-        let sample_at = self.sample_at();
-        let is_late = 0 < self.quanta && self.quanta < sample_at;
+        let is_late = self.found_at() < self.quanta && self.quanta < self.sample_at();
         level.is_dominant()
             && !self.level.is_dominant()
             && !self.sample.is_dominant()
-            && self.quanta != sample_at
+            && self.looks(idle)
             && !(is_late && driving && !idle)
             && !self.synced
     }
 
     /// How an edge that counts synchronises the bit.
     fn sync(&self, idle: bool) -> Sync
-        requires { self.now.quanta < bit_quanta self.now.lengths + self.now.longer }
         ensures { result ≡ (if idle then Sync.Hard else Sync.Error (phase_error self.now.lengths self.now.quanta)) }
     {
         if idle {
             return Sync::Hard;
         }
-        let place = self.quanta as i8;
+        let found_at = self.found_at();
         if self.quanta > self.sample_at() {
-            Sync::Error(place - self.bit_quanta() as i8)
+            Sync::Error(self.quanta as i8 - (found_at + self.bit_quanta()) as i8)
         } else {
-            Sync::Error(place)
+            Sync::Error(self.quanta.saturating_sub(found_at) as i8)
         }
     }
 
@@ -215,21 +247,22 @@ impl BitClock {
         ensures restart { (x : Seen) → x.idle ≡ idle
             → result ≡ (counts && edge_restarts self.now.lengths x self.now.quanta) }
         ensures stays { counts ≡ true → result ≡ false → sample_at self.now.lengths < self.now.quanta
-            → self.now.lengths.sjw < bit_quanta self.now.lengths - self.now.quanta }
+            → self.now.lengths.sjw < found_at self.now.lengths + bit_quanta self.now.lengths - self.now.quanta }
     {
         let is_near_end = self.sample_at() < self.quanta
-            && self.bit_quanta().saturating_sub(self.quanta) <= self.jump();
+            && (self.found_at() + self.bit_quanta()).saturating_sub(self.quanta) <= self.jump();
         counts && (idle || is_near_end)
     }
 
     /// Puts the quantum into its bit.
     fn place(&mut self, level: Level, counts: bool, restarts: bool) -> Beat
-        requires room { self.old.quanta + self.old.shorter < bit_quanta self.old.lengths + self.old.longer }
+        requires room { self.old.lengths.sync ≡ SyncSeg.After
+            → self.old.quanta + self.old.shorter < bit_quanta self.old.lengths + self.old.longer }
         requires fresh { counts ≡ true → self.old.synced ≡ false }
         requires stays { counts ≡ true → restarts ≡ false → sample_at self.old.lengths < self.old.quanta
-            → self.old.lengths.sjw < bit_quanta self.old.lengths - self.old.quanta }
-        ensures clock { self.new ≡ running_moved self.old counts restarts level }
-        ensures beat { result ≡ beat_between self.old self.new level }
+            → self.old.lengths.sjw < found_at self.old.lengths + bit_quanta self.old.lengths - self.old.quanta }
+        ensures clock { self.new ≡ running_passed self.old counts restarts level }
+        ensures beat { result ≡ beat_between restarts self.old self.new level }
     {
         if restarts {
             self.restart(level);
@@ -239,14 +272,35 @@ impl BitClock {
         if counts {
             self.synchronise();
         }
+        self.reach_quantum();
+        let is_sampled = is_sampled && 0 < self.quanta;
         self.count(level, is_sampled)
     }
 
-    /// Begins a bit anew with this quantum.
-    fn restart(&mut self, level: Level)
-        ensures { self.new ≡ record self.old { quanta = 1; longer = 0; shorter = 0; synced = true; level = level } }
+    /// Begins a new bit where an edge lies in the quantum before and the running one is over, by that edge too.
+    fn reach_quantum(&mut self)
+        requires room { self.old.lengths.sync ≡ SyncSeg.After
+            → self.old.quanta + self.old.shorter < bit_quanta self.old.lengths + self.old.longer }
+        ensures quantum { self.new ≡ (if is_inside self.old.lengths.sync then running_due self.old else self.old) }
+        ensures room { self.new.quanta + self.new.shorter < bit_quanta self.new.lengths + self.new.longer }
     {
-        self.quanta = 1;
+        match self.segments.sync() {
+            SyncSeg::After => {}
+            SyncSeg::Inside => self.begin_due(),
+        }
+    }
+
+    /// Begins a bit anew with the quantum in which the edge lies.
+    fn restart(&mut self, level: Level)
+        ensures { self.new ≡ record self.old {
+          quanta = suc (found_at self.old.lengths);
+          longer = 0;
+          shorter = 0;
+          synced = true;
+          level = level;
+        } }
+    {
+        self.quanta = 1 + self.found_at();
         self.longer = 0;
         self.shorter = 0;
         self.synced = true;
@@ -257,7 +311,9 @@ impl BitClock {
     fn synchronise(&mut self)
         requires fresh { (self.old.longer ≡ 0) × (self.old.shorter ≡ 0) }
         requires stays { sample_at self.old.lengths < self.old.quanta
-            → self.old.lengths.sjw < bit_quanta self.old.lengths - self.old.quanta }
+            → self.old.lengths.sjw < found_at self.old.lengths + bit_quanta self.old.lengths - self.old.quanta }
+        requires room { self.old.lengths.sync ≡ SyncSeg.After
+            → self.old.quanta + self.old.shorter < bit_quanta self.old.lengths + self.old.longer }
         ensures { self.new ≡ record self.old {
           longer = longer_by self.old.lengths (Some self.old.quanta);
           shorter = shorter_by self.old.lengths (Some self.old.quanta);
@@ -267,7 +323,7 @@ impl BitClock {
         let sample_at = self.sample_at();
         let jump = self.jump();
         if self.quanta < sample_at {
-            self.longer = self.quanta.min(jump);
+            self.longer = self.quanta.saturating_sub(self.found_at()).min(jump);
         }
         if sample_at < self.quanta {
             self.shorter = jump;

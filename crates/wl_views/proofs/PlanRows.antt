@@ -1,6 +1,7 @@
 -- What a node of a small plan finds, computed: a disturbance at its place from tick 1 up to tick 3, which takes a tick to it.
 use Rattle.std.specs.Prelude.{◌≡◌, Bool, true, false, List, [], ◌∷◌, map, refl}
 use Rattle.wl_clock.specs.Timing.{tick_of}
+use Rattle.wl_segments.specs.declared.SyncSeg.TheVariants.{After}
 use Rattle.wl_node.specs.History.{history_of}
 use Rattle.wl_plan.specs.declared.plan.Plan.{Plan}
 use Rattle.wl_plan.specs.Simulation.{history}
@@ -10,7 +11,7 @@ small : Plan
 small = record {
   nodes = record {
     clock = record { offset = 0; rates = record { from = 0; num = 1; den = 1 } ∷ [] };
-    segments = record { prop = 1; ps1 = 1; ps2 = 2; sjw = 1 };
+    segments = record { prop = 1; ps1 = 1; ps2 = 2; sjw = 1; sync = After };
     queue = [];
   } ∷ [];
   topology = record { places = record { x = 0; out_delay = 0; in_delay = 1 } ∷ []; per = 1 };
