@@ -25,7 +25,7 @@ use Rattle.wl_group.specs.GroupValue.{GroupValue, IsGroupValue, quanta_at, belon
 use Rattle.wl_group.specs.Kept.{quanta_kept, ran_of, group_value, IsCell, AreCells, IsKept}
 use Rattle.wl_group.specs.Chosen.{is_chosen}
 use Rattle.wl_group.specs.ValueLaws.{ValueLaws}
-use Rattle.wl_replica.proofs.CallerLemmas.{some_is}
+use Rattle.wl_replica.proofs.Callers.{some_is}
 
 -- ---- numbers that are chosen, one after another
 
@@ -99,10 +99,6 @@ kept_quanta plan cells replica told i cell e = quanta_in cells i ∙ ap quanta_k
 pub kept_member : (plan : Plan) (cells : List (Option Cell)) (replica : State) (told : List Record) (i : ℕ) (cell : Cell)
     → slice_index_or cells i None ≡ Some cell → members_now (group_value plan cells replica told) i ≡ member_after (line_of plan) i (quanta_of cell.node)
 kept_member plan cells replica told i cell e = ap (member_at (line_of plan) i) (kept_quanta plan cells replica told i cell e)
-
--- what the list of nodes holds at place i
-pub element_is : (plan : Plan) (i : ℕ) (x : NodeSetup) (xs : List NodeSetup) → xs ≡ plan.nodes → x ≡ get_or xs i x → i < length plan.nodes → x ≡ setup_at plan i
-element_is plan i x xs e is b = is ∙ (ap (λ ys. get_or ys i x) e ∙ get_or_default plan.nodes i x no_setup b)
 
 -- ---- fresh nodes
 

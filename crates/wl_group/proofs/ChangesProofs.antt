@@ -22,7 +22,7 @@ use Rattle.wl_group.specs.Holds.{IsMember}
 use Rattle.wl_group.specs.GroupValue.{GroupValue, IsGroupValue, belongs, members_now, has_ended}
 use Rattle.wl_group.specs.Kept.{quanta_kept, group_value, IsKept}
 use Rattle.wl_group.specs.ValueLaws.{ValueLaws}
-use Rattle.wl_replica.proofs.CallerLemmas.{tick_is}
+use Rattle.wl_replica.proofs.Callers.{tick_is}
 use Rattle.wl_group.proofs.RunProofs.{ran_get, in_cells, in_plan, own}
 
 -- words that are a table's entries, as far as they are ticks, have its first ones in order

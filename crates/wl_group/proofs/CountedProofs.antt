@@ -15,7 +15,7 @@ use Rattle.wl_replica.specs.Slots.{Contents, HoldsTrue, IsBelow}
 use Rattle.wl_replica.specs.SlotsOf.{SlotsOfStates}
 use Rattle.wl_replica.specs.Known.{is_tick, tick_in, run_goes_on, is_run, greatest_passing, run_length, longest_promise, after_edges, known_by, horizon, wave_at, least_up_to}
 use Rattle.wl_replica.specs.KnownLaws.{SlotsLaws, KnownLaws}
-use Rattle.wl_replica.proofs.CallerLemmas.{run_part, tick_is}
+use Rattle.wl_replica.proofs.Callers.{run_part, tick_is, tick_within, greatest_is, goes_tick}
 use Rattle.wl_plan.specs.declared.plan.Plan.{Plan}
 use Rattle.wl_plan.specs.PlanLine.{line_of, table_of}
 use Rattle.wl_plan.specs.SimulationLaws.{SimulationLaws}
@@ -65,14 +65,9 @@ true_state sims plan cells replica told kept = (
 
 -- ---- numbers are within their limits
 
-tick_below : (x : FlatWord) → ((t : ℕ) → x ≡ flat.Value t → t < tick_end) → tick_in x < tick_end
-tick_below (flat.Value t) h = h t refl
-tick_below flat.Nothing h = omega (arith, tick_end-is)
-tick_below flat.Clash h = omega (arith, tick_end-is)
-
 module _ (nodes : ℕ) (table : ℕ → List ℕ) (w : Contents) (truth : HoldsTrue nodes table w) (i : ℕ) where
   pub tick_early : (n : ℕ) → tick_in (w.edge i n) < tick_end
-  tick_early n = tick_below (w.edge i n) (λ t e. (truth.edges i n t e).2.2)
+  tick_early n = tick_within (w.edge i n) (λ t e. (truth.edges i n t e).2.2)
 
   pub silence_early : (n : ℕ) → w.silence i n ≤ tick_end
   silence_early n = elim (cases_eq (w.silence i n) 0) [
@@ -100,19 +95,6 @@ module _ (nodes : ℕ) (table : ℕ → List ℕ) (w : Contents) (truth : HoldsT
 pub after_early : (nodes : ℕ) (table : ℕ → List ℕ) (w : Contents) → HoldsTrue nodes table w → (i m : ℕ) → after_edges (w.edge i) m ≤ tick_end
 after_early nodes table w truth i zero = omega arith
 after_early nodes table w truth i (suc m) = (let b = tick_early nodes table w truth i m in omega arith)
-
--- ---- the greatest number that passes
-
-greatest_is : (b m : ℕ) (test : ℕ → Bool) → m ≤ b → test m ≡ true → ((n : ℕ) → m < n → test n ≡ false) → greatest_passing b test ≡ m
-greatest_is zero m test h p q = omega arith
-greatest_is (suc b) m test h p q = elim (cases_eq m (suc b)) [
-  | inl same ↦ cond-true (test (suc b)) (suc b) (greatest_passing b test) (sym (ap test same) ∙ p) ∙ sym same
-  | inr other ↦ cond-false (test (suc b)) (suc b) (greatest_passing b test) (q (suc b) (omega arith)) ∙ greatest_is b m test (omega arith) p q
-]
-
-goes_tick : (e : ℕ → FlatWord) (s : ℕ → ℕ) (n : ℕ) → run_goes_on e s n ≡ true → is_tick (e n) ≡ true
-goes_tick e s zero h = (and_parts _ _ h).0
-goes_tick e s (suc n) h = (and_parts _ _ (and_parts _ _ h).0).0
 
 promised_within : (s : ℕ → ℕ) (b m : ℕ) → ((n : ℕ) → n ≤ m → s n ≤ b) → longest_promise s m ≤ b
 promised_within s b zero h = h 0 (omega arith)
@@ -224,35 +206,9 @@ module _ (tables : TableLaws) (nodes : ℕ) (table : ℕ → List ℕ) (w : Cont
           let same : count ≡ count_below (suc tick) (table i) = omega arith in
           ap odd same ∙ sym (knows.wave_agrees nodes table w i tick order truth early)
 
--- ---- remainders
-
-halves : (n : ℕ) → ((n % 2 ≡ 0) × (suc n % 2 ≡ 1)) ⊎ ((n % 2 ≡ 1) × (suc n % 2 ≡ 0))
-halves n =
-    elim (cases_lt (n % 2) 1) [
-      | inl none ↦ inl (omega arith, omega arith)
-      | inr one ↦ inr (omega arith, omega arith)
-    ]
-
-pub odd_is : (n : ℕ) → (n % 2 == 1) ≡ odd n
-odd_is zero = refl
-odd_is (suc n) =
-    elim (halves n) [
-      | inl even ↦ ap (λ v. v == 1) even.1 ∙ ap not (sym (ap (λ v. v == 1) even.0) ∙ odd_is n)
-      | inr uneven ↦ ap (λ v. v == 1) uneven.1 ∙ ap not (sym (ap (λ v. v == 1) uneven.0) ∙ odd_is n)
-    ]
-
 -- the level a delay earlier, where that is not before tick 0
 pub level_after : (delay t : ℕ) (b wave : Bool) → delay ≤ t → b ≡ wave → b ≡ (nat_le delay t && wave)
 level_after delay t b wave h e = e ∙ sym (ap (λ v. v && wave) (le-leb delay t h))
-
--- ---- the least of some numbers
-
-pub least_more : (f : ℕ → ℕ) (i : ℕ) → 1 ≤ i → min (least_up_to f (i - 1)) (f i) ≡ least_up_to f ((i + 1) - 1)
-least_more f zero h = absurd (omega arith)
-least_more f (suc k) h =
-    let before : suc k - 1 ≡ k = omega arith in
-    let here : (suc k + 1) - 1 ≡ suc k = omega arith in
-    ap (λ n. min (least_up_to f n) (f (suc k))) before ∙ sym (ap (least_up_to f) here)
 
 -- ---- what a node finds
 
@@ -262,12 +218,6 @@ pub driven_from : DrivenLaws → (n : ℕ) (delay : ℕ → ℕ → ℕ) (drove 
 driven_from laws n delay drove i j t v b is h =
     let p = and_parts (nat_le (delay i j) t) (drove i (t - delay i j)) (sym is ∙ h) in
     laws.dominant_from n delay drove i j t b (leb-true (delay i j) t p.0) p.1
-
-pub driven_more : (n : ℕ) (delay : ℕ → ℕ → ℕ) (drove : ℕ → ℕ → Bool) (j t : ℕ) (v : Bool) → v ≡ (nat_le (delay n j) t && drove n (t - delay n j)) → v ≡ false
-    → driven n delay drove j t ≡ false → driven (n + 1) delay drove j t ≡ false
-driven_more n delay drove j t v is silent none =
-    subst (λ m. driven m delay drove j t ≡ false) (sym (add-one n))
-    (ap (λ w. w || (nat_le (delay n j) t && drove n (t - delay n j))) none ∙ (sym is ∙ silent))
 
 -- ---- what a group keeps
 

@@ -1,4 +1,4 @@
-pub mod CallerLemmas
+pub mod Callers
 mod AdvanceProofs
 mod BeginProofs
 mod ChangesProofs

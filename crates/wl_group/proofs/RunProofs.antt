@@ -26,8 +26,8 @@ use Rattle.wl_group.specs.GroupValue.{GroupValue, IsGroupValue, quanta_at, belon
 use Rattle.wl_group.specs.Kept.{quanta_kept, ran_of, group_value, IsCell, AreCells, IsKept}
 use Rattle.wl_group.specs.Running.{IsCellOf, MaySay, quanta_to_come, quanta_left, HasRunNext}
 use Rattle.wl_group.specs.ValueLaws.{ValueLaws}
-use Rattle.wl_group.proofs.CallerLemmas.{is_there}
-use Rattle.wl_replica.proofs.CallerLemmas.{some_is}
+use Rattle.wl_group.proofs.Callers.{is_there}
+use Rattle.wl_replica.proofs.Callers.{some_is}
 
 -- ---- places of a list
 

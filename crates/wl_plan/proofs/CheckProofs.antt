@@ -5,7 +5,7 @@ use Rattle.std.proofs.lemmas.Bool.{cases_lt, lt-ltb, le-ltb, ltb-false, leb-fals
 use Rattle.std.proofs.lemmas.List.Sums.{position_or_len_is, fails_before_first}
 use Rattle.std.proofs.lemmas.List.FromFn.{length-enumerate_from, get_or-enumerate_from}
 use Rattle.std.proofs.Math.Nat.{pos_of_ne-zero}
-use Rattle.wl_topology.proofs.CallerLemmas.{any_none}
+use Rattle.wl_topology.proofs.Callers.{any_none}
 use Rattle.wl_segments.specs.Lengths.{AreLengths}
 use Rattle.wl_clock.specs.Timing.{Timing, IsTiming, tick_of}
 use Rattle.wl_topology.specs.Delays.{IsTopology, disturbance_delay}

@@ -3,7 +3,8 @@ mod LineProofs
 mod OutcomeProofs
 mod QuantumProofs
 mod Rows
-pub mod CheckProofs
-pub mod EqualProofs
-pub mod GroupingProofs
-pub mod SoundProofs
+mod CheckProofs
+mod EqualProofs
+mod GroupingProofs
+mod SoundProofs
+pub mod Callers

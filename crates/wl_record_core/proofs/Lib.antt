@@ -1,3 +1,4 @@
 mod TableProofs
 mod TruthProofs
 mod Rows
+pub mod Callers

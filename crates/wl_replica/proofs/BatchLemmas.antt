@@ -16,7 +16,7 @@ use Rattle.wl_record_core.specs.declared.record.Record.{Record}
 use Rattle.wl_record_core.specs.declared.record.Slot.{Slot}
 use Rattle.wl_record_core.specs.declared.record.Slot.TheVariants.{EdgeAt, SilenceAt}
 use Rattle.wl_record_core.specs.Slots.{slot_of}
-use Rattle.wl_replica.proofs.CallerLemmas.{nothing_more}
+use Rattle.wl_replica.proofs.SmallFacts.{nothing_more}
 use Rattle.wl_replica.specs.Keys.{Key, key_cmp}
 use Rattle.wl_replica.proofs.States.{edge_maps, silence_maps}
 use Rattle.wl_replica.specs.Kept.{word_in, joined_all, words_shown, holds_edge, holds_silence, AreKept, HasSlot, HaveSlots}

@@ -10,7 +10,7 @@ use Rattle.wl_intervals.specs.Pairs.{last_end}
 use Rattle.wl_record_core.specs.Limits.{tick_end, tick_end-is}
 use Rattle.wl_record_core.specs.Truth.{IsIncreasing, count_below}
 use Rattle.wl_record_core.specs.TableLaws.{TableLaws}
-use Rattle.wl_replica.proofs.CallerLemmas.{some_is, tick_is}
+use Rattle.wl_replica.proofs.SmallFacts.{some_is, tick_is}
 use Rattle.wl_replica.specs.Keys.{Key}
 use Rattle.wl_replica.specs.Slots.{Contents, HoldsTrue}
 use Rattle.wl_replica.specs.SlotsOf.{ChangesStand}
@@ -53,7 +53,7 @@ after_within : (e : ℕ → FlatWord) (b m : ℕ) → ((n : ℕ) → tick_in (e 
 after_within e b zero low = omega arith
 after_within e b (suc m) low = low m
 
-tick_within : (w : FlatWord) → ((t : ℕ) → w ≡ flat.Value t → t < tick_end) → tick_in w < tick_end
+pub tick_within : (w : FlatWord) → ((t : ℕ) → w ≡ flat.Value t → t < tick_end) → tick_in w < tick_end
 tick_within (flat.Value t) h = h t refl
 tick_within flat.Nothing h = omega (arith, tick_end-is)
 tick_within flat.Clash h = omega (arith, tick_end-is)

@@ -7,7 +7,7 @@ use Rattle.wl_record_core.specs.TableLaws.{TableLaws}
 use Rattle.wl_intervals.specs.Pairs.{covers}
 use Rattle.wl_replica.specs.Known.{intervals}
 
-or_true : (a b : Bool) → a ≡ true → (a || b) ≡ true
+pub or_true : (a b : Bool) → a ≡ true → (a || b) ≡ true
 or_true a b h = ap (λ v. v || b) h
 
 or_false : (a b : Bool) → a ≡ false → (a || b) ≡ b

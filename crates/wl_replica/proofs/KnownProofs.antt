@@ -9,7 +9,7 @@ use Rattle.wl_intervals.specs.Pairs.{covers}
 use Rattle.wl_record_core.specs.Limits.{most_edges}
 use Rattle.wl_record_core.specs.Truth.{count_below, IsIncreasing, odd}
 use Rattle.wl_record_core.specs.TableLaws.{TableLaws}
-use Rattle.wl_replica.proofs.CallerLemmas.{run_part, tick_is}
+use Rattle.wl_replica.proofs.SmallFacts.{run_part, tick_is}
 use Rattle.wl_replica.specs.Slots.{Contents, HoldsTrue, IsBelow}
 use Rattle.wl_replica.specs.Known.{is_tick, tick_in, run_goes_on, is_run, greatest_passing, run_length, longest_promise, after_edges, known_by, horizon, ticks, intervals, wave_at, least_up_to, place_horizon}
 use Rattle.wl_replica.proofs.Covers.{covers_odd}

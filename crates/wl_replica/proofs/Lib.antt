@@ -1,14 +1,14 @@
-pub mod KeyLaws
-pub mod CallerLemmas
-pub mod States
-pub mod SlotBySlot
-pub mod KeptLemmas
-pub mod Shown
-pub mod Tells
-pub mod CanonicalLemmas
-pub mod EntryLemmas
-pub mod RoundTrip
-pub mod TextLengths
+mod KeyLaws
+mod SmallFacts
+mod States
+mod SlotBySlot
+mod KeptLemmas
+mod Shown
+mod Tells
+mod CanonicalLemmas
+mod EntryLemmas
+mod RoundTrip
+mod TextLengths
 mod Rows
 mod Members
 mod SameWords
@@ -17,7 +17,7 @@ mod Covers
 mod KnownProofs
 mod KnownRows
 mod TrueSlots
-pub mod SlotsOfProofs
+mod SlotsOfProofs
 mod KeptFits
 mod OfRecords
 mod ChangesStand
@@ -26,3 +26,4 @@ mod PromiseLemmas
 mod WaveLemmas
 mod PlaceLemmas
 mod BatchLemmas
+pub mod Callers

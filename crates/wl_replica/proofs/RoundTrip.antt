@@ -13,7 +13,7 @@ use Rattle.wl_lattice.specs.declared.FlatWord.{FlatWord}
 use Rattle.wl_lattice.specs.declared.FlatWord.TheVariants as flat
 use Rattle.wl_lattice.specs.declared.MaxWord.{MaxWord}
 use Rattle.wl_lattice.specs.Words.{joined_flat, joined_max, max_word}
-use Rattle.wl_replica.proofs.CallerLemmas.{nothing_more, none_below, below_next, not_same}
+use Rattle.wl_replica.proofs.SmallFacts.{nothing_more, none_below, below_next, not_same}
 use Rattle.wl_replica.proofs.States.{edge_maps, silence_maps}
 use Rattle.wl_lattice.specs.Maps.{joined_options, map_of, words_at, MapLaws}
 use Rattle.wl_record_core.specs.declared.record.Record.{Record}

@@ -13,7 +13,7 @@ use Rattle.std.proofs.lemmas.Map.Entries.{lookup-filter-values, option_filter}
 use Rattle.std.proofs.lemmas.Map.Keys.{IsDistinct-from_sorted}
 use Rattle.std.proofs.Common.{sym, ap, ◌∙◌, subst}
 use Rattle.wl_lattice.specs.Maps.{joined_options, joined_maps, map_of, words_at, MapLaws}
-use Rattle.wl_replica.proofs.CallerLemmas.{nothing_more}
+use Rattle.wl_replica.proofs.SmallFacts.{nothing_more}
 use Rattle.wl_replica.specs.Keys.{Key, key_cmp}
 use Rattle.wl_replica.proofs.KeyLaws.{key_cmp_total, exact_keys}
 use Rattle.wl_replica.specs.Kept.{word_in, joined_all, words_shown}

@@ -13,7 +13,7 @@ use Rattle.wl_lattice.specs.Words.{joined_flat, joined_max, max_word}
 use Rattle.wl_record_core.specs.declared.record.Record.{Record}
 use Rattle.wl_record_core.specs.declared.record.Record.TheVariants.{Edge, Clash, Silence}
 use Rattle.wl_record_core.specs.Text.{text_line, text_of}
-use Rattle.wl_replica.proofs.CallerLemmas.{max_cases, none_below, below_next, not_same}
+use Rattle.wl_replica.proofs.SmallFacts.{max_cases, none_below, below_next, not_same}
 use Rattle.wl_replica.specs.Keys.{Key}
 use Rattle.wl_replica.specs.State.{edge_word, silence_word, state_of, Fits, FitsEdge, FitsSilence}
 use Rattle.wl_replica.specs.Canonical.{edge_record, silence_record, of_node, records_of_node, canonical}

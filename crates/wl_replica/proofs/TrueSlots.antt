@@ -9,7 +9,7 @@ use Rattle.wl_record_core.specs.declared.record.Record.{Record}
 use Rattle.wl_record_core.specs.declared.record.Record.TheVariants.{Edge, Clash, Silence}
 use Rattle.wl_record_core.specs.Truth.{IsTrueOf, AreTrueOf}
 use Rattle.wl_record_core.specs.TableLaws.{TableLaws}
-use Rattle.wl_replica.proofs.CallerLemmas.{max_cases, some_is}
+use Rattle.wl_replica.proofs.SmallFacts.{max_cases, some_is}
 use Rattle.wl_replica.specs.Slots.{Contents, no_slots, slots_joined, silence_in, slots_only, slots_of_records, HoldsTrue, IsBelow}
 use Rattle.wl_replica.specs.KnownLaws.{KnownLaws}
 use Rattle.wl_replica.proofs.KnownProofs.{tick_stays, place_known, place_above, wave_agrees, horizon_keeps, horizon_reached, changes_held}

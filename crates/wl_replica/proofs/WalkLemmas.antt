@@ -20,7 +20,7 @@ use Rattle.wl_replica.specs.Known.{is_tick, tick_in, run_goes_on, is_run, greate
 use Rattle.wl_replica.proofs.KeptLemmas.{found}
 
 -- ---- the greatest number that passes
-greatest_is : (b m : ℕ) (test : ℕ → Bool) → m ≤ b → test m ≡ true → ((n : ℕ) → m < n → test n ≡ false) → greatest_passing b test ≡ m
+pub greatest_is : (b m : ℕ) (test : ℕ → Bool) → m ≤ b → test m ≡ true → ((n : ℕ) → m < n → test n ≡ false) → greatest_passing b test ≡ m
 greatest_is zero m test h p q = omega arith
 greatest_is (suc b) m test h p q = elim (cases_eq m (suc b)) [
   | inl same ↦ cond-true (test (suc b)) (suc b) (greatest_passing b test) (sym (ap test same) ∙ p) ∙ sym same

@@ -17,7 +17,7 @@ use Rattle.wl_lattice.specs.declared.FlatWord.TheVariants as flat
 use Rattle.wl_replica.specs.Keys.{Key, key_cmp}
 use Rattle.wl_replica.specs.Kept.{edges_in}
 use Rattle.wl_replica.specs.Known.{is_tick, tick_in, run_goes_on, is_run, after_edges, known_by, ticks, intervals}
-use Rattle.wl_replica.proofs.CallerLemmas.{run_part}
+use Rattle.wl_replica.proofs.SmallFacts.{run_part}
 use Rattle.wl_replica.proofs.KeptLemmas.{found}
 use Rattle.wl_replica.proofs.WalkLemmas.{Rising, none_before, number_at_is, number_after, rising_part}
 
@@ -40,7 +40,7 @@ abbrev pub Climbs : ℕ → List ℕ → ℕ → Type 0
 Climbs low [] h = low ≤ h
 Climbs low (t ∷ ts) h = (low ≤ t) × Climbs (suc t) ts h
 
-goes_tick : (e : ℕ → FlatWord) (s : ℕ → ℕ) (n : ℕ) → run_goes_on e s n ≡ true → is_tick (e n) ≡ true
+pub goes_tick : (e : ℕ → FlatWord) (s : ℕ → ℕ) (n : ℕ) → run_goes_on e s n ≡ true → is_tick (e n) ≡ true
 goes_tick e s zero h = (and_parts _ _ h).0
 goes_tick e s (suc n) h = (and_parts _ _ (and_parts _ _ h).0).0
 

@@ -1,6 +1,7 @@
-pub mod Hexadecimal
-pub mod Numbered
-pub mod Passing
-pub mod Picking
-pub mod Rows
-pub mod Sums
+mod Hexadecimal
+mod Numbered
+mod Passing
+mod Picking
+mod Rows
+mod Sums
+pub mod Callers

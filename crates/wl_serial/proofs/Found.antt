@@ -1,7 +1,7 @@
 -- What has come from each node by a tick that all have reached is what the simulation says.
 use Rattle.std.proofs.Common.{◌≡◌, ℕ, zero, suc, ◌+◌, ◌-◌, ◌<◌, ◌≤◌, Bool, true, false, ◌&&◌, ◌||◌, ◌⊎◌, inl, inr, length, take, sym, ◌∙◌, ap, subst, arith, nat_le, add-one}
 use Rattle.std.proofs.lemmas.Bool.{cases_lt, lt-leb, or_left, or_right}
-use Rattle.wl_topology.proofs.CallerLemmas.{any_from}
+use Rattle.wl_topology.proofs.Callers.{any_from}
 use Rattle.wl_topology.specs.Delays.{delay_of}
 use Rattle.wl_topology.specs.Driven.{any_below, driven}
 use Rattle.wl_record_core.specs.Truth.{count_below, odd, IsIncreasing}
@@ -49,9 +49,3 @@ come plan i j t delay r drove laws table sound b run reached is positive told =
 pub driven_from : (n : ℕ) (delay : ℕ → ℕ → ℕ) (drove : ℕ → ℕ → Bool) (i j t : ℕ) (v : Bool) → i < n → v ≡ (nat_le (delay i j) t && drove i (t - delay i j)) → v ≡ true
     → driven n delay drove j t ≡ true
 driven_from n delay drove i j t v b is h = any_from n i (λ k. nat_le (delay k j) t && drove k (t - delay k j)) b (sym is ∙ h)
-
-pub driven_more : (n : ℕ) (delay : ℕ → ℕ → ℕ) (drove : ℕ → ℕ → Bool) (j t : ℕ) (v : Bool) → v ≡ (nat_le (delay n j) t && drove n (t - delay n j)) → v ≡ false
-    → driven n delay drove j t ≡ false → driven (n + 1) delay drove j t ≡ false
-driven_more n delay drove j t v is silent none =
-    subst (λ m. driven m delay drove j t ≡ false) (sym (add-one n))
-    (ap (λ w. w || (nat_le (delay n j) t && drove n (t - delay n j))) none ∙ (sym is ∙ silent))

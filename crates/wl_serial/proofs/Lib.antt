@@ -4,3 +4,4 @@ mod Rows
 mod Runners
 mod Steps
 mod Told
+pub mod Callers

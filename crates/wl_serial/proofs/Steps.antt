@@ -1,7 +1,6 @@
 -- What one quantum does to a node that runs, by the laws of the simulation.
 use Rattle.std.proofs.Common.{◌≡◌, ℕ, suc, ◌<◌, ◌≤◌, Bool, true, false, inl, inr, List, [], ◌∷◌, ◌++◌, length, take, get_or, refl, sym, ◌∙◌, ap, subst, arith, if◌then◌else◌}
 use Rattle.std.proofs.lemmas.Bool.{cases_lt}
-use Rattle.std.proofs.lemmas.List.{get_or_default}
 use Rattle.std.proofs.lemmas.Option.{get_or_from_slice_get, slice_get_within}
 use Rattle.std.proofs.Math.Seq.{take-suc, take-length}
 use Rattle.wl_level.specs.declared.Level.{Level}
@@ -23,10 +22,6 @@ use Rattle.wl_serial.specs.declared.running.Running.{Running}
 use Rattle.wl_serial.specs.declared.outcome.NodeOutcome.{NodeOutcome}
 use Rattle.wl_serial.specs.Outcome.{outcome_of_history, node_outcome_of}
 use Rattle.wl_serial.specs.Running.{HasRun, IsRunning, finds}
-
--- what the list of nodes holds at place i
-pub element_is : (plan : Plan) (i : ℕ) (x : NodeSetup) (xs : List NodeSetup) → xs ≡ plan.nodes → x ≡ get_or xs i x → i < length plan.nodes → x ≡ setup_at plan i
-element_is plan i x xs e is b = is ∙ (ap (λ ys. get_or ys i x) e ∙ get_or_default plan.nodes i x no_setup b)
 
 -- before its first quantum
 pub begins : (plan : Plan) (i : ℕ) (r : Running) → SimulationLaws → IsSound (line_of plan) → i < length plan.nodes

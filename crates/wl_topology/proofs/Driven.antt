@@ -2,7 +2,7 @@
 use Rattle.std.proofs.Common.{◌≡◌, ℕ, zero, suc, ◌-◌, ◌<◌, ◌≤◌, Bool, true, ◌&&◌, ◌⊎◌, inl, inr, refl, ap, arith, nat_le}
 use Rattle.std.proofs.lemmas.Bool.{cases_lt, lt-leb, le-leb, leb-true, and_parts, and_from}
 use Rattle.wl_topology.specs.Driven.{any_below, driven}
-use Rattle.wl_topology.proofs.CallerLemmas.{any_from, any_one}
+use Rattle.wl_topology.proofs.Callers.{any_from, any_one}
 
 pub any_same : (n : ℕ) (p q : ℕ → Bool) → ((i : ℕ) → i < n → p i ≡ q i) → any_below n p ≡ any_below n q
 any_same zero p q h = refl

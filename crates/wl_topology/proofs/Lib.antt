@@ -1,4 +1,4 @@
-pub mod CallerLemmas
+pub mod Callers
 mod Driven
 mod Pairs
 mod Nearest

@@ -16,6 +16,7 @@ use Rattle.wl_machine.specs.Judged.{judged, stretch_of}
 use Rattle.wl_node.specs.declared.setup.NodeSetup.{NodeSetup}
 use Rattle.wl_node.specs.declared.setup.Passed.{Passed}
 use Rattle.wl_node.specs.History.{History, history_of, history_after, no_history, by_beat, passed_frames, sampled_next, seen_next, is_sent}
+use Rattle.wl_serial.proofs.Callers.{all_below}
 use Rattle.wl_plan.specs.declared.plan.Plan.{Plan}
 use Rattle.wl_plan.specs.PlanLine.{line_of, setup_at}
 use Rattle.wl_plan.specs.Limits.{most_quanta, most_quanta-is}
@@ -71,12 +72,6 @@ module _ (setup : NodeSetup) where
       subst (λ n. Before n (fold (history_after setup) no_history levels).frames) (zero-add (length levels))
       (fold_before levels no_history (All-nil (λ p. p.quantum < 0)))
 
--- what holds of each number below n
-all_below : (P : ℕ → Type 0) (n : ℕ) → ((i : ℕ) → i < n → P i) → All P (range_with_len 0 n)
-all_below P n each =
-    All-from_get_or P (range_with_len 0 n) 0
-    (λ i b. let c : i < n = subst (λ m. i < m) (length-range_with_len 0 n) b in subst P (sym (get_or-range_with_len 0 n i 0 c ∙ zero-add i)) (each i c))
-
 -- of each entry, node by node
 all_entries : (P : ℕ × Content → Type 0) (F : ℕ → NodeOutcome → List (ℕ × Content)) (f : ℕ → NodeOutcome) (a n : ℕ)
     → ((i : ℕ) → i < a + n → All P (F i (f i)))
@@ -87,6 +82,9 @@ all_entries P F f a (suc n) each =
 
 pub few : most_quanta ≤ 2 ^ 21
 few = omega (arith, most_quanta-is)
+
+pub within : (q : ℕ) {m n : ℕ} → q < m → m ≤ n → q ≤ n
+within q {m} {n} h g = omega arith
 
 module _ (sounds : CheckedIsSound) (laws : SimulationLaws) (plan : Plan) (checked : IsChecked plan) where
   pub sound : IsSound (line_of plan)
@@ -103,10 +101,7 @@ module _ (sounds : CheckedIsSound) (laws : SimulationLaws) (plan : Plan) (checke
   known i b = λ k d c.
       let q = (get_or (node_outcome_of plan i).frames k d).quantum in
       let less : q < most_quanta = sound.few_quanta i q b (inside i q b (frames_ran i k d c)) in
-      below q less few
-    where
-      below : (q : ℕ) {m n : ℕ} → q < m → m ≤ n → q ≤ n
-      below q {m} {n} h g = omega arith
+      within q less few
 
   sent_inside : (i : ℕ) → i < length plan.nodes
       → All (λ s. s.0 < plan.end) (sent_by (setup_at plan i).clock (node_outcome_of plan i).frames)

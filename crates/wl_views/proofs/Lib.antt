@@ -1,11 +1,11 @@
-pub mod ByTick
-pub mod InTime
-pub mod Lists
-pub mod Pieces
-pub mod SampleOrder
-pub mod SignalProofs
-pub mod Turns
-pub mod Walk
+mod ByTick
+mod InTime
+mod Lists
+mod Pieces
+mod SampleOrder
+mod SignalProofs
+mod Turns
+mod Walk
 mod PlanRows
 mod Rows
 mod WaveRows

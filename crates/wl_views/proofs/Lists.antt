@@ -51,12 +51,3 @@ pub numbered : {X A : Type 0} (f : ℕ × X → List A) (xs : List X) (k : ℕ) 
 numbered f xs k d within =
     rw add-one (number_more f 0 xs k d within
     ∙ ap (λ (m : ℕ). flat_map f (enumerate_from 0 (take k xs)) ++ f (m, get_or xs k d)) {x = 0 + k} {y = k} (omega arith))
-
--- one more piece of text after the text of those before
-pub next_piece : {X : Type 0} (f : ℕ × X → List ℕ) (old text : List ℕ) (xs : List X) (i : ℕ) (d : X) → i < length xs
-    → text ≡ old ++ flat_map f (enumerate_from 0 (take i xs))
-    → text ++ f (i, get_or xs i d) ≡ old ++ flat_map f (enumerate_from 0 (take (i + 1) xs))
-next_piece f old text xs i d within is =
-    ap (λ t. t ++ f (i, get_or xs i d)) is
-    ∙ append_assoc old (flat_map f (enumerate_from 0 (take i xs))) (f (i, get_or xs i d))
-    ∙ ap (λ t. old ++ t) (sym (numbered f xs i d within))

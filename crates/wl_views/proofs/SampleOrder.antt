@@ -19,7 +19,7 @@ use Rattle.wl_plan.specs.SimulationLaws.{SimulationLaws}
 use Rattle.wl_plan.specs.Checked.{IsChecked, CheckedIsSound}
 use Rattle.wl_serial.specs.Outcome.{history_at_end}
 use Rattle.wl_views.specs.Signals.{sample_ticks, sampled_at}
-use Rattle.wl_views.proofs.InTime.{one_more, few, sound, inside}
+use Rattle.wl_views.proofs.InTime.{one_more, few, sound, inside, within}
 
 abbrev Samples : Type 0
 Samples = List (ℕ × Level)
@@ -111,11 +111,8 @@ module _ (sounds : CheckedIsSound) (laws : SimulationLaws) (plan : Plan) (checke
   pub samples_known : All (λ s. s.0 ≤ 2 ^ 21) (history_at_end plan i).samples
   samples_known =
       all_known (ran (line_of plan) i plan.end) (history_at_end plan i).samples
-      (λ q h. let less : q < most_quanta = (sound sounds laws plan checked).few_quanta i q b (inside sounds laws plan checked i q b h) in below q less few)
+      (λ q h. let less : q < most_quanta = (sound sounds laws plan checked).few_quanta i q b (inside sounds laws plan checked i q b h) in within q less few)
       ordered.1
-    where
-      below : (q : ℕ) {m n : ℕ} → q < m → m ≤ n → q ≤ n
-      below q {m} {n} h g = omega arith
 
   grows : (k m : ℕ) → k < m → tick_of (setup_at plan i).clock k < tick_of (setup_at plan i).clock m
   grows k m h =

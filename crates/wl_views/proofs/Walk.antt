@@ -3,15 +3,12 @@ use Rattle.std.proofs.Common.{◌≡◌, ◌∙◌, refl, sym, ap, ap₂, arith,
 use Rattle.std.specs.List.{flat_map, range_with_len}
 use Rattle.std.proofs.lemmas.List.Concat.{flat_map-append}
 use Rattle.wl_plan.specs.Simulation.{differs}
+use Rattle.wl_plan.proofs.Callers.{same_same}
 use Rattle.wl_views.specs.declared.tick.Tick.{Tick}
 use Rattle.wl_views.specs.declared.signals.NodeSignals.{NodeSignals}
 use Rattle.wl_views.specs.Vcd.{change_line, changes_from, first_lines, node_changes, tick_lines, time_line, under}
 
-pub same_level : (b : Bool) → differs b b ≡ false
-same_level true = refl
-same_level false = refl
-
-no_change : (letter : List ℕ) (i : ℕ) (b : Bool) → change_line letter i b b ≡ []
+pub no_change : (letter : List ℕ) (i : ℕ) (b : Bool) → change_line letter i b b ≡ []
 no_change letter i true = refl
 no_change letter i false = refl
 

@@ -1,7 +1,7 @@
 -- A record that is true of a plan has a word in a hub of the plan's shape.
 use Rattle.std.proofs.Common.{◌≡◌, ℕ, zero, suc, ◌+◌, ◌<◌, ◌≤◌, Bool, true, false, length, map, List, [], ◌∷◌, get_or, slice_index_or, subst, ap, ◌∙◌, arith, refl}
 use Rattle.std.specs.Prelude.{slice_index}
-use Rattle.std.proofs.lemmas.List.{get_or_default, get_or-map}
+use Rattle.std.proofs.lemmas.List.{get_or-map}
 use Rattle.std.proofs.lemmas.Option.{slice_get_within}
 use Rattle.wl_clock.specs.Timing.{tick_of}
 use Rattle.wl_record_core.specs.declared.record.Record.{Record}
@@ -22,10 +22,6 @@ use Rattle.wl_worker.specs.Handed.{AreTrueOfPlan}
 use Rattle.wl_worker.specs.Shared.{IsShapeOf}
 
 -- ---- the words of a node
-
--- what the list of nodes holds at place i
-pub node_is : (plan : Plan) (i : ℕ) (x : NodeSetup) (xs : List NodeSetup) → xs ≡ plan.nodes → x ≡ get_or xs i x → i < length plan.nodes → x ≡ setup_at plan i
-node_is plan i x xs e is b = is ∙ (ap (λ ys. get_or ys i x) e ∙ get_or_default plan.nodes i x no_setup b)
 
 few_at : CheckedIsSound → (plan : Plan) → IsChecked plan → (i q : ℕ) → i < length plan.nodes → ((k : ℕ) → k < q → tick_of (setup_at plan i).clock k < plan.end) → q ≤ most_quanta
 few_at sounds plan is i zero b before = omega arith

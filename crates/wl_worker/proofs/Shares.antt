@@ -5,9 +5,9 @@ use Rattle.std.proofs.lemmas.Bool.Decides.{nat_tests}
 use Rattle.std.proofs.lemmas.List.Elements.{All-append, All-cons, All-nil}
 use Rattle.std.proofs.lemmas.List.Folds.{list_any-append}
 use Rattle.std.proofs.lemmas.List.{get_or_append_left, get_or_push}
-use Rattle.std.proofs.lemmas.List.FromFn.{map-range_with_len_more}
 use Rattle.wl_node.specs.declared.setup.NodeSetup.{NodeSetup}
 use Rattle.wl_node.specs.History.{history_of}
+use Rattle.wl_replica.proofs.Callers.{or_true}
 use Rattle.wl_plan.specs.declared.plan.Plan.{Plan}
 use Rattle.wl_plan.specs.PlanLine.{setup_at, line_of, table_of}
 use Rattle.wl_plan.specs.Checked.{CheckedIsSound}
@@ -21,20 +21,17 @@ use Rattle.wl_worker.specs.Shares.{IsShare, IsDone}
 
 -- ---- members
 
-or_first : (b c : Bool) → b ≡ true → (b || c) ≡ true
-or_first b c e = ap (λ x. x || c) e
-
 or_second : (b c : Bool) → c ≡ true → (b || c) ≡ true
 or_second true c e = refl
 or_second false c e = e
 
 pub names_more : (xs ys : List ℕ) (i k : ℕ) → ys ≡ xs ++ i ∷ [] → names xs k ≡ true → names ys k ≡ true
-names_more xs ys i k e h = ap (λ zs. names zs k) e ∙ (list_any-append (λ m. m == k) xs (i ∷ []) ∙ or_first (names xs k) (names (i ∷ []) k) h)
+names_more xs ys i k e h = ap (λ zs. names zs k) e ∙ (list_any-append (λ m. m == k) xs (i ∷ []) ∙ or_true (names xs k) (names (i ∷ []) k) h)
 
 pub names_new : (xs ys : List ℕ) (i : ℕ) → ys ≡ xs ++ i ∷ [] → names ys i ≡ true
 names_new xs ys i e =
     let same : (i == i) ≡ true = grind (arith, nat_tests) in
-    ap (λ zs. names zs i) e ∙ (list_any-append (λ m. m == i) xs (i ∷ []) ∙ or_second (names xs i) (names (i ∷ []) i) (or_first (i == i) false same))
+    ap (λ zs. names zs i) e ∙ (list_any-append (λ m. m == i) xs (i ∷ []) ∙ or_second (names xs i) (names (i ∷ []) i) (or_true (i == i) false same))
 
 pub below_pushed : (xs ys : List ℕ) (i n : ℕ) → ys ≡ xs ++ i ∷ [] → i < n → All (λ m. m < n) xs → All (λ m. m < n) ys
 below_pushed xs ys i n e b h =
@@ -55,10 +52,6 @@ done_is plan workers worker old new s f = record {
   ended = f.ended;
 }
 
-pub ok_as : {A E : Type 0} (r : Result A E) (P Q : A → Type 0) → ((x : A) → P x → Q x) → IfOk r P → IfOk r Q
-ok_as (Ok x) P Q f p = f x p
-ok_as (Err e) P Q f p = tt
-
 pub both_ok : {A E : Type 0} (r : Result A E) (P Q S : A → Type 0) → ((x : A) → P x → Q x → S x) → IfOk r P → IfOk r Q → IfOk r S
 both_ok (Ok x) P Q S f p q = f x p q
 both_ok (Err e) P Q S f p q = tt
@@ -75,12 +68,6 @@ outcome_here groups sounds g is i b m late setup e changes f told t =
     ∙ (ap (λ x. outcome_of_history x changes (history_of x (members_now g i).saw)) e
     ∙ (ap (λ cs. outcome_of_history (setup_at g.plan i) cs (history_of (setup_at g.plan i) (members_now g i).saw)) f
     ∙ ap (λ saw. outcome_of_history (setup_at g.plan i) (table_of g.plan i) (history_of (setup_at g.plan i) saw)) all.0))
-
--- one node more, after the others
-pub outcome_more : (plan : Plan) (n : ℕ) (list more : List NodeOutcome) (x : NodeOutcome) → more ≡ list ++ x ∷ [] → list ≡ map (node_outcome_of plan) (range_with_len 0 n) → x ≡ node_outcome_of plan n
-    → more ≡ map (node_outcome_of plan) (range_with_len 0 (n + 1))
-outcome_more plan n list more x e p q =
-    e ∙ (ap (λ l. l ++ x ∷ []) p ∙ (ap (λ y. map (node_outcome_of plan) (range_with_len 0 n) ++ y ∷ []) q ∙ sym (map-range_with_len_more (node_outcome_of plan) 0 n n (zero-add n))))
 
 -- ---- one more of a list
 

@@ -16,7 +16,7 @@ use Rattle.wl_world.specs.Settling.{IsMove, IsDelivery, IsAdvance, Rounds, settl
 use Rattle.wl_world.specs.Steps.{HasStepped}
 use Rattle.wl_world.specs.WorldValue.{WorldValue, IsWorldAt}
 use Rattle.wl_world.specs.Moves.{IsAdvanceOf, HasTaken, KnowsBelow, IsStuckAt, HasGone, HasHanded, HasHandedAll, HasExhausted, HasExhaustedAll, HasRounded}
-use Rattle.wl_group.proofs.CallerLemmas.{put_at}
+use Rattle.wl_group.proofs.Callers.{put_at}
 use Rattle.wl_world.proofs.WorldProofs.{run_grows}
 use Rattle.wl_world.proofs.SettlingProofs.{delivered, moves_keep}
 use Rattle.wl_world.proofs.RoundProofs.{run_append, delivery_is_move, advance_is_move}

@@ -17,7 +17,7 @@ use Rattle.wl_group.specs.Holds.{IsTold}
 use Rattle.wl_group.specs.GroupLaws.{GroupLaws}
 use Rattle.wl_world.specs.Scene.{Cast, Scene, start, possible, done, happens, run, at_most_one}
 use Rattle.wl_world.specs.Headline.{member_of, HasAll, AllAtEnd, NoStall}
-use Rattle.wl_group.proofs.CallerLemmas.{put_at, true_append}
+use Rattle.wl_group.proofs.Callers.{put_at, true_append}
 use Rattle.wl_world.proofs.WorldProofs.{IsWorld, may_advance, start_holds, emission_true, happens_holds, world_holds}
 
 -- each node's changes so far and its silence up to its next quantum were emitted, and its first silence too

@@ -4,7 +4,6 @@ use Rattle.std.specs.Prelude.{unwrap_or}
 use Rattle.std.specs.List.{range_with_len}
 use Rattle.std.proofs.lemmas.Bool.{eq-eqb}
 use Rattle.std.proofs.lemmas.Option.{slice_get_within}
-use Rattle.std.proofs.lemmas.List.FromFn.{map-range_with_len_more}
 use Rattle.wl_node.specs.declared.setup.NodeSetup.{NodeSetup}
 use Rattle.wl_node.specs.History.{history_of}
 use Rattle.wl_plan.specs.declared.plan.Plan.{Plan}
@@ -37,13 +36,3 @@ outcome_here groups sounds g is i b m late setup e changes f told t =
     ∙ (ap (λ x. outcome_of_history x changes (history_of x (members_now g i).saw)) e
     ∙ (ap (λ cs. outcome_of_history (setup_at g.plan i) cs (history_of (setup_at g.plan i) (members_now g i).saw)) f
     ∙ ap (λ saw. outcome_of_history (setup_at g.plan i) (table_of g.plan i) (history_of (setup_at g.plan i) saw)) all.0))
-
-pub ok_as : {A E : Type 0} (r : Result A E) (P Q : A → Type 0) → ((x : A) → P x → Q x) → IfOk r P → IfOk r Q
-ok_as (Ok x) P Q f p = f x p
-ok_as (Err e) P Q f p = tt
-
--- one node more, after the others
-pub outcome_more : (plan : Plan) (n : ℕ) (list more : List NodeOutcome) (x : NodeOutcome) → more ≡ list ++ x ∷ [] → list ≡ map (node_outcome_of plan) (range_with_len 0 n) → x ≡ node_outcome_of plan n
-    → more ≡ map (node_outcome_of plan) (range_with_len 0 (n + 1))
-outcome_more plan n list more x e p q =
-    e ∙ (ap (λ l. l ++ x ∷ []) p ∙ (ap (λ y. map (node_outcome_of plan) (range_with_len 0 n) ++ y ∷ []) q ∙ sym (map-range_with_len_more (node_outcome_of plan) 0 n n (zero-add n))))

@@ -17,7 +17,7 @@ use Rattle.wl_world.specs.Scene.{Cast, Scene, possible, at_most_one, done, happe
 use Rattle.wl_world.specs.Headline.{IsFaithful, AllAtEnd, member_of}
 use Rattle.wl_world.specs.Settling.{IsMove, left_below, quanta_left_in}
 use Rattle.std.proofs.lemmas.List.Elements.{Contains-append_right}
-use Rattle.wl_group.proofs.CallerLemmas.{put_at}
+use Rattle.wl_group.proofs.Callers.{put_at}
 use Rattle.wl_world.proofs.WorldProofs.{may_advance}
 
 -- where node i has run one quantum more and the others as many, one fewer is left

@@ -20,7 +20,7 @@ use Rattle.wl_group.specs.GroupLaws.{GroupLaws}
 use Rattle.wl_world.specs.Scene.{Cast, is_of_group, Scene, start, possible, at_most_one, done, happens, run}
 use Rattle.wl_world.specs.Headline.{IsFaithful, Grows, Headline}
 use Rattle.std.proofs.lemmas.List.Elements.{Contains-append_left, Contains-append_right, Contains-append_cases}
-use Rattle.wl_group.proofs.CallerLemmas.{put_at, true_append}
+use Rattle.wl_group.proofs.Callers.{put_at, true_append}
 use Rattle.wl_world.proofs.Lists.{true_member}
 
 -- What holds of a scene.

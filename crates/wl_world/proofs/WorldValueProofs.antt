@@ -28,8 +28,8 @@ use Rattle.wl_world.specs.Scene.{Cast, Scene, is_of_group, start, possible, at_m
 use Rattle.wl_world.specs.Headline.{Headline}
 use Rattle.wl_world.specs.Steps.{HasStepped}
 use Rattle.wl_world.specs.WorldValue.{WorldValue, world_value, cast_of, IsWorldAt, IsStaffed, IsWorldValue, IsFirstGroup, AreFirst}
-use Rattle.wl_group.proofs.CallerLemmas.{put_at}
-use Rattle.wl_replica.proofs.CallerLemmas.{some_is}
+use Rattle.wl_group.proofs.Callers.{put_at}
+use Rattle.wl_replica.proofs.Callers.{some_is}
 use Rattle.wl_world.proofs.Lists.{true_member}
 use Rattle.wl_world.proofs.RoundProofs.{run_append}
 

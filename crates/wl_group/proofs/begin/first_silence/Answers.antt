@@ -10,7 +10,7 @@ use Rattle.wl_plan.specs.Line.{reach}
 use Rattle.wl_plan.specs.Limits.{most_quiet, most_quiet-is}
 use Rattle.wl_plan.specs.PlanLine.{setup_at, line_of, table_of}
 use Rattle.wl_plan.specs.Simulation.{seen}
-use Rattle.wl_group.proofs.BeginProofs.{element_is}
+use Rattle.wl_plan.proofs.Callers.{element_is}
 use Rattle.wl_group.proofs.begin.first_silence.Goals as goal
 
 pub at-until-requires : goal.at-until-requires

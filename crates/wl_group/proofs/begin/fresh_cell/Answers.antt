@@ -1,7 +1,8 @@
 use Rattle.std.proofs.Common.{◌≡◌, ◌∙◌}
 use Rattle.wl_node.specs.Reached.{quanta_of}
 use Rattle.wl_plan.specs.PlanLine.{setup_at}
-use Rattle.wl_group.proofs.BeginProofs.{element_is, fresh_kept}
+use Rattle.wl_plan.proofs.Callers.{element_is}
+use Rattle.wl_group.proofs.BeginProofs.{fresh_kept}
 use Rattle.wl_group.proofs.begin.fresh_cell.Goals as goal
 
 pub returns-clause-cell : goal.returns-clause-cell

@@ -2,7 +2,8 @@
 use Rattle.std.proofs.Common.{◌-◌, ◌%◌, ◌==◌, ◌<◌, ◌∙◌, arith}
 use Rattle.wl_replica.specs.State.{slots_of}
 use Rattle.wl_replica.specs.Known.{horizon, wave_at}
-use Rattle.wl_group.proofs.CountedProofs.{wave_is, odd_is, level_after}
+use Rattle.wl_record_core.proofs.Callers.{odd_is}
+use Rattle.wl_group.proofs.CountedProofs.{wave_is, level_after}
 use Rattle.wl_group.proofs.counted.drove.Goals as goal
 
 pub returns : goal.returns

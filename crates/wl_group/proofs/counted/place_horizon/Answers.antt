@@ -2,7 +2,7 @@ use Rattle.std.proofs.Common.{ℕ, ◌+◌, ◌≤◌, min, ◌∙◌, arith}
 use Rattle.wl_topology.specs.Delays.{delay_of}
 use Rattle.wl_replica.specs.State.{slots_of}
 use Rattle.wl_replica.specs.Known.{horizon}
-use Rattle.wl_group.proofs.CountedProofs.{least_more}
+use Rattle.wl_replica.proofs.Callers.{least_more}
 use Rattle.wl_group.proofs.counted.place_horizon.Goals as goal
 
 pub loop-i-preserved : goal.loop-i-preserved

@@ -5,7 +5,8 @@ use Rattle.wl_topology.specs.Delays.{delay_of}
 use Rattle.wl_topology.specs.Driven.{driven}
 use Rattle.wl_replica.specs.State.{slots_of}
 use Rattle.wl_replica.specs.Known.{wave_at}
-use Rattle.wl_group.proofs.CountedProofs.{driven_from, driven_more}
+use Rattle.wl_topology.proofs.Callers.{driven_more}
+use Rattle.wl_group.proofs.CountedProofs.{driven_from}
 use Rattle.wl_group.proofs.counted.seen.Goals as goal
 
 pub drove-requires-clause-known : goal.drove-requires-clause-known

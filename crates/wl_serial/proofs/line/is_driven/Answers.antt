@@ -4,7 +4,8 @@ use Rattle.wl_topology.specs.Delays.{delay_of}
 use Rattle.wl_record_core.specs.Truth.{count_below, odd, IsIncreasing}
 use Rattle.wl_plan.specs.PlanLine.{line_of}
 use Rattle.wl_plan.specs.Simulation.{level}
-use Rattle.wl_serial.proofs.Found.{in_order, come, driven_from, driven_more}
+use Rattle.wl_topology.proofs.Callers.{driven_more}
+use Rattle.wl_serial.proofs.Found.{in_order, come, driven_from}
 use Rattle.wl_serial.proofs.line.is_driven.Goals as goal
 use Rattle.wl_serial.proofs.line.is_driven.Goals.{Then-drove, Else-drove}
 

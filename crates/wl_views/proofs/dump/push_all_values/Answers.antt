@@ -2,7 +2,7 @@
 use Rattle.std.proofs.Common.{◌∙◌, ◌++◌, false, string_bytes}
 use Rattle.wl_views.specs.declared.signals.NodeSignals.{NodeSignals}
 use Rattle.wl_views.specs.Vcd.{node_values}
-use Rattle.wl_views.proofs.Lists.{next_piece}
+use Rattle.wl_report.proofs.Callers.{piece_more}
 use Rattle.wl_views.proofs.dump.push_all_values.Goals as goal
 
 abbrev low : NodeSignals
@@ -11,4 +11,4 @@ low = record { tx = false; rx = false; sample = false }
 pub loop-i-preserved : goal.loop-i-preserved
 loop-i-preserved c =
     c.in_ok-push_values.ensures
-    ∙ next_piece node_values (string_bytes c.args.text.now) (string_bytes c.loop-i.text) c.args.now.now c.loop-i.i low c.loop-i-test.true c.loop-i.invariant
+    ∙ piece_more node_values (string_bytes c.args.text.now) (string_bytes c.loop-i.text) c.args.now.now c.loop-i.i low c.loop-i-test.true c.loop-i.invariant

@@ -5,7 +5,8 @@ use Rattle.wl_plan.specs.PlanLine.{line_of}
 use Rattle.wl_group.specs.Member.{next_tick}
 use Rattle.wl_group.specs.GroupValue.{members_now, belongs}
 use Rattle.wl_serial.specs.Outcome.{node_outcome_of}
-use Rattle.wl_worker.proofs.Shares.{outcome_here, ok_as}
+use Rattle.wl_serial.proofs.Callers.{ok_as}
+use Rattle.wl_worker.proofs.Shares.{outcome_here}
 use Rattle.wl_worker.proofs.crew.outcome_at_end.Goals as goal
 
 pub returns : goal.returns

@@ -1,6 +1,7 @@
 use Rattle.wl_worker.specs.Finished.{HasFinished}
 use Rattle.wl_worker.specs.Shares.{IsDone}
-use Rattle.wl_worker.proofs.Shares.{ok_as, done_is}
+use Rattle.wl_serial.proofs.Callers.{ok_as}
+use Rattle.wl_worker.proofs.Shares.{done_is}
 use Rattle.wl_worker.proofs.crew.run_one.Goals as goal
 
 pub returns-in-Ok : goal.returns-in-Ok

@@ -5,7 +5,7 @@ use Rattle.wl_node.specs.Reached.{quanta_of}
 use Rattle.wl_plan.specs.Limits.{most_quanta, most_quanta-is}
 use Rattle.wl_plan.specs.PlanLine.{setup_at}
 use Rattle.wl_group.specs.GroupValue.{GroupValue, members_now}
-use Rattle.wl_group.proofs.BeginProofs.{element_is}
+use Rattle.wl_plan.proofs.Callers.{element_is}
 use Rattle.wl_group.proofs.group.Group.due.Goals as goal
 
 pub at-requires : goal.at-requires

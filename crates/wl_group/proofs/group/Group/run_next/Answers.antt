@@ -10,7 +10,7 @@ use Rattle.wl_plan.specs.PlanLine.{line_of}
 use Rattle.wl_group.specs.Member.{can_run}
 use Rattle.wl_group.specs.GroupValue.{belongs, members_now}
 use Rattle.wl_group.specs.Counted.{AreCounted}
-use Rattle.wl_group.proofs.CallerLemmas.{on_err}
+use Rattle.wl_group.proofs.Callers.{on_err}
 use Rattle.wl_group.proofs.CountedProofs.{true_state, counting_stays}
 use Rattle.wl_group.proofs.RunProofs.{cell_read, in_cells, few_quanta, few_changed, reads_is, value_stays, kept_stays, kept_runs, has_run, may_say}
 use Rattle.wl_group.proofs.group.Group.run_next.Goals as goal

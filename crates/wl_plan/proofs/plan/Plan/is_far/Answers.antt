@@ -3,7 +3,7 @@ use Rattle.std.proofs.Common.{length, nat_lt, sym, arith}
 use Rattle.std.proofs.lemmas.Bool.{lt-ltb}
 use Rattle.wl_topology.specs.Delays.{disturbance_delay}
 use Rattle.wl_topology.specs.Limits.{longest_delay}
-use Rattle.wl_topology.proofs.CallerLemmas.{any_from}
+use Rattle.wl_topology.proofs.Callers.{any_from}
 use Rattle.wl_plan.proofs.plan.Plan.is_far.Goals as goal
 
 pub returns-then-place_delay : goal.returns-then-place_delay

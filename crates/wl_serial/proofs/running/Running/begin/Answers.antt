@@ -2,7 +2,8 @@
 use Rattle.std.proofs.Common.{◌≡◌, ◌∙◌, ap}
 use Rattle.wl_clock.specs.Timing.{tick_of}
 use Rattle.wl_plan.specs.PlanLine.{setup_at}
-use Rattle.wl_serial.proofs.Steps.{begins, element_is}
+use Rattle.wl_plan.proofs.Callers.{element_is}
+use Rattle.wl_serial.proofs.Steps.{begins}
 use Rattle.wl_serial.proofs.running.Running.begin.Goals as goal
 
 pub returns : goal.returns

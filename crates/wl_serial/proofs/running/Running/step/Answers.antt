@@ -3,7 +3,8 @@ use Rattle.std.proofs.Common.{◌≡◌, suc, ◌+◌, ◌<◌, ◌∙◌, ap, s
 use Rattle.wl_clock.specs.Timing.{tick_of}
 use Rattle.wl_plan.specs.Limits.{most_quanta, most_quanta-is}
 use Rattle.wl_plan.specs.PlanLine.{setup_at}
-use Rattle.wl_serial.proofs.Steps.{steps, element_is, quanta_are, quanta_few, later}
+use Rattle.wl_plan.proofs.Callers.{element_is}
+use Rattle.wl_serial.proofs.Steps.{steps, quanta_are, quanta_few, later}
 use Rattle.wl_serial.proofs.running.Running.step.Goals as goal
 
 pub quantum-requires : goal.quantum-requires

@@ -2,7 +2,7 @@
 use Rattle.std.proofs.Common.{◌≡◌, ◌∙◌, ap, arith}
 use Rattle.wl_plan.specs.PlanLine.{line_of}
 use Rattle.wl_plan.specs.Groupings.{groups_of}
-use Rattle.wl_group.proofs.CallerLemmas.{on_err}
+use Rattle.wl_group.proofs.Callers.{on_err}
 use Rattle.wl_world.specs.Moves.{HasGone, HasExhausted}
 use Rattle.wl_world.specs.WorldValue.{WorldValue, cast_of}
 use Rattle.wl_world.proofs.MoveProofs.{set_on, gone_on, exhausted_all_gone, exhausted_all_more, exhausted_all_enough}

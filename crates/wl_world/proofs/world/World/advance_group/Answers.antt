@@ -1,7 +1,7 @@
 -- One quantum after another; each is one fewer that is left.
 use Rattle.std.proofs.Common.{refl, sym, ◌∙◌, ap, subst}
 use Rattle.wl_plan.specs.PlanLine.{line_of}
-use Rattle.wl_group.proofs.CallerLemmas.{on_err}
+use Rattle.wl_group.proofs.Callers.{on_err}
 use Rattle.wl_world.specs.declared.events.Event.TheVariants.{Advance}
 use Rattle.wl_world.specs.Scene.{Scene}
 use Rattle.wl_world.specs.Moves.{IsStuckAt, HasGone}

@@ -1,7 +1,7 @@
 -- One delivery after another.
 use Rattle.std.proofs.Common.{sym, ◌∙◌, ap, subst, arith}
 use Rattle.wl_plan.specs.PlanLine.{line_of}
-use Rattle.wl_group.proofs.CallerLemmas.{on_err}
+use Rattle.wl_group.proofs.Callers.{on_err}
 use Rattle.wl_world.specs.declared.events.Event.TheVariants.{Deliver}
 use Rattle.wl_world.specs.Moves.{HasGone}
 use Rattle.wl_world.specs.WorldValue.{IsWorldAt, cast_of}

@@ -2,7 +2,7 @@
 use Rattle.std.proofs.Common.{◌<◌, refl, sym, ◌∙◌, ap, subst, arith}
 use Rattle.std.proofs.lemmas.Bool.{false≢true}
 use Rattle.wl_plan.specs.PlanLine.{line_of}
-use Rattle.wl_group.proofs.CallerLemmas.{on_err}
+use Rattle.wl_group.proofs.Callers.{on_err}
 use Rattle.wl_world.specs.Scene.{run, start}
 use Rattle.wl_world.specs.Ended.{AreAtEnd, quanta_left_of}
 use Rattle.wl_world.specs.Moves.{HasGone, HasRounded}

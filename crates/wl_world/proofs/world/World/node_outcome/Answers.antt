@@ -9,7 +9,8 @@ use Rattle.wl_serial.specs.Outcome.{node_outcome_of}
 use Rattle.wl_world.specs.WorldValue.{WorldValue, world_value}
 use Rattle.wl_world.specs.Ended.{AreAtEnd}
 use Rattle.wl_world.proofs.EndProofs.{ended_at}
-use Rattle.wl_world.proofs.OutcomeProofs.{group_there, member_there, outcome_here, ok_as}
+use Rattle.wl_serial.proofs.Callers.{ok_as}
+use Rattle.wl_world.proofs.OutcomeProofs.{group_there, member_there, outcome_here}
 use Rattle.wl_world.proofs.world.World.node_outcome.Goals as goal
 use Rattle.wl_world.proofs.world.World.node_outcome.Goals.{After-index-group}
 

@@ -1,5 +1,5 @@
 -- Each node's outcome stands after those of the nodes before it.
-use Rattle.wl_world.proofs.OutcomeProofs.{outcome_more}
+use Rattle.wl_serial.proofs.Callers.{outcome_more}
 use Rattle.wl_world.proofs.world.World.outcome.Goals as goal
 
 pub loop-i-preserved : goal.loop-i-preserved

@@ -2,7 +2,7 @@
 use Rattle.std.proofs.Common.{◌≡◌, ◌∙◌, ap, subst, length, arith}
 use Rattle.wl_plan.specs.PlanLine.{line_of}
 use Rattle.wl_plan.specs.Groupings.{groups_of}
-use Rattle.wl_group.proofs.CallerLemmas.{on_err}
+use Rattle.wl_group.proofs.Callers.{on_err}
 use Rattle.wl_world.specs.Moves.{HasGone, HasExhaustedAll}
 use Rattle.wl_world.specs.WorldValue.{WorldValue, cast_of}
 use Rattle.wl_world.proofs.MoveProofs.{set_on, gone_on, handed_all_gone, rounded}

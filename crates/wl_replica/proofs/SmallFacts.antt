@@ -1,4 +1,4 @@
--- Small facts that proofs of this crate and of its callers share: of options, numbers and orders, of words, and of a run of edges.
+-- Small facts that proofs of this crate share: of options, numbers and orders, of words, and of a run of edges.
 use Rattle.std.proofs.Common.{◌≡◌, ◌⊎◌, inl, inr, ℕ, zero, suc, ◌<◌, ◌||◌, true, false, Option, Some, None, max, nat_lt, refl, sym, subst, arith}
 use Rattle.std.specs.Prelude.{◌==◌}
 use Rattle.std.proofs.lemmas.Bool.{and_parts, cases_eq, cases_lt, false≢true}

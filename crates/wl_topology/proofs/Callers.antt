@@ -1,7 +1,7 @@
--- What callers may use: some number below n passes a test, or none does.
-use Rattle.std.proofs.Common.{◌≡◌, ℕ, zero, suc, ◌<◌, Bool, true, false, inl, inr, refl, subst, arith}
+-- What the proofs of upper crates may use: some number below n passes a test, or none does.
+use Rattle.std.proofs.Common.{◌≡◌, ℕ, zero, suc, ◌+◌, ◌-◌, ◌<◌, Bool, true, false, ◌&&◌, ◌||◌, inl, inr, refl, sym, ◌∙◌, ap, subst, arith, add-one, nat_le}
 use Rattle.std.proofs.lemmas.Bool.{cases_lt, or_cases, or_left, or_right}
-use Rattle.wl_topology.specs.Driven.{any_below}
+use Rattle.wl_topology.specs.Driven.{any_below, driven}
 
 -- one that passes is enough
 pub any_from : (n i : ℕ) (p : ℕ → Bool) → i < n → p i ≡ true → any_below n p ≡ true
@@ -28,3 +28,10 @@ any_none (suc n) p h =
     let e = any_none n p (λ i b. h i (omega arith)) in
     let e2 = h n (omega arith) in
     cc
+
+-- one node more that drove nothing
+pub driven_more : (n : ℕ) (delay : ℕ → ℕ → ℕ) (drove : ℕ → ℕ → Bool) (j t : ℕ) (v : Bool) → v ≡ (nat_le (delay n j) t && drove n (t - delay n j)) → v ≡ false
+    → driven n delay drove j t ≡ false → driven (n + 1) delay drove j t ≡ false
+driven_more n delay drove j t v is silent none =
+    subst (λ m. driven m delay drove j t ≡ false) (sym (add-one n))
+    (ap (λ w. w || (nat_le (delay n j) t && drove n (t - delay n j))) none ∙ (sym is ∙ silent))
