@@ -75,10 +75,10 @@ module _ (l : Line) (belongs : ℕ → Bool) (p : Party) (i : ℕ) where
     | inr n ↦ stays n
   ]
 
-steps_told : (l : Line) (belongs : ℕ → Bool) (p q : Party) (rs : List Record) → Steps l belongs p rs q → q.told ≡ p.told ++ rs
-steps_told l belongs p q rs (none {p = x}) = sym (append-nil x.told)
-steps_told l belongs p q rs (more {p = x} {q = y} {rs = more_rs} i b can steps) =
-    steps_told l belongs (run_next l i x) y more_rs steps ∙ append_assoc x.told (emission_of l x i) more_rs
+steps_emitted : (l : Line) (belongs : ℕ → Bool) (p q : Party) (rs : List Record) → Steps l belongs p rs q → q.emitted ≡ p.emitted ++ rs
+steps_emitted l belongs p q rs (none {p = x}) = sym (append-nil x.emitted)
+steps_emitted l belongs p q rs (more {p = x} {q = y} {rs = more_rs} i b can steps) =
+    steps_emitted l belongs (run_next l i x) y more_rs steps ∙ append_assoc x.emitted (emission_of l x i) more_rs
 
 pub advance_laws : AdvanceLaws
-advance_laws = record { emitted_iff = emitted_iff; ended_iff = ended_iff; blocked_iff = blocked_iff; refused_stays = refused_stays; steps_told = steps_told }
+advance_laws = record { emitted_iff = emitted_iff; ended_iff = ended_iff; blocked_iff = blocked_iff; refused_stays = refused_stays; steps_emitted = steps_emitted }

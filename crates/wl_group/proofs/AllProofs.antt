@@ -18,7 +18,7 @@ use Rattle.wl_group.proofs.AdvanceProofs.{advance_laws}
 pub advanced_so : (old new : GroupValue) (i : ℕ) (said : List Record) → ((p : Party) → Matches p old → can_advance (line_of old.plan) (belongs old) p i ≡ true)
     → HasRunNext i old new said → HasAdvanced {G = GroupValue} Matches (line_of old.plan) (belongs old) i old new (emitted said)
 advanced_so old new i said can ran = record {
-  reply = λ p h. ap emitted (ran.told p h) ∙ sym ((advance_laws.emitted_iff (line_of old.plan) (belongs old) p i).1 (can p h));
+  reply = λ p h. ap emitted (ran.emitted p h) ∙ sym ((advance_laws.emitted_iff (line_of old.plan) (belongs old) p i).1 (can p h));
   after = λ p h. subst (λ (q : Party). Matches q new) (sym (cond-true (can_advance (line_of old.plan) (belongs old) p i) (run_next (line_of old.plan) i p) p (can p h))) (ran.after p h);
   refused = λ h. absurd (neither h);
 }

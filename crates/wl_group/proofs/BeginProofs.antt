@@ -92,13 +92,13 @@ pub cell_read : (cells : List (Option Cell)) (i : ℕ) (o : Option Cell) (cell :
 cell_read cells i o cell b r e = get_or_default cells i None o b ∙ (sym r ∙ e)
 
 -- where the value of a group has a member that it keeps
-pub kept_quanta : (plan : Plan) (cells : List (Option Cell)) (replica : State) (told : List Record) (i : ℕ) (cell : Cell)
-    → slice_index_or cells i None ≡ Some cell → quanta_at (group_value plan cells replica told) i ≡ Some (quanta_of cell.node)
-kept_quanta plan cells replica told i cell e = quanta_in cells i ∙ ap quanta_kept e
+pub kept_quanta : (plan : Plan) (cells : List (Option Cell)) (replica : State) (emitted : List Record) (i : ℕ) (cell : Cell)
+    → slice_index_or cells i None ≡ Some cell → quanta_at (group_value plan cells replica emitted) i ≡ Some (quanta_of cell.node)
+kept_quanta plan cells replica emitted i cell e = quanta_in cells i ∙ ap quanta_kept e
 
-pub kept_member : (plan : Plan) (cells : List (Option Cell)) (replica : State) (told : List Record) (i : ℕ) (cell : Cell)
-    → slice_index_or cells i None ≡ Some cell → members_now (group_value plan cells replica told) i ≡ member_after (line_of plan) i (quanta_of cell.node)
-kept_member plan cells replica told i cell e = ap (member_at (line_of plan) i) (kept_quanta plan cells replica told i cell e)
+pub kept_member : (plan : Plan) (cells : List (Option Cell)) (replica : State) (emitted : List Record) (i : ℕ) (cell : Cell)
+    → slice_index_or cells i None ≡ Some cell → members_now (group_value plan cells replica emitted) i ≡ member_after (line_of plan) i (quanta_of cell.node)
+kept_member plan cells replica emitted i cell e = ap (member_at (line_of plan) i) (kept_quanta plan cells replica emitted i cell e)
 
 -- ---- fresh nodes
 
@@ -153,29 +153,29 @@ one_more_cell plan cells more o i e long are is j member h = elim (cases_lt j (l
 
 -- ---- first silences
 
-pub first_taken : (l : Line) (nodes : ℕ) (old new : State) (told : Record) (b : Bool) (i : ℕ) → old.nodes ≡ nodes → told ≡ Silence i 0 (reach l i []) → b ≡ true
-    → ((before : List Record) → old ≡ state_of old.nodes before → new ≡ state_of old.nodes (before ++ told ∷ []))
+pub first_taken : (l : Line) (nodes : ℕ) (old new : State) (emitted : Record) (b : Bool) (i : ℕ) → old.nodes ≡ nodes → emitted ≡ Silence i 0 (reach l i []) → b ≡ true
+    → ((before : List Record) → old ≡ state_of old.nodes before → new ≡ state_of old.nodes (before ++ emitted ∷ []))
     → (before : List Record) → old ≡ state_of nodes before → new ≡ state_of nodes (before ++ (if b then Silence i 0 (reach l i []) ∷ [] else []))
-first_taken l nodes old new told b i en et eb after before e =
+first_taken l nodes old new emitted b i en et eb after before e =
     after before (e ∙ ap (λ n. state_of n before) (sym en))
-    ∙ (ap (λ n. state_of n (before ++ told ∷ [])) en
+    ∙ (ap (λ n. state_of n (before ++ emitted ∷ [])) en
     ∙ (ap (λ r. state_of nodes (before ++ r ∷ [])) et
     ∙ ap (λ rs. state_of nodes (before ++ rs)) (sym (cond-true b (Silence i 0 (reach l i []) ∷ []) [] eb))))
 
 -- ---- what a group keeps
 
 -- what begins makes the value that begins
-pub begun_value : (plan copy : Plan) (chosen given : ℕ → Bool) (cells : List (Option Cell)) (replica : State) (told : List Record) → copy ≡ plan
-    → ((i : ℕ) → chosen i ≡ given i) → ran_of cells ≡ (initial_group plan chosen).ran → replica ≡ (initial_group plan chosen).replica → told ≡ []
-    → group_value copy cells replica told ≡ initial_group plan given
-begun_value plan copy chosen given cells replica told ep ec er es et =
-    (λ d. record { plan = ep d; ran = er d; replica = es d; told = et d }) ∙ ap (λ f. initial_group plan f) (λ d i. ec i d)
+pub begun_value : (plan copy : Plan) (chosen given : ℕ → Bool) (cells : List (Option Cell)) (replica : State) (emitted : List Record) → copy ≡ plan
+    → ((i : ℕ) → chosen i ≡ given i) → ran_of cells ≡ (initial_group plan chosen).ran → replica ≡ (initial_group plan chosen).replica → emitted ≡ []
+    → group_value copy cells replica emitted ≡ initial_group plan given
+begun_value plan copy chosen given cells replica emitted ep ec er es et =
+    (λ d. record { plan = ep d; ran = er d; replica = es d; emitted = et d }) ∙ ap (λ f. initial_group plan f) (λ d i. ec i d)
 
-pub begun_kept : ValueLaws → (plan copy : Plan) (chosen given : ℕ → Bool) (cells : List (Option Cell)) (replica : State) (told : List Record) → IsChecked plan → copy ≡ plan
-    → ((i : ℕ) → chosen i ≡ given i) → ran_of cells ≡ (initial_group plan chosen).ran → AreCells plan cells → replica ≡ (initial_group plan chosen).replica → told ≡ []
-    → IsKept copy cells replica told
-begun_kept laws plan copy chosen given cells replica told c ep ec er are es et = record {
-  value = subst IsGroupValue (sym (begun_value plan copy chosen given cells replica told ep ec er es et)) (laws.begins plan c given);
+pub begun_kept : ValueLaws → (plan copy : Plan) (chosen given : ℕ → Bool) (cells : List (Option Cell)) (replica : State) (emitted : List Record) → IsChecked plan → copy ≡ plan
+    → ((i : ℕ) → chosen i ≡ given i) → ran_of cells ≡ (initial_group plan chosen).ran → AreCells plan cells → replica ≡ (initial_group plan chosen).replica → emitted ≡ []
+    → IsKept copy cells replica emitted
+begun_kept laws plan copy chosen given cells replica emitted c ep ec er are es et = record {
+  value = subst IsGroupValue (sym (begun_value plan copy chosen given cells replica emitted ep ec er es et)) (laws.begins plan c given);
   placed = subst (λ x. AreCells x cells) (sym ep) are;
 }
 
@@ -185,28 +185,28 @@ true_fits nodes n table (Edge i s t) h e = ((let b = h.0 in omega arith), h.2)
 true_fits nodes n table (Silence i c u) h e = ((let b = h.0 in omega arith), h.2)
 true_fits nodes n table (Clash i s) h e = absurd h
 
-pub taken_value : (plan : Plan) (cells : List (Option Cell)) (replica new : State) (told : List Record) (r : Record) (v : GroupValue)
-    → group_value plan cells replica told ≡ v → new ≡ state_with_record replica r → group_value plan cells new told ≡ with_records (r ∷ []) v
-taken_value plan cells replica new told r v ev e = ap (λ s. group_value plan cells s told) e ∙ ap (with_records (r ∷ [])) ev
+pub taken_value : (plan : Plan) (cells : List (Option Cell)) (replica new : State) (emitted : List Record) (r : Record) (v : GroupValue)
+    → group_value plan cells replica emitted ≡ v → new ≡ state_with_record replica r → group_value plan cells new emitted ≡ with_records (r ∷ []) v
+taken_value plan cells replica new emitted r v ev e = ap (λ s. group_value plan cells s emitted) e ∙ ap (with_records (r ∷ [])) ev
 
-pub taken_kept : ValueLaws → (plan : Plan) (cells : List (Option Cell)) (replica new : State) (told : List Record) (r : Record) (v : GroupValue)
-    → group_value plan cells replica told ≡ v → IsKept plan cells replica told → IsTrueOfPlan v.plan r → new ≡ state_with_record replica r → IsKept plan cells new told
-taken_kept laws plan cells replica new told r v ev k t e = record {
-  value = subst (λ s. IsGroupValue (group_value plan cells s told)) (sym e)
-      (laws.takes (group_value plan cells replica told) k.value (r ∷ []) (subst (λ (x : GroupValue). IsTrueOfPlan x.plan r) (sym ev) t, tt));
+pub taken_kept : ValueLaws → (plan : Plan) (cells : List (Option Cell)) (replica new : State) (emitted : List Record) (r : Record) (v : GroupValue)
+    → group_value plan cells replica emitted ≡ v → IsKept plan cells replica emitted → IsTrueOfPlan v.plan r → new ≡ state_with_record replica r → IsKept plan cells new emitted
+taken_kept laws plan cells replica new emitted r v ev k t e = record {
+  value = subst (λ s. IsGroupValue (group_value plan cells s emitted)) (sym e)
+      (laws.takes (group_value plan cells replica emitted) k.value (r ∷ []) (subst (λ (x : GroupValue). IsTrueOfPlan x.plan r) (sym ev) t, tt));
   placed = k.placed;
 }
 
-pub joined_value : (plan : Plan) (cells : List (Option Cell)) (replica new : State) (told : List Record) (s : State) (v : GroupValue)
-    → group_value plan cells replica told ≡ v → new ≡ states_joined replica s → group_value plan cells new told ≡ with_state s v
-joined_value plan cells replica new told s v ev e = ap (λ x. group_value plan cells x told) e ∙ ap (with_state s) ev
+pub joined_value : (plan : Plan) (cells : List (Option Cell)) (replica new : State) (emitted : List Record) (s : State) (v : GroupValue)
+    → group_value plan cells replica emitted ≡ v → new ≡ states_joined replica s → group_value plan cells new emitted ≡ with_state s v
+joined_value plan cells replica new emitted s v ev e = ap (λ x. group_value plan cells x emitted) e ∙ ap (with_state s) ev
 
-pub joined_kept : ValueLaws → (plan : Plan) (cells : List (Option Cell)) (replica new : State) (told : List Record) (s : State) (v : GroupValue)
-    → group_value plan cells replica told ≡ v → IsKept plan cells replica told → s.nodes ≡ length v.plan.nodes → IsOfRecords s
-    → HoldsTrue (length v.plan.nodes) (table_of v.plan) (slots_of s) → new ≡ states_joined replica s → IsKept plan cells new told
-joined_kept laws plan cells replica new told s v ev k n of t e = record {
-  value = subst (λ x. IsGroupValue (group_value plan cells x told)) (sym e)
-      (laws.joins (group_value plan cells replica told) k.value s (subst (λ (x : GroupValue). s.nodes ≡ length x.plan.nodes) (sym ev) n) of
+pub joined_kept : ValueLaws → (plan : Plan) (cells : List (Option Cell)) (replica new : State) (emitted : List Record) (s : State) (v : GroupValue)
+    → group_value plan cells replica emitted ≡ v → IsKept plan cells replica emitted → s.nodes ≡ length v.plan.nodes → IsOfRecords s
+    → HoldsTrue (length v.plan.nodes) (table_of v.plan) (slots_of s) → new ≡ states_joined replica s → IsKept plan cells new emitted
+joined_kept laws plan cells replica new emitted s v ev k n of t e = record {
+  value = subst (λ x. IsGroupValue (group_value plan cells x emitted)) (sym e)
+      (laws.joins (group_value plan cells replica emitted) k.value s (subst (λ (x : GroupValue). s.nodes ≡ length x.plan.nodes) (sym ev) n) of
       (subst (λ (x : GroupValue). HoldsTrue (length x.plan.nodes) (table_of x.plan) (slots_of s)) (sym ev) t));
   placed = k.placed;
 }

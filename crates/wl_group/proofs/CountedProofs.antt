@@ -56,8 +56,8 @@ counted_stays slots states known nodes table old more new runs e h counted i n b
     (subst (IsBelow (slots_of old)) (sym (ap slots_of e ∙ states.both old more)) (slots.above_first (slots_of old) (slots_of more))) h (counted i n b)
 
 -- what a group knows is true of its plan's table
-pub true_state : SimulationLaws → (plan : Plan) (cells : List (Option Cell)) (replica : State) (told : List Record) → IsKept plan cells replica told → IsTrueState replica
-true_state sims plan cells replica told kept = (
+pub true_state : SimulationLaws → (plan : Plan) (cells : List (Option Cell)) (replica : State) (emitted : List Record) → IsKept plan cells replica emitted → IsTrueState replica
+true_state sims plan cells replica emitted kept = (
   table_of plan,
   (λ i. sims.changes_increase (line_of plan) i),
   subst (λ n. HoldsTrue n (table_of plan) (slots_of replica)) (sym kept.value.of_all) kept.value.holds.truth,
@@ -222,9 +222,9 @@ driven_from laws n delay drove i j t v b is h =
 -- ---- what a group keeps
 
 -- more was taken, and all is true
-pub counting_stays : SlotsLaws → SlotsOfStates → KnownLaws → (plan : Plan) (cells : List (Option Cell)) (old more new : State) (told : List Record) (runs : List ℕ)
-    → new ≡ states_joined old more → AreCounted (slots_of old) runs → IsKept plan cells new told → IsCounting plan cells new told runs
-counting_stays slots states known plan cells old more new told runs e counted kept = record {
+pub counting_stays : SlotsLaws → SlotsOfStates → KnownLaws → (plan : Plan) (cells : List (Option Cell)) (old more new : State) (emitted : List Record) (runs : List ℕ)
+    → new ≡ states_joined old more → AreCounted (slots_of old) runs → IsKept plan cells new emitted → IsCounting plan cells new emitted runs
+counting_stays slots states known plan cells old more new emitted runs e counted kept = record {
   kept = kept;
   counted = counted_stays slots states known (length plan.nodes) (table_of plan) old more new runs e kept.value.holds.truth counted;
 }

@@ -51,6 +51,6 @@ its_own_records : (party_after_quantum small 0 Recessive (initial_party small (�
 unfolding small drives
 its_own_records = refl
 
-and_tells_them : (party_after_quantum small 0 Recessive (initial_party small (λ i. true))).told ≡ Silence 0 0 2 ∷ []
+and_tells_them : (party_after_quantum small 0 Recessive (initial_party small (λ i. true))).emitted ≡ Silence 0 0 2 ∷ []
 unfolding small drives
 and_tells_them = refl

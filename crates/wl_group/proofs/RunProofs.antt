@@ -84,22 +84,22 @@ pub cell_read : (cells : List (Option Cell)) (i : ℕ) (o : Option Cell) (cell :
 cell_read cells i o cell b r is = sym (get_or_read cells i o b r None) ∙ is
 
 -- What the group keeps, the value that contracts see of it, and a member of it.
-module _ (laws : ValueLaws) (sound : CheckedIsSound) (plan : Plan) (cells : List (Option Cell)) (replica : State) (told : List Record) (kept : IsKept plan cells replica told)
-    (now : GroupValue) (view : ◌≡◌ {A = GroupValue} (group_value plan cells replica told) now) (i : ℕ) where
+module _ (laws : ValueLaws) (sound : CheckedIsSound) (plan : Plan) (cells : List (Option Cell)) (replica : State) (emitted : List Record) (kept : IsKept plan cells replica emitted)
+    (now : GroupValue) (view : ◌≡◌ {A = GroupValue} (group_value plan cells replica emitted) now) (i : ℕ) where
   pub in_cells : belongs now i ≡ true → i < length cells
   in_cells o =
-      let here : belongs (group_value plan cells replica told) i ≡ true = subst (λ (v : GroupValue). belongs v i ≡ true) (sym view) o in
+      let here : belongs (group_value plan cells replica emitted) i ≡ true = subst (λ (v : GroupValue). belongs v i ≡ true) (sym view) o in
       let k = is_there (get_or (ran_of cells) i None) here in
       let b = some_there (ran_of cells) i k.0 k.1 in
       let e = same_length cells in
       omega arith
 
   module _ (cell : Cell) (is : get_or cells i None ≡ Some cell) where
-    ran_is : quanta_at (group_value plan cells replica told) i ≡ Some (quanta_of cell.node)
+    ran_is : quanta_at (group_value plan cells replica emitted) i ≡ Some (quanta_of cell.node)
     ran_is = ran_get cells i ∙ ap quanta_kept is
 
     few : (i < length plan.nodes) × (quanta_of cell.node ≤ most_quanta) × AreInside (line_of plan) i (quanta_of cell.node)
-    few = laws.quanta_few (group_value plan cells replica told) kept.value i (quanta_of cell.node) ran_is
+    few = laws.quanta_few (group_value plan cells replica emitted) kept.value i (quanta_of cell.node) ran_is
 
     pub in_plan : i < length plan.nodes
     in_plan = few.0
@@ -114,18 +114,18 @@ module _ (laws : ValueLaws) (sound : CheckedIsSound) (plan : Plan) (cells : List
         let f = (sound plan kept.value.checked).few_changes i in_plan in
         omega arith
 
-    member_is : members_now (group_value plan cells replica told) i ≡ member_after (line_of plan) i (quanta_of cell.node)
+    member_is : members_now (group_value plan cells replica emitted) i ≡ member_after (line_of plan) i (quanta_of cell.node)
     member_is = ap (member_at (line_of plan) i) ran_is
 
     -- it stands where the machine's member does
-    pub own : IsCellOf plan i (members_now (group_value plan cells replica told) i) cell
+    pub own : IsCellOf plan i (members_now (group_value plan cells replica emitted) i) cell
     own =
         let c = kept.placed i cell is in
         subst (λ m. IsCellOf plan i m cell) (sym member_is) (record { setup = c.setup; node = c.node; changed = c.changed })
 
     -- what it reads is what its value says
     pub reads_is : (tick : ℕ) (level : Level) → tick ≡ next_tick (line_of now.plan) i (members_now now i)
-        → level ≡ level_of (found (line_of plan) (wave_at (slots_of replica)) i tick) → level ≡ reads_at (group_value plan cells replica told) i
+        → level ≡ level_of (found (line_of plan) (wave_at (slots_of replica)) i tick) → level ≡ reads_at (group_value plan cells replica emitted) i
     reads_is tick level et el =
         el ∙ ap (λ t. level_of (found (line_of plan) (wave_at (slots_of replica)) i t))
         (et ∙ ap (λ (v : GroupValue). next_tick (line_of v.plan) i (members_now v i)) (sym view))
@@ -145,13 +145,13 @@ module _ (laws : ValueLaws) (sound : CheckedIsSound) (plan : Plan) (cells : List
 
       -- no quantum was run
       module _ (quanta : quanta_of new.node ≡ quanta_of cell.node) (stays : (p : Plan) (j : ℕ) (m : Member) → IsCellOf p j m cell → IsCellOf p j m new)
-          (replica_new : State) (told_new : List Record) (untaken : replica_new ≡ replica) (untold : told_new ≡ told) where
-        pub value_stays : ◌≡◌ {A = GroupValue} (group_value plan (set cells i (Some new)) replica_new told_new) (group_value plan cells replica told)
+          (replica_new : State) (emitted_new : List Record) (untaken : replica_new ≡ replica) (unemitted : emitted_new ≡ emitted) where
+        pub value_stays : ◌≡◌ {A = GroupValue} (group_value plan (set cells i (Some new)) replica_new emitted_new) (group_value plan cells replica emitted)
         value_stays =
             let ran : ran_of (set cells i (Some new)) ≡ ran_of cells = ran_new ∙ (ap (λ k. set (ran_of cells) i (Some k)) quanta ∙ set_own (ran_of cells) i (quanta_of cell.node) ran_is) in
-            λ d. record { plan = plan; ran = ran d; replica = untaken d; told = untold d }
+            λ d. record { plan = plan; ran = ran d; replica = untaken d; emitted = unemitted d }
 
-        pub kept_stays : IsKept plan (set cells i (Some new)) replica_new told_new
+        pub kept_stays : IsKept plan (set cells i (Some new)) replica_new emitted_new
         kept_stays =
             let c = kept.placed i cell is in
             let s = stays plan i (member_after (line_of plan) i (quanta_of cell.node)) (record { setup = c.setup; node = c.node; changed = c.changed }) in
@@ -162,78 +162,78 @@ module _ (laws : ValueLaws) (sound : CheckedIsSound) (plan : Plan) (cells : List
             }
 
       -- one was run
-      module _ (may : may_run now i ≡ true) (level : Level) (read : level ≡ reads_at (group_value plan cells replica told) i) (said : List Record)
+      module _ (may : may_run now i ≡ true) (level : Level) (read : level ≡ reads_at (group_value plan cells replica emitted) i) (said : List Record)
           (says : (p : Plan) (m : Member) → IsCellOf p i m cell → said ≡ emission (line_of p) i m level)
           (quanta : quanta_of new.node ≡ quanta_of cell.node + 1)
           (after : (p : Plan) (j : ℕ) (m : Member) → IsCellOf p j m cell → IsCellOf p j (member_after_quantum (line_of p) j m level) new)
-          (replica_new : State) (told_new : List Record) (taken : replica_new ≡ state_with_records replica said) (appended : told_new ≡ told ++ said) where
-        may_here : may_run (group_value plan cells replica told) i ≡ true
+          (replica_new : State) (emitted_new : List Record) (taken : replica_new ≡ state_with_records replica said) (appended : emitted_new ≡ emitted ++ said) where
+        may_here : may_run (group_value plan cells replica emitted) i ≡ true
         may_here = subst (λ (v : GroupValue). may_run v i ≡ true) (sym view) may
 
-        said_is : said ≡ emission_at (group_value plan cells replica told) i
-        said_is = says plan (members_now (group_value plan cells replica told) i) own ∙ ap (emission (line_of plan) i (members_now (group_value plan cells replica told) i)) read
+        said_is : said ≡ emission_at (group_value plan cells replica emitted) i
+        said_is = says plan (members_now (group_value plan cells replica emitted) i) own ∙ ap (emission (line_of plan) i (members_now (group_value plan cells replica emitted) i)) read
 
         quanta_is : quanta_of new.node ≡ suc (quanta_of cell.node)
         quanta_is = quanta ∙ omega arith
 
-        value_runs : ◌≡◌ {A = GroupValue} (group_value plan (set cells i (Some new)) replica_new told_new) (run_on i (quanta_of cell.node) (group_value plan cells replica told))
+        value_runs : ◌≡◌ {A = GroupValue} (group_value plan (set cells i (Some new)) replica_new emitted_new) (run_on i (quanta_of cell.node) (group_value plan cells replica emitted))
         value_runs =
             let ran : ran_of (set cells i (Some new)) ≡ set (ran_of cells) i (Some (suc (quanta_of cell.node))) = ran_new ∙ ap (λ k. set (ran_of cells) i (Some k)) quanta_is in
-            let known : replica_new ≡ state_with_records replica (emission_at (group_value plan cells replica told) i) = taken ∙ ap (state_with_records replica) said_is in
-            let more : told_new ≡ told ++ emission_at (group_value plan cells replica told) i = appended ∙ ap (λ rs. told ++ rs) said_is in
-            λ d. record { plan = plan; ran = ran d; replica = known d; told = more d }
+            let known : replica_new ≡ state_with_records replica (emission_at (group_value plan cells replica emitted) i) = taken ∙ ap (state_with_records replica) said_is in
+            let more : emitted_new ≡ emitted ++ emission_at (group_value plan cells replica emitted) i = appended ∙ ap (λ rs. emitted ++ rs) said_is in
+            λ d. record { plan = plan; ran = ran d; replica = known d; emitted = more d }
 
-        value_new : IsGroupValue (run_on i (quanta_of cell.node) (group_value plan cells replica told))
-        value_new = laws.runs (group_value plan cells replica told) kept.value i (quanta_of cell.node) ran_is may_here
+        value_new : IsGroupValue (run_on i (quanta_of cell.node) (group_value plan cells replica emitted))
+        value_new = laws.runs (group_value plan cells replica emitted) kept.value i (quanta_of cell.node) ran_is may_here
 
-        ran_on : quanta_at (run_on i (quanta_of cell.node) (group_value plan cells replica told)) i ≡ Some (suc (quanta_of cell.node))
+        ran_on : quanta_at (run_on i (quanta_of cell.node) (group_value plan cells replica emitted)) i ≡ Some (suc (quanta_of cell.node))
         ran_on = get_or-set_same (ran_of cells) i (Some (suc (quanta_of cell.node))) None (some_there (ran_of cells) i (quanta_of cell.node) ran_is)
 
-        new_is : member_after_quantum (line_of plan) i (members_now (group_value plan cells replica told) i) level ≡ member_after (line_of plan) i (quanta_of new.node)
+        new_is : member_after_quantum (line_of plan) i (members_now (group_value plan cells replica emitted) i) level ≡ member_after (line_of plan) i (quanta_of new.node)
         new_is =
-            ap (member_after_quantum (line_of plan) i (members_now (group_value plan cells replica told) i)) read
-            ∙ (laws.steps_to (group_value plan cells replica told) kept.value i (quanta_of cell.node) ran_is may_here
+            ap (member_after_quantum (line_of plan) i (members_now (group_value plan cells replica emitted) i)) read
+            ∙ (laws.steps_to (group_value plan cells replica emitted) kept.value i (quanta_of cell.node) ran_is may_here
             ∙ (ap (member_at (line_of plan) i) ran_on ∙ ap (member_after (line_of plan) i) (sym quanta_is)))
 
         cell_new : IsCell plan i new
         cell_new =
-            let s = after plan i (members_now (group_value plan cells replica told) i) own in
+            let s = after plan i (members_now (group_value plan cells replica emitted) i) own in
             let at : IsCellOf plan i (member_after (line_of plan) i (quanta_of new.node)) new = subst (λ m. IsCellOf plan i m new) new_is s in
             record { setup = at.setup; node = at.node; changed = at.changed }
 
-        pub kept_runs : IsKept plan (set cells i (Some new)) replica_new told_new
+        pub kept_runs : IsKept plan (set cells i (Some new)) replica_new emitted_new
         kept_runs = record { value = subst IsGroupValue (sym value_runs) value_new; placed = cells_new cell_new }
 
-        fewer : quanta_left (run_on i (quanta_of cell.node) (group_value plan cells replica told)) < quanta_left (group_value plan cells replica told)
+        fewer : quanta_left (run_on i (quanta_of cell.node) (group_value plan cells replica emitted)) < quanta_left (group_value plan cells replica emitted)
         fewer =
-            let q = (laws.quanta_few (run_on i (quanta_of cell.node) (group_value plan cells replica told)) value_new i (suc (quanta_of cell.node)) ran_on).1 in
+            let q = (laws.quanta_few (run_on i (quanta_of cell.node) (group_value plan cells replica emitted)) value_new i (suc (quanta_of cell.node)) ran_on).1 in
             left_set (ran_of cells) i (quanta_of cell.node) ran_is (omega arith)
 
-        ran_here : HasRunNext i (group_value plan cells replica told) (run_on i (quanta_of cell.node) (group_value plan cells replica told)) said
+        ran_here : HasRunNext i (group_value plan cells replica emitted) (run_on i (quanta_of cell.node) (group_value plan cells replica emitted)) said
         ran_here = record {
           node = in_plan;
           emits = said_is;
-          runs = λ k e. ap (λ n. run_on i n (group_value plan cells replica told)) (some_is (quanta_of cell.node) k (sym ran_is ∙ e));
-          told = λ p h. said_is ∙ laws.emits_as (group_value plan cells replica told) p i h (ap is_some ran_is);
-          after = λ p h. laws.runs_as (group_value plan cells replica told) kept.value p i (quanta_of cell.node) h ran_is may_here;
+          runs = λ k e. ap (λ n. run_on i n (group_value plan cells replica emitted)) (some_is (quanta_of cell.node) k (sym ran_is ∙ e));
+          emitted = λ p h. said_is ∙ laws.emits_as (group_value plan cells replica emitted) p i h (ap is_some ran_is);
+          after = λ p h. laws.runs_as (group_value plan cells replica emitted) kept.value p i (quanta_of cell.node) h ran_is may_here;
           plan = refl;
-          members = laws.runs_with (group_value plan cells replica told) i (quanta_of cell.node) ran_is;
+          members = laws.runs_with (group_value plan cells replica emitted) i (quanta_of cell.node) ran_is;
           fewer = fewer;
         }
 
-        pub has_run : HasRunNext i now (group_value plan (set cells i (Some new)) replica_new told_new) said
+        pub has_run : HasRunNext i now (group_value plan (set cells i (Some new)) replica_new emitted_new) said
         has_run =
-            subst (λ (v : GroupValue). HasRunNext i v (group_value plan (set cells i (Some new)) replica_new told_new) said) view
-            (subst (λ (v : GroupValue). HasRunNext i (group_value plan cells replica told) v said) (sym value_runs) ran_here)
+            subst (λ (v : GroupValue). HasRunNext i v (group_value plan (set cells i (Some new)) replica_new emitted_new) said) view
+            (subst (λ (v : GroupValue). HasRunNext i (group_value plan cells replica emitted) v said) (sym value_runs) ran_here)
 
     -- what it may say at its next quantum
-    pub may_say : may_run now i ≡ true → (level : Level) → level ≡ reads_at (group_value plan cells replica told) i
+    pub may_say : may_run now i ≡ true → (level : Level) → level ≡ reads_at (group_value plan cells replica emitted) i
         → (p : Plan) × ((m : Member) × MaySay p i m cell level replica.nodes)
     may_say may level read =
-        let here : may_run (group_value plan cells replica told) i ≡ true = subst (λ (v : GroupValue). may_run v i ≡ true) (sym view) may in
-        let m : Member = members_now (group_value plan cells replica told) i in
-        let e : emission (line_of plan) i m level ≡ emission_at (group_value plan cells replica told) i = ap (emission (line_of plan) i m) read in
-        let t = laws.emits_true (group_value plan cells replica told) kept.value i here in
+        let here : may_run (group_value plan cells replica emitted) i ≡ true = subst (λ (v : GroupValue). may_run v i ≡ true) (sym view) may in
+        let m : Member = members_now (group_value plan cells replica emitted) i in
+        let e : emission (line_of plan) i m level ≡ emission_at (group_value plan cells replica emitted) i = ap (emission (line_of plan) i m) read in
+        let t = laws.emits_true (group_value plan cells replica emitted) kept.value i here in
         let fit : All (Fits replica.nodes) (emission (line_of plan) i m level) =
-        subst (λ n. All (Fits n) (emission (line_of plan) i m level)) (sym kept.value.of_all) (subst (All (Fits (length plan.nodes))) (sym e) (true_fits (length plan.nodes) (table_of plan) (emission_at (group_value plan cells replica told) i) t)) in
+        subst (λ n. All (Fits n) (emission (line_of plan) i m level)) (sym kept.value.of_all) (subst (All (Fits (length plan.nodes))) (sym e) (true_fits (length plan.nodes) (table_of plan) (emission_at (group_value plan cells replica emitted) i) t)) in
         (plan, (m, record { at = own; fits = fit }))

@@ -124,7 +124,7 @@ module _ (tables : TableLaws) (joins : SlotsLaws) (knows : KnownLaws) (sims : Si
       fresh_is plan c i (was_chosen plan chosen i h).0 ∙ sym (ap (member_at (line_of plan) i) (at_first plan chosen i h))
 
   begins_as : (plan : Plan) → IsChecked plan → (chosen : ℕ → Bool) → Matches (initial_party (line_of plan) chosen) (initial_group plan chosen)
-  begins_as plan c chosen = record { replica = refl; members = λ i h. begun_member plan c chosen i h; told = refl }
+  begins_as plan c chosen = record { replica = refl; members = λ i h. begun_member plan c chosen i h; emitted = refl }
 
   begun_slots : (plan : Plan) (chosen : ℕ → Bool) → slots_of (initial_group plan chosen).replica ≡ slots (initial_party (line_of plan) chosen)
   begun_slots plan chosen = states.records (length plan.nodes) (initial_silences (line_of plan) chosen (length plan.nodes))
@@ -146,7 +146,7 @@ module _ (tables : TableLaws) (joins : SlotsLaws) (knows : KnownLaws) (sims : Si
           each = λ i b o. subst (λ m. IsMember (line_of plan) i m (slots (initial_party (line_of plan) chosen))) (begun_member plan c chosen i o)
               (h.each i b (was_chosen plan chosen i o).1);
         });
-        told_true = tt;
+        emitted_true = tt;
       }
 
   -- ---- a member of a group
@@ -195,7 +195,7 @@ module _ (tables : TableLaws) (joins : SlotsLaws) (knows : KnownLaws) (sims : Si
     of_records = both_of_records g.replica s (v.of_all ∙ sym n) v.of_records of;
     holds = subst (IsGroup (line_of g.plan) (belongs g) (members_now g)) (sym (states.both g.replica s))
         (group_joins tables joins knows sims (line_of g.plan) (belongs g) (members_now g) (slots_of g.replica) (slots_of s) v.holds h);
-    told_true = v.told_true;
+    emitted_true = v.emitted_true;
   }
 
   joins_as : (g : GroupValue) (p : Party) (s : State) (rs : List Record) → Matches p g → s ≡ state_of (length g.plan.nodes) rs → Matches (party_with rs p) (with_state s g)
@@ -207,7 +207,7 @@ module _ (tables : TableLaws) (joins : SlotsLaws) (knows : KnownLaws) (sims : Si
             ∙ (joinings.commutes (state_of n p.taken) (state_of n rs) refl
             ∙ takings.both n rs p.taken));
         members = h.members;
-        told = h.told;
+        emitted = h.emitted;
       }
 
   records_true : (nodes : ℕ) (table : ℕ → List ℕ) (n : ℕ) (rs : List Record) → AreTrueOf nodes table rs → HoldsTrue nodes table (slots_of (state_of n rs))
@@ -306,7 +306,7 @@ module _ (tables : TableLaws) (joins : SlotsLaws) (knows : KnownLaws) (sims : Si
       of_all = v.of_all;
       of_records = (takes g v (emission_at g i) said_true).of_records;
       holds = subst (IsGroup (line_of g.plan) (belongs (run_on i k g)) (members_now (run_on i k g))) (sym slots_are) holds_new;
-      told_true = true_append (length g.plan.nodes) (table_of g.plan) g.told (emission_at g i) v.told_true said_true;
+      emitted_true = true_append (length g.plan.nodes) (table_of g.plan) g.emitted (emission_at g i) v.emitted_true said_true;
     }
 
     runs_as : (p : Party) → Matches p g → Matches (run_next (line_of g.plan) i p) (run_on i k g)
@@ -322,28 +322,28 @@ module _ (tables : TableLaws) (joins : SlotsLaws) (knows : KnownLaws) (sims : Si
               ∙ (ap (λ w. member_after_quantum l i (members_now g i) (level_read l i (members_now g i) w)) (sym (same_slots g p i h))
               ∙ (next_is ∙ ap (members_now (run_on i k g)) (sym same))))
               (λ other. h.members j (sym (runs_at g i k e j) ∙ o) ∙ sym (ap (member_at l j) (on_else g i k j other)));
-          told = ap (λ xs. xs ++ emission_at g i) h.told ∙ ap (λ qs. p.told ++ qs) rs;
+          emitted = ap (λ xs. xs ++ emission_at g i) h.emitted ∙ ap (λ qs. p.emitted ++ qs) rs;
         }
 
   -- what it knows is what some records say
   some_party : (g : GroupValue) → IsGroupValue g → (p : Party) × Matches p g
   some_party g v =
       let of = v.of_records in (
-        record { members = members_now g; taken = of.0; told = g.told },
-        record { replica = of.2 ∙ ap (λ n. state_of n of.0) v.of_all; members = λ i o. refl; told = refl },
+        record { members = members_now g; taken = of.0; emitted = g.emitted },
+        record { replica = of.2 ∙ ap (λ n. state_of n of.0) v.of_all; members = λ i o. refl; emitted = refl },
       )
 
   -- ---- quanta that run one after another
 
   all_run : (g h : GroupValue) (rs : List Record) → IsGroupValue g → Ran g rs h → HasRunOn g h rs
-  all_run g h rs v (runs_of.none {g = x}) = record { value = v; plan = refl; members = refl; told = sym (append-nil x.told); said_true = tt }
+  all_run g h rs v (runs_of.none {g = x}) = record { value = v; plan = refl; members = refl; emitted = sym (append-nil x.emitted); said_true = tt }
   all_run g h rs v (runs_of.more {g = x} {h = y} {rs = rest} i k e may steps) =
       let next = all_run (run_on i k x) y rest (runs x v i k e may) steps in
       record {
         value = next.value;
         plan = next.plan;
         members = next.members ∙ runs_with x i k e;
-        told = next.told ∙ append_assoc x.told (emission_at x i) rest;
+        emitted = next.emitted ∙ append_assoc x.emitted (emission_at x i) rest;
         said_true = true_append (length x.plan.nodes) (table_of x.plan) (emission_at x i) rest (said_true x v i k e may) next.said_true;
       }
 

@@ -20,4 +20,4 @@ pub record AdvanceLaws : Type 0 where
   pub refused_stays : (l : Line) (belongs : ℕ → Bool) (p : Party) (i : ℕ)
       → (reply_of l belongs p i ≡ blocked) ⊎ (reply_of l belongs p i ≡ ended) → advanced l belongs i p ≡ p
   -- what a group emitted grows by exactly what its advances emitted
-  pub steps_told : (l : Line) (belongs : ℕ → Bool) (p q : Party) (rs : List Record) → Steps l belongs p rs q → q.told ≡ p.told ++ rs
+  pub steps_emitted : (l : Line) (belongs : ℕ → Bool) (p q : Party) (rs : List Record) → Steps l belongs p rs q → q.emitted ≡ p.emitted ++ rs

@@ -33,6 +33,6 @@ pub record AreNotAfter (w : Contents) (i m tick count : ℕ) : Type 0 where
   pub others : count < m → tick < tick_in (w.edge i count)
 
 -- What a group keeps, with its counts.
-pub record IsCounting (plan : Plan) (cells : List (Option Cell)) (replica : State) (told : List Record) (runs : List ℕ) : Type 0 where
-  pub kept : IsKept plan cells replica told
+pub record IsCounting (plan : Plan) (cells : List (Option Cell)) (replica : State) (emitted : List Record) (runs : List ℕ) : Type 0 where
+  pub kept : IsKept plan cells replica emitted
   pub counted : AreCounted (slots_of replica) runs

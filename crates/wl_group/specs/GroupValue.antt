@@ -22,7 +22,7 @@ pub record GroupValue : Type 0 where
   -- what it knows of all nodes
   pub replica : State
   -- the records that its advances have emitted since it began or began again, the oldest first
-  pub told : List Record
+  pub emitted : List Record
 
 -- how many quanta node i has run, if it is a member
 abbrev pub quanta_at : GroupValue → ℕ → Option ℕ
@@ -52,13 +52,13 @@ pub record IsGroupValue (g : GroupValue) : Type 0 where
   pub of_all : g.replica.nodes ≡ length g.plan.nodes
   pub of_records : IsOfRecords g.replica
   pub holds : IsGroup (line_of g.plan) (belongs g) (members_now g) (slots_of g.replica)
-  pub told_true : AreTrueOf (length g.plan.nodes) (table_of g.plan) g.told
+  pub emitted_true : AreTrueOf (length g.plan.nodes) (table_of g.plan) g.emitted
 
 -- The group is this party of the machine: it knows what the party has taken, and its members are the party's.
 pub record Matches (p : Party) (g : GroupValue) : Type 0 where
   pub replica : g.replica ≡ state_of (length g.plan.nodes) p.taken
   pub members : (i : ℕ) → belongs g i ≡ true → p.members i ≡ members_now g i
-  pub told : g.told ≡ p.told
+  pub emitted : g.emitted ≡ p.emitted
 
 -- whether a list names node i
 abbrev pub names : List ℕ → ℕ → Bool
@@ -70,7 +70,7 @@ initial_group plan chosen = record {
   plan = plan;
   ran = map (λ i. if chosen i then Some 0 else None) (range_with_len 0 (length plan.nodes));
   replica = state_of (length plan.nodes) (initial_silences (line_of plan) chosen (length plan.nodes));
-  told = [];
+  emitted = [];
 }
 
 -- whether node i may run its next quantum, for any number
@@ -83,10 +83,10 @@ has_ended g i = belongs g i && nat_le g.plan.end (next_tick (line_of g.plan) i (
 
 -- the group with these records taken, and with what another knows
 abbrev pub with_records : List Record → GroupValue → GroupValue
-with_records rs g = record { plan = g.plan; ran = g.ran; replica = state_with_records g.replica rs; told = g.told }
+with_records rs g = record { plan = g.plan; ran = g.ran; replica = state_with_records g.replica rs; emitted = g.emitted }
 
 abbrev pub with_state : State → GroupValue → GroupValue
-with_state s g = record { plan = g.plan; ran = g.ran; replica = states_joined g.replica s; told = g.told }
+with_state s g = record { plan = g.plan; ran = g.ran; replica = states_joined g.replica s; emitted = g.emitted }
 
 -- ---- its next quanta
 
@@ -103,5 +103,5 @@ run_on i k g = record {
   plan = g.plan;
   ran = slice_set g.ran i (Some (suc k));
   replica = state_with_records g.replica (emission_at g i);
-  told = g.told ++ emission_at g i;
+  emitted = g.emitted ++ emission_at g i;
 }

@@ -20,7 +20,7 @@ abbrev pub ran_of : List (Option Cell) → List (Option ℕ)
 ran_of cells = map quanta_kept cells
 
 abbrev pub group_value : Plan → List (Option Cell) → State → List Record → GroupValue
-group_value plan cells replica told = record { plan = plan; ran = ran_of cells; replica = replica; told = told }
+group_value plan cells replica emitted = record { plan = plan; ran = ran_of cells; replica = replica; emitted = emitted }
 
 -- The node of a member is node i of the plan after its quanta, and its changes were counted.
 pub record IsCell (plan : Plan) (i : ℕ) (cell : Cell) : Type 0 where
@@ -32,6 +32,6 @@ abbrev pub AreCells : Plan → List (Option Cell) → Type 0
 AreCells plan cells = (i : ℕ) (cell : Cell) → slice_index_or cells i None ≡ Some cell → IsCell plan i cell
 
 -- What a group keeps.
-pub record IsKept (plan : Plan) (cells : List (Option Cell)) (replica : State) (told : List Record) : Type 0 where
-  pub value : IsGroupValue (group_value plan cells replica told)
+pub record IsKept (plan : Plan) (cells : List (Option Cell)) (replica : State) (emitted : List Record) : Type 0 where
+  pub value : IsGroupValue (group_value plan cells replica emitted)
   pub placed : AreCells plan cells

@@ -14,7 +14,7 @@ pub record Party : Type 0 where
   -- the records that it has taken, the newest first: its own and those that came
   pub taken : List Record
   -- the records that its advances have emitted, the oldest first
-  pub told : List Record
+  pub emitted : List Record
 
 -- what it knows
 abbrev pub slots : Party → Contents
@@ -31,7 +31,7 @@ initial_silences l test (suc n) = initial_silences l test n ++ (if test n then S
 
 -- a group that begins, or begins again: fresh nodes, and nothing known but its members' first silences
 abbrev pub initial_party : Line → (ℕ → Bool) → Party
-initial_party l belongs = record { members = λ i. fresh; taken = initial_silences l belongs l.nodes; told = [] }
+initial_party l belongs = record { members = λ i. fresh; taken = initial_silences l belongs l.nodes; emitted = [] }
 
 -- after it took some records
 abbrev pub party_with : List Record → Party → Party
@@ -43,5 +43,5 @@ party_after_quantum l i level p =
     record {
       members = put p.members i (member_after_quantum l i (p.members i) level);
       taken = emission l i (p.members i) level ++ p.taken;
-      told = p.told ++ emission l i (p.members i) level;
+      emitted = p.emitted ++ emission l i (p.members i) level;
     }

@@ -55,7 +55,7 @@ pub record HasRunNext (i : ℕ) (old new : GroupValue) (said : List Record) : Ty
   pub node : i < length old.plan.nodes
   pub emits : said ≡ emission_at old i
   pub runs : (k : ℕ) → quanta_at old i ≡ Some k → new ≡ run_on i k old
-  pub told : (p : Party) → Matches p old → said ≡ emission_of (line_of old.plan) p i
+  pub emitted : (p : Party) → Matches p old → said ≡ emission_of (line_of old.plan) p i
   pub after : (p : Party) → Matches p old → Matches (run_next (line_of old.plan) i p) new
   pub plan : new.plan ≡ old.plan
   pub members : belongs new ≡ belongs old
@@ -87,5 +87,5 @@ pub record HasRunOn (old new : GroupValue) (rs : List Record) : Type 0 where
   pub value : IsGroupValue new
   pub plan : new.plan ≡ old.plan
   pub members : belongs new ≡ belongs old
-  pub told : new.told ≡ old.told ++ rs
+  pub emitted : new.emitted ≡ old.emitted ++ rs
   pub said_true : AreTrueOf (length old.plan.nodes) (table_of old.plan) rs

@@ -12,4 +12,4 @@ use Rattle.wl_group.specs.GroupValue.{GroupValue}
 abbrev pub coded_group : Coded GroupValue
 coded_group = code_by (Plan × (List (Option ℕ) × (State × List Record)))
     (coded× plan_contract.the_row.coded (coded× (coded_list (coded_option coded_ℕ)) (coded× coded_state (coded_list record_contract.the_row.coded))))
-    (λ g. (g.plan, (g.ran, (g.replica, g.told)))) (λ p. record { plan = p.0; ran = p.1.0; replica = p.1.1.0; told = p.1.1.1 }) (λ _. refl)
+    (λ g. (g.plan, (g.ran, (g.replica, g.emitted)))) (λ p. record { plan = p.0; ran = p.1.0; replica = p.1.1.0; emitted = p.1.1.1 }) (λ _. refl)

@@ -117,7 +117,7 @@ impl Group {
             i,
             level,
             &mut self.replica,
-            &mut self.told,
+            &mut self.emitted,
         )?;
         Ok(emission)
     }
@@ -155,7 +155,7 @@ fn run_cell(
     i: u8,
     level: Level,
     replica: &mut Replica,
-    told: &mut Vec<Record>,
+    emitted: &mut Vec<Record>,
 ) -> Result<Emission, AllocError>
     requires says { (plan : GivenPlan) × ((m : Member) × MaySay plan i m cell.old level replica.old.nodes) }
     requires quanta { quanta_of cell.old.node ≤ most_quanta }
@@ -164,18 +164,18 @@ fn run_cell(
     ensures quanta { OnOk result (quanta_of cell.new.node ≡ quanta_of cell.old.node + 1) }
     ensures emits { IfOk result (λ e. SaysOf i level cell.old e.items) }
     ensures taken { IfOk result (λ e. replica.new ≡ state_with_records replica.old e.items) }
-    ensures told { IfOk result (λ e. told.new.items ≡ told.old.items ++ e.items) }
+    ensures emitted { IfOk result (λ e. emitted.new.items ≡ emitted.old.items ++ e.items) }
     ensures stays { OnErr result (KeepsCell cell.old cell.new) }
     ensures same_quanta { OnErr result (quanta_of cell.new.node ≡ quanta_of cell.old.node) }
     ensures not_taken { OnErr result (replica.new ≡ replica.old) }
-    ensures not_told { OnErr result (told.new.items ≡ told.old.items) }
+    ensures not_emitted { OnErr result (emitted.new.items ≡ emitted.old.items) }
 {
-    told.reserve(MOST_EMITTED)?;
+    emitted.reserve(MOST_EMITTED)?;
     cell.node.prepare()?;
     let prepared = prepare(alloc, replica, cell.next_slots(i))?;
     let emission = cell.run(i, level);
     *replica = prepared.take_all(&emission);
-    append(told, &emission);
+    append(emitted, &emission);
     Ok(emission)
 }
 
@@ -201,11 +201,11 @@ fn prepare(
 }
 
 /// Appends records for which there is room.
-fn append(told: &mut Vec<Record>, more: &[Record])
-    requires { vec_len told.old + length more.now ≤ vec_capacity told.old }
-    ensures { told.new.items ≡ told.old.items ++ more.now }
+fn append(emitted: &mut Vec<Record>, more: &[Record])
+    requires { vec_len emitted.old + length more.now ≤ vec_capacity emitted.old }
+    ensures { emitted.new.items ≡ emitted.old.items ++ more.now }
 {
-    match told.extend_from_slice(more) {
+    match emitted.extend_from_slice(more) {
         Ok(()) => {}
         Err(_) => unreachable!(),
     }

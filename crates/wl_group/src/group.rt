@@ -25,7 +25,7 @@ pub struct Group {
     pub(crate) plan: Plan,
     pub(crate) cells: Vec<Option<Cell>>,
     pub(crate) replica: Replica,
-    pub(crate) told: Vec<Record>,
+    pub(crate) emitted: Vec<Record>,
     pub(crate) runs: Runs,
     pub(crate) come: Come,
 }
@@ -41,9 +41,9 @@ impl Model for Group {
     ghost use Rattle.wl_group.specs.Kept.{group_value};
     ghost use Rattle.wl_group.specs.Counted.{IsCounting};
 
-    ghost view = { λ g. group_value g.plan g.cells.items g.replica g.told.items };
+    ghost view = { λ g. group_value g.plan g.cells.items g.replica g.emitted.items };
 
-    ghost invariant = { λ g. IsCounting g.plan g.cells.items g.replica g.told.items g.runs };
+    ghost invariant = { λ g. IsCounting g.plan g.cells.items g.replica g.emitted.items g.runs };
 }
 
 impl Group {
@@ -79,7 +79,7 @@ impl Group {
             plan: plan.clone_in(alloc)?,
             cells,
             replica,
-            told: Vec::new(alloc),
+            emitted: Vec::new(alloc),
             runs: no_runs(),
             come: [0; MOST_NODES],
         })
@@ -99,21 +99,21 @@ impl Group {
         let replica = first_replica(self.alloc, &self.plan, &chosen)?;
         self.cells = cells;
         self.replica = replica;
-        self.told.clear();
+        self.emitted.clear();
         self.runs = no_runs();
         Ok(())
     }
 
     /// Takes a record that is true of the plan, as what its groups emit is. Refused when out of memory, the group is as it was.
-    pub fn take(&mut self, told: Record) -> Result<(), AllocError>
-        requires { IsTrueOfPlan self.old.plan told }
-        ensures ok { OnOk result (self.new ≡ with_records (told ∷ []) self.old) }
-        ensures after { OnOk result ((p : Party) → Matches p self.old → Matches (party_with (told ∷ []) p) self.new) }
+    pub fn take(&mut self, record: Record) -> Result<(), AllocError>
+        requires { IsTrueOfPlan self.old.plan record }
+        ensures ok { OnOk result (self.new ≡ with_records (record ∷ []) self.old) }
+        ensures after { OnOk result ((p : Party) → Matches p self.old → Matches (party_with (record ∷ []) p) self.new) }
         ensures err { OnErr result (self.new ≡ self.old) }
     {
         value_laws();
         laws_of_counts();
-        self.replica.take(told)?;
+        self.replica.take(record)?;
         Ok(())
     }
 
@@ -213,10 +213,10 @@ impl Group {
     /// What the group's advances have emitted since it began or began again, in order. Each record
     /// is true of the plan.
     pub fn emitted(&self) -> &[Record]
-        ensures value { result.now ≡ self.now.told }
+        ensures value { result.now ≡ self.now.emitted }
         ensures holds { IsGroupValue self.now }
     {
-        &self.told
+        &self.emitted
     }
 
     /// The plan whose nodes these are.

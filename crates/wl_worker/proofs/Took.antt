@@ -21,7 +21,7 @@ pub took_nothing : IsJoining → (old new : GroupValue) → new ≡ old → Took
 took_nothing laws old new e = record {
   more = [];
   are_true = tt;
-  taken = e ∙ ap (λ (s : State). record { plan = old.plan; ran = old.ran; replica = s; told = old.told }) (sym (laws.neutral old.replica));
+  taken = e ∙ ap (λ (s : State). record { plan = old.plan; ran = old.ran; replica = s; emitted = old.emitted }) (sym (laws.neutral old.replica));
 }
 
 pub took_one : (old new : GroupValue) (r : Record) → IsTrueOfPlan old.plan r → new ≡ with_records (r ∷ []) old → Took old new
@@ -36,7 +36,7 @@ took_both laws a b c t u = record {
   more = t.more ++ u.more;
   are_true = both_true a.plan t.more u.more t.are_true (subst (λ p. AreTrueOfPlan p u.more) (took_plan a b t) u.are_true);
   taken = u.taken ∙ ap (with_records u.more) t.taken
-      ∙ ap (λ (s : State). record { plan = a.plan; ran = a.ran; replica = s; told = a.told }) (laws.in_parts a.replica t.more u.more);
+      ∙ ap (λ (s : State). record { plan = a.plan; ran = a.ran; replica = s; emitted = a.emitted }) (laws.in_parts a.replica t.more u.more);
 }
 
 -- ---- whether it changed

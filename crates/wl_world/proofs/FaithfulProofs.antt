@@ -53,7 +53,7 @@ at_scene : Headline → SlotsOfStates → SimulationLaws → GroupingLaws → (v
 at_scene headline has_slots sims laws v s sound w at f = record {
   records_true = subst (AreTrueOf (length v.plan.nodes) (table_of v.plan)) (sym at.emitted) f.records_true;
   told_emitted = λ h g e r t.
-      subst (λ es. Contains es r) (sym at.emitted) (f.told_emitted h (in_cast v s h g e) r (subst (λ rs. Contains rs r) (at.groups h g e).told t));
+      subst (λ es. Contains es r) (sym at.emitted) (f.told_emitted h (in_cast v s h g e) r (subst (λ rs. Contains rs r) (at.groups h g e).emitted t));
   replicas_true = truth;
   waves_agree = λ h i t g e b k. headline.replicas_agree (line_of v.plan) sound (slots_of g.replica) (truth h g e) i t b k;
   nodes_placed = λ h i k g e q. (is_member h i k g e q, is_seen h i k g e q);

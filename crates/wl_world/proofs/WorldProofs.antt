@@ -27,7 +27,7 @@ use Rattle.wl_world.proofs.Lists.{true_member}
 pub record IsWorld (l : Line) (c : Cast) (w : Scene) : Type 0 where
   pub truth : AreTrueOf l.nodes (changes l) w.emitted
   pub groups : (h : ℕ) → h < c.groups → IsGroup l (is_of_group c h) (w.parties h).members (slots (w.parties h))
-  pub told : (h : ℕ) (r : Record) → Contains (w.parties h).told r → Contains w.emitted r
+  pub told : (h : ℕ) (r : Record) → Contains (w.parties h).emitted r → Contains w.emitted r
 
 -- what an advance needs, part by part
 pub record MayAdvance (l : Line) (c : Cast) (w : Scene) (h i : ℕ) : Type 0 where
@@ -52,15 +52,15 @@ party_put l c w v h p f k b =
     (λ n. v.groups k b)
 
 -- and what it told
-told_put : (l : Line) (c : Cast) (w : Scene) → IsWorld l c w → (h : ℕ) (p : Party) (more : List Record) → ((r : Record) → Contains p.told r → Contains (w.emitted ++ more) r)
-    → (k : ℕ) (r : Record) → Contains (put w.parties h p k).told r → Contains (w.emitted ++ more) r
+told_put : (l : Line) (c : Cast) (w : Scene) → IsWorld l c w → (h : ℕ) (p : Party) (more : List Record) → ((r : Record) → Contains p.emitted r → Contains (w.emitted ++ more) r)
+    → (k : ℕ) (r : Record) → Contains (put w.parties h p k).emitted r → Contains (w.emitted ++ more) r
 told_put l c w v h p more f k =
-    put_at w.parties h p (λ q. (r : Record) → Contains q.told r → Contains (w.emitted ++ more) r) k
+    put_at w.parties h p (λ q. (r : Record) → Contains q.emitted r → Contains (w.emitted ++ more) r) k
     (λ e. f) (λ n r t. Contains-append_left w.emitted more r (v.told k r t))
 
-told_kept : (l : Line) (c : Cast) (w : Scene) → IsWorld l c w → (h : ℕ) (p : Party) → ((r : Record) → Contains p.told r → Contains w.emitted r)
-    → (k : ℕ) (r : Record) → Contains (put w.parties h p k).told r → Contains w.emitted r
-told_kept l c w v h p f k = put_at w.parties h p (λ q. (r : Record) → Contains q.told r → Contains w.emitted r) k (λ e. f) (λ n. v.told k)
+told_kept : (l : Line) (c : Cast) (w : Scene) → IsWorld l c w → (h : ℕ) (p : Party) → ((r : Record) → Contains p.emitted r → Contains w.emitted r)
+    → (k : ℕ) (r : Record) → Contains (put w.parties h p k).emitted r → Contains w.emitted r
+told_kept l c w v h p f k = put_at w.parties h p (λ q. (r : Record) → Contains q.emitted r → Contains w.emitted r) k (λ e. f) (λ n. v.told k)
 
 nothing_told : (es : List Record) (r : Record) → Contains [] r → Contains es r
 nothing_told es r h = absurd (let b = h.1 in omega arith)
@@ -105,7 +105,7 @@ module _ (knows : KnownLaws) (groups : GroupLaws) where
       record {
         truth = true_append l.nodes (changes l) w.emitted _ v.truth (emission_true l s c w v h i a);
         groups = party_put l c w v h (run_next l i (w.parties h)) (λ b. groups.running_holds l s (is_of_group c h) i (w.parties h) (v.groups h b) a.node a.member a.can);
-        told = told_put l c w v h (run_next l i (w.parties h)) (emission_of l (w.parties h) i) (λ r t. elim (Contains-append_cases (w.parties h).told (emission_of l (w.parties h) i) r t) [
+        told = told_put l c w v h (run_next l i (w.parties h)) (emission_of l (w.parties h) i) (λ r t. elim (Contains-append_cases (w.parties h).emitted (emission_of l (w.parties h) i) r t) [
           | inl x ↦ Contains-append_left w.emitted (emission_of l (w.parties h) i) r (v.told h r x)
           | inr x ↦ Contains-append_right w.emitted (emission_of l (w.parties h) i) r x
         ]);

@@ -14,9 +14,9 @@ use Rattle.wl_world.specs.WorldValue.{WorldValue, IsWorldValue}
 use Rattle.wl_world.specs.Ended.{AreAtEnd}
 
 pub record IsFaithfulValue (v : WorldValue) : Type 0 where
-  -- every emitted record is true, and what a group told was emitted
+  -- every emitted record is true, and what a group has emitted is among it
   pub records_true : AreTrueOf (length v.plan.nodes) (table_of v.plan) v.emitted
-  pub told_emitted : (h : ℕ) (g : GroupValue) → slice_get v.groups h ≡ Some g → (r : Record) → Contains g.told r → Contains v.emitted r
+  pub told_emitted : (h : ℕ) (g : GroupValue) → slice_get v.groups h ≡ Some g → (r : Record) → Contains g.emitted r → Contains v.emitted r
   -- every group's replica holds what is true, and below each horizon its wave is the level of the one-thread simulation
   pub replicas_true : (h : ℕ) (g : GroupValue) → slice_get v.groups h ≡ Some g → HoldsTrue (length v.plan.nodes) (table_of v.plan) (slots_of g.replica)
   pub waves_agree : (h i t : ℕ) (g : GroupValue) → slice_get v.groups h ≡ Some g → i < length v.plan.nodes

@@ -41,9 +41,9 @@ member_of w h i = (w.parties h).members i
 
 -- What holds of every such scene.
 pub record IsFaithful (l : Line) (c : Cast) (w : Scene) : Type 0 where
-  -- every emitted record is true, and what a group told was emitted
+  -- every emitted record is true, and what a group has emitted is among it
   pub records_true : AreTrueOf l.nodes (changes l) w.emitted
-  pub told_emitted : (h : ℕ) → h < c.groups → (r : Record) → Contains (w.parties h).told r → Contains w.emitted r
+  pub told_emitted : (h : ℕ) → h < c.groups → (r : Record) → Contains (w.parties h).emitted r → Contains w.emitted r
   -- every group's replica holds what is true, and below each horizon its wave is the level of the one-thread simulation
   pub replicas_true : (h : ℕ) → h < c.groups → HoldsTrue l.nodes (changes l) (slots (w.parties h))
   pub waves_agree : (h i t : ℕ) → h < c.groups → i < l.nodes → t < horizon (slots (w.parties h)) i → wave_at (slots (w.parties h)) i t ≡ level l i t

@@ -19,9 +19,9 @@ module _ {W : Type 0} (at : Scene → W → Type 0) (l : Line) (c : Cast) where
 
   -- a list of events, for a world that other events led to: it answered, and is as those and these lead to
   abbrev pub HasRun : List Event → W → W → List Answer → Type 0
-  HasRun events old new told =
+  HasRun events old new said =
       (before : List Event) → at (run l c before (start l c)) old
-      → (told ≡ answers l c events (run l c before (start l c))) × at (run l c (before ++ events) (start l c)) new
+      → (said ≡ answers l c events (run l c before (start l c))) × at (run l c (before ++ events) (start l c)) new
 
   -- a list of events that stopped after some of them, before the next one, because memory ran out
   abbrev pub HasStopped : List Event → W → W → ℕ → Type 0

@@ -94,11 +94,11 @@ impl World {
     {
         laws_of_rounds();
         let mut rounds = 0;
-        let mut told = 0;
+        let mut known = 0;
         // (reading a part gives the proof what the type keeps)
         let _ = &self.plan;
         while !self.at_end() {
-            told = self.round(told)?;
+            known = self.round(known)?;
             let _ = &self.plan;
             rounds += 1;
         }

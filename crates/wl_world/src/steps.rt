@@ -20,7 +20,7 @@ impl World {
     /// Handles events in order, and answers for each whether it was possible; one that is not changes
     /// nothing. Refused when out of memory, the world is as the first `done` events left it.
     pub fn run(&mut self, alloc: Global, events: &[Event]) -> Result<Vec<Answer>, Stopped>
-        ensures ok { IfOk result (λ told. RunsEvents events.now self.old self.new told.items) }
+        ensures ok { IfOk result (λ answers. RunsEvents events.now self.old self.new answers.items) }
         ensures stopped { IfErr result (λ s. StopsAfter events.now self.old self.new s.done) }
         ensures faithful { IsFaithfulValue self.new }
         ensures grows { HasGrown self.old self.new }
@@ -30,33 +30,33 @@ impl World {
         worlds_are_faithful();
         // (reading a part gives the proof what the type keeps)
         let _ = &self.plan;
-        let told = self.handle(alloc, events);
+        let answers = self.handle(alloc, events);
         let _ = &self.plan;
-        told
+        answers
     }
 
     /// Handles events in order.
     fn handle(&mut self, alloc: Global, events: &[Event]) -> Result<Vec<Answer>, Stopped>
-        ensures ok { IfOk result (λ told. RunsEvents events.now self.old self.new told.items) }
+        ensures ok { IfOk result (λ answers. RunsEvents events.now self.old self.new answers.items) }
         ensures stopped { IfErr result (λ s. StopsAfter events.now self.old self.new s.done) }
         ensures plan { self.new.plan ≡ self.old.plan }
         ensures grouping { self.new.numbers ≡ self.old.numbers }
     {
-        let mut told = Vec::new(alloc);
+        let mut answers = Vec::new(alloc);
         if events.is_empty() {
-            return Ok(told);
+            return Ok(answers);
         }
-        match told.reserve(events.len()) {
+        match answers.reserve(events.len()) {
             Ok(()) => {}
             Err(_) => return Err(Stopped { done: 0 }),
         }
         for (i, event) in events.iter().enumerate() {
             match self.step(*event) {
-                Ok(answer) => push_within(&mut told, answer),
+                Ok(answer) => push_within(&mut answers, answer),
                 Err(_) => return Err(Stopped { done: i }),
             }
         }
-        Ok(told)
+        Ok(answers)
     }
 
     /// Handles one event. Refused when out of memory, the world is as it was.
@@ -110,9 +110,9 @@ impl World {
         if group as usize >= self.groups.len() || number >= self.emitted.len() as u64 {
             return Ok(Answer::Idle);
         }
-        let told = self.emitted[number as usize];
+        let record = self.emitted[number as usize];
         let taker = &mut self.groups[group as usize];
-        taker.take(told)?;
+        taker.take(record)?;
         Ok(Answer::Done)
     }
 
@@ -162,13 +162,13 @@ fn append(emitted: &mut Vec<Record>, more: &[Record])
 }
 
 /// Adds an answer, for which there is room.
-fn push_within(told: &mut Vec<Answer>, answer: Answer)
-    requires { vec_len told.old < vec_capacity told.old }
-    ensures items { told.new.items ≡ told.old.items ++ answer ∷ [] }
-    ensures len { vec_len told.new ≡ vec_len told.old + 1 }
-    ensures capacity { vec_capacity told.old ≤ vec_capacity told.new }
+fn push_within(answers: &mut Vec<Answer>, answer: Answer)
+    requires { vec_len answers.old < vec_capacity answers.old }
+    ensures items { answers.new.items ≡ answers.old.items ++ answer ∷ [] }
+    ensures len { vec_len answers.new ≡ vec_len answers.old + 1 }
+    ensures capacity { vec_capacity answers.old ≤ vec_capacity answers.new }
 {
-    match told.push(answer) {
+    match answers.push(answer) {
         Ok(()) => {}
         Err(_) => unreachable!(),
     }

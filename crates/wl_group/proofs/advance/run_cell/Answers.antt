@@ -34,9 +34,9 @@ take_all-requires-clause-room c =
     let at = c.requires.says.1.1.at in
     let prepared : IsCellOf p c.args.i m (record { node = c.prepare.new.self; changed = c.args.cell.now.changed }) =
     record { setup = c.prepare.ensures.setup ∙ at.setup; node = c.prepare.ensures.node m.saw at.node; changed = at.changed } in
-    let told : c.deref.result.now ≡ emission (line_of p) c.args.i m c.args.level = c.deref.ensures.0 ∙ c.run-emission.ensures.emits p m prepared in
+    let emitted : c.deref.result.now ≡ emission (line_of p) c.args.i m c.args.level = c.deref.ensures.0 ∙ c.run-emission.ensures.emits p m prepared in
     let slots : c.in_ok-prepared.prepared.slots ≡ slots_ahead c.args.i m.changed = c.in_ok-prepared.ensures.slots ∙ c.next_slots.ensures ∙ ap (slots_ahead c.args.i) at.changed in
-    subst (λ (rs : List Record). All (λ r. Contains c.in_ok-prepared.prepared.slots (slot_of r)) rs) (sym told)
+    subst (λ (rs : List Record). All (λ r. Contains c.in_ok-prepared.prepared.slots (slot_of r)) rs) (sym emitted)
     (subst (λ (ss : List Slot). All (λ r. Contains ss (slot_of r)) (emission (line_of p) c.args.i m c.args.level)) (sym slots) (said_ahead (line_of p) c.args.i m c.args.level))
 
 pub returns-clause-after : goal.returns-clause-after

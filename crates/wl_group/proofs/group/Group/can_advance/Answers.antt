@@ -3,4 +3,4 @@ use Rattle.wl_group.proofs.group.Group.can_advance.Goals as goal
 
 pub place_horizon-requires-clause-truth : goal.place_horizon-requires-clause-truth
 place_horizon-requires-clause-truth c =
-    true_state c.simulation_laws.ensures c.self.inside.plan c.self.inside.cells.items c.self.inside.replica c.self.inside.told.items c.self.invariant.kept
+    true_state c.simulation_laws.ensures c.self.inside.plan c.self.inside.cells.items c.self.inside.replica c.self.inside.emitted.items c.self.invariant.kept

@@ -8,12 +8,12 @@ use Rattle.wl_group.proofs.group.Group.join.Goals as goal
 pub invariant_of-self-2 : goal.invariant_of-self-2
 invariant_of-self-2 c =
     counting_stays c.laws_of_counts.ensures.slots c.laws_of_counts.ensures.states c.laws_of_counts.ensures.known c.self.inside.plan c.self.inside.cells.items
-    c.self.inside.replica c.args.other.now c.join.new.self c.self.inside.told.items c.self.inside.runs c.in_ok-join.ensures.ok c.self.invariant.counted
-    (joined_kept c.value_laws.ensures c.self.inside.plan c.self.inside.cells.items c.self.inside.replica c.join.new.self c.self.inside.told.items c.args.other.now c.args.self.now
+    c.self.inside.replica c.args.other.now c.join.new.self c.self.inside.emitted.items c.self.inside.runs c.in_ok-join.ensures.ok c.self.invariant.counted
+    (joined_kept c.value_laws.ensures c.self.inside.plan c.self.inside.cells.items c.self.inside.replica c.join.new.self c.self.inside.emitted.items c.args.other.now c.args.self.now
     c.self.view_is c.self.invariant.kept c.requires.nodes c.nodes.ensures.records c.requires.truth c.in_ok-join.ensures.ok)
 
 pub returns-clause-after : goal.returns-clause-after
 returns-clause-after c p rs h e =
     subst (Matches (party_with rs p))
-    (sym (joined_value c.self.inside.plan c.self.inside.cells.items c.self.inside.replica c.join.new.self c.self.inside.told.items c.args.other.now c.args.self.now c.self.view_is c.in_ok-join.ensures.ok))
+    (sym (joined_value c.self.inside.plan c.self.inside.cells.items c.self.inside.replica c.join.new.self c.self.inside.emitted.items c.args.other.now c.args.self.now c.self.view_is c.in_ok-join.ensures.ok))
     (c.value_laws.ensures.joins_as c.args.self.now p c.args.other.now rs h e)

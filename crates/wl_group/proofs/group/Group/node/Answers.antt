@@ -15,5 +15,5 @@ returns-clause-node c =
     in
     subst (λ (v : GroupValue). IsNode (members_now v c.args.i).saw c.in-Some.cell.node) c.self.view_is
     (subst (λ m. IsNode m.saw c.in-Some.cell.node)
-    (sym (kept_member c.self.inside.plan c.self.inside.cells.items c.self.inside.replica c.self.inside.told.items c.args.i c.in-Some.cell e))
+    (sym (kept_member c.self.inside.plan c.self.inside.cells.items c.self.inside.replica c.self.inside.emitted.items c.args.i c.in-Some.cell e))
     (c.self.invariant.kept.placed c.args.i c.in-Some.cell e).node)

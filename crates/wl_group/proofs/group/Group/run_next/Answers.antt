@@ -21,18 +21,18 @@ found_cell : (c : In-Some) → get_or c.self.inside.cells.items c.args.i None �
 found_cell c =
     let parts = and_parts (belongs c.args.self.now c.args.i) (can_run (line_of c.args.self.now.plan) c.args.i (members_now c.args.self.now c.args.i) (slots_of c.args.self.now.replica)) c.requires in
     cell_read c.self.inside.cells.items c.args.i c.index_mut.result.now c.in-Some.cell
-    (in_cells c.value_laws.ensures c.checked_is_sound.ensures c.self.inside.plan c.self.inside.cells.items c.self.inside.replica c.self.inside.told.items c.self.invariant.kept c.args.self.now c.self.view_is c.args.i parts.0)
+    (in_cells c.value_laws.ensures c.checked_is_sound.ensures c.self.inside.plan c.self.inside.cells.items c.self.inside.replica c.self.inside.emitted.items c.self.invariant.kept c.args.self.now c.self.view_is c.args.i parts.0)
     c.index_mut.ensures.value c.in-Some.is
 
 few : (c : In-Some) → quanta_of c.in-Some.cell.node ≤ most_quanta
-few c = few_quanta c.value_laws.ensures c.checked_is_sound.ensures c.self.inside.plan c.self.inside.cells.items c.self.inside.replica c.self.inside.told.items c.self.invariant.kept c.args.self.now c.self.view_is c.args.i c.in-Some.cell (found_cell c)
+few c = few_quanta c.value_laws.ensures c.checked_is_sound.ensures c.self.inside.plan c.self.inside.cells.items c.self.inside.replica c.self.inside.emitted.items c.self.invariant.kept c.args.self.now c.self.view_is c.args.i c.in-Some.cell (found_cell c)
 
 changed : (c : In-Some) → c.in-Some.cell.changed ≤ most_edges
-changed c = few_changed c.value_laws.ensures c.checked_is_sound.ensures c.self.inside.plan c.self.inside.cells.items c.self.inside.replica c.self.inside.told.items c.self.invariant.kept c.args.self.now c.self.view_is c.args.i c.in-Some.cell (found_cell c)
+changed c = few_changed c.value_laws.ensures c.checked_is_sound.ensures c.self.inside.plan c.self.inside.cells.items c.self.inside.replica c.self.inside.emitted.items c.self.invariant.kept c.args.self.now c.self.view_is c.args.i c.in-Some.cell (found_cell c)
 
 pub level_at-level-requires-clause-truth : goal.level_at-level-requires-clause-truth
 level_at-level-requires-clause-truth c =
-    true_state c.simulation_laws.ensures c.self.inside.plan c.self.inside.cells.items c.self.inside.replica c.self.inside.told.items c.self.invariant.kept
+    true_state c.simulation_laws.ensures c.self.inside.plan c.self.inside.cells.items c.self.inside.replica c.self.inside.emitted.items c.self.invariant.kept
 
 pub run_cell-requires-clause-quanta : goal.run_cell-requires-clause-quanta
 run_cell-requires-clause-quanta c = few (goal.at.run_cell-requires-clause-quanta c).In-Some
@@ -42,37 +42,37 @@ run_cell-requires-clause-changed c = changed (goal.at.run_cell-requires-clause-c
 
 pub run_cell-requires-clause-says : goal.run_cell-requires-clause-says
 run_cell-requires-clause-says c =
-    may_say c.value_laws.ensures c.checked_is_sound.ensures c.self.inside.plan c.self.inside.cells.items c.self.inside.replica c.self.inside.told.items c.self.invariant.kept c.args.self.now c.self.view_is c.args.i c.in-Some.cell (found_cell (goal.at.run_cell-requires-clause-says c).In-Some) c.requires c.level_at-level.result
-    (reads_is c.value_laws.ensures c.checked_is_sound.ensures c.self.inside.plan c.self.inside.cells.items c.self.inside.replica c.self.inside.told.items c.self.invariant.kept c.args.self.now c.self.view_is c.args.i c.in-Some.cell (found_cell (goal.at.run_cell-requires-clause-says c).In-Some) c.due-tick.result c.level_at-level.result c.due-tick.ensures c.level_at-level.ensures)
+    may_say c.value_laws.ensures c.checked_is_sound.ensures c.self.inside.plan c.self.inside.cells.items c.self.inside.replica c.self.inside.emitted.items c.self.invariant.kept c.args.self.now c.self.view_is c.args.i c.in-Some.cell (found_cell (goal.at.run_cell-requires-clause-says c).In-Some) c.requires c.level_at-level.result
+    (reads_is c.value_laws.ensures c.checked_is_sound.ensures c.self.inside.plan c.self.inside.cells.items c.self.inside.replica c.self.inside.emitted.items c.self.invariant.kept c.args.self.now c.self.view_is c.args.i c.in-Some.cell (found_cell (goal.at.run_cell-requires-clause-says c).In-Some) c.due-tick.result c.level_at-level.result c.due-tick.ensures c.level_at-level.ensures)
 
 pub invariant_of-self : goal.invariant_of-self
 invariant_of-self c =
     record {
-      kept = kept_stays c.value_laws.ensures c.checked_is_sound.ensures c.self.inside.plan c.self.inside.cells.items c.self.inside.replica c.self.inside.told.items c.self.invariant.kept c.args.self.now c.self.view_is c.args.i c.in-Some.cell (found_cell (goal.at.invariant_of-self c).In-Some) c.run_cell.new.cell c.in_err-emission.ensures.same_quanta c.in_err-emission.ensures.stays c.run_cell.new.replica c.run_cell.new.told.items c.in_err-emission.ensures.not_taken c.in_err-emission.ensures.not_told;
+      kept = kept_stays c.value_laws.ensures c.checked_is_sound.ensures c.self.inside.plan c.self.inside.cells.items c.self.inside.replica c.self.inside.emitted.items c.self.invariant.kept c.args.self.now c.self.view_is c.args.i c.in-Some.cell (found_cell (goal.at.invariant_of-self c).In-Some) c.run_cell.new.cell c.in_err-emission.ensures.same_quanta c.in_err-emission.ensures.stays c.run_cell.new.replica c.run_cell.new.emitted.items c.in_err-emission.ensures.not_taken c.in_err-emission.ensures.not_emitted;
       counted = subst (λ (s : State). AreCounted (slots_of s) c.caught_up-self-inside.result) (sym c.in_err-emission.ensures.not_taken) c.caught_up-self-inside.ensures;
     }
 
 pub returns-in_err-emission-clause-err : goal.returns-in_err-emission-clause-err
 returns-in_err-emission-clause-err c =
     on_err c.from_residual.result
-    (value_stays c.value_laws.ensures c.checked_is_sound.ensures c.self.inside.plan c.self.inside.cells.items c.self.inside.replica c.self.inside.told.items c.self.invariant.kept c.args.self.now c.self.view_is c.args.i c.in-Some.cell (found_cell (goal.at.returns-in_err-emission-clause-err c).In-Some) c.run_cell.new.cell c.in_err-emission.ensures.same_quanta c.in_err-emission.ensures.stays c.run_cell.new.replica c.run_cell.new.told.items c.in_err-emission.ensures.not_taken c.in_err-emission.ensures.not_told
+    (value_stays c.value_laws.ensures c.checked_is_sound.ensures c.self.inside.plan c.self.inside.cells.items c.self.inside.replica c.self.inside.emitted.items c.self.invariant.kept c.args.self.now c.self.view_is c.args.i c.in-Some.cell (found_cell (goal.at.returns-in_err-emission-clause-err c).In-Some) c.run_cell.new.cell c.in_err-emission.ensures.same_quanta c.in_err-emission.ensures.stays c.run_cell.new.replica c.run_cell.new.emitted.items c.in_err-emission.ensures.not_taken c.in_err-emission.ensures.not_emitted
     ∙ c.self.view_is)
 
 pub invariant_of-self-2 : goal.invariant_of-self-2
 invariant_of-self-2 c =
     counting_stays c.laws_of_counts.ensures.slots c.laws_of_counts.ensures.states c.laws_of_counts.ensures.known c.self.inside.plan
     (set c.self.inside.cells.items c.args.i (Some c.run_cell.new.cell))
-    c.self.inside.replica (state_of c.self.inside.replica.nodes c.in_ok-emission.emission.items) c.run_cell.new.replica c.run_cell.new.told.items c.caught_up-self-inside.result c.in_ok-emission.ensures.taken c.caught_up-self-inside.ensures
-    (kept_runs c.value_laws.ensures c.checked_is_sound.ensures c.self.inside.plan c.self.inside.cells.items c.self.inside.replica c.self.inside.told.items c.self.invariant.kept c.args.self.now c.self.view_is c.args.i c.in-Some.cell (found_cell (goal.at.invariant_of-self-2 c).In-Some) c.run_cell.new.cell c.requires c.level_at-level.result
-    (reads_is c.value_laws.ensures c.checked_is_sound.ensures c.self.inside.plan c.self.inside.cells.items c.self.inside.replica c.self.inside.told.items c.self.invariant.kept c.args.self.now c.self.view_is c.args.i c.in-Some.cell (found_cell (goal.at.invariant_of-self-2 c).In-Some) c.due-tick.result c.level_at-level.result c.due-tick.ensures c.level_at-level.ensures)
+    c.self.inside.replica (state_of c.self.inside.replica.nodes c.in_ok-emission.emission.items) c.run_cell.new.replica c.run_cell.new.emitted.items c.caught_up-self-inside.result c.in_ok-emission.ensures.taken c.caught_up-self-inside.ensures
+    (kept_runs c.value_laws.ensures c.checked_is_sound.ensures c.self.inside.plan c.self.inside.cells.items c.self.inside.replica c.self.inside.emitted.items c.self.invariant.kept c.args.self.now c.self.view_is c.args.i c.in-Some.cell (found_cell (goal.at.invariant_of-self-2 c).In-Some) c.run_cell.new.cell c.requires c.level_at-level.result
+    (reads_is c.value_laws.ensures c.checked_is_sound.ensures c.self.inside.plan c.self.inside.cells.items c.self.inside.replica c.self.inside.emitted.items c.self.invariant.kept c.args.self.now c.self.view_is c.args.i c.in-Some.cell (found_cell (goal.at.invariant_of-self-2 c).In-Some) c.due-tick.result c.level_at-level.result c.due-tick.ensures c.level_at-level.ensures)
     c.in_ok-emission.emission.items c.in_ok-emission.ensures.emits c.in_ok-emission.ensures.quanta c.in_ok-emission.ensures.after
-    c.run_cell.new.replica c.run_cell.new.told.items
-    c.in_ok-emission.ensures.taken c.in_ok-emission.ensures.told)
+    c.run_cell.new.replica c.run_cell.new.emitted.items
+    c.in_ok-emission.ensures.taken c.in_ok-emission.ensures.emitted)
 
 pub returns-clause-ran : goal.returns-clause-ran
 returns-clause-ran c =
-    has_run c.value_laws.ensures c.checked_is_sound.ensures c.self.inside.plan c.self.inside.cells.items c.self.inside.replica c.self.inside.told.items c.self.invariant.kept c.args.self.now c.self.view_is c.args.i c.in-Some.cell (found_cell (goal.at.returns-clause-ran c).In-Some) c.run_cell.new.cell c.requires c.level_at-level.result
-    (reads_is c.value_laws.ensures c.checked_is_sound.ensures c.self.inside.plan c.self.inside.cells.items c.self.inside.replica c.self.inside.told.items c.self.invariant.kept c.args.self.now c.self.view_is c.args.i c.in-Some.cell (found_cell (goal.at.returns-clause-ran c).In-Some) c.due-tick.result c.level_at-level.result c.due-tick.ensures c.level_at-level.ensures)
+    has_run c.value_laws.ensures c.checked_is_sound.ensures c.self.inside.plan c.self.inside.cells.items c.self.inside.replica c.self.inside.emitted.items c.self.invariant.kept c.args.self.now c.self.view_is c.args.i c.in-Some.cell (found_cell (goal.at.returns-clause-ran c).In-Some) c.run_cell.new.cell c.requires c.level_at-level.result
+    (reads_is c.value_laws.ensures c.checked_is_sound.ensures c.self.inside.plan c.self.inside.cells.items c.self.inside.replica c.self.inside.emitted.items c.self.invariant.kept c.args.self.now c.self.view_is c.args.i c.in-Some.cell (found_cell (goal.at.returns-clause-ran c).In-Some) c.due-tick.result c.level_at-level.result c.due-tick.ensures c.level_at-level.ensures)
     c.in_ok-emission.emission.items c.in_ok-emission.ensures.emits c.in_ok-emission.ensures.quanta c.in_ok-emission.ensures.after
-    c.run_cell.new.replica c.run_cell.new.told.items
-    c.in_ok-emission.ensures.taken c.in_ok-emission.ensures.told
+    c.run_cell.new.replica c.run_cell.new.emitted.items
+    c.in_ok-emission.ensures.taken c.in_ok-emission.ensures.emitted

@@ -23,16 +23,16 @@ loop-self-init c = record {
   nothing = λ e. (refl, refl);
 }
 
-pub returns-in_err-told-clause-moved : goal.returns-in_err-told-clause-moved
-returns-in_err-told-clause-moved c =
+pub returns-in_err-known-clause-moved : goal.returns-in_err-known-clause-moved
+returns-in_err-known-clause-moved c =
     let line = line_of c.args.self.now.plan in
     let cast = cast_of c.args.self.now.numbers in
     let mid = c.loop-self.self in
     let new = c.round.new.self in
     on_err c.from_residual.result (λ before h.
-    let all = gone_on line cast c.args.self.now mid new (made_gone line cast c.loop-self.rounds c.loop-self.told c.args.self.now mid c.loop-self.invariant.made)
+    let all = gone_on line cast c.args.self.now mid new (made_gone line cast c.loop-self.rounds c.loop-self.known c.args.self.now mid c.loop-self.invariant.made)
     (set_on (λ l d. HasGone l d mid new) line (line_of mid.plan) cast (cast_of mid.numbers)
-    (ap line_of c.loop-self.invariant.same_plan) (ap cast_of c.loop-self.invariant.same_numbers) c.in_err-told.ensures.moved) in
+    (ap line_of c.loop-self.invariant.same_plan) (ap cast_of c.loop-self.invariant.same_numbers) c.in_err-known.ensures.moved) in
     let s = all (run line cast before (start line cast)) h in
     (s.0, s.1, at_start IsWorldAt line cast before s.0 new s.2))
 
@@ -45,13 +45,13 @@ fewer c =
     let cast = cast_of c.args.self.now.numbers in
     let mid = c.loop-self.self in
     let new = c.round.new.self in
-    round_fewer laws.simulation laws.sound laws.grouping laws.known laws.groups c.args.self.now mid new c.loop-self.rounds c.loop-self.told c.in_ok-told.told
+    round_fewer laws.simulation laws.sound laws.grouping laws.known laws.groups c.args.self.now mid new c.loop-self.rounds c.loop-self.known c.in_ok-known.known
     (subst IsWorldValue c.self.view_is c.self.invariant) made.holds (subst IsWorldValue c.self-in-loop-self.view_is c.self-in-loop-self.invariant) made.same_plan made.same_numbers
-    (c.in_ok-told.ensures.plan ∙ made.same_plan) (c.in_ok-told.ensures.grouping ∙ made.same_numbers) made.made
+    (c.in_ok-known.ensures.plan ∙ made.same_plan) (c.in_ok-known.ensures.grouping ∙ made.same_numbers) made.made
     (unended_on laws.simulation laws.sound laws.grouping laws.known laws.groups line cast mid (ap line_of made.same_plan) (ap cast_of made.same_numbers) made.holds.staffed
     (λ e. false≢true (c.loop-self-test.ensures.1 e)))
-    (set_on (λ l d. HasRounded l d c.loop-self.told c.in_ok-told.told mid new) line (line_of mid.plan) cast (cast_of mid.numbers) (ap line_of made.same_plan) (ap cast_of made.same_numbers)
-    c.in_ok-told.ensures.rounded)
+    (set_on (λ l d. HasRounded l d c.loop-self.known c.in_ok-known.known mid new) line (line_of mid.plan) cast (cast_of mid.numbers) (ap line_of made.same_plan) (ap cast_of made.same_numbers)
+    c.in_ok-known.ensures.rounded)
 
 pub overflow_add-rounds : goal.overflow_add-rounds
 overflow_add-rounds c =
@@ -74,14 +74,14 @@ loop-self-preserved c =
     let mid = c.loop-self.self in
     let new = c.round.new.self in
     record {
-      same_plan = c.in_ok-told.ensures.plan ∙ made.same_plan;
-      same_numbers = c.in_ok-told.ensures.grouping ∙ made.same_numbers;
+      same_plan = c.in_ok-known.ensures.plan ∙ made.same_plan;
+      same_numbers = c.in_ok-known.ensures.grouping ∙ made.same_numbers;
       holds = subst IsWorldValue c.self-in-loop-self.view_is c.self-in-loop-self.invariant;
-      made = made_more line cast c.loop-self.rounds c.loop-self.told c.in_ok-told.told c.args.self.now mid new made.made
+      made = made_more line cast c.loop-self.rounds c.loop-self.known c.in_ok-known.known c.args.self.now mid new made.made
           (unended_on laws.simulation laws.sound laws.grouping laws.known laws.groups line cast mid (ap line_of made.same_plan) (ap cast_of made.same_numbers) made.holds.staffed
           (λ e. false≢true (c.loop-self-test.ensures.1 e)))
-          (set_on (λ l d. HasRounded l d c.loop-self.told c.in_ok-told.told mid new) line (line_of mid.plan) cast (cast_of mid.numbers) (ap line_of made.same_plan)
-          (ap cast_of made.same_numbers) c.in_ok-told.ensures.rounded);
+          (set_on (λ l d. HasRounded l d c.loop-self.known c.in_ok-known.known mid new) line (line_of mid.plan) cast (cast_of mid.numbers) (ap line_of made.same_plan)
+          (ap cast_of made.same_numbers) c.in_ok-known.ensures.rounded);
       few = (let less = fewer ((goal.at.loop-self-preserved c).After-self-in-loop-self) in let all = made.few in omega arith);
       nothing = λ e. absurd (false≢true (c.loop-self-test.ensures.1 (subst AreAtEnd (sym (made.nothing e).1) e)));
     }
@@ -93,7 +93,7 @@ returns-clause-settled c = λ before h.
     let cast = cast_of c.args.self.now.numbers in
     let mid = c.loop-self.self in
     let made = c.loop-self.invariant in
-    let s = made_ended line cast c.loop-self.rounds c.loop-self.told c.args.self.now mid made.made
+    let s = made_ended line cast c.loop-self.rounds c.loop-self.known c.args.self.now mid made.made
     (ended_on laws.simulation laws.sound laws.grouping laws.known laws.groups line cast mid (ap line_of made.same_plan) (ap cast_of made.same_numbers) made.holds.staffed (c.loop-self-test.ensures.0 refl))
     (run line cast before (start line cast)) h in
     (s.0, s.1, at_start IsWorldAt line cast before s.0 mid s.2)

@@ -10,7 +10,7 @@ invariant-loop-self l = record {
   same_plan : l.self.plan ≡ l.initial.self.plan;
   same_numbers : l.self.numbers ≡ l.initial.self.numbers;
   holds : IsWorldValue l.self;
-  made : HasMade (line_of l.initial.self.plan) (cast_of l.initial.self.numbers) l.rounds l.told l.initial.self l.self;
+  made : HasMade (line_of l.initial.self.plan) (cast_of l.initial.self.numbers) l.rounds l.known l.initial.self l.self;
   few : l.rounds + quanta_left_of l.self ≤ quanta_left_of l.initial.self;
   nothing : AreAtEnd l.initial.self → (l.rounds ≡ 0) × (l.self ≡ l.initial.self);
 }

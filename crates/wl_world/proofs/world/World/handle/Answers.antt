@@ -30,7 +30,7 @@ loop-i-preserved c =
       room = let e = c.push_within.ensures.capacity in let f = c.loop-i.invariant.room in omega arith;
       count = let e = c.push_within.ensures.len in let f = c.loop-i.invariant.count in omega arith;
       reached = λ w h. reached_more IsWorldAt line cast c.args.events.now c.loop-i.i event w c.loop-i.self c.step.new.self c.in-Ok-step.answer c.loop-i-test.true (c.loop-i.invariant.reached w h) s;
-      answered = λ w h. c.push_within.ensures.items ∙ answered_more IsWorldAt line cast c.args.events.now c.loop-i.i event w c.loop-i.self c.step.new.self c.in-Ok-step.answer c.loop-i.told.items c.loop-i-test.true (c.loop-i.invariant.reached w h) s (c.loop-i.invariant.answered w h);
+      answered = λ w h. c.push_within.ensures.items ∙ answered_more IsWorldAt line cast c.args.events.now c.loop-i.i event w c.loop-i.self c.step.new.self c.in-Ok-step.answer c.loop-i.answers.items c.loop-i-test.true (c.loop-i.invariant.reached w h) s (c.loop-i.invariant.answered w h);
     }
 
 pub returns-clause-ok : goal.returns-clause-ok
@@ -39,6 +39,6 @@ returns-clause-ok c = λ before h.
     let cast = cast_of c.args.self.now.numbers in
     let w = run line cast before (start line cast) in
     let all : take c.loop-i.i c.args.events.now ≡ c.args.events.now = take_all c.loop-i.i c.args.events.now (omega arith) in (
-      subst (λ v. c.loop-i.told.items ≡ answers line cast v w) all (c.loop-i.invariant.answered w h),
+      subst (λ v. c.loop-i.answers.items ≡ answers line cast v w) all (c.loop-i.invariant.answered w h),
       at_start IsWorldAt line cast before c.args.events.now c.loop-i.self (subst (λ v. IsWorldAt (run line cast v w) c.loop-i.self) all (c.loop-i.invariant.reached w h)),
     )

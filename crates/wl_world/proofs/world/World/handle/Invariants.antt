@@ -11,8 +11,8 @@ invariant-loop-i l =
     record {
       same_plan : l.self.plan ≡ l.initial.self.plan;
       same_numbers : l.self.numbers ≡ l.initial.self.numbers;
-      room : length l.events ≤ vec_capacity l.told;
-      count : vec_len l.told ≡ l.i;
+      room : length l.events ≤ vec_capacity l.answers;
+      count : vec_len l.answers ≡ l.i;
       reached : (w : Scene) → IsWorldAt w l.initial.self → IsWorldAt (run line cast (take l.i l.events) w) l.self;
-      answered : (w : Scene) → IsWorldAt w l.initial.self → l.told.items ≡ answers line cast (take l.i l.events) w;
+      answered : (w : Scene) → IsWorldAt w l.initial.self → l.answers.items ≡ answers line cast (take l.i l.events) w;
     }
