@@ -9,7 +9,7 @@ ghost use Rattle.wl_record_core.specs.Slots.{slot_of};
 ghost use Rattle.wl_replica.specs.Kept.{SameWords, JoinsIn, HasSlot, HasSlots, HaveSlots};
 ghost use Rattle.wl_replica.specs.State.{edge_word, silence_word};
 
-use crate::kept::{join_at, make_room_at};
+use crate::words::{join_at, make_room_at};
 use std::alloc::AllocError;
 use std::collections::BTreeMap;
 use wl_lattice::{FlatWord, MaxWord};

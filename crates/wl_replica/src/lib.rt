@@ -3,12 +3,12 @@
 #![tactic(auto)]
 
 mod batch;
-mod kept;
+mod canonical;
 mod laws;
-mod listed;
 mod replica;
 mod walks;
 mod waves;
+mod words;
 
 pub use laws::{
     canonical_determines_the_state, canonical_stays_a_text, joining_is_a_join, known_laws,

@@ -2,9 +2,9 @@
 ghost use Rattle.std.specs.Prelude.{◌≡◌, ◌↔◌, ℕ, IsTrue, IfOk, IfErr, OnOk, OnErr};
 
 use crate::batch::{join_slots, make_slots};
-use crate::kept::{join_in, make_room, raise};
+use crate::words::{join_in, make_room, raise};
 use crate::laws::known_laws;
-use crate::listed::{push_edges, push_silences};
+use crate::canonical::{push_edges, push_silences};
 use crate::walks::{promise_of, run_of};
 use crate::waves::{is_dominant_at, wave_of};
 use std::alloc::{AllocError, Global};

@@ -6,9 +6,9 @@ mod frames;
 mod laws;
 mod nodes;
 #[cfg(test)]
+mod report;
 mod tests;
 mod verdict;
-mod whole;
 
 pub use laws::{clean_is_clean, extremes_are_extreme};
-pub use whole::report;
+pub use report::report;

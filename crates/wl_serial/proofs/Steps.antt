@@ -18,7 +18,7 @@ use Rattle.wl_plan.specs.SimulationLaws.{SimulationLaws}
 use Rattle.wl_plan.specs.Sound.{IsSound}
 use Rattle.wl_node.specs.Reached.{IsNode, node_setup}
 use Rattle.wl_node.specs.declared.node.Node.{Node}
-use Rattle.wl_serial.specs.declared.running.Running.{Running}
+use Rattle.wl_serial.specs.declared.running_node.Running.{Running}
 use Rattle.wl_serial.specs.declared.outcome.NodeOutcome.{NodeOutcome}
 use Rattle.wl_serial.specs.Outcome.{outcome_of_history, node_outcome_of}
 use Rattle.wl_serial.specs.Running.{HasRun, IsRunning, finds}

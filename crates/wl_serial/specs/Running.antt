@@ -8,7 +8,7 @@ use Rattle.wl_plan.specs.PlanLine.{setup_at, line_of, table_of}
 use Rattle.wl_plan.specs.Line.{found}
 use Rattle.wl_plan.specs.Simulation.{level, seen, AreInside}
 use Rattle.wl_node.specs.Reached.{IsNode, node_setup}
-use Rattle.wl_serial.specs.declared.running.Running.{Running}
+use Rattle.wl_serial.specs.declared.running_node.Running.{Running}
 
 -- what node j finds on the line at tick t
 abbrev pub finds : Plan → ℕ → ℕ → Level

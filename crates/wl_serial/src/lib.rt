@@ -1,16 +1,16 @@
 //! The one-thread engine: the outcome of the tick-by-tick simulation of a plan, computed from quantum to quantum.
 #![tactic(auto)]
 
+mod engine;
 mod laws;
-mod line;
+mod level;
 mod outcome;
 mod records;
-mod run;
-mod running;
+mod running_node;
 mod so_far;
 
+pub use engine::run_serial;
 pub use laws::{outcome_is_recordable, records_are_true};
 pub use outcome::{Changes, Frames, NodeOutcome, NodeOutcomes, Outcome, Phases, Samples};
 pub use records::records_of;
-pub use run::run_serial;
 pub use so_far::node_outcome;

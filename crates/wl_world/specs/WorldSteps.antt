@@ -16,7 +16,7 @@ abbrev pub StepsBy : Event → WorldValue → WorldValue → Answer → Type 0
 StepsBy event old new a = HasStepped IsWorldAt (line_of old.plan) (cast_of old.numbers) event old new a
 
 abbrev pub RunsEvents : List Event → WorldValue → WorldValue → List Answer → Type 0
-RunsEvents events old new said = HasRun IsWorldAt (line_of old.plan) (cast_of old.numbers) events old new told
+RunsEvents events old new said = HasRun IsWorldAt (line_of old.plan) (cast_of old.numbers) events old new said
 
 abbrev pub StopsAfter : List Event → WorldValue → WorldValue → ℕ → Type 0
 StopsAfter events old new count = HasStopped IsWorldAt (line_of old.plan) (cast_of old.numbers) events old new count

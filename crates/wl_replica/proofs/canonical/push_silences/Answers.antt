@@ -1,0 +1,10 @@
+use Rattle.std.proofs.Common.{◌++◌, ap, ◌∙◌}
+use Rattle.std.specs.List.{filter_map}
+use Rattle.wl_replica.specs.Canonical.{silence_record}
+use Rattle.wl_replica.proofs.WalkLemmas.{of_node_range}
+use Rattle.wl_replica.proofs.canonical.push_silences.Goals as goal
+
+pub loop-key-init : goal.loop-key-init
+loop-key-init c =
+    let left = c.into_iter-key-iterator.ensures.into_iter_gives ∙ (c.range-key-items.ensures.between tt ∙ of_node_range c.args.node c.args.silences.now.entries) in
+    record { can_next = tt; finite = tt; told = ap (λ es. c.args.all.now.items ++ filter_map silence_record es) left }
