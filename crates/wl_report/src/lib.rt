@@ -5,8 +5,8 @@ mod extremes;
 mod frames;
 mod laws;
 mod nodes;
-#[cfg(test)]
 mod report;
+#[cfg(test)]
 mod tests;
 mod verdict;
 
