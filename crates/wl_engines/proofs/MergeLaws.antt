@@ -15,7 +15,7 @@ use Rattle.wl_record_core.specs.Within.{IsWithin}
 use Rattle.wl_replica.specs.Laws.{SameRecordsSameState, MergingIsAppending, CanonicalStaysAText}
 use Rattle.wl_replica.specs.State.{Fits}
 use Rattle.wl_replica.specs.Canonical.{canonical}
-use Rattle.wl_engines.specs.Merge.{merged, merged_records, MergesAsOne}
+use Rattle.wl_engines.specs.Merge.{merged_text, merged_records, MergesAsOne}
 use Rattle.wl_engines.proofs.Gathering.{fits_all, node_within}
 
 within_of : (rs : List Record) → AllByRecursion (Fits most_nodes) rs → AllByRecursion IsWithin rs
@@ -45,7 +45,7 @@ module _
   merged_within rs h =
       within_of (merged_records rs) (recursion_from_All (Fits most_nodes) (merged_records rs) (stays.fits most_nodes rs (fits_all rs h)))
 
-  merged_is_text : (x : List ℕ) (xs : List Record) → IsText x xs → IsText (merged xs) (merged_records xs)
+  merged_is_text : (x : List ℕ) (xs : List Record) → IsText x xs → IsText (merged_text xs) (merged_records xs)
   merged_is_text x xs h =
       is_text (merged_records xs) (merged_within xs h.within)
       (let e : length x ≡ length (text_of xs) = ap length (text_is x xs h) in omega (arith, e, h.short, stays.short most_nodes xs))
@@ -56,14 +56,14 @@ module _
       subst (λ t. IsText t (xs ++ ys)) both (is_text (xs ++ ys) (within_both xs ys h.within k.within) (omega (arith, ap length both, short)))
 
   merged_appended : (x y : List ℕ) (xs ys : List Record) → IsText x xs → IsText y ys → length (x ++ y) ≤ most_record_bytes
-      → IsText (merged xs ++ y) (merged_records xs ++ ys)
+      → IsText (merged_text xs ++ y) (merged_records xs ++ ys)
   merged_appended x y xs ys h k short =
-      let both : text_of (merged_records xs ++ ys) ≡ merged xs ++ y =
-      flat_map-append text_line (merged_records xs) ys ∙ ap (λ t. merged xs ++ t) (sym (text_is y ys k)) in
+      let both : text_of (merged_records xs ++ ys) ≡ merged_text xs ++ y =
+      flat_map-append text_line (merged_records xs) ys ∙ ap (λ t. merged_text xs ++ t) (sym (text_is y ys k)) in
       let P : List ℕ → Type 0 = λ t. IsText t (merged_records xs ++ ys) in
       let e : length x ≡ length (text_of xs) = ap length (text_is x xs h) in
       subst P both (is_text (merged_records xs ++ ys) (within_both (merged_records xs) ys (merged_within xs h.within) k.within)
-      (omega (arith, e, ap length both, length-append (merged xs) y, length-append x y, stays.short most_nodes xs, short)))
+      (omega (arith, e, ap length both, length-append (merged_text xs) y, length-append x y, stays.short most_nodes xs, short)))
 
   pub merging : MergesAsOne
   merging = record {

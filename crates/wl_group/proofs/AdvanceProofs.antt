@@ -7,7 +7,7 @@ use Rattle.wl_replica.specs.Known.{place_horizon}
 use Rattle.wl_plan.specs.Line.{Line}
 use Rattle.wl_group.specs.Member.{next_tick, can_run}
 use Rattle.wl_group.specs.Party.{Party, slots}
-use Rattle.wl_group.specs.Advanced.{Reply, emitted, blocked, ended, can_advance, emission_of, reply_of, run_next, advanced, Steps, none, more}
+use Rattle.wl_group.specs.Advanced.{Reply, emitted, blocked, ended, can_advance, emission_of, reply_of, run_next, after_advance, Steps, none, more}
 use Rattle.wl_group.specs.AdvanceLaws.{IsAtEnd, AdvanceLaws}
 
 -- the reply by the tests: a member, at the end, may run
@@ -62,14 +62,14 @@ module _ (l : Line) (belongs : ℕ → Bool) (p : Party) (i : ℕ) where
     λ q. tests_blocked.1 (q.0, λ w. q.1 (w.0, leb-true l.stop (next_tick l i (p.members i)) w.1)),
   )
 
-  stays : can_advance l belongs p i ≡ false → advanced l belongs i p ≡ p
+  stays : can_advance l belongs p i ≡ false → after_advance l belongs i p ≡ p
   stays h = cond-false (can_advance l belongs p i) (run_next l i p) p h
 
   not_emitted : (reply_of l belongs p i ≡ blocked) ⊎ (reply_of l belongs p i ≡ ended) → ¬ (reply_of l belongs p i ≡ emitted (emission_of l p i))
   not_emitted (inl b) h = (let c : blocked ≡ emitted (emission_of l p i) = sym b ∙ h in cc)
   not_emitted (inr e) h = (let c : ended ≡ emitted (emission_of l p i) = sym e ∙ h in cc)
 
-  refused_stays : (reply_of l belongs p i ≡ blocked) ⊎ (reply_of l belongs p i ≡ ended) → advanced l belongs i p ≡ p
+  refused_stays : (reply_of l belongs p i ≡ blocked) ⊎ (reply_of l belongs p i ≡ ended) → after_advance l belongs i p ≡ p
   refused_stays h = elim (cases_Bool (can_advance l belongs p i)) [
     | inl y ↦ absurd (not_emitted h (emitted_iff.1 y))
     | inr n ↦ stays n

@@ -5,7 +5,7 @@ use Rattle.wl_record_core.specs.declared.record.Record.{Record}
 use Rattle.wl_plan.specs.Line.{Line}
 use Rattle.wl_group.specs.Member.{next_tick}
 use Rattle.wl_group.specs.Party.{Party}
-use Rattle.wl_group.specs.Advanced.{emitted, blocked, ended, can_advance, emission_of, reply_of, advanced, Steps}
+use Rattle.wl_group.specs.Advanced.{emitted, blocked, ended, can_advance, emission_of, reply_of, after_advance, Steps}
 
 -- node i is a member whose next quantum is not below the end
 abbrev pub IsAtEnd : Line → (ℕ → Bool) → Party → ℕ → Type 0
@@ -18,6 +18,6 @@ pub record AdvanceLaws : Type 0 where
       → (reply_of l belongs p i ≡ blocked) ↔ ((can_advance l belongs p i ≡ false) × ¬ (IsAtEnd l belongs p i))
   -- where it does not emit nothing changes
   pub refused_stays : (l : Line) (belongs : ℕ → Bool) (p : Party) (i : ℕ)
-      → (reply_of l belongs p i ≡ blocked) ⊎ (reply_of l belongs p i ≡ ended) → advanced l belongs i p ≡ p
+      → (reply_of l belongs p i ≡ blocked) ⊎ (reply_of l belongs p i ≡ ended) → after_advance l belongs i p ≡ p
   -- what a group emitted grows by exactly what its advances emitted
   pub steps_emitted : (l : Line) (belongs : ℕ → Bool) (p q : Party) (rs : List Record) → Steps l belongs p rs q → q.emitted ≡ p.emitted ++ rs

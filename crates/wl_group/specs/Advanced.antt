@@ -33,13 +33,13 @@ abbrev pub run_next : Line → ℕ → Party → Party
 run_next l i p = party_after_quantum l i (level_read l i (p.members i) (slots p)) p
 
 -- the group after an advance: as it was, where the node may not run
-abbrev pub advanced : Line → (ℕ → Bool) → ℕ → Party → Party
-advanced l belongs i p = if can_advance l belongs p i then run_next l i p else p
+abbrev pub after_advance : Line → (ℕ → Bool) → ℕ → Party → Party
+after_advance l belongs i p = if can_advance l belongs p i then run_next l i p else p
 
 -- An advance of node i answered a and made new of old, for every party that old was. Waiting and the end change nothing at all.
 pub record HasAdvanced {G : Type 0} (matches : Party → G → Type 0) (l : Line) (belongs : ℕ → Bool) (i : ℕ) (old new : G) (a : Reply) : Type 0 where
   pub reply : (p : Party) → matches p old → a ≡ reply_of l belongs p i
-  pub after : (p : Party) → matches p old → matches (advanced l belongs i p) new
+  pub after : (p : Party) → matches p old → matches (after_advance l belongs i p) new
   pub refused : (a ≡ blocked) ⊎ (a ≡ ended) → new ≡ old
 
 -- nodes that advance one after another, each of which may, and what they emit

@@ -9,14 +9,14 @@ use Rattle.wl_group.specs.Advanced.{Reply, emitted, blocked, ended, HasAdvanced}
 use Rattle.wl_group.specs.GroupValue.{GroupValue, Matches, belongs}
 use Rattle.wl_group.specs.Party.{Party, party_with}
 
-abbrev pub said : Advance → Reply
-said (answers.Emitted records) = emitted records.items
-said answers.Blocked = blocked
-said answers.Ended = ended
+abbrev pub reply_of_answer : Advance → Reply
+reply_of_answer (answers.Emitted records) = emitted records.items
+reply_of_answer answers.Blocked = blocked
+reply_of_answer answers.Ended = ended
 
 -- an advance of node i answered a: as the machine's advance of every party that the group was
 abbrev pub HasAnswered : ℕ → GroupValue → GroupValue → Advance → Type 0
-HasAnswered i old new a = HasAdvanced Matches (line_of old.plan) (belongs old) i old new (said a)
+HasAnswered i old new a = HasAdvanced Matches (line_of old.plan) (belongs old) i old new (reply_of_answer a)
 
 -- what knew this and was joined in: every party that the group was has taken the records of it
 abbrev pub HasJoined : State → GroupValue → GroupValue → Type 0

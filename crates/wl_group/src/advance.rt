@@ -31,12 +31,12 @@ impl Group {
     ghost use Rattle.wl_record_core.specs.declared.record.Record.{Record};
     ghost use Rattle.wl_group.specs.GroupValue.{belongs, may_run};
     ghost use Rattle.wl_group.specs.Running.{HasRunNext, HasReplied, Ran};
-    ghost use Rattle.wl_group.specs.Said.{said, HasAnswered};
+    ghost use Rattle.wl_group.specs.Said.{reply_of_answer, HasAnswered};
 
     /// Runs the next quantum of a node, if it may run. Any number may be asked. Refused for want of
     /// memory, the group is as it was; that is where the node may run alone, since else nothing grows.
     pub fn advance(&mut self, node: u8) -> Result<Advance, AllocError>
-        ensures value { IfOk result (λ a. HasReplied node self.old self.new (said a)) }
+        ensures value { IfOk result (λ a. HasReplied node self.old self.new (reply_of_answer a)) }
         ensures answer { IfOk result (λ a. HasAnswered node self.old self.new a) }
         ensures plan { self.new.plan ≡ self.old.plan }
         ensures members { belongs self.new ≡ belongs self.old }

@@ -18,8 +18,8 @@ abbrev pub kind : {J : Type 0} → J → (J → J → J) → (J → ℕ) → (Re
 kind b j w v a = record { bottom = b; join = j; word = w; value = v; at = a }
 
 -- a compare-exchange from 0 to `new` leaves such a word with the new value in it: it was 0, the value, or a clash
-abbrev pub settled : ℕ → ℕ → Bool
-settled n new = (n == 0) || ((n == new) || (n == 18446744073709551615))
+abbrev pub is_settled : ℕ → ℕ → Bool
+is_settled n new = (n == 0) || ((n == new) || (n == 18446744073709551615))
 
 module _ {J : Type 0} where
   -- what a record gives to word i
@@ -109,4 +109,4 @@ module _ {T : Type 0} where
   abbrev pub claimed : {J : Type 0} → (List (ℕ × ℕ) → Kind J) → (T → Record → Type 0) → Record → Step (Unit {0})
       → Me (Unit {0}) (View T) → ℕ → Me (Unit {0}) (View T) → Type 0
   claimed kind_of is_true r st m n m' =
-      MatchBool (settled n st.second) (gave kind_of is_true r st m n m') (looked kind_of is_true st m n m')
+      MatchBool (is_settled n st.second) (gave kind_of is_true r st m n m') (looked kind_of is_true st m n m')

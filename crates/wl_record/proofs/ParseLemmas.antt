@@ -7,7 +7,7 @@ use Rattle.wl_record_core.specs.declared.record.Record.TheVariants.{Edge, Clash,
 use Rattle.wl_record.specs.Grammar.{Fields, letter_of, numbers_of, Spells}
 use Rattle.wl_record_core.specs.Limits.{most_nodes, most_nodes-is, most_edges, most_edges-is, tick_end, tick_end-is}
 use Rattle.wl_record_core.specs.Within.{IsWithin}
-use Rattle.wl_record.specs.Parsing.{capped, IsField, FieldsThen, Begins, IsFront}
+use Rattle.wl_record.specs.Parsing.{number_as_read, IsField, FieldsThen, Begins, IsFront}
 use Rattle.wl_record.proofs.GrammarLemmas.{digits_split, fields_stop}
 
 pub field_once : (bytes : List ℕ) (n m : ℕ) (rest more : List ℕ) → IsField bytes n rest → IsField bytes m more → (n ≡ m) × (rest ≡ more)
@@ -70,10 +70,10 @@ begins_once bytes r q rest more h g =
     (fields_once g.0 (numbers_of r) (numbers_of q) rest more (same_numbers r q letters) (subst (λ z. FieldsThen z (numbers_of r) rest) tails h.2) g.2).1
 
 -- ---- capped numbers
-capped_small : (n m : ℕ) → capped n < m → m < 2 ^ 59 → capped n ≡ n
+capped_small : (n m : ℕ) → number_as_read n < m → m < 2 ^ 59 → number_as_read n ≡ n
 capped_small n m h small = omega (arith, h, small)
 
-small_capped : (n m : ℕ) → n < m → m < 2 ^ 59 → capped n ≡ n
+small_capped : (n m : ℕ) → n < m → m < 2 ^ 59 → number_as_read n ≡ n
 small_capped n m h small = omega (arith, h, small)
 
 node_limit : most_nodes < 2 ^ 59
@@ -87,10 +87,10 @@ tick_limit = omega (arith, tick_end-is)
 
 -- ---- a record of each letter
 three_found : (make : ℕ → ℕ → ℕ → Record) (letter : ℕ) → ((a b k : ℕ) → letter_of (make a b k) ≡ letter) → ((a b k : ℕ) → numbers_of (make a b k) ≡ a ∷ b ∷ k ∷ [])
-    → ((a b k : ℕ) → IsWithin (make (capped a) (capped b) (capped k)) → (capped a ≡ a) × (capped b ≡ b) × (capped k ≡ k))
-    → ((a b k : ℕ) → IsWithin (make a b k) → (capped a ≡ a) × (capped b ≡ b) × (capped k ≡ k))
+    → ((a b k : ℕ) → IsWithin (make (number_as_read a) (number_as_read b) (number_as_read k)) → (number_as_read a ≡ a) × (number_as_read b ≡ b) × (number_as_read k ≡ k))
+    → ((a b k : ℕ) → IsWithin (make a b k) → (number_as_read a ≡ a) × (number_as_read b ≡ b) × (number_as_read k ≡ k))
     → (fields : List ℕ) (rest : List ℕ) (told : Option Record) (x y z : ℕ)
-    → ((a b k : ℕ) × FieldsThen fields (a ∷ b ∷ k ∷ []) rest × (x ≡ capped a) × (y ≡ capped b) × (z ≡ capped k))
+    → ((a b k : ℕ) × FieldsThen fields (a ∷ b ∷ k ∷ []) rest × (x ≡ number_as_read a) × (y ≡ number_as_read b) × (z ≡ number_as_read k))
     → MatchOption told (¬ (IsWithin (make x y z))) (λ r. (r ≡ make x y z) × IsWithin r) → IsFront letter fields told rest
 three_found make letter is_letter is_numbers below above fields rest None x y z (a, b, k, f, ex, ey, ez) h = (
   make a b k,
@@ -102,13 +102,13 @@ three_found make letter is_letter is_numbers below above fields rest None x y z 
       h (subst IsWithin e w),
 )
 three_found make letter is_letter is_numbers below above fields rest (Some r) x y z (a, b, k, f, ex, ey, ez) h =
-    let e : r ≡ make (capped a) (capped b) (capped k) = h.0 ∙ (λ i. make (ex i) (ey i) (ez i)) in
+    let e : r ≡ make (number_as_read a) (number_as_read b) (number_as_read k) = h.0 ∙ (λ i. make (ex i) (ey i) (ez i)) in
     let same = below a b k (subst IsWithin e h.1) in
     let is : r ≡ make a b k = e ∙ (λ i. make (same.0 i) (same.1 i) (same.2 i)) in
     (ap letter_of is ∙ is_letter a b k, subst (λ ns. FieldsThen fields ns rest) (sym (ap numbers_of is ∙ is_numbers a b k)) f, h.1)
 
 pub edge_found : (fields rest : List ℕ) (told : Option Record) (x y z : ℕ)
-    → ((a b k : ℕ) × FieldsThen fields (a ∷ b ∷ k ∷ []) rest × (x ≡ capped a) × (y ≡ capped b) × (z ≡ capped k))
+    → ((a b k : ℕ) × FieldsThen fields (a ∷ b ∷ k ∷ []) rest × (x ≡ number_as_read a) × (y ≡ number_as_read b) × (z ≡ number_as_read k))
     → MatchOption told (¬ (IsWithin (Edge x y z))) (λ r. (r ≡ Edge x y z) × IsWithin r) → IsFront 69 fields told rest
 edge_found fields rest told x y z = three_found Edge 69 (λ a b k. refl) (λ a b k. refl)
     (λ a b k w. (capped_small a most_nodes w.0 node_limit, capped_small b most_edges w.1 (omega (arith, edge_limit)), capped_small k tick_end w.2 tick_limit))
@@ -116,7 +116,7 @@ edge_found fields rest told x y z = three_found Edge 69 (λ a b k. refl) (λ a b
     fields rest told x y z
 
 pub silence_found : (fields rest : List ℕ) (told : Option Record) (x y z : ℕ)
-    → ((a b k : ℕ) × FieldsThen fields (a ∷ b ∷ k ∷ []) rest × (x ≡ capped a) × (y ≡ capped b) × (z ≡ capped k))
+    → ((a b k : ℕ) × FieldsThen fields (a ∷ b ∷ k ∷ []) rest × (x ≡ number_as_read a) × (y ≡ number_as_read b) × (z ≡ number_as_read k))
     → MatchOption told (¬ (IsWithin (Silence x y z))) (λ r. (r ≡ Silence x y z) × IsWithin r) → IsFront 83 fields told rest
 silence_found fields rest told x y z = three_found Silence 83 (λ a b k. refl) (λ a b k. refl)
     (λ a b k w. (capped_small a most_nodes w.0 node_limit, capped_small b (most_edges + 1) (omega (arith, w.1)) edge_limit, capped_small k tick_end w.2 tick_limit))
@@ -124,22 +124,22 @@ silence_found fields rest told x y z = three_found Silence 83 (λ a b k. refl) (
     fields rest told x y z
 
 pub clash_found : (fields rest : List ℕ) (told : Option Record) (x y : ℕ)
-    → ((a b : ℕ) × FieldsThen fields (a ∷ b ∷ []) rest × (x ≡ capped a) × (y ≡ capped b))
+    → ((a b : ℕ) × FieldsThen fields (a ∷ b ∷ []) rest × (x ≡ number_as_read a) × (y ≡ number_as_read b))
     → MatchOption told (¬ (IsWithin (Clash x y))) (λ r. (r ≡ Clash x y) × IsWithin r) → IsFront 67 fields told rest
 clash_found fields rest None x y (a, b, f, ex, ey) h = (
   Clash a b,
   refl,
   f,
   λ w.
-      let ea : capped a ≡ a = small_capped a most_nodes w.0 node_limit in
-      let eb : capped b ≡ b = small_capped b most_edges w.1 (omega (arith, edge_limit)) in
+      let ea : number_as_read a ≡ a = small_capped a most_nodes w.0 node_limit in
+      let eb : number_as_read b ≡ b = small_capped b most_edges w.1 (omega (arith, edge_limit)) in
       h (subst IsWithin (λ i. Clash ((sym ea ∙ sym ex) i) ((sym eb ∙ sym ey) i)) w),
 )
 clash_found fields rest (Some r) x y (a, b, f, ex, ey) h =
-    let e : r ≡ Clash (capped a) (capped b) = h.0 ∙ (λ i. Clash (ex i) (ey i)) in
+    let e : r ≡ Clash (number_as_read a) (number_as_read b) = h.0 ∙ (λ i. Clash (ex i) (ey i)) in
     let w = subst IsWithin e h.1 in
-    let ea : capped a ≡ a = capped_small a most_nodes w.0 node_limit in
-    let eb : capped b ≡ b = capped_small b most_edges w.1 (omega (arith, edge_limit)) in
+    let ea : number_as_read a ≡ a = capped_small a most_nodes w.0 node_limit in
+    let eb : number_as_read b ≡ b = capped_small b most_edges w.1 (omega (arith, edge_limit)) in
     let is : r ≡ Clash a b = e ∙ (λ i. Clash (ea i) (eb i)) in
     (ap letter_of is, subst (λ ns. FieldsThen fields ns rest) (sym (ap numbers_of is)) f, h.1)
 

@@ -25,8 +25,8 @@ Stops [] = Unit {0}
 Stops (b ∷ bytes) = 10 ≤ digit_value b
 
 -- a number as it is read: exactly, or as this limit where it is greater
-abbrev pub capped : ℕ → ℕ
-capped n = min n 1000000000000000000
+abbrev pub number_as_read : ℕ → ℕ
+number_as_read n = min n 1000000000000000000
 
 -- the digits at the front, and what follows them
 pub record IsDigits (bytes : List ℕ) (value : ℕ) (rest : List ℕ) : Type 0 where
@@ -34,7 +34,7 @@ pub record IsDigits (bytes : List ℕ) (value : ℕ) (rest : List ℕ) : Type 0 
   pub parts : bytes ≡ digits ++ rest
   pub each : AllDigits 10 digits
   pub stops : Stops rest
-  pub value_is : value ≡ capped (digits_value 10 digits)
+  pub value_is : value ≡ number_as_read (digits_value 10 digits)
 
 -- a space and a number, and what follows them
 pub record IsField (bytes : List ℕ) (n : ℕ) (rest : List ℕ) : Type 0 where

@@ -26,7 +26,7 @@ pub enum Stop {
     Refused(LineFault),
 }
 
-ghost use Rattle.wl_record.specs.Parsing.{IsDigits, IsField, FieldsThen, capped};
+ghost use Rattle.wl_record.specs.Parsing.{IsDigits, IsField, FieldsThen, number_as_read};
 
 /// More than any number that is within. Greater numbers in a text are read as this one.
 const CAP: u64 = 1_000_000_000_000_000_000;
@@ -54,7 +54,7 @@ fn digits(bytes: &[u8]) -> (u64, &[u8])
 
 /// A space and a number at the front: the number, and what follows it.
 fn field(bytes: &[u8]) -> Option<(u64, &[u8])>
-    ensures found { IfSome result (λ r. (n : ℕ) × IsField bytes.now n r.1.now × (r.0 ≡ capped n)) }
+    ensures found { IfSome result (λ r. (n : ℕ) × IsField bytes.now n r.1.now × (r.0 ≡ number_as_read n)) }
     ensures none { IfNone result ((n : ℕ) (rest : List ℕ) → ¬ (IsField bytes.now n rest)) }
 {
     let [b' ', text @ ..] = bytes else {
@@ -71,7 +71,7 @@ fn field(bytes: &[u8]) -> Option<(u64, &[u8])>
 /// A space and a number, twice, and what follows them.
 fn two_fields(bytes: &[u8]) -> Option<(u64, u64, &[u8])>
     ensures found { IfSome result (λ r. (a b : ℕ) × FieldsThen bytes.now (a ∷ b ∷ []) r.2.now
-        × (r.0 ≡ capped a) × (r.1 ≡ capped b)) }
+        × (r.0 ≡ number_as_read a) × (r.1 ≡ number_as_read b)) }
     ensures none { IfNone result ((a b : ℕ) (rest : List ℕ) → ¬ (FieldsThen bytes.now (a ∷ b ∷ []) rest)) }
 {
     let Some((first, more)) = field(bytes) else {
@@ -86,7 +86,7 @@ fn two_fields(bytes: &[u8]) -> Option<(u64, u64, &[u8])>
 /// A space and a number, three times, and what follows them.
 fn three_fields(bytes: &[u8]) -> Option<(u64, u64, u64, &[u8])>
     ensures found { IfSome result (λ r. (a b k : ℕ) × FieldsThen bytes.now (a ∷ b ∷ k ∷ []) r.3.now
-        × (r.0 ≡ capped a) × (r.1 ≡ capped b) × (r.2 ≡ capped k)) }
+        × (r.0 ≡ number_as_read a) × (r.1 ≡ number_as_read b) × (r.2 ≡ number_as_read k)) }
     ensures none { IfNone result ((a b k : ℕ) (rest : List ℕ) → ¬ (FieldsThen bytes.now (a ∷ b ∷ k ∷ []) rest)) }
 {
     let Some((first, more)) = field(bytes) else {

@@ -29,10 +29,10 @@ use Rattle.wl_setup.specs.declared.plan_text.RateText.{RateText}
 use Rattle.wl_setup.specs.Names.{names_of}
 use Rattle.wl_setup.specs.Reading.{ReadsPlan}
 
--- a result with its refusal named as a fault of a plan's text
-abbrev pub named : {T E : Type 0} → (E → SetupFault) → Result T E → Result T SetupFault
-named name (Ok x) = Ok x
-named name (Err e) = Err (name e)
+-- a result with its refusal as a fault of a plan's text
+abbrev pub with_fault : {T E : Type 0} → (E → SetupFault) → Result T E → Result T SetupFault
+with_fault name (Ok x) = Ok x
+with_fault name (Err e) = Err (name e)
 
 -- what is made of a value, unless it was refused
 abbrev pub after : {T U : Type 0} → Result T SetupFault → (T → Result U SetupFault) → Result U SetupFault
@@ -51,11 +51,11 @@ rate_from from (text.Ppm quantum ppm) = rate_of_ppm from quantum ppm
 
 -- a rate of node i
 abbrev pub rate_in : ℕ → RateText → Result Rate SetupFault
-rate_in i text = named (fault.NodeClock i) (rate_from text.from text.clock)
+rate_in i text = with_fault (fault.NodeClock i) (rate_from text.from text.clock)
 
 -- the clock of node i: each of its rates in order, then all of them together with the offset
 abbrev pub clock_in : ℕ → NodeText → Result Timing SetupFault
-clock_in i node = after (each (rate_in i) node.rates) (λ rates. named (fault.NodeClock i) (timing_of_rates node.offset rates))
+clock_in i node = after (each (rate_in i) node.rates) (λ rates. with_fault (fault.NodeClock i) (timing_of_rates node.offset rates))
 
 -- segments with SYNC_SEG there in a bit that an edge begins
 abbrev pub with_sync : SyncSeg → Result Lengths SegmentsFault → Result Lengths SegmentsFault
@@ -69,14 +69,14 @@ segments_of_node sync node = with_sync sync (segments_of node.prop node.ps1 node
 -- a numbered frame of node i: a frame that waits from its quantum `ready` on
 abbrev pub queued_of : ℕ → ℕ × FrameText → Result Queued SetupFault
 queued_of i (n, text) =
-    after (named (fault.NodeFrame i n) (frame_of_numbers text.extended text.id text.remote text.dlc text.bytes))
+    after (with_fault (fault.NodeFrame i n) (frame_of_numbers text.extended text.id text.remote text.dlc text.bytes))
     (λ frame. Ok (record { frame = frame; ready = text.ready }))
 
 -- a numbered node: its clock, then its segments, then its frames in order
 abbrev pub setup_of : SyncSeg → ℕ × NodeText → Result NodeSetup SetupFault
 setup_of sync (i, node) =
     after (clock_in i node)
-    (λ clock. after (named (fault.NodeSegments i) (segments_of_node sync node))
+    (λ clock. after (with_fault (fault.NodeSegments i) (segments_of_node sync node))
     (λ segments. after (each (queued_of i) (enumerate_from 0 node.frame))
     (λ queue. Ok (record { clock = clock; segments = segments; queue = queue }))))
 
@@ -85,7 +85,7 @@ abbrev pub place_of : NodeText → Place
 place_of node = record { x = node.x; out_delay = node.out_delay; in_delay = node.in_delay }
 
 abbrev pub cable_of : PlanText → Result Cable SetupFault
-cable_of text = named fault.Topology (topology_of (map place_of text.node) text.per)
+cable_of text = with_fault fault.Topology (topology_of (map place_of text.node) text.per)
 
 abbrev pub disturbance_in : DisturbanceText → Disturbance
 disturbance_in text = record { x = text.x; from = text.from; to = text.to }

@@ -3,7 +3,7 @@ ghost use Rattle.std.specs.Prelude.{◌≡◌, ◌≢◌, Err, map, length, IfOk
 ghost use Rattle.std.specs.List.{enumerate_from};
 ghost use Rattle.wl_plan.specs.Checked.{IsChecked};
 ghost use Rattle.wl_setup.specs.Names.{names_of};
-ghost use Rattle.wl_setup.specs.Plans.{named, each, rate_from, rate_in, clock_in, segments_of_node, queued_of, setup_of, place_of, cable_of, disturbance_in, plan_of_text, named_plan_of, GivesPlan, IsAnswer};
+ghost use Rattle.wl_setup.specs.Plans.{with_fault, each, rate_from, rate_in, clock_in, segments_of_node, queued_of, setup_of, place_of, cable_of, disturbance_in, plan_of_text, named_plan_of, GivesPlan, IsAnswer};
 
 use crate::fault::SetupFault;
 use crate::names::Names;

@@ -20,8 +20,8 @@ abbrev pub wanted_word : ℕ → List ℕ
 wanted_word dlc = if dlc == 0 then [] else digits_of 16 1 (min dlc 8) ++ code_word dlc
 
 -- what comes after the identifier: an `R` and the code of a remote frame, and else the bytes
-abbrev pub carried : Content → List ℕ
-carried c = if c.remote then codes "R" ++ wanted_word c.dlc else flat_map (digits_of 16 2) c.bytes ++ code_word c.dlc
+abbrev pub content_word : Content → List ℕ
+content_word c = if c.remote then codes "R" ++ wanted_word c.dlc else flat_map (digits_of 16 2) c.bytes ++ code_word c.dlc
 
 -- seconds, and microseconds after a point
 abbrev pub time_word : ℕ → List ℕ
@@ -30,7 +30,7 @@ time_word us = digits_of 10 10 (us / 1000000) ++ codes "." ++ digits_of 10 6 (us
 -- a frame that was completed at a tick
 abbrev pub log_line : Tick → ℕ × Content → List ℕ
 log_line tick (t, c) =
-    codes "(" ++ time_word (microseconds tick t) ++ codes ") can0 " ++ digits_of 16 (id_digits c.extended) c.id ++ codes "#" ++ carried c ++ 10 ∷ []
+    codes "(" ++ time_word (microseconds tick t) ++ codes ") can0 " ++ digits_of 16 (id_digits c.extended) c.id ++ codes "#" ++ content_word c ++ 10 ∷ []
 
 -- the log of the frames that were sent, tick by tick
 abbrev pub log_of : Tick → Plan → Outcome → List ℕ

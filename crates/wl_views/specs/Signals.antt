@@ -20,6 +20,10 @@ sampled_at clock samples = map (λ s. tick_of clock s.0) samples
 abbrev pub sample_ticks : Plan → ℕ → List ℕ
 sample_ticks plan i = sampled_at (setup_at plan i).clock (history_at_end plan i).samples
 
+-- those of each node
+abbrev pub all_sample_ticks : Plan → List (List ℕ)
+all_sample_ticks plan = map (sample_ticks plan) (range_with_len 0 (length plan.nodes))
+
 -- Node i at tick t: what it drives, what it finds on the line at its place, and a mark that is low at first and turns at each sample.
 unfoldable pub node_signals : Plan → ℕ → ℕ → NodeSignals
 node_signals plan t i = record {

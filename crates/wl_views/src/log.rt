@@ -2,7 +2,7 @@
 ghost use Rattle.std.specs.Prelude.{◌≡◌, ◌≤◌, ◌++◌, ◌∷◌, [], OnOk, IfOk, codes};
 ghost use Rattle.std.specs.List.{flat_map};
 ghost use Rattle.wl_report.specs.Report.{id_digits};
-ghost use Rattle.wl_views.specs.Candump.{carried, code_word, log_line, log_of, time_word, wanted_word};
+ghost use Rattle.wl_views.specs.Candump.{content_word, code_word, log_line, log_of, time_word, wanted_word};
 ghost use Rattle.wl_views.specs.Digits.{Extends, digits_of};
 ghost use Rattle.wl_views.specs.Sent.{AreInTime};
 ghost use Rattle.wl_views.specs.Ticks.{microseconds};
@@ -66,7 +66,7 @@ fn push_bytes(text: &mut Vec<u8>, bytes: &[u8]) -> Result<(), AllocError>
 
 /// Adds what comes after the identifier.
 fn push_carried(text: &mut Vec<u8>, frame: &Frame) -> Result<(), AllocError>
-    ensures { OnOk result (Extends text.old text.new (carried frame.now)) }
+    ensures { OnOk result (Extends text.old text.new (content_word frame.now)) }
 {
     if frame.remote() {
         text.extend_from_slice(b"R")?;

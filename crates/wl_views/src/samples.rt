@@ -35,7 +35,7 @@ pub(crate) fn all_sample_ticks(
 ) -> Result<Vec<Listed<u64>>, AllocError>
     requires checked { IsChecked plan.now }
     requires outcome { outcome.now ≡ outcome_of plan.now }
-    ensures { IfOk result (λ ticks. ticks.items ≡ map (sample_ticks plan.now) (range_with_len 0 (length plan.now.nodes))) }
+    ensures { IfOk result (λ ticks. ticks.items ≡ all_sample_ticks plan.now) }
 {
     wl_plan::checked_is_sound();
     wl_plan::simulation_laws();

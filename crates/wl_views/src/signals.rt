@@ -74,7 +74,7 @@ fn driven(plan: &Plan, outcome: &Outcome, j: usize, t: u64, come: &mut [usize; M
     requires outcome { outcome.now ≡ outcome_of plan.now }
     requires node { j < length plan.now.nodes }
     requires early { t ≤ latest_end }
-    ensures { Holds (driven (length plan.now.nodes) (delay_of plan.now.topology) (level (line_of plan.now)) j) t result }
+    ensures { Holds (driven_at plan.now j) t result }
 {
     wl_plan::checked_is_sound();
     wl_plan::simulation_laws();

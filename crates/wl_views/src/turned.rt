@@ -31,8 +31,10 @@ pub(crate) fn turned(ticks: &[u64], delay: u64, t: u64, come: &mut usize) -> Hel
 
 /// The tick of this number and a delay, and the last of all ticks where there is none.
 fn next_turn(ticks: &[u64], count: usize, delay: u64) -> u64
-    ensures before { count < length ticks.now → result ≤ slice_index ticks.now count + delay }
-    ensures after { (t : ℕ) → t ≤ latest_end → (count < length ticks.now → t < slice_index ticks.now count + delay) → t < result }
+    ensures before { count < length ticks.now → result ≤ turn_after ticks.now count delay }
+    ensures after {
+        (t : ℕ) → t ≤ latest_end → (count < length ticks.now → t < turn_after ticks.now count delay) → t < result
+    }
 {
     if count < ticks.len() {
         ticks[count].saturating_add(delay)

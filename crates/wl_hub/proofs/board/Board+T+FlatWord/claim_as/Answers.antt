@@ -1,7 +1,7 @@
 use Rattle.std.proofs.Common.{◌≡◌, ◌<◌, ◌+◌, sym, subst, ◌∙◌, false}
 use Rattle.wl_hub.proofs.Kept.{some_of}
 use Rattle.wl_hub.proofs.Edges.{claims, clashes_after, unsettled}
-use Rattle.wl_hub.specs.Rule.{settled}
+use Rattle.wl_hub.specs.Rule.{is_settled}
 use Rattle.wl_hub.proofs.board.Board+T+FlatWord.claim_as.Goals as goal
 
 pub compare_exchange-found-requires : goal.compare_exchange-found-requires
@@ -18,7 +18,7 @@ fetch_max-requires g c =
     let mine = some_of c.args.part.now.seat.me.0.name c.args.part.now.named in
     let key = c.args.self.now.table.shared.key in
     let told = c.compare_exchange-found.ensures in
-    let other : settled c.compare_exchange-found.result (c.args.tick + 1) ≡ false = unsettled c.compare_exchange-found.result (c.args.tick + 1) c.if-found-eq0.false c.if-found-tick.false c.if-found.false in
+    let other : is_settled c.compare_exchange-found.result (c.args.tick + 1) ≡ false = unsettled c.compare_exchange-found.result (c.args.tick + 1) c.if-found-eq0.false c.if-found-tick.false c.if-found.false in
     let seen = rw other at told.2 in (
       told.0 ∙ c.requires.here,
       subst (λ n. c.args.i < n) (sym c.args.self.now.counted) c.requires.inside,

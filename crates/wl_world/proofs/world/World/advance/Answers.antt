@@ -4,7 +4,7 @@ use Rattle.std.proofs.lemmas.Option.{slice_get_read}
 use Rattle.wl_plan.specs.PlanLine.{line_of}
 use Rattle.wl_group.specs.Advanced.{HasAdvanced, emitted}
 use Rattle.wl_group.specs.GroupValue.{Matches, belongs as has}
-use Rattle.wl_group.specs.Said.{said}
+use Rattle.wl_group.specs.Said.{reply_of_answer}
 use Rattle.wl_world.specs.declared.events.Event.TheVariants.{Advance}
 use Rattle.wl_world.specs.declared.events.Answer.TheVariants.{Done, Idle}
 use Rattle.wl_world.specs.Steps.{HasStepped}
@@ -23,7 +23,7 @@ old_is : (c : In_ok-emission) → slice_get c.self.inside.groups.items c.args.gr
 old_is c = slice_get_read c.self.inside.groups.items (length c.self.inside.groups.items) c.args.group c.index_mut-runner.result.now refl (place c) c.index_mut-runner.ensures.value
 
 did : (c : In-Emitted) → HasAdvanced Matches (line_of c.index_mut-runner.result.now.plan) (has c.index_mut-runner.result.now) c.args.node c.index_mut-runner.result.now c.advance.new.self (emitted c.in-Emitted.emission.items)
-did c = subst (λ a. HasAdvanced Matches (line_of c.index_mut-runner.result.now.plan) (has c.index_mut-runner.result.now) c.args.node c.index_mut-runner.result.now c.advance.new.self (said a)) c.in-Emitted.is c.in_ok-emission.ensures.answer
+did c = subst (λ a. HasAdvanced Matches (line_of c.index_mut-runner.result.now.plan) (has c.index_mut-runner.result.now) c.args.node c.index_mut-runner.result.now c.advance.new.self (reply_of_answer a)) c.in-Emitted.is c.in_ok-emission.ensures.answer
 
 pub invariant_of-self-in-Emitted : goal.invariant_of-self-in-Emitted
 invariant_of-self-in-Emitted c =
@@ -53,9 +53,9 @@ returns-in-Blocked-clause-ok c =
     (world_value c.self.inside.plan c.self.inside.grouping (slice_set c.self.inside.groups.items c.args.group c.advance.new.self) c.reserve.new.self.items) Idle) c.self.view_is
     (subst (λ (u : WorldValue). HasStepped IsWorldAt (line_of c.self.inside.plan) (cast_of c.self.inside.grouping) (Advance c.args.group c.args.node) (value a) u Idle)
     (sym (unchanged (value a) c.args.group c.index_mut-runner.result.now c.advance.new.self c.reserve.new.self.items (old_is a)
-    (c.in_ok-emission.ensures.answer.refused (inl (ap said c.in-Blocked.is))) c.in_ok-reserve.ensures.items))
-    (waits c.advance_laws.ensures (value a) c.args.group c.args.node c.index_mut-runner.result.now c.advance.new.self (said c.in_ok-emission.field-0) c.self.invariant.staffed (old_is a)
-    c.in_ok-emission.ensures.answer (inl (ap said c.in-Blocked.is))))
+    (c.in_ok-emission.ensures.answer.refused (inl (ap reply_of_answer c.in-Blocked.is))) c.in_ok-reserve.ensures.items))
+    (waits c.advance_laws.ensures (value a) c.args.group c.args.node c.index_mut-runner.result.now c.advance.new.self (reply_of_answer c.in_ok-emission.field-0) c.self.invariant.staffed (old_is a)
+    c.in_ok-emission.ensures.answer (inl (ap reply_of_answer c.in-Blocked.is))))
 
 pub returns-in-Ended-clause-ok : goal.returns-in-Ended-clause-ok
 returns-in-Ended-clause-ok c =
@@ -64,6 +64,6 @@ returns-in-Ended-clause-ok c =
     (world_value c.self.inside.plan c.self.inside.grouping (slice_set c.self.inside.groups.items c.args.group c.advance.new.self) c.reserve.new.self.items) Idle) c.self.view_is
     (subst (λ (u : WorldValue). HasStepped IsWorldAt (line_of c.self.inside.plan) (cast_of c.self.inside.grouping) (Advance c.args.group c.args.node) (value a) u Idle)
     (sym (unchanged (value a) c.args.group c.index_mut-runner.result.now c.advance.new.self c.reserve.new.self.items (old_is a)
-    (c.in_ok-emission.ensures.answer.refused (inr (ap said c.in-Ended.is))) c.in_ok-reserve.ensures.items))
-    (waits c.advance_laws.ensures (value a) c.args.group c.args.node c.index_mut-runner.result.now c.advance.new.self (said c.in_ok-emission.field-0) c.self.invariant.staffed (old_is a)
-    c.in_ok-emission.ensures.answer (inr (ap said c.in-Ended.is))))
+    (c.in_ok-emission.ensures.answer.refused (inr (ap reply_of_answer c.in-Ended.is))) c.in_ok-reserve.ensures.items))
+    (waits c.advance_laws.ensures (value a) c.args.group c.args.node c.index_mut-runner.result.now c.advance.new.self (reply_of_answer c.in_ok-emission.field-0) c.self.invariant.staffed (old_is a)
+    c.in_ok-emission.ensures.answer (inr (ap reply_of_answer c.in-Ended.is))))
