@@ -1,2 +1,2 @@
-pub mod Gathering
-pub mod MergeLaws
+mod Gathering
+mod MergeLaws

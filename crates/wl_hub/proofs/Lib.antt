@@ -1,9 +1,9 @@
-pub mod Joined
-pub mod Kept
-pub mod Silences
-pub mod Edges
-pub mod Apart
-pub mod Shapes
-pub mod Words
-pub mod Passes
-pub mod Telling
+mod Joined
+mod Kept
+mod Silences
+mod Edges
+mod Apart
+mod Shapes
+mod Words
+mod Passes
+mod Telling

@@ -1,9 +1,9 @@
-pub mod AnswerLemmas
-pub mod GrammarLemmas
-pub mod LineLemmas
-pub mod NumberLemmas
-pub mod ParseLemmas
-pub mod PieceLemmas
-pub mod ReadLemmas
+mod AnswerLemmas
+mod GrammarLemmas
+mod LineLemmas
+mod NumberLemmas
+mod ParseLemmas
+mod PieceLemmas
+mod ReadLemmas
 mod Rows
-pub mod WriteLemmas
+mod WriteLemmas

@@ -1,10 +1,10 @@
-pub mod Loops
-pub mod TableLemmas
-pub mod ValueLemmas
-pub mod UnknownLemmas
-pub mod NameLemmas
-pub mod ReadLemmas
-pub mod PlanLemmas
-pub mod CheckLemmas
-pub mod FaultLemmas
+mod Loops
+mod TableLemmas
+mod ValueLemmas
+mod UnknownLemmas
+mod NameLemmas
+mod ReadLemmas
+mod PlanLemmas
+mod CheckLemmas
+mod FaultLemmas
 mod Rows

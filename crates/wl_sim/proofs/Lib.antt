@@ -1,2 +1,2 @@
 mod Rows
-pub mod Words
+mod Words
