@@ -21,7 +21,7 @@ none : {X : Type 0} (P : X → Type 0) → All P []
 none P k d b = absurd (omega arith)
 
 -- what holds of each number below n
-all_below : (P : ℕ → Type 0) (n : ℕ) → ((i : ℕ) → i < n → P i) → All P (range_with_len 0 n)
+pub all_below : (P : ℕ → Type 0) (n : ℕ) → ((i : ℕ) → i < n → P i) → All P (range_with_len 0 n)
 all_below P n each =
     All-from_get_or P (range_with_len 0 n) 0
     (λ i b. let c : i < n = subst (λ m. i < m) (length-range_with_len 0 n) b in subst P (sym (get_or-range_with_len 0 n i 0 c ∙ zero-add i)) (each i c))
