@@ -1,6 +1,6 @@
 -- Each tick that is not after this one counts, and the first that is after it ends the count.
 use Rattle.std.proofs.Common.{arith}
-use Rattle.wl_views.proofs.Turns.{reached, not_reached}
+use Rattle.wl_record_core.proofs.Callers.{reached, not_reached}
 use Rattle.wl_views.proofs.turned.count_until.Goals as goal
 
 pub loop-count-preserved : goal.loop-count-preserved

@@ -1,6 +1,6 @@
 -- The last tick of the guess is not after this one, so that all of them count.
 use Rattle.std.proofs.Common.{◌-◌, arith}
-use Rattle.wl_views.proofs.Turns.{reached}
+use Rattle.wl_record_core.proofs.Callers.{reached}
 use Rattle.wl_views.proofs.turned.sure.Goals as goal
 
 pub returns : goal.returns
