@@ -5,10 +5,10 @@ mod extremes;
 mod frames;
 mod laws;
 mod nodes;
-mod report;
 #[cfg(test)]
 mod tests;
+mod text;
 mod verdict;
 
 pub use laws::{clean_is_clean, extremes_are_extreme};
-pub use report::report;
+pub use text::report;

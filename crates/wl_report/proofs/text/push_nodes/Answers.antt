@@ -1,7 +1,7 @@
 use Rattle.std.proofs.Common.{◌∙◌, ◌++◌, ap, string_bytes}
 use Rattle.wl_report.specs.Report.{node_report_lines}
 use Rattle.wl_report.proofs.Numbered.{piece_more}
-use Rattle.wl_report.proofs.report.push_nodes.Goals as goal
+use Rattle.wl_report.proofs.text.push_nodes.Goals as goal
 
 pub loop-number-preserved : goal.loop-number-preserved
 loop-number-preserved c =
