@@ -110,9 +110,9 @@ impl World {
         if group as usize >= self.groups.len() || number >= self.emitted.len() as u64 {
             return Ok(Answer::Idle);
         }
-        let record = self.emitted[number as usize];
+        let entry = self.emitted[number as usize];
         let taker = &mut self.groups[group as usize];
-        taker.take(record)?;
+        taker.take(entry)?;
         Ok(Answer::Done)
     }
 

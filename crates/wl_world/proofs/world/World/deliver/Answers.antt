@@ -20,24 +20,24 @@ place c = omega arith
 old_is : (c : After-index_mut-taker) → slice_get c.self.inside.groups.items c.args.group ≡ Some c.index_mut-taker.result.now
 old_is c = slice_get_read c.self.inside.groups.items (length c.self.inside.groups.items) c.args.group c.index_mut-taker.result.now refl (place c) c.index_mut-taker.ensures.value
 
-record_is : (c : After-index_mut-taker) → slice_get c.self.inside.emitted.items c.args.number ≡ Some c.index-record.result.now
-record_is c = slice_get_read c.self.inside.emitted.items (length c.self.inside.emitted.items) c.args.number c.index-record.result.now refl (omega arith) c.index-record.ensures
+entry_is : (c : After-index_mut-taker) → slice_get c.self.inside.emitted.items c.args.number ≡ Some c.index-entry.result.now
+entry_is c = slice_get_read c.self.inside.emitted.items (length c.self.inside.emitted.items) c.args.number c.index-entry.result.now refl (omega arith) c.index-entry.ensures
 
 pub take-requires : goal.take-requires
 take-requires c =
     let a = (goal.at.take-requires c).After-index_mut-taker in
-    true_for c.headline.ensures c.checked_is_sound.ensures (value a) c.args.group c.args.number c.index_mut-taker.result.now c.index-record.result.now c.self.invariant (old_is a) (record_is a)
+    true_for c.headline.ensures c.checked_is_sound.ensures (value a) c.args.group c.args.number c.index_mut-taker.result.now c.index-entry.result.now c.self.invariant (old_is a) (entry_is a)
 
 pub invariant_of-self-2 : goal.invariant_of-self-2
 invariant_of-self-2 c =
     let a = (goal.at.invariant_of-self-2 c).After-index_mut-taker in
     world_stepped (value a) c.args.group c.index_mut-taker.result.now c.take.new.self c.self.inside.emitted.items (Deliver c.args.group c.args.number) Done c.self.invariant (place a) (old_is a)
     (ap (λ (g : GroupValue). g.plan) c.in_ok-take.ensures.ok) (ap has c.in_ok-take.ensures.ok)
-    (delivers (value a) c.args.group c.args.number c.index_mut-taker.result.now c.take.new.self c.index-record.result.now c.self.invariant.staffed (place a) (old_is a) (record_is a) c.in_ok-take.ensures.after)
+    (delivers (value a) c.args.group c.args.number c.index_mut-taker.result.now c.take.new.self c.index-entry.result.now c.self.invariant.staffed (place a) (old_is a) (entry_is a) c.in_ok-take.ensures.after)
 
 pub returns-clause-ok : goal.returns-clause-ok
 returns-clause-ok c =
     let a = (goal.at.returns-clause-ok c).After-index_mut-taker in
     subst (λ (u : WorldValue). HasStepped IsWorldAt (line_of u.plan) (cast_of u.numbers) (Deliver c.args.group c.args.number) u
     (world_value c.self.inside.plan c.self.inside.grouping (slice_set c.self.inside.groups.items c.args.group c.take.new.self) c.self.inside.emitted.items) Done) c.self.view_is
-    (delivers (value a) c.args.group c.args.number c.index_mut-taker.result.now c.take.new.self c.index-record.result.now c.self.invariant.staffed (place a) (old_is a) (record_is a) c.in_ok-take.ensures.after)
+    (delivers (value a) c.args.group c.args.number c.index_mut-taker.result.now c.take.new.self c.index-entry.result.now c.self.invariant.staffed (place a) (old_is a) (entry_is a) c.in_ok-take.ensures.after)
