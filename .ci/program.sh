@@ -2,6 +2,7 @@
 # Runs a built program of Wireline as a user would, and compares status, standard output and the fault's line, byte for byte.
 # usage: program.sh PROGRAM
 # - each plan of examples/ with the report beside it, and each of those plans through check, records and candump, which must accept it
+# - the explanation of each of them as bench/plain.py gives it, and of a plan with every doubt
 # - the log of one plan, as ticks of three lengths have it, and the waveform of one, as ticks of two have it
 # - each row of .ci/refused.txt: the status, the one line on standard error, and nothing on standard output
 # - command lines that name no task: status 2, and nothing on standard output
@@ -39,10 +40,14 @@ for report in examples/*.report; do
     "$program" "$word" < "examples/$name.toml" > "$room/out" 2> "$room/err"
     is "$word of $name" [ $? = 0 -a -s "$room/out" -a ! -s "$room/err" ]
   done
+  python3 bench/plain.py explain < "examples/$name.toml" > "$room/explained"
+  runs "explain of $name" "examples/$name.toml" 0 "$room/explained" "$room/none" explain
   "$program" candump < "examples/$name.toml" > "$room/out" 2> "$room/err"
   is "candump of $name" [ $? = 0 -a ! -s "$room/err" ]
   is "lines of candump of $name" [ "$(grep -c '^frame [0-9]* sent ' "$report")" = "$(wc -l < "$room/out")" ]
 done
+
+runs "explain of doubts" .ci/doubts.toml 0 .ci/doubts.explained "$room/none" explain
 
 # By hand, from the report and the clocks: the engine's quantum 2384 begins at tick 2384 * 125.625 = 299,490, and the dashboard's quantum 3475 at
 # tick 777 + 3475 * 124.375, rounded down, so 432,980.
@@ -86,6 +91,8 @@ runs
 run merge
 run --workers 0
 run --tick 1ns
+explain --tick 1ns
+explain run
 candump --tick
 candump --tick 1
 candump --tick 0ns
@@ -95,11 +102,11 @@ vcd --tick
 vcd --tick 1ms
 WORDS
 
-for word in merge horizon check records run candump vcd; do
+for word in merge horizon check records run explain candump vcd; do
   printf 'fault: Read\n' > "$room/fault"
   runs "$word of a reader that fails" / 3 "$room/none" "$room/fault" "$word"
 done
-for word in merge check; do
+for word in merge check explain; do
   input=examples/clean_500k.toml
   [ "$word" = merge ] && input=examples/records.txt
   printf 'fault: Write\n' > "$room/fault"

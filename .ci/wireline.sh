@@ -58,6 +58,8 @@ for word in frobnicate Run ''; do
   ends 2 $word
   is "the words '$word' are answered by the program" cmp -s "$room/err" "$room/wanted"
 done
+ends 0 explain .ci/doubts.toml
+is "an explanation" cmp -s "$room/out" .ci/doubts.explained
 ends 0 candump --tick 125ps "$plan"
 is "the option of candump" cmp -s "$room/out" <("$program" candump --tick 125ps < "$plan")
 ends 0 candump "$plan" --tick=1us

@@ -1,5 +1,5 @@
 #!/usr/bin/env python3
-"""Compares a program with plain.py on random inputs: standard output, the fault line and the status of all five commands.
+"""Compares a program with plain.py on random inputs: standard output, the fault line and the status of all commands but candump and vcd.
 
 usage: differ.py PROGRAM [SEED [COUNT]]     the same numbers give the same inputs; PROGRAM - runs plain.py alone
 
@@ -460,7 +460,7 @@ def main():
         rng = random.Random(f"{seed} {number}")
         records = rng.random() < 0.25
         text = record_input(rng) if records else plan_input(rng)
-        for command in ("merge", "horizon") if records else ("check", "records", "run"):
+        for command in ("merge", "horizon") if records else ("check", "records", "run", "explain"):
             out, fault, status = plain.answer(command, text)
             faults[re.sub(r"\b[0-9]+\b", "n", fault[7:-1])] += 1
             if program == "-": continue

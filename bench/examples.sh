@@ -1,5 +1,5 @@
 #!/usr/bin/env bash
-# Runs a program on every example and compares its report with the one beside the plan; its check and its records with those of plain.py.
+# Runs a program on every example and compares its report with the one beside the plan; its check, its records and its explanation with those of plain.py.
 # usage: bench/examples.sh [PROGRAM]      PROGRAM is the built wl_sim, or bench/plain.py; status 1 where something differs, by name
 set -euo pipefail
 here=$(cd "$(dirname "$0")" && pwd)
@@ -18,7 +18,7 @@ for report in "$here"/../examples/*.report; do
   plan=${report%.report}.toml
   name=$(basename "$report" .report)
   compare "$name" run "$plan" "$report"
-  for command in check records; do
+  for command in check records explain; do
     python3 "$here/plain.py" "$command" < "$plan" > "$said/$command"
     compare "$name" "$command" "$plan" "$said/$command"
   done

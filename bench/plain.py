@@ -1,7 +1,7 @@
 #!/usr/bin/env python3
 """Wireline in plain Python: what the proved program is compared with.
 
-usage: plain.py merge|horizon|check|records|run      standard input to standard output
+usage: plain.py merge|horizon|check|records|run|explain      standard input to standard output
 
 This is a second program, written from the rules and not from the proved one: whole lists, one quantum after another, no cleverness.
 Where both answer the same bytes on many inputs, a mistake would have to be in both. It shares no line with the proved program.
@@ -14,6 +14,7 @@ import re
 import sys
 import tomllib
 from bisect import bisect_left, bisect_right
+from fractions import Fraction
 from heapq import heapify, heapreplace
 from typing import NamedTuple
 
@@ -752,12 +753,72 @@ def report_text(plan):
     return lines + [f"verdict faulty errors {errors} unsent {unsent}" if errors or unsent else "verdict clean"]
 
 
+def pair_doubts(plan, i, j, quanta):
+    """What is doubtful of nodes i < j, whose mean quanta are known."""
+    one, other = plan.nodes[i], plan.nodes[j]
+    bits = sorted(node.segments.bit_quanta() * quantum for node, quantum in ((one, quanta[i]), (other, quanta[j])))
+    apart, borne = int((bits[1] - bits[0]) / bits[0] * 1_000_000), 2 * min(one.segments.greatest_ppm(), other.segments.greatest_ppm())
+    if apart > 222_222:
+        rates = [thousandths(10**9 / (node.segments.bit_quanta() * quantum)) for node, quantum in ((one, quanta[i]), (other, quanta[j]))]
+        yield f"doubt: {one.name} and {other.name} have unlike bit rates, {rates[0]} and {rates[1]} kbit/s"
+    elif apart > borne:
+        yield f"doubt: the clocks of {one.name} and {other.name} are {apart} ppm apart, and their segments bear {borne}"
+    trip, room = plan.delay(i, j) + plan.delay(j, i), min(int((plan.nodes[k].segments.sample_at() - 1) * quanta[k]) for k in (i, j))
+    if trip > room:
+        yield f"doubt: {one.name} to {other.name} and back takes {trip} ticks, and the earlier sample leaves {room}"
+
+
+def node_doubts(plan, node, idle):
+    if node.segments.sjw > node.segments.ps2:
+        yield f"doubt: {node.name} has a jump width of {node.segments.sjw} quanta, above its PHASE_SEG2 of {node.segments.ps2}"
+    ticks = [node.clock.at(waiting.ready) for waiting in node.queue]
+    for number in [n for n, tick in enumerate(ticks) if tick >= plan.end][:1]:
+        yield f"doubt: frame {number} of {node.name} becomes ready at the end or later"
+    for number in [n for n, tick in enumerate(ticks) if tick < idle][:1]:
+        yield f"doubt: frame {number} of {node.name} becomes ready before tick {idle}, from which on all nodes can be idle"
+
+
+def thousandths(number):
+    whole, part = divmod(int(number), 1000)
+    return f"{whole}.{part:03}"
+
+
+def figures(plan, i, quanta):
+    """The line of node i. A way there and back and a quantum have to be over by the sample; a tick is taken for a nanosecond."""
+    node, quantum = plan.nodes[i], quanta[i]
+    segments, bit = node.segments, node.segments.bit_quanta() * quantum
+    point = 10_000 * segments.sample_at() // segments.bit_quanta()
+    left = 2 * segments.greatest_ppm()
+    for other, each in zip(plan.nodes, quanta):
+        bits = sorted((bit, other.segments.bit_quanta() * each))
+        borne = 2 * min(segments.greatest_ppm(), other.segments.greatest_ppm())
+        left = min(left, max(0, borne - int((bits[1] - bits[0]) / bits[0] * 1_000_000)))
+    cable = int((segments.sample_at() - 1) * quantum / 2) - plan.delay(i, i)
+    return (f"node {node.name}: {thousandths(10**9 / bit)} kbit/s, sample point {point // 100}.{point % 100:02} %, quantum "
+            f"{thousandths(1000 * quantum)} ns, tolerance {segments.greatest_ppm()} ppm, left {left // 2} ppm, cable "
+            f"{f'{cable} ns' if cable >= 0 else 'none'}")
+
+
+def explain_text(plan):
+    nodes = range(len(plan.nodes))
+    quanta = [Fraction(node.clock.at(1_000_000) - node.clock.at(0), 1_000_000) for node in plan.nodes]
+    lines = [line for j in nodes for i in range(j) for line in pair_doubts(plan, i, j, quanta)]
+    idle = max(node.clock.at(11 * node.segments.bit_quanta()) for node in plan.nodes)
+    lines += [line for node in plan.nodes for line in node_doubts(plan, node, idle)]
+    bits = 11 + sum((67 if waiting.frame.extended else 47) + 8 * len(waiting.frame.data) for node in plan.nodes for waiting in node.queue)
+    first = plan.nodes[0]
+    if first.clock.at(bits * first.segments.bit_quanta()) > plan.end:
+        lines.append(f"doubt: 11 bits and the frames of all nodes take {bits} bits of {first.name}, beyond the end")
+    return lines + [figures(plan, i, quanta) for i in nodes]
+
+
 COMMANDS = {
     "merge": lambda text: merge_text(read_records(text)),
     "horizon": lambda text: horizon_text(read_records(text)),
     "check": lambda text: check_text(read_plan(text)),
     "records": lambda text: records_text(read_plan(text)),
     "run": lambda text: report_text(read_plan(text)),
+    "explain": lambda text: explain_text(read_plan(text)),
 }
 
 

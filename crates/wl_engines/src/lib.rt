@@ -4,10 +4,11 @@
 //! other what that replica knows of each node, and up to when. `check_run`, `records_run` and `plan_run` read a plan text: the first
 //! writes what the bit segments allow and how long the cable takes, the second the records of the plan's simulation, the third its
 //! report. `candump_run` and `vcd_run` read a plan text too: the one writes the log of the frames that were sent, the other the
-//! waveform.
+//! waveform. `explain_run` writes what is doubtful of a plan, and the figures of its nodes.
 #![tactic(auto)]
 
 mod check;
+mod explain;
 mod fault;
 mod gather;
 mod horizon;
@@ -20,6 +21,7 @@ mod tests;
 mod views;
 
 pub use check::check_run;
+pub use explain::explain_run;
 pub use fault::RunFault;
 pub use horizon::horizon_run;
 pub use laws::merges_as_one;

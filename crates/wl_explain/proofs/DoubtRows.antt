@@ -6,7 +6,7 @@ use Rattle.wl_frame.specs.Grammar.{Content}
 use Rattle.wl_node.specs.declared.setup.NodeSetup.{NodeSetup}
 use Rattle.wl_explain.specs.Doubts.{frame_bits, difference, borne, longest_round, idle_at, begins_before}
 
-abbrev node : ℕ → ℕ → NodeSetup
+abbrev pub node : ℕ → ℕ → NodeSetup
 node offset num = record {
   clock = record { offset = offset; rates = record { from = 0; num = num; den = 1000 } ∷ [] };
   segments = record { prop = 8; ps1 = 4; ps2 = 3; sjw = 2; sync = After };

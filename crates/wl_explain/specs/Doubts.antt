@@ -23,18 +23,18 @@ difference s u = 1000000 * abs_diff (bit_length s) (bit_length u) / min (bit_len
 abbrev pub borne : NodeSetup → NodeSetup → ℕ
 borne s u = 2 * min (tolerance s.segments) (tolerance u.segments)
 
--- clocks of one nominal bit rate that differ by more than this are refused: each deviates by a tenth at most
-abbrev pub unlike : ℕ
-unlike = 222222
+-- by how many parts per million clocks of one nominal bit rate can differ: each deviates by a tenth at most
+abbrev pub greatest_difference : ℕ
+greatest_difference = 222222
 
 -- what the clocks of all others leave of what the clocks of node i and each of them may differ by
-abbrev pub left_below : Plan → ℕ → ℕ → ℕ
-left_below plan i zero = 2 * tolerance (setup_at plan i).segments
-left_below plan i (suc j) =
-    min (left_below plan i j) (borne (setup_at plan i) (setup_at plan j) - difference (setup_at plan i) (setup_at plan j))
+abbrev pub margin_below : Plan → ℕ → ℕ → ℕ
+margin_below plan i zero = 2 * tolerance (setup_at plan i).segments
+margin_below plan i (suc j) =
+    min (margin_below plan i j) (borne (setup_at plan i) (setup_at plan j) - difference (setup_at plan i) (setup_at plan j))
 
 abbrev pub left : Plan → ℕ → ℕ
-left plan i = left_below plan i (length plan.topology.places)
+left plan i = margin_below plan i (length plan.topology.places)
 
 -- from node i to node j and back, in ticks
 abbrev pub round_trip : Plan → ℕ → ℕ → ℕ

@@ -11,7 +11,7 @@ use wl_node::NodeSetup;
 use wl_plan::Plan;
 
 /// Node `i` of a plan.
-fn setup(plan: &Plan, i: u8) -> &NodeSetup
+pub(crate) fn setup(plan: &Plan, i: u8) -> &NodeSetup
     requires { i < length plan.now.nodes }
     ensures { result.now ≡ setup_at plan.now i }
 {

@@ -1,5 +1,5 @@
 //! What an engineer reads off a plan's settings: the length of a quantum, the bit rate, the sample point, how far a level may go and
-//! still be back at the sample, and what is doubtful of a plan that can be run.
+//! still be back at the sample, and what is doubtful of a plan that can be run; and the text that says all of it.
 //!
 //! A tick is taken for a nanosecond. The rules are those of Bosch CAN 2.0 part B, section 10; that a level is seen up to a quantum
 //! after it came is this project's profile. The tolerance of an oscillator is `Segments::greatest_ppm`.
@@ -9,6 +9,7 @@ ghost use Rattle.std.specs.Prelude.{◌≡◌, ℕ, ◌+◌, ◌*◌, ◌<◌, �
 ghost use Rattle.wl_explain.specs.Figures.{Ratio, IsQuantum, quantum_of, picoseconds, bits_per_second, sample_point, ComesBack, furthest_way, longest_cable, longest_trip, mean_quantum, tolerance};
 
 mod doubts;
+mod words;
 
 pub use doubts::{
     borne, difference, first_early, first_late, has_no_room, idle_from, left, longest_round,
@@ -17,6 +18,7 @@ pub use doubts::{
 use std::marker::Model;
 use wl_clock::Clock;
 use wl_segments::Segments;
+pub use words::explain_plan;
 
 /// The most ticks that a quantum may take.
 const LONGEST_QUANTUM: u64 = 1_048_576;

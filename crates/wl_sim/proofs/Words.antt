@@ -20,7 +20,7 @@ use Rattle.wl_sim.specs.Tasks.{Does, EndsTask, EndsRefused, ReadsTask}
 use Rattle.wl_sim.specs.declared.command.Refusal.{Refusal}
 use Rattle.wl_sim.specs.declared.command.Refusal.TheVariants.{Words, Memory}
 use Rattle.wl_sim.specs.declared.command.Task.{Task}
-use Rattle.wl_sim.specs.declared.command.Task.TheVariants.{Merge, Horizon, Check, Records, Run, Candump, Vcd}
+use Rattle.wl_sim.specs.declared.command.Task.TheVariants.{Merge, Horizon, Check, Records, Run, Explain, Candump, Vcd}
 
 pub program_is_simple : is_simple program ≡ true
 unfolding clap_on_literals
@@ -38,6 +38,7 @@ word_enters Horizon name h = (refl, tt, refl)
 word_enters Check name h = (refl, tt, refl)
 word_enters Records name h = (refl, tt, refl)
 word_enters Run name h = (refl, tt, refl)
+word_enters Explain name h = (refl, tt, refl)
 word_enters (Candump tick) name h = (refl, h, refl)
 word_enters (Vcd tick) name h = (refl, h, refl)
 
@@ -68,7 +69,7 @@ tick_text f = ap (option_and_then read_tick) (sym (first_value-rows f (codes "ti
 task_by : Tick → ℕ → Task
 task_by tick n =
     if n == 119 then Merge else (if n == 118 then Horizon else (if n == 109 then Check else (if n == 128 then Records else
-    (if n == 113 then Candump tick else (if n == 124 then Vcd tick else Run)))))
+    (if n == 115 then Explain else (if n == 113 then Candump tick else (if n == 124 then Vcd tick else Run))))))
 
 task_at : Option Tick → Option Text → Task
 task_at given None = Run
@@ -81,6 +82,7 @@ task_at_word given Horizon h = refl
 task_at_word given Check h = refl
 task_at_word given Records h = refl
 task_at_word given Run h = refl
+task_at_word given Explain h = refl
 task_at_word given (Candump tick) h = ap (λ o. Candump (unwrap_or o nanosecond)) h
 task_at_word given (Vcd tick) h = ap (λ o. Vcd (unwrap_or o nanosecond)) h
 
@@ -98,6 +100,7 @@ module _ {S T : Type 0} (gives : S → Answer → S → Type 0) (takes : T → A
   does_nothing s s' t t' Check h = h
   does_nothing s s' t t' Records h = h
   does_nothing s s' t t' Run h = h
+  does_nothing s s' t t' Explain h = h
   does_nothing s s' t t' (Candump tick) h = h
   does_nothing s s' t t' (Vcd tick) h = h
 

@@ -3,7 +3,7 @@ use Rattle.std.specs.Prelude.{◌≡◌, true, List, [], ◌∷◌, codes, Optio
 use Rattle.clap.specs.Words.{App, Row, Rule, Text, first_of, new_app, new_rule, with_rule, with_subcommand, subcommand_of, fault_of}
 use Rattle.clap.specs.Simple.{on_top}
 use Rattle.wl_sim.specs.declared.command.Task.{Task}
-use Rattle.wl_sim.specs.declared.command.Task.TheVariants.{Merge, Horizon, Check, Records, Run, Candump, Vcd}
+use Rattle.wl_sim.specs.declared.command.Task.TheVariants.{Merge, Horizon, Check, Records, Run, Explain, Candump, Vcd}
 use Rattle.wl_views.specs.declared.tick.Tick.{Tick}
 use Rattle.wl_views.specs.declared.tick.TimeUnit.TheVariants.{Nanosecond}
 use Rattle.wl_views.specs.Ticks.{read_tick}
@@ -15,6 +15,7 @@ task_word Horizon = codes "horizon"
 task_word Check = codes "check"
 task_word Records = codes "records"
 task_word Run = codes "run"
+task_word Explain = codes "explain"
 task_word (Candump tick) = codes "candump"
 task_word (Vcd tick) = codes "vcd"
 
@@ -33,9 +34,9 @@ timed word = with_rule (new_app word) tick_rule
 -- the command line of the tasks without a tick: one of the tasks has to be named
 abbrev pub untimed_program : App
 untimed_program =
-    with_task (with_task (with_task (with_task (with_task
+    with_task (with_task (with_task (with_task (with_task (with_task
     (on_top (λ s. record s { subcommand_required = true }) (new_app (codes "wl_sim")))
-    Merge) Horizon) Check) Records) Run
+    Merge) Horizon) Check) Records) Run) Explain
 
 -- the program's command line: after those, the tasks with one
 abbrev pub program : App
@@ -62,6 +63,7 @@ HasTick given Horizon = Unit {0}
 HasTick given Check = Unit {0}
 HasTick given Records = Unit {0}
 HasTick given Run = Unit {0}
+HasTick given Explain = Unit {0}
 
 -- clap enters the task's subcommand at these words, with the task's tick where it has one, and finds no fault in them
 abbrev pub Enters : Task → List Text → Type 0

@@ -4,6 +4,7 @@ use Rattle.clap.specs.Words.{Text}
 use Rattle.wl_device.specs.Devices.{Answer}
 use Rattle.wl_setup.specs.Check.{IsPlanCheck}
 use Rattle.wl_engines.specs.declared.fault.RunFault.{RunFault}
+use Rattle.wl_engines.specs.Explained.{IsExplainOutput}
 use Rattle.wl_engines.specs.Faults.{is_refusal}
 use Rattle.wl_engines.specs.Horizon.{TellsHorizons}
 use Rattle.wl_engines.specs.Merge.{Merges}
@@ -11,7 +12,7 @@ use Rattle.wl_engines.specs.Plans.{RunsPlan, IsRecordsOutput, IsRunOutput, IsCan
 use Rattle.wl_sim.specs.declared.command.Refusal.{Refusal}
 use Rattle.wl_sim.specs.declared.command.Refusal.TheVariants.{Words, Memory}
 use Rattle.wl_sim.specs.declared.command.Task.{Task}
-use Rattle.wl_sim.specs.declared.command.Task.TheVariants.{Merge, Horizon, Check, Records, Run, Candump, Vcd}
+use Rattle.wl_sim.specs.declared.command.Task.TheVariants.{Merge, Horizon, Check, Records, Run, Explain, Candump, Vcd}
 use Rattle.wl_sim.specs.CommandLine.{Enters}
 
 -- the status of a run: 0, 1 where the input was refused for what it says, 3 when out of memory or for a fault of reading or writing
@@ -38,6 +39,7 @@ module _ {S T : Type 0} (gives : S → Answer → S → Type 0) (takes : T → A
   Does Check r = RunsPlan gives takes IsPlanCheck s s' t t' r
   Does Records r = RunsPlan gives takes IsRecordsOutput s s' t t' r
   Does Run r = RunsPlan gives takes IsRunOutput s s' t t' r
+  Does Explain r = RunsPlan gives takes IsExplainOutput s s' t t' r
   Does (Candump tick) r = RunsPlan gives takes (IsCandumpOutput tick) s s' t t' r
   Does (Vcd tick) r = RunsPlan gives takes (IsVcdOutput tick) s s' t t' r
 

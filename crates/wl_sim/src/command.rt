@@ -25,6 +25,8 @@ pub enum Task {
     Records,
     /// The report of a plan's simulation.
     Run,
+    /// What is doubtful of a plan, and the figures of its nodes.
+    Explain,
     /// The log of the frames that a plan's simulation sends, at ticks that take so long.
     Candump(Tick),
     /// The waveform of a plan's simulation, at ticks that take so long.
@@ -81,6 +83,9 @@ fn untimed<'a>(alloc: Global) -> Result<Command<'a>, AllocError>
     let run = Command::new(alloc, "run").about(
         "Simulates the plan, and writes the report of its nodes and frames",
     );
+    let explain = Command::new(alloc, "explain").about(
+        "Tests the plan, and writes what is doubtful of it and the figures of its nodes",
+    );
     let all = Command::new(alloc, "wl_sim")
         .about("Simulates CAN 2.0 buses at the level of time quanta")
         .subcommand_required(true)
@@ -88,7 +93,8 @@ fn untimed<'a>(alloc: Global) -> Result<Command<'a>, AllocError>
         .subcommand(horizon)?
         .subcommand(check)?
         .subcommand(records)?
-        .subcommand(run)?;
+        .subcommand(run)?
+        .subcommand(explain)?;
     Ok(all)
 }
 
@@ -142,6 +148,7 @@ fn task_named(name: Option<&str>, tick: Option<Tick>) -> Option<Task>
         "check" => Some(Task::Check),
         "records" => Some(Task::Records),
         "run" => Some(Task::Run),
+        "explain" => Some(Task::Explain),
         "candump" => Some(Task::Candump(tick?)),
         "vcd" => Some(Task::Vcd(tick?)),
         _ => None,
@@ -204,12 +211,13 @@ mod tests {
     use wl_views::{Tick, TimeUnit};
 
     /// Words after the program's name, and what they name.
-    const ROWS: [(&str, Option<Task>); 10] = [
+    const ROWS: [(&str, Option<Task>); 11] = [
         ("merge", Some(Task::Merge)),
         ("horizon", Some(Task::Horizon)),
         ("check", Some(Task::Check)),
         ("records", Some(Task::Records)),
         ("run", Some(Task::Run)),
+        ("explain", Some(Task::Explain)),
         ("", None),
         ("Merge", None),
         ("runs", None),

@@ -5,6 +5,7 @@
 //! other what that replica tells of each node, and up to when. `check`, `records` and `run` read a plan text: the first writes what
 //! the bit segments allow and how long the cable takes, the second the records of the plan's simulation, the third its report.
 //! `candump` and `vcd` read a plan text too: the one writes the frames that were sent as can-utils logs them, the other the waveform.
+//! `explain` writes what is doubtful of a plan, and the figures of its nodes.
 #![tactic(auto)]
 
 ghost use Rattle.std.specs.Prelude.{◌≡◌, ◌≢◌, map, string_bytes, IfOk, IfErr};
@@ -24,8 +25,8 @@ mod command;
 
 pub use command::{Refusal, Task};
 pub use wl_engines::{
-    RunFault, candump_run, check_run, horizon_run, merge_run, merges_as_one, plan_run, records_run,
-    vcd_run,
+    RunFault, candump_run, check_run, explain_run, horizon_run, merge_run, merges_as_one, plan_run,
+    records_run, vcd_run,
 };
 
 /// The statuses that the program ends with beside 0.
@@ -102,6 +103,7 @@ fn run<R: Source, W: Sink>(
         Task::Check => check_run(alloc, reader, writer),
         Task::Records => records_run(alloc, reader, writer),
         Task::Run => plan_run(alloc, reader, writer),
+        Task::Explain => explain_run(alloc, reader, writer),
         Task::Candump(tick) => candump_run(alloc, tick, reader, writer),
         Task::Vcd(tick) => vcd_run(alloc, tick, reader, writer),
     }

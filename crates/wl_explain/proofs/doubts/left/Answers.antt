@@ -1,6 +1,6 @@
 use Rattle.std.proofs.Common.{◌∙◌, ◌+◌, ◌-◌, ap, ap₂, ℕ, suc, min, arith}
 use Rattle.wl_plan.specs.declared.plan.Plan.{Plan}
-use Rattle.wl_explain.specs.Doubts.{borne, difference, left_below}
+use Rattle.wl_explain.specs.Doubts.{borne, difference, margin_below}
 use Rattle.wl_explain.proofs.doubts.left.Goals as goal
 
 pub loop-j-preserved : goal.loop-j-preserved
@@ -12,4 +12,4 @@ loop-j-preserved c =
     ∙ ap₂ min c.loop-j.invariant (c.saturating_sub.ensures
     ∙ ap₂ (λ (a b : ℕ). a - b) (c.borne.ensures ∙ ap₂ borne c.setup-node.ensures c.setup-other.ensures)
     (c.difference.ensures ∙ ap₂ difference c.setup-node.ensures c.setup-other.ensures))
-    ∙ ap (left_below plan i) {x = suc j} {y = j + 1} (omega arith)
+    ∙ ap (margin_below plan i) {x = suc j} {y = j + 1} (omega arith)

@@ -21,9 +21,11 @@ returns c =
     let check = ap app_of_fields c.about-check.ensures ∙ c.new-3.ensures.app in
     let records = ap app_of_fields c.about-records.ensures ∙ c.new-4.ensures.app in
     let run = ap app_of_fields c.about-run.ensures ∙ c.new-5.ensures.app in
-    let all = ap app_of_fields c.subcommand_required.ensures ∙ ap wants_one (ap app_of_fields c.about.ensures ∙ c.new-6.ensures.app) in
+    let explain = ap app_of_fields c.about-explain.ensures ∙ c.new-6.ensures.app in
+    let all = ap app_of_fields c.subcommand_required.ensures ∙ ap wants_one (ap app_of_fields c.about.ensures ∙ c.new-7.ensures.app) in
     let one = c.in_ok-subcommand.ensures.shape (ap is_global c.about-merge.ensures ∙ c.new.ensures.local) ∙ ap₂ with_subcommand all (ap top_of merge) in
     let two = c.in_ok-subcommand-2.ensures.shape (ap is_global c.about-horizon.ensures ∙ c.new-2.ensures.local) ∙ ap₂ with_subcommand one (ap top_of horizon) in
     let three = c.in_ok-subcommand-3.ensures.shape (ap is_global c.about-check.ensures ∙ c.new-3.ensures.local) ∙ ap₂ with_subcommand two (ap top_of check) in
     let four = c.in_ok-subcommand-4.ensures.shape (ap is_global c.about-records.ensures ∙ c.new-4.ensures.local) ∙ ap₂ with_subcommand three (ap top_of records) in
-    c.in_ok-all.ensures.shape (ap is_global c.about-run.ensures ∙ c.new-5.ensures.local) ∙ ap₂ with_subcommand four (ap top_of run)
+    let five = c.in_ok-subcommand-5.ensures.shape (ap is_global c.about-run.ensures ∙ c.new-5.ensures.local) ∙ ap₂ with_subcommand four (ap top_of run) in
+    c.in_ok-all.ensures.shape (ap is_global c.about-explain.ensures ∙ c.new-6.ensures.local) ∙ ap₂ with_subcommand five (ap top_of explain)

@@ -1,0 +1,400 @@
+//! The text of an explanation.
+ghost use Rattle.std.specs.Prelude.{◌≡◌, ◌<◌, ◌++◌, string_bytes, length, OnOk, IfOk};
+ghost use Rattle.wl_plan.specs.Checked.{IsChecked};
+ghost use Rattle.wl_setup.specs.Check.{name_of};
+ghost use Rattle.wl_explain.specs.Words.{apart_words, bit_rate, cable_figure, cable_words, clocks_line, doubts_with, each_below, early_line, explain_text, figures_line, jump_line, jump_words, late_line, margin_figures, margin_words, node_doubts, pair_doubts, room_line, room_words, timing_figures, timing_words, trip_line, trip_words, unlike_words};
+
+use crate::doubts::{
+    borne, difference, first_early, first_late, has_no_room, idle_from, left, longest_round,
+    round_trip, setup, wanted_bits,
+};
+use crate::{Quantum, longest_cable, sample_point, tolerance};
+use std::alloc::{AllocError, Global};
+use std::fmt;
+use wl_node::NodeSetup;
+use wl_plan::Plan;
+use wl_segments::Segments;
+use wl_setup::Names;
+
+/// By how many parts per million clocks of one nominal bit rate can differ: each deviates by a tenth at most.
+const GREATEST_DIFFERENCE: u128 = 222_222;
+
+/// The name of node `i`, empty where it has none.
+fn name_of(names: &Names, i: u8) -> &str
+    ensures { result.now ≡ name_of names.now i }
+{
+    names.name(i as usize).unwrap_or("")
+}
+
+/// A number of thousandths, shown with a point.
+#[derive(Clone, Copy)]
+struct Thousandths(u64);
+
+impl fmt::Display for Thousandths {
+    ghost use Rattle.std.specs.Prelude.{Some};
+    ghost use Rattle.wl_explain.specs.Words.{thousandths};
+
+    ghost output = { λ n. Some (thousandths n.0) };
+
+    fn fmt<W: fmt::Write>(&self, f: &mut fmt::Formatter<W>) -> fmt::Result {
+        let number = self.0;
+        let whole = number / 1000;
+        let tenth = number / 100 % 10;
+        let hundredth = number / 10 % 10;
+        let thousandth = number % 10;
+        write!(f, "{whole}.{tenth}{hundredth}{thousandth}")
+    }
+}
+
+/// A number of hundredths, shown with a point.
+#[derive(Clone, Copy)]
+struct Hundredths(u64);
+
+impl fmt::Display for Hundredths {
+    ghost use Rattle.std.specs.Prelude.{Some};
+    ghost use Rattle.wl_explain.specs.Words.{hundredths};
+
+    ghost output = { λ n. Some (hundredths n.0) };
+
+    fn fmt<W: fmt::Write>(&self, f: &mut fmt::Formatter<W>) -> fmt::Result {
+        let number = self.0;
+        let whole = number / 100;
+        let tenth = number / 10 % 10;
+        let hundredth = number % 10;
+        write!(f, "{whole}.{tenth}{hundredth}")
+    }
+}
+
+/// The bit rate of a node in bit/s.
+fn bit_rate(node: &NodeSetup) -> u64
+    ensures { result ≡ bit_rate node.now }
+{
+    Quantum::of_clock(&node.clock).bits_per_second(&node.segments)
+}
+
+/// Adds the line of two nodes with unlike bit rates.
+fn push_unlike(text: &mut String, a: &str, b: &str, one: u64, other: u64) -> Result<(), AllocError>
+    ensures { OnOk result (string_bytes text.new ≡ string_bytes text.old ++ unlike_words a.now b.now one other) }
+{
+    let one = Thousandths(one);
+    let other = Thousandths(other);
+    writeln!(
+        text,
+        "doubt: {a} and {b} have unlike bit rates, {one} and {other} kbit/s"
+    )
+}
+
+/// Adds the line of two nodes whose clocks are too far apart.
+fn push_apart(
+    text: &mut String,
+    a: &str,
+    b: &str,
+    apart: u128,
+    most: u128,
+) -> Result<(), AllocError>
+    ensures { OnOk result (string_bytes text.new ≡ string_bytes text.old ++ apart_words a.now b.now apart most) }
+{
+    writeln!(
+        text,
+        "doubt: the clocks of {a} and {b} are {apart} ppm apart, and their segments bear {most}"
+    )
+}
+
+/// Adds what is doubtful of the clocks of two nodes.
+fn push_clocks(
+    text: &mut String,
+    a: &str,
+    b: &str,
+    one: &NodeSetup,
+    other: &NodeSetup,
+) -> Result<(), AllocError>
+    ensures { OnOk result (string_bytes text.new ≡ string_bytes text.old ++ clocks_line a.now b.now one.now other.now) }
+{
+    let apart = difference(one, other);
+    let most = borne(one, other);
+    if apart > GREATEST_DIFFERENCE {
+        push_unlike(text, a, b, bit_rate(one), bit_rate(other))
+    } else if apart > most {
+        push_apart(text, a, b, apart, most)
+    } else {
+        Ok(())
+    }
+}
+
+/// Adds the line of two nodes between which a level takes too long.
+fn push_trip_words(
+    text: &mut String,
+    a: &str,
+    b: &str,
+    trip: u64,
+    most: u64,
+) -> Result<(), AllocError>
+    ensures { OnOk result (string_bytes text.new ≡ string_bytes text.old ++ trip_words a.now b.now trip most) }
+{
+    writeln!(
+        text,
+        "doubt: {a} to {b} and back takes {trip} ticks, and the earlier sample leaves {most}"
+    )
+}
+
+/// Adds what is doubtful of the way between two nodes.
+fn push_trip(text: &mut String, a: &str, b: &str, trip: u64, most: u64) -> Result<(), AllocError>
+    ensures { OnOk result (string_bytes text.new ≡ string_bytes text.old ++ trip_line a.now b.now trip most) }
+{
+    if trip > most {
+        push_trip_words(text, a, b, trip, most)
+    } else {
+        Ok(())
+    }
+}
+
+/// Adds what is doubtful of nodes `i` and `j`.
+fn push_pair(text: &mut String, plan: &Plan, names: &Names, i: u8, j: u8) -> Result<(), AllocError>
+    requires checked { IsChecked plan.now }
+    requires first { i < length plan.now.nodes }
+    requires second { j < length plan.now.nodes }
+    ensures { OnOk result (string_bytes text.new ≡ string_bytes text.old ++ pair_doubts plan.now names.now i j) }
+{
+    let (one, other) = (setup(plan, i), setup(plan, j));
+    let (a, b) = (name_of(names, i), name_of(names, j));
+    push_clocks(text, a, b, one, other)?;
+    push_trip(
+        text,
+        a,
+        b,
+        round_trip(plan, i, j),
+        longest_round(one, other),
+    )
+}
+
+/// Adds what is doubtful of node `j` with each node before it.
+fn push_pairs_of(text: &mut String, plan: &Plan, names: &Names, j: u8) -> Result<(), AllocError>
+    requires checked { IsChecked plan.now }
+    requires second { j < length plan.now.nodes }
+    ensures { OnOk result (string_bytes text.new ≡ string_bytes text.old ++ doubts_with plan.now names.now j) }
+{
+    for i in 0..j {
+        push_pair(text, plan, names, i, j)?;
+    }
+    Ok(())
+}
+
+/// Adds what is doubtful of all pairs of nodes.
+fn push_pairs(text: &mut String, plan: &Plan, names: &Names) -> Result<(), AllocError>
+    requires { IsChecked plan.now }
+    ensures { OnOk result (string_bytes text.new ≡ string_bytes text.old
+        ++ each_below (doubts_with plan.now names.now) (length plan.now.topology.places)) }
+{
+    for j in 0..plan.topology.nodes() {
+        push_pairs_of(text, plan, names, j)?;
+    }
+    Ok(())
+}
+
+/// Adds the line of a jump width above PHASE_SEG2.
+fn push_jump_words(text: &mut String, a: &str, jump: u64, phase: u64) -> Result<(), AllocError>
+    ensures { OnOk result (string_bytes text.new ≡ string_bytes text.old ++ jump_words a.now jump phase) }
+{
+    writeln!(
+        text,
+        "doubt: {a} has a jump width of {jump} quanta, above its PHASE_SEG2 of {phase}"
+    )
+}
+
+/// Adds what is doubtful of a node's jump width.
+fn push_jump(text: &mut String, a: &str, segments: &Segments) -> Result<(), AllocError>
+    ensures { OnOk result (string_bytes text.new ≡ string_bytes text.old ++ jump_line a.now segments.now) }
+{
+    let jump = segments.sjw();
+    let phase = segments.ps2();
+    if jump > phase {
+        push_jump_words(text, a, jump, phase)
+    } else {
+        Ok(())
+    }
+}
+
+/// Adds the line of the first frame that becomes ready too late.
+fn push_late(text: &mut String, a: &str, frame: Option<usize>) -> Result<(), AllocError>
+    ensures { OnOk result (string_bytes text.new ≡ string_bytes text.old ++ late_line a.now frame) }
+{
+    match frame {
+        Some(n) => writeln!(
+            text,
+            "doubt: frame {n} of {a} becomes ready at the end or later"
+        ),
+        None => Ok(()),
+    }
+}
+
+/// Adds the line of the first frame that becomes ready too early.
+fn push_early(text: &mut String, a: &str, idle: u64, frame: Option<usize>) -> Result<(), AllocError>
+    ensures { OnOk result (string_bytes text.new ≡ string_bytes text.old ++ early_line a.now idle frame) }
+{
+    match frame {
+        Some(n) => writeln!(
+            text,
+            "doubt: frame {n} of {a} becomes ready before tick {idle}, from which on all nodes can be idle"
+        ),
+        None => Ok(()),
+    }
+}
+
+/// Adds what is doubtful of node `i`.
+fn push_node(text: &mut String, plan: &Plan, names: &Names, i: u8) -> Result<(), AllocError>
+    requires checked { IsChecked plan.now }
+    requires node { i < length plan.now.nodes }
+    ensures { OnOk result (string_bytes text.new ≡ string_bytes text.old ++ node_doubts plan.now names.now i) }
+{
+    let (node, name) = (setup(plan, i), name_of(names, i));
+    let idle = idle_from(plan);
+    push_jump(text, name, &node.segments)?;
+    push_late(text, name, first_late(plan.end, node))?;
+    push_early(text, name, idle, first_early(idle, node))
+}
+
+/// Adds what is doubtful of each node.
+fn push_nodes(text: &mut String, plan: &Plan, names: &Names) -> Result<(), AllocError>
+    requires { IsChecked plan.now }
+    ensures { OnOk result (string_bytes text.new ≡ string_bytes text.old
+        ++ each_below (node_doubts plan.now names.now) (length plan.now.topology.places)) }
+{
+    for i in 0..plan.topology.nodes() {
+        push_node(text, plan, names, i)?;
+    }
+    Ok(())
+}
+
+/// Adds the line of an end that leaves no room for the frames.
+fn push_room_words(text: &mut String, a: &str, bits: u128) -> Result<(), AllocError>
+    ensures { OnOk result (string_bytes text.new ≡ string_bytes text.old ++ room_words a.now bits) }
+{
+    writeln!(
+        text,
+        "doubt: 11 bits and the frames of all nodes take {bits} bits of {a}, beyond the end"
+    )
+}
+
+/// Adds what is doubtful of the end.
+fn push_room(text: &mut String, plan: &Plan, names: &Names) -> Result<(), AllocError>
+    requires { IsChecked plan.now }
+    ensures { OnOk result (string_bytes text.new ≡ string_bytes text.old ++ room_line plan.now names.now) }
+{
+    if has_no_room(plan) {
+        push_room_words(text, name_of(names, 0), wanted_bits(plan))
+    } else {
+        Ok(())
+    }
+}
+
+/// Adds the words of a node's bit rate in bit/s, of its sample point in hundredths of a per cent and of its quantum in picoseconds.
+fn push_timing_words(
+    text: &mut String,
+    a: &str,
+    rate: u64,
+    point: u64,
+    quantum: u64,
+) -> Result<(), AllocError>
+    ensures { OnOk result (string_bytes text.new ≡ string_bytes text.old ++ timing_words a.now rate point quantum) }
+{
+    let rate = Thousandths(rate);
+    let point = Hundredths(point);
+    let quantum = Thousandths(quantum);
+    write!(
+        text,
+        "node {a}: {rate} kbit/s, sample point {point} %, quantum {quantum} ns"
+    )
+}
+
+/// Adds bit rate, sample point and quantum of node `i`.
+fn push_timing(text: &mut String, plan: &Plan, names: &Names, i: u8) -> Result<(), AllocError>
+    requires { i < length plan.now.nodes }
+    ensures { OnOk result (string_bytes text.new ≡ string_bytes text.old ++ timing_figures plan.now names.now i) }
+{
+    let node = setup(plan, i);
+    let point = sample_point(&node.segments);
+    let quantum = Quantum::of_clock(&node.clock).picoseconds();
+    push_timing_words(text, name_of(names, i), bit_rate(node), point, quantum)
+}
+
+/// Adds the words of a tolerance and of what is left of it, in parts per million.
+fn push_margin_words(text: &mut String, ppm: u32, rest: u128) -> Result<(), AllocError>
+    ensures { OnOk result (string_bytes text.new ≡ string_bytes text.old ++ margin_words ppm rest) }
+{
+    write!(text, ", tolerance {ppm} ppm, left {rest} ppm")
+}
+
+/// Adds the tolerance of node `i`, and what the other clocks leave of it.
+fn push_margin(text: &mut String, plan: &Plan, i: u8) -> Result<(), AllocError>
+    requires checked { IsChecked plan.now }
+    requires node { i < length plan.now.nodes }
+    ensures { OnOk result (string_bytes text.new ≡ string_bytes text.old ++ margin_figures plan.now i) }
+{
+    let ppm = tolerance(&setup(plan, i).segments);
+    push_margin_words(text, ppm, left(plan, i) / 2)
+}
+
+/// Adds the words of a cable, by the time that a level takes along it, and ends the line.
+fn push_cable_words(text: &mut String, cable: Option<u64>) -> Result<(), AllocError>
+    ensures { OnOk result (string_bytes text.new ≡ string_bytes text.old ++ cable_words cable) }
+{
+    match cable {
+        Some(time) => writeln!(text, ", cable {time} ns"),
+        None => writeln!(text, ", cable none"),
+    }
+}
+
+/// Adds the longest cable to a node like node `i`.
+fn push_cable(text: &mut String, plan: &Plan, i: u8) -> Result<(), AllocError>
+    requires checked { IsChecked plan.now }
+    requires node { i < length plan.now.nodes }
+    ensures { OnOk result (string_bytes text.new ≡ string_bytes text.old ++ cable_figure plan.now i) }
+{
+    let node = setup(plan, i);
+    let way = Quantum::of_clock(&node.clock).furthest_way(&node.segments);
+    push_cable_words(text, longest_cable(way, plan.topology.delay(i, i), 1))
+}
+
+/// Adds the figures of node `i`.
+fn push_figures(text: &mut String, plan: &Plan, names: &Names, i: u8) -> Result<(), AllocError>
+    requires checked { IsChecked plan.now }
+    requires node { i < length plan.now.nodes }
+    ensures { OnOk result (string_bytes text.new ≡ string_bytes text.old ++ figures_line plan.now names.now i) }
+{
+    push_timing(text, plan, names, i)?;
+    push_margin(text, plan, i)?;
+    push_cable(text, plan, i)
+}
+
+/// Adds the figures of all nodes.
+fn push_all_figures(text: &mut String, plan: &Plan, names: &Names) -> Result<(), AllocError>
+    requires { IsChecked plan.now }
+    ensures { OnOk result (string_bytes text.new ≡ string_bytes text.old
+        ++ each_below (figures_line plan.now names.now) (length plan.now.topology.places)) }
+{
+    for i in 0..plan.topology.nodes() {
+        push_figures(text, plan, names, i)?;
+    }
+    Ok(())
+}
+
+/// The explanation of a plan that can be run: what is doubtful of it, one a line, and then the figures of each node, a line each.
+///
+/// Doubtful is, in this order: of each pair of nodes, by the later and then by the earlier, bit rates that no clocks of one nominal
+/// rate can have, clocks further apart than the segments of both bear, and a way there and back for which the earlier sample is too
+/// early; of each node a jump width above PHASE_SEG2, its first frame that becomes ready at the end or later, and its first that
+/// becomes ready before all nodes have counted 11 bits; and an end that leaves no room for the frames of all nodes. The figures are
+/// bit rate in kbit/s, sample point in per cent, quantum in nanoseconds, tolerance in parts per million, how much of it the other
+/// clocks leave to both nodes of a pair, and the longest cable in nanoseconds along it. A tick is taken for a nanosecond. Refused out
+/// of memory alone.
+pub fn explain_plan(alloc: Global, plan: &Plan, names: &Names) -> Result<String, AllocError>
+    requires { IsChecked plan.now }
+    ensures { IfOk result (λ text. string_bytes text ≡ explain_text plan.now names.now) }
+{
+    let mut text = String::new(alloc);
+    push_pairs(&mut text, plan, names)?;
+    push_nodes(&mut text, plan, names)?;
+    push_room(&mut text, plan, names)?;
+    push_all_figures(&mut text, plan, names)?;
+    Ok(text)
+}
