@@ -1,0 +1,4 @@
+mod Counts
+mod News
+mod Taken
+mod TruthTests

@@ -1,0 +1,3 @@
+pub mod Handed
+pub mod Truth
+pub mod Ways

@@ -1,0 +1,11 @@
+//! Letters between workers: records with the plan that they are true of, over channels, one for each worker.
+#![tactic(auto)]
+
+mod fault;
+mod letter;
+mod post;
+mod taking;
+
+pub use fault::MailFault;
+pub use letter::Letter;
+pub use post::{Hold, Post, posts};
