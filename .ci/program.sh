@@ -49,8 +49,8 @@ done
 
 runs "explain of doubts" .ci/doubts.toml 0 .ci/doubts.explained "$room/none" explain
 
-# By hand, from the report and the clocks: the engine's quantum 2384 begins at tick 2384 * 125.625 = 299,490, and the dashboard's quantum 3475 at
-# tick 777 + 3475 * 124.375, rounded down, so 432,980.
+# By hand, from the report and the clocks: the engine's quantum 2384 begins at tick 2384 * 125.625 = 299,490, and the dashboard's quantum 3474 at
+# tick 777 + 3474 * 124.375, rounded down, so 432,855.
 logged() { # logged US US WORDS..: runs candump, whose two lines have these times
   printf '(0000000000.%06d) can0 0C4#1A0B00007DFF203C\n(0000000000.%06d) can0 3E8#0155\n' "$1" "$2" > "$room/log"
   shift 2
@@ -59,7 +59,7 @@ logged() { # logged US US WORDS..: runs candump, whose two lines have these time
 logged 299 432
 logged 299 432 --tick 1ns
 logged 37 54 --tick 125ps
-logged 299490 432980 --tick=1us
+logged 299490 432855 --tick=1us
 runs "vcd" examples/one_megabit_25m.toml 0 examples/one_megabit_25m.vcd "$room/none" vcd
 sed -E 's/^(\$timescale 1 )ns/\1us/; s/^#([0-9]+)$/#\10/; s/^#00$/#0/' examples/one_megabit_25m.vcd > "$room/wave"
 runs "vcd --tick 10us" examples/one_megabit_25m.toml 0 "$room/wave" "$room/none" vcd --tick 10us

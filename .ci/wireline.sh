@@ -167,15 +167,20 @@ tools/hint.py --without < "$room/seen" > "$room/out"
 is "faults without a row and a hint: $(tr '\n' ' ' < "$room/out")" [ ! -s "$room/out" ]
 
 # ---- A sweep
-ends 1 sweep examples/one_megabit_25m.toml x=20..40:10 --keep-offsets --keep-ppm
+ends 1 sweep examples/cable_too_long.toml sensor.x=20..40:10 --keep-offsets --keep-ppm
 cat > "$room/wanted" << 'TABLE'
-x 20 clean in 1 of 1
-x 30 clean in 0 of 1
-x 40 clean in 0 of 1
+sensor.x 20 clean in 1 of 1
+sensor.x 30 clean in 0 of 1
+sensor.x 40 clean in 0 of 1
 clean in 1 of 3
 TABLE
 is "the table of a sweep" cmp -s <(head -4 "$room/out") "$room/wanted"
-is "the first plan of a sweep that isn't clean" grep -q "^first that isn't: control.x = 30: verdict faulty" "$room/out"
+is "the first plan of a sweep that isn't clean" grep -q "^first that isn't: sensor.x = 30: verdict faulty" "$room/out"
+# Each example that is called clean, at some of its phases
+for name in clean_500k canopen_125k drifting_listener j1939_250k one_megabit_25m priorities sampled_late_500k sixteen_nodes; do
+  ends 0 sweep "examples/$name.toml" --runs 40
+  is "the plan $name: $(tail -1 "$room/out")" grep -q "^clean in 40 of 40 " "$room/out"
+done
 # By hand: perfect clocks, a bit of 16 quanta, five offsets a quantum; the start of frame comes in the quantum of the listener's sample at one
 # quantum's offsets, five of 80.
 node='quantum = 125\nppm = 0\nprop = 6\nps1 = 7\nps2 = 2\nsjw = 1\nout = 40\nin = 40\noffset = 0\n'
