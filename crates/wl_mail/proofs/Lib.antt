@@ -1,3 +1,4 @@
+pub mod Callers
 mod Counts
 mod News
 mod Taken

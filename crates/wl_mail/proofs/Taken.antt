@@ -54,8 +54,8 @@ changed_before laws a b c xs ys d e h same =
     = ap (λ z. states_joined z (state_of b.replica.nodes ys)) (sym x) ∙ (sym y ∙ same) in
     h (x ∙ stays_joined laws a.replica (state_of a.replica.nodes xs) (state_of b.replica.nodes ys) (ap (λ (z : State). z.nodes) x) both)
 
-pub changed_both : IsJoining → (a b c : GroupValue) (xs ys : List Record) → b ≡ with_records xs a → c ≡ with_records ys b
+pub changed_more : IsJoining → (a b c : GroupValue) (xs ys : List Record) → b ≡ with_records xs a → c ≡ with_records ys b
     → (x y : Bool) → HasChanged a b x → HasChanged b c y → HasChanged a c (x || y)
-changed_both laws a b c xs ys d e true y h g = changed_before laws a b c xs ys d e h
-changed_both laws a b c xs ys d e false true h g = subst (λ (z : GroupValue). c.replica ≢ z.replica) h g
-changed_both laws a b c xs ys d e false false h g = g ∙ h
+changed_more laws a b c xs ys d e true y h g = changed_before laws a b c xs ys d e h
+changed_more laws a b c xs ys d e false true h g = subst (λ (z : GroupValue). c.replica ≢ z.replica) h g
+changed_more laws a b c xs ys d e false false h g = g ∙ h
