@@ -45,11 +45,11 @@ abbrev pub byte_in : Data → Option ℕ
 byte_in d = number_in largest_byte d
 
 -- where SYNC_SEG lies in a bit that an edge begins, as a word says it
-abbrev pub sync_of : List ℕ → Option SyncSeg
-sync_of text = if bytes_eq text (codes "after") then Some After else if bytes_eq text (codes "inside") then Some Inside else None
+abbrev pub sync_seg_of : List ℕ → Option SyncSeg
+sync_seg_of text = if bytes_eq text (codes "after") then Some After else if bytes_eq text (codes "inside") then Some Inside else None
 
-abbrev pub sync_in : Data → Option SyncSeg
-sync_in d = option_and_then sync_of (as_str d)
+abbrev pub sync_seg_in : Data → Option SyncSeg
+sync_seg_in d = option_and_then sync_seg_of (as_str d)
 
 -- whether a value is of a kind
 abbrev pub has_kind : Kind → Data → Bool
@@ -60,7 +60,7 @@ has_kind kind.Truth d = is_some (as_bool d)
 has_kind kind.Name d = holds is_name (as_str d)
 has_kind kind.Bytes d = holds (list_all (λ e. is_some (byte_in e))) (elements_of d)
 has_kind kind.Tables d = holds (list_all (λ e. is_some (as_table e))) (elements_of d)
-has_kind kind.Sync d = is_some (sync_in d)
+has_kind kind.Sync d = is_some (sync_seg_in d)
 
 -- the value of a key
 abbrev pub value_at : Key → Members → Option Data
@@ -79,8 +79,8 @@ ppm_at key table = unwrap_or (option_and_then as_integer (value_at key table)) (
 abbrev pub truth_at : Key → Members → Bool
 truth_at key table = unwrap_or (option_and_then as_bool (value_at key table)) false
 
-abbrev pub sync_at : Key → Members → SyncSeg
-sync_at key table = unwrap_or (option_and_then sync_in (value_at key table)) After
+abbrev pub sync_seg_at : Key → Members → SyncSeg
+sync_seg_at key table = unwrap_or (option_and_then sync_seg_in (value_at key table)) After
 
 abbrev pub name_at : Key → Members → List ℕ
 name_at key table = unwrap_or (option_and_then as_str (value_at key table)) []

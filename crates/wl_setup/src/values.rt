@@ -3,7 +3,7 @@ ghost use Rattle.std.specs.Prelude.{◌≡◌, ◌≤◌, ◌^◌, ◌<◌, Some
 ghost use Rattle.std.specs.List.{list_all};
 ghost use Rattle.toml.specs.Data.{as_table};
 ghost use Rattle.toml.specs.View.{view, table_view, items_view};
-ghost use Rattle.wl_setup.specs.Kinds.{number_in, byte_in, is_name, is_name_letter, is_ppm, has_kind, value_at, number_at, small_at, ppm_at, truth_at, name_at, elements_of, elements_at, bytes_at, sync_of, sync_in, sync_at};
+ghost use Rattle.wl_setup.specs.Kinds.{number_in, byte_in, is_name, is_name_letter, is_ppm, has_kind, value_at, number_at, small_at, ppm_at, truth_at, name_at, elements_of, elements_at, bytes_at, sync_seg_of, sync_seg_in, sync_seg_at};
 
 use crate::keys::{Key, Kind};
 use crate::limits::{LARGEST_BYTE, LARGEST_NUMBER, LARGEST_PPM, LARGEST_SMALL, LONGEST_NAME};
@@ -80,8 +80,8 @@ fn elements_of(value: &Value) -> Option<&[Value]>
 }
 
 /// Where SYNC_SEG lies, as a word says it.
-fn sync_of(text: &str) -> Option<SyncSeg>
-    ensures { result ≡ sync_of text.now }
+fn sync_seg_of(text: &str) -> Option<SyncSeg>
+    ensures { result ≡ sync_seg_of text.now }
 {
     if text == "after" {
         Some(SyncSeg::After)
@@ -92,11 +92,11 @@ fn sync_of(text: &str) -> Option<SyncSeg>
     }
 }
 
-fn sync_in(value: &Value) -> Option<SyncSeg>
-    ensures { result ≡ sync_in (view value.now) }
+fn sync_seg_in(value: &Value) -> Option<SyncSeg>
+    ensures { result ≡ sync_seg_in (view value.now) }
 {
     match value.as_str() {
-        Some(text) => sync_of(text),
+        Some(text) => sync_seg_of(text),
         None => None,
     }
 }
@@ -116,7 +116,7 @@ pub(crate) fn has_kind(kind: Kind, value: &Value) -> bool
             Some(values) => are_bytes(values),
             None => false,
         },
-        Kind::Sync => sync_in(value).is_some(),
+        Kind::Sync => sync_seg_in(value).is_some(),
         Kind::Tables => match elements_of(value) {
             Some(values) => are_tables(values),
             None => false,
@@ -170,11 +170,11 @@ pub(crate) fn truth_at(table: &Table, key: Key) -> bool
 }
 
 /// Where SYNC_SEG lies, at a key; after an edge where it has none.
-pub(crate) fn sync_at(table: &Table, key: Key) -> SyncSeg
-    ensures { result ≡ sync_at key (table_view table.now) }
+pub(crate) fn sync_seg_at(table: &Table, key: Key) -> SyncSeg
+    ensures { result ≡ sync_seg_at key (table_view table.now) }
 {
     match value_at(table, key) {
-        Some(value) => sync_in(value).unwrap_or(SyncSeg::After),
+        Some(value) => sync_seg_in(value).unwrap_or(SyncSeg::After),
         None => SyncSeg::After,
     }
 }
