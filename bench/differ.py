@@ -1,7 +1,9 @@
 #!/usr/bin/env python3
 """Compares a program with plain.py on random inputs: standard output, the fault line and the status of all commands but candump and vcd.
 
-usage: differ.py PROGRAM [SEED [COUNT]]     the same numbers give the same inputs; PROGRAM - runs plain.py alone
+usage: differ.py PROGRAM [SEED [COUNT [SYNC]]]     the same words give the same inputs; PROGRAM - runs plain.py alone
+SYNC is the key `sync` of every plan: inside, after, none (no key), wrong (some other value), mixed (any of these; the default), or
+before (no key, or after). COUNT may be A-B: the inputs from number A up to B.
 
 Prints how many answers agreed, which inputs were refused by which fault, and which rows of the machine, the counters and the bit clock the
 plans reached (listed below). The first input on which the two differ is kept in a file, whose name is printed; the status is then 1.
@@ -84,6 +86,13 @@ CLOCK_ROWS = """
 hard_at_place_0|hard_before_the_sample|hard_behind_the_sample|error_0|late_within_sjw|late_beyond_sjw|late_while_driving
 early_within_sjw|early_beyond_sjw|early_while_driving|edge_at_the_sample|second_edge_of_a_bit|edge_behind_a_dominant_sample
 """
+# The same with `inside`, where the place of an edge is that of the quantum before the one that finds it.
+INSIDE_ROWS = """
+in_hard_before_the_sample|in_hard_at_the_sample|in_hard_behind_the_sample|in_hard_at_the_border|in_error_0|in_error_0_while_driving
+in_late_within_sjw|in_late_beyond_sjw|in_late_while_driving|in_early_within_sjw|in_early_at_the_border|in_early_beyond_sjw|in_early_that_ends_the_bit
+in_early_while_driving|in_edge_at_the_sample|in_second_edge_of_a_bit|in_second_edge_at_the_border|in_edge_behind_a_dominant_sample
+in_early_in_quantum_0
+"""
 
 
 def rows_of(text):
@@ -99,7 +108,7 @@ FAULTS = """
 Toml Version Missing Kind Unknown SameName Size ZeroDen TooFast TooSlow BigOffset BigDen BadPpm NoRates TooManyRates RateOrder BadFrom Prop Phase1 Phase2 Jump Length
 Id Dlc DataLength ExtendedId NoNodes TooManyNodes ZeroDelay TooLong End Quanta Queue Disturbance Line Range Truncated TooLong
 """
-ALL_ROWS = rows_of(ROWS) | rows_of(COUNTER_ROWS) | rows_of(CLOCK_ROWS)
+ALL_ROWS = rows_of(ROWS) | rows_of(COUNTER_ROWS) | rows_of(CLOCK_ROWS) | rows_of(INSIDE_ROWS)
 reached = Counter()
 
 
@@ -140,9 +149,13 @@ class CountedCounters(plain.Counters):
 class CountedBitClock(plain.BitClock):
     def step(self, level, idle, driving):
         before, sampled, synchronised, place, sjw = self.before, self.sampled, self.synchronised, self.place, self.segments.sjw
-        sample_at = self.segments.sample_at() + self.longer
+        sample_at, end = self.segments.sample_at() + self.longer, self.segments.bit_quanta() + self.longer - self.shorter
+        self.steps = getattr(self, "steps", 0) + 1
         beat, sync = super().step(level, idle, driving)
         if before == plain.DOMINANT or level == plain.RECESSIVE: return beat, sync
+        if self.segments.inside:
+            for row in inside_rows(self, beat, sync, driving, sampled, synchronised, place, sample_at, end): reached[row] += 1
+            return beat, sync
         if sync == "Hard":
             before_start = place + 1 == sample_at + self.segments.ps2
             way = "hard_before_the_sample" if place + 1 < sample_at else "hard_behind_the_sample"
@@ -156,6 +169,25 @@ class CountedBitClock(plain.BitClock):
         elif synchronised: reached["second_edge_of_a_bit"] += 1
         elif driving: reached["late_while_driving"] += 1
         return beat, sync
+
+
+def inside_rows(clock, beat, sync, driving, sampled, synchronised, place, sample_at, end):
+    """The rows of an edge that lies at this place of a bit with its sample and its end there, and is found by the next quantum."""
+    sjw, at_border = clock.segments.sjw, place == end - 1
+    if sync is None:
+        if sampled == plain.DOMINANT: return ["in_edge_behind_a_dominant_sample"]
+        if synchronised: return ["in_second_edge_at_the_border" if at_border else "in_second_edge_of_a_bit"]
+        return ["in_edge_at_the_sample" if beat == "Sample" else "in_late_while_driving"]
+    if sync == "Hard":
+        where = "before" if place + 1 < sample_at else "behind"
+        rows = ["in_hard_at_the_sample" if place + 1 == sample_at else "in_hard_at_the_border" if at_border else f"in_hard_{where}_the_sample"]
+    elif sync == 0: rows = ["in_error_0"] + ["in_error_0_while_driving"] * driving
+    elif sync > 0: rows = ["in_late_within_sjw" if sync <= sjw else "in_late_beyond_sjw"]
+    else:
+        rows = ["in_early_beyond_sjw" if -sync > sjw else "in_early_at_the_border" if at_border else "in_early_within_sjw"]
+        rows += ["in_early_that_ends_the_bit"] * (-sync == sjw + 1) + ["in_early_while_driving"] * driving
+    if clock.steps == 1: rows.append("in_early_in_quantum_0")
+    return rows
 
 
 def ending_word(place):
@@ -383,8 +415,20 @@ def spoil(rng, plan):
     elif (picked := [one for one in table if one in RANGES]): table.update({(key := rng.choice(picked)): rng.choice(RANGES[key])})
 
 
-def plan_input(rng):
-    plan = random_plan(rng)
+WRONG_SYNCS = ["", "Inside", "inside ", "before", "af", "afterinside", "after\\u0000", "\x01'inside'", 0, 1, True, [], ["inside"], {}, {"inside": True}]
+
+
+def choose_sync(rng, plan, sync):
+    """Gives the plan the key `sync`, or none."""
+    if sync == "mixed": sync = rng.choice(["none"] * 6 + ["inside"] * 8 + ["after"] * 3 + ["wrong"])
+    if sync == "before": sync = rng.choice(["none", "after"])
+    if sync == "none": return plan
+    if sync == "wrong": sync = rng.choice(WRONG_SYNCS)
+    return {"sync": sync} | plan if rng.random() < 0.5 else plan | {"sync": sync}
+
+
+def plan_input(rng, sync_rng, sync):
+    plan = choose_sync(sync_rng, random_plan(rng), sync)
     kind = rng.random()
     if kind < 0.65: return toml_text(plan, rng.random() < 0.2).encode() + b"\n"
     plan["end"] = min(plan["end"], clocks_of(plan)[0].get("num", 10**12) * 200)
@@ -452,14 +496,26 @@ def asked(program, command, text):
     return done.stdout, done.stderr, done.returncode
 
 
+def once(simulate):
+    """Keeps the last plan's answer, which both records and run ask for."""
+    last = []
+
+    def kept(plan):
+        if not last or last[0] != plan: last[:] = plan, simulate(plan)
+        return last[1]
+    return kept
+
+
 def main():
     program = sys.argv[1]
-    seed, count = (int(word) for word in (sys.argv[2:] + ["2", "1000"][len(sys.argv) - 2:])[:2])
+    seed, count, sync = (sys.argv[2:] + ["2", "1000", "mixed"][len(sys.argv) - 2:])[:3]
+    first, _, last = count.rpartition("-")
+    plain.simulate = once(plain.simulate)
     agreed, differed, faults = Counter(), Counter(), Counter()
-    for number in range(count):
+    for number in range(int(first or 0), int(last)):
         rng = random.Random(f"{seed} {number}")
         records = rng.random() < 0.25
-        text = record_input(rng) if records else plan_input(rng)
+        text = record_input(rng) if records else plan_input(rng, random.Random(f"{seed} {number} sync"), sync)
         for command in ("merge", "horizon") if records else ("check", "records", "run", "explain"):
             out, fault, status = plain.answer(command, text)
             faults[re.sub(r"\b[0-9]+\b", "n", fault[7:-1])] += 1

@@ -85,7 +85,7 @@ def garbage(rng):
 
 def text_of(rng, kind):
     if rng.random() < 0.02: return garbage(rng)
-    text = differ.record_input(rng) if kind == "records" else differ.plan_input(rng)
+    text = differ.record_input(rng) if kind == "records" else differ.plan_input(rng, rng, "mixed")
     for _ in range(rng.choice([0, 1, 1, 1, 2, 3, 8])): text = mutate(rng, text, record_pieces if kind == "records" else plan_pieces)
     return text
 

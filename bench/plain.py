@@ -138,7 +138,6 @@ class BitClock:
             self.shorter, self.synchronised = self.segments.sjw, True
         return error
 
-
     def step_inside(self, level, idle, driving, edge):
         """The same by the book: the place is still that of the quantum before, in which the edge lies."""
         sync = None

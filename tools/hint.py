@@ -20,11 +20,12 @@ except ImportError:  # a Python before 3.11: the words of the table alone
 sys.dont_write_bytecode = True
 PAGE = Path(__file__).resolve().parent.parent / "docs" / "commands.md"
 MOST_BYTES, MOST_QUANTA, MOST_TICKS = 1 << 20, 1 << 20, 1 << 20
+MOST_SHORT_QUANTA = 786_432  # where a node may sample every third quantum
 NUMBER, SMALL = (0, 2**48 - 1), (0, 2**31 - 1)
 # The keys of each table: those that it needs, and the others. A node of version 1 and a rate have one pair of CLOCK too, a node of version 2
 # has RATES in the place of it.
 KEYS = {
-    "": ("version end per node", "disturbance"),
+    "": ("version end per node", "disturbance sync"),
     "node": ("name offset prop ps1 ps2 sjw x out in", "frame"),
     "rates": ("from", ""),
     "frame": ("id dlc", "remote bytes ready extended"),
@@ -134,6 +135,8 @@ def is_wrong(key, value):
         return not isinstance(value, WORDS[key]) or value is not True and value is not False and not all(isinstance(it, dict) for it in value)
     if key == "name":
         return not isinstance(value, str) or not re.fullmatch(r"[A-Za-z0-9_-]{1,32}", value)
+    if key == "sync":
+        return value not in ("after", "inside")
     if key == "bytes":
         return not isinstance(value, list) or any(type(it) is not int or not 0 <= it <= 255 for it in value)
     least, most = BOUNDS.get(key, NUMBER)
@@ -187,14 +190,16 @@ def rate_of(keys):
     return keys.get("num", 0), keys.get("den", 1)
 
 
-def latest_end(node):
+def latest_end(plan, node):
     """Returns the greatest end that a node's quanta allow."""
+    is_short = plan.keys.get("sync") == "inside" and node.keys.get("prop") == 1 and node.keys.get("ps1") == 1
+    most = MOST_SHORT_QUANTA if is_short else MOST_QUANTA
     rates = node.keys.get("rates", [{"from": 0, **node.keys}])
-    ends = [rate["from"] for rate in rates[1:]] + [MOST_QUANTA]
+    ends = [rate["from"] for rate in rates[1:]] + [most]
     tick = node.keys.get("offset", 0)
     for rate, end in zip(rates, ends):
         num, den = rate_of(rate)
-        tick += (min(end, MOST_QUANTA) - min(rate["from"], MOST_QUANTA)) * num // den
+        tick += (min(end, most) - min(rate["from"], most)) * num // den
     return tick
 
 
@@ -244,7 +249,7 @@ def of_number(fault, names, remedy, all_tables):
         other = nodes[int(names["j"])]
         return f"from {node.at()} to {other.at()}: {delay(all_tables[0], node, other)}"
     if fault.startswith("Plan(Quanta"):
-        return f"{node.at()}: with this clock end is at most {latest_end(node)}"
+        return f"{node.at()}: with this clock end is at most {latest_end(all_tables[0], node)}"
     if fault.startswith("NodeClock"):
         rates = [it for it in of_kind(all_tables, "rates") if it.called.startswith(f"{node.called}, ")]
         return of_clock(re.search(r"\w+(?=\)$)", fault)[0], node, rates)
