@@ -105,15 +105,15 @@ impl Group {
     }
 
     /// Takes a record that is true of the plan, as what its groups emit is. Refused when out of memory, the group is as it was.
-    pub fn take(&mut self, record: Record) -> Result<(), AllocError>
-        requires { IsTrueOfPlan self.old.plan record }
-        ensures ok { OnOk result (self.new ≡ with_records (record ∷ []) self.old) }
-        ensures after { OnOk result ((p : Party) → Matches p self.old → Matches (party_with (record ∷ []) p) self.new) }
+    pub fn take(&mut self, told: Record) -> Result<(), AllocError>
+        requires { IsTrueOfPlan self.old.plan told }
+        ensures ok { OnOk result (self.new ≡ with_records (told ∷ []) self.old) }
+        ensures after { OnOk result ((p : Party) → Matches p self.old → Matches (party_with (told ∷ []) p) self.new) }
         ensures err { OnErr result (self.new ≡ self.old) }
     {
         value_laws();
         laws_of_counts();
-        self.replica.take(record)?;
+        self.replica.take(told)?;
         Ok(())
     }
 

@@ -9,12 +9,12 @@ use Rattle.wl_group.proofs.group.Group.take.Goals as goal
 pub invariant_of-self-2 : goal.invariant_of-self-2
 invariant_of-self-2 c =
     counting_stays c.laws_of_counts.ensures.slots c.laws_of_counts.ensures.states c.laws_of_counts.ensures.known c.self.inside.plan c.self.inside.cells.items
-    c.self.inside.replica (state_of c.self.inside.replica.nodes (c.args.record ∷ [])) c.take.new.self c.self.inside.emitted.items c.self.inside.runs c.in_ok-take.ensures.ok c.self.invariant.counted
-    (taken_kept c.value_laws.ensures c.self.inside.plan c.self.inside.cells.items c.self.inside.replica c.take.new.self c.self.inside.emitted.items c.args.record c.args.self.now
+    c.self.inside.replica (state_of c.self.inside.replica.nodes (c.args.told ∷ [])) c.take.new.self c.self.inside.emitted.items c.self.inside.runs c.in_ok-take.ensures.ok c.self.invariant.counted
+    (taken_kept c.value_laws.ensures c.self.inside.plan c.self.inside.cells.items c.self.inside.replica c.take.new.self c.self.inside.emitted.items c.args.told c.args.self.now
     c.self.view_is c.self.invariant.kept c.requires c.in_ok-take.ensures.ok)
 
 pub returns-clause-after : goal.returns-clause-after
 returns-clause-after c p h =
-    subst (Matches (party_with (c.args.record ∷ []) p))
-    (sym (taken_value c.self.inside.plan c.self.inside.cells.items c.self.inside.replica c.take.new.self c.self.inside.emitted.items c.args.record c.args.self.now c.self.view_is c.in_ok-take.ensures.ok))
-    (c.value_laws.ensures.takes_as c.args.self.now p (c.args.record ∷ []) h)
+    subst (Matches (party_with (c.args.told ∷ []) p))
+    (sym (taken_value c.self.inside.plan c.self.inside.cells.items c.self.inside.replica c.take.new.self c.self.inside.emitted.items c.args.told c.args.self.now c.self.view_is c.in_ok-take.ensures.ok))
+    (c.value_laws.ensures.takes_as c.args.self.now p (c.args.told ∷ []) h)
