@@ -1,27 +1,35 @@
 -- Counts of first changes: what they make known, and that they stay where more is taken.
-use Rattle.std.proofs.Common.{◌≡◌, ℕ, zero, suc, ◌+◌, ◌-◌, ◌%◌, ◌==◌, ◌<◌, ◌≤◌, ◌⊎◌, min, max, Bool, true, false, not, ◌&&◌, inl, inr, List, Option, length, replicate, nat_le, refl, sym, ◌∙◌, ap, subst, arith, add-one, ◌||◌, Some, slice_get}
+use Rattle.std.proofs.Common.{◌≡◌, ℕ, zero, suc, ◌+◌, ◌-◌, ◌%◌, ◌==◌, ◌<◌, ◌≤◌, ◌⊎◌, min, max, Bool, true, false, not, ◌&&◌, inl, inr, List, [], ◌∷◌, ◌++◌, if◌then◌else◌, Option, is_some, length, replicate, nat_le, refl, sym, ◌∙◌, ap, subst, arith, add-one, ◌||◌, Some, None, slice_get}
 use Rattle.std.specs.Prelude.{slice_index_or, slice_set}
-use Rattle.std.proofs.lemmas.Bool.{cases_lt, cases_eq, cases_Bool, true≢false, le-leb, leb-true, lt-ltb, and_parts, and_from, cond-true, cond-false}
+use Rattle.std.specs.List.{AllByRecursion}
+use Rattle.std.proofs.lemmas.Bool.{cases_lt, cases_eq, cases_Bool, ne_eqb, true≢false, le-leb, leb-true, lt-ltb, and_parts, and_from, cond-true, cond-false}
 use Rattle.std.proofs.lemmas.List.{get_or-set_same, get_or-set_other}
 use Rattle.wl_lattice.specs.declared.FlatWord.{FlatWord}
 use Rattle.wl_lattice.specs.declared.FlatWord.TheVariants as flat
+use Rattle.wl_lattice.specs.Words.{joined_flat}
 use Rattle.wl_topology.specs.Driven.{driven, DrivenLaws}
 use Rattle.wl_record_core.specs.declared.record.Record.{Record}
+use Rattle.wl_record_core.specs.declared.record.Record.TheVariants.{Edge, Clash, Silence}
+use Rattle.wl_record_core.specs.Slots.{node_of}
 use Rattle.wl_record_core.specs.Limits.{most_edges, tick_end, tick_end-is}
 use Rattle.wl_record_core.specs.Truth.{count_below, odd, IsIncreasing}
 use Rattle.wl_record_core.specs.TableLaws.{TableLaws}
-use Rattle.wl_replica.specs.State.{State, slots_of, states_joined}
-use Rattle.wl_replica.specs.Slots.{Contents, HoldsTrue, IsBelow}
+use Rattle.wl_replica.specs.State.{State, slots_of, state_of, states_joined}
+use Rattle.wl_replica.specs.Slots.{Contents, slots_joined, slots_of_records, edge_in, silence_in, HoldsTrue, IsBelow}
 use Rattle.wl_replica.specs.SlotsOf.{SlotsOfStates}
 use Rattle.wl_replica.specs.Known.{is_tick, tick_in, run_goes_on, is_run, greatest_passing, run_length, longest_promise, after_edges, known_by, horizon, wave_at, least_up_to}
 use Rattle.wl_replica.specs.KnownLaws.{SlotsLaws, KnownLaws}
-use Rattle.wl_replica.proofs.Callers.{run_part, tick_is, tick_within, greatest_is, goes_tick}
+use Rattle.wl_replica.proofs.Callers.{some_is, run_part, tick_is, tick_within, greatest_is, goes_tick}
+use Rattle.wl_level.specs.declared.Level.{Level}
 use Rattle.wl_plan.specs.declared.plan.Plan.{Plan}
+use Rattle.wl_plan.specs.Line.{Line, reach}
 use Rattle.wl_plan.specs.PlanLine.{line_of, table_of}
 use Rattle.wl_plan.specs.SimulationLaws.{SimulationLaws}
 use Rattle.wl_group.specs.declared.cell.Cell.{Cell}
 use Rattle.wl_group.specs.Kept.{IsKept}
-use Rattle.wl_group.specs.Counted.{KnowsFirst, KnowsNoMore, AreCounted, IsTrueState, AreNotAfter, IsCounting}
+use Rattle.wl_group.specs.Member.{Member, next_tick, turns, member_after_quantum, emission}
+use Rattle.wl_group.proofs.Callers.{is_there}
+use Rattle.wl_group.specs.Counted.{KnowsFirst, KnowsNoMore, AreCounted, IsHorizon, AreHorizons, TellHorizons, IsTrueState, AreNotAfter, IsCounting}
 
 -- ---- counts
 
@@ -41,6 +49,49 @@ zero_at (suc n) (suc i) = zero_at n i
 
 pub none_counted : (w : Contents) (n : ℕ) → AreCounted w (zeros n)
 none_counted w n i k b = (let e = zero_at n i in absurd (omega arith))
+
+abbrev nones : ℕ → List (Option ℕ)
+nones n = replicate n None
+
+none_at : (n i : ℕ) → slice_index_or (nones n) i None ≡ None
+none_at zero i = refl
+none_at (suc n) zero = refl
+none_at (suc n) (suc i) = none_at n i
+
+-- no horizon is worked out
+pub none_kept : (w : Contents) (runs : List ℕ) (n : ℕ) → AreHorizons w runs (replicate n None)
+none_kept w runs n i until e = (let f : None ≡ Some until = sym (none_at n i) ∙ e in absurd cc)
+
+-- one more is
+pub one_more_kept : (w : Contents) (runs : List ℕ) (horizons : List (Option ℕ)) (i run until : ℕ) → i < length runs → i < length horizons
+    → AreHorizons w runs horizons → IsHorizon w i run until → AreHorizons w (slice_set runs i run) (slice_set horizons i (Some until))
+one_more_kept w runs horizons i run until br bh kept is j u e = elim (cases_eq j i) [
+  | inl same ↦
+      let f : Some until ≡ Some u = sym (get_or-set_same horizons i (Some until) None bh) ∙ (ap (λ n. slice_index_or (slice_set horizons i (Some until)) n None) (sym same) ∙ e) in
+      subst (λ n. IsHorizon w n (slice_index_or (slice_set runs i run) n 0) u) (sym same)
+      (subst (λ m. IsHorizon w i m u) (sym (get_or-set_same runs i run 0 br)) (subst (IsHorizon w i run) (some_is until u f) is))
+  | inr other ↦
+      subst (λ m. IsHorizon w j m u) (sym (get_or-set_other runs i j run 0 other))
+      (kept j u (sym (get_or-set_other horizons i j (Some until) None other) ∙ e))
+]
+
+-- as many are there as before, and one more
+pub one_more_there : (horizons : List (Option ℕ)) (i until : ℕ) → i < length horizons
+    → ((j : ℕ) → j < i → (u : ℕ) × (slice_index_or horizons j None ≡ Some u))
+    → (j : ℕ) → j < i + 1 → (u : ℕ) × (slice_index_or (slice_set horizons i (Some until)) j None ≡ Some u)
+one_more_there horizons i until b h j c = elim (cases_eq j i) [
+  | inl same ↦ (until, ap (λ n. slice_index_or (slice_set horizons i (Some until)) n None) same ∙ get_or-set_same horizons i (Some until) None b)
+  | inr other ↦ (let r = h j (omega arith) in (r.0, get_or-set_other horizons i j (Some until) None other ∙ r.1))
+]
+
+-- or it was there already
+pub also_there : (horizons : List (Option ℕ)) (i : ℕ) (none : Bool) → none ≡ false → is_some (slice_index_or horizons i None) ≡ not none
+    → ((j : ℕ) → j < i → (u : ℕ) × (slice_index_or horizons j None ≡ Some u))
+    → (j : ℕ) → j < i + 1 → (u : ℕ) × (slice_index_or horizons j None ≡ Some u)
+also_there horizons i none e is h j c = elim (cases_eq j i) [
+  | inl same ↦ (let r = is_there (slice_index_or horizons i None) (is ∙ ap not e) in (r.0, ap (λ n. slice_index_or horizons n None) same ∙ r.1))
+  | inr other ↦ h j (omega arith)
+]
 
 pub one_more_counted : (w : Contents) (runs : List ℕ) (i run : ℕ) → i < length runs → AreCounted w runs → KnowsFirst w i run → AreCounted w (slice_set runs i run)
 one_more_counted w runs i run b h more j = elim (cases_eq j i) [
@@ -222,9 +273,83 @@ driven_from laws n delay drove i j t v b is h =
 -- ---- what a group keeps
 
 -- more was taken, and all is true
-pub counting_stays : SlotsLaws → SlotsOfStates → KnownLaws → (plan : Plan) (cells : List (Option Cell)) (old more new : State) (emitted : List Record) (runs : List ℕ)
-    → new ≡ states_joined old more → AreCounted (slots_of old) runs → IsKept plan cells new emitted → IsCounting plan cells new emitted runs
-counting_stays slots states known plan cells old more new emitted runs e counted kept = record {
+pub counting_stays : SlotsLaws → SlotsOfStates → KnownLaws → (plan : Plan) (cells : List (Option Cell)) (old more new : State) (emitted : List Record) (runs : List ℕ) (horizons : List (Option ℕ))
+    → new ≡ states_joined old more → AreCounted (slots_of old) runs → IsKept plan cells new emitted → AreHorizons (slots_of new) runs horizons
+    → IsCounting plan cells new emitted runs horizons
+counting_stays slots states known plan cells old more new emitted runs horizons e counted kept are = record {
   kept = kept;
   counted = counted_stays slots states known (length plan.nodes) (table_of plan) old more new runs e kept.value.holds.truth counted;
+  known = are;
 }
+
+-- ---- of the other nodes nothing is known that was not before
+
+abbrev pub IsOf : ℕ → Record → Type 0
+IsOf i r = node_of r ≡ i
+
+no_word : (r : Record) (i j n : ℕ) → node_of r ≡ i → (j ≡ i → ⊥) → edge_in r j n ≡ flat.Nothing
+no_word (Edge k s t) i j n is other = cond-false (j == k && (n == s)) (flat.Value t) flat.Nothing (ap (λ v. v && (n == s)) (ne_eqb j k (λ e. other (e ∙ is))))
+no_word (Clash k s) i j n is other = cond-false (j == k && (n == s)) flat.Clash flat.Nothing (ap (λ v. v && (n == s)) (ne_eqb j k (λ e. other (e ∙ is))))
+no_word (Silence k m u) i j n is other = refl
+
+no_silence : (r : Record) (i j n : ℕ) → node_of r ≡ i → (j ≡ i → ⊥) → silence_in r j n ≡ 0
+no_silence (Edge k s t) i j n is other = refl
+no_silence (Clash k s) i j n is other = refl
+no_silence (Silence k m u) i j n is other = cond-false (j == k && (n == m)) u 0 (ap (λ v. v && (n == m)) (ne_eqb j k (λ e. other (e ∙ is))))
+
+with_nothing : (a : FlatWord) → joined_flat a flat.Nothing ≡ a
+with_nothing flat.Nothing = refl
+with_nothing (flat.Value t) = refl
+with_nothing flat.Clash = refl
+
+no_words : (rs : List Record) (i j n : ℕ) → AllByRecursion (IsOf i) rs → (j ≡ i → ⊥) → (slots_of_records rs).edge j n ≡ flat.Nothing
+no_words [] i j n are other = refl
+no_words (r ∷ rs) i j n are other =
+    (λ d. joined_flat (no_words rs i j n are.1 other d) (no_word r i j n are.0 other d))
+
+no_silences : (rs : List Record) (i j n : ℕ) → AllByRecursion (IsOf i) rs → (j ≡ i → ⊥) → (slots_of_records rs).silence j n ≡ 0
+no_silences [] i j n are other = refl
+no_silences (r ∷ rs) i j n are other =
+    (λ d. max (no_silences rs i j n are.1 other d) (no_silence r i j n are.0 other d))
+
+-- a horizon rests on the node's own slots
+same_horizon : (a b : Contents) (j run until : ℕ) → a.edge j ≡ b.edge j → a.silence j ≡ b.silence j → IsHorizon a j run until → IsHorizon b j run until
+same_horizon a b j run until ee es is = record {
+  last = subst (λ (e : ℕ → FlatWord). run < most_edges → is_tick (e run) ≡ false) ee is.last;
+  tick = is.tick ∙ (λ d. known_by (ee d) (es d) (greatest_passing most_edges (is_run (ee d) (es d))));
+  early = is.early;
+}
+
+none_there : (horizons : List (Option ℕ)) (i : ℕ) → slice_index_or (slice_set horizons i None) i None ≡ None
+none_there [] i = refl
+none_there (x ∷ xs) zero = refl
+none_there (x ∷ xs) (suc i) = none_there xs i
+
+-- what a member says at a quantum is of itself
+pub own_records : (l : Line) (i : ℕ) (m : Member) (level : Level) → AllByRecursion (IsOf i) (emission l i m level)
+own_records l i m level = both (turns l i m level)
+  where
+    both : (b : Bool) → AllByRecursion (IsOf i) ((if b then Edge i m.changed (next_tick l i m) ∷ [] else [])
+        ++ Silence i (member_after_quantum l i m level).changed (reach l i (member_after_quantum l i m level).saw) ∷ [])
+    both true = (refl, (refl, tt))
+    both false = (refl, tt)
+
+-- records of node i alone were taken: the horizons of the others stay
+pub others_kept : SlotsOfStates → (old new : State) (rs : List Record) (runs : List ℕ) (horizons : List (Option ℕ)) (m i : ℕ)
+    → new ≡ states_joined old (state_of m rs) → AllByRecursion (IsOf i) rs
+    → AreHorizons (slots_of old) runs horizons → AreHorizons (slots_of new) runs (slice_set horizons i None)
+others_kept states old new rs runs horizons m i e are kept j until at = elim (cases_eq j i) [
+  | inl same ↦
+      let f : None ≡ Some until = sym (none_there horizons i) ∙ (ap (λ n. slice_index_or (slice_set horizons i None) n None) (sym same) ∙ at) in
+      absurd cc
+  | inr other ↦
+      let w : slots_of new ≡ slots_joined (slots_of old) (slots_of_records rs) = ap slots_of e ∙ (states.both old (state_of m rs) ∙ ap (slots_joined (slots_of old)) (states.records m rs)) in
+      subst (λ v. IsHorizon v j (slice_index_or runs j 0) until) (sym w)
+      (same_horizon (slots_of old) (slots_joined (slots_of old) (slots_of_records rs)) j (slice_index_or runs j 0) until
+      (λ d n. sym (ap (joined_flat ((slots_of old).edge j n)) (no_words rs i j n are other) ∙ with_nothing ((slots_of old).edge j n)) d)
+      (λ d n. sym (ap (max ((slots_of old).silence j n)) (no_silences rs i j n are other) ∙ with_zero ((slots_of old).silence j n)) d)
+      (kept j until (sym (get_or-set_other horizons i j None None other) ∙ at)))
+]
+  where
+    with_zero : (n : ℕ) → max n 0 ≡ n
+    with_zero n = omega arith

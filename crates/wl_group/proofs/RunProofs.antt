@@ -170,7 +170,7 @@ module _ (laws : ValueLaws) (sound : CheckedIsSound) (plan : Plan) (cells : List
         may_here : may_run (group_value plan cells replica emitted) i ≡ true
         may_here = subst (λ (v : GroupValue). may_run v i ≡ true) (sym view) may
 
-        said_is : said ≡ emission_at (group_value plan cells replica emitted) i
+        pub said_is : said ≡ emission_at (group_value plan cells replica emitted) i
         said_is = says plan (members_now (group_value plan cells replica emitted) i) own ∙ ap (emission (line_of plan) i (members_now (group_value plan cells replica emitted) i)) read
 
         quanta_is : quanta_of new.node ≡ suc (quanta_of cell.node)

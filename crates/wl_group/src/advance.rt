@@ -17,7 +17,7 @@ ghost use Rattle.wl_group.specs.Running.{StepsCell, KeepsCell, SaysOf, MaySay};
 
 use crate::answer::{Advance, Emission};
 use crate::cell::Cell;
-use crate::counted::{Come, Runs, caught_up, laws_of_counts, seen};
+use crate::counted::{Come, Runs, catch_up, laws_of_counts, seen};
 use crate::group::Group;
 use crate::laws::value_laws;
 use std::alloc::{AllocError, Global};
@@ -79,8 +79,9 @@ impl Group {
         ensures least { IfSome result (λ i. (j : ℕ) → j < i → may_run self.now j ≡ false) }
         ensures stuck { IfNone result ((i : ℕ) → may_run self.now i ≡ false) }
     {
+        let horizons = self.horizons_now();
         for i in 0..self.replica.nodes() {
-            if self.can_advance(i) {
+            if self.can_run_by(&horizons, i) {
                 return Some(i);
             }
         }
@@ -99,7 +100,7 @@ impl Group {
         wl_plan::simulation_laws();
         laws_of_counts();
         let tick = self.due(i);
-        self.runs = caught_up(&self.replica, &self.runs);
+        catch_up(&self.replica, &mut self.runs, &mut self.horizons);
         let level = level_at(
             &self.plan,
             &self.replica,
@@ -119,6 +120,8 @@ impl Group {
             &mut self.replica,
             &mut self.emitted,
         )?;
+        self.horizons[i as usize] = None;
+        catch_up(&self.replica, &mut self.runs, &mut self.horizons);
         Ok(emission)
     }
 }

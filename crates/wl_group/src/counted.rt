@@ -1,6 +1,7 @@
-//! What is known of each node, by a count of its first changes that are known, so that no call walks over all of them.
+//! What is known of each node, by a count of its first changes that are known and the tick below which it is known, so that no call walks
+//! over all changes.
 
-ghost use Rattle.std.specs.Prelude.{◌≡◌, ◌+◌, ◌-◌, ◌<◌, ◌≤◌, ◌&&◌, ℕ, length, nat_le, slice_index_or};
+ghost use Rattle.std.specs.Prelude.{◌≡◌, ◌+◌, ◌-◌, ◌<◌, ◌≤◌, ◌&&◌, ℕ, List, length, nat_le, nat_lt, slice_index_or};
 ghost use Rattle.wl_level.specs.Levels.{level_of};
 ghost use Rattle.wl_topology.specs.Delays.{delay_of};
 ghost use Rattle.wl_topology.specs.Driven.{driven};
@@ -10,7 +11,7 @@ ghost use Rattle.wl_replica.specs.Known.{is_tick, tick_in, after_edges, horizon,
 ghost use Rattle.wl_replica.specs.Slots.{Contents};
 ghost use Rattle.wl_replica.specs.KnownLaws.{SlotsLaws, KnownLaws};
 ghost use Rattle.wl_replica.specs.SlotsOf.{SlotsOfStates};
-ghost use Rattle.wl_group.specs.Counted.{KnowsFirst, KnowsNoMore, AreCounted, IsTrueState, AreNotAfter};
+ghost use Rattle.wl_group.specs.Counted.{KnowsFirst, KnowsNoMore, AreCounted, AreHorizons, TellHorizons, IsTrueState, AreNotAfter};
 
 use wl_lattice::FlatWord;
 use wl_level::Level;
@@ -23,6 +24,9 @@ pub(crate) type Runs = [u32; MOST_NODES];
 
 /// For each node, how many of its changes had come when a member last asked. It speeds up the next time, and decides nothing.
 pub(crate) type Come = [u32; MOST_NODES];
+
+/// For each node, the tick below which it is known, where that was worked out since something was taken of it.
+pub(crate) type Horizons = [Option<u64>; MOST_NODES];
 
 /// What counts rest on: joining keeps what was known, and what is true stays.
 pub(crate) fn laws_of_counts()
@@ -40,6 +44,13 @@ pub(crate) fn no_runs() -> Runs
     ensures { (w : Contents) → AreCounted w result }
 {
     [0; MOST_NODES]
+}
+
+/// No horizon is worked out yet.
+pub(crate) fn no_horizons() -> Horizons
+    ensures { (w : Contents) (runs : List ℕ) → AreHorizons w runs result }
+{
+    [None; MOST_NODES]
 }
 
 /// Whether a node's change is known.
@@ -88,18 +99,6 @@ fn run_from(replica: &Replica, node: u8, from: u32) -> u32
     run
 }
 
-/// The counts, with what has become known since.
-pub(crate) fn caught_up(replica: &Replica, runs: &Runs) -> Runs
-    requires { AreCounted (slots_of replica.now) runs.now }
-    ensures { AreCounted (slots_of replica.now) result }
-{
-    let mut more = [0; MOST_NODES];
-    for i in 0..MOST_NODES as u8 {
-        more[i as usize] = run_from(replica, i, runs[i as usize]);
-    }
-    more
-}
-
 /// The tick after the last of a node's first changes; 0 for none.
 fn end_of_run(replica: &Replica, node: u8, run: u32) -> u64
     requires { IsTrueState replica.now }
@@ -112,45 +111,62 @@ fn end_of_run(replica: &Replica, node: u8, run: u32) -> u64
     change_at(replica, node, run - 1) + 1
 }
 
-/// The tick below which a node is known, where so many of its first changes are.
-fn horizon_of(replica: &Replica, node: u8, from: u32) -> u64
+/// The tick below which a node is known, of which so many first changes are known and the next one isn't.
+fn horizon_of(replica: &Replica, node: u8, run: u32) -> u64
     requires truth { IsTrueState replica.now }
-    requires first { KnowsFirst (slots_of replica.now) node from }
+    requires first { KnowsFirst (slots_of replica.now) node run }
+    requires last { KnowsNoMore (slots_of replica.now) node run }
     ensures tick { result ≡ horizon (slots_of replica.now) node }
     ensures early { result ≤ tick_end }
 {
     wl_record_core::table_laws();
-    let run = run_from(replica, node, from);
     let end = end_of_run(replica, node, run);
     end.max(silence_after(replica, node, run))
 }
 
-/// The tick below which what node `i` drives is known at node `j`.
-fn known_until(replica: &Replica, topology: &Topology, runs: &Runs, i: u8, j: u8) -> u64
-    requires nodes { length topology.now.places ≡ replica.now.nodes }
-    requires from { i < replica.now.nodes }
-    requires to { j < replica.now.nodes }
+/// Works out what isn't kept: counts on what has become known, and then the tick below which the node is known.
+pub(crate) fn catch_up(replica: &Replica, runs: &mut Runs, horizons: &mut Horizons)
     requires truth { IsTrueState replica.now }
-    requires counted { AreCounted (slots_of replica.now) runs.now }
-    ensures { result ≡ horizon (slots_of replica.now) i + delay_of topology.now i j }
+    requires counted { AreCounted (slots_of replica.now) runs.old }
+    requires kept { AreHorizons (slots_of replica.now) runs.old horizons.old }
+    requires few { replica.now.nodes ≤ 16 }
+    ensures counted { AreCounted (slots_of replica.now) runs.new }
+    ensures kept { AreHorizons (slots_of replica.now) runs.new horizons.new }
+    ensures all { TellHorizons replica.now horizons.new }
 {
-    let delay = topology.delay(i, j);
-    horizon_of(replica, i, runs[i as usize]) + delay
+    for i in 0..replica.nodes() {
+        if horizons[i as usize].is_none() {
+            let run = run_from(replica, i, runs[i as usize]);
+            runs[i as usize] = run;
+            horizons[i as usize] = Some(horizon_of(replica, i, run));
+        }
+    }
 }
 
-/// The tick below which the line at node `j` is known. `topology` has the replica's nodes.
-pub(crate) fn place_horizon(replica: &Replica, topology: &Topology, runs: &Runs, j: u8) -> u64
+/// Whether the line at node `j` is known at tick `t`, by the horizons of all nodes. `topology` has the replica's nodes.
+pub(crate) fn is_line_known(
+    replica: &Replica,
+    topology: &Topology,
+    horizons: &Horizons,
+    j: u8,
+    t: u64,
+) -> bool
     requires nodes { length topology.now.places ≡ replica.now.nodes }
     requires place { j < replica.now.nodes }
-    requires truth { IsTrueState replica.now }
-    requires counted { AreCounted (slots_of replica.now) runs.now }
-    ensures { result ≡ known_at replica.now.nodes (delay_of topology.now) (slots_of replica.now) j }
+    requires few { replica.now.nodes ≤ 16 }
+    requires all { TellHorizons replica.now horizons.now }
+    ensures { result ≡ nat_lt t (known_at replica.now.nodes (delay_of topology.now) (slots_of replica.now) j) }
 {
-    let mut least = known_until(replica, topology, runs, 0, j);
-    for i in 1..topology.nodes() {
-        least = least.min(known_until(replica, topology, runs, i, j));
+    wl_replica::known_laws();
+    for i in 0..topology.nodes() {
+        let Some(horizon) = horizons[i as usize] else {
+            unreachable!()
+        };
+        if horizon + topology.delay(i, j) <= t {
+            return false;
+        }
     }
-    least
+    true
 }
 
 /// The most of a node's first changes up to a guess, of which the last is not after a tick.

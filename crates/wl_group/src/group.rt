@@ -4,7 +4,9 @@ ghost use Rattle.std.specs.Prelude.{◌≡◌, ◌<◌, ℕ, true, List, [], ◌
 
 use crate::begin::{Chosen, chosen_of, first_replica, fresh_cells};
 use crate::cell::Cell;
-use crate::counted::{Come, Runs, laws_of_counts, no_runs, place_horizon};
+use crate::counted::{
+    Come, Horizons, Runs, catch_up, is_line_known, laws_of_counts, no_horizons, no_runs,
+};
 use crate::laws::value_laws;
 use std::alloc::{AllocError, Global};
 use std::marker::Model;
@@ -27,6 +29,7 @@ pub struct Group {
     pub(crate) replica: Replica,
     pub(crate) emitted: Vec<Record>,
     pub(crate) runs: Runs,
+    pub(crate) horizons: Horizons,
     pub(crate) come: Come,
 }
 
@@ -43,7 +46,7 @@ impl Model for Group {
 
     ghost view = { λ g. group_value g.plan g.cells.items g.replica g.emitted.items };
 
-    ghost invariant = { λ g. IsCounting g.plan g.cells.items g.replica g.emitted.items g.runs };
+    ghost invariant = { λ g. IsCounting g.plan g.cells.items g.replica g.emitted.items g.runs g.horizons };
 }
 
 impl Group {
@@ -56,6 +59,7 @@ impl Group {
     ghost use Rattle.wl_group.specs.Party.{Party, initial_party, party_with};
     ghost use Rattle.wl_group.specs.Member.{next_tick};
     ghost use Rattle.wl_group.specs.Chosen.{is_chosen};
+    ghost use Rattle.wl_group.specs.Counted.{TellHorizons};
     ghost use Rattle.wl_group.specs.Said.{HasJoined};
     ghost use Rattle.wl_group.specs.GroupValue.{IsGroupValue, Matches, belongs, quanta_at, members_now, names, initial_group, may_run, has_ended, with_records, with_state};
 
@@ -81,6 +85,7 @@ impl Group {
             replica,
             emitted: Vec::new(alloc),
             runs: no_runs(),
+            horizons: no_horizons(),
             come: [0; MOST_NODES],
         })
     }
@@ -101,6 +106,7 @@ impl Group {
         self.replica = replica;
         self.emitted.clear();
         self.runs = no_runs();
+        self.horizons = no_horizons();
         Ok(())
     }
 
@@ -114,6 +120,7 @@ impl Group {
         value_laws();
         laws_of_counts();
         self.replica.take(entry)?;
+        self.horizons[entry.node() as usize] = None;
         Ok(())
     }
 
@@ -131,6 +138,7 @@ impl Group {
         // (what it knows is what some records say)
         let _ = other.nodes();
         self.replica.join(other)?;
+        self.horizons = no_horizons();
         Ok(())
     }
 
@@ -146,14 +154,30 @@ impl Group {
     pub fn can_advance(&self, node: u8) -> bool
         ensures { result ≡ may_run self.now node }
     {
-        value_laws();
+        self.can_run_by(&self.horizons_now(), node)
+    }
+
+    /// The horizons of all nodes.
+    pub(crate) fn horizons_now(&self) -> Horizons
+        ensures { TellHorizons self.now.replica result }
+    {
         wl_plan::simulation_laws();
+        let (mut runs, mut horizons) = (self.runs, self.horizons);
+        catch_up(&self.replica, &mut runs, &mut horizons);
+        horizons
+    }
+
+    /// Whether an advance of this node would run a quantum, by the horizons of all nodes.
+    pub(crate) fn can_run_by(&self, horizons: &Horizons, node: u8) -> bool
+        requires { TellHorizons self.now.replica horizons.now }
+        ensures { result ≡ may_run self.now node }
+    {
+        value_laws();
         if !self.has(node) {
             return false;
         }
         let due = self.due(node);
-        due < self.plan.end
-            && due < place_horizon(&self.replica, &self.plan.topology, &self.runs, node)
+        due < self.plan.end && is_line_known(&self.replica, &self.plan.topology, horizons, node, due)
     }
 
     /// Whether this node is at the end: it is a member, and its next quantum isn't below the end. A node

@@ -8,4 +8,4 @@ returns-clause-tick c =
     c.max.ensures
     ∙ ((λ d. max (c.end_of_run-end.ensures.end d) (c.silence_after.ensures d))
     ∙ horizon_is c.table_laws.ensures c.args.replica.now.nodes c.requires.truth.0 (slots_of c.args.replica.now) c.requires.truth.2 c.args.node (c.requires.truth.1 c.args.node)
-    c.run_from-run.result c.run_from-run.ensures.first c.run_from-run.ensures.last)
+    c.args.run c.requires.first c.requires.last)

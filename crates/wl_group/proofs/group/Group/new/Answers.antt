@@ -12,6 +12,7 @@ invariant_of-result c =
           c.in_ok-cells.cells.items c.in_ok-replica.replica c.new.result.items c.requires.checked c.in_ok-clone_in.ensures c.chosen_of-chosen.ensures
           c.in_ok-cells.ensures.ran c.in_ok-cells.ensures.cells c.in_ok-replica.ensures c.new.ensures.items;
       counted = c.no_runs.ensures (slots_of c.in_ok-replica.replica);
+      known = c.no_horizons.ensures (slots_of c.in_ok-replica.replica) c.no_runs.result;
     }
 
 pub returns-clause-value : goal.returns-clause-value

@@ -1,20 +1,22 @@
 -- A quantum of a member: what it says fits the replica, and the group is what it was to come to.
-use Rattle.std.proofs.Common.{◌≡◌, ◌≤◌, Some, None, get_or, ◌∙◌, sym, subst}
+use Rattle.std.specs.List.{AllByRecursion}
+use Rattle.std.proofs.Common.{◌≡◌, ◌≤◌, Some, None, get_or, length, ◌∙◌, sym, subst}
 use Rattle.std.proofs.Math.ListN.{set}
 use Rattle.std.proofs.lemmas.Bool.{and_parts}
 use Rattle.wl_record_core.specs.Limits.{most_edges}
 use Rattle.wl_replica.specs.State.{State, state_of, slots_of}
 use Rattle.wl_node.specs.Reached.{quanta_of}
 use Rattle.wl_plan.specs.Limits.{most_quanta}
-use Rattle.wl_plan.specs.PlanLine.{line_of}
+use Rattle.wl_plan.specs.PlanLine.{line_of, table_of}
 use Rattle.wl_group.specs.Member.{can_run}
-use Rattle.wl_group.specs.GroupValue.{belongs, members_now}
-use Rattle.wl_group.specs.Counted.{AreCounted}
+use Rattle.wl_group.specs.GroupValue.{belongs, members_now, reads_at}
+use Rattle.wl_group.specs.Counted.{AreCounted, AreHorizons}
+use Rattle.wl_group.specs.Kept.{IsKept, group_value}
 use Rattle.wl_group.proofs.Callers.{on_err}
-use Rattle.wl_group.proofs.CountedProofs.{true_state, counting_stays}
-use Rattle.wl_group.proofs.RunProofs.{cell_read, in_cells, few_quanta, few_changed, reads_is, value_stays, kept_stays, kept_runs, has_run, may_say}
+use Rattle.wl_group.proofs.CountedProofs.{true_state, counted_stays, others_kept, own_records, IsOf}
+use Rattle.wl_group.proofs.RunProofs.{cell_read, in_cells, few_quanta, few_changed, reads_is, value_stays, kept_stays, kept_runs, said_is, has_run, may_say}
 use Rattle.wl_group.proofs.group.Group.run_next.Goals as goal
-use Rattle.wl_group.proofs.group.Group.run_next.Goals.{In-Some}
+use Rattle.wl_group.proofs.group.Group.run_next.Goals.{In-Some, In_ok-emission}
 
 -- the member's cell, where one was found
 found_cell : (c : In-Some) → get_or c.self.inside.cells.items c.args.i None ≡ Some c.in-Some.cell
@@ -49,7 +51,8 @@ pub invariant_of-self : goal.invariant_of-self
 invariant_of-self c =
     record {
       kept = kept_stays c.value_laws.ensures c.checked_is_sound.ensures c.self.inside.plan c.self.inside.cells.items c.self.inside.replica c.self.inside.emitted.items c.self.invariant.kept c.args.self.now c.self.view_is c.args.i c.in-Some.cell (found_cell (goal.at.invariant_of-self c).In-Some) c.run_cell.new.cell c.in_err-emission.ensures.same_quanta c.in_err-emission.ensures.stays c.run_cell.new.replica c.run_cell.new.emitted.items c.in_err-emission.ensures.not_taken c.in_err-emission.ensures.not_emitted;
-      counted = subst (λ (s : State). AreCounted (slots_of s) c.caught_up-self-inside.result) (sym c.in_err-emission.ensures.not_taken) c.caught_up-self-inside.ensures;
+      counted = subst (λ (s : State). AreCounted (slots_of s) c.catch_up.new.runs) (sym c.in_err-emission.ensures.not_taken) c.catch_up.ensures.counted;
+      known = subst (λ (s : State). AreHorizons (slots_of s) c.catch_up.new.runs c.catch_up.new.horizons) (sym c.in_err-emission.ensures.not_taken) c.catch_up.ensures.kept;
     }
 
 pub returns-in_err-emission-clause-err : goal.returns-in_err-emission-clause-err
@@ -58,16 +61,54 @@ returns-in_err-emission-clause-err c =
     (value_stays c.value_laws.ensures c.checked_is_sound.ensures c.self.inside.plan c.self.inside.cells.items c.self.inside.replica c.self.inside.emitted.items c.self.invariant.kept c.args.self.now c.self.view_is c.args.i c.in-Some.cell (found_cell (goal.at.returns-in_err-emission-clause-err c).In-Some) c.run_cell.new.cell c.in_err-emission.ensures.same_quanta c.in_err-emission.ensures.stays c.run_cell.new.replica c.run_cell.new.emitted.items c.in_err-emission.ensures.not_taken c.in_err-emission.ensures.not_emitted
     ∙ c.self.view_is)
 
-pub invariant_of-self-2 : goal.invariant_of-self-2
-invariant_of-self-2 c =
-    counting_stays c.laws_of_counts.ensures.slots c.laws_of_counts.ensures.states c.laws_of_counts.ensures.known c.self.inside.plan
-    (set c.self.inside.cells.items c.args.i (Some c.run_cell.new.cell))
-    c.self.inside.replica (state_of c.self.inside.replica.nodes c.in_ok-emission.emission.items) c.run_cell.new.replica c.run_cell.new.emitted.items c.caught_up-self-inside.result c.in_ok-emission.ensures.taken c.caught_up-self-inside.ensures
-    (kept_runs c.value_laws.ensures c.checked_is_sound.ensures c.self.inside.plan c.self.inside.cells.items c.self.inside.replica c.self.inside.emitted.items c.self.invariant.kept c.args.self.now c.self.view_is c.args.i c.in-Some.cell (found_cell (goal.at.invariant_of-self-2 c).In-Some) c.run_cell.new.cell c.requires c.level_at-level.result
-    (reads_is c.value_laws.ensures c.checked_is_sound.ensures c.self.inside.plan c.self.inside.cells.items c.self.inside.replica c.self.inside.emitted.items c.self.invariant.kept c.args.self.now c.self.view_is c.args.i c.in-Some.cell (found_cell (goal.at.invariant_of-self-2 c).In-Some) c.due-tick.result c.level_at-level.result c.due-tick.ensures c.level_at-level.ensures)
+-- what is kept after the quantum, but for what is worked out again
+kept_new : (c : In_ok-emission) → get_or c.self.inside.cells.items c.args.i None ≡ Some c.in-Some.cell
+    → IsKept c.self.inside.plan (set c.self.inside.cells.items c.args.i (Some c.run_cell.new.cell)) c.run_cell.new.replica c.run_cell.new.emitted.items
+kept_new c found =
+    kept_runs c.value_laws.ensures c.checked_is_sound.ensures c.self.inside.plan c.self.inside.cells.items c.self.inside.replica c.self.inside.emitted.items c.self.invariant.kept c.args.self.now c.self.view_is c.args.i c.in-Some.cell found c.run_cell.new.cell c.requires c.level_at-level.result
+    (reads_is c.value_laws.ensures c.checked_is_sound.ensures c.self.inside.plan c.self.inside.cells.items c.self.inside.replica c.self.inside.emitted.items c.self.invariant.kept c.args.self.now c.self.view_is c.args.i c.in-Some.cell found c.due-tick.result c.level_at-level.result c.due-tick.ensures c.level_at-level.ensures)
     c.in_ok-emission.emission.items c.in_ok-emission.ensures.emits c.in_ok-emission.ensures.quanta c.in_ok-emission.ensures.after
     c.run_cell.new.replica c.run_cell.new.emitted.items
-    c.in_ok-emission.ensures.taken c.in_ok-emission.ensures.emitted)
+    c.in_ok-emission.ensures.taken c.in_ok-emission.ensures.emitted
+
+pub catch_up-requires-2-clause-truth : goal.catch_up-requires-2-clause-truth
+catch_up-requires-2-clause-truth c =
+    let a = goal.at.catch_up-requires-2-clause-truth c in
+    true_state c.simulation_laws.ensures c.self.inside.plan (set c.self.inside.cells.items c.args.i (Some c.run_cell.new.cell)) c.run_cell.new.replica c.run_cell.new.emitted.items
+    (kept_new a.In_ok-emission (found_cell a.In-Some))
+
+pub catch_up-requires-2-clause-counted : goal.catch_up-requires-2-clause-counted
+catch_up-requires-2-clause-counted c =
+    let a = goal.at.catch_up-requires-2-clause-counted c in
+    counted_stays c.laws_of_counts.ensures.slots c.laws_of_counts.ensures.states c.laws_of_counts.ensures.known (length c.self.inside.plan.nodes) (table_of c.self.inside.plan)
+    c.self.inside.replica (state_of c.self.inside.replica.nodes c.in_ok-emission.emission.items) c.run_cell.new.replica c.catch_up.new.runs c.in_ok-emission.ensures.taken
+    (kept_new a.In_ok-emission (found_cell a.In-Some)).value.holds.truth c.catch_up.ensures.counted
+
+-- only of the node that ran is more known now
+pub catch_up-requires-2-clause-kept : goal.catch_up-requires-2-clause-kept
+catch_up-requires-2-clause-kept c =
+    let a = goal.at.catch_up-requires-2-clause-kept c in
+    let found = found_cell a.In-Some in
+    let plan = c.self.inside.plan in
+    let g = group_value plan c.self.inside.cells.items c.self.inside.replica c.self.inside.emitted.items in
+    others_kept c.laws_of_counts.ensures.states c.self.inside.replica c.run_cell.new.replica c.in_ok-emission.emission.items c.catch_up.new.runs c.catch_up.new.horizons
+    c.self.inside.replica.nodes c.args.i c.in_ok-emission.ensures.taken
+    (subst (AllByRecursion (IsOf c.args.i)) (sym (said_is c.value_laws.ensures c.checked_is_sound.ensures c.self.inside.plan c.self.inside.cells.items c.self.inside.replica c.self.inside.emitted.items c.self.invariant.kept c.args.self.now c.self.view_is c.args.i c.in-Some.cell found c.run_cell.new.cell c.requires c.level_at-level.result
+    (reads_is c.value_laws.ensures c.checked_is_sound.ensures c.self.inside.plan c.self.inside.cells.items c.self.inside.replica c.self.inside.emitted.items c.self.invariant.kept c.args.self.now c.self.view_is c.args.i c.in-Some.cell found c.due-tick.result c.level_at-level.result c.due-tick.ensures c.level_at-level.ensures)
+    c.in_ok-emission.emission.items c.in_ok-emission.ensures.emits c.in_ok-emission.ensures.quanta c.in_ok-emission.ensures.after
+    c.run_cell.new.replica c.run_cell.new.emitted.items
+    c.in_ok-emission.ensures.taken c.in_ok-emission.ensures.emitted))
+    (own_records (line_of plan) c.args.i (members_now g c.args.i) (reads_at g c.args.i)))
+    c.catch_up.ensures.kept
+
+pub invariant_of-self-2 : goal.invariant_of-self-2
+invariant_of-self-2 c =
+    let a = goal.at.invariant_of-self-2 c in
+    record {
+      kept = kept_new a.In_ok-emission (found_cell a.In-Some);
+      counted = c.catch_up-2.ensures.counted;
+      known = c.catch_up-2.ensures.kept;
+    }
 
 pub returns-clause-ran : goal.returns-clause-ran
 returns-clause-ran c =
