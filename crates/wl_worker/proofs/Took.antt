@@ -13,16 +13,13 @@ use Rattle.wl_plan.specs.declared.plan.Plan.{Plan}
 use Rattle.wl_plan.specs.PlanLine.{IsTrueOfPlan}
 use Rattle.wl_group.specs.GroupValue.{GroupValue, with_records}
 use Rattle.wl_worker.specs.Handed.{AreTrueOfPlan, Took, HasChanged}
+use Rattle.wl_mail.proofs.Callers.{with_nothing, with_both, changed_more}
 use Rattle.wl_worker.proofs.Steps.{took_plan}
 
 -- ---- nothing, one record, and more of them
 
 pub took_nothing : IsJoining → (old new : GroupValue) → new ≡ old → Took old new
-took_nothing laws old new e = record {
-  more = [];
-  are_true = tt;
-  taken = e ∙ ap (λ (s : State). record { plan = old.plan; ran = old.ran; replica = s; emitted = old.emitted }) (sym (laws.neutral old.replica));
-}
+took_nothing laws old new e = record { more = []; are_true = tt; taken = with_nothing laws old new e }
 
 pub took_one : (old new : GroupValue) (r : Record) → IsTrueOfPlan old.plan r → new ≡ with_records (r ∷ []) old → Took old new
 took_one old new r h e = record { more = r ∷ []; are_true = (h, tt); taken = e }
@@ -35,8 +32,7 @@ pub took_both : TakingIsJoining → (a b c : GroupValue) → Took a b → Took b
 took_both laws a b c t u = record {
   more = t.more ++ u.more;
   are_true = both_true a.plan t.more u.more t.are_true (subst (λ p. AreTrueOfPlan p u.more) (took_plan a b t) u.are_true);
-  taken = u.taken ∙ ap (with_records u.more) t.taken
-      ∙ ap (λ (s : State). record { plan = a.plan; ran = a.ran; replica = s; emitted = a.emitted }) (laws.in_parts a.replica t.more u.more);
+  taken = with_both laws a b c t.more u.more t.taken u.taken;
 }
 
 -- ---- whether it changed
@@ -68,25 +64,5 @@ silence_changes laws old new n c u less e same =
     let still : (silence_at new.replica (n, c)).word ≡ (silence_at old.replica (n, c)).word = ap (λ (x : State). (silence_at x (n, c)).word) same in
     absurd (omega arith)
 
--- what was joined in can't be lost by joining more
-stays : IsJoining → (s a b : State) → b.nodes ≡ a.nodes → states_joined (states_joined s a) b ≡ s → states_joined s a ≡ s
-stays laws s a b n e =
-    ap (λ x. states_joined x a) (sym e)
-    ∙ (laws.associates (states_joined s a) b a
-    ∙ (ap (states_joined (states_joined s a)) (laws.commutes b a n)
-    ∙ (sym (laws.associates (states_joined s a) a b)
-    ∙ (ap (λ x. states_joined x b) (laws.associates s a a ∙ ap (states_joined s) (laws.idempotent a))
-    ∙ e))))
-
-changed_before : IsJoining → (a b c : GroupValue) → Took a b → Took b c → b.replica ≢ a.replica → c.replica ≢ a.replica
-changed_before laws a b c t u h same =
-    let x : b.replica ≡ states_joined a.replica (state_of a.replica.nodes t.more) = ap (λ (g : GroupValue). g.replica) t.taken in
-    let y : c.replica ≡ states_joined b.replica (state_of b.replica.nodes u.more) = ap (λ (g : GroupValue). g.replica) u.taken in
-    let both : states_joined (states_joined a.replica (state_of a.replica.nodes t.more)) (state_of b.replica.nodes u.more) ≡ a.replica
-    = ap (λ z. states_joined z (state_of b.replica.nodes u.more)) (sym x) ∙ (sym y ∙ same) in
-    h (x ∙ stays laws a.replica (state_of a.replica.nodes t.more) (state_of b.replica.nodes u.more) (ap (λ (z : State). z.nodes) x) both)
-
 pub changed_both : IsJoining → (a b c : GroupValue) → Took a b → Took b c → (x y : Bool) → HasChanged a b x → HasChanged b c y → HasChanged a c (x || y)
-changed_both laws a b c t u true y h g = changed_before laws a b c t u h
-changed_both laws a b c t u false true h g = subst (λ (z : GroupValue). c.replica ≢ z.replica) h g
-changed_both laws a b c t u false false h g = g ∙ h
+changed_both laws a b c t u = changed_more laws a b c t.more u.more t.taken u.taken

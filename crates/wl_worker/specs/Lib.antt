@@ -1,4 +1,5 @@
 pub mod Finished
 pub mod Handed
+pub mod Letters
 pub mod Shared
 pub mod Shares

@@ -1,0 +1,145 @@
+//! The link by letters.
+ghost use Rattle.std.specs.Prelude.{◌≡◌, All, IfOk, map, vec_len};
+ghost use Rattle.wl_mail.specs.Ways.{one_more};
+
+use crate::bell::{Bell, MOST_WORKERS};
+use crate::link::{Link, LinkFault};
+use std::alloc::{AllocError, Global};
+use std::sync::Wait;
+use wl_group::Group;
+use wl_mail::{MailFault, Post};
+use wl_plan::Plan;
+use wl_record_core::Record;
+
+/// A link over a post. It waits at a bell, whose counts tell how many letters are still to come.
+#[derive(Drop)]
+pub struct MailLink<'h, R: Wait> {
+    rt: &'h R,
+    post: Post,
+    plan: Plan,
+    bell: &'h Bell,
+    worker: u8,
+    // How often the bell had rung when the last fetch began.
+    heard: u64,
+    // How many letters it has received.
+    received: u64,
+}
+
+impl From<MailFault> for LinkFault {
+    ghost use Rattle.std.specs.Prelude.{◌≡◌};
+    ghost use Rattle.wl_worker.specs.Letters.{fault_of_mail};
+
+    ghost from_gives = { λ fault given. given ≡ fault_of_mail fault };
+
+    fn from(fault: MailFault) -> LinkFault {
+        match fault {
+            MailFault::Foreign => LinkFault::Foreign,
+            MailFault::Gone => LinkFault::Gone,
+            MailFault::Memory => LinkFault::Memory,
+        }
+    }
+}
+
+impl<'h, R: Wait> MailLink<'h, R> {
+    /// The link of a worker over its post, of a plan. All links of a run share one bell, at which each gives as often as it sends. Refused
+    /// only when out of memory; then the post is given up.
+    pub fn new(
+        rt: &'h R,
+        alloc: Global,
+        post: Post,
+        plan: &Plan,
+        bell: &'h Bell,
+        worker: u8,
+    ) -> Result<MailLink<'h, R>, AllocError>
+        ensures plan { IfOk result (λ link. link.plan ≡ plan.now) }
+        ensures post { IfOk result (λ link. link.post ≡ post) }
+    {
+        Ok(MailLink {
+            rt,
+            post,
+            plan: plan.clone_in(alloc)?,
+            bell,
+            worker,
+            heard: 0,
+            received: 0,
+        })
+    }
+
+    /// How many letters the other workers have sent to this one, by the bell; 2^64 - 1 stands for more.
+    fn sent_by_others(&self) -> u64 {
+        let mut sent = 0u64;
+        for worker in 0..MOST_WORKERS as u8 {
+            if worker != self.worker {
+                sent = sent.saturating_add(self.bell.gives(self.rt, worker));
+            }
+        }
+        sent
+    }
+}
+
+impl<'h, R: Wait> Link for MailLink<'h, R> {
+    ghost use Rattle.std.specs.Prelude.{◌≡◌, OnOk, map};
+    ghost use Rattle.wl_plan.specs.declared.plan.Plan.{Plan as GivenPlan};
+    ghost use Rattle.wl_mail.specs.Ways.{one_more};
+    ghost use Rattle.wl_worker.specs.Handed.{AreTrueOfPlan, Took, HasChanged};
+
+    ghost is_of = { λ link plan. link.plan ≡ plan };
+
+    fn worker(&self) -> u8 {
+        self.worker
+    }
+
+    /// Sends a letter of these records to every other worker, and then rings the bell.
+    fn give(&mut self, alloc: Global, records: &[Record]) -> Result<(), LinkFault>
+        requires { (p : GivenPlan) × (self.old.plan ≡ p) × AreTrueOfPlan p records.now }
+        ensures same { (p : GivenPlan) → self.old.plan ≡ p → self.new.plan ≡ p }
+        ensures sent { OnOk result (self.new.post ≡ map one_more self.old.post) }
+    {
+        self.post.send(self.rt, alloc, &self.plan, records)?;
+        self.bell.give(self.rt, self.worker);
+        Ok(())
+    }
+
+    /// Receives as many letters as the others have sent, by the bell, since the last ones; where there are none it waits for nobody.
+    fn fetch(&mut self, alloc: Global, group: &mut Group) -> Result<bool, LinkFault> {
+        wl_replica::joining_is_a_join();
+        wl_replica::taking_is_joining();
+        self.heard = self.bell.rings();
+        let sent = self.sent_by_others();
+        let mut came = false;
+        for _ in self.received..sent {
+            let news = self.post.receive(self.rt, alloc, group)?;
+            self.received = self.received.saturating_add(1);
+            came |= news;
+        }
+        Ok(came)
+    }
+
+    fn wait(&mut self) -> Option<u8> {
+        self.bell.wait_past(self.rt, self.heard)
+    }
+
+    fn stop(&mut self) {
+        self.bell.stop(self.rt, self.worker);
+    }
+}
+
+/// A link for each post, of a plan: the posts are those of workers 0, 1 and so on, at most 256. Refused only when out of memory.
+pub fn mail_links<'h, R: Wait>(
+    rt: &'h R,
+    alloc: Global,
+    posts: Vec<Post>,
+    plan: &Plan,
+    bell: &'h Bell,
+) -> Result<Vec<MailLink<'h, R>>, AllocError>
+    ensures count { IfOk result (λ links. vec_len links ≡ vec_len posts) }
+    ensures of { IfOk result (λ links. All (λ link. link.plan ≡ plan.now) links.items) }
+{
+    let mut links = Vec::new(alloc);
+    let mut worker = 0u8;
+    for post in posts {
+        links.push(MailLink::new(rt, alloc, post, plan, bell, worker)?)?;
+        worker = worker.wrapping_add(1);
+    }
+    Ok(links)
+}
