@@ -1,7 +1,7 @@
 #!/usr/bin/env python3
 """Wireline in plain Python: what the proved program is compared with.
 
-usage: plain.py merge|horizon|check|records|run|explain      standard input to standard output
+usage: plain.py merge|horizon|check|records|run|explain|trace      standard input to standard output
 
 This is a second program, written from the rules and not from the proved one: whole lists, one quantum after another, no cleverness.
 Where both answer the same bytes on many inputs, a mistake would have to be in both. It shares no line with the proved program.
@@ -275,6 +275,19 @@ class Machine:
         self.role, self.runs = "Rx", 0
         self.go("off")
 
+    def next_place(self):
+        """Where in a frame the next sample falls, in the words of a trace; counts begin at 0."""
+        if self.state == "delimiter": return "in", "delimiter", self.count
+        if self.state == "ending": return "in", *ending_field(ENDING[self.count])
+        if self.state == "receiving":
+            after = self.equal == 5
+            return "after" if after else "in", *field_at(self.bits, len(self.bits) - after)
+        if self.state == "sending":
+            place = self.line[self.count][1]
+            if isinstance(place, str): return "in", *ending_field(place)
+            if place is None: return "after", *field_at(self.frame.bits(), self.line[self.count - 1][1])
+            return "in", *field_at(self.frame.bits(), place)
+
     # Where a bit leads to
 
     def free(self, head):
@@ -420,6 +433,24 @@ class Machine:
 ENDING = ("CRC delimiter", "ACK slot", "ACK delimiter") + tuple(f"EOF {n}" for n in range(1, 8))
 
 
+BASE_FIELDS = (("sof", 1), ("id", 11), ("rtr", 1), ("ide", 1), ("r0", 1), ("dlc", 4))
+EXTENDED_FIELDS = (("sof", 1), ("id", 11), ("srr", 1), ("ide", 1), ("ext_id", 18), ("rtr", 1), ("r1", 1), ("r0", 1), ("dlc", 4))
+
+
+def field_at(bits, place):
+    """The field of a frame that begins so, and which of its bits a place is (B 3.2.1)."""
+    for word, width in EXTENDED_FIELDS if len(bits) > IDE and bits[IDE] else BASE_FIELDS:
+        if place < width: return word, place
+        place -= width
+    data = frame_length(bits) - header(bits[IDE])[1] - 15
+    return ("data", place) if place < data else ("crc", place - data)
+
+
+def ending_field(place):
+    if place.startswith("EOF"): return "eof", int(place[4:]) - 1
+    return place.lower().replace(" ", "_"), 0
+
+
 # ---- Counters: fault confinement (B 8)
 
 class Counters:
@@ -449,6 +480,7 @@ class Node:
         self.quanta, self.drive = 0, RECESSIVE
         self.changes, self.frames, self.phases = [], [], []
         self.samples = self.hards = self.errors = 0
+        self.events = []
 
     def next_tick(self):
         return self.setup.clock.at(self.quanta)
@@ -467,14 +499,32 @@ class Node:
         self.samples += 1
         mode = self.counters.mode()
         head = self.waiting[0].frame if self.waiting and self.waiting[0].ready <= self.quanta else None
+        where, state, role = self.machine.next_place(), self.machine.state, self.machine.role
         happened = self.machine.bit(level, head, mode)
         self.counters.apply(happened)
+        self.note(where, state, role, happened, mode)
         if mode != "off" and self.counters.mode() == "off": self.machine.bus_off()
         if happened.startswith(("TxError", "RxError", "TxFree")): self.errors += 1
         if self.machine.done:
             what, frame = self.machine.done
             self.frames.append((what, self.quanta, frame))
             if what == "sent": self.waiting.pop(0)
+
+
+    def note(self, where, state, role, happened, mode):
+        """What the sample did, in the words of a trace."""
+        words, machine = [], self.machine
+        if state == "sending" and machine.state == "receiving": words.append(("lost", *where))
+        if happened.startswith(("TxError", "RxError", "TxFree")):
+            free = "Ack" if where[1] == "ack_slot" else "Stuff"
+            kind = free if happened == "TxFree" else happened.split()[1]
+            words.append(("error", kind.lower(), role.lower(), *where))
+        new = self.counters.mode()
+        if machine.state in ("flag", "passive_flag") and machine.count == 0 and new != "off":
+            if state not in ("flag", "passive_flag"): words.append(("flag", machine.flag_kind))
+        if machine.done: words.append((machine.done[0], frame_words(machine.done[1])))
+        if mode != new: words.append(("mode", new, "tec", self.counters.tec, "rec", self.counters.rec))
+        self.events += [(self.quanta, self.samples - 1, " ".join(map(str, line))) for line in words]
 
 
 # ---- Line: what a node finds at a tick (part A, section 2, "Bus values"; fixed delays: P)
@@ -739,6 +789,20 @@ def records_text(plan):
     return lines
 
 
+def frame_words(frame):
+    kind = "remote" if frame.remote else "data"
+    return f"{frame.id:0{8 if frame.extended else 3}x} {kind} {frame.dlc} {frame.data.hex() or '-'}"
+
+
+def trace_text(plan):
+    lines = []
+    for i, (setup, node) in enumerate(zip(plan.nodes, simulate(plan))):
+        for quantum, bit, words in node.events:
+            tick = setup.clock.at(quantum)
+            lines.append((tick, f"{tick} {i} {setup.name} q {quantum} b {bit} {words}"))
+    return [line for _, line in sorted(lines, key=lambda line: line[0])]
+
+
 def report_text(plan):
     nodes, lines = simulate(plan), []
     for i, node in enumerate(nodes):
@@ -746,8 +810,7 @@ def report_text(plan):
         lines.append(f"node {i} tec {node.counters.tec} rec {node.counters.rec} mode {node.counters.mode()} errors {node.errors} "
                      f"samples {node.samples} hard {node.hards} sync {len(node.phases)} least {least} greatest {greatest}")
         for what, quantum, frame in node.frames:
-            kind = "remote" if frame.remote else "data"
-            lines.append(f"frame {i} {what} {quantum} {frame.id:0{8 if frame.extended else 3}x} {kind} {frame.dlc} {frame.data.hex() or '-'}")
+            lines.append(f"frame {i} {what} {quantum} {frame_words(frame)}")
     errors, unsent = sum(node.errors for node in nodes), sum(len(node.waiting) for node in nodes)
     return lines + [f"verdict faulty errors {errors} unsent {unsent}" if errors or unsent else "verdict clean"]
 
@@ -818,6 +881,7 @@ COMMANDS = {
     "records": lambda text: records_text(read_plan(text)),
     "run": lambda text: report_text(read_plan(text)),
     "explain": lambda text: explain_text(read_plan(text)),
+    "trace": lambda text: trace_text(read_plan(text)),
 }
 
 

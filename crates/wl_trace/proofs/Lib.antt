@@ -1,0 +1,7 @@
+mod Told
+mod Runs
+mod Following
+mod Taken
+mod Read
+mod Added
+mod Replayed

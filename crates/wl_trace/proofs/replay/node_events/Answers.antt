@@ -1,0 +1,43 @@
+use Rattle.std.proofs.Common.{◌∙◌, ap, sym, subst, List, ℕ, length, take, arith, refl}
+use Rattle.std.proofs.lemmas.List.{take_all}
+use Rattle.wl_level.specs.declared.Level.{Level}
+use Rattle.wl_level.specs.declared.Level.TheVariants.{Dominant}
+use Rattle.wl_node.specs.declared.setup.NodeSetup.{NodeSetup}
+use Rattle.wl_trace.specs.declared.event.Noted.{Noted}
+use Rattle.wl_trace.specs.Replay.{IsReplay, SampledPast}
+use Rattle.wl_trace.proofs.Replayed.{replay_of, replay_first, events_replayed, past_more, events_more, count_more}
+use Rattle.wl_trace.proofs.replay.node_events.Goals as goal
+
+pub loop-bit-init : goal.loop-bit-init
+loop-bit-init c =
+    let first = sym (replay_first c.args.setup.now) in
+    record {
+      past = subst (λ (r : SampledPast × List Noted). IsReplay c.new-replay.result r.0) first c.new-replay.ensures.past;
+      events = c.new.ensures.items ∙ ap (λ (r : SampledPast × List Noted). r.1) first;
+      counted = ap (λ (r : SampledPast × List Noted). length r.0.samples) (sym first);
+      sent = omega (arith, c.new-replay.ensures.sent);
+    }
+
+pub loop-bit-preserved : goal.loop-bit-preserved
+loop-bit-preserved c =
+    let setup : NodeSetup = c.args.setup.now in
+    let samples : List (ℕ × Level) = c.args.samples.now in
+    let bit : ℕ = c.loop-bit.bit in
+    let p : SampledPast = (replay_of setup (take bit samples)).0 in
+    let d : ℕ × Level = (0, Dominant) in
+    record {
+      past = past_more setup samples bit d c.loop-bit-test.true c.sample.new.self (c.in_ok-sample.ensures.past setup p (sym c.as_slice-queue.ensures) c.loop-bit.invariant.past);
+      events =
+          events_more setup samples bit d c.loop-bit-test.true _ c.sample.new.notes refl refl c.loop-bit.invariant.events c.loop-bit.invariant.counted
+          (c.in_ok-sample.ensures.notes setup p (sym c.as_slice-queue.ensures) c.loop-bit.invariant.past);
+      counted = count_more setup samples bit d c.loop-bit-test.true c.loop-bit.invariant.counted;
+      sent = omega (arith, c.in_ok-sample.ensures.sent, c.loop-bit.invariant.sent);
+    }
+
+pub returns : goal.returns
+returns c levels e =
+    let setup : NodeSetup = c.args.setup.now in
+    let samples : List (ℕ × Level) = c.args.samples.now in
+    c.loop-bit.invariant.events
+    ∙ ap (λ (xs : List (ℕ × Level)). (replay_of setup xs).1) (take_all c.loop-bit.bit samples (omega (arith, c.loop-bit-test.false)) ∙ e)
+    ∙ events_replayed setup levels

@@ -1,0 +1,6 @@
+pub mod Places
+pub mod Events
+pub mod Laws
+pub mod Running
+pub mod Replay
+pub mod Notes

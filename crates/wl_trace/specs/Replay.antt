@@ -1,0 +1,60 @@
+-- The same from a node's samples alone: what reached its machine and what came of it, sample by sample.
+use Rattle.std.specs.Prelude.{◌≡◌, ℕ, List, [], ◌∷◌, ◌++◌, drop, count_by}
+use Rattle.wl_level.specs.declared.Level.{Level}
+use Rattle.wl_confine.specs.declared.Happened.{Happened}
+use Rattle.wl_confine.specs.Counts.{counts_of, mode_of}
+use Rattle.wl_machine.specs.Stretch.{Sampled, Input, Judgement}
+use Rattle.wl_machine.specs.Stretch.Input.{Sample}
+use Rattle.wl_machine.specs.Judged.{judged, stretch_of}
+use Rattle.wl_machine.specs.Reached.{IsMachine}
+use Rattle.wl_node.specs.declared.setup.NodeSetup.{NodeSetup}
+use Rattle.wl_node.specs.declared.setup.Passed.{Passed}
+use Rattle.wl_node.specs.History.{ready_head, passed_frames, is_sent, switched_off}
+use Rattle.wl_trace.specs.declared.event.Event.{Event}
+use Rattle.wl_trace.specs.declared.replay.Replay.{Replay}
+use Rattle.wl_trace.specs.Events.{judged_events}
+use Rattle.wl_trace.specs.Running.{KeepsStretch}
+
+-- what came before a sample
+pub record SampledPast : Type 0 where
+  pub inputs : List Input
+  pub happened : List Happened
+  pub frames : List Passed
+  pub samples : List (ℕ × Level)
+
+abbrev pub no_past : SampledPast
+no_past = record { inputs = []; happened = []; frames = []; samples = [] }
+
+-- what the machine is given with a sample at this quantum
+abbrev pub sampled_then : NodeSetup → SampledPast → ℕ → Level → Sampled
+sampled_then setup p quantum level = record {
+  level = level;
+  head = ready_head (drop (count_by is_sent p.frames) setup.queue) quantum;
+  mode = mode_of (counts_of p.happened);
+}
+
+abbrev pub judged_then : NodeSetup → SampledPast → ℕ → Level → Judgement
+judged_then setup p quantum level = judged (stretch_of p.inputs) (sampled_then setup p quantum level)
+
+-- the past after a sample that was judged so
+abbrev pub past_judged : SampledPast → ℕ → Sampled → Judgement → SampledPast
+past_judged p quantum x j = record {
+  inputs = (p.inputs ++ Sample x ∷ []) ++ switched_off x.mode (mode_of (counts_of (p.happened ++ j.happened ∷ [])));
+  happened = p.happened ++ j.happened ∷ [];
+  frames = p.frames ++ passed_frames quantum j.ended;
+  samples = p.samples ++ (quantum, x.level) ∷ [];
+}
+
+abbrev pub past_after : NodeSetup → SampledPast → ℕ × Level → SampledPast
+past_after setup p (quantum, level) = past_judged p quantum (sampled_then setup p quantum level) (judged_then setup p quantum level)
+
+-- what a sample does
+abbrev pub then_events : NodeSetup → SampledPast → ℕ → Level → List Event
+then_events setup p quantum level = judged_events (stretch_of p.inputs) level (counts_of p.happened) (judged_then setup p quantum level)
+
+-- what is kept is that of this past
+pub record IsReplay (kept : Replay) (p : SampledPast) : Type 0 where
+  pub machine : IsMachine kept.machine p.inputs
+  pub counters : kept.counters ≡ counts_of p.happened
+  pub sent : kept.sent ≡ count_by is_sent p.frames
+  pub stretch : KeepsStretch kept.stretch (stretch_of p.inputs)

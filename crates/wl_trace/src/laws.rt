@@ -1,0 +1,7 @@
+//! Laws of traces, as contracts of functions with an empty body.
+ghost use Rattle.wl_trace.specs.Laws.{TraceLaws};
+
+/// Law: the events of a node have as many errors as its report counts, and the frames of its report in their order.
+pub fn trace_laws()
+    ensures { TraceLaws }
+{}

@@ -1,0 +1,13 @@
+//! A trace of a run: what happened to each node, and where in a frame.
+#![tactic(auto)]
+
+mod event;
+mod fields;
+mod laws;
+mod noting;
+mod replay;
+mod stretch;
+
+pub use event::{Event, FlagForm, FrameField, Noted, Place};
+pub use laws::trace_laws;
+pub use replay::node_events;
