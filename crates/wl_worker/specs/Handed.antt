@@ -17,6 +17,10 @@ pub record Took (old new : GroupValue) : Type 0 where
   pub are_true : AreTrueOfPlan old.plan more
   pub taken : new ≡ with_records more old
 
+-- a group that is as it was took no records
+abbrev pub NothingIsTaken : Type 0
+NothingIsTaken = (group : GroupValue) → Took group group
+
 -- whether that changed what it knows
 abbrev pub HasChanged : GroupValue → GroupValue → Bool → Type 0
 HasChanged old new answer = MatchBool answer (new.replica ≢ old.replica) (new ≡ old)
