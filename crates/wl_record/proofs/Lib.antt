@@ -7,3 +7,4 @@ mod PieceLemmas
 mod ReadLemmas
 mod Rows
 mod WriteLemmas
+pub mod Callers

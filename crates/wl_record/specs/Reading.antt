@@ -1,7 +1,6 @@
 -- Reading records: what a reader gave, and what is to be answered (this project's profile).
-use Rattle.std.specs.Prelude.{◌≡◌, ℕ, ◌+◌, ◌++◌, ◌≤◌, List, [], length, refl}
+use Rattle.std.specs.Prelude.{◌≡◌, ℕ, ◌+◌, ◌++◌, ◌≤◌, List, [], length}
 use Rattle.std.specs.List.{AllByRecursion}
-use Rattle.std.proofs.Common.{arith}
 use Rattle.wl_record_core.specs.declared.record.Record.{Record}
 use Rattle.wl_record.specs.declared.fault.TextFault.{TextFault}
 use Rattle.wl_record.specs.declared.fault.TextFault.TheVariants.{Memory}
@@ -43,17 +42,6 @@ pub record HasRead {S : Type 0} (gives : S → Answer → S → Type 0) (s : S) 
   pub bytes : length (moved_bytes answers) ≡ p.bytes
   pub lines : length rs ≡ p.lines
   pub stands : Stands (moved_bytes answers) rs p.begun []
-
--- before the first call nothing has been read
-pub nothing_read : {S : Type 0} (gives : S → Answer → S → Type 0) (s : S) → HasRead gives s [] [] beginning s
-nothing_read gives s = record {
-  run = refl;
-  goes = tt;
-  calls = refl;
-  bytes = refl;
-  lines = refl;
-  stands = record { front = []; parts = refl; lines = refl; within = tt; one_line = tt; short_line = omega arith; short_text = omega arith };
-}
 
 -- A step of reading: wherever it began, these records came, and reading goes on or was the whole of the text.
 abbrev pub GoesOnWith : {S : Type 0} → (S → Answer → S → Type 0) → Progress → S → Came → List Record → Progress → S → Type 0

@@ -45,11 +45,11 @@ abbrev pub byte_in : Data → Option ℕ
 byte_in d = number_in largest_byte d
 
 -- where SYNC_SEG lies in a bit that an edge begins, as a word says it
-abbrev pub sync_of : List ℕ → Option SyncSeg
-sync_of text = if bytes_eq text (codes "after") then Some After else if bytes_eq text (codes "inside") then Some Inside else None
+abbrev pub sync_named : List ℕ → Option SyncSeg
+sync_named text = if bytes_eq text (codes "after") then Some After else if bytes_eq text (codes "inside") then Some Inside else None
 
 abbrev pub sync_in : Data → Option SyncSeg
-sync_in d = option_and_then sync_of (as_str d)
+sync_in d = option_and_then sync_named (as_str d)
 
 -- whether a value is of a kind
 abbrev pub has_kind : Kind → Data → Bool
@@ -79,8 +79,8 @@ ppm_at key table = unwrap_or (option_and_then as_integer (value_at key table)) (
 abbrev pub truth_at : Key → Members → Bool
 truth_at key table = unwrap_or (option_and_then as_bool (value_at key table)) false
 
-abbrev pub sync_at : Key → Members → SyncSeg
-sync_at key table = unwrap_or (option_and_then sync_in (value_at key table)) After
+abbrev pub sync_choice_at : Key → Members → SyncSeg
+sync_choice_at key table = unwrap_or (option_and_then sync_in (value_at key table)) After
 
 abbrev pub name_at : Key → Members → List ℕ
 name_at key table = unwrap_or (option_and_then as_str (value_at key table)) []

@@ -10,7 +10,7 @@ use Rattle.wl_setup.specs.declared.plan_text.RateText.{RateText}
 use Rattle.wl_setup.specs.declared.plan_text.ClockText.{ClockText}
 use Rattle.wl_setup.specs.declared.plan_text.ClockText.TheVariants.{Rate, Ppm}
 use Rattle.wl_setup.specs.Limits.{version_of_rates}
-use Rattle.wl_setup.specs.Kinds.{value_at, number_at, small_at, ppm_at, truth_at, name_at, bytes_at, tables_at, sync_at}
+use Rattle.wl_setup.specs.Kinds.{value_at, number_at, small_at, ppm_at, truth_at, name_at, bytes_at, tables_at, sync_choice_at}
 
 abbrev pub frame_of : Members → FrameText
 frame_of table = record {
@@ -66,5 +66,5 @@ plan_of top = record {
   per = number_at key.Per top;
   node = map (node_text_of (number_at key.Version top)) (tables_at key.Node top);
   disturbance = map disturbance_of (tables_at key.Disturbance top);
-  sync = sync_at key.Sync top;
+  sync = sync_choice_at key.Sync top;
 }

@@ -13,7 +13,7 @@ use crate::names::Names;
 use crate::plan_text::{ClockText, DisturbanceText, FrameText, NodeText, PlanText, RateText};
 use crate::tables::{check_required, check_table};
 use crate::values::{
-    bytes_at, elements_at, name_at, number_at, ppm_at, small_at, sync_at, truth_at, value_at,
+    bytes_at, elements_at, name_at, number_at, ppm_at, small_at, sync_choice_at, truth_at, value_at,
 };
 use std::alloc::Global;
 use toml::{Table, Value};
@@ -176,7 +176,7 @@ pub(crate) fn plan_text(alloc: Global, top: &Table) -> Result<(PlanText, Names),
         per: number_at(top, Key::Per),
         node: rows(alloc, version, elements_at(top, Key::Node))?,
         disturbance: rows(alloc, version, elements_at(top, Key::Disturbance))?,
-        sync: sync_at(top, Key::Sync),
+        sync: sync_choice_at(top, Key::Sync),
     };
     let names = plan.names(alloc)?;
     Ok((plan, names))

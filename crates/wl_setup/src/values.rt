@@ -3,7 +3,7 @@ ghost use Rattle.std.specs.Prelude.{◌≡◌, ◌≤◌, ◌^◌, ◌<◌, Some
 ghost use Rattle.std.specs.List.{list_all};
 ghost use Rattle.toml.specs.Data.{as_table};
 ghost use Rattle.toml.specs.View.{view, table_view, items_view};
-ghost use Rattle.wl_setup.specs.Kinds.{number_in, byte_in, is_name, is_name_letter, is_ppm, has_kind, value_at, number_at, small_at, ppm_at, truth_at, name_at, elements_of, elements_at, bytes_at, sync_of, sync_in, sync_at};
+ghost use Rattle.wl_setup.specs.Kinds.{number_in, byte_in, is_name, is_name_letter, is_ppm, has_kind, value_at, number_at, small_at, ppm_at, truth_at, name_at, elements_of, elements_at, bytes_at, sync_named, sync_in, sync_choice_at};
 
 use crate::keys::{Key, Kind};
 use crate::limits::{LARGEST_BYTE, LARGEST_NUMBER, LARGEST_PPM, LARGEST_SMALL, LONGEST_NAME};
@@ -80,8 +80,8 @@ fn elements_of(value: &Value) -> Option<&[Value]>
 }
 
 /// Where SYNC_SEG lies, as a word says it.
-fn sync_of(text: &str) -> Option<SyncSeg>
-    ensures { result ≡ sync_of text.now }
+fn sync_named(text: &str) -> Option<SyncSeg>
+    ensures { result ≡ sync_named text.now }
 {
     if text == "after" {
         Some(SyncSeg::After)
@@ -96,7 +96,7 @@ fn sync_in(value: &Value) -> Option<SyncSeg>
     ensures { result ≡ sync_in (view value.now) }
 {
     match value.as_str() {
-        Some(text) => sync_of(text),
+        Some(text) => sync_named(text),
         None => None,
     }
 }
@@ -170,8 +170,8 @@ pub(crate) fn truth_at(table: &Table, key: Key) -> bool
 }
 
 /// Where SYNC_SEG lies, at a key; after an edge where it has none.
-pub(crate) fn sync_at(table: &Table, key: Key) -> SyncSeg
-    ensures { result ≡ sync_at key (table_view table.now) }
+pub(crate) fn sync_choice_at(table: &Table, key: Key) -> SyncSeg
+    ensures { result ≡ sync_choice_at key (table_view table.now) }
 {
     match value_at(table, key) {
         Some(value) => sync_in(value).unwrap_or(SyncSeg::After),

@@ -3,7 +3,7 @@ ghost use Rattle.std.specs.Prelude.{◌≡◌, ◌≤◌, ◌^◌, IfOk, length,
 ghost use Rattle.std.specs.List.{All, range_with_len};
 ghost use Rattle.wl_plan.specs.Checked.{IsChecked};
 ghost use Rattle.wl_serial.specs.Outcome.{outcome_of};
-ghost use Rattle.wl_views.specs.Signals.{sample_ticks, sampled_at};
+ghost use Rattle.wl_views.specs.Signals.{all_sample_ticks, sample_ticks, sampled_at};
 
 use std::alloc::{AllocError, Global};
 use wl_clock::Clock;

@@ -10,7 +10,7 @@ ghost use Rattle.wl_plan.specs.Line.{found};
 ghost use Rattle.wl_plan.specs.PlanLine.{disturbed, is_at, line_of};
 ghost use Rattle.wl_plan.specs.Simulation.{level};
 ghost use Rattle.wl_serial.specs.Outcome.{outcome_of};
-ghost use Rattle.wl_views.specs.Held.{AllHold, Holds, NodeHolds};
+ghost use Rattle.wl_views.specs.Held.{AllHold, Holds, NodeHolds, driven_at};
 ghost use Rattle.wl_views.specs.Signals.{sample_ticks};
 
 use crate::held::Held;

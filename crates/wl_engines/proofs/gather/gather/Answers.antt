@@ -1,7 +1,8 @@
 use Rattle.std.proofs.Common.{◌≡◌, ◌∙◌, ap, sym, subst, List, [], ◌++◌, All}
 use Rattle.wl_record_core.specs.declared.record.Record.{Record}
 use Rattle.wl_record_core.specs.Limits.{most_nodes, most_nodes-is}
-use Rattle.wl_record.specs.Reading.{HasRead, Progress, nothing_read}
+use Rattle.wl_record.specs.Reading.{HasRead, Progress}
+use Rattle.wl_record.proofs.Callers.{nothing_read}
 use Rattle.wl_replica.specs.State.{Fits, state_of}
 use Rattle.wl_engines.proofs.Gathering.{fits_all}
 use Rattle.wl_engines.proofs.gather.gather.Goals as goal

@@ -1,0 +1,171 @@
+#!/usr/bin/env python3
+"""Compares a program with plain.py on strangers' texts: good ones, ones made by mutation of good ones, and ones of no sense at all.
+
+usage: fuzz.py PROGRAM records|plans [COUNT [SEED [JOBS]]]     1000 texts of seed 1 in one process where no number is given
+
+Each text goes through one command: a record text through `merge` or `horizon`, a plan text through `check`, or `run` where it is accepted and short.
+Standard output, the fault line and the status have to be the same. The same numbers make the same texts, in however many processes.
+
+Prints how many answers agreed, how often each fault came, how long the longest answer took, and where the two differ; the first text on which
+they do is kept in a file, and the status is then 1. A plan text that only one of the two reads as TOML is counted by itself: the program's reader
+knows TOML 1.1, where an inline table may go over several lines, and Python's TOML 1.0.
+"""
+import random
+import re
+import sys
+import time
+from collections import Counter
+from multiprocessing import Pool
+
+sys.dont_write_bytecode = True
+import differ
+import plain
+
+NUMBERS = [0, 1, 9, 10, 15, 16, 63, 64, 65, 2**20, 2**20 + 1, 262_143, 262_144, 262_145, 262_146, 2**31 - 1, 2**31, 2**32, 2**36, 2**36 + 1, 2**48 - 1, 2**48,
+           2**53 + 1, 2**63 - 1, 2**63, 2**64 - 1, 2**64, 10**19, 10**20, 10**33, 10**34, 10**300]
+BYTES = [b"\x00", b"\xff", b"\xc3", b"\xc3\xa9", b"\xed\xa0\x80", b"\xef\xbb\xbf", b"\xf4\x90\x80\x80", b"\r", b"\r\n", b"\n", b"\n\n", b"\t", b" ", b"  ", b"\x7f", b"\x1a",
+         b"-", b"+", b"_", b".", b"0", b"00", b"9" * 40, b"e5", b"#", b"'", b'"', b'"""', b"'''", b"=", b"[", b"]", b"[[", b"]]", b"{", b"}", b",", b"\\", b"\\u0000",
+         b"E", b"C", b"S", b"E 0 0 0\n", b"S 0 0 1\n", b"nan", b"inf", b"true", b"0x10", b"1979-05-27T07:32:00Z"]
+TOML_PIECES = [b"[node]\n", b"[[node]]\n", b"[[node.frame]]\n", b"[node.frame]\n", b"[[disturbance]]\n", b"version = 1\n", b"version = 2\n", b"sync = \"inside\"\n", b"sync = 1\n",
+               b"a.b.c = 1\n", b"node.x = 3\n", b"\"x\" = 1\n", b"'end' = 5\n", b"x = {a = 1, b = [1, 2, {c = 3}]}\n", b"x = [\n1,\n2,\n]\n", b"x = \"\"\"a\nb\"\"\"\n",
+               b"rates = [{from = 0, quantum = 125, ppm = 0}]\n", b"rates = []\n", b"frame = []\n", b"[node.rates]\n", b"[[node.rates]]\nfrom = 0\nnum = 1\nden = 1\n"]
+
+
+def nested(rng):
+    """A value that lies deep in others: tables and arrays may nest, and a reader has to end all the same."""
+    depth, (opens, closes) = rng.choice([2, 30, 79, 80, 81, 127, 128, 129, 400]), rng.choice([(b"[", b"]"), (b"{a=", b"}")])
+    return b"x = " + opens * depth + b"1" + closes * depth + b"\n"
+
+
+def huge_key(rng):
+    return rng.choice([b"a", b"x.", b"\xc3\xa9", b"\"a b\"."])[:1] * rng.choice([33, 1000, 60_000]) + b" = 1\n"
+
+
+def mutate(rng, text, pieces):
+    """One change of a text: a few bytes, a line, a number, or a piece that stands elsewhere in such texts."""
+    way, at = rng.randrange(10), rng.randrange(len(text) + 1)
+    lines = text.split(b"\n")
+    if way == 0: return text[:at] + rng.choice(BYTES) + text[at:]
+    if way == 1: return text[:at] + text[at + rng.choice([1, 1, 1, 2, 7, 40, 400]):]
+    if way == 2 and text: return text[:max(at - 1, 0)] + bytes([rng.randrange(256)]) + text[max(at, 1):]
+    if way == 3 and text:
+        flipped = bytearray(text)
+        flipped[at % len(text)] ^= 1 << rng.randrange(8)
+        return bytes(flipped)
+    if way == 4:
+        line = rng.choice(lines)
+        lines.insert(rng.randrange(len(lines) + 1), line)
+        return b"\n".join(lines)
+    if way == 5 and len(lines) > 2:
+        a, b = rng.randrange(len(lines)), rng.randrange(len(lines))
+        lines[a], lines[b] = lines[b], lines[a]
+        return b"\n".join(lines)
+    if way in (6, 7):
+        found = [one.span() for one in re.finditer(rb"[0-9]+", text)]
+        if found:
+            start, end = rng.choice(found)
+            near = int(text[start:end][:400] or b"0") + rng.choice([-1, 1])
+            number = rng.choice([rng.choice(NUMBERS), max(near, 0)])
+            return text[:start] + rng.choice([b"", b"", b"", b"", b"", b"0", b"-", b"+"]) + str(number).encode() + text[end:]
+    if way == 8: return text[:at] + rng.choice(pieces(rng)) + text[at:]
+    return text[:at] if rng.random() < 0.5 else text[at:]
+
+
+def record_pieces(rng):
+    return [line.encode("latin-1") + b"\n" for line in (rng.choice(differ.EDGE_LINES), rng.choice(differ.BAD_LINES))] + [b"E 0 1 7\n", b"C 1 0\n", b"S 2 3 4"]
+
+
+def plan_pieces(rng):
+    return [rng.choice(TOML_PIECES), rng.choice(TOML_PIECES), nested(rng), huge_key(rng)]
+
+
+def garbage(rng):
+    return bytes(rng.randrange(256) for _ in range(rng.choice([0, 1, 5, 41, 200])))
+
+
+def text_of(rng, kind):
+    if rng.random() < 0.02: return garbage(rng)
+    text = differ.record_input(rng) if kind == "records" else differ.plan_input(rng)
+    for _ in range(rng.choice([0, 1, 1, 1, 2, 3, 8])): text = mutate(rng, text, record_pieces if kind == "records" else plan_pieces)
+    return text
+
+
+def command_of(rng, kind, text):
+    """The command that the text goes through: `run` only where it can't take long."""
+    if kind == "records": return rng.choice(["merge", "horizon"])
+    if rng.random() < 0.8: return "check"
+    try:
+        plan = plain.read_plan(text)
+    except plain.Fault:
+        return rng.choice(["run", "records"])
+    quanta = sum(plan.end // max(1, min(rate.num // rate.den for rate in node.clock.rates)) for node in plan.nodes)
+    return rng.choice(["run", "records"]) if quanta < 30_000 else "check"
+
+
+def reads_as_newer(text):
+    """Whether a text is TOML once no line ends within an inline table (a line end, and a comment before it, gives way to a space)."""
+    depth, quote, out, at = [], "", [], 0
+    words = text.decode("utf-8", "replace").replace("\r\n", "\n")
+    while at < len(words):
+        c = words[at]
+        if quote:
+            if c == "\\" and quote[0] == '"': out.append(words[at:at + 2]); at += 2; continue
+            if words.startswith(quote, at): out.append(quote); at += len(quote); quote = ""; continue
+        elif c in "\"'":
+            quote = c * 3 if words.startswith(c * 3, at) else c
+            out.append(quote); at += len(quote); continue
+        elif c in "[{": depth.append(c)
+        elif c in "]}" and depth: depth.pop()
+        elif c == "#" and "{" in depth:
+            at = words.find("\n", at) if "\n" in words[at:] else len(words)
+            continue
+        elif c == "\n" and "{" in depth: c = " "
+        out.append(c)
+        at += 1
+    try:
+        plain.tomllib.loads(re.sub(r",(\s*})", r"\1", "".join(out)))
+    except (ValueError, RecursionError):
+        return False
+    return True
+
+
+def compare(work):
+    program, kind, seed, numbers = work
+    agreed, faults, longest, first, newer = Counter(), Counter(), (0.0, 0), None, 0
+    for number in numbers:
+        rng = random.Random(f"{kind} {seed} {number}")
+        text = text_of(rng, kind)
+        command = command_of(rng, kind, text)
+        out, fault, status = plain.answer(command, text)
+        faults[re.sub(r"\b[0-9]+\b", "n", fault[7:-1]) or "no fault"] += 1
+        began = time.monotonic()
+        got = differ.asked(program, command, text)
+        longest = max(longest, (time.monotonic() - began, number))
+        if got == (out.encode(), fault.encode(), status): agreed[command] += 1
+        elif fault == "fault: Toml\n" and reads_as_newer(text): newer += 1
+        elif first is None: first = number, command, text, got, (out.encode(), fault.encode(), status)
+    return agreed, faults, longest, first, len(numbers), newer
+
+
+def main():
+    if len(sys.argv) not in (3, 4, 5, 6) or sys.argv[2] not in ("records", "plans"): sys.exit(sys.stderr.write(__doc__) and 2)
+    program, kind = sys.argv[1:3]
+    count, seed, jobs = (int(word) for word in (sys.argv[3:] + ["1000", "1", "1"][len(sys.argv) - 3:]))
+    agreed, faults, longest, different, tried, newer, began = Counter(), Counter(), (0.0, 0), [], 0, 0, time.monotonic()
+    work = [(program, kind, seed, range(start, min(start + 500, count))) for start in range(0, count, 500)]
+    with Pool(jobs) as pool:
+        for one in pool.imap_unordered(compare, work):
+            agreed, faults, longest, tried = agreed + one[0], faults + one[1], max(longest, one[2]), tried + one[4]
+            newer += one[5]
+            if one[3]: different.append(one[3])
+            if sys.stderr.isatty(): sys.stderr.write(f"\r{tried} of {count}")
+    print(f"{kind}: {tried} texts of seed {seed} in {time.monotonic() - began:.0f} s, {jobs} at a time, {sum(agreed.values())} the same,",
+          f"{tried - sum(agreed.values()) - newer} differ, {newer} of TOML 1.1 alone; longest {longest[0]:.3f} s (text {longest[1]})")
+    print("commands:", dict(agreed))
+    print("answers:", ", ".join(f"{fault} {times}" for fault, times in sorted(faults.items())))
+    for number, command, text, got, wanted in sorted(different, key=lambda one: one[0])[:1]: differ.keep(program, seed, number, command, text, got, wanted)
+    sys.exit(1 if different else 0)
+
+
+if __name__ == "__main__":
+    main()
