@@ -4,3 +4,4 @@ pub mod Gather
 pub mod Horizon
 pub mod Merge
 pub mod Plans
+pub mod Workers

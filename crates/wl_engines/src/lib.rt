@@ -3,8 +3,8 @@
 //! `merge_run` and `horizon_run` read a record text: the one writes the canonical text of the replica that its records make, the
 //! other what that replica knows of each node, and up to when. `check_run`, `records_run` and `plan_run` read a plan text: the first
 //! writes what the bit segments allow and how long the cable takes, the second the records of the plan's simulation, the third its
-//! report. `candump_run` and `vcd_run` read a plan text too: the one writes the log of the frames that were sent, the other the
-//! waveform.
+//! report, which `workers_run` writes too, by workers in threads. `candump_run` and `vcd_run` read a plan text too: the one writes the
+//! log of the frames that were sent, the other the waveform.
 #![tactic(auto)]
 
 mod check;
@@ -18,6 +18,7 @@ mod records;
 #[cfg(test)]
 mod tests;
 mod views;
+mod workers;
 
 pub use check::check_run;
 pub use fault::RunFault;
@@ -27,3 +28,4 @@ pub use merge::merge_run;
 pub use plan::plan_run;
 pub use records::records_run;
 pub use views::{candump_run, vcd_run};
+pub use workers::workers_run;
