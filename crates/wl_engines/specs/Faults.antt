@@ -4,6 +4,8 @@ use Rattle.wl_record.specs.declared.fault.TextFault.{TextFault}
 use Rattle.wl_record.specs.declared.fault.TextFault.TheVariants as text
 use Rattle.wl_setup.specs.declared.fault.SetupFault.{SetupFault}
 use Rattle.wl_setup.specs.declared.fault.SetupFault.TheVariants as setup
+use Rattle.wl_worker.specs.declared.link.Fault.{Fault}
+use Rattle.wl_worker.specs.declared.link.Fault.TheVariants as work
 use Rattle.wl_engines.specs.declared.fault.RunFault.{RunFault}
 use Rattle.wl_engines.specs.declared.fault.RunFault.TheVariants as run
 
@@ -33,6 +35,13 @@ of_setup (setup.Plan f) = run.Setup (setup.Plan f)
 of_setup setup.Read = run.Setup setup.Read
 of_setup setup.Memory = run.Memory
 
+-- out of memory is a fault of the run, and all else the workers'
+abbrev pub of_work : Fault → RunFault
+of_work work.Memory = run.Memory
+of_work work.Workers = run.Work work.Workers
+of_work work.Foreign = run.Work work.Foreign
+of_work (work.Worker w) = run.Work (work.Worker w)
+
 -- the input is refused for what it says
 abbrev pub is_refusal : RunFault → Bool
 is_refusal (run.Text text.Read) = false
@@ -41,5 +50,6 @@ is_refusal (run.Text fault) = true
 is_refusal (run.Setup setup.Read) = false
 is_refusal (run.Setup setup.Memory) = false
 is_refusal (run.Setup fault) = true
+is_refusal (run.Work fault) = false
 is_refusal run.Write = false
 is_refusal run.Memory = false

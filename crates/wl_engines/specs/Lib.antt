@@ -5,3 +5,4 @@ pub mod Horizon
 pub mod Merge
 pub mod Plans
 pub mod Explained
+pub mod Workers

@@ -5,6 +5,7 @@ use thiserror::Error;
 use wl_device::WriteFault;
 use wl_record::TextFault;
 use wl_setup::SetupFault;
+use wl_worker::Fault;
 
 /// Why a run ended early. Each is shown as the fault that was met; what wraps it isn't shown.
 #[derive(Debug, Drop, Error)]
@@ -15,6 +16,9 @@ pub enum RunFault {
     /// The plan text was refused, or its reader failed; nothing was written.
     #[error("{0}")]
     Setup(SetupFault),
+    /// The workers came to no outcome; nothing was written.
+    #[error("{0}")]
+    Work(Fault),
     /// The writer failed; a prefix of the output may have been written.
     #[error("Write")]
     Write,
@@ -36,7 +40,7 @@ impl RunFault {
             RunFault::Text(_) => true,
             RunFault::Setup(SetupFault::Read) | RunFault::Setup(SetupFault::Memory) => false,
             RunFault::Setup(_) => true,
-            RunFault::Write | RunFault::Memory => false,
+            RunFault::Work(_) | RunFault::Write | RunFault::Memory => false,
         }
     }
 }
@@ -65,6 +69,20 @@ impl From<SetupFault> for RunFault {
         match fault {
             SetupFault::Memory => RunFault::Memory,
             other => RunFault::Setup(other),
+        }
+    }
+}
+
+impl From<Fault> for RunFault {
+    ghost use Rattle.std.specs.Prelude.{◌≡◌};
+    ghost use Rattle.wl_engines.specs.Faults.{of_work};
+
+    ghost from_gives = { λ fault given. given ≡ of_work fault };
+
+    fn from(fault: Fault) -> RunFault {
+        match fault {
+            Fault::Memory => RunFault::Memory,
+            other => RunFault::Work(other),
         }
     }
 }

@@ -3,8 +3,9 @@
 //! `merge_run` and `horizon_run` read a record text: the one writes the canonical text of the replica that its records make, the
 //! other what that replica knows of each node, and up to when. `check_run`, `records_run` and `plan_run` read a plan text: the first
 //! writes what the bit segments allow and how long the cable takes, the second the records of the plan's simulation, the third its
-//! report. `candump_run` and `vcd_run` read a plan text too: the one writes the log of the frames that were sent, the other the
-//! waveform. `explain_run` writes what is doubtful of a plan, and the figures of its nodes.
+//! report, which `workers_run` writes too, by workers in threads. `candump_run` and `vcd_run` read a plan text too: the one writes the
+//! log of the frames that were sent, the other the waveform. `explain_run` writes what is doubtful of a plan, and the figures of its
+//! nodes.
 #![tactic(auto)]
 
 mod check;
@@ -19,6 +20,7 @@ mod records;
 #[cfg(test)]
 mod tests;
 mod views;
+mod workers;
 
 pub use check::check_run;
 pub use explain::explain_run;
@@ -29,3 +31,4 @@ pub use merge::merge_run;
 pub use plan::plan_run;
 pub use records::records_run;
 pub use views::{candump_run, vcd_run};
+pub use workers::workers_run;

@@ -1,5 +1,5 @@
 -- The members of a worker, what a worker comes to, and what all of them come to.
-use Rattle.std.proofs.Common.{◌≡◌, ℕ, ◌+◌, ◌<◌, ◌≤◌, ◌%◌, ◌==◌, ◌||◌, Bool, true, false, All, Result, Ok, Err, IfOk, List, [], ◌∷◌, ◌++◌, length, map, refl, sym, ap, subst, ◌∙◌, arith, zero-add, slice_index_or, below_more}
+use Rattle.std.proofs.Common.{◌≡◌, ◌≢◌, ℕ, ◌+◌, ◌<◌, ◌≤◌, ◌%◌, ◌==◌, ◌||◌, Bool, true, false, All, Result, Ok, Err, IfOk, IfErr, List, [], ◌∷◌, ◌++◌, length, map, refl, sym, ap, subst, ◌∙◌, arith, zero-add, slice_index_or, below_more}
 use Rattle.std.specs.List.{range_with_len}
 use Rattle.std.proofs.lemmas.Bool.Decides.{nat_tests}
 use Rattle.std.proofs.lemmas.List.Elements.{All-append, All-cons, All-nil}
@@ -17,7 +17,9 @@ use Rattle.wl_group.specs.GroupValue.{GroupValue, IsGroupValue, members_now, bel
 use Rattle.wl_serial.specs.declared.outcome.NodeOutcome.{NodeOutcome}
 use Rattle.wl_serial.specs.Outcome.{outcome_of_history, node_outcome_of}
 use Rattle.wl_worker.specs.Finished.{HasFinished}
-use Rattle.wl_worker.specs.Shares.{IsShare, IsDone}
+use Rattle.wl_worker.specs.declared.link.Fault.{Fault}
+use Rattle.wl_worker.specs.declared.link.Fault.TheVariants.{Workers}
+use Rattle.wl_worker.specs.Shares.{IsShare, IsDone, IsEnd}
 
 -- ---- members
 
@@ -46,11 +48,17 @@ share_is plan workers worker n g ms xs count same plan_is members all = record {
 
 -- ---- what a worker comes to
 
-pub done_is : (plan : Plan) (workers worker : ℕ) (old new : GroupValue) → IsShare plan workers worker old → HasFinished old new → IsDone plan workers worker new
+done_is : (plan : Plan) (workers worker : ℕ) (old new : GroupValue) → IsShare plan workers worker old → HasFinished old new → IsDone plan workers worker new
 done_is plan workers worker old new s f = record {
   share = record { plan_is = f.plan ∙ s.plan_is; members = λ i b e. ap (λ has. has i) f.members ∙ s.members i b e };
   ended = f.ended;
 }
+
+-- a worker that began with its share and finished it, or failed
+pub end_is : (plan : Plan) (workers worker : ℕ) (begun : GroupValue) (end : Result GroupValue Fault) → IsShare plan workers worker begun
+    → IfOk end (HasFinished begun) → IfErr end (λ fault. fault ≢ Workers) → IsEnd plan workers worker end
+end_is plan workers worker begun (Ok done) s f e = done_is plan workers worker begun done s f
+end_is plan workers worker begun (Err fault) s f e = e
 
 pub both_ok : {A E : Type 0} (r : Result A E) (P Q S : A → Type 0) → ((x : A) → P x → Q x → S x) → IfOk r P → IfOk r Q → IfOk r S
 both_ok (Ok x) P Q S f p q = f x p q

@@ -1,3 +1,4 @@
+pub mod Faults
 pub mod Finished
 pub mod Handed
 pub mod Letters

@@ -1,10 +1,15 @@
 -- Which nodes a worker has, and what its thread promises. This project's profile.
-use Rattle.std.specs.Prelude.{◌≡◌, ℕ, ◌<◌, ◌%◌, List, length, true, Result, IfOk, slice_index_or}
+use Rattle.std.specs.Prelude.{◌≡◌, ◌≢◌, ℕ, ◌<◌, ◌%◌, List, All, length, true, Result, MatchResult, slice_index_or}
 use Rattle.wl_plan.specs.declared.plan.Plan.{Plan}
 use Rattle.wl_group.specs.GroupValue.{GroupValue, belongs}
 use Rattle.wl_worker.specs.declared.link.Fault.{Fault}
+use Rattle.wl_worker.specs.declared.link.Fault.TheVariants.{Workers}
 use Rattle.wl_worker.specs.declared.crew.OfShare.{OfShare}
 use Rattle.wl_worker.specs.Finished.{MembersEnded}
+
+-- numbers of nodes of a plan that has so many
+abbrev pub AreBelow : ℕ → List ℕ → Type 0
+AreBelow nodes numbers = All (λ i. i < nodes) numbers
 
 -- the group of a worker has the nodes of the plan whose number leaves the worker's, divided by the number of workers
 pub record IsShare (plan : Plan) (workers worker : ℕ) (g : GroupValue) : Type 0 where
@@ -16,9 +21,13 @@ pub record IsDone (plan : Plan) (workers worker : ℕ) (g : GroupValue) : Type 0
   pub share : IsShare plan workers worker g
   pub ended : MembersEnded g
 
+-- what a worker comes to: its group at the end, or a fault that a worker has
+abbrev pub IsEnd : Plan → ℕ → ℕ → Result GroupValue Fault → Type 0
+IsEnd plan workers worker end = MatchResult end (IsDone plan workers worker) (λ fault. fault ≢ Workers)
+
 -- what a worker's thread promises
 abbrev pub KeepsPromise : OfShare → Result GroupValue Fault → Type 0
-KeepsPromise p r = IfOk r (IsDone p.plan.value p.workers p.worker)
+KeepsPromise p = IsEnd p.plan.value p.workers p.worker
 
 -- the promise of this worker
 pub record IsPromise (plan : Plan) (workers worker : ℕ) (p : OfShare) : Type 0 where
@@ -28,4 +37,4 @@ pub record IsPromise (plan : Plan) (workers worker : ℕ) (p : OfShare) : Type 0
 
 -- what the threads of all workers came to, in order
 abbrev pub EndsKept : Plan → ℕ → List (Result GroupValue Fault) → Type 0
-EndsKept plan workers ends = (w : ℕ) (d : Result GroupValue Fault) → w < workers → IfOk (slice_index_or ends w d) (IsDone plan workers w)
+EndsKept plan workers ends = (w : ℕ) (d : Result GroupValue Fault) → w < workers → IsEnd plan workers w (slice_index_or ends w d)

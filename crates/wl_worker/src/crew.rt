@@ -1,9 +1,10 @@
 //! All workers of a plan, each in a thread of its own, and what they come to.
-ghost use Rattle.std.specs.Prelude.{◌≡◌, ◌<◌, ◌⊎◌, true, All, Err, IfOk, length, vec_len};
+ghost use Rattle.std.specs.Prelude.{◌≡◌, ◌≢◌, ◌<◌, ◌⊎◌, ◌↔◌, true, All, Err, IfOk, IfErr, IfSome, length, vec_len};
 ghost use Rattle.wl_plan.specs.Checked.{IsChecked};
 ghost use Rattle.wl_group.specs.GroupValue.{belongs, has_ended};
 ghost use Rattle.wl_serial.specs.Outcome.{outcome_of, node_outcome_of};
-ghost use Rattle.wl_worker.specs.Shares.{IsDone, IsPromise, EndsKept};
+ghost use Rattle.wl_worker.specs.Faults.{IsFirstFault, IsNextFault};
+ghost use Rattle.wl_worker.specs.Shares.{IsEnd, IsPromise, EndsKept};
 
 use crate::bell::MOST_WORKERS;
 use crate::link::{Fault, Gate, Link};
@@ -48,7 +49,7 @@ pub fn simulate_over<R: Threads + Wait + Sync, L: Link + Send + Drop, G: Gate + 
     requires checked { IsChecked plan }
     requires links { All (λ l. L.is_of l plan) links.items }
     ensures outcome { IfOk result (λ outcome. outcome ≡ outcome_of plan) }
-    ensures workers { (vec_len links ≡ 0) ⊎ (8 < vec_len links) → result ≡ Err Fault.Workers }
+    ensures workers { result ≡ Err Fault.Workers ↔ (vec_len links ≡ 0) ⊎ (8 < vec_len links) }
 {
     if links.is_empty() || links.len() > MOST_WORKERS {
         return Err(Fault::Workers);
@@ -75,6 +76,7 @@ fn run_all<R: Threads + Wait + Sync, L: Link + Send + Drop, G: Gate + Sync>(
     requires count { vec_len links ≡ workers }
     ensures count { IfOk result (λ ends. vec_len ends ≡ workers) }
     ensures kept { IfOk result (λ ends. EndsKept plan.now workers ends.items) }
+    ensures fault { IfErr result (λ fault. fault ≢ Fault.Workers) }
 {
     let refused = AtomicU64::new(u64::MAX);
     let refusal = &refused;
@@ -83,7 +85,8 @@ fn run_all<R: Threads + Wait + Sync, L: Link + Send + Drop, G: Gate + Sync>(
         rt,
         |scope| -> Result<Vec<Result<Group, Fault>>, Fault>
             requires { IsChecked plan.now × All (λ l. L.is_of l plan.now) links.items × (vec_len links ≡ workers) }
-            ensures { IfOk result (λ ends. (vec_len ends ≡ workers) × EndsKept plan.entry.now workers ends.items) }
+            ensures ends { IfOk result (λ ends. (vec_len ends ≡ workers) × EndsKept plan.entry.now workers ends.items) }
+            ensures fault { IfErr result (λ fault. fault ≢ Fault.Workers) }
         { run_in(scope, rt, alloc, plan, workers, links, gate, refusal) },
     )
 }
@@ -104,6 +107,7 @@ fn run_in<'s, E, R: Threads + Wait + Sync, L: Link + Send + Drop + 's, G: Gate +
     requires count { vec_len links ≡ workers }
     ensures count { IfOk result (λ ends. vec_len ends ≡ workers) }
     ensures kept { IfOk result (λ ends. EndsKept plan.now workers ends.items) }
+    ensures fault { IfErr result (λ fault. fault ≢ Fault.Workers) }
 {
     let mut children = Vec::with_capacity(alloc, usize::from(workers))?;
     let mut worker = 0;
@@ -135,7 +139,8 @@ fn start<'s, E, R: Wait + Sync, L: Link + Send + Drop + 's, G: Gate + Sync>(
     requires checked { IsChecked plan.now }
     requires worker { worker < workers }
     requires link { L.is_of link plan.now }
-    ensures { IfOk result (λ child. IsPromise plan.now workers worker child.promise) }
+    ensures promise { IfOk result (λ child. IsPromise plan.now workers worker child.promise) }
+    ensures fault { IfErr result (λ fault. fault ≢ Fault.Workers) }
 {
     let promise = OfShare {
         plan: Snapshot::of(plan),
@@ -169,7 +174,7 @@ fn run_one<R: Wait, L: Link + Drop, G: Gate>(
     requires checked { IsChecked plan.now }
     requires worker { worker < workers }
     requires link { L.is_of link plan.now }
-    ensures { IfOk result (IsDone plan.now workers worker) }
+    ensures { IsEnd plan.now workers worker result }
 {
     let mut link = link;
     if refusal.load(Ordering::SeqCst) == u64::from(worker) {
@@ -190,7 +195,10 @@ fn lowest<R: Threads>(
     rt: &R,
     children: Vec<PromisedHandle<Result<Group, Fault>, OfShare>>,
     fault: Fault,
-) -> Fault {
+) -> Fault
+    requires { fault ≢ Fault.Workers }
+    ensures { result ≢ Fault.Workers }
+{
     let mut first = fault;
     for child in children {
         if let Err(other) = child.join(rt) {
@@ -201,17 +209,25 @@ fn lowest<R: Threads>(
 }
 
 /// The first fault of these ends: by the order of faults, and then by worker.
-fn first_fault(ends: &[Result<Group, Fault>]) -> Option<Fault> {
+fn first_fault(ends: &[Result<Group, Fault>]) -> Option<Fault>
+    ensures { IsFirstFault ends.now result }
+{
     let mut first = None;
-    for end in ends {
-        if let Err(fault) = end {
-            first = match first {
-                Some(other) => Some(fault.or_lower(other)),
-                None => Some(*fault),
-            };
-        }
+    for i in 0..ends.len() {
+        first = with_end(first, &ends[i]);
     }
     first
+}
+
+/// The first fault so far, or that of one end more.
+fn with_end(first: Option<Fault>, end: &Result<Group, Fault>) -> Option<Fault>
+    ensures { IsNextFault first end.now result }
+{
+    match (first, end) {
+        (Some(other), Err(fault)) => Some(fault.or_lower(other)),
+        (None, Err(fault)) => Some(*fault),
+        (first, Ok(_)) => first,
+    }
 }
 
 /// What all groups, at their ends, come to together.
@@ -224,7 +240,8 @@ fn outcome_from(
     requires checked { IsChecked plan.now }
     requires count { (0 < workers) × (length ends.now ≡ workers) }
     requires kept { EndsKept plan.now workers ends.now }
-    ensures { IfOk result (λ outcome. outcome ≡ outcome_of plan.now) }
+    ensures outcome { IfOk result (λ outcome. outcome ≡ outcome_of plan.now) }
+    ensures fault { IfErr result (λ fault. fault ≢ Fault.Workers) }
 {
     let mut nodes = Listed::new(alloc);
     for i in 0..plan.topology.nodes() {
@@ -248,7 +265,8 @@ fn node_from(
     requires count { (0 < workers) × (length ends.now ≡ workers) }
     requires kept { EndsKept plan.now workers ends.now }
     requires node { i < length plan.now.nodes }
-    ensures { IfOk result (λ outcome. outcome ≡ node_outcome_of plan.now i) }
+    ensures outcome { IfOk result (λ outcome. outcome ≡ node_outcome_of plan.now i) }
+    ensures fault { IfErr result (λ fault. fault ≢ Fault.Workers) }
 {
     let _ = plan;
     match &ends[usize::from(i % workers)] {

@@ -1,5 +1,6 @@
 //! How workers hand records to one another, and what may stop them.
 ghost use Rattle.std.specs.Prelude.{◌≡◌, IfOk};
+ghost use Rattle.wl_worker.specs.Faults.{rank, lower_fault};
 
 use std::alloc::{AllocError, Global};
 use thiserror::Error;
@@ -44,8 +45,10 @@ pub enum Fault {
 }
 
 impl Fault {
-    // The place in the order of faults; workers by their numbers.
-    fn rank(self) -> u16 {
+    /// The place in the order of faults; workers by their numbers.
+    fn rank(self) -> u16
+        ensures { result ≡ rank self }
+    {
         match self {
             Fault::Workers => 0,
             Fault::Memory => 1,
@@ -55,7 +58,9 @@ impl Fault {
     }
 
     /// The first of two faults, by their order, and then by worker.
-    pub(crate) fn or_lower(self, other: Fault) -> Fault {
+    pub(crate) fn or_lower(self, other: Fault) -> Fault
+        ensures { result ≡ lower_fault self other }
+    {
         if other.rank() < self.rank() {
             other
         } else {
@@ -65,6 +70,11 @@ impl Fault {
 }
 
 impl From<AllocError> for Fault {
+    ghost use Rattle.std.specs.Prelude.{◌≡◌};
+    ghost use Rattle.wl_worker.specs.declared.link.Fault.TheVariants.{Memory};
+
+    ghost from_gives = { λ _ given. given ≡ Memory };
+
     fn from(_: AllocError) -> Fault {
         Fault::Memory
     }

@@ -1,5 +1,5 @@
 //! All workers of a plan over one hub.
-ghost use Rattle.std.specs.Prelude.{◌≡◌, ◌<◌, ◌⊎◌, All, Err, IfOk, vec_len};
+ghost use Rattle.std.specs.Prelude.{◌≡◌, ◌<◌, ◌⊎◌, ◌↔◌, All, Err, IfOk, vec_len};
 ghost use Rattle.wl_hub.specs.Passes.{IsPassOf};
 ghost use Rattle.wl_plan.specs.declared.plan.Plan.{Plan as GivenPlan};
 ghost use Rattle.wl_plan.specs.Checked.{IsChecked};
@@ -28,7 +28,7 @@ pub fn simulate<R: Threads + Wait + Sync, G: Gate + Sync>(
 ) -> Result<Outcome, Fault>
     requires { IsChecked plan }
     ensures outcome { IfOk result (λ outcome. outcome ≡ outcome_of plan) }
-    ensures workers { (workers ≡ 0) ⊎ (8 < workers) → result ≡ Err Fault.Workers }
+    ensures workers { result ≡ Err Fault.Workers ↔ (workers ≡ 0) ⊎ (8 < workers) }
 {
     if workers == 0 || usize::from(workers) > MOST_WORKERS {
         return Err(Fault::Workers);
@@ -43,8 +43,8 @@ pub fn simulate<R: Threads + Wait + Sync, G: Gate + Sync>(
     simulate_over(rt, alloc, plan, links, gate)
 }
 
-/// A link for each worker, over a pass of its own.
-fn hub_links<'h, R: Wait>(
+/// A link for each of so many workers, over a pass of its own that is split off a pass of the hub. Refused only when out of memory.
+pub fn hub_links<'h, R: Wait>(
     rt: &'h R,
     alloc: Global,
     hub: &'h Hub<PlanName>,

@@ -1,5 +1,5 @@
 //! One worker: its turns, from the first silences of its members to their end.
-ghost use Rattle.std.specs.Prelude.{◌≡◌, ◌↔◌, ℕ, true, length, IsTrue, IfOk, OnOk};
+ghost use Rattle.std.specs.Prelude.{◌≡◌, ◌≢◌, ◌↔◌, ℕ, true, length, IsTrue, IfOk, IfErr, OnOk};
 ghost use Rattle.wl_plan.specs.declared.plan.Plan.{Plan as GivenPlan};
 ghost use Rattle.wl_group.specs.GroupValue.{belongs};
 ghost use Rattle.wl_worker.specs.Handed.{AreTrueOfPlan};
@@ -27,7 +27,8 @@ pub fn work<R: Wait, L: Link + Drop, G: Gate>(
     gate: &G,
 ) -> Result<Group, Fault>
     requires { L.is_of link group.plan }
-    ensures { IfOk result (λ done. HasFinished group done) }
+    ensures finished { IfOk result (λ done. HasFinished group done) }
+    ensures fault { IfErr result (λ fault. fault ≢ Fault.Workers) }
 {
     let _ = rt;
     let mut group = group;
@@ -51,6 +52,7 @@ fn run<L: Link, G: Gate>(
     requires { L.is_of link.old group.old.plan }
     ensures same { (p : GivenPlan) → L.is_of link.old p → L.is_of link.new p }
     ensures finished { OnOk result (HasFinished group.old group.new) }
+    ensures fault { IfErr result (λ fault. fault ≢ Fault.Workers) }
 {
     let worker = link.worker();
     begin(alloc, group, link).map_err(|fault| fault_of(fault, worker))?;
@@ -73,7 +75,9 @@ fn run<L: Link, G: Gate>(
 }
 
 /// The worker's fault where its link has this one.
-fn fault_of(fault: LinkFault, worker: u8) -> Fault {
+fn fault_of(fault: LinkFault, worker: u8) -> Fault
+    ensures { result ≢ Fault.Workers }
+{
     match fault {
         LinkFault::Foreign => Fault::Foreign,
         LinkFault::Gone => Fault::Worker(worker),

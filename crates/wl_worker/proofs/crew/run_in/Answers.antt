@@ -16,5 +16,5 @@ loop-link-preserved g c =
       (let m = was.2 in let n = pushed.capacity in omega arith),
       (λ k d b. subst (λ (xs : List g.row.L.Denot). g.L.Link.is_of (slice_index_or xs (suc k) d) c.args.plan.now) step.0 (was.3 (suc k) d (let s = step.1 in omega arith))),
       (λ k d b. one_behind c.loop-link.children.items c.push_reserved.new.self.items c.in-Ok.child c.loop-link.worker (λ j child. IsPromise c.args.plan.now c.args.workers j child.promise)
-          pushed.items many was.4 c.in-Ok.ensures k d b),
+          pushed.items many was.4 c.in-Ok.ensures.promise k d b),
     )

@@ -1,0 +1,63 @@
+//! The report of a plan's simulation, by workers.
+ghost use Rattle.std.specs.Prelude.{◌≡◌, IfOk, IfErr};
+ghost use Rattle.wl_plan.specs.Checked.{IsChecked};
+ghost use Rattle.wl_serial.specs.Outcome.{outcome_of};
+ghost use Rattle.wl_report.specs.Report.{report_text};
+ghost use Rattle.wl_engines.specs.Workers.{CanWork, IsWorkFault, RunsByWorkers};
+
+use crate::fault::RunFault;
+use std::alloc::Global;
+use std::sync::Wait;
+use std::thread::Threads;
+use wl_device::{Sink, Source, write_all};
+use wl_plan::Plan;
+use wl_report::report;
+use wl_setup::read_plan;
+use wl_worker::{Gate, simulate};
+
+/// A gate that lets each turn begin.
+#[derive(Drop)]
+struct OpenGate;
+
+impl Gate for OpenGate {
+    fn turn(&self, _worker: u8, _turn: u64) -> bool {
+        true
+    }
+}
+
+/// The report of a plan's simulation by so many workers.
+fn report_by<H: Threads + Wait + Sync>(
+    rt: &H,
+    alloc: Global,
+    plan: Plan,
+    workers: u8,
+) -> Result<Vec<u8>, RunFault>
+    requires { IsChecked plan }
+    ensures text { IfOk result (λ text. text.items ≡ report_text (outcome_of plan)) }
+    ensures count { IfOk result (λ _. CanWork workers) }
+    ensures fault { IfErr result (IsWorkFault workers) }
+{
+    let outcome = simulate(rt, alloc, plan, workers, &OpenGate)?;
+    Ok(report(alloc, &outcome)?)
+}
+
+/// Reads a plan's text, simulates the plan by so many workers, each in a thread of its own, and writes the report that one thread comes
+/// to (`plan_run`).
+///
+/// The whole output is made before the first write. Where the input is refused, the workers come to no outcome, or memory runs out, the
+/// writer isn't called; where the writer fails, a prefix of the output has been written. It refuses 0 workers and more than 8, once a plan
+/// was read. It may wait: no clause says that it returns.
+pub fn workers_run<H: Threads + Wait + Sync, R: Source, W: Sink>(
+    rt: &H,
+    alloc: Global,
+    workers: u8,
+    reader: &mut R,
+    writer: &mut W,
+) -> Result<(), RunFault>
+    ensures { RunsByWorkers R.gives W.takes workers reader.old reader.new writer.old writer.new result }
+{
+    let (plan, _names) = read_plan(alloc, reader)?;
+    let text = report_by(rt, alloc, plan, workers)?;
+    write_all(&text, writer)?;
+    Ok(())
+}
