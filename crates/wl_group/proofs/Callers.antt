@@ -5,6 +5,7 @@ use Rattle.std.proofs.lemmas.Bool.{cases_eq, cond-true, cond-false, eq-eqb, ne_e
 use Rattle.wl_record_core.specs.declared.record.Record.{Record}
 use Rattle.wl_record_core.specs.Truth.{AreTrueOf}
 use Rattle.wl_group.specs.Party.{put}
+pub use Rattle.wl_group.proofs.CountedProofs.{with_nothing}
 
 -- a written place, and another
 pub put_at : {A : Type 0} (f : ℕ → A) (i : ℕ) (a : A) (P : A → Type 0) (j : ℕ) → (j ≡ i → P a) → ((j ≡ i → ⊥) → P (f j)) → P (put f i a j)

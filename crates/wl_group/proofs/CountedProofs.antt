@@ -297,7 +297,7 @@ no_silence (Edge k s t) i j n is other = refl
 no_silence (Clash k s) i j n is other = refl
 no_silence (Silence k m u) i j n is other = cond-false (j == k && (n == m)) u 0 (ap (λ v. v && (n == m)) (ne_eqb j k (λ e. other (e ∙ is))))
 
-with_nothing : (a : FlatWord) → joined_flat a flat.Nothing ≡ a
+pub with_nothing : (a : FlatWord) → joined_flat a flat.Nothing ≡ a
 with_nothing flat.Nothing = refl
 with_nothing (flat.Value t) = refl
 with_nothing flat.Clash = refl

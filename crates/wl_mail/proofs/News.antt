@@ -17,6 +17,7 @@ use Rattle.wl_replica.specs.State.{State, state_of, state_with_record, edge_at, 
 use Rattle.wl_replica.specs.SlotsOf.{SlotsOfStates}
 use Rattle.wl_replica.specs.Laws.{TakingIsJoining, JoinsSlotBySlot}
 use Rattle.wl_mail.specs.Handed.{IsNews}
+use Rattle.wl_group.proofs.Callers.{with_nothing}
 
 -- ---- the words of a slot with one record more
 
@@ -53,11 +54,6 @@ stays : TakingIsJoining → JoinsSlotBySlot → SlotsOfStates → (s : State) �
 stays taking joins laws s is r h =
     subst (λ (x : State). AddsNothing x r → state_with_record x r ≡ x) (sym is.2) (stays_of taking joins laws s.nodes is.0 r) h
 
-flat_nothing : (w : FlatWord) → joined_flat w flat.Nothing ≡ w
-flat_nothing flat.Nothing = refl
-flat_nothing (flat.Value x) = refl
-flat_nothing flat.Clash = refl
-
 max_nothing : (n : ℕ) → max n 0 ≡ n
 max_nothing n = omega arith
 
@@ -72,7 +68,7 @@ both_are i n j m e = grind (arith, nat_tests)
 at_slot : (f : ℕ → ℕ → FlatWord) (i n : ℕ) (w : FlatWord) → joined_flat (f i n) w ≡ f i n → (j m : ℕ) (b : Bool) → ((j == i) && (m == n)) ≡ b
     → joined_flat (f j m) (if b then w else flat.Nothing) ≡ f j m
 at_slot f i n w h j m true e = let is = both_are i n j m e in subst (λ k. joined_flat (f k m) w ≡ f k m) (sym is.0) (subst (λ k. joined_flat (f i k) w ≡ f i k) (sym is.1) h)
-at_slot f i n w h j m false e = flat_nothing (f j m)
+at_slot f i n w h j m false e = with_nothing (f j m)
 
 at_silence : (f : ℕ → ℕ → ℕ) (i n u : ℕ) → max (f i n) u ≡ f i n → (j m : ℕ) (b : Bool) → ((j == i) && (m == n)) ≡ b → max (f j m) (if b then u else 0) ≡ f j m
 at_silence f i n u h j m true e = let is = both_are i n j m e in subst (λ k. max (f k m) u ≡ f k m) (sym is.0) (subst (λ k. max (f i k) u ≡ f i k) (sym is.1) h)
@@ -101,7 +97,7 @@ silence_news taking joins laws s is i n u true h =
     (subst (λ b. max (silence_at s (i, n)).word (if b then u else 0) ≢ (silence_at s (i, n)).word) (sym (here i n)) (λ e. h (ap max_word e)))
 silence_news taking joins laws s is i n u false h =
     stays taking joins laws s is (Silence i n u)
-    ((λ j m. flat_nothing (edge_at s (j, m))), λ j m. at_silence (λ k l. (silence_at s (k, l)).word) i n u (ap (λ (w : MaxWord). w.word) h) j m ((j == i) && (m == n)) refl)
+    ((λ j m. with_nothing (edge_at s (j, m))), λ j m. at_silence (λ k l. (silence_at s (k, l)).word) i n u (ap (λ (w : MaxWord). w.word) h) j m ((j == i) && (m == n)) refl)
 
 -- ---- the same of a record and its slot, as they were found
 

@@ -6,7 +6,7 @@ use Rattle.std.proofs.lemmas.List.Elements.{All-append, All-cons, All-nil, All-w
 use Rattle.std.proofs.lemmas.List.{get_or_append_left, get_or_push, length-append}
 use Rattle.wl_group.specs.GroupValue.{GroupValue}
 use Rattle.wl_worker.specs.declared.link.Fault.{Fault}
-use Rattle.wl_worker.specs.Faults.{rank, lower_fault, IsFirstFault, IsNextFault}
+use Rattle.wl_worker.specs.Faults.{rank, lower_fault, IsLowestFault, IsNextFault}
 
 -- the fault comes no later than this end's, if that is one
 abbrev NotLater : Fault → Result GroupValue Fault → Type 0
@@ -29,8 +29,8 @@ later_still : (fault other : Fault) → rank fault ≤ rank other → (end : Res
 later_still fault other h (Ok group) g = tt
 later_still fault other h (Err third) g = omega arith
 
-lower_at : (b : Bool) (fault other : Fault) (ends : List (Result GroupValue Fault)) → nat_lt (rank other) (rank fault) ≡ b → IsFirstFault ends (Some other)
-    → IsFirstFault (ends ++ Err fault ∷ []) (Some (if b then other else fault))
+lower_at : (b : Bool) (fault other : Fault) (ends : List (Result GroupValue Fault)) → nat_lt (rank other) (rank fault) ≡ b → IsLowestFault ends (Some other)
+    → IsLowestFault (ends ++ Err fault ∷ []) (Some (if b then other else fault))
 lower_at true fault other ends e h =
     let low : rank other ≤ rank fault = grind (arith, nat_tests) in
     (any_still (λ end. end ≡ Err other) ends (Err fault ∷ []) h.0, all_more (NotLater other) ends (Err fault) h.1 low)

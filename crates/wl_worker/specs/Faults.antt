@@ -16,10 +16,10 @@ abbrev pub lower_fault : Fault → Fault → Fault
 lower_fault fault other = if nat_lt (rank other) (rank fault) then other else fault
 
 -- of what several workers came to, the fault that no other one comes before; none where all came to their ends
-abbrev pub IsFirstFault : List (Result GroupValue Fault) → Option Fault → Type 0
-IsFirstFault ends None = All IsOk ends
-IsFirstFault ends (Some fault) = Any (λ end. end ≡ Err fault) ends × All (λ end. IfErr end (λ other. rank fault ≤ rank other)) ends
+abbrev pub IsLowestFault : List (Result GroupValue Fault) → Option Fault → Type 0
+IsLowestFault ends None = All IsOk ends
+IsLowestFault ends (Some fault) = Any (λ end. end ≡ Err fault) ends × All (λ end. IfErr end (λ other. rank fault ≤ rank other)) ends
 
 -- whatever others came to before: with what one more came to, the first fault is this one
 abbrev pub IsNextFault : Option Fault → Result GroupValue Fault → Option Fault → Type 0
-IsNextFault first end next = (ends : List (Result GroupValue Fault)) → IsFirstFault ends first → IsFirstFault (ends ++ end ∷ []) next
+IsNextFault first end next = (ends : List (Result GroupValue Fault)) → IsLowestFault ends first → IsLowestFault (ends ++ end ∷ []) next

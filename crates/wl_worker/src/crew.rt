@@ -3,7 +3,7 @@ ghost use Rattle.std.specs.Prelude.{◌≡◌, ◌≢◌, ◌<◌, ◌⊎◌, �
 ghost use Rattle.wl_plan.specs.Checked.{IsChecked};
 ghost use Rattle.wl_group.specs.GroupValue.{belongs, has_ended};
 ghost use Rattle.wl_serial.specs.Outcome.{outcome_of, node_outcome_of};
-ghost use Rattle.wl_worker.specs.Faults.{IsFirstFault, IsNextFault};
+ghost use Rattle.wl_worker.specs.Faults.{IsLowestFault, IsNextFault};
 ghost use Rattle.wl_worker.specs.Shares.{IsEnd, IsPromise, EndsKept};
 
 use crate::bell::MOST_WORKERS;
@@ -210,7 +210,7 @@ fn lowest<R: Threads>(
 
 /// The first fault of these ends: by the order of faults, and then by worker.
 fn first_fault(ends: &[Result<Group, Fault>]) -> Option<Fault>
-    ensures { IsFirstFault ends.now result }
+    ensures { IsLowestFault ends.now result }
 {
     let mut first = None;
     for i in 0..ends.len() {
