@@ -2,10 +2,12 @@
 use Rattle.std.proofs.Common.{◌≡◌, ℕ, List, [], ◌∷◌, ◌++◌, true, Option, Some, None, is_some, Result, Ok, Err, OnErr, inl, inr, refl, sym, subst}
 use Rattle.std.specs.Prelude.{◌==◌}
 use Rattle.std.proofs.lemmas.Bool.{cases_eq, cond-true, cond-false, eq-eqb, ne_eqb, false≢true}
+use Rattle.wl_lattice.specs.declared.FlatWord.{FlatWord}
+use Rattle.wl_lattice.specs.declared.FlatWord.TheVariants as flat
+use Rattle.wl_lattice.specs.Words.{joined_flat}
 use Rattle.wl_record_core.specs.declared.record.Record.{Record}
 use Rattle.wl_record_core.specs.Truth.{AreTrueOf}
 use Rattle.wl_group.specs.Party.{put}
-pub use Rattle.wl_group.proofs.CountedProofs.{with_nothing}
 
 -- a written place, and another
 pub put_at : {A : Type 0} (f : ℕ → A) (i : ℕ) (a : A) (P : A → Type 0) (j : ℕ) → (j ≡ i → P a) → ((j ≡ i → ⊥) → P (f j)) → P (put f i a j)
@@ -26,3 +28,9 @@ is_there (Some k) h = (k, refl)
 pub on_err : {T E P : Type 0} (r : Result T E) → P → OnErr r P
 on_err (Ok x) p = tt
 on_err (Err e) p = p
+
+-- joining nothing to a word changes nothing
+pub with_nothing : (a : FlatWord) → joined_flat a flat.Nothing ≡ a
+with_nothing flat.Nothing = refl
+with_nothing (flat.Value t) = refl
+with_nothing flat.Clash = refl

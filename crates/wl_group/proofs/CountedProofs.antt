@@ -28,7 +28,7 @@ use Rattle.wl_plan.specs.SimulationLaws.{SimulationLaws}
 use Rattle.wl_group.specs.declared.cell.Cell.{Cell}
 use Rattle.wl_group.specs.Kept.{IsKept}
 use Rattle.wl_group.specs.Member.{Member, next_tick, turns, member_after_quantum, emission}
-use Rattle.wl_group.proofs.Callers.{is_there}
+use Rattle.wl_group.proofs.Callers.{is_there, with_nothing}
 use Rattle.wl_group.specs.Counted.{KnowsFirst, KnowsNoMore, AreCounted, IsHorizon, AreHorizons, TellHorizons, IsTrueState, AreNotAfter, IsCounting}
 
 -- ---- counts
@@ -296,11 +296,6 @@ no_silence : (r : Record) (i j n : ℕ) → node_of r ≡ i → (j ≡ i → ⊥
 no_silence (Edge k s t) i j n is other = refl
 no_silence (Clash k s) i j n is other = refl
 no_silence (Silence k m u) i j n is other = cond-false (j == k && (n == m)) u 0 (ap (λ v. v && (n == m)) (ne_eqb j k (λ e. other (e ∙ is))))
-
-pub with_nothing : (a : FlatWord) → joined_flat a flat.Nothing ≡ a
-with_nothing flat.Nothing = refl
-with_nothing (flat.Value t) = refl
-with_nothing flat.Clash = refl
 
 no_words : (rs : List Record) (i j n : ℕ) → AllByRecursion (IsOf i) rs → (j ≡ i → ⊥) → (slots_of_records rs).edge j n ≡ flat.Nothing
 no_words [] i j n are other = refl
