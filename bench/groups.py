@@ -1,12 +1,14 @@
 #!/usr/bin/env python3
 """Settles worlds of groups by the built `world_rows`, with twice as many quanta at each step, and prints a table: seconds of processor time
-(the least of RUNS, 3 by default) and peak memory, and how many times as long as the row before.
+(the least of RUNS, 3 by default) and peak memory; where COUNT is set, also the instructions (in millions, by valgrind's cachegrind), and how many
+times as many as in the row before, which a busy machine does not change.
 
 usage: groups.py [PROGRAM [MOST_OF_TWO [MOST_OF_SIXTEEN]]]      the most quanta a node, 64,000 and 16,000 by default: of the plan of two nodes with
                                                                one frame, one group a node; of the busy plan of 16 nodes (bench/plan.py 21), in
                                                                one group, in two and in sixteen
 """
 import os
+import re
 import subprocess
 import sys
 import tempfile
@@ -38,18 +40,32 @@ def measured(script: str, work: Path) -> tuple[float, float, list[str]]:
     return least, peak / 1024, (work / "out").read_text().split()
 
 
+def counted(work: Path) -> float:
+    with open(work / "in", "rb") as source:
+        words = ["valgrind", "--tool=cachegrind", "--cache-sim=no", "--cachegrind-out-file=/dev/null", WORDS[0]]
+        told = subprocess.run(words, stdin=source, check=True, capture_output=True, text=True).stderr
+    return int(re.search(r"I\s+refs:\s+([0-9,]+)", told).group(1).replace(",", "")) / 1e6
+
+
+def times(now: float, before: float) -> str:
+    return f"{now / before:.2f}" if before else ""
+
+
 def main() -> None:
-    print("| World | Quanta a node | Rounds | Records | Seconds | Times the row before | Peak memory |\n|---|---|---|---|---|---|---|")
+    print("| World | Quanta a node | Rounds | Records | Seconds | Times the row before | Peak memory | Instructions | Times the row before |")
+    print("|---|---|---|---|---|---|---|---|---|")
     worlds = [("2 nodes, 2 groups", [0, 1], of_two, int(WORDS[1]))]
     worlds += [(f"16 nodes, {count} group{'s' * (count > 1)}", [node % count for node in range(16)], of_sixteen, int(WORDS[2])) for count in (1, 2, 16)]
     with tempfile.TemporaryDirectory() as folder:
         for name, groups, plan_of, most in worlds:
-            quanta, before = 1_000, 0.0
+            quanta, before, steps_before = 1_000, 0.0, 0.0
             while quanta <= most:
                 script = f"groups {' '.join(map(str, groups))}\nsettle\nemitted\nplan\n{plan_of(quanta)}"
                 seconds, peak, told = measured(script, Path(folder))
-                print(f"| {name} | {quanta:,} | {int(told[0]):,} | {int(told[1]):,} | {seconds:.2f} | {f'{seconds / before:.2f}' if before else ''} | {peak:.1f} MiB |", flush=True)
-                quanta, before = 2 * quanta, seconds
+                steps = counted(Path(folder)) if os.environ.get("COUNT") else 0.0
+                row = [name, f"{quanta:,}", f"{int(told[0]):,}", f"{int(told[1]):,}", f"{seconds:.2f}", times(seconds, before), f"{peak:.1f} MiB"]
+                print(f"| {' | '.join([*row, f'{steps:,.0f}', times(steps, steps_before)])} |", flush=True)
+                quanta, before, steps_before = 2 * quanta, seconds, steps
 
 
 main()

@@ -177,7 +177,8 @@ impl Group {
             return false;
         }
         let due = self.due(node);
-        due < self.plan.end && is_line_known(&self.replica, &self.plan.topology, horizons, node, due)
+        due < self.plan.end
+            && is_line_known(&self.replica, &self.plan.topology, horizons, node, due)
     }
 
     /// Whether this node is at the end: it is a member, and its next quantum isn't below the end. A node

@@ -14,23 +14,25 @@ loop-i-preserved c = elim c.if-is_none.branch [
       let i : c.loop-i.i < 16 = omega (arith, c.loop-i-test.true, c.nodes-i-end.ensures.value, c.requires.few) in
       let br : c.loop-i.i < length c.loop-i.runs = (let e = c.loop-i.invariant.2 in omega arith) in
       let bh : c.loop-i.i < length c.loop-i.horizons = (let e = c.loop-i.invariant.3 in omega arith) in
-      let is : IsHorizon s c.loop-i.i w.run_from-run.result w.horizon_of.result = record { last = w.run_from-run.ensures.last; tick = w.horizon_of.ensures.tick; early = w.horizon_of.ensures.early } in
-      ( subst (AreCounted s) (sym w.runs-is) (one_more_counted s c.loop-i.runs c.loop-i.i w.run_from-run.result br c.loop-i.invariant.0 w.run_from-run.ensures.first)
-      , subst (λ rs. AreHorizons s rs c.if-is_none.horizons) (sym w.runs-is)
-          (subst (AreHorizons s (slice_set c.loop-i.runs c.loop-i.i w.run_from-run.result)) (sym w.horizons-is)
-          (one_more_kept s c.loop-i.runs c.loop-i.horizons c.loop-i.i w.run_from-run.result w.horizon_of.result br bh c.loop-i.invariant.1 is))
-      , ap length w.runs-is ∙ (length-set c.loop-i.runs c.loop-i.i w.run_from-run.result ∙ c.loop-i.invariant.2)
-      , ap length w.horizons-is ∙ (length-set c.loop-i.horizons c.loop-i.i (Some w.horizon_of.result) ∙ c.loop-i.invariant.3)
-      , subst (λ (hs : List (Option ℕ)). (j : ℕ) → j < c.loop-i.i + 1 → (until : ℕ) × (slice_index_or hs j None ≡ Some until)) (sym w.horizons-is)
-          (one_more_there c.loop-i.horizons c.loop-i.i w.horizon_of.result bh c.loop-i.invariant.4))
+      let is : IsHorizon s c.loop-i.i w.run_from-run.result w.horizon_of.result = record { last = w.run_from-run.ensures.last; tick = w.horizon_of.ensures.tick; early = w.horizon_of.ensures.early } in (
+        subst (AreCounted s) (sym w.runs-is) (one_more_counted s c.loop-i.runs c.loop-i.i w.run_from-run.result br c.loop-i.invariant.0 w.run_from-run.ensures.first),
+        subst (λ rs. AreHorizons s rs c.if-is_none.horizons) (sym w.runs-is)
+            (subst (AreHorizons s (slice_set c.loop-i.runs c.loop-i.i w.run_from-run.result)) (sym w.horizons-is)
+            (one_more_kept s c.loop-i.runs c.loop-i.horizons c.loop-i.i w.run_from-run.result w.horizon_of.result br bh c.loop-i.invariant.1 is)),
+        ap length w.runs-is ∙ (length-set c.loop-i.runs c.loop-i.i w.run_from-run.result ∙ c.loop-i.invariant.2),
+        ap length w.horizons-is ∙ (length-set c.loop-i.horizons c.loop-i.i (Some w.horizon_of.result) ∙ c.loop-i.invariant.3),
+        subst (λ (hs : List (Option ℕ)). (j : ℕ) → j < c.loop-i.i + 1 → (until : ℕ) × (slice_index_or hs j None ≡ Some until)) (sym w.horizons-is)
+            (one_more_there c.loop-i.horizons c.loop-i.i w.horizon_of.result bh c.loop-i.invariant.4),
+      )
   | else-is_none w ↦
-      let s = slots_of c.args.replica.now in
-      ( subst (AreCounted s) (sym w.runs-is) c.loop-i.invariant.0
-      , subst (λ rs. AreHorizons s rs c.if-is_none.horizons) (sym w.runs-is) (subst (AreHorizons s c.loop-i.runs) (sym w.horizons-is) c.loop-i.invariant.1)
-      , ap length w.runs-is ∙ c.loop-i.invariant.2
-      , ap length w.horizons-is ∙ c.loop-i.invariant.3
-      , subst (λ (hs : List (Option ℕ)). (j : ℕ) → j < c.loop-i.i + 1 → (until : ℕ) × (slice_index_or hs j None ≡ Some until)) (sym w.horizons-is)
-          (also_there c.loop-i.horizons c.loop-i.i c.is_none.result w.if-is_none.false c.is_none.ensures c.loop-i.invariant.4))
+      let s = slots_of c.args.replica.now in (
+        subst (AreCounted s) (sym w.runs-is) c.loop-i.invariant.0,
+        subst (λ rs. AreHorizons s rs c.if-is_none.horizons) (sym w.runs-is) (subst (AreHorizons s c.loop-i.runs) (sym w.horizons-is) c.loop-i.invariant.1),
+        ap length w.runs-is ∙ c.loop-i.invariant.2,
+        ap length w.horizons-is ∙ c.loop-i.invariant.3,
+        subst (λ (hs : List (Option ℕ)). (j : ℕ) → j < c.loop-i.i + 1 → (until : ℕ) × (slice_index_or hs j None ≡ Some until)) (sym w.horizons-is)
+            (also_there c.loop-i.horizons c.loop-i.i c.is_none.result w.if-is_none.false c.is_none.ensures c.loop-i.invariant.4),
+      )
 ]
 
 pub returns-clause-all : goal.returns-clause-all
