@@ -36,6 +36,11 @@ EXAMPLES = Path(__file__).resolve().parent.parent / "examples"
 program = None
 
 
+def example_text(name, sync):
+    """The plan of an example with this choice in the place of its own."""
+    return f'sync = "{sync}"\n' + re.sub(r"(?m)^sync = .*\n", "", (EXAMPLES / f"{name}.toml").read_text())
+
+
 def segments_of(setting):
     return plain.Segments(*setting[:4])
 
@@ -122,11 +127,11 @@ def pairs(pool):
     """Three nodes of an example: the second one's offset over one bit in steps of 50 ns and the third one's in steps of 100 ns."""
     def rows():
         for name in ("clean_500k", "sampled_late_500k"):
-            text = (EXAMPLES / f"{name}.toml").read_text()
-            parts = text.split("[[node]]")
+            parts = example_text(name, CHOICES[0]).split("[[node]]")
             moved = [[part.replace(f"offset = {was}", f"offset = {was + by}", 1) for by in range(0, 2000, step)]
                      for part, step in zip(parts[2:], (50, 100)) for was in [int(part.split("offset = ")[1].split()[0])]]
-            plans = [[f'sync = "{sync}"\n' + "[[node]]".join([*parts[:2], second, third]) for second in moved[0] for third in moved[1]] for sync in CHOICES]
+            tops = [example_text(name, sync).split("[[node]]")[0] for sync in CHOICES]
+            plans = [["[[node]]".join([top, parts[1], second, third]) for second in moved[0] for third in moved[1]] for top in tops]
             yield f"`{name}`", *("%d of %d" % clean_in(pool, texts) for texts in plans)
     table(["Example", *(f"Clean, `{sync}`" for sync in CHOICES)], rows())
 
@@ -232,7 +237,7 @@ def swept(text):
 def sweeps(pool):
     """The examples as `./wireline sweep` runs them: over the offsets of all nodes but the first, and the signs of all deviations."""
     if program is None: return
-    rows = ((f"`{name}`", *(swept(f'sync = "{sync}"\n' + (EXAMPLES / f"{name}.toml").read_text()) for sync in CHOICES)) for name in SWEPT)
+    rows = ((f"`{name}`", *(swept(example_text(name, sync)) for sync in CHOICES)) for name in SWEPT)
     table(["Example", *(f"Clean, `{sync}`" for sync in CHOICES)], rows)
 
 
