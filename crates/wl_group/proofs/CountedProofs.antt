@@ -7,7 +7,6 @@ use Rattle.std.proofs.lemmas.List.{get_or-set_same, get_or-set_other}
 use Rattle.wl_lattice.specs.declared.FlatWord.{FlatWord}
 use Rattle.wl_lattice.specs.declared.FlatWord.TheVariants as flat
 use Rattle.wl_lattice.specs.Words.{joined_flat}
-use Rattle.wl_topology.specs.Driven.{driven, DrivenLaws}
 use Rattle.wl_record_core.specs.declared.record.Record.{Record}
 use Rattle.wl_record_core.specs.declared.record.Record.TheVariants.{Edge, Clash, Silence}
 use Rattle.wl_record_core.specs.Slots.{node_of}
@@ -27,6 +26,8 @@ use Rattle.wl_plan.specs.PlanLine.{line_of, table_of}
 use Rattle.wl_plan.specs.SimulationLaws.{SimulationLaws}
 use Rattle.wl_group.specs.declared.cell.Cell.{Cell}
 use Rattle.wl_group.specs.Kept.{IsKept}
+use Rattle.wl_group.specs.declared.heard.Stretch.{Stretch}
+use Rattle.wl_group.specs.Heard.{AreStretches}
 use Rattle.wl_group.specs.Member.{Member, next_tick, turns, member_after_quantum, emission}
 use Rattle.wl_group.proofs.Callers.{is_there, with_nothing}
 use Rattle.wl_group.specs.Counted.{KnowsFirst, KnowsNoMore, AreCounted, IsHorizon, AreHorizons, TellHorizons, IsTrueState, AreNotAfter, IsCounting}
@@ -257,29 +258,17 @@ module _ (tables : TableLaws) (nodes : ℕ) (table : ℕ → List ℕ) (w : Cont
           let same : count ≡ count_below (suc tick) (table i) = omega arith in
           ap odd same ∙ sym (knows.wave_agrees nodes table w i tick order truth early)
 
--- the level a delay earlier, where that is not before tick 0
-pub level_after : (delay t : ℕ) (b wave : Bool) → delay ≤ t → b ≡ wave → b ≡ (nat_le delay t && wave)
-level_after delay t b wave h e = e ∙ sym (ap (λ v. v && wave) (le-leb delay t h))
-
--- ---- what a node finds
-
--- one node that drove dominant is enough, and without one there is none
-pub driven_from : DrivenLaws → (n : ℕ) (delay : ℕ → ℕ → ℕ) (drove : ℕ → ℕ → Bool) (i j t : ℕ) (v : Bool) → i < n
-    → v ≡ (nat_le (delay i j) t && drove i (t - delay i j)) → v ≡ true → driven n delay drove j t ≡ true
-driven_from laws n delay drove i j t v b is h =
-    let p = and_parts (nat_le (delay i j) t) (drove i (t - delay i j)) (sym is ∙ h) in
-    laws.dominant_from n delay drove i j t b (leb-true (delay i j) t p.0) p.1
-
 -- ---- what a group keeps
 
 -- more was taken, and all is true
-pub counting_stays : SlotsLaws → SlotsOfStates → KnownLaws → (plan : Plan) (cells : List (Option Cell)) (old more new : State) (emitted : List Record) (runs : List ℕ) (horizons : List (Option ℕ))
-    → new ≡ states_joined old more → AreCounted (slots_of old) runs → IsKept plan cells new emitted → AreHorizons (slots_of new) runs horizons
-    → IsCounting plan cells new emitted runs horizons
-counting_stays slots states known plan cells old more new emitted runs horizons e counted kept are = record {
+pub counting_stays : SlotsLaws → SlotsOfStates → KnownLaws → (plan : Plan) (cells : List (Option Cell)) (old more new : State) (emitted : List Record) (runs : List ℕ) (horizons : List (Option ℕ)) (heard : List Stretch)
+    → new ≡ states_joined old more → AreCounted (slots_of old) runs → IsKept plan cells new emitted → AreHorizons (slots_of new) runs horizons → AreStretches (line_of plan) heard
+    → IsCounting plan cells new emitted runs horizons heard
+counting_stays slots states known plan cells old more new emitted runs horizons heard e counted kept are stretches = record {
   kept = kept;
   counted = counted_stays slots states known (length plan.nodes) (table_of plan) old more new runs e kept.value.holds.truth counted;
   known = are;
+  stretches = stretches;
 }
 
 -- ---- of the other nodes nothing is known that was not before

@@ -3,6 +3,7 @@ mod AdvanceProofs
 mod BeginProofs
 mod ChangesProofs
 mod CountedProofs
+mod HeardProofs
 mod GroupProofs
 mod Rows
 mod ValueProofs

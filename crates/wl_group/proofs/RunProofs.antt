@@ -1,7 +1,7 @@
 -- One quantum of a member, from what a group keeps to what its contracts see.
 use Rattle.std.proofs.Common.{◌≡◌, ℕ, zero, suc, ◌+◌, ◌<◌, ◌≤◌, true, inl, inr, List, [], ◌∷◌, ◌++◌, length, get_or, All, Option, Some, None, is_some, refl, sym, ◌∙◌, ap, subst, arith, nat_lt}
 use Rattle.std.proofs.Math.ListN.{set}
-use Rattle.std.proofs.lemmas.Bool.{cases_lt, cases_eq}
+use Rattle.std.proofs.lemmas.Bool.{cases_lt, cases_eq, and_parts}
 use Rattle.std.proofs.lemmas.List.{get_or_read, get_or_past, get_or-set_same, get_or-set_other}
 use Rattle.std.proofs.lemmas.List.Elements.{All-from_recursion, All-weaker}
 use Rattle.std.proofs.lemmas.List.Sums.{count_by-le-length}
@@ -12,7 +12,6 @@ use Rattle.wl_record_core.specs.declared.record.Record.TheVariants.{Edge, Clash,
 use Rattle.wl_record_core.specs.Limits.{most_edges}
 use Rattle.wl_record_core.specs.Truth.{IsTrueOf, AreTrueOf}
 use Rattle.wl_replica.specs.State.{State, slots_of, state_with_records, Fits}
-use Rattle.wl_replica.specs.Known.{wave_at}
 use Rattle.wl_node.specs.Reached.{quanta_of}
 use Rattle.wl_plan.specs.declared.plan.Plan.{Plan}
 use Rattle.wl_plan.specs.Limits.{most_quanta}
@@ -21,7 +20,8 @@ use Rattle.wl_plan.specs.PlanLine.{line_of, table_of}
 use Rattle.wl_plan.specs.Simulation.{level, AreInside}
 use Rattle.wl_plan.specs.Checked.{CheckedIsSound}
 use Rattle.wl_group.specs.declared.cell.Cell.{Cell}
-use Rattle.wl_group.specs.Member.{Member, next_tick, member_after_quantum, emission}
+use Rattle.wl_group.specs.Member.{Member, next_tick, can_run, member_after_quantum, emission}
+use Rattle.wl_group.specs.GroupLaws.{GroupLaws}
 use Rattle.wl_group.specs.GroupValue.{GroupValue, IsGroupValue, quanta_at, belongs, member_after, member_at, members_now, may_run, reads_at, emission_at, run_on}
 use Rattle.wl_group.specs.Kept.{quanta_kept, ran_of, group_value, IsCell, AreCells, IsKept}
 use Rattle.wl_group.specs.Running.{IsCellOf, MaySay, quanta_to_come, quanta_left, HasRunNext}
@@ -123,12 +123,16 @@ module _ (laws : ValueLaws) (sound : CheckedIsSound) (plan : Plan) (cells : List
         let c = kept.placed i cell is in
         subst (λ m. IsCellOf plan i m cell) (sym member_is) (record { setup = c.setup; node = c.node; changed = c.changed })
 
-    -- what it reads is what its value says
-    pub reads_is : (tick : ℕ) (level : Level) → tick ≡ next_tick (line_of now.plan) i (members_now now i)
-        → level ≡ level_of (found (line_of plan) (wave_at (slots_of replica)) i tick) → level ≡ reads_at (group_value plan cells replica emitted) i
-    reads_is tick level et el =
-        el ∙ ap (λ t. level_of (found (line_of plan) (wave_at (slots_of replica)) i t))
+    -- what it reads, where the line is as the simulation has it, is what its value says
+    pub reads_is : GroupLaws → may_run now i ≡ true → (tick : ℕ) (read : Level) → tick ≡ next_tick (line_of now.plan) i (members_now now i)
+        → read ≡ level_of (found (line_of plan) (level (line_of plan)) i tick) → read ≡ reads_at (group_value plan cells replica emitted) i
+    reads_is groups may tick read et el =
+        let g = group_value plan cells replica emitted in
+        let here : may_run g i ≡ true = subst (λ (v : GroupValue). may_run v i ≡ true) (sym view) may in
+        let can = (and_parts (belongs g i) (can_run (line_of plan) i (members_now g i) (slots_of replica)) here).1 in
+        el ∙ (ap (λ t. level_of (found (line_of plan) (level (line_of plan)) i t))
         (et ∙ ap (λ (v : GroupValue). next_tick (line_of v.plan) i (members_now v i)) (sym view))
+        ∙ sym (groups.read_is_found (line_of plan) (sound plan kept.value.checked) (slots_of replica) kept.value.holds.truth i (members_now g i) in_plan can))
 
     -- a list of cells in which it has another state
     module _ (new : Cell) where

@@ -8,7 +8,10 @@ use Rattle.wl_replica.specs.State.{State, slots_of}
 use Rattle.wl_replica.specs.Slots.{Contents, HoldsTrue}
 use Rattle.wl_replica.specs.Known.{is_tick, tick_in, horizon}
 use Rattle.wl_plan.specs.declared.plan.Plan.{Plan}
+use Rattle.wl_plan.specs.PlanLine.{line_of}
 use Rattle.wl_group.specs.declared.cell.Cell.{Cell}
+use Rattle.wl_group.specs.declared.heard.Stretch.{Stretch}
+use Rattle.wl_group.specs.Heard.{AreStretches}
 use Rattle.wl_group.specs.Kept.{IsKept}
 
 -- the first m changes of node i are known
@@ -47,8 +50,9 @@ pub record AreNotAfter (w : Contents) (i m tick count : ℕ) : Type 0 where
   pub come : 0 < count → tick_in (w.edge i (count - 1)) ≤ tick
   pub others : count < m → tick < tick_in (w.edge i count)
 
--- What a group keeps, with its counts and horizons.
-pub record IsCounting (plan : Plan) (cells : List (Option Cell)) (replica : State) (emitted : List Record) (runs : List ℕ) (horizons : List (Option ℕ)) : Type 0 where
+-- What a group keeps, with its counts and horizons, and what its members heard last.
+pub record IsCounting (plan : Plan) (cells : List (Option Cell)) (replica : State) (emitted : List Record) (runs : List ℕ) (horizons : List (Option ℕ)) (heard : List Stretch) : Type 0 where
   pub kept : IsKept plan cells replica emitted
   pub counted : AreCounted (slots_of replica) runs
   pub known : AreHorizons (slots_of replica) runs horizons
+  pub stretches : AreStretches (line_of plan) heard

@@ -4,6 +4,7 @@ pub mod Chosen
 pub mod Counted
 pub mod GroupLaws
 pub mod GroupValue
+pub mod Heard
 pub mod Holds
 pub mod Kept
 pub mod Member

@@ -2,24 +2,28 @@
 
 ghost use Rattle.std.specs.Prelude.{◌≡◌, ℕ, ◌+◌, ◌<◌, ◌≤◌, ◌^◌, ◌++◌, [], ◌∷◌, true, false, List, All, IfOk, IsOk, OnOk, OnErr, IfSome, IfNone, length, vec_len, vec_capacity};
 ghost use Rattle.wl_level.specs.Levels.{level_of};
-ghost use Rattle.wl_topology.specs.Delays.{delay_of};
-ghost use Rattle.wl_replica.specs.Known.{place_horizon, wave_at};
+ghost use Rattle.wl_replica.specs.Known.{place_horizon};
 ghost use Rattle.wl_record_core.specs.Limits.{most_edges};
 ghost use Rattle.wl_replica.specs.State.{slots_of, state_with_records};
 ghost use Rattle.wl_node.specs.Reached.{quanta_of};
 ghost use Rattle.wl_plan.specs.Limits.{most_quanta};
 ghost use Rattle.wl_plan.specs.declared.plan.Plan.{Plan as GivenPlan};
-ghost use Rattle.wl_plan.specs.PlanLine.{line_of};
+ghost use Rattle.wl_replica.specs.Slots.{HoldsTrue};
+ghost use Rattle.wl_plan.specs.Checked.{IsChecked};
+ghost use Rattle.wl_plan.specs.PlanLine.{line_of, table_of};
+ghost use Rattle.wl_plan.specs.Simulation.{level};
 ghost use Rattle.wl_plan.specs.Line.{found};
-ghost use Rattle.wl_group.specs.Counted.{AreCounted, IsTrueState};
+ghost use Rattle.wl_group.specs.Counted.{AreCounted, AreHorizons, TellHorizons};
+ghost use Rattle.wl_group.specs.Heard.{IsStretch};
 ghost use Rattle.wl_group.specs.Member.{Member};
 ghost use Rattle.wl_group.specs.Running.{StepsCell, KeepsCell, SaysOf, MaySay};
 
 use crate::answer::{Advance, Emission};
 use crate::cell::Cell;
-use crate::counted::{Come, Runs, catch_up, laws_of_counts, seen};
+use crate::counted::{Horizons, Runs, catch_up, laws_of_counts};
 use crate::group::Group;
-use crate::laws::value_laws;
+use crate::heard::{Come, Stretch, stretch_around};
+use crate::laws::{group_laws, value_laws};
 use std::alloc::{AllocError, Global};
 use std::mem;
 use wl_level::Level;
@@ -99,13 +103,16 @@ impl Group {
         wl_plan::checked_is_sound();
         wl_plan::simulation_laws();
         laws_of_counts();
+        group_laws();
         let tick = self.due(i);
         catch_up(&self.replica, &mut self.runs, &mut self.horizons);
         let level = level_at(
             &self.plan,
             &self.replica,
             &self.runs,
+            &self.horizons,
             &mut self.come,
+            &mut self.heard[i as usize],
             i,
             tick,
         );
@@ -129,21 +136,35 @@ impl Group {
 /// The most records that one advance emits.
 const MOST_EMITTED: usize = 2;
 
-/// The level that node `i` reads at a tick: by what is known of all nodes, and by the disturbances.
-fn level_at(plan: &Plan, replica: &Replica, runs: &Runs, come: &mut Come, i: u8, tick: u64) -> Level
+/// The level that node `i` reads at a tick: in the stretch in which it read the line last, or in one that is found anew; and by the disturbances.
+fn level_at(
+    plan: &Plan,
+    replica: &Replica,
+    runs: &Runs,
+    horizons: &Horizons,
+    come: &mut Come,
+    heard: &mut Stretch,
+    i: u8,
+    tick: u64,
+) -> Level
+    requires checked { IsChecked plan.now }
     requires nodes { replica.now.nodes ≡ length plan.now.nodes }
     requires places { length plan.now.topology.places ≡ length plan.now.nodes }
+    requires truth { HoldsTrue (length plan.now.nodes) (table_of plan.now) (slots_of replica.now) }
     requires node { i < length plan.now.nodes }
-    requires truth { IsTrueState replica.now }
     requires counted { AreCounted (slots_of replica.now) runs.now }
-    requires known { let delay = delay_of plan.now.topology in
-        tick < place_horizon (length plan.now.nodes) delay (slots_of replica.now) i }
-    ensures { result ≡ level_of (found (line_of plan.now) (wave_at (slots_of replica.now)) i tick) }
+    requires kept { AreHorizons (slots_of replica.now) runs.now horizons.now }
+    requires all { TellHorizons replica.now horizons.now }
+    requires known { let l = line_of plan.now in tick < place_horizon l.nodes l.delay (slots_of replica.now) i }
+    requires heard { IsStretch (line_of plan.now) i heard.old }
+    ensures level { result ≡ level_of (found (line_of plan.now) (level (line_of plan.now)) i tick) }
+    ensures heard { IsStretch (line_of plan.now) i heard.new }
 {
+    *heard = stretch_around(plan, replica, runs, horizons, come, *heard, i, tick);
     if plan.disturbed(i, tick) {
         return Level::Dominant;
     }
-    seen(replica, &plan.topology, runs, come, i, tick)
+    heard.level
 }
 
 /// Runs a member's next quantum, at which it reads this level. The replica takes what is emitted

@@ -22,9 +22,6 @@ use wl_topology::{MOST_NODES, Topology};
 /// For each node, how many of its first changes are known, as far as they were counted.
 pub(crate) type Runs = [u32; MOST_NODES];
 
-/// For each node, how many of its changes had come when a member last asked. It speeds up the next time, and decides nothing.
-pub(crate) type Come = [u32; MOST_NODES];
-
 /// For each node, the tick below which it is known, where that was worked out since something was taken of it.
 pub(crate) type Horizons = [Option<u64>; MOST_NODES];
 
@@ -64,7 +61,7 @@ fn is_known(replica: &Replica, node: u8, seq: u32) -> bool
 }
 
 /// The tick of a node's change; 0 where it isn't known.
-fn change_at(replica: &Replica, node: u8, seq: u32) -> u64
+pub(crate) fn change_at(replica: &Replica, node: u8, seq: u32) -> u64
     ensures { result ≡ tick_in ((slots_of replica.now).edge node seq) }
 {
     match replica.slot(Slot::EdgeAt { node, seq }) {
@@ -185,7 +182,7 @@ fn sure(replica: &Replica, node: u8, tick: u64, guess: u32) -> u32
 }
 
 /// How many of a node's first `run` changes are not after a tick, where a guess says how many it may be.
-fn changes_until(replica: &Replica, node: u8, run: u32, tick: u64, guess: u32) -> u32
+pub(crate) fn changes_until(replica: &Replica, node: u8, run: u32, tick: u64, guess: u32) -> u32
     ensures { AreNotAfter (slots_of replica.now) node run tick result }
 {
     let mut count = sure(replica, node, tick, guess.min(run));
@@ -196,57 +193,4 @@ fn changes_until(replica: &Replica, node: u8, run: u32, tick: u64, guess: u32) -
         count += 1;
     }
     count
-}
-
-/// Whether a node, of which so many first changes are known, drove dominant `delay` ticks before tick `t`.
-fn drove(replica: &Replica, node: u8, from: u32, delay: u64, t: u64, come: &mut u32) -> bool
-    requires truth { IsTrueState replica.now }
-    requires first { KnowsFirst (slots_of replica.now) node from }
-    requires known { t < horizon (slots_of replica.now) node + delay }
-    ensures { result ≡ (nat_le delay t && wave_at (slots_of replica.now) node (t - delay)) }
-{
-    wl_record_core::table_laws();
-    wl_replica::known_laws();
-    if t < delay {
-        return false;
-    }
-    let run = run_from(replica, node, from);
-    *come = changes_until(replica, node, run, t - delay, *come);
-    *come % 2 == 1
-}
-
-/// The level that node `j` finds at tick `t`, by what all nodes drove, without disturbances. `topology` has the replica's nodes, and `t`
-/// is below the place horizon.
-pub(crate) fn seen(
-    replica: &Replica,
-    topology: &Topology,
-    runs: &Runs,
-    come: &mut Come,
-    j: u8,
-    t: u64,
-) -> Level
-    requires nodes { length topology.now.places ≡ replica.now.nodes }
-    requires place { j < replica.now.nodes }
-    requires truth { IsTrueState replica.now }
-    requires counted { AreCounted (slots_of replica.now) runs.now }
-    requires known { t < known_at replica.now.nodes (delay_of topology.now) (slots_of replica.now) j }
-    ensures { let delay = delay_of topology.now in
-        result ≡ level_of (driven replica.now.nodes delay (wave_at (slots_of replica.now)) j t) }
-{
-    wl_replica::known_laws();
-    wl_topology::driven_laws();
-    for i in 0..topology.nodes() {
-        let delay = topology.delay(i, j);
-        if drove(
-            replica,
-            i,
-            runs[i as usize],
-            delay,
-            t,
-            &mut come[i as usize],
-        ) {
-            return Level::Dominant;
-        }
-    }
-    Level::Recessive
 }

@@ -5,8 +5,9 @@ ghost use Rattle.std.specs.Prelude.{◌≡◌, ◌<◌, ℕ, true, List, [], ◌
 use crate::begin::{Chosen, chosen_of, first_replica, fresh_cells};
 use crate::cell::Cell;
 use crate::counted::{
-    Come, Horizons, Runs, catch_up, is_line_known, laws_of_counts, no_horizons, no_runs,
+    Horizons, Runs, catch_up, is_line_known, laws_of_counts, no_horizons, no_runs,
 };
+use crate::heard::{Come, Heard, nothing_heard};
 use crate::laws::value_laws;
 use std::alloc::{AllocError, Global};
 use std::marker::Model;
@@ -31,6 +32,7 @@ pub struct Group {
     pub(crate) runs: Runs,
     pub(crate) horizons: Horizons,
     pub(crate) come: Come,
+    pub(crate) heard: Heard,
 }
 
 impl Model for Group {
@@ -46,7 +48,7 @@ impl Model for Group {
 
     ghost view = { λ g. group_value g.plan g.cells.items g.replica g.emitted.items };
 
-    ghost invariant = { λ g. IsCounting g.plan g.cells.items g.replica g.emitted.items g.runs g.horizons };
+    ghost invariant = { λ g. IsCounting g.plan g.cells.items g.replica g.emitted.items g.runs g.horizons g.heard };
 }
 
 impl Group {
@@ -87,6 +89,7 @@ impl Group {
             runs: no_runs(),
             horizons: no_horizons(),
             come: [0; MOST_NODES],
+            heard: nothing_heard(),
         })
     }
 

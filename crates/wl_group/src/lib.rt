@@ -8,6 +8,7 @@ mod cell;
 mod changes;
 mod counted;
 mod group;
+mod heard;
 mod laws;
 
 pub use answer::{Advance, Emission};

@@ -1,5 +1,6 @@
 use Rattle.std.proofs.Common.{◌∙◌, ap, length}
 use Rattle.wl_replica.specs.State.{slots_of}
+use Rattle.wl_plan.specs.PlanLine.{line_of}
 use Rattle.wl_group.specs.GroupValue.{names, belongs}
 use Rattle.wl_group.specs.Chosen.{is_chosen}
 use Rattle.wl_group.proofs.BeginProofs.{begun_value, begun_kept, names_past}
@@ -13,6 +14,7 @@ invariant_of-result c =
           c.in_ok-cells.ensures.ran c.in_ok-cells.ensures.cells c.in_ok-replica.ensures c.new.ensures.items;
       counted = c.no_runs.ensures (slots_of c.in_ok-replica.replica);
       known = c.no_horizons.ensures (slots_of c.in_ok-replica.replica) c.no_runs.result;
+      stretches = c.nothing_heard.ensures (line_of c.in_ok-clone_in.field-0);
     }
 
 pub returns-clause-value : goal.returns-clause-value

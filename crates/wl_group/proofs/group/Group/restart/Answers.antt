@@ -15,6 +15,7 @@ invariant_of-self c =
           c.in_ok-cells.ensures.ran c.in_ok-cells.ensures.cells c.in_ok-replica.ensures c.clear.ensures.items;
       counted = c.no_runs-self-inside.ensures (slots_of c.in_ok-replica.replica);
       known = c.no_horizons-self-inside.ensures (slots_of c.in_ok-replica.replica) c.no_runs-self-inside.result;
+      stretches = c.self.invariant.stretches;
     }
 
 pub returns-clause-ok : goal.returns-clause-ok
