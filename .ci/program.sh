@@ -1,12 +1,13 @@
 #!/usr/bin/env bash
 # Runs a built program of Wireline as a user would, and compares status, standard output and the fault's line, byte for byte.
 # usage: program.sh PROGRAM
-# - each plan of examples/ with the report beside it, and each of those plans through check, records and candump, which must accept it
+# - each plan of examples/ with the report beside it, and each of those plans through check, records and candump, which must accept it;
+#   some of them by workers too
 # - the explanation of each of them as bench/plain.py gives it, and of a plan with every doubt
 # - the log of one plan, as ticks of three lengths have it, and the waveform of one, as ticks of two have it
 # - each row of .ci/refused.txt: the status, the one line on standard error, and nothing on standard output
 # - command lines that name no task: status 2, and nothing on standard output
-# - a reader and a writer that fail: status 3
+# - a reader and a writer that fail, and threads that can't be made: status 3
 set -uo pipefail
 cd "$(dirname "$0")/.."
 program=$(realpath "$1")
@@ -49,6 +50,12 @@ done
 
 runs "explain of doubts" .ci/doubts.toml 0 .ci/doubts.explained "$room/none" explain
 
+for workers in 1 2 3 8; do
+  for name in clean_500k bus_off; do
+    runs "run of $name by $workers workers" "examples/$name.toml" 0 "examples/$name.report" "$room/none" run --workers "$workers"
+  done
+done
+
 # By hand, from the report and the clocks: the engine's quantum 2384 begins at tick 2384 * 125.625 = 299,490, and the dashboard's quantum 3474 at
 # tick 777 + 3474 * 124.375, rounded down, so 432,855.
 logged() { # logged US US WORDS..: runs candump, whose two lines have these times
@@ -75,6 +82,7 @@ while IFS='|' read -r word status how fault input; do
   esac
   printf '%s\n' "$fault" > "$room/fault"
   runs "$word, $fault" "$room/input" "$status" "$room/none" "$room/fault" "$word"
+  [ "$word" != run ] || runs "run --workers 2, $fault" "$room/input" "$status" "$room/none" "$room/fault" run --workers 2
 done < .ci/refused.txt
 
 while IFS= read -r words; do
@@ -89,7 +97,13 @@ help
 Merge
 runs
 run merge
+run --workers
 run --workers 0
+run --workers 9
+run --workers 1.5
+run --workers two
+run --workers 2 --workers 2
+check --workers 2
 run --tick 1ns
 explain --tick 1ns
 explain run
@@ -115,6 +129,15 @@ for word in merge check explain; do
   is "$word to a writer that fails" [ "$ended" = 3 ]
   is "$word to a writer that fails (standard error)" cmp -s "$room/err" "$room/fault"
 done
+
+# The least limit on memory under which the program runs by one thread leaves no room for the stacks of eight more.
+limited() { (ulimit -v "$1" && shift && "$program" run "$@" < examples/clean_500k.toml > "$room/out" 2> "$room/err"); }
+limit=2000
+until limited "$limit" || [ "$limit" -gt 200000 ]; do limit=$((limit + 1000)); done
+ended=0
+limited "$((limit + 8000))" --workers 8 || ended=$?
+is "threads that can't be made (status $ended: $(head -c 200 "$room/err"))" grep -qxE 'fault: (Worker\([0-7]\)|Memory)' "$room/err"
+is "threads that can't be made (status)" [ "$ended" = 3 -a ! -s "$room/out" ]
 
 world=crates/world_rows/out/world_rows
 if [ -x "$world" ]; then

@@ -69,7 +69,13 @@ is "the option of vcd" cmp -s "$room/out" <("$program" vcd --tick 125ps < "$plan
 ends 2 candump --tick && is "no log without a time" [ ! -s "$room/out" ]
 ends 2 candump --tick 1 "$plan" && says "a time that is none" "--tick wants 1 to 999"
 ends 2 run --tick 1ns "$plan" && says "a tick of another command" "unexpected argument"
-ends 2 run --workers 2 && says "an option that isn't there" "unexpected argument"
+ends 0 run --workers 2 "$plan"
+is "the option of run" cmp -s "$room/out" "$report"
+ends 0 run "$plan" --workers=3
+is "its other form" cmp -s "$room/out" "$report"
+ends 2 run --workers && is "no report without a number" [ ! -s "$room/out" ]
+ends 2 run --workers 9 "$plan" && says "too many workers" "9 is not in 1..=8"
+ends 2 check --workers 2 "$plan" && says "workers of another command" "unexpected argument"
 python3 - > "$room/out" << 'PYTHON'
 import os, subprocess
 ours, theirs = os.openpty()
@@ -157,12 +163,13 @@ ends 1 check < "$room/input" && says "a hint for standard input" 'node 0 "engine
 ended=0
 ./wireline check < <(cat "$room/input") 2> "$room/err" || ended=$?
 is "a hint for a pipe" [ "$ended" = 1 ] && says "a hint for a pipe" "hint: Set \`sjw\` from 1 to 4"
-printf '%s\n' Read Write Memory >> "$room/seen"
+printf '%s\n' Read Write Memory 'Worker(3)' >> "$room/seen"
 ends 3 merge < / && says "a reader that fails" "hint: Check that standard input"
 ended=0
 ./wireline merge examples/records.txt > /dev/full 2> "$room/err" || ended=$?
 is "a writer that fails" [ "$ended" = 3 ] && says "a writer that fails" "hint: Check that standard output"
 is "memory" [ "$(tools/hint.py Memory)" = "hint: Free memory, or raise the limit that the program runs under." ]
+is "a worker" [ "$(tools/hint.py 'Worker(3)')" = "hint: Raise the limits on threads and memory, or run with fewer workers; without \`--workers\` the report is the same." ]
 tools/hint.py --without < "$room/seen" > "$room/out"
 is "faults without a row and a hint: $(tr '\n' ' ' < "$room/out")" [ ! -s "$room/out" ]
 

@@ -2,7 +2,7 @@
 use Rattle.std.proofs.Common.{◌≡◌, ◌∙◌, refl, sym, ap, Bool, true, false, List, [], ◌∷◌, codes, Some, None}
 use Rattle.clap.specs.Words.{Text, fault_of}
 use Rattle.clap.proofs.OnLiterals.{clap_on_literals}
-use Rattle.wl_sim.specs.CommandLine.{program, entered_tick, Enters}
+use Rattle.wl_sim.specs.CommandLine.{program, entered_tick, entered_workers, Enters}
 use Rattle.wl_views.specs.declared.tick.TimeUnit.TheVariants.{Picosecond, Microsecond}
 use Rattle.wl_sim.specs.declared.command.Task.{Task}
 
@@ -12,7 +12,7 @@ is_faulty (x ∷ xs) = true
 
 enters_none : (words : List Text) → is_faulty (fault_of program words) ≡ true → (t : Task) → ¬ Enters t words
 unfolding is_faulty
-enters_none words faulty t enters = let no : false ≡ true = ap is_faulty (sym enters.2) ∙ faulty in cc
+enters_none words faulty t enters = let no : false ≡ true = ap is_faulty (sym enters.3) ∙ faulty in cc
 
 behind_name : List Text → List Text
 behind_name words = codes "wl_sim" ∷ words
@@ -65,3 +65,28 @@ no_tick = refl
 tick_of_another : is_faulty (fault_of program (behind_name (codes "run" ∷ codes "--tick" ∷ codes "1ns" ∷ []))) ≡ true
 unfolding clap_on_literals is_faulty behind_name
 tick_of_another = refl
+
+-- workers that are given, in both forms of an option, and none and too many, which are refused
+given_workers : entered_workers (behind_name (codes "run" ∷ codes "--workers" ∷ codes "3" ∷ [])) ≡ Some 3
+unfolding clap_on_literals behind_name
+given_workers = refl
+
+joined_workers : entered_workers (behind_name (codes "run" ∷ codes "--workers=8" ∷ [])) ≡ Some 8
+unfolding clap_on_literals behind_name
+joined_workers = refl
+
+workers_taken : is_faulty (fault_of program (behind_name (codes "run" ∷ codes "--workers" ∷ codes "8" ∷ []))) ≡ false
+unfolding clap_on_literals is_faulty behind_name
+workers_taken = refl
+
+no_workers : is_faulty (fault_of program (behind_name (codes "run" ∷ codes "--workers" ∷ codes "0" ∷ []))) ≡ true
+unfolding clap_on_literals is_faulty behind_name
+no_workers = refl
+
+too_many_workers : is_faulty (fault_of program (behind_name (codes "run" ∷ codes "--workers" ∷ codes "9" ∷ []))) ≡ true
+unfolding clap_on_literals is_faulty behind_name
+too_many_workers = refl
+
+workers_of_another : is_faulty (fault_of program (behind_name (codes "check" ∷ codes "--workers" ∷ codes "2" ∷ []))) ≡ true
+unfolding clap_on_literals is_faulty behind_name
+workers_of_another = refl

@@ -1,6 +1,8 @@
 -- The words of the command line (this project's profile).
-use Rattle.std.specs.Prelude.{◌≡◌, true, List, [], ◌∷◌, codes, Option, Some, option_and_then, option_map}
+use Rattle.std.specs.Prelude.{◌≡◌, ℕ, true, List, [], ◌∷◌, codes, pos, Option, Some, option_and_then, option_map}
 use Rattle.clap.specs.Words.{App, Row, Rule, Text, first_of, new_app, new_rule, with_rule, with_subcommand, subcommand_of, fault_of}
+use Rattle.clap.specs.Walk.{byte_or_zero}
+use Rattle.clap.specs.declared.builder.value_parser.ValueParser.TheVariants.{Signed}
 use Rattle.clap.specs.Simple.{on_top}
 use Rattle.wl_sim.specs.declared.command.Task.{Task}
 use Rattle.wl_sim.specs.declared.command.Task.TheVariants.{Merge, Horizon, Check, Records, Run, Explain, Candump, Vcd}
@@ -14,7 +16,7 @@ task_word Merge = codes "merge"
 task_word Horizon = codes "horizon"
 task_word Check = codes "check"
 task_word Records = codes "records"
-task_word Run = codes "run"
+task_word (Run workers) = codes "run"
 task_word Explain = codes "explain"
 task_word (Candump tick) = codes "candump"
 task_word (Vcd tick) = codes "vcd"
@@ -31,12 +33,17 @@ tick_rule = record (new_rule (codes "tick")) { long = Some (codes "tick"); value
 abbrev pub timed : Text → App
 timed word = with_rule (new_app word) tick_rule
 
+-- the option `--workers`, a number from 1 to 8, which is 1 where it isn't given
+abbrev pub workers_rule : Rule
+workers_rule =
+    record (new_rule (codes "workers")) { long = Some (codes "workers"); value_names = 1; defaults = codes "1" ∷ []; parser = Some (Signed (pos 1) (pos 8)) }
+
 -- the command line of the tasks without a tick: one of the tasks has to be named
 abbrev pub untimed_program : App
 untimed_program =
-    with_task (with_task (with_task (with_task (with_task (with_task
+    with_task (with_subcommand (with_task (with_task (with_task (with_task
     (on_top (λ s. record s { subcommand_required = true }) (new_app (codes "wl_sim")))
-    Merge) Horizon) Check) Records) Run) Explain
+    Merge) Horizon) Check) Records) (with_rule (new_app (codes "run")) workers_rule).top) Explain
 
 -- the program's command line: after those, the tasks with one
 abbrev pub program : App
@@ -62,17 +69,31 @@ HasTick given Merge = Unit {0}
 HasTick given Horizon = Unit {0}
 HasTick given Check = Unit {0}
 HasTick given Records = Unit {0}
-HasTick given Run = Unit {0}
+HasTick given (Run workers) = Unit {0}
 HasTick given Explain = Unit {0}
 
--- clap enters the task's subcommand at these words, with the task's tick where it has one, and finds no fault in them
+-- the number of workers that a subcommand's option gives
+abbrev pub workers_among : List Row → Option ℕ
+workers_among rows = option_map byte_or_zero (first_of (codes "workers") rows)
+
+-- that of the subcommand that clap enters at these words
+abbrev pub entered_workers : List Text → Option ℕ
+entered_workers words = option_and_then workers_among (option_map (λ p. p.1) (subcommand_of program words))
+
+-- a task that has workers has so many
+abbrev pub HasWorkers : Option ℕ → Task → Type 0
+HasWorkers given (Run workers) = given ≡ Some workers
+HasWorkers given _ = Unit {0}
+
+-- clap enters the task's subcommand at these words, with the task's tick or workers where it has them, and finds no fault in them
 abbrev pub Enters : Task → List Text → Type 0
-Enters t words = (entered_word words ≡ Some (task_word t)) × HasTick (entered_tick words) t × (fault_of program words ≡ [])
+Enters t words =
+    (entered_word words ≡ Some (task_word t)) × HasTick (entered_tick words) t × HasWorkers (entered_workers words) t × (fault_of program words ≡ [])
 
 -- a tick is a nanosecond where the words say nothing of it
 abbrev pub nanosecond : Tick
 nanosecond = record { count = 1; unit = Nanosecond }
 
--- the program's own name, and after it the word of the task alone: clap enters the task there
+-- the program's own name, and after it the word of the task alone: clap enters the task there, and one worker runs
 abbrev pub NamesTask : Task → List Text → Type 0
-NamesTask t words = (name : Text) × HasTick (Some nanosecond) t × (words ≡ name ∷ task_word t ∷ [])
+NamesTask t words = (name : Text) × HasTick (Some nanosecond) t × HasWorkers (Some 1) t × (words ≡ name ∷ task_word t ∷ [])

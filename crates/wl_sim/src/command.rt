@@ -1,12 +1,13 @@
 //! The command line.
 ghost use Rattle.std.specs.Prelude.{◌≡◌, ◌≢◌, ◌↔◌, map, string_bytes, IfOk, IfErr, false, Some, option_and_then, option_map};
-ghost use Rattle.clap.specs.Words.{app_of, found_of, kind_of, rows_of, rule_of, subcommand_rows_of};
+ghost use Rattle.clap.specs.Words.{app_of, found_of, kind_of, new_app, rows_of, rule_of, subcommand_rows_of, with_rule};
 ghost use Rattle.clap.specs.declared.builder.command.Command.TheViews.{out-Command};
-ghost use Rattle.wl_sim.specs.CommandLine.{timed, untimed_program, program, task_word, tick_among, tick_rule, Enters, HasTick};
+ghost use Rattle.wl_sim.specs.CommandLine.{untimed_program, program, task_word, Enters};
+ghost use Rattle.wl_sim.specs.CommandLine.{tick_among, tick_rule, HasTick, workers_among, workers_rule, HasWorkers};
 ghost use Rattle.wl_sim.specs.Tasks.{ReadsTask};
 
 use clap::error::ErrorKind;
-use clap::{Arg, ArgMatches, Command, Error};
+use clap::{Arg, ArgMatches, Command, Error, value_parser};
 use std::alloc::{AllocError, Global};
 use std::io;
 use std::rt::Env;
@@ -23,8 +24,8 @@ pub enum Task {
     Check,
     /// The records of a plan's simulation.
     Records,
-    /// The report of a plan's simulation.
-    Run,
+    /// The report of a plan's simulation by so many workers, 1 to 8; one works alone, on the program's own thread.
+    Run(u8),
     /// What is doubtful of a plan, and the figures of its nodes.
     Explain,
     /// The log of the frames that a plan's simulation sends, at ticks that take so long.
@@ -54,17 +55,34 @@ fn tick_option<'a>(alloc: Global) -> Arg<'a>
         .default_value("1ns")
 }
 
-/// A subcommand that has the option that says how long a tick takes.
-fn timed<'a>(alloc: Global, word: &'a str, about: &'a str) -> Result<Command<'a>, AllocError>
-    ensures app { IfOk result (λ sub. app_of sub ≡ timed word.now) }
-    ensures local { IfOk result (λ sub. (out-Command sub).has_globals ≡ false) }
+/// The option that says how many workers simulate the plan.
+fn workers_option<'a>(alloc: Global) -> Arg<'a>
+    ensures rule { rule_of result ≡ workers_rule }
+    ensures local { result.global ≡ false }
 {
-    Command::new(alloc, word)
-        .about(about)
-        .arg(tick_option(alloc))
+    Arg::new(alloc, "workers")
+        .long("workers")
+        .value_name("N")
+        .help("How many workers simulate the plan, each on a thread of its own: 1 to 8")
+        .value_parser(value_parser!(u8).range(1..=8))
+        .default_value("1")
 }
 
-/// The program's command with the subcommands that have no option, each with one line of help.
+/// A subcommand that has this option.
+fn optioned<'a>(
+    alloc: Global,
+    word: &'a str,
+    about: &'a str,
+    option: Arg<'a>,
+) -> Result<Command<'a>, AllocError>
+    requires { option.global ≡ false }
+    ensures app { IfOk result (λ sub. app_of sub ≡ with_rule (new_app word.now) (rule_of option.entry)) }
+    ensures local { IfOk result (λ sub. (out-Command sub).has_globals ≡ false) }
+{
+    Command::new(alloc, word).about(about).arg(option)
+}
+
+/// The program's command with the subcommands that have no tick, each with one line of help.
 fn untimed<'a>(alloc: Global) -> Result<Command<'a>, AllocError>
     ensures { IfOk result (λ all. app_of all ≡ untimed_program) }
 {
@@ -80,9 +98,12 @@ fn untimed<'a>(alloc: Global) -> Result<Command<'a>, AllocError>
     let records = Command::new(alloc, "records").about(
         "Simulates the plan, and writes each change of the line and the silence after it",
     );
-    let run = Command::new(alloc, "run").about(
+    let run = optioned(
+        alloc,
+        "run",
         "Simulates the plan, and writes the report of its nodes and frames",
-    );
+        workers_option(alloc),
+    )?;
     let explain = Command::new(alloc, "explain").about(
         "Tests the plan, and writes what is doubtful of it and the figures of its nodes",
     );
@@ -102,15 +123,17 @@ fn untimed<'a>(alloc: Global) -> Result<Command<'a>, AllocError>
 fn command<'a>(alloc: Global) -> Result<Command<'a>, AllocError>
     ensures { IfOk result (λ all. app_of all ≡ program) }
 {
-    let candump = timed(
+    let candump = optioned(
         alloc,
         "candump",
         "Simulates the plan, and writes the frames that were sent as can-utils logs them",
+        tick_option(alloc),
     )?;
-    let vcd = timed(
+    let vcd = optioned(
         alloc,
         "vcd",
         "Simulates the plan, and writes the waveform of its nodes as a Value Change Dump",
+        tick_option(alloc),
     )?;
     let all = untimed(alloc)?.subcommand(candump)?.subcommand(vcd)?;
     Ok(all)
@@ -137,17 +160,35 @@ fn tick_of_subcommand(matches: &ArgMatches) -> Option<Tick>
     }
 }
 
-/// The task of a subcommand, by its name and by its tick where it has one.
-fn task_named(name: Option<&str>, tick: Option<Tick>) -> Option<Task>
+/// The number of workers that a subcommand's option gives. Its range keeps out what is no number from 1 to 8.
+fn workers_in(matches: &ArgMatches) -> Option<u8>
+    ensures { result ≡ workers_among (rows_of (found_of matches.now)) }
+{
+    let text = matches.get_str("workers")?;
+    Some(text.parse().unwrap_or(0))
+}
+
+/// The number of workers that the option of the subcommand gives, where it has one.
+fn workers_of_subcommand(matches: &ArgMatches) -> Option<u8>
+    ensures { result ≡ option_and_then workers_among (option_map (λ p. p.1) (subcommand_rows_of matches.now)) }
+{
+    match matches.subcommand() {
+        Some((_, sub)) => workers_in(sub),
+        None => None,
+    }
+}
+
+/// The task of a subcommand, by its name, and by its tick or its workers where it has them.
+fn task_named(name: Option<&str>, tick: Option<Tick>, workers: Option<u8>) -> Option<Task>
     ensures { (task : Task) → (result ≡ Some task)
-        ↔ ((option_map (λ s. s.now) name.entry ≡ Some (task_word task)) × HasTick tick task) }
+        ↔ ((option_map (λ s. s.now) name.entry ≡ Some (task_word task)) × HasTick tick task × HasWorkers workers task) }
 {
     match name? {
         "merge" => Some(Task::Merge),
         "horizon" => Some(Task::Horizon),
         "check" => Some(Task::Check),
         "records" => Some(Task::Records),
-        "run" => Some(Task::Run),
+        "run" => Some(Task::Run(workers?)),
         "explain" => Some(Task::Explain),
         "candump" => Some(Task::Candump(tick?)),
         "vcd" => Some(Task::Vcd(tick?)),
@@ -164,7 +205,8 @@ fn task_of(alloc: Global, words: &[String]) -> Result<Option<Task>, Error>
 {
     let matches = command(alloc)?.try_get_matches_from(words)?;
     let tick = tick_of_subcommand(&matches);
-    Ok(task_named(matches.subcommand_name(), tick))
+    let workers = workers_of_subcommand(&matches);
+    Ok(task_named(matches.subcommand_name(), tick, workers))
 }
 
 /// Why words that clap refused with this kind of error name no task.
@@ -216,7 +258,7 @@ mod tests {
         ("horizon", Some(Task::Horizon)),
         ("check", Some(Task::Check)),
         ("records", Some(Task::Records)),
-        ("run", Some(Task::Run)),
+        ("run", Some(Task::Run(1))),
         ("explain", Some(Task::Explain)),
         ("", None),
         ("Merge", None),
@@ -255,6 +297,22 @@ mod tests {
                     unit: TimeUnit::Picosecond,
                 })
             });
+            assert_eq!(rt; task_of(alloc, &words).ok().flatten(), wanted);
+        }
+        Ok(())
+    }
+
+    #[test]
+    fn workers(rt: HostRuntime) -> Result<(), Fail> {
+        let alloc = rt.alloc();
+        for (text, wanted) in [("8", Some(Task::Run(8))), ("9", None)] {
+            let program = String::from_str(alloc, "wl_sim")?;
+            let words = [
+                program,
+                String::from_str(alloc, "run")?,
+                String::from_str(alloc, "--workers")?,
+                String::from_str(alloc, text)?,
+            ];
             assert_eq!(rt; task_of(alloc, &words).ok().flatten(), wanted);
         }
         Ok(())

@@ -19,6 +19,8 @@ use std::alloc::Global;
 use std::io;
 use std::io::ErrorKind;
 use std::process::ExitCode;
+use std::sync::Wait;
+use std::thread::Threads;
 use wl_device::{Host, Sink, Source};
 
 mod command;
@@ -26,7 +28,7 @@ mod command;
 pub use command::{Refusal, Task};
 pub use wl_engines::{
     RunFault, candump_run, check_run, explain_run, horizon_run, merge_run, merges_as_one, plan_run,
-    records_run, vcd_run,
+    records_run, vcd_run, workers_run,
 };
 
 /// The statuses that the program ends with beside 0.
@@ -46,9 +48,9 @@ fn main(rt: HostRuntime) -> ExitCode {
 }
 
 /// Does what the words ask for: runs the engine of the task that they name, over the reader and the writer. Words that name no
-/// task, or that the system doesn't give, call neither of the two.
-fn run_words<R: Source, W: Sink>(
-    rt: &impl Eprint,
+/// task, or that the system doesn't give, call neither of the two. It may wait where the task is a run by several workers.
+fn run_words<H: Eprint + Threads + Wait + Sync, R: Source, W: Sink>(
+    rt: &H,
     alloc: Global,
     words: io::Result<Vec<String>>,
     reader: &mut R,
@@ -71,7 +73,7 @@ fn run_words<R: Source, W: Sink>(
         }
     };
     match command::read(rt, alloc, words.as_slice()) {
-        Ok(task) => ended(rt, run(alloc, task, reader, writer)),
+        Ok(task) => ended(rt, run(rt, alloc, task, reader, writer)),
         Err(refusal) => refused(rt, refusal),
     }
 }
@@ -88,8 +90,9 @@ fn unread(error: &io::Error) -> Refusal
     }
 }
 
-/// Runs the engine of a task.
-fn run<R: Source, W: Sink>(
+/// Runs the engine of a task. It may wait where that is a run by several workers.
+fn run<H: Threads + Wait + Sync, R: Source, W: Sink>(
+    rt: &H,
     alloc: Global,
     task: Task,
     reader: &mut R,
@@ -102,7 +105,8 @@ fn run<R: Source, W: Sink>(
         Task::Horizon => horizon_run(alloc, reader, writer),
         Task::Check => check_run(alloc, reader, writer),
         Task::Records => records_run(alloc, reader, writer),
-        Task::Run => plan_run(alloc, reader, writer),
+        Task::Run(1) => plan_run(alloc, reader, writer),
+        Task::Run(workers) => workers_run(rt, alloc, workers, reader, writer),
         Task::Explain => explain_run(alloc, reader, writer),
         Task::Candump(tick) => candump_run(alloc, tick, reader, writer),
         Task::Vcd(tick) => vcd_run(alloc, tick, reader, writer),

@@ -1,5 +1,5 @@
-use Rattle.std.proofs.Common.{◌∙◌, ap, ap₂}
-use Rattle.clap.specs.Words.{App, Shape, with_subcommand}
+use Rattle.std.proofs.Common.{◌∙◌, ap, ap₂, codes}
+use Rattle.clap.specs.Words.{App, Shape, new_app, with_rule, with_subcommand}
 use Rattle.wl_sim.proofs.command.command.Goals as goal
 
 abbrev top_of : App → Shape
@@ -8,5 +8,5 @@ top_of a = a.top
 pub returns : goal.returns
 returns c =
     let one = c.in_ok-subcommand.ensures.shape c.in_ok-candump.ensures.local
-    ∙ ap₂ with_subcommand c.in_ok-untimed.ensures (ap top_of c.in_ok-candump.ensures.app) in
-    c.in_ok-all.ensures.shape c.in_ok-vcd.ensures.local ∙ ap₂ with_subcommand one (ap top_of c.in_ok-vcd.ensures.app)
+    ∙ ap₂ with_subcommand c.in_ok-untimed.ensures (ap top_of (c.in_ok-candump.ensures.app ∙ ap (with_rule (new_app (codes "candump"))) c.tick_option.ensures.rule)) in
+    c.in_ok-all.ensures.shape c.in_ok-vcd.ensures.local ∙ ap₂ with_subcommand one (ap top_of (c.in_ok-vcd.ensures.app ∙ ap (with_rule (new_app (codes "vcd"))) c.tick_option-2.ensures.rule))

@@ -1,6 +1,6 @@
 use Rattle.std.proofs.Common.{◌∙◌, ap, sym, subst, map, option_and_then, option_map, string_bytes, List}
 use Rattle.clap.specs.Words.{App, Text, fault_of, is_simple, is_simple_and_free, subcommand_of}
-use Rattle.wl_sim.specs.CommandLine.{tick_among, HasTick}
+use Rattle.wl_sim.specs.CommandLine.{tick_among, HasTick, workers_among, HasWorkers}
 use Rattle.clap.proofs.TakesLemmas.{passed_up}
 use Rattle.wl_sim.proofs.Words.{memory_alone, name_in_front, program_is_free, program_is_simple}
 use Rattle.wl_sim.proofs.command.task_of.Goals as goal
@@ -14,9 +14,20 @@ returns-clause-task c =
     let clean = ap (λ (a : App). fault_of a words) (sym is) ∙ c.in_ok-matches.ensures.kinds (ap is_simple_and_free is ∙ program_is_free) in
     let tick = c.tick_of_subcommand-tick.ensures
     ∙ ap (λ o. option_and_then tick_among (option_map (λ p. p.1) o)) (rows ∙ ap (λ (a : App). subcommand_of a words) is) in
+    let workers = c.workers_of_subcommand-workers.ensures
+    ∙ ap (λ o. option_and_then workers_among (option_map (λ p. p.1) o)) (rows ∙ ap (λ (a : App). subcommand_of a words) is) in
     λ task. (
-      λ found. (sym name ∙ ((c.task_named.ensures task).0 found).0, subst (λ given. HasTick given task) tick ((c.task_named.ensures task).0 found).1, clean),
-      λ enters. (c.task_named.ensures task).1 (name ∙ enters.0, subst (λ given. HasTick given task) (sym tick) enters.1),
+      λ found. let told = (c.task_named.ensures task).0 found in (
+        sym name ∙ told.0,
+        subst (λ given. HasTick given task) tick told.1,
+        subst (λ given. HasWorkers given task) workers told.2,
+        clean,
+      ),
+      λ enters. (c.task_named.ensures task).1 (
+        name ∙ enters.0,
+        subst (λ given. HasTick given task) (sym tick) enters.1,
+        subst (λ given. HasWorkers given task) (sym workers) enters.2,
+      ),
     )
 
 pub returns-in_err-matches-clause-memory : goal.returns-in_err-matches-clause-memory
