@@ -77,10 +77,10 @@ nothing_heard l n j = subst (IsStretch l j) (sym (nothing_at n j)) (empty_stretc
 pub one_more_heard : (l : Line) (heard : List Stretch) (i : ℕ) (new : Stretch) → AreStretches l heard → IsStretch l i new → AreStretches l (slice_set heard i new)
 one_more_heard l heard i new are is j = elim (cases_eq j i) [
   | inl same ↦ subst (λ n. IsStretch l n (slice_index_or (slice_set heard i new) n no_stretch)) (sym same) (elim (cases_lt i (length heard)) [
-      | inl there ↦ subst (IsStretch l i) (sym (get_or-set_same heard i new no_stretch there)) is
-      | inr past ↦
-          let e = length-set heard i new in
-          subst (IsStretch l i) (sym (get_or_past (slice_set heard i new) i no_stretch (omega arith))) (empty_stretch l i)
-    ])
+    | inl there ↦ subst (IsStretch l i) (sym (get_or-set_same heard i new no_stretch there)) is
+    | inr past ↦
+        let e = length-set heard i new in
+        subst (IsStretch l i) (sym (get_or_past (slice_set heard i new) i no_stretch (omega arith))) (empty_stretch l i)
+  ])
   | inr other ↦ subst (IsStretch l j) (sym (get_or-set_other heard i j new no_stretch other)) (are j)
 ]

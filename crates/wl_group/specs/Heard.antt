@@ -3,9 +3,15 @@ use Rattle.std.specs.Prelude.{◌≡◌, ℕ, ◌-◌, ◌<◌, ◌≤◌, ◌&&
 use Rattle.wl_level.specs.declared.Level.TheVariants.{Dominant}
 use Rattle.wl_level.specs.Levels.{level_of}
 use Rattle.wl_topology.specs.Driven.{driven}
+use Rattle.wl_replica.specs.Known.{tick_in}
+use Rattle.wl_replica.specs.State.{State, slots_of}
 use Rattle.wl_plan.specs.Line.{Line}
 use Rattle.wl_plan.specs.Simulation.{level}
 use Rattle.wl_group.specs.declared.heard.Stretch.{Stretch}
+
+-- the tick of a node's change of this number, as a replica has it
+abbrev pub edge_tick : State → ℕ → ℕ → ℕ
+edge_tick replica node count = tick_in ((slots_of replica).edge node count)
 
 -- node j finds this level of node i alone, at each tick of the stretch
 abbrev pub IsHeardOf : Line → ℕ → ℕ → Stretch → Type 0

@@ -5,13 +5,13 @@ ghost use Rattle.wl_level.specs.Levels.{level_of};
 ghost use Rattle.wl_record_core.specs.Limits.{tick_end};
 ghost use Rattle.wl_record_core.specs.Truth.{odd};
 ghost use Rattle.wl_replica.specs.State.{slots_of};
-ghost use Rattle.wl_replica.specs.Known.{tick_in, horizon, place_horizon};
+ghost use Rattle.wl_replica.specs.Known.{horizon, place_horizon};
 ghost use Rattle.wl_replica.specs.Slots.{HoldsTrue};
 ghost use Rattle.wl_plan.specs.Line.{Line};
 ghost use Rattle.wl_plan.specs.Checked.{IsChecked};
 ghost use Rattle.wl_plan.specs.PlanLine.{line_of, table_of};
 ghost use Rattle.wl_group.specs.Counted.{KnowsFirst, KnowsNoMore, AreCounted, AreHorizons, TellHorizons};
-ghost use Rattle.wl_group.specs.Heard.{IsHeardOf, IsStretch, AreStretches};
+ghost use Rattle.wl_group.specs.Heard.{edge_tick, AreStretches, IsHeardOf, IsStretch};
 
 use crate::counted::{Horizons, Runs, change_at, changes_until};
 use crate::laws::true_replicas_agree;
@@ -58,8 +58,8 @@ fn level_after(count: u32) -> Level
 /// The tick below which a node of which `run` changes are known has no more than `count` of them, as far as it is known.
 fn kept_until(replica: &Replica, node: u8, run: u32, count: u32, known: u64) -> u64
     ensures few { result ≤ known }
-    ensures change { count < run → result ≤ tick_in ((slots_of replica.now).edge node count) }
-    ensures later { (t : ℕ) → t < known → (count < run → t < tick_in ((slots_of replica.now).edge node count)) → t < result }
+    ensures change { count < run → result ≤ edge_tick replica.now node count }
+    ensures later { (t : ℕ) → t < known → (count < run → t < edge_tick replica.now node count) → t < result }
 {
     if count < run {
         return known.min(change_at(replica, node, count));

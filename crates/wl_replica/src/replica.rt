@@ -2,11 +2,11 @@
 ghost use Rattle.std.specs.Prelude.{◌≡◌, ◌↔◌, ℕ, IsTrue, IfOk, IfErr, OnOk, OnErr};
 
 use crate::batch::{join_slots, make_slots};
-use crate::words::{join_in, make_room, raise};
-use crate::laws::known_laws;
 use crate::canonical::{push_edges, push_silences};
+use crate::laws::known_laws;
 use crate::walks::{promise_of, run_of};
 use crate::waves::{is_dominant_at, wave_of};
+use crate::words::{join_in, make_room, raise};
 use std::alloc::{AllocError, Global};
 use std::collections::BTreeMap;
 use std::marker::Model;

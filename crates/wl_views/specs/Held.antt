@@ -27,6 +27,10 @@ driven_at plan j = driven (length plan.nodes) (delay_of plan.topology) (level (l
 abbrev pub turn_after : List ℕ → ℕ → ℕ → ℕ
 turn_after ticks count delay = slice_index ticks count + delay
 
+-- whether a tick is before that one, where there is one
+abbrev pub IsBeforeTurn : List ℕ → ℕ → ℕ → ℕ → Type 0
+IsBeforeTurn ticks count delay t = count < length ticks → t < turn_after ticks count delay
+
 -- from tick t up to another one the signals of node i are these
 pub record NodeHolds (plan : Plan) (i t until : ℕ) (now : NodeSignals) : Type 0 where
   pub later : t < until

@@ -2,7 +2,7 @@
 ghost use Rattle.std.specs.Prelude.{◌≡◌, ℕ, ◌+◌, ◌<◌, ◌≤◌, length, slice_index};
 ghost use Rattle.wl_record_core.specs.Truth.{count_below, IsIncreasing};
 ghost use Rattle.wl_plan.specs.Limits.{latest_end};
-ghost use Rattle.wl_views.specs.Held.{Holds, turn_after, turned_at};
+ghost use Rattle.wl_views.specs.Held.{Holds, IsBeforeTurn, turn_after, turned_at};
 
 use crate::held::Held;
 
@@ -32,9 +32,7 @@ pub(crate) fn turned(ticks: &[u64], delay: u64, t: u64, come: &mut usize) -> Hel
 /// The tick of this number and a delay, and the last of all ticks where there is none.
 fn next_turn(ticks: &[u64], count: usize, delay: u64) -> u64
     ensures before { count < length ticks.now → result ≤ turn_after ticks.now count delay }
-    ensures after {
-        (t : ℕ) → t ≤ latest_end → (count < length ticks.now → t < turn_after ticks.now count delay) → t < result
-    }
+    ensures after { (t : ℕ) → t ≤ latest_end → IsBeforeTurn ticks.now count delay t → t < result }
 {
     if count < ticks.len() {
         ticks[count].saturating_add(delay)

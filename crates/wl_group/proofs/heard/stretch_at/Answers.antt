@@ -16,11 +16,11 @@ use Rattle.wl_group.proofs.heard.stretch_at.Goals as goal
 pub loop-i-init : goal.loop-i-init
 loop-i-init c = (
   (let n = length c.args.plan.now.nodes in
-   let first : 0 < n = omega (arith, c.requires.place) in
-   let known = c.known_laws.ensures.place_known n (delay_of c.args.plan.now.topology) (slots_of c.args.replica.now) 0 c.args.j c.args.t first c.requires.known in
-   let h = c.requires.all 0 (omega (arith, first, c.requires.nodes)) in
-   let short = c.nodes-i-end.ensures.topology.short 0 c.args.j (omega (arith, first, c.requires.places)) (omega (arith, c.requires.place, c.requires.places)) in
-   omega (arith, known, h.2, h.3, short, tick_end-is)),
+      let first : 0 < n = omega (arith, c.requires.place) in
+      let known = c.known_laws.ensures.place_known n (delay_of c.args.plan.now.topology) (slots_of c.args.replica.now) 0 c.args.j c.args.t first c.requires.known in
+      let h = c.requires.all 0 (omega (arith, first, c.requires.nodes)) in
+      let short = c.nodes-i-end.ensures.topology.short 0 c.args.j (omega (arith, first, c.requires.places)) (omega (arith, c.requires.place, c.requires.places)) in
+      omega (arith, known, h.2, h.3, short, tick_end-is)),
   (λ u from until k b. absurd (omega arith)),
 )
 
@@ -42,7 +42,7 @@ returns-in-Dominant-clause-heard c t from until =
     let delay = delay_of c.args.plan.now.topology in
     let inside : c.loop-i.i < length c.args.plan.now.nodes = omega (arith, c.loop-i-test.true, c.nodes-i-end.ensures.count, c.requires.places) in
     let here = is_dominant_level (nat_le (delay c.loop-i.i c.args.j) t && level l c.loop-i.i (t - delay c.loop-i.i c.args.j))
-        (c.stretch_of-one.ensures.heard t from until ∙ c.in-Dominant.is) in
+    (c.stretch_of-one.ensures.heard t from until ∙ c.in-Dominant.is) in
     ap level_of (driven_by_one c.driven_laws.ensures (length c.args.plan.now.nodes) delay (level l) c.loop-i.i c.args.j t inside here) ∙ sym c.in-Dominant.is
 
 pub loop-i-preserved : goal.loop-i-preserved

@@ -16,7 +16,7 @@ overflow_add-result c = omega (arith, c.kept_until-until.ensures.few, c.requires
 pub returns-clause-until : goal.returns-clause-until
 returns-clause-until c =
     let later = c.kept_until-until.ensures.later (c.args.t - c.delay-delay.result)
-        (omega (arith, c.requires.early, c.delay-delay.ensures.ticks, c.if-t-delay.false)) c.changes_until-count.ensures.others in
+    (omega (arith, c.requires.early, c.delay-delay.ensures.ticks, c.if-t-delay.false)) c.changes_until-count.ensures.others in
     omega (arith, later, c.if-t-delay.false)
 
 pub returns-clause-heard : goal.returns-clause-heard
