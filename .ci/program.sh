@@ -2,12 +2,13 @@
 # Runs a built program of Wireline as a user would, and compares status, standard output and the fault's line, byte for byte.
 # usage: program.sh PROGRAM
 # - each plan of examples/ with the report beside it, and each of those plans through check, records and candump, which must accept it;
-#   some of them by workers too
-# - the explanation of each of them as bench/plain.py gives it, and of a plan with every doubt
+#   and by 2, 3 and 8 workers over either link
+# - the explanation and the trace of each of them as bench/plain.py gives them, and the explanation of a plan with every doubt
 # - the log of one plan, as ticks of three lengths have it, and the waveform of one, as ticks of two have it
-# - each row of .ci/refused.txt: the status, the one line on standard error, and nothing on standard output
+# - each row of .ci/refused.txt: the status, the one line on standard error, and nothing on standard output but what explain says of it
 # - command lines that name no task: status 2, and nothing on standard output
 # - a reader and a writer that fail, and threads that can't be made: status 3
+# - each allocation refused in turn, of some commands and amid the events of a world; worlds that restart
 set -uo pipefail
 cd "$(dirname "$0")/.."
 program=$(realpath "$1")
@@ -43,6 +44,8 @@ for report in examples/*.report; do
   done
   python3 bench/plain.py explain < "examples/$name.toml" > "$room/explained"
   runs "explain of $name" "examples/$name.toml" 0 "$room/explained" "$room/none" explain
+  python3 bench/plain.py trace < "examples/$name.toml" > "$room/traced"
+  runs "trace of $name" "examples/$name.toml" 0 "$room/traced" "$room/none" trace
   "$program" candump < "examples/$name.toml" > "$room/out" 2> "$room/err"
   is "candump of $name" [ $? = 0 -a ! -s "$room/err" ]
   is "lines of candump of $name" [ "$(grep -c '^frame [0-9]* sent ' "$report")" = "$(wc -l < "$room/out")" ]
@@ -50,10 +53,18 @@ done
 
 runs "explain of doubts" .ci/doubts.toml 0 .ci/doubts.explained "$room/none" explain
 
-for workers in 1 2 3 8; do
-  for name in clean_500k bus_off; do
-    runs "run of $name by $workers workers" "examples/$name.toml" 0 "examples/$name.report" "$room/none" run --workers "$workers"
+for report in examples/*.report; do
+  name=$(basename "$report" .report)
+  for workers in 2 3 8; do
+    for link in hub mail; do
+      runs "run of $name by $workers workers, $link" "examples/$name.toml" 0 "$report" "$room/none" run --workers "$workers" --link "$link"
+    done
   done
+done
+name=clean_500k
+for words in '--workers 1' '--workers 2' '--workers 1 --link mail' '--link mail' '--link=hub'; do
+  # shellcheck disable=SC2086
+  runs "run $words of $name" "examples/$name.toml" 0 "examples/$name.report" "$room/none" run $words
 done
 
 # By hand, from the report and the clocks: the engine's quantum 2384 begins at tick 2384 * 125.625 = 299,490, and the dashboard's quantum 3474 at
@@ -73,8 +84,17 @@ runs "vcd --tick 10us" examples/one_megabit_25m.toml 0 "$room/wave" "$room/none"
 
 # a row: the command, the status, how the input is made, the fault's line, the input. 'text': with printf's escapes; 'sed': of examples/clean_500k.toml;
 # 'bash': of a command
-while IFS='|' read -r word status how fault input; do
-  case "$word" in '' | '#'* | 'hint: '*) continue ;; esac
+# Below it a line 'wrong: ..': what explain says of that input, before the change that the table of faults in docs/commands.md has
+while IFS= read -r line; do
+  case "$line" in
+    '' | '#'* | 'hint: '*) continue ;;
+    'wrong: '*)
+      printf '%s\nchange: %s\n' "$line" "$(tools/hint.py "${fault#fault: }" | sed 's/^hint: //')" > "$room/explained"
+      runs "explain, $fault" "$room/input" "$status" "$room/explained" "$room/fault" explain
+      continue
+      ;;
+  esac
+  IFS='|' read -r word status how fault input <<< "$line"
   case "$how" in
     text) printf '%b' "$input" > "$room/input" ;;
     sed) sed -E "$input" examples/clean_500k.toml > "$room/input" ;;
@@ -82,7 +102,10 @@ while IFS='|' read -r word status how fault input; do
   esac
   printf '%s\n' "$fault" > "$room/fault"
   runs "$word, $fault" "$room/input" "$status" "$room/none" "$room/fault" "$word"
-  [ "$word" != run ] || runs "run --workers 2, $fault" "$room/input" "$status" "$room/none" "$room/fault" run --workers 2
+  [ "$word" = run ] || continue
+  for link in hub mail; do
+    runs "run --workers 2 --link $link, $fault" "$room/input" "$status" "$room/none" "$room/fault" run --workers 2 --link "$link"
+  done
 done < .ci/refused.txt
 
 while IFS= read -r words; do
@@ -104,8 +127,15 @@ run --workers 1.5
 run --workers two
 run --workers 2 --workers 2
 check --workers 2
+run --link
+run --link Mail
+run --link post
+run --workers 2 --link hub,mail
+run --link hub --link mail
+check --link hub
 run --tick 1ns
 explain --tick 1ns
+trace --tick 1ns
 explain run
 candump --tick
 candump --tick 1
@@ -116,11 +146,11 @@ vcd --tick
 vcd --tick 1ms
 WORDS
 
-for word in merge horizon check records run explain candump vcd; do
+for word in merge horizon check records run explain trace candump vcd; do
   printf 'fault: Read\n' > "$room/fault"
   runs "$word of a reader that fails" / 3 "$room/none" "$room/fault" "$word"
 done
-for word in merge check explain; do
+for word in merge check explain trace; do
   input=examples/clean_500k.toml
   [ "$word" = merge ] && input=examples/records.txt
   printf 'fault: Write\n' > "$room/fault"
@@ -147,6 +177,16 @@ if [ -x "$world" ]; then
     "$world" < "bench/world/$name" > "$room/out" 2> "$room/err"
     is "the world $name" cmp -s "$room/out" "$wanted"
   done
+  is "worlds that restart" python3 bench/worlds.py "$world" restarts
+fi
+
+# Each allocation refused in turn, where there is a C compiler to make the library that does it.
+if command -v gcc > /dev/null; then
+  is "merge, each allocation refused" bench/refuse.sh "$program" merge examples/records.txt
+  is "horizon, each allocation refused" bench/refuse.sh "$program" horizon examples/records.txt
+  is "run, each allocation refused" bench/refuse.sh "$program" run examples/clean_500k.toml
+  is "run --workers 2, each allocation refused" bench/refuse.sh "$program" run examples/clean_500k.toml --workers 2
+  [ ! -x "$world" ] || is "worlds, each allocation refused" python3 bench/worlds.py "$world" refused
 fi
 
 echo "$passed passed, $failed failed"

@@ -73,6 +73,10 @@ ends 0 run --workers 2 "$plan"
 is "the option of run" cmp -s "$room/out" "$report"
 ends 0 run "$plan" --workers=3
 is "its other form" cmp -s "$room/out" "$report"
+ends 0 run --workers 2 --link mail "$plan"
+is "both options of run" cmp -s "$room/out" "$report"
+ends 2 run --link post "$plan" && says "a link that is none" "--link wants hub or mail"
+ends 2 check --link hub "$plan" && says "a link of another command" "unexpected argument"
 ends 2 run --workers && is "no report without a number" [ ! -s "$room/out" ]
 ends 2 run --workers 9 "$plan" && says "too many workers" "9 is not in 1..=8"
 ends 2 check --workers 2 "$plan" && says "workers of another command" "unexpected argument"
@@ -152,7 +156,7 @@ while IFS= read -r line; do
       is "$fault: $(tail -1 "$room/err")" cmp -s <(sed -E '2s/\bline [0-9]+/line #/g' "$room/err") "$room/wanted"
       printf '%s\n' "${fault#fault: }" >> "$room/seen"
       ;;
-    '' | '#'*) ;;
+    '' | '#'* | 'wrong: '*) ;;
     *) IFS='|' read -r word status how fault input <<< "$line" ;;
   esac
 done < .ci/refused.txt
@@ -172,6 +176,10 @@ is "memory" [ "$(tools/hint.py Memory)" = "hint: Free memory, or raise the limit
 is "a worker" [ "$(tools/hint.py 'Worker(3)')" = "hint: Raise the limits on threads and memory, or run with fewer workers; without \`--workers\` the report is the same." ]
 tools/hint.py --without < "$room/seen" > "$room/out"
 is "faults without a row and a hint: $(tr '\n' ' ' < "$room/out")" [ ! -s "$room/out" ]
+
+awk '/^hint: / { hinted[row] = 1; next } /^wrong: / { said[row] = 1; next } { row = $0 }
+  END { for (row in hinted) if (!(row in said) && row !~ /^(merge|horizon)/) print row }' .ci/refused.txt > "$room/out"
+is "hints of plans without what explain says: $(cut -c1-200 "$room/out" | tr '\n' ' ')" [ ! -s "$room/out" ]
 
 # ---- A sweep
 ends 1 sweep examples/cable_too_long.toml sensor.x=20..40:10 --keep-offsets --keep-ppm

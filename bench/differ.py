@@ -516,7 +516,7 @@ def main():
         rng = random.Random(f"{seed} {number}")
         records = rng.random() < 0.25
         text = record_input(rng) if records else plan_input(rng, random.Random(f"{seed} {number} sync"), sync)
-        for command in ("merge", "horizon") if records else ("check", "records", "run", "explain"):
+        for command in ("merge", "horizon") if records else ("check", "records", "run", "explain", "trace"):
             out, fault, status = plain.answer(command, text)
             faults[re.sub(r"\b[0-9]+\b", "n", fault[7:-1])] += 1
             if program == "-": continue

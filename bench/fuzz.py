@@ -3,16 +3,23 @@
 
 usage: fuzz.py PROGRAM records|plans [COUNT [SEED [JOBS]]]     1000 texts of seed 1 in one process where no number is given
 
-Each text goes through one command: a record text through `merge` or `horizon`, a plan text through `check`, or `run` where it is accepted and short.
-Standard output, the fault line and the status have to be the same. The same numbers make the same texts, in however many processes.
+COUNT may be A-B: the texts from number A up to B. Each text goes through one command: a record text through `merge` or `horizon`, a plan text
+through `check`, or `run` where it is accepted and short. Standard output, the fault line and the status have to be the same. The same numbers make
+the same texts, in however many processes. The program is started once for each text, by `many.c`.
 
 Prints how many answers agreed, how often each fault came, how long the longest answer took, and where the two differ; the first text on which
 they do is kept in a file, and the status is then 1. A plan text that only one of the two reads as TOML is counted by itself: the program's reader
-knows TOML 1.1, where an inline table may go over several lines, and Python's TOML 1.0.
+knows TOML 1.1, where an inline table may go over several lines and a time may lack its seconds, and Python's TOML 1.0; and it refuses what nests
+deeper than 80 and a number with an exponent that no double holds.
 """
+import math
+import os
 import random
 import re
+import struct
+import subprocess
 import sys
+import tempfile
 import time
 from collections import Counter
 from multiprocessing import Pool
@@ -71,6 +78,47 @@ def mutate(rng, text, pieces):
     return text[:at] if rng.random() < 0.5 else text[at:]
 
 
+KEYS = [b"version", b"end", b"per", b"sync", b"node", b"disturbance", b"name", b"offset", b"num", b"den", b"quantum", b"ppm", b"rates", b"from", b"prop", b"ps1", b"ps2", b"sjw",
+        b"x", b"out", b"in", b"frame", b"ready", b"id", b"extended", b"remote", b"dlc", b"bytes", b"to"]
+VALUES = [b"true", b"false", b'"x"', b"1.5", b"[]", b"{}", b"-1", b"[1]", b"[256]", b"[[]]", b"0", b"1", b"2", b"9"]
+
+
+# Values beyond the bounds of keys that few texts have, so that each fault comes often enough.
+FAR = {b"ppm": [100_001, -100_001, 10**9], b"den": [1_000_001, 1_000_001, 10**13], b"from": [2**20 + 1, 2**21], b"id": [2**29, 2**29 + 1, 2**32 - 1],
+       b"offset": [2**20 + 1, 2**47], b"num": [2**47], b"per": [10**7, 2**40], b"ready": [2**40], b"end": [2**36 + 1, 2**40]}
+
+
+def go_far(rng, text):
+    """A value beyond its bounds for a key that stands in the text, or no rates."""
+    there = [key for key in FAR if re.search(rb"\b" + key + rb" *= *-?[0-9]", text)] + [b"rates"] * (b"rates" in text)
+    there += [b"extended"] * (b"extended = true" in text)
+    if not there: return text
+    key = rng.choice(there)
+    if key == b"rates":
+        last = rng.choice([b"[]", b"1", None, None])
+        if last: return re.sub(rb"rates *= *\[[^\]]*\]", b"rates = " + last, text, count=1)
+        return re.sub(rb"(rates *= *\[(?:[^\]]*\{)?[^\]{]*\bfrom *= *)[0-9]+", rb"\g<1>1048577", text, count=1)
+    if key == b"extended":
+        found = list(re.finditer(rb"\bid *= *([0-9]+)(?=[^\[{]{0,80}extended = true)", text)) + list(re.finditer(rb"extended = true[^\[{]{0,40}\bid *= *([0-9]+)", text))
+        key = b"id"
+    else: found = list(re.finditer(rb"\b" + key + rb" *= *(-?[0-9_]+)", text))
+    one = rng.choice(found) if found else None
+    return text[:one.start(1)] + str(rng.choice(FAR[key])).encode() + text[one.end(1):] if one else text
+
+
+def change_key(rng, text):
+    """Another value or another name for a key, or the key left out: what stays is TOML in most cases."""
+    if rng.random() < 0.15: return go_far(rng, text)
+    found = list(re.finditer(rb"\b(\w+)( *= *)([^,\n}\]\[{]+)", text))
+    if not found: return text
+    one = rng.choice(found)
+    key, way = one.group(1), rng.randrange(6)
+    if way == 0: return text[:one.start()] + rng.choice(KEYS) + text[one.end(1):]
+    if way == 1: return text[:one.start()] + text[one.end():].removeprefix(b"\n" if text[:one.start()].endswith(b"\n") else b", ")
+    value = rng.choice(VALUES) if way < 4 else str(rng.choice(NUMBERS)).encode()
+    return text[:one.start()] + key + one.group(2) + value + text[one.end():]
+
+
 def record_pieces(rng):
     return [line.encode("latin-1") + b"\n" for line in (rng.choice(differ.EDGE_LINES), rng.choice(differ.BAD_LINES))] + [b"E 0 1 7\n", b"C 1 0\n", b"S 2 3 4"]
 
@@ -86,6 +134,9 @@ def garbage(rng):
 def text_of(rng, kind):
     if rng.random() < 0.02: return garbage(rng)
     text = differ.record_input(rng) if kind == "records" else differ.plan_input(rng, rng, "mixed")
+    if kind == "plans" and rng.random() < 0.6:
+        for _ in range(rng.choice([1, 1, 2])): text = change_key(rng, text)
+        return text
     for _ in range(rng.choice([0, 1, 1, 1, 2, 3, 8])): text = mutate(rng, text, record_pieces if kind == "records" else plan_pieces)
     return text
 
@@ -103,7 +154,7 @@ def command_of(rng, kind, text):
 
 
 def reads_as_newer(text):
-    """Whether a text is TOML once no line ends within an inline table (a line end, and a comment before it, gives way to a space)."""
+    """Whether a text is TOML once no line ends within an inline table (a line end, and a comment before it, gives way to a space), and times have seconds."""
     depth, quote, out, at = [], "", [], 0
     words = text.decode("utf-8", "replace").replace("\r\n", "\n")
     while at < len(words):
@@ -123,44 +174,99 @@ def reads_as_newer(text):
         out.append(c)
         at += 1
     try:
-        plain.tomllib.loads(re.sub(r",(\s*})", r"\1", "".join(out)))
+        plain.tomllib.loads(re.sub(r"(\d\d:\d\d)(?![:\d])", r"\1:00", re.sub(r",(\s*})", r"\1", "".join(out))))
     except (ValueError, RecursionError):
         return False
     return True
 
 
+def nests(value):
+    """How deep arrays and tables lie in each other."""
+    depth, row = 0, [value]
+    while row:
+        row = [inner for one in row if isinstance(one, (dict, list)) for inner in (one.values() if isinstance(one, dict) else one)]
+        depth += 1
+    return depth
+
+
+def goes_beyond(text):
+    """Whether a text is TOML that the program's reader refuses: it nests deeper than 80, or a number with a fraction or exponent is beyond all doubles."""
+    overflows = []
+
+    def fraction(word):
+        value = float(word)
+        overflows.extend([word] * (math.isinf(value) and "inf" not in word))
+        return value
+    try:
+        return nests(plain.tomllib.loads(text.decode(), parse_float=fraction)) > 80 or bool(overflows)
+    except RecursionError:
+        return True
+    except ValueError:
+        return False
+
+
+class Many:
+    """The program asked through `many`, which starts it for each text without a copy of this Python."""
+
+    def __init__(self, many, program):
+        self.pipe = subprocess.Popen([many, program], stdin=subprocess.PIPE, stdout=subprocess.PIPE)
+
+    def asked(self, command, text):
+        word = command.encode()
+        self.pipe.stdin.write(struct.pack("<I", len(word)) + word + struct.pack("<I", len(text)) + text)
+        self.pipe.stdin.flush()
+        status = self.number()
+        out = self.pipe.stdout.read(self.number())
+        return out, self.pipe.stdout.read(self.number()), status
+
+    def number(self):
+        return struct.unpack("<I", self.pipe.stdout.read(4))[0]
+
+    def end(self):
+        self.pipe.stdin.close()
+        self.pipe.wait()
+
+
 def compare(work):
-    program, kind, seed, numbers = work
-    agreed, faults, longest, first, newer = Counter(), Counter(), (0.0, 0), None, 0
+    many, program, kind, seed, numbers = work
+    asker = Many(many, program)
+    agreed, faults, longest, first, newer, deep = Counter(), Counter(), (0.0, 0), None, 0, 0
     for number in numbers:
         rng = random.Random(f"{kind} {seed} {number}")
         text = text_of(rng, kind)
         command = command_of(rng, kind, text)
         out, fault, status = plain.answer(command, text)
-        faults[re.sub(r"\b[0-9]+\b", "n", fault[7:-1]) or "no fault"] += 1
+        name = re.sub(r"\b[0-9]+\b", "n", fault[7:-1]) or "no fault"
+        faults["Unknown" if name.startswith("Unknown(") else name] += 1
         began = time.monotonic()
-        got = differ.asked(program, command, text)
+        got = asker.asked(command, text)
         longest = max(longest, (time.monotonic() - began, number))
         if got == (out.encode(), fault.encode(), status): agreed[command] += 1
         elif fault == "fault: Toml\n" and reads_as_newer(text): newer += 1
+        elif got == (b"", b"fault: Toml\n", 1) and goes_beyond(text): deep += 1
         elif first is None: first = number, command, text, got, (out.encode(), fault.encode(), status)
-    return agreed, faults, longest, first, len(numbers), newer
+    asker.end()
+    return agreed, faults, longest, first, len(numbers), newer, deep
 
 
 def main():
     if len(sys.argv) not in (3, 4, 5, 6) or sys.argv[2] not in ("records", "plans"): sys.exit(sys.stderr.write(__doc__) and 2)
     program, kind = sys.argv[1:3]
-    count, seed, jobs = (int(word) for word in (sys.argv[3:] + ["1000", "1", "1"][len(sys.argv) - 3:]))
-    agreed, faults, longest, different, tried, newer, began = Counter(), Counter(), (0.0, 0), [], 0, 0, time.monotonic()
-    work = [(program, kind, seed, range(start, min(start + 500, count))) for start in range(0, count, 500)]
-    with Pool(jobs) as pool:
+    words = sys.argv[3:] + ["1000", "1", "1"][len(sys.argv) - 3:]
+    first, last = (int(word) for word in (words[0].split("-") if "-" in words[0] else ("0", words[0])))
+    seed, jobs, count = int(words[1]), int(words[2]), last - first
+    agreed, faults, longest, different, tried, newer, deep, began = Counter(), Counter(), (0.0, 0), [], 0, 0, 0, time.monotonic()
+    with tempfile.TemporaryDirectory() as scratch, Pool(jobs) as pool:
+        many = os.path.join(scratch, "many")
+        subprocess.run(["gcc", "-O2", "-o", many, os.path.join(os.path.dirname(os.path.abspath(__file__)), "many.c")], check=True)
+        work = [(many, program, kind, seed, range(start, min(start + 500, last))) for start in range(first, last, 500)]
         for one in pool.imap_unordered(compare, work):
             agreed, faults, longest, tried = agreed + one[0], faults + one[1], max(longest, one[2]), tried + one[4]
-            newer += one[5]
+            newer, deep = newer + one[5], deep + one[6]
             if one[3]: different.append(one[3])
             if sys.stderr.isatty(): sys.stderr.write(f"\r{tried} of {count}")
     print(f"{kind}: {tried} texts of seed {seed} in {time.monotonic() - began:.0f} s, {jobs} at a time, {sum(agreed.values())} the same,",
-          f"{tried - sum(agreed.values()) - newer} differ, {newer} of TOML 1.1 alone; longest {longest[0]:.3f} s (text {longest[1]})")
+          f"{tried - sum(agreed.values()) - newer - deep} differ, {newer} of TOML 1.1 alone, {deep} beyond the reader's limits; longest {longest[0]:.3f} s (text {longest[1]})")
     print("commands:", dict(agreed))
     print("answers:", ", ".join(f"{fault} {times}" for fault, times in sorted(faults.items())))
     for number, command, text, got, wanted in sorted(different, key=lambda one: one[0])[:1]: differ.keep(program, seed, number, command, text, got, wanted)

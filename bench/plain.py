@@ -489,6 +489,7 @@ class Node:
         beat, sync = self.bit_clock.step(level, self.machine.idle(), self.drive == DOMINANT)
         if sync == "Hard": self.hards += 1
         elif sync is not None: self.phases.append(sync)
+        if sync is not None: self.events.append((self.quanta, self.samples, f"sync {'hard' if sync == 'Hard' else sync}"))
         if beat == "Start" and self.drive != self.machine.drive():
             self.drive = self.machine.drive()
             self.changes.append(self.next_tick())
@@ -858,7 +859,7 @@ def figures(plan, i, quanta):
     cable = int((segments.sample_at() - 1) * quantum / 2) - plan.delay(i, i)
     return (f"node {node.name}: {thousandths(10**9 / bit)} kbit/s, sample point {point // 100}.{point % 100:02} %, quantum "
             f"{thousandths(1000 * quantum)} ns, tolerance {segments.greatest_ppm()} ppm, left {left // 2} ppm, cable "
-            f"{f'{cable} ns' if cable >= 0 else 'none'}")
+            f"{f'{cable} ns, {cable // 5} m at 5 ns a metre' if cable >= 0 else 'none'}")
 
 
 def explain_text(plan):

@@ -4,6 +4,7 @@
 #include <dlfcn.h>
 #include <stdio.h>
 #include <stdlib.h>
+#include <sys/syscall.h>
 #include <unistd.h>
 
 static void *(*next_malloc)(size_t);
@@ -20,12 +21,12 @@ static void find_next(void) {
 
 void *malloc(size_t size) {
     find_next();
-    return ++calls == refused ? NULL : next_malloc(size);
+    return __atomic_add_fetch(&calls, 1, __ATOMIC_SEQ_CST) == refused ? NULL : next_malloc(size);
 }
 
 void *realloc(void *old, size_t size) {
     find_next();
-    return ++calls == refused ? NULL : next_realloc(old, size);
+    return __atomic_add_fetch(&calls, 1, __ATOMIC_SEQ_CST) == refused ? NULL : next_realloc(old, size);
 }
 
 __attribute__((destructor)) static void tell(void) {
@@ -34,4 +35,11 @@ __attribute__((destructor)) static void tell(void) {
         int length = snprintf(text, sizeof text, "calls %ld\n", calls);
         (void)!write(2, text, length);
     }
+}
+
+/* A program with threads ends by this call, after which nothing else would run. */
+void _exit(int status) {
+    tell();
+    syscall(SYS_exit_group, status);
+    __builtin_unreachable();
 }

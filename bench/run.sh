@@ -1,5 +1,5 @@
 #!/usr/bin/env bash
-# Wall time and peak memory of `wl_sim run` and `wl_sim records` on the busy plan of bench/plan.py; the least of five.
+# Wall time and peak memory of `wl_sim run`, and of the other commands that simulate, on the busy plan of bench/plan.py; the least of five.
 # usage: bench/run.sh [PROGRAM [WORD..]]      PROGRAM is the built wl_sim; WORDS follow `run`
 set -euo pipefail
 here=$(cd "$(dirname "$0")" && pwd)
@@ -11,4 +11,6 @@ trap 'rm -rf "$work"' EXIT
 python3 "$here/plan.py" > "$work/in"
 export RUNS=${RUNS:-5}
 python3 "$here/measure.py" "run" "$work/in" "$program" run "$@"
-python3 "$here/measure.py" "records" "$work/in" "$program" records
+for command in records candump trace vcd; do
+  python3 "$here/measure.py" "$command" "$work/in" "$program" "$command"
+done

@@ -1,3 +1,4 @@
 mod Gathering
 mod MergeLaws
+mod RowTexts
 mod Working

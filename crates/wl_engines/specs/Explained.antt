@@ -1,8 +1,60 @@
 -- The explanation of a plan goes out (this project's profile).
-use Rattle.std.specs.Prelude.{◌≡◌, ℕ, List}
+use Rattle.std.specs.Prelude.{◌≡◌, ◌≢◌, ℕ, List, Result, Ok, Err}
+use Rattle.wl_device.specs.Bounded.{ReadsUpTo}
+use Rattle.wl_device.specs.Devices.{Answer, Writes}
+use Rattle.wl_device.specs.declared.bounded.Ended.{Ended}
+use Rattle.wl_device.specs.declared.bounded.Ended.TheVariants as ended
+use Rattle.wl_device.specs.declared.device.WriteFault.{WriteFault}
 use Rattle.wl_plan.specs.declared.plan.Plan.{Plan}
+use Rattle.wl_setup.specs.declared.fault.SetupFault.{SetupFault}
+use Rattle.wl_setup.specs.declared.fault.SetupFault.TheVariants as setup
+use Rattle.wl_setup.specs.Limits.{most_bytes}
+use Rattle.wl_setup.specs.Plans.{after, named_plan_of}
+use Rattle.wl_setup.specs.Reading.{text_answer}
+use Rattle.wl_explain.specs.Refusals.{IsRefusal, size_words}
 use Rattle.wl_explain.specs.Words.{explain_text}
+use Rattle.wl_engines.specs.declared.fault.RunFault.{RunFault}
+use Rattle.wl_engines.specs.declared.fault.RunFault.TheVariants.{Setup, Write, Memory}
 
--- what is doubtful of the plan, and the figures of its nodes, under the names of the nodes
-abbrev pub IsExplainOutput : Plan → List (List ℕ) → List ℕ → Type 0
-IsExplainOutput plan names text = text ≡ explain_text plan names
+-- the plan of a whole text with the names of its nodes, or the text's first fault
+abbrev pub named_answer : List ℕ → Result (Plan × List (List ℕ)) SetupFault
+named_answer text = after (text_answer text) named_plan_of
+
+module _ {T : Type 0} (takes : T → Answer → T → Type 0) where
+  -- these bytes went out, as far as they went
+  abbrev pub Said : List ℕ → T → T → Type 0
+  Said text t t' = (r : Result (Unit {0}) WriteFault) × Writes takes t text r t'
+
+  -- of a plan that can be run: what is doubtful of it, and the figures of its nodes, under the names of the nodes
+  abbrev pub WritesDoubts : List ℕ → Result (Unit {0}) WriteFault → T → T → Type 0
+  WritesDoubts text r t t' =
+      (plan : Plan) × (names : List (List ℕ)) × (named_answer text ≡ Ok (plan, names)) × Writes takes t (explain_text plan names) r t'
+
+  -- of a text that is refused: its first fault, and on it what is wrong and what to change
+  abbrev pub TellsRefusal : List ℕ → SetupFault → T → T → Type 0
+  TellsRefusal text fault t t' =
+      (fault ≢ setup.Memory) × (named_answer text ≡ Err fault) × (said : List ℕ) × IsRefusal text fault said × Said said t t'
+
+  -- what was done with a whole text
+  abbrev pub ExplainsText : List ℕ → T → T → Result (Unit {0}) RunFault → Type 0
+  ExplainsText text t t' (Ok u) = WritesDoubts text (Ok tt) t t'
+  ExplainsText text t t' (Err Write) = (fault : WriteFault) × WritesDoubts text (Err fault) t t'
+  ExplainsText text t t' (Err Memory) = t' ≡ t
+  ExplainsText text t t' (Err (Setup fault)) = TellsRefusal text fault t t'
+  ExplainsText text t t' (Err _) = ⊥
+
+  -- what was done with what was read, by how the reading ended; where it was too long, that is said
+  abbrev pub ExplainsReading : Ended → List ℕ → T → T → Result (Unit {0}) RunFault → Type 0
+  ExplainsReading ended.End text t t' r = ExplainsText text t t' r
+  ExplainsReading ended.Broken text t t' r = (r ≡ Err (Setup setup.Read)) × (t' ≡ t)
+  ExplainsReading ended.Full text t t' (Err Memory) = t' ≡ t
+  ExplainsReading ended.Full text t t' r = (r ≡ Err (Setup setup.Size)) × Said size_words t t'
+
+-- what an explanation did: memory ran out and the writer wasn't called, or that with what the reader gave in one reading
+abbrev pub Explained : {S T : Type 0} → (S → Answer → S → Type 0) → (T → Answer → T → Type 0) → S → S → T → T → Result (Unit {0}) RunFault → Type 0
+Explained gives takes s s' t t' r =
+    (text : List ℕ) × (e : Ended) × ReadsUpTo gives s most_bytes text e s' × ExplainsReading takes e text t t' r
+
+abbrev pub Explains : {S T : Type 0} → (S → Answer → S → Type 0) → (T → Answer → T → Type 0) → S → S → T → T → Result (Unit {0}) RunFault → Type 0
+Explains gives takes s s' t t' (Err Memory) = t' ≡ t
+Explains gives takes s s' t t' r = Explained gives takes s s' t t' r

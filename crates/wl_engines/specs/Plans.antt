@@ -12,6 +12,7 @@ use Rattle.wl_report.specs.Report.{report_text}
 use Rattle.wl_views.specs.declared.tick.Tick.{Tick}
 use Rattle.wl_views.specs.Candump.{log_text}
 use Rattle.wl_views.specs.Vcd.{vcd_text}
+use Rattle.wl_views.specs.Trace.{trace_text}
 use Rattle.wl_setup.specs.declared.fault.SetupFault.TheVariants as setup
 use Rattle.wl_setup.specs.Plans.{GivesPlan}
 use Rattle.wl_engines.specs.declared.fault.RunFault.{RunFault}
@@ -37,6 +38,10 @@ IsCandumpOutput tick plan names text = text ≡ log_text tick plan
 -- the waveform of the one-thread simulation, at ticks that last so long, under the names of the nodes
 abbrev pub IsVcdOutput : Tick → Plan → List (List ℕ) → List ℕ → Type 0
 IsVcdOutput tick plan names text = text ≡ vcd_text tick plan names
+
+-- the trace of the one-thread simulation, under the names of the nodes
+abbrev pub IsTraceOutput : Plan → List (List ℕ) → List ℕ → Type 0
+IsTraceOutput plan names text = text ≡ trace_text plan names
 
 module _ {S T : Type 0} (gives : S → Answer → S → Type 0) (takes : T → Answer → T → Type 0) (IsOutput : Plan → List (List ℕ) → List ℕ → Type 0) (s s' : S) (t t' : T) where
   -- the output of the plan and the names that were read went out, as far as it went

@@ -1,27 +1,54 @@
 //! The explanation of a plan.
-ghost use Rattle.wl_engines.specs.Plans.{RunsPlan};
-ghost use Rattle.wl_engines.specs.Explained.{IsExplainOutput};
+ghost use Rattle.wl_engines.specs.Explained.{Explains, ExplainsText};
 
 use crate::fault::RunFault;
 use std::alloc::Global;
-use wl_device::{Sink, Source, write_all};
-use wl_explain::explain_plan;
-use wl_setup::read_plan;
+use wl_device::{Ended, Sink, Source, write_all};
+use wl_explain::{explain_fault, explain_plan, explain_size};
+use wl_setup::{SetupFault, plan_of_bytes, read_bytes};
 
 /// Reads a plan's text, tests whether the plan can be run, and writes what is doubtful of it, one a line, and the figures of each
-/// node, a line each.
+/// node, a line each. Of a plan that is refused it writes what is wrong and what to change, and answers the fault whether or not
+/// the writer took all of that.
 ///
-/// The whole output is made before the first write. Where the input is refused, or memory runs out, the writer isn't called;
+/// The whole output is made before the first write. Where the reader failed, or memory runs out, the writer isn't called;
 /// where the writer fails, a prefix of the output has been written.
 pub fn explain_run<R: Source, W: Sink>(
     alloc: Global,
     reader: &mut R,
     writer: &mut W,
 ) -> Result<(), RunFault>
-    ensures { RunsPlan R.gives W.takes IsExplainOutput reader.old reader.new writer.old writer.new result }
+    ensures { Explains R.gives W.takes reader.old reader.new writer.old writer.new result }
 {
-    let (plan, names) = read_plan(alloc, reader)?;
-    let text = explain_plan(alloc, &plan, &names)?;
-    write_all(text.as_bytes(), writer)?;
-    Ok(())
+    let (text, ended) = read_bytes(alloc, reader)?;
+    match ended {
+        Ended::End => explain_text(alloc, &text, writer),
+        Ended::Broken => Err(RunFault::Setup(SetupFault::Read)),
+        Ended::Full => {
+            let said = explain_size(alloc)?;
+            let _ = write_all(said.as_bytes(), writer);
+            Err(RunFault::Setup(SetupFault::Size))
+        }
+    }
+}
+
+/// Writes the explanation of a plan's text that was read whole.
+fn explain_text<W: Sink>(alloc: Global, text: &[u8], writer: &mut W) -> Result<(), RunFault>
+    ensures { ExplainsText W.takes text.now writer.old writer.new result }
+{
+    match plan_of_bytes(alloc, text) {
+        Ok((plan, names)) => {
+            let said = explain_plan(alloc, &plan, &names)?;
+            write_all(said.as_bytes(), writer)?;
+            Ok(())
+        }
+        Err(fault) => {
+            if let SetupFault::Memory = fault {
+                return Err(RunFault::Memory);
+            }
+            let said = explain_fault(alloc, text, &fault)?;
+            let _ = write_all(said.as_bytes(), writer);
+            Err(RunFault::Setup(fault))
+        }
+    }
 }

@@ -4,20 +4,30 @@ ghost use Rattle.std.specs.List.{flat_map};
 ghost use Rattle.wl_report.specs.Lines.{GrowsBy};
 ghost use Rattle.wl_record_core.specs.Limits.{most_nodes};
 ghost use Rattle.wl_replica.specs.Canonical.{canonical};
+ghost use Rattle.wl_replica.specs.Dense.{says_something};
 ghost use Rattle.wl_engines.specs.Horizon.{TellsHorizons, horizon_line, interval_line, is_named, horizon_lines, lines_below};
 
 use crate::fault::RunFault;
 use crate::gather::gather;
 use std::alloc::{AllocError, Global};
 use wl_device::{Sink, Source, write_all};
-use wl_record_core::Record;
-use wl_replica::Replica;
+use wl_replica::Rows;
 
-/// Whether some record speaks of the node.
-fn is_named(records: &[Record], node: u8) -> bool
-    ensures { result ≡ is_named records.now node }
+/// Whether some number of a row says something.
+fn says_something(numbers: &[u64]) -> bool
+    ensures { result ≡ says_something numbers.now }
 {
-    records.iter().any(|told| told.node() == node)
+    numbers.iter().any(|number| *number != 0)
+}
+
+/// Whether some record of the canonical list speaks of the node.
+fn is_named(rows: &Rows, node: u8) -> bool
+    requires { node < rows.now.nodes }
+    ensures { result ≡ is_named (canonical rows.now) node }
+{
+    let edges = says_something(rows.edge_numbers(node));
+    let silences = says_something(rows.silence_numbers(node));
+    edges || silences
 }
 
 /// Adds the line of a node's run length and horizon.
@@ -45,34 +55,26 @@ fn push_intervals(text: &mut String, node: u8, intervals: &[(u64, u64)]) -> Resu
     Ok(())
 }
 
-/// Adds the lines of a node, where it has a slot. `records` is the replica's canonical list.
-fn push_node(
-    alloc: Global,
-    text: &mut String,
-    replica: &Replica,
-    records: &[Record],
-    node: u8,
-) -> Result<(), AllocError>
-    requires node { node < replica.now.nodes }
-    requires canonical { records.now ≡ canonical replica.now }
-    ensures { OnOk result (GrowsBy text.old text.new (horizon_lines replica.now node)) }
+/// Adds the lines of a node, where it has a slot.
+fn push_node(alloc: Global, text: &mut String, rows: &Rows, node: u8) -> Result<(), AllocError>
+    requires { node < rows.now.nodes }
+    ensures { OnOk result (GrowsBy text.old text.new (horizon_lines rows.now node)) }
 {
-    if is_named(records, node) {
-        let wave = replica.wave(alloc, node)?;
-        push_horizon(text, node, replica.run_length(node), replica.horizon(node))?;
+    if is_named(rows, node) {
+        let wave = rows.wave(alloc, node)?;
+        push_horizon(text, node, rows.run_length(node), rows.horizon(node))?;
         push_intervals(text, node, wave.as_slice())?;
     }
     Ok(())
 }
 
-/// The text of what a replica knows.
-fn horizons(alloc: Global, replica: &Replica) -> Result<String, AllocError>
-    ensures { IfOk result (λ text. string_bytes text ≡ lines_below replica.now replica.now.nodes) }
+/// The text of what rows know.
+fn horizons(alloc: Global, rows: &Rows) -> Result<String, AllocError>
+    ensures { IfOk result (λ text. string_bytes text ≡ lines_below rows.now rows.now.nodes) }
 {
-    let records = replica.canonical(alloc)?;
     let mut text = String::new(alloc);
-    for node in 0..replica.nodes() {
-        push_node(alloc, &mut text, replica, &records, node)?;
+    for node in 0..rows.nodes() {
+        push_node(alloc, &mut text, rows, node)?;
     }
     Ok(text)
 }
@@ -90,8 +92,8 @@ pub fn horizon_run<R: Source, W: Sink>(
 ) -> Result<(), RunFault>
     ensures { TellsHorizons R.gives W.takes reader.old reader.new writer.old writer.new result }
 {
-    let replica = gather(alloc, reader)?;
-    let text = horizons(alloc, &replica)?;
+    let rows = gather(alloc, reader)?;
+    let text = horizons(alloc, &rows)?;
     write_all(text.as_bytes(), writer)?;
     Ok(())
 }

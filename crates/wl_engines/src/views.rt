@@ -3,7 +3,8 @@ ghost use Rattle.std.specs.Prelude.{◌≡◌, IfOk};
 ghost use Rattle.wl_plan.specs.Checked.{IsChecked};
 ghost use Rattle.wl_views.specs.Candump.{log_text};
 ghost use Rattle.wl_views.specs.Vcd.{vcd_text};
-ghost use Rattle.wl_engines.specs.Plans.{RunsPlan, IsCandumpOutput, IsVcdOutput};
+ghost use Rattle.wl_views.specs.Trace.{trace_text};
+ghost use Rattle.wl_engines.specs.Plans.{RunsPlan, IsCandumpOutput, IsTraceOutput, IsVcdOutput};
 
 use crate::fault::RunFault;
 use std::alloc::{AllocError, Global};
@@ -11,7 +12,7 @@ use wl_device::{Sink, Source, write_all};
 use wl_plan::Plan;
 use wl_serial::run_serial;
 use wl_setup::{Names, read_plan};
-use wl_views::{Tick, candump, sent_in_time, vcd};
+use wl_views::{Tick, candump, sent_in_time, trace, vcd};
 
 /// The log of the frames that a plan's simulation sent.
 fn log_text(alloc: Global, tick: Tick, plan: &Plan) -> Result<Vec<u8>, AllocError>
@@ -66,6 +67,32 @@ pub fn vcd_run<R: Source, W: Sink>(
 {
     let (plan, names) = read_plan(alloc, reader)?;
     let text = vcd_text(alloc, tick, &plan, &names)?;
+    write_all(&text, writer)?;
+    Ok(())
+}
+
+/// The trace of a plan's simulation, under these names of its nodes.
+fn trace_text(alloc: Global, plan: &Plan, names: &Names) -> Result<Vec<u8>, AllocError>
+    requires { IsChecked plan.now }
+    ensures { IfOk result (λ text. text.items ≡ trace_text plan.now names.now) }
+{
+    let outcome = run_serial(alloc, plan)?;
+    trace(alloc, plan, names, &outcome)
+}
+
+/// Reads a plan's text, simulates the plan, and writes a line for each event of each node, in the order of their ticks.
+///
+/// The whole output stands before the first write. Where the input is refused, or memory runs out, the writer isn't called;
+/// where the writer fails, a prefix of the output has been written.
+pub fn trace_run<R: Source, W: Sink>(
+    alloc: Global,
+    reader: &mut R,
+    writer: &mut W,
+) -> Result<(), RunFault>
+    ensures { RunsPlan R.gives W.takes IsTraceOutput reader.old reader.new writer.old writer.new result }
+{
+    let (plan, names) = read_plan(alloc, reader)?;
+    let text = trace_text(alloc, &plan, &names)?;
     write_all(&text, writer)?;
     Ok(())
 }

@@ -13,7 +13,7 @@ use wl_device::{Sink, Source, write_all};
 use wl_plan::Plan;
 use wl_report::report;
 use wl_setup::read_plan;
-use wl_worker::{Gate, simulate};
+use wl_worker::{Gate, LinkKind, simulate_by};
 
 /// A gate that lets each turn begin.
 #[derive(Drop)]
@@ -25,28 +25,46 @@ impl Gate for OpenGate {
     }
 }
 
-/// The report of a plan's simulation by so many workers.
+/// The report of a plan's simulation by so many workers, over this kind of link.
 fn report_by<H: Threads + Wait + Sync>(
     rt: &H,
     alloc: Global,
     plan: Plan,
     workers: u8,
+    kind: LinkKind,
 ) -> Result<Vec<u8>, RunFault>
     requires { IsChecked plan }
     ensures text { IfOk result (λ text. text.items ≡ report_text (outcome_of plan)) }
     ensures count { IfOk result (λ _. CanWork workers) }
     ensures fault { IfErr result (IsWorkFault workers) }
 {
-    let outcome = simulate(rt, alloc, plan, workers, &OpenGate)?;
+    let outcome = simulate_by(rt, alloc, plan, workers, kind, &OpenGate)?;
     Ok(report(alloc, &outcome)?)
 }
 
-/// Reads a plan's text, simulates the plan by so many workers, each in a thread of its own, and writes the report that one thread comes
-/// to (`plan_run`).
+/// Reads a plan's text, simulates the plan by so many workers, each in a thread of its own, that hand records over by this kind of link, and
+/// writes the report that one thread comes to (`plan_run`).
 ///
 /// The whole output is made before the first write. Where the input is refused, the workers come to no outcome, or memory runs out, the
 /// writer isn't called; where the writer fails, a prefix of the output has been written. It refuses 0 workers and more than 8, once a plan
 /// was read. It may wait: no clause says that it returns.
+pub fn workers_run_by<H: Threads + Wait + Sync, R: Source, W: Sink>(
+    rt: &H,
+    alloc: Global,
+    workers: u8,
+    kind: LinkKind,
+    reader: &mut R,
+    writer: &mut W,
+) -> Result<(), RunFault>
+    ensures { RunsByWorkers R.gives W.takes workers reader.old reader.new writer.old writer.new result }
+{
+    let (plan, _names) = read_plan(alloc, reader)?;
+    let text = report_by(rt, alloc, plan, workers, kind)?;
+    write_all(&text, writer)?;
+    Ok(())
+}
+
+/// The same by workers over one hub.
 pub fn workers_run<H: Threads + Wait + Sync, R: Source, W: Sink>(
     rt: &H,
     alloc: Global,
@@ -56,8 +74,5 @@ pub fn workers_run<H: Threads + Wait + Sync, R: Source, W: Sink>(
 ) -> Result<(), RunFault>
     ensures { RunsByWorkers R.gives W.takes workers reader.old reader.new writer.old writer.new result }
 {
-    let (plan, _names) = read_plan(alloc, reader)?;
-    let text = report_by(rt, alloc, plan, workers)?;
-    write_all(&text, writer)?;
-    Ok(())
+    workers_run_by(rt, alloc, workers, LinkKind::Hub, reader, writer)
 }

@@ -61,7 +61,7 @@ margin : margin_words 7317 2292 ≡ codes ", tolerance 7317 ppm, left 2292 ppm"
 unfolding digits
 margin = refl
 
-cable : cable_words (Some 503) ≡ codes ", cable 503 ns\n"
+cable : cable_words (Some 503) ≡ codes ", cable 503 ns, 100 m at 5 ns a metre\n"
 unfolding digits
 cable = refl
 

@@ -61,6 +61,10 @@ longest_trip q l = (sample_at l - 1) * q.num / q.den
 abbrev pub longest_cable : ℕ → ℕ → ℕ → Option ℕ
 longest_cable way ends per = if nat_lt way ends then None else Some ((way - ends) / per)
 
+-- the whole metres of a cable along which a level takes so many nanoseconds, at five a metre
+abbrev pub metres : ℕ → ℕ
+metres time = time / 5
+
 -- the greatest deviation in parts per million that both oscillators of a pair may have with these segments (this project's profile)
 abbrev pub tolerance : Lengths → ℕ
 tolerance l = min (1000000 * min l.ps1 l.ps2 / (2 * (13 * bit_quanta l - l.ps2))) (1000000 * l.sjw / (20 * bit_quanta l))

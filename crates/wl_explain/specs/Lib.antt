@@ -1,3 +1,5 @@
 pub mod Figures
 pub mod Doubts
 pub mod Words
+pub mod Remedies
+pub mod Refusals

@@ -7,7 +7,7 @@ use Rattle.wl_node.specs.declared.setup.NodeSetup.{NodeSetup}
 use Rattle.wl_plan.specs.declared.plan.Plan.{Plan}
 use Rattle.wl_plan.specs.PlanLine.{setup_at}
 use Rattle.wl_setup.specs.Check.{name_of}
-use Rattle.wl_explain.specs.Figures.{mean_quantum, picoseconds, bits_per_second, sample_point, furthest_way, longest_cable, tolerance}
+use Rattle.wl_explain.specs.Figures.{mean_quantum, picoseconds, bits_per_second, sample_point, furthest_way, longest_cable, metres, tolerance}
 use Rattle.wl_explain.specs.Doubts.{difference, borne, greatest_difference, left, round_trip, longest_round, wanted_bits, idle_from, first_early, first_late, has_no_room}
 
 -- pieces of text, one after another
@@ -119,10 +119,11 @@ margin_words ppm rest = joined (codes ", tolerance " ∷ decimal ppm ∷ codes "
 abbrev pub margin_figures : Plan → ℕ → List ℕ
 margin_figures plan i = margin_words (tolerance (setup_at plan i).segments) (left plan i / 2)
 
--- the longest cable to a node like this one, by the time that a level takes along it
+-- the longest cable to a node like this one, by the time that a level takes along it, and in metres
 abbrev pub cable_words : Option ℕ → List ℕ
 cable_words None = codes ", cable none\n"
-cable_words (Some time) = joined (codes ", cable " ∷ decimal time ∷ codes " ns\n" ∷ [])
+cable_words (Some time) =
+    joined (codes ", cable " ∷ decimal time ∷ codes " ns, " ∷ decimal (metres time) ∷ codes " m at 5 ns a metre\n" ∷ [])
 
 abbrev pub cable_figure : Plan → ℕ → List ℕ
 cable_figure plan i =

@@ -1,20 +1,24 @@
 //! What an engineer reads off a plan's settings: the length of a quantum, the bit rate, the sample point, how far a level may go and
-//! still be back at the sample, and what is doubtful of a plan that can be run; and the text that says all of it.
+//! still be back at the sample, and what is doubtful of a plan that can be run; and the text that says all of it. Of a plan that is
+//! refused the text says what is wrong, and what to change.
 //!
 //! A tick is taken for a nanosecond. The rules are those of Bosch CAN 2.0 part B, section 10; that a level is seen up to a quantum
 //! after it came is this project's profile. The tolerance of an oscillator is `Segments::greatest_ppm`.
 #![tactic(auto)]
 
 ghost use Rattle.std.specs.Prelude.{◌≡◌, ℕ, ◌+◌, ◌*◌, ◌<◌, ◌≤◌, ◌↔◌, IfSome, None};
-ghost use Rattle.wl_explain.specs.Figures.{Ratio, IsQuantum, quantum_of, picoseconds, bits_per_second, sample_point, ComesBack, furthest_way, longest_cable, longest_trip, mean_quantum, tolerance};
+ghost use Rattle.wl_explain.specs.Figures.{Ratio, IsQuantum, quantum_of, picoseconds, bits_per_second, sample_point, ComesBack, furthest_way, longest_cable, longest_trip, mean_quantum, metres, tolerance};
 
 mod doubts;
+mod refusal;
+mod remedies;
 mod words;
 
 pub use doubts::{
     borne, difference, first_early, first_late, has_no_room, idle_from, left, longest_round,
     queued_bits, round_trip, wanted_bits,
 };
+pub use refusal::{explain_fault, explain_size};
 use std::marker::Model;
 use wl_clock::Clock;
 use wl_segments::Segments;
@@ -27,6 +31,9 @@ const LONGEST_QUANTUM: u64 = 1_048_576;
 const LARGEST_DEN: u64 = 1_000_000;
 
 const MILLION: u64 = 1_000_000;
+
+/// How many nanoseconds a level takes along a metre of cable: two thirds of the speed of light.
+const METRE: u64 = 5;
 
 /// A quantum of `num / den` ticks, from 1 to 1,048,576.
 #[derive(Clone, Copy, Debug, PartialEq, Eq)]
@@ -127,6 +134,13 @@ pub fn tolerance(segments: &Segments) -> u32
     ensures { result ≡ tolerance segments.now }
 {
     segments.greatest_ppm()
+}
+
+/// The whole metres of a cable along which a level takes so many nanoseconds, at 5 ns a metre.
+pub fn metres(time: u64) -> u64
+    ensures { result ≡ metres time }
+{
+    time / METRE
 }
 
 /// The greatest length of a cable, in its units, that takes at most `way` ticks where `ends` of them are out of the one node and into the

@@ -8,7 +8,7 @@ use crate::doubts::{
     borne, difference, first_early, first_late, has_no_room, idle_from, left, longest_round,
     round_trip, setup, wanted_bits,
 };
-use crate::{Quantum, longest_cable, sample_point, tolerance};
+use crate::{Quantum, longest_cable, metres, sample_point, tolerance};
 use std::alloc::{AllocError, Global};
 use std::fmt;
 use wl_node::NodeSetup;
@@ -339,7 +339,10 @@ fn push_cable_words(text: &mut String, cable: Option<u64>) -> Result<(), AllocEr
     ensures { OnOk result (string_bytes text.new ≡ string_bytes text.old ++ cable_words cable) }
 {
     match cable {
-        Some(time) => writeln!(text, ", cable {time} ns"),
+        Some(time) => {
+            let long = metres(time);
+            writeln!(text, ", cable {time} ns, {long} m at 5 ns a metre")
+        }
         None => writeln!(text, ", cable none"),
     }
 }
@@ -385,7 +388,7 @@ fn push_all_figures(text: &mut String, plan: &Plan, names: &Names) -> Result<(),
 /// early; of each node a jump width above PHASE_SEG2, its first frame that becomes ready at the end or later, and its first that
 /// becomes ready before all nodes have counted 11 bits; and an end that leaves no room for the frames of all nodes. The figures are
 /// bit rate in kbit/s, sample point in per cent, quantum in nanoseconds, tolerance in parts per million, how much of it the other
-/// clocks leave to both nodes of a pair, and the longest cable in nanoseconds along it. A tick is taken for a nanosecond. Refused out
+/// clocks leave to both nodes of a pair, and the longest cable in nanoseconds along it and in metres at 5 ns each. A tick is taken for a nanosecond. Refused out
 /// of memory alone.
 pub fn explain_plan(alloc: Global, plan: &Plan, names: &Names) -> Result<String, AllocError>
     requires { IsChecked plan.now }

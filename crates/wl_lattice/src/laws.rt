@@ -3,8 +3,9 @@
 ghost use Rattle.wl_lattice.specs.Laws.{IsJoinOrder};
 ghost use Rattle.wl_lattice.specs.Words.{ReadsBack};
 ghost use Rattle.wl_lattice.specs.Maps.{JoinsKeyByKey};
+ghost use Rattle.wl_lattice.specs.SlotContents.{JoinsContents};
 
-use crate::Join;
+use crate::{Join, Slots};
 
 /// Law: words are in a partial order, where `a` is at most `b` if joining `b` to `a` gives `b`. In this
 /// order the joined word is the least upper bound of the two, and the least word is below all.
@@ -23,4 +24,10 @@ pub fn flat_words_read_back()
 /// order or number.
 pub fn maps_join_key_by_key<K, W: Join>()
     ensures { JoinsKeyByKey K W.joined }
+{}
+
+/// Law: the contents of slots, however they are kept, are joined key by key: this is a join again, and
+/// contents that know nothing are neutral.
+pub fn contents_join_key_by_key<S: Slots>()
+    ensures { JoinsContents S.Key S.Word.is_word S.Word.least S.Word.joined }
 {}

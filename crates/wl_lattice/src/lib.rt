@@ -1,5 +1,6 @@
 //! Joins: a trait whose laws every implementation proves, the two words of a slot, and pairs and
-//! arrays of them. Nothing here takes memory, and no call refuses.
+//! arrays of them, which take no memory and refuse nothing. And slots: a trait of contents that have a
+//! word at each key, of which an ordered map is one.
 #![tactic(auto)]
 
 ghost use Rattle.std.specs.Prelude.{◌≡◌, ◌↔◌, IsTrue};
@@ -7,8 +8,12 @@ ghost use Rattle.wl_lattice.specs.Laws.{JoinLaws};
 
 mod laws;
 mod products;
+mod slots;
 
-pub use laws::{flat_words_read_back, join_makes_an_order, maps_join_key_by_key};
+pub use laws::{
+    contents_join_key_by_key, flat_words_read_back, join_makes_an_order, maps_join_key_by_key,
+};
+pub use slots::Slots;
 
 /// Values that can be joined: a semilattice with a least value.
 ///

@@ -3,6 +3,7 @@ mod Steps
 mod Between
 mod FlagSteps
 mod Framed
+mod Free
 mod FrameSteps
 mod Kept
 mod KeptSilence

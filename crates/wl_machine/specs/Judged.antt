@@ -70,6 +70,11 @@ is_idle_sort Idle = true
 is_idle_sort Suspension = true
 is_idle_sort sort = false
 
+-- the bus is free, and the node has nothing to send (section 3.2.5, bus idle)
+abbrev pub is_free_sort : Sort → Bool
+is_free_sort Idle = true
+is_free_sort sort = false
+
 -- the frame that a stretch sends, which is the head at the sample that began it
 abbrev pub head_of : Sort → Option Content
 head_of (Framing head) = head

@@ -149,3 +149,8 @@ abbrev pub is_idle_state : State → Bool
 is_idle_state states.Idle = true
 is_idle_state (states.Suspended count) = true
 is_idle_state state = false
+
+-- whether the bus is free, by what is kept
+abbrev pub is_free_state : State → Bool
+is_free_state states.Idle = true
+is_free_state state = false

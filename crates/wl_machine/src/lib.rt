@@ -2,7 +2,7 @@
 //! intermission, suspension and bus off (Bosch CAN 2.0 part B, sections 3, 6, 7 and 8).
 #![tactic(auto)]
 
-ghost use Rattle.std.specs.Prelude.{◌≡◌, ◌++◌, [], ◌∷◌, List};
+ghost use Rattle.std.specs.Prelude.{◌≡◌, ◌++◌, [], ◌∷◌, true, List, None};
 ghost use Rattle.wl_machine.specs.Stretch.{Input};
 ghost use Rattle.wl_machine.specs.States.{IsReachedBy};
 
@@ -59,7 +59,7 @@ pub struct Machine {
 impl Machine {
     ghost use Rattle.std.specs.Option.{option_copied};
     ghost use Rattle.wl_machine.specs.Stretch.Input.{Sample, SwitchedOff};
-    ghost use Rattle.wl_machine.specs.Judged.{judged, stretch_of, drive_of, is_idle_sort};
+    ghost use Rattle.wl_machine.specs.Judged.{judged, stretch_of, drive_of, is_free_sort, is_idle_sort};
     ghost use Rattle.wl_machine.specs.States.{sample_of, done_of};
     ghost use Rattle.wl_machine.specs.Silence.{silence_of};
     ghost use Rattle.wl_machine.specs.Reached.{IsMachine};
@@ -113,6 +113,16 @@ impl Machine {
         ensures { (past : List Input) → IsMachine self.now past → result ≡ is_idle_sort (stretch_of past).sort }
     {
         self.progress.is_idle()
+    }
+
+    /// True where the bus is free and the node has nothing to send: a recessive sample leaves the machine as it is then, as long as
+    /// it is handed no frame.
+    pub fn is_free(&self) -> bool
+        ensures sort { (past : List Input) → IsMachine self.now past → result ≡ is_free_sort (stretch_of past).sort }
+        ensures stays { result ≡ true → (past : List Input) (mode : Mode) → IsMachine self.now past
+            → IsMachine self.now (past ++ Sample (sample_of Level.Recessive None mode) ∷ []) }
+    {
+        self.progress.is_free()
     }
 
     /// For how many samples more the machine is sure to drive recessive, whatever it samples, and also

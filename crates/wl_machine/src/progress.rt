@@ -9,7 +9,7 @@ ghost use Rattle.wl_machine.specs.Stretch.Flag.{OverloadFlag as OverloadSort};
 ghost use Rattle.wl_machine.specs.Flags.{error_of, error_flag};
 ghost use Rattle.wl_machine.specs.Stretch.{Stretch};
 ghost use Rattle.wl_machine.specs.Stretch.Sort.{OffBus};
-ghost use Rattle.wl_machine.specs.States.{IsIn, IsReachedBy, Meets, state_drive, is_idle_state, sample_of, stretch_by};
+ghost use Rattle.wl_machine.specs.States.{IsIn, IsReachedBy, Meets, state_drive, is_free_state, is_idle_state, sample_of, stretch_by};
 
 use crate::Done;
 use crate::framing::ACKNOWLEDGEMENT;
@@ -196,6 +196,16 @@ impl Progress {
     {
         match self.state {
             State::Idle | State::Suspended { .. } => true,
+            _ => false,
+        }
+    }
+
+    /// The bus is free, and the node has nothing to send.
+    pub fn is_free(&self) -> bool
+        ensures { result ≡ is_free_state self.now.state }
+    {
+        match self.state {
+            State::Idle => true,
             _ => false,
         }
     }

@@ -1,5 +1,6 @@
 pub mod Callers
 mod Counts
+mod Keeping
 mod News
 mod Taken
 mod TruthTests

@@ -1,3 +1,4 @@
 pub mod Handed
+pub mod Posts
 pub mod Truth
 pub mod Ways

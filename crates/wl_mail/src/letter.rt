@@ -43,6 +43,7 @@ impl Letter {
         ensures first { (k : ℕ) × (group.new ≡ with_records (take k self.now.records.items) group.old) }
         ensures took { Took group.old group.new }
         ensures changed { IfOk result (λ b. HasChanged group.old group.new b) }
+        ensures plan { OnOk result (self.now.plan ≡ group.old.plan) }
         ensures foreign { result ≡ Err Foreign ↔ (self.now.plan ≢ group.old.plan) }
         ensures untouched { result ≡ Err Foreign → group.new ≡ group.old }
         ensures there { result ≢ Err Gone }

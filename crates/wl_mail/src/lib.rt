@@ -5,6 +5,7 @@ mod fault;
 mod letter;
 mod post;
 mod taking;
+mod ways;
 
 pub use fault::MailFault;
 pub use letter::Letter;

@@ -1,13 +1,15 @@
 //! Posts: the ends of the channels between workers.
-ghost use Rattle.std.specs.Prelude.{◌≡◌, ◌≢◌, ◌⊎◌, ℕ, ◌-◌, ◌<◌, Err, All, IfOk, OnOk, OnErr, map, replicate, vec_len, length};
+ghost use Rattle.std.specs.Prelude.{◌≡◌, ◌≢◌, ◌⊎◌, ℕ, suc, ◌-◌, ◌<◌, Err, All, IfOk, OnOk, OnErr, map, vec_len, length};
 ghost use Rattle.wl_mail.specs.Truth.{AreTrueOfPlan};
 ghost use Rattle.wl_mail.specs.Handed.{Took, HasChanged};
+ghost use Rattle.wl_mail.specs.Posts.{initial_post, with_sent, rewound, KeepsLetters, HandedOut};
 ghost use Rattle.wl_mail.specs.Ways.{one_more, one_more_to};
-ghost use Rattle.wl_mail.specs.declared.fault.MailFault.TheVariants.{Foreign, Gone};
+ghost use Rattle.wl_mail.specs.declared.fault.MailFault.TheVariants.{Foreign, Gone, Memory};
 
 use crate::fault::MailFault;
 use crate::letter::Letter;
-use crossbeam_channel::{Receiver, Sender, unbounded};
+use crate::ways::{Ways, ways_of};
+use crossbeam_channel::{Receiver, unbounded};
 use std::alloc::{AllocError, Global};
 use std::marker::Model;
 use std::sync::Wait;
@@ -15,53 +17,33 @@ use wl_group::Group;
 use wl_plan::Plan;
 use wl_record_core::Record;
 
-/// The way to another worker.
-#[derive(Drop)]
-struct Way {
-    to: Sender<Letter>,
-    // How many letters went that way; at 2^64 - 1 it stays.
-    letters: u64,
-}
-
-/// A worker's post: what it sends letters to all other workers by, and receives theirs.
+/// A worker's post: what it sends letters to all other workers by, and receives theirs. It keeps every letter that it received.
 ///
-/// Contracts see how many letters went to each of the other workers.
+/// Contracts see how many letters went to each of the other workers, the letters that it received, and how many of these it has handed
+/// out since it began or was last rewound.
 #[derive(Drop)]
 pub struct Post {
-    ways: Vec<Way>,
+    ways: Ways,
     from: Receiver<Letter>,
+    kept: Vec<Letter>,
+    handed: usize,
 }
 
 impl Model for Post {
-    ghost use Rattle.std.specs.Prelude.{List, ℕ, map};
+    ghost use Rattle.std.specs.Prelude.{◌≤◌, length};
+    ghost use Rattle.wl_mail.specs.Posts.{PostValue};
 
-    ghost Value = { List ℕ };
+    ghost Value = { PostValue };
 
-    ghost view = { λ post. map (λ way. way.letters) post.ways.items };
+    ghost view = { λ post. record { sent = post.ways; kept = post.kept.items; handed = post.handed } };
+
+    ghost invariant = { λ post. post.handed ≤ length post.kept.items };
 }
 
 /// Keeps the receivers of all posts alive, so that no letter is refused because its reader has ended.
 #[derive(Drop)]
 pub struct Hold {
     receivers: Vec<Receiver<Letter>>,
-}
-
-impl Way {
-    /// Sends a letter that way.
-    fn send<R: Wait>(&mut self, rt: &R, letter: Letter) -> Result<(), MailFault>
-        ensures ok { OnOk result (self.new.letters ≡ one_more self.old.letters) }
-        ensures err { OnErr result (self.new.letters ≡ self.old.letters) }
-        ensures cause { result ≢ Err Foreign }
-    {
-        if let Err(unsent) = self.to.send(rt, letter) {
-            if unsent.is_out_of_memory() {
-                return Err(MailFault::Memory);
-            }
-            return Err(MailFault::Gone);
-        }
-        self.letters = self.letters.saturating_add(1);
-        Ok(())
-    }
 }
 
 impl Post {
@@ -75,35 +57,89 @@ impl Post {
         records: &[Record],
     ) -> Result<(), MailFault>
         requires { AreTrueOfPlan plan.now records.now }
-        ensures all { OnOk result (self.new ≡ map one_more self.old) }
-        ensures some { (k : ℕ) × (self.new ≡ one_more_to k self.old) }
+        ensures all { OnOk result (self.new ≡ with_sent (map one_more self.old.sent) self.old) }
+        ensures some { (k : ℕ) × (self.new ≡ with_sent (one_more_to k self.old.sent) self.old) }
         ensures cause { result ≢ Err Foreign }
     {
-        for i in 0..self.ways.len() {
-            let letter = Letter::new(alloc, plan, records)?;
-            self.ways[i].send(rt, letter)?;
-        }
-        Ok(())
+        self.ways.send(rt, alloc, plan, records)
     }
 
-    /// Waits for one letter, lets the group take its records, and answers whether that changed what the group knows. `Foreign` where the
-    /// letter's plan isn't the group's, and `Gone` where the posts of all other workers were given up; then the group is as it was. Where
-    /// memory is refused it keeps the records that it took before.
+    /// Lets the group take the records of the next letter, and answers whether that changed what the group knows. The next letter is the
+    /// first one received that it hasn't handed out since it was last rewound; where it has handed out all, it waits for a new one.
+    ///
+    /// `Foreign` where the letter's plan isn't the group's, and `Gone` where the posts of all other workers were given up; then the
+    /// group is as it was. A foreign letter counts as handed out. Where memory is refused the group keeps the records that it took
+    /// before, and the letter comes again.
     pub fn receive<R: Wait>(
         &mut self,
         rt: &R,
         alloc: Global,
         group: &mut Group,
     ) -> Result<bool, MailFault>
-        ensures sent { self.new ≡ self.old }
+        ensures kept { KeepsLetters self.old self.new }
+        ensures handed { OnOk result (HandedOut self.old self.new group.old group.new) }
         ensures took { Took group.old group.new }
         ensures changed { IfOk result (λ b. HasChanged group.old group.new b) }
         ensures untouched { (result ≡ Err Foreign) ⊎ (result ≡ Err Gone) → group.new ≡ group.old }
+        ensures foreign { result ≡ Err Foreign → self.new.handed ≡ suc self.old.handed }
+        ensures gone { result ≡ Err Gone → self.new ≡ self.old × (self.old.handed ≡ length self.old.kept) }
+        ensures memory { result ≡ Err Memory → self.new.handed ≡ self.old.handed }
     {
         let _ = alloc;
         wl_replica::joining_is_a_join();
+        self.await_next(rt)?;
+        match self.kept[self.handed].hand_to(group) {
+            Ok(news) => {
+                self.handed += 1;
+                Ok(news)
+            }
+            Err(MailFault::Foreign) => {
+                self.handed += 1;
+                Err(MailFault::Foreign)
+            }
+            Err(MailFault::Gone) => unreachable!(),
+            Err(MailFault::Memory) => Err(MailFault::Memory),
+        }
+    }
+
+    /// Begins again with the letters that it received: `receive` hands them out in their order, before any new one.
+    pub fn rewind(&mut self)
+        ensures { self.new ≡ rewound self.old }
+    {
+        self.handed = 0;
+    }
+
+    /// How many letters it received.
+    pub fn received(&self) -> usize
+        ensures { result ≡ length self.now.kept }
+    {
+        self.kept.len()
+    }
+
+    /// How many of the letters that it received it has handed out since it began or was last rewound.
+    pub fn handed(&self) -> usize
+        ensures { result ≡ self.now.handed }
+    {
+        self.handed
+    }
+
+    /// Has a letter to hand out: where all that it received were handed out, it waits for one more, for which it makes room before.
+    fn await_next<R: Wait>(&mut self, rt: &R) -> Result<(), MailFault>
+        ensures kept { KeepsLetters self.old self.new }
+        ensures handed { self.new.handed ≡ self.old.handed }
+        ensures next { OnOk result (self.new.handed < length self.new.kept) }
+        ensures err { OnErr result (self.new ≡ self.old × (self.old.handed ≡ length self.old.kept)) }
+        ensures cause { result ≢ Err Foreign }
+    {
+        if self.handed < self.kept.len() {
+            return Ok(());
+        }
+        self.kept.reserve(1)?;
         match self.from.recv(rt) {
-            Ok(letter) => letter.hand_to(group),
+            Ok(letter) => {
+                self.kept.push_reserved(letter);
+                Ok(())
+            }
             Err(_) => Err(MailFault::Gone),
         }
     }
@@ -112,7 +148,7 @@ impl Post {
 /// A post for each of so many workers, over one channel of any length each, and a hold on all receivers. Refused only when out of memory.
 pub fn posts(alloc: Global, workers: u8) -> Result<(Vec<Post>, Hold), AllocError>
     ensures count { IfOk result (λ r. vec_len r.0 ≡ workers) }
-    ensures others { IfOk result (λ r. All (λ post. post ≡ replicate (workers - 1) 0) r.0.items) }
+    ensures others { IfOk result (λ r. All (λ post. post ≡ initial_post (workers - 1)) r.0.items) }
 {
     let mut senders = Vec::new(alloc);
     let mut receivers = Vec::new(alloc);
@@ -123,33 +159,13 @@ pub fn posts(alloc: Global, workers: u8) -> Result<(Vec<Post>, Hold), AllocError
     }
     let mut posts = Vec::new(alloc);
     for worker in 0..workers {
-        posts.push(post_of(alloc, &senders, &receivers, usize::from(worker))?)?;
+        let at = usize::from(worker);
+        posts.push(Post {
+            ways: ways_of(alloc, &senders, at)?,
+            from: receivers[at].clone()?,
+            kept: Vec::new(alloc),
+            handed: 0,
+        })?;
     }
     Ok((posts, Hold { receivers }))
-}
-
-/// The post of a worker, by the two ends of each worker's channel.
-fn post_of(
-    alloc: Global,
-    senders: &[Sender<Letter>],
-    receivers: &[Receiver<Letter>],
-    worker: usize,
-) -> Result<Post, AllocError>
-    requires senders { worker < length senders.now }
-    requires receivers { worker < length receivers.now }
-    ensures { IfOk result (λ post. post ≡ replicate (length senders.now - 1) 0) }
-{
-    let mut ways = Vec::new(alloc);
-    for i in 0..senders.len() {
-        if i != worker {
-            ways.push(Way {
-                to: senders[i].clone()?,
-                letters: 0,
-            })?;
-        }
-    }
-    Ok(Post {
-        ways,
-        from: receivers[worker].clone()?,
-    })
 }

@@ -1,5 +1,5 @@
 -- Where its history puts what a node keeps.
-use Rattle.std.specs.Prelude.{◌≡◌, ℕ, ◌<◌, List, [], ◌∷◌, ◌++◌, length, count_by, Option, Some, None, vec_len, vec_capacity}
+use Rattle.std.specs.Prelude.{◌≡◌, ℕ, ◌<◌, List, [], ◌∷◌, ◌++◌, length, replicate, count_by, Option, Some, None, vec_len, vec_capacity}
 use Rattle.std.specs.List.{flat_map}
 use Rattle.wl_level.specs.declared.Level.{Level}
 use Rattle.wl_segments.specs.Lengths.{Lengths}
@@ -61,6 +61,16 @@ IsSameProgress old new = (setup : NodeSetup) (levels : List Level) → IsProgres
 -- at one quantum more, a node of this setup has seen this level
 abbrev pub HasProgressed : NodeSetup → Level → Progress → Progress → Type 0
 HasProgressed setup level old new = (levels : List Level) → IsProgress setup old levels → IsProgress setup new (levels ++ level ∷ [])
+
+-- at so many quanta more, a node of this setup has seen this level
+abbrev pub HasProgressedBy : NodeSetup → Level → ℕ → Progress → Progress → Type 0
+HasProgressedBy setup level n old new = (levels : List Level) → IsProgress setup old levels → IsProgress setup new (levels ++ replicate n level)
+
+-- before the last of so many quanta of this level, a node of this setup drives what it drove before them
+abbrev pub KeepsDrive : NodeSetup → Level → ℕ → Progress → Type 0
+KeepsDrive setup level n kept =
+    (m : ℕ) → m < n → (levels : List Level) → IsProgress setup kept levels
+    → (history_of setup (levels ++ replicate m level)).drive ≡ (history_of setup levels).drive
 
 -- there is room for what one more quantum stores
 pub record IsRoomy (kept : Progress) : Type 0 where

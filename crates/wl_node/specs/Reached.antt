@@ -1,5 +1,5 @@
 -- What others say of a node: its setup, its quanta, where levels put it, what it has done, and whether it has room.
-use Rattle.std.specs.Prelude.{ℕ, List, [], ◌∷◌, ◌++◌}
+use Rattle.std.specs.Prelude.{◌≡◌, ◌≢◌, ℕ, ◌+◌, ◌<◌, List, [], ◌∷◌, ◌++◌, replicate}
 use Rattle.wl_level.specs.declared.Level.{Level}
 use Rattle.wl_node.specs.declared.setup.NodeSetup.{NodeSetup}
 use Rattle.wl_node.specs.declared.node.Node.{Node}
@@ -33,3 +33,27 @@ IsSameNode old new = (levels : List Level) → IsNode levels old → IsNode leve
 -- the node can store what its next quantum brings, without memory
 abbrev pub HasRoom : Node → Type 0
 HasRoom node = IsRoomy node.progress
+
+-- after so many quanta more, all of this level, the node drives what it drove before them
+abbrev pub StandsFor : Node → Level → ℕ → Type 0
+StandsFor node level n =
+    (levels : List Level) → IsNode levels node → (history_of node.setup (levels ++ replicate n level)).drive ≡ (history_of node.setup levels).drive
+
+-- and after these it drives the other level
+abbrev pub TurnsAfter : Node → Level → ℕ → Type 0
+TurnsAfter node level n =
+    (levels : List Level) → IsNode levels node → (history_of node.setup (levels ++ replicate n level)).drive ≢ (history_of node.setup levels).drive
+
+-- at so many quanta more the node has seen this level, and before the last of them its drive stood
+pub record HasGone (level : Level) (n : ℕ) (old new : Node) : Type 0 where
+  pub node : (levels : List Level) → IsNode levels old → IsNode (levels ++ replicate n level) new
+  pub setup : node_setup new ≡ node_setup old
+  pub quanta : quanta_of new ≡ quanta_of old + n
+  pub stood : (m : ℕ) → m < n → StandsFor old level m
+
+-- at fewer quanta more than were asked for the node has seen this level, and its drive stands
+pub record HasStopped (level : Level) (most : ℕ) (old new : Node) : Type 0 where
+  pub n : ℕ
+  pub few : n < most
+  pub gone : HasGone level n old new
+  pub stands : StandsFor old level n

@@ -1,6 +1,7 @@
 //! One node: clock, bit clock, machine and counters over the levels that it sees.
 #![tactic(auto)]
 
+mod go;
 mod laws;
 mod limits;
 mod node;

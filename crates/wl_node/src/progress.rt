@@ -1,8 +1,11 @@
 //! One quantum of a node.
 
-ghost use Rattle.std.specs.Prelude.{◌≡◌, ◌+◌, ◌<◌, ◌≤◌, length, OnOk, IfOk, vec_len, vec_capacity};
+ghost use Rattle.std.specs.Prelude.{◌≡◌, suc, ◌+◌, ◌<◌, ◌≤◌, length, OnOk, IfOk, vec_len, vec_capacity};
+ghost use Rattle.wl_level.specs.Levels.{same};
+ghost use Rattle.wl_sync.specs.Skips.{free_quanta};
+ghost use Rattle.wl_node.specs.declared.setup.NodeSetup.{NodeSetup};
 ghost use Rattle.wl_node.specs.History.{History, by_beat};
-ghost use Rattle.wl_node.specs.Kept.{IsTraffic, IsRoomy, HasSeenNothing, IsSameProgress, HasProgressed};
+ghost use Rattle.wl_node.specs.Kept.{IsTraffic, IsRoomy, HasSeenNothing, IsSameProgress, HasProgressed, HasProgressedBy, KeepsDrive};
 ghost use Rattle.wl_node.specs.Limits.{most_run_quanta};
 
 use crate::setup::NodeSetup;
@@ -90,6 +93,65 @@ impl Progress {
             level,
         );
         self.quanta += 1;
+    }
+
+    /// Quanta of this level, at most `most`: those in which nothing happens at once, and one more.
+    pub fn leap(&mut self, setup: &NodeSetup, level: Level, most: u64) -> u64
+        requires room { IsRoomy self.old }
+        requires some { 0 < most }
+        requires short { self.old.quanta + most ≤ most_run_quanta }
+        requires hards { self.old.syncs.hards ≤ self.old.quanta }
+        requires errors { self.old.traffic.errors ≤ self.old.quanta }
+        ensures place { HasProgressedBy setup.now level result self.old self.new }
+        ensures drive { KeepsDrive setup.now level result self.old }
+        ensures some { 0 < result }
+        ensures few { result ≤ most }
+        ensures quanta { self.new.quanta ≡ self.old.quanta + result }
+        ensures hards { self.new.syncs.hards ≤ self.old.syncs.hards + 1 }
+        ensures errors { self.new.traffic.errors ≤ self.old.traffic.errors + 1 }
+    {
+        let passed = self.pass(level, most);
+        if passed == most {
+            return passed;
+        }
+        self.run(setup, level);
+        passed + 1
+    }
+
+    /// Those quanta of this level, at most `most`, in which nothing happens: none is a sample, none finds an edge, and a
+    /// bit starts only where the node drives what its machine wants.
+    fn pass(&mut self, level: Level, most: u64) -> u64
+        requires short { self.old.quanta + most ≤ most_run_quanta }
+        ensures place { (setup : NodeSetup) → HasProgressedBy setup level result self.old self.new }
+        ensures drive { (setup : NodeSetup) → KeepsDrive setup level (suc result) self.old }
+        ensures few { result ≤ most }
+        ensures quanta { self.new.quanta ≡ self.old.quanta + result }
+        ensures room { IsRoomy self.old → IsRoomy self.new }
+        ensures hards { self.new.syncs.hards ≡ self.old.syncs.hards }
+        ensures errors { self.new.traffic.errors ≡ self.old.traffic.errors }
+    {
+        let settled = self.drive.is(self.traffic.pending);
+        let free = (self.clock.free_quanta(level, settled) as u64).min(most);
+        if 0 < free {
+            self.skip(level, free as u8);
+        }
+        free
+    }
+
+    /// So many of them at once.
+    fn skip(&mut self, level: Level, quanta: u8)
+        requires some { 0 < quanta }
+        requires few { quanta ≤ free_quanta (same self.old.drive self.old.traffic.pending) self.old.clock level }
+        requires short { self.old.quanta + quanta ≤ most_run_quanta }
+        ensures place { (setup : NodeSetup) → HasProgressedBy setup level quanta self.old self.new }
+        ensures drive { (setup : NodeSetup) → KeepsDrive setup level (suc quanta) self.old }
+        ensures room { IsRoomy self.old → IsRoomy self.new }
+        ensures quanta { self.new.quanta ≡ self.old.quanta + quanta }
+        ensures hards { self.new.syncs.hards ≡ self.old.syncs.hards }
+        ensures errors { self.new.traffic.errors ≡ self.old.traffic.errors }
+    {
+        self.clock.skip(level, quanta);
+        self.quanta += quanta as u64;
     }
 }
 

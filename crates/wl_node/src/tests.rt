@@ -103,3 +103,27 @@ fn promises_on_a_silent_line(rt: HostRuntime) -> Result<(), Fail> {
     drive_laws();
     Ok(())
 }
+
+/// A node that hears itself sends zeros from bit 11 on, with a stuff bit after each five: it goes on up to each change of its
+/// drive, and no further than it is asked to. It has then done what one has that runs quantum by quantum.
+#[test]
+fn stretches_of_a_frame(rt: HostRuntime) -> Result<(), Fail> {
+    const STRETCHES: [u64; 5] = [111, 50, 10, 50, 10];
+    let alloc = rt.alloc();
+    let mut node = Node::new(alloc, make_setup(alloc, 0)?)?;
+    for quanta in STRETCHES {
+        assert!(rt; node.quanta() < MOST_QUANTA);
+        let level = node.drive();
+        assert_eq!(rt; node.go(level, 200)?, quanta);
+    }
+    assert!(rt; node.quanta() < MOST_QUANTA);
+    assert_eq!(rt; node.go(Level::Dominant, 7)?, 7);
+    let mut other = Node::new(alloc, make_setup(alloc, 0)?)?;
+    for _ in 0..238 {
+        let level = other.drive();
+        step(&rt, &mut other, level)?;
+    }
+    assert_eq!(rt; answers(&node), answers(&other));
+    assert_eq!(rt; node.samples(), other.samples());
+    Ok(())
+}

@@ -120,6 +120,23 @@ impl Traffic {
             → IsTraffic setup self.old h → IsTraffic setup self.new (history_after_sample setup h level) }
         ensures errors { self.new.errors ≤ self.old.errors + 1 }
     {
+        let head = ready_head(queue, self.sent, quantum);
+        if head.is_none() && !level.is_dominant() && self.machine.is_free() {
+            self.samples.push_reserved((quantum, Level::Recessive));
+            return;
+        }
+        self.judge(queue, quantum, level);
+    }
+
+    /// The same, whatever the machine is in.
+    fn judge(&mut self, queue: &[Queued], quantum: u64, level: Level)
+        requires samples { vec_len self.old.samples < vec_capacity self.old.samples }
+        requires frames { vec_len self.old.frames < vec_capacity self.old.frames }
+        requires fits { self.old.errors < most_run_quanta }
+        ensures traffic { (setup : NodeSetup) (h : History) → setup.queue ≡ queue.now → length h.seen ≡ quantum
+            → IsTraffic setup self.old h → IsTraffic setup self.new (history_after_sample setup h level) }
+        ensures errors { self.new.errors ≤ self.old.errors + 1 }
+    {
         wl_machine::laws::a_sent_frame_is_the_head_that_began_its_stretch();
         let mode = self.counters.mode();
         let head = ready_head(queue, self.sent, quantum);

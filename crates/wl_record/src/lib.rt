@@ -22,4 +22,4 @@ pub use wl_record_core::{
     MOST_EDGES, MOST_NODES, Record, Slot, TICK_END, clash_is_never_true, one_tick_a_slot,
     table_laws, truth_is_its_test,
 };
-pub use write::{text_of, write_records};
+pub use write::{push_text_line, text_of, write_records};

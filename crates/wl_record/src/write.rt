@@ -1,5 +1,5 @@
 //! Records as text.
-ghost use Rattle.std.specs.Prelude.{◌≡◌, ◌+◌, ◌++◌, ◌<◌, ◌≤◌, ◌∷◌, length, take, drop, IfOk};
+ghost use Rattle.std.specs.Prelude.{◌≡◌, ◌+◌, ◌++◌, ◌<◌, ◌≤◌, ◌∷◌, length, take, drop, IfOk, OnOk, OnErr};
 ghost use Rattle.std.specs.Fmt.{decimal};
 ghost use Rattle.wl_record_core.specs.Text.{text_line, text_of};
 
@@ -67,6 +67,18 @@ fn line_at_end(line: &mut [u8; LINE_ROOM], told: &Record) -> usize
             place_before(line, end, b'S', node, count)
         }
     }
+}
+
+/// Adds the line of a record, within its limits or not, to a text. Refused only when out of memory; the text is then
+/// as it was.
+#[inline(always)]
+pub fn push_text_line(text: &mut Vec<u8>, told: &Record) -> Result<(), AllocError>
+    ensures ok { OnOk result (text.new.items ≡ text.old.items ++ text_line told.now) }
+    ensures err { OnErr result (text.new.items ≡ text.old.items) }
+{
+    let mut line = [0u8; LINE_ROOM];
+    let at = line_at_end(&mut line, told);
+    text.extend_from_slice(&line[at..])
 }
 
 /// The text of the records, within their limits or not. Refused only when out of memory.

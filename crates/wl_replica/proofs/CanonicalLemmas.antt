@@ -1,6 +1,8 @@
 -- What is listed of a kept map is what it shows.
 use Rattle.std.specs.Prelude.{◌≡◌, ℕ, ◌+◌, ◌==◌, Bool, true, false, cond, not, List, [], ◌∷◌, ◌++◌, Option, None, filter, refl}
 use Rattle.std.specs.List.{filter_map, cons_option, flat_map, range_with_len}
+use Rattle.std.specs.List.Sorted.{IsStrictlySortedBy}
+use Rattle.std.specs.Map.{keys_of}
 use Rattle.std.specs.BTreeMap.{BTreeMap, IsOrdered}
 use Rattle.std.specs.FinMap.{entries-from_sorted}
 use Rattle.std.proofs.Common.{sym, ap, ◌∙◌, arith}
@@ -46,15 +48,20 @@ pub same_of_each : {A B : Type 0} (f g : A → List B) → ((x : A) → f x ≡ 
 same_of_each f g h [] = refl
 same_of_each f g h (x ∷ xs) = λ i. h x i ++ same_of_each f g h xs i
 
+pub canonical_of_entries : (nodes : ℕ) (edges : List (Key × FlatWord)) (silences : List (Key × MaxWord)) → IsStrictlySortedBy key_cmp (keys_of edges) → IsStrictlySortedBy key_cmp (keys_of silences)
+    → flat_map (records_of_node edges silences) (range_with_len 0 nodes)
+    ≡ canonical (record { nodes = nodes; edges = words_shown holds_edge edges; silences = words_shown holds_silence silences })
+canonical_of_entries nodes edges silences h k =
+    let es = entries-from_sorted key_cmp (filter (λ f. holds_edge f.1) edges) (sorted_filter holds_edge edges h) in
+    let ss = entries-from_sorted key_cmp (filter (λ f. holds_silence f.1) silences) (sorted_filter holds_silence silences k) in
+    same_of_each _ _ (λ node.
+    (λ i. sym (told_filtered holds_edge edge_record no_edge node edges) i ++ sym (told_filtered holds_silence silence_record no_silence node silences) i)
+    ∙ (λ i. records_of_node (sym es i) (sym ss i) node)) (range_with_len 0 nodes)
+
 pub canonical_of_kept : (nodes : ℕ) (edges : BTreeMap Key FlatWord) (silences : BTreeMap Key MaxWord) → IsOrdered key_cmp edges → IsOrdered key_cmp silences
     → flat_map (records_of_node edges.entries silences.entries) (range_with_len 0 nodes)
     ≡ canonical (record { nodes = nodes; edges = words_shown holds_edge edges.entries; silences = words_shown holds_silence silences.entries })
-canonical_of_kept nodes edges silences h k =
-    let es = entries-from_sorted key_cmp (filter (λ f. holds_edge f.1) edges.entries) (sorted_filter holds_edge edges.entries h) in
-    let ss = entries-from_sorted key_cmp (filter (λ f. holds_silence f.1) silences.entries) (sorted_filter holds_silence silences.entries k) in
-    same_of_each _ _ (λ node.
-    (λ i. sym (told_filtered holds_edge edge_record no_edge node edges.entries) i ++ sym (told_filtered holds_silence silence_record no_silence node silences.entries) i)
-    ∙ (λ i. records_of_node (sym es i) (sym ss i) node)) (range_with_len 0 nodes)
+canonical_of_kept nodes edges silences h k = canonical_of_entries nodes edges.entries silences.entries h k
 
 pub range_last : (a n : ℕ) → range_with_len a (suc n) ≡ range_with_len a n ++ (a + n) ∷ []
 range_last a zero = ap (λ k. k ∷ []) (omega arith)

@@ -9,7 +9,7 @@ mod CanonicalLemmas
 mod EntryLemmas
 mod RoundTrip
 mod TextLengths
-mod Rows
+mod WorkedRows
 mod Members
 mod SameWords
 mod SlotsProofs
@@ -26,4 +26,7 @@ mod PromiseLemmas
 mod WaveLemmas
 mod PlaceLemmas
 mod BatchLemmas
+mod DenseLemmas
+mod DenseShown
+mod DenseWalks
 pub mod Callers

@@ -17,7 +17,7 @@ use Rattle.wl_replica.proofs.SmallFacts.{nothing_more}
 use Rattle.wl_replica.specs.Keys.{Key, key_cmp}
 use Rattle.wl_replica.proofs.KeyLaws.{key_cmp_total, exact_keys}
 use Rattle.wl_replica.specs.Kept.{word_in, joined_all, words_shown}
-use Rattle.wl_replica.proofs.KeptLemmas.{tied_by}
+use Rattle.wl_replica.proofs.KeptLemmas.{tied_by, found}
 
 both : (a b : Bool) → T a → T b → T (a && b)
 both true b p q = q
@@ -57,16 +57,24 @@ module _ {W : Type 0} {least : W} {join : W → W → W} {holds : W → Bool} (l
   filtered None = ap (λ b. cond b (Some least) None) (sym tells.none)
   filtered (Some w) = refl
 
-  pub get-shown : (m : BTreeMap Key W) → IsOrdered key_cmp m → (q : Key) → get (words_shown holds m.entries) q ≡ seen (word_in least m q)
-  get-shown m h q =
-      get-from_sorted key_cmp (filter (λ e. holds e.1) m.entries) q (sorted_filter holds m.entries h)
-      ∙ (find_is_lookup q (filter (λ e. holds e.1) m.entries)
-      ∙ (lookup-filter-values (eq_by_cmp_equiv key_cmp_total) holds q m.entries (IsDistinct-from_sorted key_cmp (keys_of m.entries) h)
-      ∙ filtered (lookup (eq_by_cmp key_cmp q) m.entries)))
+  pub get-listed : (es : List (Key × W)) → IsStrictlySortedBy key_cmp (keys_of es) → (q : Key) → get (words_shown holds es) q ≡ seen (unwrap_or (found es q) least)
+  get-listed es h q =
+      get-from_sorted key_cmp (filter (λ e. holds e.1) es) q (sorted_filter holds es h)
+      ∙ (find_is_lookup q (filter (λ e. holds e.1) es)
+      ∙ (lookup-filter-values (eq_by_cmp_equiv key_cmp_total) holds q es (IsDistinct-from_sorted key_cmp (keys_of es) h)
+      ∙ filtered (lookup (eq_by_cmp key_cmp q) es)))
 
-  -- maps that have the same words show the same
+  pub get-shown : (m : BTreeMap Key W) → IsOrdered key_cmp m → (q : Key) → get (words_shown holds m.entries) q ≡ seen (word_in least m q)
+  get-shown m h q = get-listed m.entries h q
+
+  -- entries that have the same words show the same
+  pub listed_same : (es fs : List (Key × W)) → IsStrictlySortedBy key_cmp (keys_of es) → IsStrictlySortedBy key_cmp (keys_of fs)
+      → ((q : Key) → unwrap_or (found fs q) least ≡ unwrap_or (found es q) least) → words_shown holds fs ≡ words_shown holds es
+  listed_same es fs h k same = same_map key_cmp_total exact_keys _ _ (λ q. get-listed fs k q ∙ (ap seen (same q) ∙ sym (get-listed es h q)))
+
+  -- and so do maps
   pub shown_same : (m n : BTreeMap Key W) → IsOrdered key_cmp m → IsOrdered key_cmp n → ((q : Key) → word_in least n q ≡ word_in least m q) → words_shown holds n.entries ≡ words_shown holds m.entries
-  shown_same m n h k same = same_map key_cmp_total exact_keys _ _ (λ q. get-shown n k q ∙ (ap seen (same q) ∙ sym (get-shown m h q)))
+  shown_same m n h k same = listed_same m.entries n.entries h k same
 
   seen_both : (a b : Bool) (v w : W) → holds v ≡ a → holds w ≡ b → seen (join v w) ≡ joined_options join (cond a (Some v) None) (cond b (Some w) None)
   seen_both true true v w p q = ap (λ c. cond c (Some (join v w)) None) (tells.over v w ∙ (λ i. p i || q i))
@@ -114,12 +122,17 @@ module _ {W : Type 0} {least : W} {join : W → W → W} {holds : W → Bool} (l
   single false true k q v w e f = ap (λ x. seen (cond x (join v w) v)) e ∙ (sym (nothing_more join (seen v)) ∙ sym (ap (λ x. joined_options join (seen v) (cond x (Some w) None)) e))
   single false false k q v w e f = ap (λ x. seen (cond x (join v w) v)) e ∙ sym (nothing_more join (seen v))
 
+  pub listed_raised : (es fs : List (Key × W)) (k : Key) (w : W) → IsStrictlySortedBy key_cmp (keys_of es) → IsStrictlySortedBy key_cmp (keys_of fs)
+      → ((q : Key) → unwrap_or (found fs q) least ≡ joined_all join (unwrap_or (found es q) least) ((k, w) ∷ []) q)
+      → words_shown holds fs ≡ joined_maps join (words_shown holds es) (map_of key_cmp join (cond (holds w) ((k, w) ∷ []) []))
+  listed_raised es fs k w h l is = same_map key_cmp_total exact_keys _ _ (λ q.
+      get-listed fs l q ∙ (ap seen (is q) ∙ (single _ _ k q (unwrap_or (found es q) least) w refl refl
+      ∙ ((λ i. joined_options join (sym (get-listed es h q) i) (sym (laws.of_entries (cond (holds w) ((k, w) ∷ []) []) q) i)) ∙ sym (laws.key_by_key (words_shown holds es) _ q)))))
+
   pub shown_raised : (m n : BTreeMap Key W) (k : Key) (w : W) → IsOrdered key_cmp m → IsOrdered key_cmp n
       → ((q : Key) → word_in least n q ≡ joined_all join (word_in least m q) ((k, w) ∷ []) q)
       → words_shown holds n.entries ≡ joined_maps join (words_shown holds m.entries) (map_of key_cmp join (cond (holds w) ((k, w) ∷ []) []))
-  shown_raised m n k w h l is = same_map key_cmp_total exact_keys _ _ (λ q.
-      get-shown n l q ∙ (ap seen (is q) ∙ (single _ _ k q (word_in least m q) w refl refl
-      ∙ ((λ i. joined_options join (sym (get-shown m h q) i) (sym (laws.of_entries (cond (holds w) ((k, w) ∷ []) []) q) i)) ∙ sym (laws.key_by_key (words_shown holds m.entries) _ q)))))
+  shown_raised m n k w h l is = listed_raised m.entries n.entries k w h l is
 
   pub joined_nothing : (m : FinMap key_cmp W) → joined_maps join m (map_of key_cmp join []) ≡ m
   joined_nothing m = same_map key_cmp_total exact_keys _ _ (λ q. laws.key_by_key m _ q ∙ (ap (joined_options join (get m q)) (laws.of_entries [] q) ∙ nothing_more join (get m q)))
@@ -133,8 +146,11 @@ module _ {W : Type 0} {least : W} {join : W → W → W} {holds : W → Bool} (l
   held false w e = sym (tells.empty w e)
 
   -- the word that is shown is the one kept
+  pub word_listed : (es : List (Key × W)) → IsStrictlySortedBy key_cmp (keys_of es) → (q : Key) → unwrap_or (get (words_shown holds es) q) least ≡ unwrap_or (found es q) least
+  word_listed es h q = ap (λ o. unwrap_or o least) (get-listed es h q) ∙ held (holds (unwrap_or (found es q) least)) (unwrap_or (found es q) least) refl
+
   pub word_shown : (m : BTreeMap Key W) → IsOrdered key_cmp m → (q : Key) → unwrap_or (get (words_shown holds m.entries) q) least ≡ word_in least m q
-  word_shown m h q = ap (λ o. unwrap_or o least) (get-shown m h q) ∙ held (holds (word_in least m q)) (word_in least m q) refl
+  word_shown m h q = word_listed m.entries h q
 
 -- a fact that holds anyway holds at an error
 pub at_error : {A E : Type 0} (r : Result A E) (P : Type 0) → P → OnErr r P

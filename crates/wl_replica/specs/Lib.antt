@@ -10,3 +10,4 @@ pub mod Known
 pub mod KnownLaws
 pub mod Slots
 pub mod SlotsOf
+pub mod Dense

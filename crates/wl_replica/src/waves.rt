@@ -12,7 +12,7 @@ use wl_intervals::{Intervals, IntervalsFault};
 use wl_lattice::{FlatWord, MaxWord};
 
 /// Adds an interval after all others.
-fn push_behind(set: &mut Intervals, from: u64, to: u64) -> Result<(), AllocError>
+pub fn push_behind(set: &mut Intervals, from: u64, to: u64) -> Result<(), AllocError>
     requires some { from < to }
     requires behind { IfSome (last_end set.old) (λ end. end < from) }
     ensures ok { OnOk result (set.new ≡ set.old ++ (from, to) ∷ []) }
@@ -26,7 +26,7 @@ fn push_behind(set: &mut Intervals, from: u64, to: u64) -> Result<(), AllocError
 
 /// One tick more, at which the level changes: where it was dominant since a tick, the interval is
 /// whole.
-fn flip(set: &mut Intervals, since: Option<u64>, tick: u64) -> Result<Option<u64>, AllocError>
+pub fn flip(set: &mut Intervals, since: Option<u64>, tick: u64) -> Result<Option<u64>, AllocError>
     requires since { IfSome since (λ from. from < tick) }
     requires behind { IfSome since (λ from. IfSome (last_end set.old) (λ end. end < from)) }
     ensures opened { IfOk result (λ after. IfNone since ((set.new ≡ set.old) × (after ≡ Some tick))) }

@@ -1,11 +1,10 @@
 -- Lines of reports, computed.
-use Rattle.std.specs.Prelude.{◌≡◌, ℕ, Bool, true, false, ℤ, List, [], ◌∷◌, ◌++◌, codes, Option, None, Some, refl}
-use Rattle.std.specs.Fmt.{digits, digit_glyph}
+use Rattle.std.specs.Prelude.{◌≡◌, ℕ, Bool, true, false, ℤ, List, [], ◌∷◌, ◌++◌, codes, refl}
+use Rattle.std.specs.Fmt.{digits}
 use Rattle.wl_confine.specs.Counts.{Counts, no_counts}
 use Rattle.wl_frame.specs.Grammar.{Content}
 use Rattle.wl_node.specs.declared.setup.Passed.{Passed}
 use Rattle.wl_serial.specs.declared.outcome.NodeOutcome.{NodeOutcome}
-use Rattle.wl_serial.specs.declared.outcome.Outcome.{Outcome}
 use Rattle.wl_report.specs.Report.{node_report_line, frame_line, verdict_line, report_text}
 
 -- a node to which nothing happened but errors and frames that it did not send, with these counters and phase errors

@@ -3,6 +3,7 @@ use Rattle.std.specs.Prelude.{ℕ, Bool, true, false, ◌==◌, ◌&&◌, if◌t
 use Rattle.std.specs.List.{flat_map, list_all, enumerate_from, sum_by}
 use Rattle.std.specs.Fmt.{decimal}
 use Rattle.wl_confine.specs.Counts.{mode_of}
+use Rattle.wl_frame.specs.Grammar.{Content}
 use Rattle.wl_node.specs.declared.setup.Passed.{Passed}
 use Rattle.wl_serial.specs.declared.outcome.NodeOutcome.{NodeOutcome}
 use Rattle.wl_serial.specs.declared.outcome.Outcome.{Outcome}
@@ -28,6 +29,11 @@ node_report_line i n =
 abbrev pub id_digits : Bool → ℕ
 id_digits true = 8
 id_digits false = 3
+
+-- what a frame carries, as it ends the line of a frame
+abbrev pub content_text : Content → List ℕ
+content_text c =
+    hexadecimal (id_digits c.extended) c.id ++ codes " " ++ kind_word c.remote ++ codes " " ++ decimal c.dlc ++ codes " " ++ bytes_word c.bytes
 
 -- a frame that passed through a node: which way, the quantum of the sample that completed it, and what it carries
 abbrev pub frame_words : ℕ → Passed → List (List ℕ)

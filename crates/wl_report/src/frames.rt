@@ -1,8 +1,8 @@
 //! The line of a frame.
-ghost use Rattle.std.specs.Prelude.{◌≡◌, OnOk, codes};
+ghost use Rattle.std.specs.Prelude.{◌≡◌, OnOk};
 ghost use Rattle.std.specs.List.{flat_map};
-ghost use Rattle.wl_report.specs.Lines.{GrowsBy, bytes_word, hexadecimal, spaced_words, kind_word, way_word};
-ghost use Rattle.wl_report.specs.Report.{frame_line, frame_words, id_digits};
+ghost use Rattle.wl_report.specs.Lines.{GrowsBy, bytes_word, hexadecimal, kind_word, way_word};
+ghost use Rattle.wl_report.specs.Report.{content_text, frame_line, id_digits};
 
 use std::alloc::AllocError;
 use wl_frame::frame::Frame;
@@ -63,9 +63,21 @@ fn push_id(text: &mut String, frame: &Frame) -> Result<(), AllocError>
     }
 }
 
-/// Adds the words of a frame that come before its bytes, and a space.
-fn push_frame_words(text: &mut String, node: usize, passed: &Passed) -> Result<(), AllocError>
-    ensures { OnOk result (GrowsBy text.old text.new (spaced_words 32 (codes "frame") (frame_words node passed.now))) }
+/// Adds what a frame carries: its identifier in lower-case hexadecimal digits, 3 or 8 of an extended frame, `data` or `remote`, its data
+/// length code, and its bytes in two digits each or a dash. Refused out of memory alone.
+pub fn push_content(text: &mut String, frame: &Frame) -> Result<(), AllocError>
+    ensures { OnOk result (GrowsBy text.old text.new (content_text frame.now)) }
+{
+    let kind = kind_word(frame.remote());
+    let dlc = frame.dlc();
+    push_id(text, frame)?;
+    write!(text, " {kind} {dlc} ")?;
+    push_bytes(text, frame.bytes())
+}
+
+/// Adds the line of a frame that passed through a node.
+pub(crate) fn push_frame(text: &mut String, node: usize, passed: &Passed) -> Result<(), AllocError>
+    ensures { OnOk result (GrowsBy text.old text.new (frame_line node passed.now)) }
 {
     let Passed {
         sent,
@@ -73,18 +85,7 @@ fn push_frame_words(text: &mut String, node: usize, passed: &Passed) -> Result<(
         frame,
     } = *passed;
     let way = way_word(sent);
-    let kind = kind_word(frame.remote());
-    let dlc = frame.dlc();
     write!(text, "frame {node} {way} {quantum} ")?;
-    push_id(text, &frame)?;
-    write!(text, " {kind} {dlc} ")
-}
-
-/// Adds the line of a frame that passed through a node.
-pub(crate) fn push_frame(text: &mut String, node: usize, passed: &Passed) -> Result<(), AllocError>
-    ensures { OnOk result (GrowsBy text.old text.new (frame_line node passed.now)) }
-{
-    push_frame_words(text, node, passed)?;
-    push_bytes(text, passed.frame.bytes())?;
+    push_content(text, &frame)?;
     text.push_str("\n")
 }

@@ -10,5 +10,7 @@ mod tests;
 mod text;
 mod verdict;
 
+pub use frames::push_content;
 pub use laws::{clean_is_clean, extremes_are_extreme};
+pub use nodes::mode_word;
 pub use text::report;

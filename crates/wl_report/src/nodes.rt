@@ -11,8 +11,8 @@ use wl_confine::Mode;
 use wl_node::Passed;
 use wl_serial::NodeOutcome;
 
-/// How far a node takes part in the traffic.
-fn mode_word(mode: Mode) -> &'static str
+/// How far a node takes part in the traffic, as a word: `active`, `passive` or `off` (Bosch CAN 2.0 part B, section 8).
+pub fn mode_word(mode: Mode) -> &'static str
     ensures { result.now ≡ mode_word mode }
 {
     match mode {

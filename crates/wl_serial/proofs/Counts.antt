@@ -1,9 +1,51 @@
 -- How many changes of a node are not after a tick, read from its list of changes.
-use Rattle.std.proofs.Common.{◌≡◌, ℕ, ◌≤◌, Bool, ◌&&◌, sym, ◌∙◌, ap, nat_le}
-use Rattle.std.proofs.lemmas.Bool.{le-leb}
-use Rattle.wl_record_core.specs.Truth.{odd}
+use Rattle.std.proofs.Common.{◌≡◌, ℕ, ◌+◌, ◌-◌, ◌<◌, ◌≤◌, Bool, false, ◌&&◌, inl, inr, List, [], ◌∷◌, length, get_or, sym, ◌∙◌, ap, arith, nat_le, nat_lt}
+use Rattle.std.proofs.lemmas.Bool.{le-leb, lt-leb, cases_lt}
+use Rattle.std.proofs.lemmas.List.Sums.{count_by-le-length}
+use Rattle.std.proofs.Math.Bool.{and-false}
+use Rattle.wl_record_core.specs.Truth.{count_below, odd, IsIncreasing}
+use Rattle.wl_record_core.specs.TableLaws.{TableLaws}
+use Rattle.wl_serial.specs.Heard.{drove}
 pub use Rattle.wl_record_core.proofs.Callers.{reached, not_reached, odd_is}
 
--- the level a delay earlier, where that is not before tick 0
-pub odd_after : (delay t n : ℕ) (b : Bool) → delay ≤ t → b ≡ odd n → b ≡ (nat_le delay t && odd n)
-odd_after delay t n b h e = e ∙ sym (ap (λ v. v && odd n) (le-leb delay t h))
+-- the first that doesn't count is after the tick
+pub after_them : TableLaws → (xs : List ℕ) (count tick : ℕ) → IsIncreasing xs → count ≡ count_below (tick + 1) xs → count < length xs → tick < get_or xs count 0
+after_them table xs count tick order is b = elim (cases_lt tick (get_or xs count 0)) [
+  | inl after ↦ after
+  | inr come ↦ (let r = reached table xs count tick order b come in absurd (omega (arith, r, is)))
+]
+
+-- up to that one as many count
+pub count_stays : TableLaws → (xs : List ℕ) (count t u : ℕ) → IsIncreasing xs → count ≡ count_below (t + 1) xs → t ≤ u → (count < length xs → u < get_or xs count 0)
+    → count_below (u + 1) xs ≡ count
+count_stays table xs count t u order is later before =
+    let least = table.count_less (t + 1) (u + 1) xs (omega (arith, later)) in
+    elim (cases_lt count (length xs)) [
+      | inl some ↦ (let most = not_reached table xs count u order some (before some) in omega (arith, least, most, is))
+      | inr none ↦ (let most = count_by-le-length (λ v. nat_lt v (u + 1)) xs in omega (arith, least, most, is, none))
+    ]
+
+-- what a node drove a delay earlier stays until the next change has come
+pub drove_stays : TableLaws → (xs : List ℕ) (delay count t u : ℕ) (v : Bool) → IsIncreasing xs → delay ≤ t → count ≡ count_below (t - delay + 1) xs → v ≡ odd count → t ≤ u
+    → (count < length xs → u < get_or xs count 0 + delay) → drove xs delay u ≡ v
+drove_stays table xs delay count t u v order begun is odd_count later before =
+    ap (λ w. w && odd (count_below (u - delay + 1) xs)) (le-leb delay u (omega (arith, begun, later)))
+    ∙ (ap odd (count_stays table xs count (t - delay) (u - delay) order is (omega (arith, later)) (λ some. let h = before some in omega (arith, h, begun, later)))
+    ∙ sym odd_count)
+
+-- before a delay has passed nothing has come
+pub nothing_yet : (xs : List ℕ) (delay u : ℕ) → u < delay → drove xs delay u ≡ false
+nothing_yet xs delay u early = ap (λ w. w && odd (count_below (u - delay + 1) xs)) (lt-leb delay u early)
+
+-- where there is no change, nothing comes
+pub none_to_come : (xs : List ℕ) (delay u : ℕ) → length xs ≡ 0 → drove xs delay u ≡ false
+none_to_come [] delay u e = and-false (nat_le delay u)
+none_to_come (x ∷ xs) delay u e = absurd (omega (arith, e))
+
+-- where the last one has come, all have
+pub all_stay : TableLaws → (xs : List ℕ) (delay come u : ℕ) → IsIncreasing xs → come ≡ length xs → 0 < come → get_or xs (come - 1) 0 + delay ≤ u → drove xs delay u ≡ odd come
+all_stay table xs delay come u order all some past =
+    let least = reached table xs (come - 1) (u - delay) order (omega (arith, all, some)) (omega (arith, past)) in
+    let most = count_by-le-length (λ v. nat_lt v (u - delay + 1)) xs in
+    ap (λ w. w && odd (count_below (u - delay + 1) xs)) (le-leb delay u (omega (arith, past)))
+    ∙ ap odd (let e : count_below (u - delay + 1) xs ≡ come = omega (arith, least, most, all, some) in e)

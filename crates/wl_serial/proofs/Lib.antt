@@ -3,5 +3,6 @@ mod Found
 mod Rows
 mod Runners
 mod Steps
+mod Stretches
 mod Told
 pub mod Callers

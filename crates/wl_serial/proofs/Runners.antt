@@ -1,20 +1,18 @@
 -- All nodes together while one after another runs.
-use Rattle.std.proofs.Common.{◌≡◌, ℕ, zero, suc, ◌+◌, ◌-◌, ◌<◌, ◌≢◌, inl, inr, List, [], ◌∷◌, ◌++◌, length, map, get_or, refl, sym, ◌∙◌, ap, subst, arith, length-append}
+use Rattle.std.proofs.Common.{◌≡◌, ℕ, zero, suc, ◌+◌, ◌<◌, ◌≤◌, ◌≢◌, ◌⊎◌, inl, inr, Option, Some, None, MatchOption, List, [], ◌∷◌, ◌++◌, length, map, get_or, refl, sym, ◌∙◌, ap, subst, arith, length-append}
 use Rattle.std.proofs.Math.ListN.{set, length-set}
 use Rattle.std.specs.List.{range_with_len}
 use Rattle.std.proofs.lemmas.List.FromFn.{map-range_with_len_more}
-use Rattle.std.proofs.lemmas.Bool.{cases_lt}
-use Rattle.std.proofs.lemmas.List.{get_or-set_same, get_or-set_other}
+use Rattle.std.proofs.lemmas.Bool.{cases_lt, cases_eq}
+use Rattle.std.proofs.lemmas.List.{get_or-set_same, get_or-set_other, get_or_default}
+use Rattle.wl_topology.specs.Delays.{delay_of}
 use Rattle.wl_plan.specs.declared.plan.Plan.{Plan}
 use Rattle.wl_serial.specs.declared.running_node.Running.{Running}
 use Rattle.wl_serial.specs.declared.outcome.NodeOutcome.{NodeOutcome}
+use Rattle.wl_serial.specs.declared.ear.Ear.{Ear}
+use Rattle.wl_serial.specs.Heard.{IsEar, AreEars}
 use Rattle.wl_serial.specs.Outcome.{node_outcome_of}
-use Rattle.wl_serial.specs.Running.{IsRunning, AreRunning}
-
--- how many ticks the nodes together have before them
-abbrev pub ticks_left : ℕ → List Running → ℕ
-ticks_left end [] = 0
-ticks_left end (r ∷ rs) = (end - r.next) + ticks_left end rs
+use Rattle.wl_serial.specs.Running.{IsRunning, AreRunning, KnowsOthers, IsNext, NoneBefore, ticks_left}
 
 -- one more that runs, after the others
 get_or_before : (xs : List Running) (x d : Running) (j : ℕ) → j < length xs → get_or (xs ++ x ∷ []) j d ≡ get_or xs j d
@@ -77,3 +75,99 @@ told_more plan seen r told more o e are is =
 -- the one that stands at a place is the node of that number
 pub stands_at : (plan : Plan) (rs : List Running) (i : ℕ) (r : Running) → i < length rs → r ≡ get_or rs i r → AreRunning plan rs → IsRunning plan i r
 stands_at plan rs i r b e running = subst (IsRunning plan i) (sym e) (running.each i r b)
+
+-- what the others wait for stays as it is
+pub horizon_on : (plan : Plan) (j t : ℕ) (rs : List Running) (r : Running) → KnowsOthers plan j t rs → KnowsOthers plan j t (set rs j r)
+horizon_on plan j t rs r known i d b other =
+    subst (λ x. t ≤ x.known + delay_of plan.topology i j) (sym (get_or-set_other rs j i r d other)) (known i d (subst (λ n. i < n) (length-set rs j r) b) other)
+
+pub fewer_on : (end : ℕ) (first rs : List Running) (j : ℕ) (r d : Running) → j < length rs → (get_or rs j d).next < end → (get_or rs j d).next < r.next
+    → (rs ≡ first) ⊎ (ticks_left end rs < ticks_left end first) → ticks_left end (set rs j r) < ticks_left end first
+fewer_on end first rs j r d b before later so_far =
+    let f = fewer_left end rs j r d b before later in
+    elim so_far [
+      | inl same ↦ (let e = ap (ticks_left end) same in omega (arith, f, e))
+      | inr fewer ↦ omega (arith, f, fewer)
+    ]
+
+-- a node whose next quantum stays leaves as many ticks
+pub same_left : (end : ℕ) (rs : List Running) (j : ℕ) (r d : Running) → r.next ≡ (get_or rs j d).next → ticks_left end (set rs j r) ≤ ticks_left end rs
+same_left end [] j r d same = omega arith
+same_left end (x ∷ xs) zero r d same = omega (arith, same)
+same_left end (x ∷ xs) (suc j) r d same = (let f = same_left end xs j r d same in omega (arith, f))
+
+-- Of the first i nodes: those that have a quantum before the end are known up to this tick at least, and the one that was picked, if there is such a one,
+-- has its next quantum no later.
+abbrev pub IsLeast : ℕ → List Running → ℕ → ℕ → Option ℕ → Type 0
+IsLeast end rs i least node =
+    ((k : ℕ) (d : Running) → k < i → (get_or rs k d).next < end → least ≤ (get_or rs k d).known)
+    × MatchOption node (((k : ℕ) (d : Running) → k < i → end ≤ (get_or rs k d).next) × (least ≡ end))
+    (λ j. (j < i) × ((d : Running) → (get_or rs j d).next < end) × ((d : Running) → (get_or rs j d).next ≤ least))
+
+pub at_place : (rs : List Running) (i : ℕ) (r d : Running) → i < length rs → r ≡ get_or rs i r → get_or rs i d ≡ r
+at_place rs i r d b is = get_or_default rs i d r b ∙ sym is
+
+pub pick : (end : ℕ) (rs : List Running) (i least known : ℕ) (picked : Option ℕ) (r : Running) → i < length rs → r ≡ get_or rs i r → IsLeast end rs i least picked
+    → r.next < end → r.next ≤ known → known ≤ r.known → known ≤ least → IsLeast end rs (i + 1) known (Some i)
+pick end rs i least known picked r b is so_far before promised told less = (each, (omega arith, (λ d. subst (λ x. x.next < end) (sym (at_place rs i r d b is)) before), (λ d. subst (λ x. x.next ≤ known) (sym (at_place rs i r d b is)) promised)))
+  where
+    each : (k : ℕ) (d : Running) → k < i + 1 → (get_or rs k d).next < end → known ≤ (get_or rs k d).known
+    each k d c early = elim (cases_lt k i) [
+      | inl below ↦ (let f = so_far.0 k d below early in omega (arith, f, less))
+      | inr here ↦ (let same : i ≡ k = omega (arith, here, c) in subst (λ n. known ≤ (get_or rs n d).known) same (subst (λ x. known ≤ x.known) (sym (at_place rs i r d b is)) told))
+    ]
+
+pub keep : (end : ℕ) (rs : List Running) (i least known : ℕ) (picked : Option ℕ) (r : Running) → i < length rs → r ≡ get_or rs i r → IsLeast end rs i least picked
+    → known ≤ r.known → known ≤ end → (end ≤ r.next) ⊎ (least < known) → IsLeast end rs (i + 1) least picked
+keep end rs i least known picked r b is so_far told few passed = (each, one picked so_far.1)
+  where
+    each : (k : ℕ) (d : Running) → k < i + 1 → (get_or rs k d).next < end → least ≤ (get_or rs k d).known
+    each k d c early = elim (cases_lt k i) [
+      | inl below ↦ so_far.0 k d below early
+      | inr here ↦ (let same : k ≡ i = omega (arith, here, c) in let e : get_or rs k d ≡ r = ap (λ n. get_or rs n d) same ∙ at_place rs i r d b is in
+          let f : r.next < end = subst (λ x. x.next < end) e early in
+          subst (λ x. least ≤ x.known) (sym e) (elim passed [
+            | inl past ↦ absurd (omega (arith, past, f))
+            | inr more ↦ omega (arith, more, told)
+          ]))
+    ]
+
+    none : ((k : ℕ) (d : Running) → k < i → end ≤ (get_or rs k d).next) → least ≡ end → (k : ℕ) (d : Running) → k < i + 1 → end ≤ (get_or rs k d).next
+    none ended all k d c = elim (cases_lt k i) [
+      | inl below ↦ ended k d below
+      | inr here ↦ (let same : k ≡ i = omega (arith, here, c) in let e : get_or rs k d ≡ r = ap (λ n. get_or rs n d) same ∙ at_place rs i r d b is in
+          subst (λ x. end ≤ x.next) (sym e) (elim passed [
+            | inl past ↦ past
+            | inr more ↦ absurd (omega (arith, more, few, all))
+          ]))
+    ]
+
+    one : (n : Option ℕ) → MatchOption n (((k : ℕ) (d : Running) → k < i → end ≤ (get_or rs k d).next) × (least ≡ end))
+        (λ j. (j < i) × ((d : Running) → (get_or rs j d).next < end) × ((d : Running) → (get_or rs j d).next ≤ least))
+        → MatchOption n (((k : ℕ) (d : Running) → k < i + 1 → end ≤ (get_or rs k d).next) × (least ≡ end))
+        (λ j. (j < i + 1) × ((d : Running) → (get_or rs j d).next < end) × ((d : Running) → (get_or rs j d).next ≤ least))
+    one None h = (none h.0 h.1, h.1)
+    one (Some j) h = (let c = h.0 in (omega (arith, c), h.1, h.2))
+
+-- all others are known up to its next quantum
+pub least_is_next : (plan : Plan) (rs : List Running) (i least : ℕ) (node : Option ℕ) → AreRunning plan rs → i ≡ length rs → IsLeast plan.end rs i least node
+    → MatchOption node (NoneBefore plan.end rs) (IsNext plan.end rs)
+least_is_next plan rs i least None running all found = λ k d b. found.1.0 k d (omega (arith, all, b))
+least_is_next plan rs i least (Some j) running all found = record {
+  is_node = (let b = found.1.0 in omega (arith, all, b));
+  before = found.1.1;
+  first = λ d k e b. elim (cases_lt (get_or rs k e).next plan.end) [
+    | inl early ↦ (let f = found.0 k e (omega (arith, all, b)) early in let g = found.1.2 d in omega (arith, f, g))
+    | inr late ↦ (let f = found.1.1 d in let p = (running.each k e b).1.promised in omega (arith, f, p, late))
+  ];
+}
+
+-- one ear anew
+pub ear_on : (plan : Plan) (j : ℕ) (es : List Ear) (e : Ear) → j < length es → AreEars plan es → IsEar plan j e → AreEars plan (set es j e)
+ear_on plan j es e b are is = record { all = length-set es j e ∙ are.all; each = each }
+  where
+    each : (k : ℕ) (d : Ear) → k < length (set es j e) → IsEar plan k (get_or (set es j e) k d)
+    each k d c = elim (cases_eq k j) [
+      | inl same ↦ subst (λ n. IsEar plan n (get_or (set es j e) n d)) (sym same) (subst (IsEar plan j) (sym (get_or-set_same es j e d b)) is)
+      | inr other ↦ subst (IsEar plan k) (sym (get_or-set_other es j k e d other)) (are.each k d (subst (λ n. k < n) (length-set es j e) c))
+    ]

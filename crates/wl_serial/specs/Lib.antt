@@ -1,3 +1,4 @@
+pub mod Heard
 pub mod Outcome
 pub mod Records
 pub mod Running

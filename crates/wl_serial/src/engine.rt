@@ -1,17 +1,18 @@
-//! The engine: always the node whose next quantum comes first runs it, until none is left before the end.
+//! The engine: always the node whose drive is known the least far runs all quanta that it can, until none is left before the end.
 ghost use Rattle.std.specs.Prelude.{◌≡◌, ◌<◌, ◌≤◌, IfOk, OnOk, MatchOption, length, map, List, slice_index};
 ghost use Rattle.std.specs.List.{range_with_len};
 ghost use Rattle.wl_plan.specs.Checked.{IsChecked};
 ghost use Rattle.wl_serial.specs.Outcome.{node_outcome_of, outcome_of};
+ghost use Rattle.wl_serial.specs.Heard.{AreEars};
 ghost use Rattle.wl_serial.specs.Running.{AreRunning, NoneBefore, IsNext};
 
-use crate::level::level_at;
+use crate::ear::Ear;
 use crate::outcome::{NodeOutcomes, Outcome};
 use crate::running_node::Running;
+use crate::turn::turn;
 use std::alloc::{AllocError, Global};
 use wl_level::Listed;
 use wl_plan::Plan;
-use wl_topology::MOST_NODES;
 
 /// The outcome of the tick-by-tick simulation of a plan that passed its check.
 ///
@@ -21,7 +22,8 @@ pub fn run_serial(alloc: Global, plan: &Plan) -> Result<Outcome, AllocError>
     ensures { IfOk result (λ outcome. outcome ≡ outcome_of plan.now) }
 {
     let mut running = begin(alloc, plan)?;
-    run(plan, &mut running)?;
+    let mut ears = listen(alloc, plan)?;
+    run(plan, &mut running, &mut ears)?;
     Ok(Outcome {
         nodes: finish(alloc, plan, running)?,
         end: plan.end,
@@ -40,30 +42,43 @@ fn begin(alloc: Global, plan: &Plan) -> Result<Vec<Running>, AllocError>
     Ok(running)
 }
 
+/// An ear at each place.
+fn listen(alloc: Global, plan: &Plan) -> Result<Vec<Ear>, AllocError>
+    requires { IsChecked plan.now }
+    ensures { IfOk result (λ ears. AreEars plan.now ears.items) }
+{
+    let mut ears = Vec::new(alloc);
+    for j in 0..plan.nodes.len() {
+        ears.push(Ear::new(alloc, plan, j)?)?;
+    }
+    Ok(ears)
+}
+
 /// Runs all quanta before the end.
-fn run(plan: &Plan, running: &mut [Running]) -> Result<(), AllocError>
+fn run(plan: &Plan, running: &mut [Running], ears: &mut [Ear]) -> Result<(), AllocError>
     requires checked { IsChecked plan.now }
     requires running { AreRunning plan.now running.old }
+    requires ears { AreEars plan.now ears.old }
     ensures running { OnOk result (AreRunning plan.now running.new) }
     ensures ended { OnOk result (NoneBefore plan.now.end running.new) }
 {
-    let mut come = [[0; MOST_NODES]; MOST_NODES];
-    while let Some(j) = next_before(running, plan.end) {
-        let level = level_at(plan, running, j, running[j].next, &mut come[j]);
-        running[j].step(plan, j, level)?;
+    while let Some(j) = next_before(plan, running) {
+        turn(plan, running, &mut ears[j], j)?;
     }
     Ok(())
 }
 
-/// The node whose next quantum begins first, if it begins before the end.
-fn next_before(running: &[Running], end: u64) -> Option<usize>
-    ensures { MatchOption result (NoneBefore end running.now) (IsNext end running.now) }
+/// Of the nodes that have a quantum before the end, the one whose drive is known the least far: all others wait for it.
+fn next_before(plan: &Plan, running: &[Running]) -> Option<usize>
+    requires { AreRunning plan.now running.now }
+    ensures { MatchOption result (NoneBefore plan.now.end running.now) (IsNext plan.now.end running.now) }
 {
-    let mut first = end;
+    let mut least = plan.end;
     let mut node = None;
     for (i, r) in running.iter().enumerate() {
-        if r.next < first {
-            first = r.next;
+        let known = r.known.min(plan.end);
+        if r.next < plan.end && known <= least {
+            least = known;
             node = Some(i);
         }
     }

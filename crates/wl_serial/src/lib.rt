@@ -1,13 +1,16 @@
 //! The one-thread engine: the outcome of the tick-by-tick simulation of a plan, computed from quantum to quantum.
 #![tactic(auto)]
 
+mod ear;
 mod engine;
 mod laws;
-mod level;
 mod outcome;
+mod pulse;
 mod records;
 mod running_node;
+mod shaken;
 mod so_far;
+mod turn;
 
 pub use engine::run_serial;
 pub use laws::{outcome_is_recordable, records_are_true};

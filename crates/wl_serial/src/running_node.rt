@@ -1,23 +1,27 @@
 //! One node as far as the engine has run it.
-ghost use Rattle.std.specs.Prelude.{◌≡◌, ℕ, ◌<◌, ◌≤◌, ◌++◌, [], ◌∷◌, if◌then◌else◌, IfOk, OnOk, length};
+ghost use Rattle.std.specs.Prelude.{◌≡◌, ℕ, ◌^◌, ◌<◌, ◌≤◌, ◌++◌, [], ◌∷◌, if◌then◌else◌, IfOk, OnOk, length};
+ghost use Rattle.wl_clock.specs.Timing.{tick_of};
 ghost use Rattle.wl_level.specs.Levels.{same};
 ghost use Rattle.wl_plan.specs.Checked.{IsChecked};
 ghost use Rattle.wl_plan.specs.declared.plan.Plan.{Plan as GivenPlan};
 ghost use Rattle.wl_serial.specs.Outcome.{node_outcome_of};
-ghost use Rattle.wl_serial.specs.Running.{IsRunning, finds};
+ghost use Rattle.wl_serial.specs.Heard.{StaysWhile};
+ghost use Rattle.wl_serial.specs.Running.{IsRunning};
 
 use crate::outcome::{Changes, NodeOutcome};
 use std::alloc::{AllocError, Global};
+use wl_clock::Clock;
 use wl_level::{Level, Listed};
 use wl_node::Node;
 use wl_plan::Plan;
 
-/// A node, the changes of its drive so far, and the tick of its next quantum.
+/// A node, the changes of its drive so far, the tick of its next quantum, and the tick below which its drive is known.
 #[derive(Drop)]
 pub(crate) struct Running {
     pub(crate) node: Node,
     pub(crate) changes: Changes,
     pub(crate) next: u64,
+    pub(crate) known: u64,
 }
 
 impl Running {
@@ -30,32 +34,59 @@ impl Running {
         wl_plan::checked_is_sound();
         wl_plan::simulation_laws();
         let setup = &plan.nodes.as_slice()[i];
+        let next = setup.clock.at(0);
         Ok(Running {
             node: Node::new(alloc, setup.clone_in(alloc)?)?,
             changes: Listed::new(alloc),
-            next: setup.clock.at(0),
+            next,
+            known: next,
         })
     }
 
-    /// Runs the next quantum, at which the node finds this level.
-    pub(crate) fn step(&mut self, plan: &Plan, i: usize, level: Level) -> Result<(), AllocError>
+    /// Runs the quanta below tick `until`, at which the node finds this level as long as its drive stays, up to the first that changes the drive.
+    pub(crate) fn go(
+        &mut self,
+        plan: &Plan,
+        i: usize,
+        level: Level,
+        until: u64,
+    ) -> Result<(), AllocError>
         requires checked { IsChecked plan.now }
         requires node { i < length plan.now.nodes }
         requires running { IsRunning plan.now i self.old }
-        requires below { self.old.next < plan.now.end }
-        requires found { level ≡ finds plan.now i self.old.next }
+        requires below { self.old.next < until }
+        requires ends { until ≤ plan.now.end }
+        requires found { StaysWhile plan.now i self.old.changes self.old.next until level }
         ensures running { OnOk result (IsRunning plan.now i self.new) }
         ensures later { OnOk result (self.old.next < self.new.next) }
     {
         wl_plan::checked_is_sound();
         wl_plan::simulation_laws();
+        wl_record_core::table_laws();
+        let clock = &plan.nodes.as_slice()[i].clock;
         let quanta = self.node.quanta();
         let before = self.node.drive();
-        self.node.quantum(level)?;
+        let most = clock.first_not_before(until) - quanta;
+        let last = quanta + self.node.go(level, most)? - 1;
         let after = self.node.drive();
-        keep_change(&mut self.changes, self.next, before, after)?;
-        self.next = plan.nodes.as_slice()[i].clock.at(quanta + 1);
+        keep_change(&mut self.changes, clock, last, before, after)?;
+        self.next = clock.at(last + 1);
+        self.known = self.known.max(self.next);
         Ok(())
+    }
+
+    /// Tells up to when the drive is known, whatever the node sees.
+    pub(crate) fn promise(&mut self, plan: &Plan, i: usize)
+        requires checked { IsChecked plan.now }
+        requires node { i < length plan.now.nodes }
+        requires running { IsRunning plan.now i self.old }
+        ensures running { IsRunning plan.now i self.new }
+        ensures next { self.new.next ≡ self.old.next }
+    {
+        wl_plan::checked_is_sound();
+        wl_plan::simulation_laws();
+        let last = self.node.quanta() + self.node.quiet() as u64;
+        self.known = plan.nodes.as_slice()[i].clock.at(last);
     }
 
     /// What the node did, where it has run all its quanta before the end.
@@ -83,17 +114,20 @@ impl Running {
     }
 }
 
-/// One tick more where the drive changes.
+/// The tick of a quantum more, where it changed the drive.
 fn keep_change(
     changes: &mut Changes,
-    tick: u64,
+    clock: &Clock,
+    quantum: u64,
     before: Level,
     after: Level,
 ) -> Result<(), AllocError>
-    ensures { OnOk result (changes.new ≡ (if same after before then changes.old else changes.old ++ tick ∷ [])) }
+    requires { quantum ≤ 2 ^ 21 }
+    ensures { OnOk result (changes.new
+        ≡ (if same after before then changes.old else changes.old ++ tick_of clock.now quantum ∷ [])) }
 {
     if !after.is(before) {
-        changes.push(tick)?;
+        changes.push(clock.at(quantum))?;
     }
     Ok(())
 }

@@ -7,4 +7,5 @@ mod ReadLemmas
 mod PlanLemmas
 mod CheckLemmas
 mod FaultLemmas
+mod SpotLemmas
 mod Rows

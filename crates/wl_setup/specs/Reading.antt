@@ -1,5 +1,5 @@
 -- How a plan's text is read, and what is answered to it (this project's profile).
-use Rattle.std.specs.Prelude.{◌≡◌, ℕ, List, if◌then◌else◌, Option, Some, None, Result, Err}
+use Rattle.std.specs.Prelude.{◌≡◌, ◌≤◌, ℕ, List, length, if◌then◌else◌, Option, Some, None, Result, Err}
 use Rattle.std.specs.Str.{is_utf8}
 use Rattle.wl_device.specs.declared.bounded.Ended.{Ended}
 use Rattle.wl_device.specs.declared.bounded.Ended.TheVariants as ended
@@ -10,12 +10,19 @@ use Rattle.toml.specs.Parse.{parse_document}
 use Rattle.wl_setup.specs.declared.fault.SetupFault.{SetupFault}
 use Rattle.wl_setup.specs.declared.fault.SetupFault.TheVariants as fault
 use Rattle.wl_setup.specs.declared.plan_text.PlanText.{PlanText}
+use Rattle.wl_setup.specs.declared.read.NoDocument.{NoDocument}
+use Rattle.wl_setup.specs.declared.read.NoDocument.TheVariants as none
 use Rattle.wl_setup.specs.Limits.{most_bytes}
 use Rattle.wl_setup.specs.Document.{plan_text_of}
 
 -- the document of a text: none where it is not UTF-8, or no TOML 1.1
 abbrev pub document_of : List ℕ → Option Members
 document_of text = if is_utf8 text then parse_document text else None
+
+-- the text has no document, and the parser stopped at a place of it; or memory was refused
+abbrev pub IsNoDocument : List ℕ → NoDocument → Type 0
+IsNoDocument text (none.At place) = (document_of text ≡ None) × (place ≤ length text)
+IsNoDocument text none.Memory = Unit {0}
 
 -- the plan text or the first fault of a document, or Toml where there is none
 abbrev pub document_answer : Option Members → Result PlanText SetupFault

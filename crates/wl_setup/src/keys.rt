@@ -65,7 +65,7 @@ pub enum Key {
 
 impl Key {
     /// The key as it is written.
-    pub(crate) fn text(self) -> &'static str
+    pub fn text(self) -> &'static str
         ensures { result.now ≡ key_text self }
     {
         match self {

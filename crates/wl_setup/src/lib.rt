@@ -11,6 +11,7 @@ mod names;
 mod plan;
 mod plan_text;
 mod read;
+mod spot;
 mod tables;
 #[cfg(test)]
 mod tests;
@@ -19,9 +20,12 @@ mod values;
 
 pub use check::check_plan;
 pub use fault::SetupFault;
+pub use keys::Key;
 pub use laws::faults_of_texts;
 pub use names::Names;
-pub use plan::read_plan;
+pub use plan::{plan_of_bytes, read_plan};
 pub use plan_text::{ClockText, DisturbanceText, FrameText, NodeText, PlanText, RateText};
-pub use read::read_text;
+pub use read::{NoDocument, document_or_place, read_bytes, read_text};
+pub use spot::{Spot, faulty_spot, table_at};
 pub use text::Text;
+pub use values::value_named;

@@ -3,12 +3,13 @@ ghost use Rattle.std.specs.Prelude.{◌≡◌, ◌≢◌, Err, map, length, IfOk
 ghost use Rattle.std.specs.List.{enumerate_from};
 ghost use Rattle.wl_plan.specs.Checked.{IsChecked};
 ghost use Rattle.wl_setup.specs.Names.{names_of};
-ghost use Rattle.wl_setup.specs.Plans.{with_fault, each, rate_from, rate_in, clock_in, segments_of_node, queued_of, setup_of, place_of, cable_of, disturbance_in, plan_of_text, named_plan_of, GivesPlan, IsAnswer};
+ghost use Rattle.wl_setup.specs.Plans.{with_fault, each, rate_from, rate_in, clock_in, segments_of_node, queued_of, setup_of, place_of, cable_of, disturbance_in, plan_of_text, named_plan_of, after, GivesPlan, IsAnswer};
+ghost use Rattle.wl_setup.specs.Reading.{text_answer};
 
 use crate::fault::SetupFault;
 use crate::names::Names;
 use crate::plan_text::{ClockText, DisturbanceText, FrameText, NodeText, PlanText, RateText};
-use crate::read::read_named;
+use crate::read::{parse, read_named};
 use std::alloc::{AllocError, Global};
 use wl_clock::{Clock, ClockFault, Rate};
 use wl_device::Source;
@@ -231,5 +232,15 @@ pub fn read_plan<R: Source>(alloc: Global, reader: &mut R) -> Result<(Plan, Name
     ensures names { IfOk result (λ r. length r.1 ≡ length r.0.nodes) }
 {
     let (text, names) = read_named(alloc, reader)?;
+    text.named_plan(alloc, names)
+}
+
+/// The plan of a text and the names of its nodes, or the text's first fault, as `read_plan` answers them of a text that was read.
+pub fn plan_of_bytes(alloc: Global, text: &[u8]) -> Result<(Plan, Names), SetupFault>
+    ensures answer { IsAnswer (after (text_answer text.now) named_plan_of) result }
+    ensures checked { IfOk result (λ r. IsChecked r.0) }
+    ensures names { IfOk result (λ r. length r.1 ≡ length r.0.nodes) }
+{
+    let (text, names) = parse(alloc, text)?;
     text.named_plan(alloc, names)
 }

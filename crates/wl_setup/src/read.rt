@@ -1,17 +1,52 @@
 //! A plan's text from a reader.
-ghost use Rattle.std.specs.Prelude.{◌≡◌, ◌≢◌, Ok, Err, Some, None, IfOk, IfErr};
+ghost use Rattle.std.specs.Prelude.{◌≡◌, ◌≢◌, ◌≤◌, Ok, Err, Some, None, IfOk, IfErr, length};
 ghost use Rattle.toml.specs.View.{table_view};
 ghost use Rattle.wl_setup.specs.Names.{names_of};
-ghost use Rattle.wl_setup.specs.Reading.{document_of, text_answer, ReadsPlan};
+ghost use Rattle.wl_device.specs.Bounded.{ReadsUpTo};
+ghost use Rattle.wl_setup.specs.Limits.{most_bytes};
+ghost use Rattle.wl_setup.specs.Reading.{document_of, text_answer, IsNoDocument, ReadsPlan};
 
 use crate::document::plan_text;
 use crate::fault::SetupFault;
 use crate::limits::MOST_BYTES;
 use crate::names::Names;
 use crate::plan_text::PlanText;
-use std::alloc::Global;
+use std::alloc::{AllocError, Global};
 use toml::Table;
 use wl_device::{Ended, Source, read_up_to};
+
+/// Why there is no document of a text.
+#[derive(Clone, Copy, Debug, PartialEq, Eq)]
+pub enum NoDocument {
+    /// The text is no TOML, or not UTF-8: the parser stopped after so many bytes of it.
+    At(usize),
+    /// Memory was refused.
+    Memory,
+}
+
+/// The document of a text, or where the parser stopped in one that has none. Where in it that is, no clause says: the parser's
+/// contract leaves it open.
+pub fn document_or_place(alloc: Global, text: &[u8]) -> Result<Table, NoDocument>
+    ensures document { IfOk result (λ top. document_of text.now ≡ Some (table_view top)) }
+    ensures none { IfErr result (IsNoDocument text.now) }
+{
+    match toml::table_from_slice(alloc, text) {
+        Ok(top) => Ok(top),
+        Err(e) => match e.span() {
+            Some(span) => Err(NoDocument::At(span.start)),
+            None => Err(NoDocument::Memory),
+        },
+    }
+}
+
+/// Reads a plan's text whole: at most 1,048,576 bytes, and what of the piece that made it more. Answers the bytes that came and how the
+/// reading ended.
+#[tactic(auto, unfolding(crate::specs::Limits::most_bytes))]
+pub fn read_bytes<R: Source>(alloc: Global, reader: &mut R) -> Result<(Vec<u8>, Ended), AllocError>
+    ensures { IfOk result (λ r. ReadsUpTo R.gives reader.old most_bytes r.0.items r.1 reader.new) }
+{
+    read_up_to(alloc, reader, MOST_BYTES)
+}
 
 /// The document of a text.
 fn document(alloc: Global, text: &[u8]) -> Result<Table, SetupFault>
@@ -31,7 +66,7 @@ fn document(alloc: Global, text: &[u8]) -> Result<Table, SetupFault>
 }
 
 /// The plan text of a text, and the names of its nodes.
-fn parse(alloc: Global, text: &[u8]) -> Result<(PlanText, Names), SetupFault>
+pub(crate) fn parse(alloc: Global, text: &[u8]) -> Result<(PlanText, Names), SetupFault>
     ensures ok { IfOk result (λ r. (text_answer text.now ≡ Ok r.0) × (r.1 ≡ names_of r.0)) }
     ensures fault { IfErr result (λ e. e ≢ SetupFault.Memory → text_answer text.now ≡ Err e) }
 {

@@ -70,7 +70,7 @@ fn is_among(keys: &[Key], text: &str) -> bool
 }
 
 /// The first key, in the order of their bytes, that is none of these.
-fn first_unknown<'a>(table: &'a Table, known: Keys) -> Option<&'a str>
+pub(crate) fn first_unknown<'a>(table: &'a Table, known: Keys) -> Option<&'a str>
     ensures first { option_map (λ t. t.now) result
         ≡ first_unknown (table_keys known.required.now known.optional.now) (map string_bytes (keys table.now)) }
     ensures ordered { IsOrdered string_cmp table.now }

@@ -21,7 +21,7 @@ impl Model for Text {
 
 impl Text {
     /// A copy of a text.
-    pub(crate) fn new(alloc: Global, letters: &str) -> Result<Text, AllocError>
+    pub fn new(alloc: Global, letters: &str) -> Result<Text, AllocError>
         ensures { IfOk result (λ t. t ≡ letters.now) }
     {
         Ok(Text {

@@ -1,7 +1,7 @@
 //! What the values of a table's keys are, and what they say.
 ghost use Rattle.std.specs.Prelude.{◌≡◌, ◌≤◌, ◌^◌, ◌<◌, Some, None, option_map, option_copied, IsSome, IfOk, is_some, map};
 ghost use Rattle.std.specs.List.{list_all};
-ghost use Rattle.toml.specs.Data.{as_table};
+ghost use Rattle.toml.specs.Data.{as_table, get_member};
 ghost use Rattle.toml.specs.View.{view, table_view, items_view};
 ghost use Rattle.wl_setup.specs.Kinds.{number_in, byte_in, is_name, is_name_letter, is_ppm, has_kind, value_at, number_at, small_at, ppm_at, truth_at, name_at, elements_of, elements_at, bytes_at, sync_named, sync_in, sync_choice_at};
 
@@ -12,6 +12,13 @@ use std::alloc::{AllocError, Global};
 use toml::{Table, Value};
 use wl_level::Listed;
 use wl_segments::SyncSeg;
+
+/// The value at a key of this name.
+pub fn value_named<'a>(table: &'a Table, name: &str) -> Option<&'a Value>
+    ensures { option_map (λ v. view v.now) result ≡ get_member name.now (table_view table.now) }
+{
+    table.get(name)
+}
 
 /// The value of a key.
 pub(crate) fn value_at(table: &Table, key: Key) -> Option<&Value>

@@ -2,7 +2,8 @@
 use Rattle.std.proofs.Common.{◌≡◌, ◌∙◌, refl, sym, ap, Bool, true, false, List, [], ◌∷◌, codes, Some, None}
 use Rattle.clap.specs.Words.{Text, fault_of}
 use Rattle.clap.proofs.OnLiterals.{clap_on_literals}
-use Rattle.wl_sim.specs.CommandLine.{program, entered_tick, entered_workers, Enters}
+use Rattle.wl_sim.specs.CommandLine.{program, entered_tick, entered_workers, entered_link, Enters}
+use Rattle.wl_worker.specs.declared.kinds.LinkKind.TheVariants.{Hub, Mail}
 use Rattle.wl_views.specs.declared.tick.TimeUnit.TheVariants.{Picosecond, Microsecond}
 use Rattle.wl_sim.specs.declared.command.Task.{Task}
 
@@ -12,7 +13,7 @@ is_faulty (x ∷ xs) = true
 
 enters_none : (words : List Text) → is_faulty (fault_of program words) ≡ true → (t : Task) → ¬ Enters t words
 unfolding is_faulty
-enters_none words faulty t enters = let no : false ≡ true = ap is_faulty (sym enters.3) ∙ faulty in cc
+enters_none words faulty t enters = let no : false ≡ true = ap is_faulty (sym enters.4) ∙ faulty in cc
 
 behind_name : List Text → List Text
 behind_name words = codes "wl_sim" ∷ words
@@ -86,6 +87,27 @@ no_workers = refl
 too_many_workers : is_faulty (fault_of program (behind_name (codes "run" ∷ codes "--workers" ∷ codes "9" ∷ []))) ≡ true
 unfolding clap_on_literals is_faulty behind_name
 too_many_workers = refl
+
+-- links that are given, in both forms of an option, the one where none is, and a word that is none
+given_link : entered_link (behind_name (codes "run" ∷ codes "--link" ∷ codes "mail" ∷ [])) ≡ Some Mail
+unfolding clap_on_literals behind_name
+given_link = refl
+
+joined_link : entered_link (behind_name (codes "run" ∷ codes "--workers" ∷ codes "2" ∷ codes "--link=hub" ∷ [])) ≡ Some Hub
+unfolding clap_on_literals behind_name
+joined_link = refl
+
+silent_link : entered_link (behind_name (codes "run" ∷ [])) ≡ Some Hub
+unfolding clap_on_literals behind_name
+silent_link = refl
+
+no_link : entered_link (behind_name (codes "run" ∷ codes "--link" ∷ codes "Mail" ∷ [])) ≡ None
+unfolding clap_on_literals behind_name
+no_link = refl
+
+link_of_another : is_faulty (fault_of program (behind_name (codes "check" ∷ codes "--link" ∷ codes "hub" ∷ []))) ≡ true
+unfolding clap_on_literals is_faulty behind_name
+link_of_another = refl
 
 workers_of_another : is_faulty (fault_of program (behind_name (codes "check" ∷ codes "--workers" ∷ codes "2" ∷ []))) ≡ true
 unfolding clap_on_literals is_faulty behind_name

@@ -1,5 +1,5 @@
 -- What clap makes of the command line of the program.
-use Rattle.std.proofs.Common.{◌≡◌, ◌∙◌, refl, sym, subst, ap, inl, inr, ℕ, ◌==◌, ◌+◌, ◌*◌, Bool, true, false, [], ◌∷◌, List, length, slice_index, if◌then◌else◌, Option, Some, None, option_map, option_and_then, unwrap_or, codes}
+use Rattle.std.proofs.Common.{◌≡◌, ◌∙◌, refl, sym, subst, ap, ap₂, inl, inr, ℕ, ◌==◌, ◌+◌, ◌*◌, Bool, true, false, [], ◌∷◌, List, length, slice_index, if◌then◌else◌, Option, Some, None, option_map, option_and_then, unwrap_or, codes}
 use Rattle.std.specs.Prelude.{Box, Result, Ok, Err, IfOk, MatchBool}
 use Rattle.std.specs.Box.{box_value}
 use Rattle.clap.specs.Words.{App, HasKind, Text, fault_of, first_value, kind_of, rows_of, is_simple, is_simple_and_free, subcommand_rows}
@@ -14,14 +14,16 @@ use Rattle.clap.proofs.WalkLemmas.{first_value-rows}
 use Rattle.wl_device.specs.Devices.{Answer}
 use Rattle.wl_engines.specs.declared.fault.RunFault.{RunFault}
 use Rattle.wl_engines.specs.declared.fault.RunFault.TheVariants as run
-use Rattle.wl_sim.specs.CommandLine.{program, task_word, tick_among, entered_tick, nanosecond, workers_among, entered_workers, Enters, HasTick, HasWorkers, NamesTask}
+use Rattle.wl_sim.specs.CommandLine.{program, task_word, tick_among, entered_tick, nanosecond, workers_among, entered_workers, read_link, link_among, entered_link, Enters, HasTick, HasWorkers, HasLink, NamesTask}
+use Rattle.wl_worker.specs.declared.kinds.LinkKind.{LinkKind}
+use Rattle.wl_worker.specs.declared.kinds.LinkKind.TheVariants.{Hub}
 use Rattle.wl_views.specs.declared.tick.Tick.{Tick}
 use Rattle.wl_views.specs.Ticks.{read_tick}
 use Rattle.wl_sim.specs.Tasks.{Does, EndsTask, EndsRefused, ReadsTask}
 use Rattle.wl_sim.specs.declared.command.Refusal.{Refusal}
 use Rattle.wl_sim.specs.declared.command.Refusal.TheVariants.{Words, Memory}
 use Rattle.wl_sim.specs.declared.command.Task.{Task}
-use Rattle.wl_sim.specs.declared.command.Task.TheVariants.{Merge, Horizon, Check, Records, Run, Explain, Candump, Vcd}
+use Rattle.wl_sim.specs.declared.command.Task.TheVariants.{Merge, Horizon, Check, Records, Run, Explain, Trace, Candump, Vcd}
 
 pub program_is_simple : is_simple program ≡ true
 unfolding clap_on_literals
@@ -32,19 +34,20 @@ unfolding clap_on_literals
 program_is_free = refl
 
 -- the word of a task enters its subcommand, without a fault
-word_enters : (t : Task) (name : Text) → HasTick (Some nanosecond) t → HasWorkers (Some 1) t → Enters t (name ∷ task_word t ∷ [])
+word_enters : (t : Task) (name : Text) → HasTick (Some nanosecond) t → HasWorkers (Some 1) t → HasLink (Some Hub) t → Enters t (name ∷ task_word t ∷ [])
 unfolding clap_on_literals
-word_enters Merge name h w = (refl, tt, tt, refl)
-word_enters Horizon name h w = (refl, tt, tt, refl)
-word_enters Check name h w = (refl, tt, tt, refl)
-word_enters Records name h w = (refl, tt, tt, refl)
-word_enters (Run workers) name h w = (refl, tt, w, refl)
-word_enters Explain name h w = (refl, tt, tt, refl)
-word_enters (Candump tick) name h w = (refl, h, tt, refl)
-word_enters (Vcd tick) name h w = (refl, h, tt, refl)
+word_enters Merge name h w l = (refl, tt, tt, tt, refl)
+word_enters Horizon name h w l = (refl, tt, tt, tt, refl)
+word_enters Check name h w l = (refl, tt, tt, tt, refl)
+word_enters Records name h w l = (refl, tt, tt, tt, refl)
+word_enters (Run workers kind) name h w l = (refl, tt, w, l, refl)
+word_enters Explain name h w l = (refl, tt, tt, tt, refl)
+word_enters Trace name h w l = (refl, tt, tt, tt, refl)
+word_enters (Candump tick) name h w l = (refl, h, tt, tt, refl)
+word_enters (Vcd tick) name h w l = (refl, h, tt, tt, refl)
 
 names_enters : (t : Task) (words : List Text) → NamesTask t words → Enters t words
-names_enters t words n = subst (λ ws. Enters t ws) (sym n.3) (word_enters t n.0 n.1 n.2)
+names_enters t words n = subst (λ ws. Enters t ws) (sym n.4) (word_enters t n.0 n.1 n.2 n.3)
 
 -- the name of the subcommand that was entered stands in front of its rows
 pub name_in_front : {Z : Type 0} (o : Option (Box SubCommand Z))
@@ -56,7 +59,7 @@ name_in_front (Some b) = refl
 pub memory_alone : (a : App) (words : List Text) (e : Error) → a ≡ program → (is_simple_and_free a ≡ true → HasKind (fault_of a words) e)
     → (t : Task) → Enters t words → kind_of e ≡ OutOfMemory
 memory_alone a words e is fails t enters =
-    let has : HasKind [] e = subst (λ ks. HasKind ks e) (ap (λ (b : App). fault_of b words) is ∙ enters.3) (fails (ap is_simple_and_free is ∙ program_is_free)) in
+    let has : HasKind [] e = subst (λ ks. HasKind ks e) (ap (λ (b : App). fault_of b words) is ∙ enters.4) (fails (ap is_simple_and_free is ∙ program_is_free)) in
     elim has [
       | inl memory ↦ memory
       | inr none ↦ absurd none
@@ -70,32 +73,40 @@ tick_text f = ap (option_and_then read_tick) (sym (first_value-rows f (codes "ti
 pub workers_text : (f : Found) → workers_among (rows_of f) ≡ option_map byte_or_zero (first_value f (codes "workers"))
 workers_text f = ap (option_map byte_or_zero) (sym (first_value-rows f (codes "workers")))
 
--- which task has a word, by its first letter and twice its length, and a tick or workers
-task_by : Tick → ℕ → ℕ → Task
-task_by tick workers n =
+-- the kind of link of an option, by its text
+pub link_text : (f : Found) → link_among (rows_of f) ≡ option_and_then read_link (first_value f (codes "link"))
+link_text f = ap (option_and_then read_link) (sym (first_value-rows f (codes "link")))
+
+-- which task has a word, by its first letter and twice its length, and a tick, or workers and their link
+task_by : Tick → ℕ → LinkKind → ℕ → Task
+task_by tick workers kind n =
     if n == 119 then Merge else (if n == 118 then Horizon else (if n == 109 then Check else (if n == 128 then Records else
-    (if n == 115 then Explain else (if n == 113 then Candump tick else (if n == 124 then Vcd tick else Run workers))))))
+    (if n == 115 then Explain else (if n == 113 then Candump tick else (if n == 124 then Vcd tick else
+    (if n == 126 then Trace else Run workers kind)))))))
 
-task_at : Option Tick → Option ℕ → Option Text → Task
-task_at given many None = Merge
-task_at given many (Some w) = task_by (unwrap_or given nanosecond) (unwrap_or many 1) (slice_index w 0 + 2 * length w)
+task_at : Option Tick → Option ℕ → Option LinkKind → Option Text → Task
+task_at given many by None = Merge
+task_at given many by (Some w) = task_by (unwrap_or given nanosecond) (unwrap_or many 1) (unwrap_or by Hub) (slice_index w 0 + 2 * length w)
 
-task_at_word : (given : Option Tick) (many : Option ℕ) (t : Task) → HasTick given t → HasWorkers many t → task_at given many (Some (task_word t)) ≡ t
+task_at_word : (given : Option Tick) (many : Option ℕ) (by : Option LinkKind) (t : Task) → HasTick given t → HasWorkers many t → HasLink by t
+    → task_at given many by (Some (task_word t)) ≡ t
 unfolding task_at task_by
-task_at_word given many Merge h w = refl
-task_at_word given many Horizon h w = refl
-task_at_word given many Check h w = refl
-task_at_word given many Records h w = refl
-task_at_word given many (Run workers) h w = ap (λ o. Run (unwrap_or o 1)) w
-task_at_word given many Explain h w = refl
-task_at_word given many (Candump tick) h w = ap (λ o. Candump (unwrap_or o nanosecond)) h
-task_at_word given many (Vcd tick) h w = ap (λ o. Vcd (unwrap_or o nanosecond)) h
+task_at_word given many by Merge h w l = refl
+task_at_word given many by Horizon h w l = refl
+task_at_word given many by Check h w l = refl
+task_at_word given many by Records h w l = refl
+task_at_word given many by (Run workers kind) h w l = ap₂ (λ o p. Run (unwrap_or o 1) (unwrap_or p Hub)) w l
+task_at_word given many by Explain h w l = refl
+task_at_word given many by Trace h w l = refl
+task_at_word given many by (Candump tick) h w l = ap (λ o. Candump (unwrap_or o nanosecond)) h
+task_at_word given many by (Vcd tick) h w l = ap (λ o. Vcd (unwrap_or o nanosecond)) h
 
 -- words enter at most one task
 one_task : (t u : Task) (words : List Text) → Enters t words → Enters u words → u ≡ t
 one_task t u words h g =
-    sym (task_at_word (entered_tick words) (entered_workers words) u g.1 g.2)
-    ∙ (ap (task_at (entered_tick words) (entered_workers words)) (sym g.0 ∙ h.0) ∙ task_at_word (entered_tick words) (entered_workers words) t h.1 h.2)
+    sym (task_at_word (entered_tick words) (entered_workers words) (entered_link words) u g.1 g.2 g.3)
+    ∙ (ap (task_at (entered_tick words) (entered_workers words) (entered_link words)) (sym g.0 ∙ h.0)
+    ∙ task_at_word (entered_tick words) (entered_workers words) (entered_link words) t h.1 h.2 h.3)
 
 both_same : {A : Type 0} (b : Bool) → A → MatchBool b A A
 both_same true h = h
@@ -108,8 +119,9 @@ module _ {S T : Type 0} (gives : S → Answer → S → Type 0) (takes : T → A
   does_nothing s s' t t' Horizon h = h
   does_nothing s s' t t' Check h = h
   does_nothing s s' t t' Records h = h
-  does_nothing s s' t t' (Run workers) h = both_same (workers == 1) h
+  does_nothing s s' t t' (Run workers kind) h = both_same (workers == 1) h
   does_nothing s s' t t' Explain h = h
+  does_nothing s s' t t' Trace h = h
   does_nothing s s' t t' (Candump tick) h = h
   does_nothing s s' t t' (Vcd tick) h = h
 

@@ -1,11 +1,14 @@
 -- The words of the command line (this project's profile).
-use Rattle.std.specs.Prelude.{◌≡◌, ℕ, true, List, [], ◌∷◌, codes, pos, Option, Some, option_and_then, option_map}
+use Rattle.std.specs.Prelude.{◌≡◌, ℕ, true, List, [], ◌∷◌, codes, pos, Option, Some, None, if◌then◌else◌, option_and_then, option_map}
+use Rattle.std.specs.Str.{bytes_eq}
 use Rattle.clap.specs.Words.{App, Row, Rule, Text, first_of, new_app, new_rule, with_rule, with_subcommand, subcommand_of, fault_of}
 use Rattle.clap.specs.Walk.{byte_or_zero}
 use Rattle.clap.specs.declared.builder.value_parser.ValueParser.TheVariants.{Signed}
 use Rattle.clap.specs.Simple.{on_top}
+use Rattle.wl_worker.specs.declared.kinds.LinkKind.{LinkKind}
+use Rattle.wl_worker.specs.declared.kinds.LinkKind.TheVariants.{Hub, Mail}
 use Rattle.wl_sim.specs.declared.command.Task.{Task}
-use Rattle.wl_sim.specs.declared.command.Task.TheVariants.{Merge, Horizon, Check, Records, Run, Explain, Candump, Vcd}
+use Rattle.wl_sim.specs.declared.command.Task.TheVariants.{Merge, Horizon, Check, Records, Run, Explain, Trace, Candump, Vcd}
 use Rattle.wl_views.specs.declared.tick.Tick.{Tick}
 use Rattle.wl_views.specs.declared.tick.TimeUnit.TheVariants.{Nanosecond}
 use Rattle.wl_views.specs.Ticks.{read_tick}
@@ -16,8 +19,9 @@ task_word Merge = codes "merge"
 task_word Horizon = codes "horizon"
 task_word Check = codes "check"
 task_word Records = codes "records"
-task_word (Run workers) = codes "run"
+task_word (Run workers kind) = codes "run"
 task_word Explain = codes "explain"
+task_word Trace = codes "trace"
 task_word (Candump tick) = codes "candump"
 task_word (Vcd tick) = codes "vcd"
 
@@ -38,16 +42,24 @@ abbrev pub workers_rule : Rule
 workers_rule =
     record (new_rule (codes "workers")) { long = Some (codes "workers"); value_names = 1; defaults = codes "1" ∷ []; parser = Some (Signed (pos 1) (pos 8)) }
 
--- the command line of the tasks without a tick: one of the tasks has to be named
+-- the option `--link`, which is `hub` where it isn't given
+abbrev pub link_rule : Rule
+link_rule = record (new_rule (codes "link")) { long = Some (codes "link"); value_names = 1; defaults = codes "hub" ∷ [] }
+
+-- the subcommand `run`, with its options
+abbrev pub run_app : App
+run_app = with_rule (with_rule (new_app (codes "run")) workers_rule) link_rule
+
+-- the command line of most tasks without a tick: one of the tasks has to be named
 abbrev pub untimed_program : App
 untimed_program =
     with_task (with_subcommand (with_task (with_task (with_task (with_task
     (on_top (λ s. record s { subcommand_required = true }) (new_app (codes "wl_sim")))
-    Merge) Horizon) Check) Records) (with_rule (new_app (codes "run")) workers_rule).top) Explain
+    Merge) Horizon) Check) Records) run_app.top) Explain
 
--- the program's command line: after those, the tasks with one
+-- the program's command line: after those, the trace and the tasks with one
 abbrev pub program : App
-program = with_subcommand (with_subcommand untimed_program (timed (codes "candump")).top) (timed (codes "vcd")).top
+program = with_subcommand (with_subcommand (with_task untimed_program Trace) (timed (codes "candump")).top) (timed (codes "vcd")).top
 
 -- the subcommand that clap enters at these words
 abbrev pub entered_word : List Text → Option Text
@@ -69,8 +81,9 @@ HasTick given Merge = Unit {0}
 HasTick given Horizon = Unit {0}
 HasTick given Check = Unit {0}
 HasTick given Records = Unit {0}
-HasTick given (Run workers) = Unit {0}
+HasTick given (Run workers kind) = Unit {0}
 HasTick given Explain = Unit {0}
+HasTick given Trace = Unit {0}
 
 -- the number of workers that a subcommand's option gives
 abbrev pub workers_among : List Row → Option ℕ
@@ -82,18 +95,36 @@ entered_workers words = option_and_then workers_among (option_map (λ p. p.1) (s
 
 -- a task that has workers has so many
 abbrev pub HasWorkers : Option ℕ → Task → Type 0
-HasWorkers given (Run workers) = given ≡ Some workers
+HasWorkers given (Run workers kind) = given ≡ Some workers
 HasWorkers given _ = Unit {0}
 
--- clap enters the task's subcommand at these words, with the task's tick or workers where it has them, and finds no fault in them
+-- the kind of link that a text names: `hub` or `mail`
+abbrev pub read_link : Text → Option LinkKind
+read_link text = if bytes_eq text (codes "hub") then Some Hub else (if bytes_eq text (codes "mail") then Some Mail else None)
+
+-- the kind of link that a subcommand's option gives
+abbrev pub link_among : List Row → Option LinkKind
+link_among rows = option_and_then read_link (first_of (codes "link") rows)
+
+-- that of the subcommand that clap enters at these words
+abbrev pub entered_link : List Text → Option LinkKind
+entered_link words = option_and_then link_among (option_map (λ p. p.1) (subcommand_of program words))
+
+-- a task that has workers has this kind of link
+abbrev pub HasLink : Option LinkKind → Task → Type 0
+HasLink given (Run workers kind) = given ≡ Some kind
+HasLink given _ = Unit {0}
+
+-- clap enters the task's subcommand at these words, with the task's tick, or workers and their link, where it has them, and finds no fault in them
 abbrev pub Enters : Task → List Text → Type 0
 Enters t words =
-    (entered_word words ≡ Some (task_word t)) × HasTick (entered_tick words) t × HasWorkers (entered_workers words) t × (fault_of program words ≡ [])
+    (entered_word words ≡ Some (task_word t)) × HasTick (entered_tick words) t × HasWorkers (entered_workers words) t × HasLink (entered_link words) t
+    × (fault_of program words ≡ [])
 
 -- a tick is a nanosecond where the words say nothing of it
 abbrev pub nanosecond : Tick
 nanosecond = record { count = 1; unit = Nanosecond }
 
--- the program's own name, and after it the word of the task alone: clap enters the task there, and one worker runs
+-- the program's own name, and after it the word of the task alone: clap enters the task there, and one worker runs, over a hub if it were several
 abbrev pub NamesTask : Task → List Text → Type 0
-NamesTask t words = (name : Text) × HasTick (Some nanosecond) t × HasWorkers (Some 1) t × (words ≡ name ∷ task_word t ∷ [])
+NamesTask t words = (name : Text) × HasTick (Some nanosecond) t × HasWorkers (Some 1) t × HasLink (Some Hub) t × (words ≡ name ∷ task_word t ∷ [])

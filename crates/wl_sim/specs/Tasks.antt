@@ -4,16 +4,16 @@ use Rattle.clap.specs.Words.{Text}
 use Rattle.wl_device.specs.Devices.{Answer}
 use Rattle.wl_setup.specs.Check.{IsPlanCheck}
 use Rattle.wl_engines.specs.declared.fault.RunFault.{RunFault}
-use Rattle.wl_engines.specs.Explained.{IsExplainOutput}
+use Rattle.wl_engines.specs.Explained.{Explains}
 use Rattle.wl_engines.specs.Faults.{is_refusal}
 use Rattle.wl_engines.specs.Horizon.{TellsHorizons}
 use Rattle.wl_engines.specs.Merge.{Merges}
-use Rattle.wl_engines.specs.Plans.{RunsPlan, IsRecordsOutput, IsRunOutput, IsCandumpOutput, IsVcdOutput}
+use Rattle.wl_engines.specs.Plans.{RunsPlan, IsRecordsOutput, IsRunOutput, IsTraceOutput, IsCandumpOutput, IsVcdOutput}
 use Rattle.wl_engines.specs.Workers.{RunsByWorkers}
 use Rattle.wl_sim.specs.declared.command.Refusal.{Refusal}
 use Rattle.wl_sim.specs.declared.command.Refusal.TheVariants.{Words, Memory}
 use Rattle.wl_sim.specs.declared.command.Task.{Task}
-use Rattle.wl_sim.specs.declared.command.Task.TheVariants.{Merge, Horizon, Check, Records, Run, Explain, Candump, Vcd}
+use Rattle.wl_sim.specs.declared.command.Task.TheVariants.{Merge, Horizon, Check, Records, Run, Explain, Trace, Candump, Vcd}
 use Rattle.wl_sim.specs.CommandLine.{Enters}
 
 -- the status of a run: 0, 1 where the input was refused for what it says, 3 when out of memory or for a fault of reading, writing or workers
@@ -39,8 +39,9 @@ module _ {S T : Type 0} (gives : S → Answer → S → Type 0) (takes : T → A
   Does Horizon r = TellsHorizons gives takes s s' t t' r
   Does Check r = RunsPlan gives takes IsPlanCheck s s' t t' r
   Does Records r = RunsPlan gives takes IsRecordsOutput s s' t t' r
-  Does (Run workers) r = MatchBool (workers == 1) (RunsPlan gives takes IsRunOutput s s' t t' r) (RunsByWorkers gives takes workers s s' t t' r)
-  Does Explain r = RunsPlan gives takes IsExplainOutput s s' t t' r
+  Does (Run workers kind) r = MatchBool (workers == 1) (RunsPlan gives takes IsRunOutput s s' t t' r) (RunsByWorkers gives takes workers s s' t t' r)
+  Does Explain r = Explains gives takes s s' t t' r
+  Does Trace r = RunsPlan gives takes IsTraceOutput s s' t t' r
   Does (Candump tick) r = RunsPlan gives takes (IsCandumpOutput tick) s s' t t' r
   Does (Vcd tick) r = RunsPlan gives takes (IsVcdOutput tick) s s' t t' r
 

@@ -4,6 +4,7 @@ ghost use Rattle.clap.specs.Words.{app_of, found_of, kind_of, new_app, rows_of, 
 ghost use Rattle.clap.specs.declared.builder.command.Command.TheViews.{out-Command};
 ghost use Rattle.wl_sim.specs.CommandLine.{untimed_program, program, task_word, Enters};
 ghost use Rattle.wl_sim.specs.CommandLine.{tick_among, tick_rule, HasTick, workers_among, workers_rule, HasWorkers};
+ghost use Rattle.wl_sim.specs.CommandLine.{link_among, link_rule, run_app, read_link, HasLink};
 ghost use Rattle.wl_sim.specs.Tasks.{ReadsTask};
 
 use clap::error::ErrorKind;
@@ -11,6 +12,7 @@ use clap::{Arg, ArgMatches, Command, Error, value_parser};
 use std::alloc::{AllocError, Global};
 use std::io;
 use std::rt::Env;
+use wl_engines::LinkKind;
 use wl_views::Tick;
 
 /// What the program is asked to do.
@@ -24,10 +26,12 @@ pub enum Task {
     Check,
     /// The records of a plan's simulation.
     Records,
-    /// The report of a plan's simulation by so many workers, 1 to 8; one works alone, on the program's own thread.
-    Run(u8),
-    /// What is doubtful of a plan, and the figures of its nodes.
+    /// The report of a plan's simulation by so many workers, 1 to 8, over this kind of link; one works alone, on the program's own thread.
+    Run(u8, LinkKind),
+    /// What is doubtful of a plan, and the figures of its nodes; or what is wrong with it.
     Explain,
+    /// What happened to each node in a plan's simulation, and where.
+    Trace,
     /// The log of the frames that a plan's simulation sends, at ticks that take so long.
     Candump(Tick),
     /// The waveform of a plan's simulation, at ticks that take so long.
@@ -39,7 +43,7 @@ pub enum Task {
 pub enum Refusal {
     /// The words were refused, or help was asked for; the text is on standard error.
     Words,
-    /// Want of memory.
+    /// Out of memory.
     Memory,
 }
 
@@ -68,6 +72,20 @@ fn workers_option<'a>(alloc: Global) -> Arg<'a>
         .default_value("1")
 }
 
+/// The option that says what workers hand records over by.
+fn link_option<'a>(alloc: Global) -> Arg<'a>
+    ensures rule { rule_of result ≡ link_rule }
+    ensures local { result.global ≡ false }
+{
+    Arg::new(alloc, "link")
+        .long("link")
+        .value_name("LINK")
+        .help(
+            "What several workers hand records over by: hub, words that they share, or mail, letters",
+        )
+        .default_value("hub")
+}
+
 /// A subcommand that has this option.
 fn optioned<'a>(
     alloc: Global,
@@ -80,6 +98,20 @@ fn optioned<'a>(
     ensures local { IfOk result (λ sub. (out-Command sub).has_globals ≡ false) }
 {
     Command::new(alloc, word).about(about).arg(option)
+}
+
+/// The subcommand `run`, with its options.
+fn run_command<'a>(alloc: Global) -> Result<Command<'a>, AllocError>
+    ensures app { IfOk result (λ sub. app_of sub ≡ run_app) }
+    ensures local { IfOk result (λ sub. (out-Command sub).has_globals ≡ false) }
+{
+    let run = optioned(
+        alloc,
+        "run",
+        "Simulates the plan, and writes the report of its nodes and frames",
+        workers_option(alloc),
+    )?;
+    run.arg(link_option(alloc))
 }
 
 /// The program's command with the subcommands that have no tick, each with one line of help.
@@ -98,14 +130,9 @@ fn untimed<'a>(alloc: Global) -> Result<Command<'a>, AllocError>
     let records = Command::new(alloc, "records").about(
         "Simulates the plan, and writes each change of the line and the silence after it",
     );
-    let run = optioned(
-        alloc,
-        "run",
-        "Simulates the plan, and writes the report of its nodes and frames",
-        workers_option(alloc),
-    )?;
+    let run = run_command(alloc)?;
     let explain = Command::new(alloc, "explain").about(
-        "Tests the plan, and writes what is doubtful of it and the figures of its nodes",
+        "Tests the plan, and writes what is wrong or doubtful and the figures of its nodes",
     );
     let all = Command::new(alloc, "wl_sim")
         .about("Simulates CAN 2.0 buses at the level of time quanta")
@@ -119,10 +146,13 @@ fn untimed<'a>(alloc: Global) -> Result<Command<'a>, AllocError>
     Ok(all)
 }
 
-/// The whole command line: after those, the subcommands that have a tick.
+/// The whole command line: after those, the trace and the subcommands that have a tick.
 fn command<'a>(alloc: Global) -> Result<Command<'a>, AllocError>
     ensures { IfOk result (λ all. app_of all ≡ program) }
 {
+    let trace = Command::new(alloc, "trace").about(
+        "Simulates the plan, and writes what happened to each node: errors, flags, frames, modes",
+    );
     let candump = optioned(
         alloc,
         "candump",
@@ -135,7 +165,10 @@ fn command<'a>(alloc: Global) -> Result<Command<'a>, AllocError>
         "Simulates the plan, and writes the waveform of its nodes as a Value Change Dump",
         tick_option(alloc),
     )?;
-    let all = untimed(alloc)?.subcommand(candump)?.subcommand(vcd)?;
+    let all = untimed(alloc)?
+        .subcommand(trace)?
+        .subcommand(candump)?
+        .subcommand(vcd)?;
     Ok(all)
 }
 
@@ -178,18 +211,56 @@ fn workers_of_subcommand(matches: &ArgMatches) -> Option<u8>
     }
 }
 
-/// The task of a subcommand, by its name, and by its tick or its workers where it has them.
-fn task_named(name: Option<&str>, tick: Option<Tick>, workers: Option<u8>) -> Option<Task>
-    ensures { (task : Task) → (result ≡ Some task)
-        ↔ ((option_map (λ s. s.now) name.entry ≡ Some (task_word task)) × HasTick tick task × HasWorkers workers task) }
+/// The kind of link that a text names.
+fn link_named(text: &str) -> Option<LinkKind>
+    ensures { result ≡ read_link text.now }
+{
+    match text {
+        "hub" => Some(LinkKind::Hub),
+        "mail" => Some(LinkKind::Mail),
+        _ => None,
+    }
+}
+
+/// The kind of link that a subcommand's option gives.
+#[tactic(auto, using(crate::proofs::Words::link_text))]
+fn link_in(matches: &ArgMatches) -> Option<LinkKind>
+    ensures { result ≡ link_among (rows_of (found_of matches.now)) }
+{
+    match matches.get_str("link") {
+        Some(text) => link_named(text),
+        None => None,
+    }
+}
+
+/// The kind of link that the option of the subcommand gives, where it has one.
+fn link_of_subcommand(matches: &ArgMatches) -> Option<LinkKind>
+    ensures { result ≡ option_and_then link_among (option_map (λ p. p.1) (subcommand_rows_of matches.now)) }
+{
+    match matches.subcommand() {
+        Some((_, sub)) => link_in(sub),
+        None => None,
+    }
+}
+
+/// The task of a subcommand, by its name, and by its tick, or its workers and their link, where it has them.
+fn task_named(
+    name: Option<&str>,
+    tick: Option<Tick>,
+    workers: Option<u8>,
+    link: Option<LinkKind>,
+) -> Option<Task>
+    ensures { (task : Task) → (result ≡ Some task) ↔ ((option_map (λ s. s.now) name.entry ≡ Some (task_word task))
+        × HasTick tick task × HasWorkers workers task × HasLink link task) }
 {
     match name? {
         "merge" => Some(Task::Merge),
         "horizon" => Some(Task::Horizon),
         "check" => Some(Task::Check),
         "records" => Some(Task::Records),
-        "run" => Some(Task::Run(workers?)),
+        "run" => Some(Task::Run(workers?, link?)),
         "explain" => Some(Task::Explain),
+        "trace" => Some(Task::Trace),
         "candump" => Some(Task::Candump(tick?)),
         "vcd" => Some(Task::Vcd(tick?)),
         _ => None,
@@ -206,7 +277,8 @@ fn task_of(alloc: Global, words: &[String]) -> Result<Option<Task>, Error>
     let matches = command(alloc)?.try_get_matches_from(words)?;
     let tick = tick_of_subcommand(&matches);
     let workers = workers_of_subcommand(&matches);
-    Ok(task_named(matches.subcommand_name(), tick, workers))
+    let link = link_of_subcommand(&matches);
+    Ok(task_named(matches.subcommand_name(), tick, workers, link))
 }
 
 /// Why words that clap refused with this kind of error name no task.
@@ -221,6 +293,21 @@ fn refusal_of(kind: ErrorKind) -> Refusal
     }
 }
 
+/// What an option wants, where clap lets in a value of it that names nothing: `--link` of `run`, and else `--tick`.
+fn wanted(words: &[String]) -> &'static str {
+    match words.get(1) {
+        Some(word) if word.as_str() == "run" => "--link wants hub or mail",
+        _ => "--tick wants 1 to 999 and ps, ns or us, as 125ps",
+    }
+}
+
+/// Says what clap finds wrong with words. Where memory ran out, the line of that fault is all that is said.
+fn say(rt: &impl Eprint, refusal: Refusal, error: Error) {
+    if refusal == Refusal::Words {
+        let _ = rt.eprint(error);
+    }
+}
+
 /// The task that the words name, the program's own name first. What is wrong with them goes to standard error, help too;
 /// that this text goes out is said by no clause, since none can speak of standard error.
 pub fn read(rt: &impl Eprint, alloc: Global, words: &[String]) -> Result<Task, Refusal>
@@ -229,12 +316,13 @@ pub fn read(rt: &impl Eprint, alloc: Global, words: &[String]) -> Result<Task, R
     match task_of(alloc, words) {
         Ok(Some(task)) => Ok(task),
         Ok(None) => {
-            let _ = eprintln!(rt; "error: --tick wants 1 to 999 and ps, ns or us, as 125ps");
+            let said = wanted(words);
+            let _ = eprintln!(rt; "error: {said}");
             Err(Refusal::Words)
         }
         Err(error) => {
             let refusal = refusal_of(error.kind());
-            let _ = rt.eprint(error);
+            say(rt, refusal, error);
             Err(refusal)
         }
     }
@@ -250,16 +338,18 @@ pub fn words_of<R: Env + AllocGlobal>(rt: &R) -> io::Result<Vec<String>> {
 mod tests {
     use super::{Task, task_of};
     use std::test::Fail;
+    use wl_engines::LinkKind;
     use wl_views::{Tick, TimeUnit};
 
     /// Words after the program's name, and what they name.
-    const ROWS: [(&str, Option<Task>); 11] = [
+    const ROWS: [(&str, Option<Task>); 12] = [
         ("merge", Some(Task::Merge)),
         ("horizon", Some(Task::Horizon)),
         ("check", Some(Task::Check)),
         ("records", Some(Task::Records)),
-        ("run", Some(Task::Run(1))),
+        ("run", Some(Task::Run(1, LinkKind::Hub))),
         ("explain", Some(Task::Explain)),
+        ("trace", Some(Task::Trace)),
         ("", None),
         ("Merge", None),
         ("runs", None),
@@ -305,12 +395,29 @@ mod tests {
     #[test]
     fn workers(rt: HostRuntime) -> Result<(), Fail> {
         let alloc = rt.alloc();
-        for (text, wanted) in [("8", Some(Task::Run(8))), ("9", None)] {
+        let wanted = Some(Task::Run(8, LinkKind::Hub));
+        for (text, wanted) in [("8", wanted), ("9", None)] {
             let program = String::from_str(alloc, "wl_sim")?;
             let words = [
                 program,
                 String::from_str(alloc, "run")?,
                 String::from_str(alloc, "--workers")?,
+                String::from_str(alloc, text)?,
+            ];
+            assert_eq!(rt; task_of(alloc, &words).ok().flatten(), wanted);
+        }
+        Ok(())
+    }
+
+    #[test]
+    fn a_link(rt: HostRuntime) -> Result<(), Fail> {
+        let alloc = rt.alloc();
+        for (text, wanted) in [("mail", Some(Task::Run(1, LinkKind::Mail))), ("Mail", None)] {
+            let program = String::from_str(alloc, "wl_sim")?;
+            let words = [
+                program,
+                String::from_str(alloc, "run")?,
+                String::from_str(alloc, "--link")?,
                 String::from_str(alloc, text)?,
             ];
             assert_eq!(rt; task_of(alloc, &words).ok().flatten(), wanted);

@@ -5,7 +5,8 @@
 //! other what that replica tells of each node, and up to when. `check`, `records` and `run` read a plan text: the first writes what
 //! the bit segments allow and how long the cable takes, the second the records of the plan's simulation, the third its report.
 //! `candump` and `vcd` read a plan text too: the one writes the frames that were sent as can-utils logs them, the other the waveform.
-//! `explain` writes what is doubtful of a plan, and the figures of its nodes.
+//! `explain` writes what is doubtful of a plan, and the figures of its nodes, or what is wrong with a plan that is refused; `trace` what
+//! happened to each node, and where.
 #![tactic(auto)]
 
 ghost use Rattle.std.specs.Prelude.{◌≡◌, ◌≢◌, map, string_bytes, IfOk, IfErr};
@@ -27,8 +28,8 @@ mod command;
 
 pub use command::{Refusal, Task};
 pub use wl_engines::{
-    RunFault, candump_run, check_run, explain_run, horizon_run, merge_run, merges_as_one, plan_run,
-    records_run, vcd_run, workers_run,
+    LinkKind, RunFault, candump_run, check_run, explain_run, horizon_run, merge_run, merges_as_one,
+    plan_run, records_run, trace_run, vcd_run, workers_run, workers_run_by,
 };
 
 /// The statuses that the program ends with beside 0.
@@ -68,13 +69,21 @@ fn run_words<H: Eprint + Threads + Wait + Sync, R: Source, W: Sink>(
     let words = match words {
         Ok(words) => words,
         Err(error) => {
-            let _ = eprintln!(rt; "error: the arguments can't be read");
-            return refused(rt, unread(&error));
+            let refusal = unread(&error);
+            say_unread(rt, refusal);
+            return refused(rt, refusal);
         }
     };
     match command::read(rt, alloc, words.as_slice()) {
         Ok(task) => ended(rt, run(rt, alloc, task, reader, writer)),
         Err(refusal) => refused(rt, refusal),
+    }
+}
+
+/// Says that there are no words to read. Where memory ran out, the line of that fault is all that is said.
+fn say_unread(rt: &impl Eprint, refusal: Refusal) {
+    if refusal == Refusal::Words {
+        let _ = eprintln!(rt; "error: the arguments can't be read");
     }
 }
 
@@ -105,9 +114,10 @@ fn run<H: Threads + Wait + Sync, R: Source, W: Sink>(
         Task::Horizon => horizon_run(alloc, reader, writer),
         Task::Check => check_run(alloc, reader, writer),
         Task::Records => records_run(alloc, reader, writer),
-        Task::Run(1) => plan_run(alloc, reader, writer),
-        Task::Run(workers) => workers_run(rt, alloc, workers, reader, writer),
+        Task::Run(1, _) => plan_run(alloc, reader, writer),
+        Task::Run(workers, kind) => workers_run_by(rt, alloc, workers, kind, reader, writer),
         Task::Explain => explain_run(alloc, reader, writer),
+        Task::Trace => trace_run(alloc, reader, writer),
         Task::Candump(tick) => candump_run(alloc, tick, reader, writer),
         Task::Vcd(tick) => vcd_run(alloc, tick, reader, writer),
     }

@@ -1,4 +1,5 @@
 mod Rows
+mod Skips
 mod Ways
 mod AsBefore
 mod Cuts

@@ -2,4 +2,5 @@ pub mod Edges
 pub mod Bits
 pub mod Running
 pub mod SampleLaws
+pub mod Skips
 pub mod Steps

@@ -66,6 +66,18 @@ running_moved r counts restarts level =
       sample = if is_sampled r then level else r.sample;
     }
 
+-- after a quantum that no edge comes with and that doesn't end the bit
+abbrev pub running_on : Running → Level → Running
+running_on r level = record {
+  lengths = r.lengths;
+  quanta = r.quanta + 1;
+  longer = r.longer;
+  shorter = r.shorter;
+  synced = r.synced;
+  level = level;
+  sample = if is_sampled r then level else r.sample;
+}
+
 -- after the first quantum of a bit that no edge begins
 abbrev pub running_first : Running → Level → Running
 running_first r level = record { lengths = r.lengths; quanta = 1; longer = 0; shorter = 0; synced = false; level = level; sample = r.sample }

@@ -7,7 +7,7 @@
 //! project's profile. Whether an edge lies in the quantum that finds it, or in the one before, is said by the segments.
 #![tactic(auto)]
 
-ghost use Rattle.std.specs.Prelude.{◌≡◌, suc, ◌+◌, ◌-◌, ◌<◌, ◌==◌, ◌&&◌, true, false, List, [], ◌∷◌, ◌++◌, Some, if◌then◌else◌};
+ghost use Rattle.std.specs.Prelude.{◌≡◌, suc, ◌+◌, ◌-◌, ◌<◌, ◌≤◌, replicate, ◌==◌, ◌&&◌, true, false, List, [], ◌∷◌, ◌++◌, Some, if◌then◌else◌};
 ghost use Rattle.wl_segments.specs.Lengths.{Lengths, AreLengths, sample_at, bit_quanta, found_at};
 
 mod laws;
@@ -90,7 +90,8 @@ impl BitClock {
     ghost use Rattle.wl_sync.specs.Edges.{Seen, seen_as, edge_restarts, longer_by, looks, phase_error, shorter_by};
     ghost use Rattle.wl_sync.specs.Bits.{beat_of, sync_of, before_sample, bit_of};
     ghost use Rattle.wl_sync.specs.Running.{clock_after, Follows};
-    ghost use Rattle.wl_sync.specs.Steps.{beat_between, is_inside, running_due, running_edge, running_moved, running_passed, running_sync};
+    ghost use Rattle.wl_sync.specs.Skips.{finds_edge, free_quanta, IsPlain, IsUnmoved, IsUnsampled};
+    ghost use Rattle.wl_sync.specs.Steps.{IsBitClock, beat_between, end_of, is_inside, is_sampled, running_due, running_edge, running_moved, running_on, running_passed, running_sync};
 
     /// The bit clock before the first quantum: a bit begins with it, or where that finds an edge with the edge, and the line was recessive.
     pub fn new(segments: Segments) -> BitClock
@@ -123,12 +124,11 @@ impl BitClock {
         ensures beat { Follows self.old (λ l past. result.0 ≡ beat_of l past (seen_as level idle driving)) }
         ensures sync { Follows self.old (λ l past. result.1 ≡ sync_of l past (seen_as level idle driving)) }
     {
-        self.reach_edge();
-        let counts = self.is_sync(level, idle, driving);
-        let sync = if counts { Some(self.sync(idle)) } else { None };
-        let restarts = self.is_restart(counts, idle);
-        let beat = self.place(level, counts, restarts);
-        (beat, sync)
+        if self.goes_on(level) {
+            let beat = self.go_on(level);
+            return (beat, None);
+        }
+        self.look(level, idle, driving)
     }
 
     /// How many quanta come up to the sample of the running bit, that one too: from 1 to 21. None
@@ -145,6 +145,61 @@ impl BitClock {
         } else {
             None
         }
+    }
+
+    /// How many quanta of this level come before the next that samples or begins a bit; with `starts`, before the next
+    /// that samples one. 0 where the first of them finds an edge from recessive to dominant. From 0 to 24.
+    pub fn free_quanta(&self, level: Level, starts: bool) -> u8
+        ensures { result ≡ free_quanta starts self.now level }
+    {
+        if level.is_dominant() && !self.level.is_dominant() {
+            return 0;
+        }
+        let place = self.sample_at() + self.longer;
+        if self.quanta <= place {
+            if starts || 0 < self.quanta {
+                return place - self.quanta;
+            }
+            return 0;
+        }
+        let rest = self.end_at() - self.quanta;
+        if starts {
+            rest + self.sample_at()
+        } else {
+            rest
+        }
+    }
+
+    /// So many quanta of this level at once: no more than [`BitClock::free_quanta`] says with `starts`, so that none of them is a sample,
+    /// and no edge synchronises. What the clock keeps is what it keeps after as many steps. Where they are no more than
+    /// [`BitClock::free_quanta`] says without `starts`, none begins a bit.
+    pub fn skip(&mut self, level: Level, quanta: u8)
+        requires some { 0 < quanta }
+        requires few { quanta ≤ free_quanta true self.old level }
+        ensures clock { Follows self.old (λ l past. (x : Seen) → x.level ≡ level
+            → self.new ≡ clock_after l (past ++ replicate quanta x)) }
+        ensures unmoved { Follows self.old (λ l past. (x : Seen) → x.level ≡ level → IsUnmoved l past x quanta) }
+        ensures unsampled { Follows self.old (λ l past. (x : Seen) → x.level ≡ level → IsUnsampled l past x quanta) }
+        ensures plain { quanta ≤ free_quanta false self.old level
+            → Follows self.old (λ l past. (x : Seen) → x.level ≡ level → IsPlain l past x quanta) }
+    {
+        let end = self.end_at();
+        self.quanta += quanta;
+        if end < self.quanta {
+            self.quanta -= end;
+            self.longer = 0;
+            self.shorter = 0;
+            self.synced = false;
+        }
+        self.level = level;
+    }
+
+    /// The quanta of the bit as it was moved.
+    fn end_at(&self) -> u8
+        ensures end { result ≡ end_of self.now }
+        ensures clock { IsBitClock self.now }
+    {
+        self.bit_quanta() + self.longer - self.shorter
     }
 
     /// The place of the sample in a bit that nothing moved.
@@ -176,6 +231,43 @@ impl BitClock {
         ensures { result ≡ found_at self.now.lengths }
     {
         self.segments.found_at() as u8
+    }
+
+    /// The quantum finds no edge, and comes in the running bit, which has begun.
+    fn goes_on(&self, level: Level) -> bool
+        ensures edge { result ≡ true → finds_edge self.now level ≡ false }
+        ensures begun { result ≡ true → 0 < self.now.quanta }
+        ensures inside { result ≡ true → self.now.quanta < end_of self.now }
+        ensures clock { IsBitClock self.now }
+    {
+        let finds_edge = level.is_dominant() && !self.level.is_dominant();
+        !finds_edge && 0 < self.quanta && self.quanta < self.end_at()
+    }
+
+    /// Such a quantum: it samples the bit, or does nothing.
+    fn go_on(&mut self, level: Level) -> Beat
+        requires begun { 0 < self.old.quanta }
+        requires inside { self.old.quanta < end_of self.old }
+        ensures clock { self.new ≡ running_on self.old level }
+        ensures beat { result ≡ (if is_sampled self.old then Beat.Sample level else Beat.Plain) }
+    {
+        let is_sampled = self.quanta == self.sample_at() + self.longer;
+        self.count(level, is_sampled)
+    }
+
+    /// One quantum that may find an edge, or begin a bit.
+    fn look(&mut self, level: Level, idle: bool, driving: bool) -> (Beat, Option<Sync>)
+        ensures clock { Follows self.old (λ l past.
+            self.new ≡ clock_after l (past ++ seen_as level idle driving ∷ [])) }
+        ensures beat { Follows self.old (λ l past. result.0 ≡ beat_of l past (seen_as level idle driving)) }
+        ensures sync { Follows self.old (λ l past. result.1 ≡ sync_of l past (seen_as level idle driving)) }
+    {
+        self.reach_edge();
+        let counts = self.is_sync(level, idle, driving);
+        let sync = if counts { Some(self.sync(idle)) } else { None };
+        let restarts = self.is_restart(counts, idle);
+        let beat = self.place(level, counts, restarts);
+        (beat, sync)
     }
 
     /// Goes to the bit in which the edge lies that this quantum finds, if it finds one: its own, or that of the quantum before.
@@ -392,6 +484,15 @@ mod tests {
             let _ = clock.step(level, false, false);
             assert_eq!(rt; clock.before_sample(), WAYS[k], "after quantum {k}");
         }
+        assert_eq!(rt; clock.free_quanta(Level::Dominant, false), 6);
+        assert_eq!(rt; clock.free_quanta(Level::Recessive, true), 6);
+        clock.skip(Level::Dominant, 6);
+        assert_eq!(rt; clock.before_sample(), Some(1));
+        let _ = clock.step(Level::Recessive, false, false);
+        assert_eq!(rt; clock.free_quanta(Level::Dominant, true), 0);
+        assert_eq!(rt; clock.free_quanta(Level::Recessive, true), 9);
+        clock.skip(Level::Recessive, 9);
+        assert_eq!(rt; clock.before_sample(), Some(1));
         the_sample_comes_near();
         Ok(())
     }

@@ -5,3 +5,6 @@ mod Taken
 mod Read
 mod Added
 mod Replayed
+mod InTime
+mod Syncing
+pub mod Callers

@@ -1,5 +1,6 @@
 pub mod Places
 pub mod Events
+pub mod Synced
 pub mod Laws
 pub mod Running
 pub mod Replay

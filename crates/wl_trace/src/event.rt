@@ -59,7 +59,7 @@ pub enum FlagForm {
     Overload,
 }
 
-/// What one sample of a node did.
+/// What one sample of a node did, or how an edge synchronised it.
 #[derive(Clone, Copy, Debug)]
 pub enum Event {
     /// The node sent a recessive bit of the arbitration, found it dominant, and is a receiver from then on.
@@ -83,14 +83,18 @@ pub enum Event {
     Received(Frame),
     /// The mode is another than before: that of these counters.
     ModeChanged(Counters),
+    /// An edge synchronised the node hard (Bosch CAN 2.0 part B, section 10).
+    HardSynchronised,
+    /// An edge with this phase error, in quanta, resynchronised the node, error 0 too (section 10).
+    Resynchronised(i8),
 }
 
-/// An event with its sample.
+/// An event with its quantum.
 #[derive(Clone, Copy, Debug)]
 pub struct Noted {
-    /// The quantum of the sample, counted from 0.
+    /// The quantum at which it came, counted from 0.
     pub quantum: u64,
-    /// How many samples there were before.
+    /// How many samples there were before that quantum.
     pub bit: u64,
     /// What happened there.
     pub event: Event,

@@ -7,7 +7,9 @@ mod laws;
 mod noting;
 mod replay;
 mod stretch;
+mod syncs;
 
 pub use event::{Event, FlagForm, FrameField, Noted, Place};
 pub use laws::trace_laws;
 pub use replay::node_events;
+pub use syncs::node_syncs;

@@ -1,5 +1,5 @@
 -- A list in the order of its ticks is what is listed tick by tick.
-use Rattle.std.proofs.Common.{◌≡◌, ◌∙◌, refl, sym, ap, ap₂, subst, arith, ℕ, zero, suc, ◌+◌, ◌<◌, ◌≤◌, ◌==◌, Bool, true, false, List, [], ◌∷◌, ◌++◌, length, get_or, nat_lt, not, ◌&&◌, append-nil, append_assoc, zero-add}
+use Rattle.std.proofs.Common.{◌≡◌, ◌∙◌, refl, sym, ap, ap₂, arith, ℕ, zero, suc, ◌+◌, ◌<◌, ◌≤◌, ◌==◌, Bool, true, false, List, [], ◌∷◌, ◌++◌, nat_lt, not, ◌&&◌, append-nil, zero-add}
 use Rattle.std.specs.List.{All, filter, flat_map, range_with_len}
 use Rattle.std.specs.List.Sorted.{IsNonDecreasingBy, IsPermutation, IsStableByKey, ties}
 use Rattle.std.specs.Ordering.{nat_cmp, is_lt}
@@ -10,7 +10,7 @@ use Rattle.std.proofs.lemmas.List.Elements.{filter_agree, All-head, All-tail}
 use Rattle.std.proofs.lemmas.List.Sorted.{All-permutation}
 use Rattle.std.proofs.lemmas.Bool.{le-ltb, lt-ltb, ltb-true, ltb-false, eqb-true, eqb-false, eq-eqb, ne_eqb}
 
-range_more : (a n : ℕ) → range_with_len a (suc n) ≡ range_with_len a n ++ (a + n) ∷ []
+pub range_more : (a n : ℕ) → range_with_len a (suc n) ≡ range_with_len a n ++ (a + n) ∷ []
 range_more a zero = ap (λ (m : ℕ). m ∷ []) {x = a} {y = a + 0} (omega arith)
 range_more a (suc n) =
     ap (λ ts. a ∷ ts) (range_more (a + 1) n ∙ ap (λ (m : ℕ). range_with_len (a + 1) n ++ m ∷ []) {x = a + 1 + n} {y = a + suc n} (omega arith))

@@ -1,9 +1,8 @@
 -- The frames of a history were completed at quanta that have run, and those of an outcome below the end.
-use Rattle.std.proofs.Common.{◌≡◌, ◌∙◌, refl, sym, ap, subst, arith, ℕ, zero, suc, ◌+◌, ◌^◌, ◌<◌, ◌≤◌, List, [], ◌∷◌, ◌++◌, length, map, fold, zero-add, add-zero, get_or}
+use Rattle.std.proofs.Common.{◌≡◌, sym, subst, arith, ℕ, zero, suc, ◌+◌, ◌^◌, ◌<◌, ◌≤◌, List, [], ◌∷◌, length, map, fold, zero-add, add-zero, get_or}
 use Rattle.std.specs.List.{All, filter, flat_map, range_with_len, enumerate_from}
-use Rattle.std.proofs.lemmas.List.{length-append}
-use Rattle.std.proofs.lemmas.List.Elements.{All-append, All-cons, All-nil, All-map, All-filter, All-from_get_or}
-use Rattle.std.proofs.lemmas.List.FromFn.{length-range_with_len, length-map-range_with_len, get_or-range_with_len}
+use Rattle.std.proofs.lemmas.List.Elements.{All-append, All-cons, All-nil, All-map, All-filter}
+use Rattle.std.proofs.lemmas.List.FromFn.{length-map-range_with_len}
 use Rattle.wl_level.specs.declared.Level.{Level}
 use Rattle.wl_sync.specs.declared.Beat.{Beat}
 use Rattle.wl_sync.specs.declared.Beat.TheVariants as beats
@@ -25,8 +24,9 @@ use Rattle.wl_plan.specs.SimulationLaws.{SimulationLaws}
 use Rattle.wl_plan.specs.Checked.{IsChecked, CheckedIsSound}
 use Rattle.wl_plan.specs.Sound.{IsSound}
 use Rattle.wl_serial.specs.declared.outcome.NodeOutcome.{NodeOutcome}
-use Rattle.wl_serial.specs.Outcome.{history_at_end, node_outcome_of, outcome_of}
-use Rattle.wl_views.specs.Sent.{AreInTime, SentInTime, all_sent, sent_by}
+use Rattle.wl_serial.specs.Outcome.{node_outcome_of, outcome_of}
+use Rattle.wl_trace.proofs.Callers.{one_more}
+use Rattle.wl_views.specs.Sent.{AreInTime, sent_by}
 
 -- each of these frames was completed before quantum n
 abbrev Before : ℕ → List Passed → Type 0
@@ -49,13 +49,10 @@ module _ (setup : NodeSetup) where
       All-append (λ p. p.quantum < suc (length h.seen)) h.frames (passed_frames (length h.seen) (judged (stretch_of h.inputs) (sampled_next setup h level)).ended)
       (later (length h.seen) h.frames b) (passed_before (length h.seen) (judged (stretch_of h.inputs) (sampled_next setup h level)).ended)
 
-  pub one_more : (h : History) (level : Level) → length (history_after setup h level).seen ≡ suc (length h.seen)
-  one_more h level = length-append h.seen (seen_next h level ∷ []) ∙ (let e : length h.seen + 1 ≡ suc (length h.seen) = omega arith in e)
-
   after_before : (h : History) (level : Level) → Before (length h.seen) h.frames
       → Before (length (history_after setup h level).seen) (history_after setup h level).frames
   after_before h level b =
-      subst (λ n. Before n (history_after setup h level).frames) (sym (one_more h level))
+      subst (λ n. Before n (history_after setup h level).frames) (sym (one_more setup h level))
       (by_beat_before h level (beat_of setup.segments h.seen (seen_next h level)) b)
 
   fold_before : (levels : List Level) (h : History) → Before (length h.seen) h.frames
@@ -63,7 +60,7 @@ module _ (setup : NodeSetup) where
   fold_before [] h b = subst (λ n. Before n h.frames) (sym (add-zero (length h.seen))) b
   fold_before (level ∷ levels) h b =
       subst (λ n. Before n (fold (history_after setup) h (level ∷ levels)).frames)
-      (let e = one_more h level in let f : length (history_after setup h level).seen + length levels ≡ length h.seen + suc (length levels) = omega arith in f)
+      (let e = one_more setup h level in let f : length (history_after setup h level).seen + length levels ≡ length h.seen + suc (length levels) = omega arith in f)
       (fold_before levels (history_after setup h level) (after_before h level b))
 
   frames_before : (levels : List Level) → Before (length levels) (history_of setup levels).frames

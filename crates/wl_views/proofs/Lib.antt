@@ -3,9 +3,11 @@ mod InTime
 mod Lists
 mod Pieces
 mod SampleOrder
+mod Seeing
 mod SignalProofs
 mod Turns
 mod Walk
 mod PlanRows
 mod Rows
+mod Telling
 mod WaveRows

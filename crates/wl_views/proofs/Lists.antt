@@ -2,7 +2,6 @@
 use Rattle.std.proofs.Common.{◌≡◌, ◌∙◌, refl, sym, ap, arith, add-one, ℕ, zero, suc, ◌+◌, ◌-◌, ◌/◌, ◌%◌, ◌<◌, true, false, List, [], ◌∷◌, ◌++◌, length, get_or, take, map, append-nil, append_assoc}
 use Rattle.std.specs.Fmt.{digit_glyph}
 use Rattle.std.specs.List.{filter, flat_map, enumerate_from}
-use Rattle.std.proofs.lemmas.List.Concat.{flat_map-append}
 use Rattle.std.proofs.lemmas.List.Elements.{filter_more}
 use Rattle.std.proofs.lemmas.List.{map-append}
 use Rattle.wl_clock.specs.Timing.{Timing, tick_of}

@@ -1,5 +1,5 @@
 -- The samples of a node are in order, at quanta that have run.
-use Rattle.std.proofs.Common.{◌≡◌, ◌∙◌, sym, ap, subst, arith, ℕ, zero, suc, ◌+◌, ◌^◌, ◌<◌, ◌≤◌, List, [], ◌∷◌, ◌++◌, length, map, fold, zero-add, add-zero}
+use Rattle.std.proofs.Common.{◌≡◌, sym, subst, arith, ℕ, suc, ◌+◌, ◌^◌, ◌<◌, ◌≤◌, List, [], ◌∷◌, ◌++◌, length, map, fold, zero-add, add-zero}
 use Rattle.std.specs.List.{All}
 use Rattle.std.proofs.lemmas.List.{map-append}
 use Rattle.std.proofs.lemmas.List.Elements.{All-cons, All-nil}
@@ -18,8 +18,9 @@ use Rattle.wl_plan.specs.Simulation.{history, ran}
 use Rattle.wl_plan.specs.SimulationLaws.{SimulationLaws}
 use Rattle.wl_plan.specs.Checked.{IsChecked, CheckedIsSound}
 use Rattle.wl_serial.specs.Outcome.{history_at_end}
-use Rattle.wl_views.specs.Signals.{sample_ticks, sampled_at}
-use Rattle.wl_views.proofs.InTime.{one_more, few, sound, inside, within}
+use Rattle.wl_views.specs.Signals.{sample_ticks}
+use Rattle.wl_trace.proofs.Callers.{one_more}
+use Rattle.wl_views.proofs.InTime.{few, sound, inside, within}
 
 abbrev Samples : Type 0
 Samples = List (ℕ × Level)

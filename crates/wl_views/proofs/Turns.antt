@@ -1,7 +1,6 @@
 -- Between two ticks of a list nothing that turns at them turns, a delay later as little.
-use Rattle.std.proofs.Common.{◌≡◌, ◌∙◌, refl, sym, ap, ap₂, arith, add-one, ℕ, zero, suc, ◌+◌, ◌-◌, ◌%◌, ◌<◌, ◌≤◌, ◌==◌, ◌⊎◌, inl, inr, Bool, false, not, ◌&&◌, List, length, get_or, nat_le, nat_lt}
+use Rattle.std.proofs.Common.{◌≡◌, ◌∙◌, refl, sym, ap, ap₂, arith, ℕ, ◌+◌, ◌-◌, ◌%◌, ◌<◌, ◌≤◌, ◌==◌, inl, inr, Bool, false, ◌&&◌, List, length, get_or, nat_lt}
 use Rattle.std.proofs.lemmas.Bool.{cases_lt, lt-leb, le-leb}
-use Rattle.std.proofs.lemmas.Option.{slice_get-get_or}
 use Rattle.std.proofs.lemmas.List.Sums.{count_by-le-length}
 use Rattle.wl_record_core.specs.Truth.{count_below, odd, IsIncreasing}
 use Rattle.wl_record_core.specs.TableLaws.{TableLaws}

@@ -1,5 +1,5 @@
 -- The log of can-utils, as its `candump -L` writes it and its `log2asc` and `log2long` read it: a line for each frame that was sent.
-use Rattle.std.specs.Prelude.{ℕ, ◌/◌, ◌%◌, ◌==◌, nat_lt, min, Bool, true, false, List, [], ◌∷◌, ◌++◌, codes, if◌then◌else◌}
+use Rattle.std.specs.Prelude.{ℕ, ◌/◌, ◌%◌, ◌==◌, nat_lt, min, List, [], ◌∷◌, ◌++◌, codes, if◌then◌else◌}
 use Rattle.std.specs.List.{flat_map}
 use Rattle.wl_frame.specs.Grammar.{Content}
 use Rattle.wl_plan.specs.declared.plan.Plan.{Plan}

@@ -5,3 +5,4 @@ pub mod Candump
 pub mod Signals
 pub mod Held
 pub mod Vcd
+pub mod Trace

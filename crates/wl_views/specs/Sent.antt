@@ -8,7 +8,6 @@ use Rattle.wl_node.specs.History.{is_sent}
 use Rattle.wl_plan.specs.declared.plan.Plan.{Plan}
 use Rattle.wl_plan.specs.PlanLine.{setup_at}
 use Rattle.wl_plan.specs.Checked.{IsChecked}
-use Rattle.wl_serial.specs.declared.outcome.NodeOutcome.{NodeOutcome}
 use Rattle.wl_serial.specs.declared.outcome.Outcome.{Outcome}
 use Rattle.wl_serial.specs.Outcome.{outcome_of}
 
@@ -22,7 +21,7 @@ abbrev pub all_sent : Plan → Outcome → List (ℕ × Content)
 all_sent plan outcome = flat_map (λ n. sent_by (setup_at plan n.0).clock n.1.frames) (enumerate_from 0 outcome.nodes)
 
 -- tick by tick up to the end, and at each tick in their order (this project's profile)
-abbrev pub by_tick : ℕ → List (ℕ × Content) → List (ℕ × Content)
+abbrev pub by_tick : {X : Type 0} → ℕ → List (ℕ × X) → List (ℕ × X)
 by_tick end sent = flat_map (λ t. filter (λ s. s.0 == t) sent) (range_with_len 0 end)
 
 -- Each node has its clock, each frame was completed at a quantum that clocks know, and below the end.

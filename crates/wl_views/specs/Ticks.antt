@@ -1,5 +1,5 @@
 -- How long a tick takes, and the time of a tick: a plan leaves open what its ticks are (this project's profile).
-use Rattle.std.specs.Prelude.{ℕ, ◌+◌, ◌-◌, ◌*◌, ◌/◌, ◌==◌, ◌&&◌, nat_lt, List, [], ◌∷◌, length, take, drop, fold, slice_index, if◌then◌else◌, Option, Some, None, option_map, option_and_then}
+use Rattle.std.specs.Prelude.{ℕ, ◌+◌, ◌-◌, ◌*◌, ◌/◌, ◌==◌, ◌&&◌, nat_lt, List, length, take, drop, fold, slice_index, if◌then◌else◌, Option, Some, None, option_map, option_and_then}
 use Rattle.std.specs.Char.{is_ascii_digit}
 use Rattle.wl_views.specs.declared.tick.TimeUnit.{TimeUnit}
 use Rattle.wl_views.specs.declared.tick.TimeUnit.TheVariants.{Picosecond, Nanosecond, Microsecond}

@@ -1,6 +1,6 @@
 -- Value Change Dump (IEEE 1364-2005, clause 18.2): the signals of a simulation, with the ticks at which they change. Which signals
 -- there are and how they are named is this project's profile.
-use Rattle.std.specs.Prelude.{ℕ, suc, ◌+◌, ◌-◌, ◌*◌, Bool, List, [], ◌∷◌, ◌++◌, codes, if◌then◌else◌}
+use Rattle.std.specs.Prelude.{ℕ, suc, ◌-◌, ◌*◌, Bool, List, [], ◌∷◌, ◌++◌, codes, if◌then◌else◌}
 use Rattle.std.specs.List.{flat_map, range_with_len, enumerate_from}
 use Rattle.std.specs.Fmt.{decimal}
 use Rattle.wl_plan.specs.declared.plan.Plan.{Plan}

@@ -84,7 +84,7 @@ fn push_scope(text: &mut String, i: usize, name: &str) -> Result<(), AllocError>
 }
 
 /// The name of node `i`.
-fn name_of(names: &Names, i: usize) -> &str
+pub(crate) fn name_of(names: &Names, i: usize) -> &str
     ensures { result.now ≡ name_of names.now i }
 {
     names.name(i).unwrap_or("")

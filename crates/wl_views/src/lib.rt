@@ -7,9 +7,11 @@ mod held;
 mod laws;
 mod log;
 mod samples;
+mod seen;
 mod sent;
 mod signals;
 mod tick;
+mod told;
 mod turned;
 
 pub use dump::vcd;
@@ -17,3 +19,4 @@ pub use laws::sent_in_time;
 pub use log::candump;
 pub use signals::NodeSignals;
 pub use tick::{Tick, TimeUnit};
+pub use told::trace;

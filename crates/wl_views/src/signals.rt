@@ -139,6 +139,24 @@ fn disturbed(plan: &Plan, j: usize, t: u64) -> Held
     held
 }
 
+/// Whether node `j` finds the line dominant at tick `t`, by what was driven and by the disturbances.
+pub(crate) fn line_at(
+    plan: &Plan,
+    outcome: &Outcome,
+    j: usize,
+    t: u64,
+    come: &mut [usize; MOST_NODES],
+) -> Held
+    requires checked { IsChecked plan.now }
+    requires outcome { outcome.now ≡ outcome_of plan.now }
+    requires node { j < length plan.now.nodes }
+    requires early { t ≤ latest_end }
+    ensures { Holds (found (line_of plan.now) (level (line_of plan.now)) j) t result }
+{
+    let others = driven(plan, outcome, j, t, come);
+    others.or(disturbed(plan, j, t))
+}
+
 /// The signals of node `i` at tick `t`, by the ticks of its samples.
 fn signals_of(
     plan: &Plan,
@@ -160,8 +178,7 @@ fn signals_of(
     let nodes = outcome.nodes.as_slice();
     let changes = nodes[i].changes.as_slice();
     let drive = turned(changes, 0, t, &mut come.drive);
-    let others = driven(plan, outcome, i, t, &mut come.line);
-    let line = others.or(disturbed(plan, i, t));
+    let line = line_at(plan, outcome, i, t, &mut come.line);
     let mark = turned(samples, 0, t, &mut come.samples);
     HeldSignals {
         now: NodeSignals {

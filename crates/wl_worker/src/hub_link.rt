@@ -23,7 +23,7 @@ pub struct HubLink<'h, R: Wait> {
     pass: Pass<PlanName>,
     bell: &'h Bell,
     worker: u8,
-    // How often the bell had rung when the last fetch began.
+    // How often the bell had rung when the last fetch began; 0 after a rewind.
     heard: u64,
     pub ghost edges: { pass.edges.seat.table_id ≡ hub.now.edges.table.shared.table_id },
     pub ghost silences: { pass.silences.seat.table_id ≡ hub.now.silences.table.shared.table_id },
@@ -82,6 +82,8 @@ impl<'h, R: Wait> Link for HubLink<'h, R> {
 
     ghost is_of = { λ link plan. IsOfPlan link.hub.now link.pass plan };
 
+    ghost is_rewound = { λ link. link.heard ≡ 0 };
+
     fn worker(&self) -> u8 {
         self.worker
     }
@@ -91,6 +93,7 @@ impl<'h, R: Wait> Link for HubLink<'h, R> {
         requires { (p : GivenPlan) × IsOfPlan self.old.hub.now self.old.pass p × AreTrueOfPlan p records.now }
         ensures same { (p : GivenPlan) → IsOfPlan self.old.hub.now self.old.pass p
             → IsOfPlan self.new.hub.now self.new.pass p }
+        ensures rewound { self.old.heard ≡ 0 → self.new.heard ≡ 0 }
         ensures edges { OnOk result (given_edges self.new.pass ≡ with_edges (given_edges self.old.pass) records.now) }
         ensures silences { OnOk result
             (given_silences self.new.pass ≡ with_silences (given_silences self.old.pass) records.now) }
@@ -105,6 +108,12 @@ impl<'h, R: Wait> Link for HubLink<'h, R> {
         let _ = alloc;
         self.heard = self.bell.rings();
         Ok(learn_all(self.hub, &mut self.pass, group)?)
+    }
+
+    /// Hears no bell any more, so that a wait before the next fetch ends where anything was given. What a fetch takes goes by what the
+    /// group knows: one that begins again gets all that the hub has.
+    fn rewind(&mut self) {
+        self.heard = 0;
     }
 
     fn wait(&mut self) -> Option<u8> {

@@ -90,13 +90,17 @@ pub trait Link {
     /// The link is of this plan.
     ghost is_of: { Self → GivenPlan → Type 0 };
 
+    /// The next fetch begins with what was fetched first.
+    ghost is_rewound: { Self → Type 0 } = { λ _. Unit {0} };
+
     /// The number of the worker whose link this is, from 0.
     fn worker(&self) -> u8;
 
     /// Gives records that are true of the link's plan to all other workers.
     fn give(&mut self, alloc: Global, records: &[Record]) -> Result<(), LinkFault>
         requires { (p : GivenPlan) × is_of self.old p × AreTrueOfPlan p records.now }
-        ensures same { (p : GivenPlan) → is_of self.old p → is_of self.new p };
+        ensures same { (p : GivenPlan) → is_of self.old p → is_of self.new p }
+        ensures rewound { is_rewound self.old → is_rewound self.new };
 
     /// Hands to a group of the link's plan what others gave, and answers whether that changed what the group knows.
     fn fetch(&mut self, alloc: Global, group: &mut Group) -> Result<bool, LinkFault>
@@ -104,6 +108,11 @@ pub trait Link {
         ensures same { (p : GivenPlan) → is_of self.old p → is_of self.new p }
         ensures took { Took group.old group.new }
         ensures changed { IfOk result (λ b. HasChanged group.old group.new b) };
+
+    /// Begins again: what was fetched may be fetched again, all of it at the next `fetch`.
+    fn rewind(&mut self)
+        ensures same { (p : GivenPlan) → is_of self.old p → is_of self.new p }
+        ensures rewound { is_rewound self.new };
 
     /// Waits until some worker gave something after this link's last `fetch` began, or some worker stopped. Answers the first one
     /// that stopped, if any.
@@ -115,8 +124,14 @@ pub trait Link {
         ensures same { (p : GivenPlan) → is_of self.old p → is_of self.new p };
 }
 
-/// What is asked before each turn of a worker, so that workers can be watched and stopped.
+/// What is asked before each turn of a worker, so that workers can be watched, stopped and restarted.
 pub trait Gate {
     /// Whether the worker may begin this turn; turns count from 0. Where it may not, the worker ends with its fault.
     fn turn(&self, worker: u8, turn: u64) -> bool;
+
+    /// Whether the worker's group restarts before this turn, which it may begin.
+    fn restart(&self, worker: u8, turn: u64) -> bool {
+        let _ = (worker, turn);
+        false
+    }
 }

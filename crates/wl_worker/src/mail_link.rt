@@ -1,5 +1,6 @@
 //! The link by letters.
 ghost use Rattle.std.specs.Prelude.{◌≡◌, All, IfOk, map, vec_len};
+ghost use Rattle.wl_mail.specs.Posts.{with_sent};
 ghost use Rattle.wl_mail.specs.Ways.{one_more};
 
 use crate::bell::{Bell, MOST_WORKERS};
@@ -19,10 +20,8 @@ pub struct MailLink<'h, R: Wait> {
     plan: Plan,
     bell: &'h Bell,
     worker: u8,
-    // How often the bell had rung when the last fetch began.
+    // How often the bell had rung when the last fetch began; 0 after a rewind.
     heard: u64,
-    // How many letters it has received.
-    received: u64,
 }
 
 impl From<MailFault> for LinkFault {
@@ -61,7 +60,6 @@ impl<'h, R: Wait> MailLink<'h, R> {
             bell,
             worker,
             heard: 0,
-            received: 0,
         })
     }
 
@@ -80,10 +78,13 @@ impl<'h, R: Wait> MailLink<'h, R> {
 impl<'h, R: Wait> Link for MailLink<'h, R> {
     ghost use Rattle.std.specs.Prelude.{◌≡◌, OnOk, map};
     ghost use Rattle.wl_plan.specs.declared.plan.Plan.{Plan as GivenPlan};
+    ghost use Rattle.wl_mail.specs.Posts.{with_sent};
     ghost use Rattle.wl_mail.specs.Ways.{one_more};
     ghost use Rattle.wl_worker.specs.Handed.{AreTrueOfPlan, Took, HasChanged};
 
     ghost is_of = { λ link plan. link.plan ≡ plan };
+
+    ghost is_rewound = { λ link. link.post.handed ≡ 0 };
 
     fn worker(&self) -> u8 {
         self.worker
@@ -93,26 +94,33 @@ impl<'h, R: Wait> Link for MailLink<'h, R> {
     fn give(&mut self, alloc: Global, records: &[Record]) -> Result<(), LinkFault>
         requires { (p : GivenPlan) × (self.old.plan ≡ p) × AreTrueOfPlan p records.now }
         ensures same { (p : GivenPlan) → self.old.plan ≡ p → self.new.plan ≡ p }
-        ensures sent { OnOk result (self.new.post ≡ map one_more self.old.post) }
+        ensures rewound { self.old.post.handed ≡ 0 → self.new.post.handed ≡ 0 }
+        ensures sent { OnOk result (self.new.post ≡ with_sent (map one_more self.old.post.sent) self.old.post) }
     {
         self.post.send(self.rt, alloc, &self.plan, records)?;
         self.bell.give(self.rt, self.worker);
         Ok(())
     }
 
-    /// Receives as many letters as the others have sent, by the bell, since the last ones; where there are none it waits for nobody.
+    /// Hands the group the letters that the post received and hasn't handed out, and then as many new ones as the others have sent, by
+    /// the bell; where there are none it waits for nobody.
     fn fetch(&mut self, alloc: Global, group: &mut Group) -> Result<bool, LinkFault> {
         wl_replica::joining_is_a_join();
         wl_replica::taking_is_joining();
         self.heard = self.bell.rings();
         let sent = self.sent_by_others();
+        let end = sent.max(self.post.received() as u64);
         let mut came = false;
-        for _ in self.received..sent {
+        for _ in self.post.handed() as u64..end {
             let news = self.post.receive(self.rt, alloc, group)?;
-            self.received = self.received.saturating_add(1);
             came |= news;
         }
         Ok(came)
+    }
+
+    fn rewind(&mut self) {
+        self.post.rewind();
+        self.heard = 0;
     }
 
     fn wait(&mut self) -> Option<u8> {

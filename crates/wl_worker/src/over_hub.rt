@@ -18,8 +18,8 @@ use wl_hub::{Hub, Pass};
 use wl_plan::Plan;
 use wl_serial::Outcome;
 
-/// What the one-thread simulation of a plan comes to, by so many workers over one hub. Its refusals are those of `simulate_over`.
-pub fn simulate<R: Threads + Wait + Sync, G: Gate + Sync>(
+/// What the one-thread simulation of a plan comes to, by so many workers over one hub.
+pub(crate) fn simulate_over_hub<R: Threads + Wait + Sync, G: Gate + Sync>(
     rt: &R,
     alloc: Global,
     plan: Plan,

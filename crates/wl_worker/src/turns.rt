@@ -1,7 +1,7 @@
 //! One worker: its turns, from the first silences of its members to their end.
 ghost use Rattle.std.specs.Prelude.{◌≡◌, ◌≢◌, ◌↔◌, ℕ, true, length, IsTrue, IfOk, IfErr, OnOk};
 ghost use Rattle.wl_plan.specs.declared.plan.Plan.{Plan as GivenPlan};
-ghost use Rattle.wl_group.specs.GroupValue.{belongs};
+ghost use Rattle.wl_group.specs.GroupValue.{belongs, initial_group};
 ghost use Rattle.wl_worker.specs.Handed.{AreTrueOfPlan};
 ghost use Rattle.wl_worker.specs.Finished.{MembersEnded, HasFinished};
 
@@ -19,6 +19,9 @@ const MOST_TURNS: u64 = 1 << 63;
 /// The worker gives its members' first silences. Then in each turn it asks the gate, fetches, advances all members, and gives what they
 /// emitted, if anything; it waits where nothing came and nothing was emitted. It ends when all its members are at the end. Where it
 /// fails, it tells the others by `stop`.
+///
+/// Where the gate asks a restart of a turn, the group begins again before it: fresh nodes that know nothing, to which the link hands again
+/// what it handed, and which give their first silences again.
 pub fn work<R: Wait, L: Link + Drop, G: Gate>(
     rt: &R,
     alloc: Global,
@@ -60,6 +63,9 @@ fn run<L: Link, G: Gate>(
         if !gate.turn(worker, turn) {
             return Err(Fault::Worker(worker));
         }
+        if gate.restart(worker, turn) {
+            begin_anew(alloc, group, link).map_err(|fault| fault_of(fault, worker))?;
+        }
         let moved = step(alloc, group, link).map_err(|fault| fault_of(fault, worker))?;
         if is_at_end(group) {
             return Ok(());
@@ -85,10 +91,25 @@ fn fault_of(fault: LinkFault, worker: u8) -> Fault
     }
 }
 
+/// Begins again: restarts the group, rewinds the link, and gives the members' first silences.
+fn begin_anew<L: Link>(alloc: Global, group: &mut Group, link: &mut L) -> Result<(), LinkFault>
+    requires { L.is_of link.old group.old.plan }
+    ensures same { (p : GivenPlan) → L.is_of link.old p → L.is_of link.new p }
+    ensures fresh { OnOk result (group.new ≡ initial_group group.old.plan (belongs group.old)) }
+    ensures rewound { OnOk result (L.is_rewound link.new) }
+    ensures plan { group.new.plan ≡ group.old.plan }
+    ensures members { belongs group.new ≡ belongs group.old }
+{
+    group.restart()?;
+    link.rewind();
+    begin(alloc, group, link)
+}
+
 /// Gives the first silences of the group's members.
 fn begin<L: Link>(alloc: Global, group: &Group, link: &mut L) -> Result<(), LinkFault>
     requires { L.is_of link.old group.now.plan }
     ensures same { (p : GivenPlan) → L.is_of link.old p → L.is_of link.new p }
+    ensures rewound { L.is_rewound link.old → L.is_rewound link.new }
 {
     let first = first_silences(alloc, group)?;
     hand(alloc, group, link, first.as_slice())
@@ -156,6 +177,7 @@ fn hand<L: Link>(
     requires of { L.is_of link.old group.now.plan }
     requires truth { AreTrueOfPlan group.now.plan said.now }
     ensures same { (p : GivenPlan) → L.is_of link.old p → L.is_of link.new p }
+    ensures rewound { L.is_rewound link.old → L.is_rewound link.new }
 {
     let _ = group;
     if said.is_empty() {

@@ -1,32 +1,59 @@
-//! `worker_rows`: simulates a plan by workers in threads, and compares what they come to with the one-thread simulation.
+//! `worker_rows`: simulates plans by workers in threads, and compares what they come to with the one-thread simulation.
 //!
-//! Standard input has a step a line, then a line `plan`, and the plan's text to the end of the input. The steps, each answered by a line on
-//! standard output:
+//! Standard input has blocks with a line `---` between two of them. A block has a step a line, then a line `plan`, and the plan's text. The
+//! steps, each answered by a line on standard output:
 //!
 //! - `workers N`: one run by N workers.
 //! - `stop W T N`: one run by N workers, of which a gate refuses worker W its turn T; turns count from 0.
 //! - `again N K`: K runs by N workers, one after another; how many came to what one thread comes to.
+//! - `turns N K`: one run by N workers; whether each of them had at least K turns.
+//! - `overlap N P`: one run by N workers, of which workers 0 and 1 are each held in their first turn until the other one is in its first
+//!   turn too, for at most P polls; then the turn is refused.
+//! - `over N`: one run by N workers, over links that this program makes and watches.
+//! - `count N`: the same, and what was counted: the turns of each worker; and of all together the records that were given, the times that some
+//!   were, the fetches that brought something, and the waits.
+//! - `links I C U`: of two links one gives the silence of node I after C changes up to tick U, where that is true of the plan; what the
+//!   other one brings to a group of node 1, twice, and how far that group knows node I then.
+//! - `silent N T`: one run by N workers over links that bring nothing, with a gate that refuses each worker its turn T.
+//! - `alone T`: the same of one worker, with node 0 alone.
 //!
-//! A run comes to what one thread comes to where its report is the one-thread simulation's, byte for byte.
+//! Links are over a hub; after the word `mail` before a step they are by letters. A run comes to what one thread comes to where its report is
+//! the one-thread simulation's, byte for byte.
 #![tactic(auto)]
 
+mod gates;
+mod links;
 mod runs;
+mod silent;
 mod steps;
+mod watched;
 
 use anyhow::Result;
+use std::io::Read;
+use std::sync::Wait;
+use std::thread::Threads;
 use wl_device::Host;
 use wl_report::report;
 use wl_serial::run_serial;
 use wl_setup::read_plan;
 
 fn main(rt: HostRuntime) -> Result<()> {
+    let mut texts = String::new(rt.alloc());
+    rt.reader().read_to_string(&mut texts)?;
+    for text in texts.as_str().split("---\n") {
+        answer(&rt, text)?;
+    }
+    Ok(())
+}
+
+/// Answers the steps of a block.
+fn answer<R: Threads + Wait + Sync + Print + AllocGlobal>(rt: &R, text: &str) -> Result<()> {
     let alloc = rt.alloc();
-    let mut input = rt.reader();
-    let steps = steps::read(alloc, &mut input)?;
-    let (plan, _) = read_plan(alloc, &mut Host::new(input))?;
+    let (steps, text) = steps::read(alloc, text)?;
+    let (plan, _) = read_plan(alloc, &mut Host::new(text.as_bytes()))?;
     let alone = report(alloc, &run_serial(alloc, &plan)?)?;
     for step in steps.as_slice() {
-        let said = runs::answer(&rt, alloc, &plan, alone.as_slice(), *step)?;
+        let said = runs::answer(rt, alloc, &plan, alone.as_slice(), *step)?;
         println!(rt; "{said}")?;
     }
     Ok(())

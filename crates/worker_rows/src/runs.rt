@@ -1,28 +1,25 @@
 //! Runs of a plan by workers, and what is answered to them.
 ghost use Rattle.wl_plan.specs.Checked.{IsChecked};
 
-use crate::steps::Step;
-use anyhow::Result;
+use crate::gates::{LastTurn, OneRefusal, Overlap, TurnCounts};
+use crate::links::{run_over, tell_links};
+use crate::silent::{Silent, silent_links};
+use crate::steps::{Kind, Step, by};
+use crate::watched::Counts;
+use anyhow::{Result, bail};
 use std::alloc::{AllocError, Global};
 use std::fmt;
 use std::fmt::{Display, Formatter, Write};
 use std::sync::Wait;
 use std::thread::Threads;
+use wl_group::Group;
 use wl_plan::Plan;
 use wl_report::report;
-use wl_worker::{Fault, Gate, simulate};
+use wl_serial::Outcome;
+use wl_worker::{Fault, Gate, LinkKind, simulate_by, simulate_over, work};
 
-/// A gate that refuses at most one turn of one worker.
-#[derive(Drop)]
-struct OneRefusal {
-    refused: Option<(u8, u64)>,
-}
-
-impl Gate for OneRefusal {
-    fn turn(&self, worker: u8, turn: u64) -> bool {
-        self.refused != Some((worker, turn))
-    }
-}
+/// A gate that lets each turn begin.
+const ANY_TURN: OneRefusal = OneRefusal { refused: None };
 
 /// What a run came to.
 #[derive(Clone, Copy, PartialEq, Eq)]
@@ -31,6 +28,8 @@ enum End {
     AsOneThread,
     /// Another outcome.
     Differs,
+    /// A worker had fewer turns than were wanted.
+    FewTurns,
     /// A fault.
     Fault(Fault),
 }
@@ -40,9 +39,82 @@ impl Display for End {
         match self {
             End::AsOneThread => f.write_str("as one thread"),
             End::Differs => f.write_str("differs"),
+            End::FewTurns => f.write_str("too few turns"),
             End::Fault(fault) => write!(f, "fault: {fault}"),
         }
     }
+}
+
+/// What a run by this outcome or fault came to, where `alone` is the report of the one-thread simulation.
+fn end_of(alloc: Global, alone: &[u8], ran: Result<Outcome, Fault>) -> Result<End, AllocError> {
+    match ran {
+        Ok(outcome) => {
+            if report(alloc, &outcome)?.as_slice() == alone {
+                return Ok(End::AsOneThread);
+            }
+            Ok(End::Differs)
+        }
+        Err(fault) => Ok(End::Fault(fault)),
+    }
+}
+
+/// One run by so many workers over this kind of link, each turn of which a gate lets begin or not.
+fn run_by<R: Threads + Wait + Sync, G: Gate + Sync>(
+    rt: &R,
+    alloc: Global,
+    plan: &Plan,
+    alone: &[u8],
+    workers: u8,
+    link: LinkKind,
+    gate: &G,
+) -> Result<End, AllocError>
+    requires { IsChecked plan.now }
+{
+    let ran = simulate_by(rt, alloc, plan.clone_in(alloc)?, workers, link, gate);
+    end_of(alloc, alone, ran)
+}
+
+/// One run by so many workers.
+fn run<R: Threads + Wait + Sync>(
+    rt: &R,
+    alloc: Global,
+    plan: &Plan,
+    alone: &[u8],
+    workers: u8,
+    link: LinkKind,
+    kind: Kind,
+) -> Result<End>
+    requires { IsChecked plan.now }
+{
+    Ok(match kind {
+        Kind::Free => run_by(rt, alloc, plan, alone, workers, link, &ANY_TURN)?,
+        Kind::Stop(worker, turn) => {
+            let gate = OneRefusal {
+                refused: Some((worker, turn)),
+            };
+            run_by(rt, alloc, plan, alone, workers, link, &gate)?
+        }
+        Kind::Turns(least) => {
+            let gate = TurnCounts::new(alloc)?;
+            let end = run_by(rt, alloc, plan, alone, workers, link, &gate)?;
+            let met = (0..workers).all(|worker| gate.of(worker) >= least);
+            if met { end } else { End::FewTurns }
+        }
+        Kind::Overlap(polls) => {
+            run_by(rt, alloc, plan, alone, workers, link, &Overlap::new(polls))?
+        }
+        Kind::Over => {
+            let gate = TurnCounts::new(alloc)?;
+            let ran = run_over(rt, alloc, plan, workers, link, &gate, &Counts::new());
+            end_of(alloc, alone, ran)?
+        }
+        Kind::Silent(turn) => {
+            let links = silent_links(alloc, workers)?;
+            let gate = LastTurn { refused: turn };
+            let ran = simulate_over(rt, alloc, plan.clone_in(alloc)?, links, &gate);
+            end_of(alloc, alone, ran)?
+        }
+    })
 }
 
 /// What is answered to a step, where `alone` is the report of the one-thread simulation.
@@ -55,48 +127,86 @@ pub fn answer<R: Threads + Wait + Sync>(
 ) -> Result<String>
     requires { IsChecked plan.now }
 {
-    let mut said = String::new(alloc);
     match step {
-        Step::Workers(workers) => {
-            let end = run(rt, alloc, plan, alone, workers, None)?;
-            write!(said, "{workers} workers: {end}")?;
+        Step::Run(workers, link, kind) => {
+            let end = run(rt, alloc, plan, alone, workers, link, kind)?;
+            let named = by(link);
+            Ok(format!(in alloc; "{workers} workers{named}{kind}: {end}")?)
         }
-        Step::Stop(worker, turn, workers) => {
-            let end = run(rt, alloc, plan, alone, workers, Some((worker, turn)))?;
-            write!(said, "{workers} workers, a turn refused: {end}")?;
+        Step::Again(workers, link, runs) => {
+            let same = runs_as_one(rt, alloc, plan, alone, workers, link, runs)?;
+            let named = by(link);
+            Ok(format!(in alloc; "{same} of {runs} runs{named}: as one thread")?)
         }
-        Step::Again(workers, runs) => {
-            let mut same = 0u32;
-            for _ in 0..runs {
-                if run(rt, alloc, plan, alone, workers, None)? == End::AsOneThread {
-                    same = same.saturating_add(1);
-                }
-            }
-            write!(said, "{same} of {runs} runs: as one thread")?;
+        Step::Count(workers, link) => counts(rt, alloc, plan, alone, workers, link),
+        Step::Links(link, node, count, until) => {
+            let said = tell_links(rt, alloc, plan, link, (node, count, until))?;
+            let named = by(link);
+            Ok(format!(in alloc; "links{named}: {said}")?)
+        }
+        Step::Alone(turn) => {
+            let fault = work_alone(rt, alloc, plan, turn)?;
+            Ok(format!(in alloc; "node 0 alone over a silent link: {fault}")?)
         }
     }
-    Ok(said)
 }
 
-/// One run by so many workers, one of which may be refused a turn.
-fn run<R: Threads + Wait + Sync>(
+/// How many of so many runs, one after another, come to what one thread comes to.
+fn runs_as_one<R: Threads + Wait + Sync>(
     rt: &R,
     alloc: Global,
     plan: &Plan,
     alone: &[u8],
     workers: u8,
-    refused: Option<(u8, u64)>,
-) -> Result<End, AllocError>
+    link: LinkKind,
+    runs: u32,
+) -> Result<u32, AllocError>
     requires { IsChecked plan.now }
 {
-    let gate = OneRefusal { refused };
-    match simulate(rt, alloc, plan.clone_in(alloc)?, workers, &gate) {
-        Ok(outcome) => {
-            if report(alloc, &outcome)?.as_slice() == alone {
-                return Ok(End::AsOneThread);
-            }
-            Ok(End::Differs)
+    let mut same = 0u32;
+    for _ in 0..runs {
+        let end = run_by(rt, alloc, plan, alone, workers, link, &ANY_TURN)?;
+        if end == End::AsOneThread {
+            same = same.saturating_add(1);
         }
-        Err(fault) => Ok(End::Fault(fault)),
+    }
+    Ok(same)
+}
+
+/// One run over links that are watched: the turns of each worker, and what all did together.
+fn counts<R: Threads + Wait + Sync>(
+    rt: &R,
+    alloc: Global,
+    plan: &Plan,
+    alone: &[u8],
+    workers: u8,
+    link: LinkKind,
+) -> Result<String>
+    requires { IsChecked plan.now }
+{
+    let gate = TurnCounts::new(alloc)?;
+    let counts = Counts::new();
+    let ran = run_over(rt, alloc, plan, workers, link, &gate, &counts);
+    let end = end_of(alloc, alone, ran)?;
+    let mut said = String::new(alloc);
+    let named = by(link);
+    write!(said, "{workers} workers{named}: turns")?;
+    for worker in 0..workers {
+        let turns = gate.of(worker);
+        write!(said, " {turns}")?;
+    }
+    write!(said, ", {counts}: {end}")?;
+    Ok(said)
+}
+
+/// The fault of a worker of node 0 over a link that brings nothing, which is refused this turn.
+fn work_alone<R: Wait>(rt: &R, alloc: Global, plan: &Plan, turn: u64) -> Result<Fault>
+    requires { IsChecked plan.now }
+{
+    let group = Group::new(alloc, plan, &[0])?;
+    let gate = LastTurn { refused: turn };
+    match work(rt, alloc, group, Silent { worker: 0 }, &gate) {
+        Ok(_) => bail!("a worker that came to its end"),
+        Err(fault) => Ok(fault),
     }
 }

@@ -27,7 +27,7 @@ pub enum Fault {
     /// A device failed, or the input is no text.
     #[error("Device")]
     Device,
-    /// Want of memory.
+    /// Out of memory.
     #[error("Memory")]
     Memory,
 }

@@ -13,6 +13,7 @@
 //! - `emitted`: how many records were emitted.
 //! - `report`: the report of what the nodes did, and a line `.`; `not at the end`, where a node isn't.
 //!
+//! Where memory is refused amid events, `Stopped n` stands in place of their answers, n being how many of them were handled; the steps behind them go on.
 //! The answers go to standard output, a line for each step but `text` and `report`. Where the script, the grouping or the plan is refused, nothing
 //! goes there: one line `fault: ..` goes to standard error, and the status is 1.
 //!

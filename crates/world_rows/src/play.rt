@@ -42,10 +42,15 @@ fn add(events: &mut Vec<Event>, event: Event) -> Result<(), AllocError>
     Ok(())
 }
 
-/// Handles events in one call, and tells what each was answered.
+/// Handles events in one call, and tells what each was answered, or how many were handled before memory was refused.
 fn run(alloc: Global, world: &mut World, events: &[Event], told: &mut String) -> Result<(), Fault> {
-    let Ok(answers) = world.run(alloc, events) else {
-        return Err(Fault::Memory);
+    let answers = match world.run(alloc, events) {
+        Ok(answers) => answers,
+        Err(stopped) => {
+            let done = stopped.done;
+            writeln!(told, "Stopped {done}")?;
+            return Ok(());
+        }
     };
     for answer in answers.as_slice() {
         match answer {

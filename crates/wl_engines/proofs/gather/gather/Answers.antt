@@ -11,7 +11,7 @@ pub pieces-init : goal.pieces-init
 pieces-init g c =
     let gives = g.R.Source.gives in
     let P : Progress → Type 0 = λ p. HasRead gives c.args.reader.now [] [] p c.args.reader.now in
-    ([], c.in_ok-replica.ensures ∙ ap (λ n. state_of n []) (sym most_nodes-is), [], subst P (sym c.in_ok-input.ensures) (nothing_read gives c.args.reader.now))
+    ([], c.in_ok-rows.ensures ∙ ap (λ n. state_of n []) (sym most_nodes-is), [], subst P (sym c.in_ok-input.ensures) (nothing_read gives c.args.reader.now))
 
 pub take_batch-requires-clause-fit : goal.take_batch-requires-clause-fit
 take_batch-requires-clause-fit g c =

@@ -7,5 +7,5 @@ use Rattle.wl_engines.proofs.gather.take_batch.Given as goal
 -- what was taken so far is in
 abbrev pub invariant-loop-told : goal.invariant-loop-told
 invariant-loop-told l =
-    (l.replica.nodes ≡ most_nodes)
-    × ((before : List Record) → l.initial.replica ≡ state_of_all before → l.replica ≡ state_of_all (before ++ take l.told-index l.batch))
+    (l.rows.nodes ≡ most_nodes)
+    × ((before : List Record) → l.initial.rows ≡ state_of_all before → l.rows ≡ state_of_all (before ++ take l.told-index l.batch))

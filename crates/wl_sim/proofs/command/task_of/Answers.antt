@@ -1,6 +1,6 @@
 use Rattle.std.proofs.Common.{◌∙◌, ap, sym, subst, map, option_and_then, option_map, string_bytes, List}
 use Rattle.clap.specs.Words.{App, Text, fault_of, is_simple, is_simple_and_free, subcommand_of}
-use Rattle.wl_sim.specs.CommandLine.{tick_among, HasTick, workers_among, HasWorkers}
+use Rattle.wl_sim.specs.CommandLine.{tick_among, HasTick, workers_among, HasWorkers, link_among, HasLink}
 use Rattle.clap.proofs.TakesLemmas.{passed_up}
 use Rattle.wl_sim.proofs.Words.{memory_alone, name_in_front, program_is_free, program_is_simple}
 use Rattle.wl_sim.proofs.command.task_of.Goals as goal
@@ -16,17 +16,21 @@ returns-clause-task c =
     ∙ ap (λ o. option_and_then tick_among (option_map (λ p. p.1) o)) (rows ∙ ap (λ (a : App). subcommand_of a words) is) in
     let workers = c.workers_of_subcommand-workers.ensures
     ∙ ap (λ o. option_and_then workers_among (option_map (λ p. p.1) o)) (rows ∙ ap (λ (a : App). subcommand_of a words) is) in
+    let link = c.link_of_subcommand-link.ensures
+    ∙ ap (λ o. option_and_then link_among (option_map (λ p. p.1) o)) (rows ∙ ap (λ (a : App). subcommand_of a words) is) in
     λ task. (
       λ found. let told = (c.task_named.ensures task).0 found in (
         sym name ∙ told.0,
         subst (λ given. HasTick given task) tick told.1,
         subst (λ given. HasWorkers given task) workers told.2,
+        subst (λ given. HasLink given task) link told.3,
         clean,
       ),
       λ enters. (c.task_named.ensures task).1 (
         name ∙ enters.0,
         subst (λ given. HasTick given task) (sym tick) enters.1,
         subst (λ given. HasWorkers given task) (sym workers) enters.2,
+        subst (λ given. HasLink given task) (sym link) enters.3,
       ),
     )
 

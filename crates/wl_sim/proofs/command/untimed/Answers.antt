@@ -1,5 +1,5 @@
-use Rattle.std.proofs.Common.{◌∙◌, ap, ap₂, codes, Bool, true}
-use Rattle.clap.specs.Words.{App, Shape, new_app, with_rule, with_subcommand}
+use Rattle.std.proofs.Common.{◌∙◌, ap, ap₂, Bool, true}
+use Rattle.clap.specs.Words.{App, Shape, with_subcommand}
 use Rattle.clap.specs.Simple.{app_of_fields, on_top}
 use Rattle.clap.specs.declared.builder.command.Command.{Command}
 use Rattle.clap.specs.declared.builder.command.Command.TheOpen.{Command-F}
@@ -20,7 +20,7 @@ returns c =
     let horizon = ap app_of_fields c.about-horizon.ensures ∙ c.new-2.ensures.app in
     let check = ap app_of_fields c.about-check.ensures ∙ c.new-3.ensures.app in
     let records = ap app_of_fields c.about-records.ensures ∙ c.new-4.ensures.app in
-    let run = c.in_ok-run.ensures.app ∙ ap (with_rule (new_app (codes "run"))) c.workers_option.ensures.rule in
+    let run = c.in_ok-run.ensures.app in
     let explain = ap app_of_fields c.about-explain.ensures ∙ c.new-5.ensures.app in
     let all = ap app_of_fields c.subcommand_required.ensures ∙ ap wants_one (ap app_of_fields c.about.ensures ∙ c.new-6.ensures.app) in
     let one = c.in_ok-subcommand.ensures.shape (ap is_global c.about-merge.ensures ∙ c.new.ensures.local) ∙ ap₂ with_subcommand all (ap top_of merge) in

@@ -1,4 +1,4 @@
-use Rattle.std.proofs.Common.{◌≡◌, ◌∙◌, ◌++◌, ◌<◌, ap, ap₂, sym, arith, append-nil, append_assoc, [], ◌∷◌}
+use Rattle.std.proofs.Common.{◌∙◌, ◌++◌, ap, ap₂, sym, arith, append-nil, append_assoc, [], ◌∷◌}
 use Rattle.wl_views.proofs.Lists.{last_digit, no_digit}
 use Rattle.wl_views.proofs.digits.+push_digits.Goals as goal
 

@@ -1,5 +1,5 @@
 -- The lines of one node more after those of the nodes before it.
-use Rattle.std.proofs.Common.{◌∙◌, ◌++◌, false, string_bytes}
+use Rattle.std.proofs.Common.{◌∙◌, false, string_bytes}
 use Rattle.wl_views.specs.declared.signals.NodeSignals.{NodeSignals}
 use Rattle.wl_views.specs.Vcd.{node_values}
 use Rattle.wl_report.proofs.Callers.{piece_more}

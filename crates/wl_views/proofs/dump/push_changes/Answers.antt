@@ -1,5 +1,5 @@
 -- The lines of one node more after those of the nodes before it.
-use Rattle.std.proofs.Common.{◌≡◌, ◌∙◌, ◌++◌, ◌<◌, ◌≤◌, false, ap, ap₂, sym, arith, length, take, get_or, string_bytes, append_assoc, List}
+use Rattle.std.proofs.Common.{◌∙◌, ◌++◌, ◌<◌, ◌≤◌, false, ap, ap₂, sym, arith, length, take, get_or, string_bytes, append_assoc, List}
 use Rattle.std.proofs.lemmas.List.{take_all}
 use Rattle.wl_views.specs.declared.signals.NodeSignals.{NodeSignals}
 use Rattle.wl_views.specs.Vcd.{changes_from, node_changes}

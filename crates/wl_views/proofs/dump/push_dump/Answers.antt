@@ -1,5 +1,5 @@
 -- The dump begins with the levels at tick 0, and each look tells one tick more and all those up to the next one.
-use Rattle.std.proofs.Common.{◌≡◌, ◌∙◌, ◌++◌, ◌-◌, ◌<◌, ap, ap₂, sym, arith, ℕ, List, length, min, string_bytes}
+use Rattle.std.proofs.Common.{◌≡◌, ◌∙◌, ◌++◌, ◌-◌, ◌<◌, ap, ap₂, sym, arith, ℕ, length, min, string_bytes}
 use Rattle.std.proofs.lemmas.List.FromFn.{length-map-range_with_len}
 use Rattle.wl_plan.specs.declared.plan.Plan.{Plan}
 use Rattle.wl_views.specs.Signals.{node_signals, signals}

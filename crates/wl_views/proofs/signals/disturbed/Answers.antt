@@ -1,5 +1,5 @@
 -- One disturbance more.
-use Rattle.std.proofs.Common.{◌≡◌, ◌∙◌, ◌+◌, ◌<◌, ◌&&◌, ◌||◌, ℕ, List, length, get_or, take, nat_le, nat_lt, ap, sym, subst, arith}
+use Rattle.std.proofs.Common.{◌≡◌, ◌+◌, ◌<◌, ◌&&◌, ◌||◌, ℕ, List, length, get_or, take, nat_le, nat_lt, ap, sym, subst, arith}
 use Rattle.std.specs.List.{list_any}
 use Rattle.std.proofs.lemmas.List.Folds.{list_any_more}
 use Rattle.wl_plan.specs.declared.plan.Disturbance.{Disturbance}

@@ -1,5 +1,5 @@
 -- One node more, each by its changes.
-use Rattle.std.proofs.Common.{◌≡◌, ◌∙◌, ◌<◌, ◌+◌, ◌-◌, ◌&&◌, ℕ, List, length, get_or, nat_le, ap, sym, subst, arith, add-one}
+use Rattle.std.proofs.Common.{◌≡◌, ◌∙◌, ◌<◌, ◌-◌, ◌&&◌, List, length, get_or, nat_le, ap, sym, subst, arith, add-one}
 use Rattle.wl_topology.specs.Delays.{delay_of}
 use Rattle.wl_topology.specs.Driven.{driven}
 use Rattle.wl_record_core.specs.Truth.{IsIncreasing}

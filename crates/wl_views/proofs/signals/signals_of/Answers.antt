@@ -1,10 +1,7 @@
 -- A node's drive by its changes, what it finds by all nodes' changes and the disturbances, and its mark by its samples.
-use Rattle.std.proofs.Common.{◌≡◌, ◌∙◌, ◌<◌, ◌||◌, ℕ, List, length, get_or, ap, sym, subst, arith}
-use Rattle.wl_topology.specs.Delays.{delay_of}
-use Rattle.wl_topology.specs.Driven.{driven}
+use Rattle.std.proofs.Common.{◌≡◌, ◌∙◌, List, length, get_or, ap, sym, subst, arith}
 use Rattle.wl_record_core.specs.Truth.{IsIncreasing}
-use Rattle.wl_plan.specs.PlanLine.{disturbed, line_of, table_of}
-use Rattle.wl_plan.specs.Simulation.{level}
+use Rattle.wl_plan.specs.PlanLine.{line_of, table_of}
 use Rattle.wl_serial.specs.declared.outcome.NodeOutcome.{NodeOutcome}
 use Rattle.wl_views.specs.Held.{Holds, turned_at}
 use Rattle.wl_views.specs.Signals.{sample_ticks}
@@ -42,10 +39,7 @@ returns c =
     let drive : Holds (turned_at 0 (table_of c.args.plan.now c.args.i)) c.args.t c.turned-drive.result =
     subst (λ xs. Holds (turned_at 0 xs) c.args.t c.turned-drive.result) are c.turned-drive.ensures
     in
-    let line : Holds (λ u. driven (length c.args.plan.now.nodes) (delay_of c.args.plan.now.topology) (level (line_of c.args.plan.now)) c.args.i u || disturbed c.args.plan.now c.args.i u) c.args.t c.or-line.result =
-    c.or-line.ensures (driven (length c.args.plan.now.nodes) (delay_of c.args.plan.now.topology) (level (line_of c.args.plan.now)) c.args.i) (disturbed c.args.plan.now c.args.i)
-    c.args.t c.driven-others.ensures c.disturbed.ensures
-    in
+    let line = c.line_at-line.ensures in
     let mark : Holds (turned_at 0 (sample_ticks c.args.plan.now c.args.i)) c.args.t c.turned-mark.result =
     subst (λ xs. Holds (turned_at 0 xs) c.args.t c.turned-mark.result) c.requires.samples c.turned-mark.ensures
     in
@@ -56,6 +50,6 @@ returns c =
       later = omega arith;
       same = λ u from below.
           signals_are c.simulation_laws.ensures c.args.plan.now (c.checked_is_sound.ensures c.args.plan.now c.requires.checked) c.args.i c.requires.node u
-          c.turned-drive.result.value c.or-line.result.value c.turned-mark.result.value
+          c.turned-drive.result.value c.line_at-line.result.value c.turned-mark.result.value
           (drive.same u from (omega arith)) (line.same u from (omega arith)) (mark.same u from (omega arith));
     }

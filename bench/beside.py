@@ -1,0 +1,83 @@
+#!/usr/bin/env python3
+"""Measures two programs of Wireline beside each other, by turns on the same inputs, so that both meet the same machine.
+
+usage: beside.py OURS OTHER [WORD..]      RUNS (default 15) is the number of runs; only inputs whose name has one of the WORDs, where some are given
+
+Prints for each input the least wall and processor time of both in milliseconds, the ratios, the peak memory in MiB, and whether both wrote the same.
+"""
+import hashlib
+import os
+import subprocess
+import sys
+import tempfile
+import time
+
+sys.dont_write_bytecode = True
+import worst
+
+HERE = os.path.dirname(os.path.abspath(__file__))
+
+
+def made(script, *words):
+    return subprocess.run([sys.executable, os.path.join(HERE, script), *words], capture_output=True, check=True).stdout
+
+
+INPUTS = [
+    ("run, busy: 16 nodes, 64 frames each", "run", lambda: worst.plan().encode()),
+    ("run, busy, drifting, 16 disturbances (plan.py)", "run", lambda: made("plan.py")),
+    ("run, a pair, one sends all the time", "run", lambda: worst.plan(nodes=2, senders=1).encode()),
+    ("run, one silent node, 1,048,000 quanta", "run", lambda: worst.plan(nodes=1, frames=0, quanta=1_048_000, num=65_535).encode()),
+    ("run, 16 idle nodes", "run", lambda: worst.plan(frames=0).encode()),
+    ("run, busy, 64 disturbances", "run", lambda: worst.plan(disturbances=64).encode()),
+    ("run, a small plan: 2 nodes, 700 quanta", "run", lambda: worst.plan(nodes=2, frames=1, quanta=700).encode()),
+    ("merge, 64 MiB (records.py)", "merge", lambda: made("records.py", "67108864")),
+    ("horizon, 64 MiB (records.py)", "horizon", lambda: made("records.py", "67108864")),
+    ("merge, 64 MiB, descending", "merge", lambda: worst.upto(2 ** 26, worst.RECORDS["descending, all nodes"]())),
+    ("merge, 64 MiB, all clash", "merge", lambda: worst.upto(2 ** 26, worst.RECORDS["all clash"]())),
+    ("merge, 64 MiB, one node", "merge", lambda: worst.upto(2 ** 26, worst.RECORDS["one node"]())),
+    ("merge, 64 MiB, highest number alone", "merge", lambda: worst.upto(2 ** 26, worst.RECORDS["highest number alone"]())),
+    ("merge, 64 MiB, one record", "merge", lambda: worst.upto(2 ** 26, worst.RECORDS["one record"]())),
+]
+
+
+def once(program, command, path, out):
+    with open(path, "rb") as source, open(out, "wb") as sink:
+        start = time.monotonic()
+        child = subprocess.Popen(["/usr/bin/env", "-i", program, command], stdin=source, stdout=sink)
+        _, status, usage = os.wait4(child.pid, 0)
+        return time.monotonic() - start, usage.ru_utime + usage.ru_stime, os.waitstatus_to_exitcode(status)
+
+
+def peak(program, command, path, out):
+    """Peak memory in MiB, without that of this Python: GNU time starts the program."""
+    with open(path, "rb") as source, open(out, "wb") as sink:
+        told = subprocess.run(["/usr/bin/time", "-f", "%M", program, command], stdin=source, stdout=sink, stderr=subprocess.PIPE).stderr
+    return int(told.split()[-1]) / 1024
+
+
+def main():
+    if len(sys.argv) < 3: sys.exit(sys.stderr.write(__doc__) and 2)
+    programs, words, runs = sys.argv[1:3], sys.argv[3:], int(os.environ.get("RUNS", "15"))
+    timed = os.path.exists("/usr/bin/time")
+    print("| input | wall, ms: ours, other | ratio | processor, ms: ours, other | ratio | peak, MiB: ours, other | output |\n|---|---:|---:|---:|---:|---:|---|")
+    for name, command, make in INPUTS:
+        if words and not any(word in name for word in words): continue
+        with tempfile.TemporaryDirectory() as room:
+            path, outs = os.path.join(room, "in"), [os.path.join(room, which) for which in ("ours", "other")]
+            with open(path, "wb") as file: file.write(make())
+            least = [[1e9, 1e9], [1e9, 1e9]]
+            for _ in range(runs):
+                for which in (0, 1):
+                    wall, processor, status = once(programs[which], command, path, outs[which])
+                    assert status == 0, f"{name}: status {status} of {programs[which]}"
+                    least[which] = [min(least[which][0], wall), min(least[which][1], processor)]
+            same = len({hashlib.sha256(open(out, "rb").read()).digest() for out in outs}) == 1
+            peaks = [peak(programs[which], command, path, outs[which]) if timed else 0 for which in (0, 1)]
+        (wall, cpu), (wall2, cpu2) = least
+        print(f"| {name} | {wall * 1000:.1f}, {wall2 * 1000:.1f} | {wall / wall2:.2f} | {cpu * 1000:.1f}, {cpu2 * 1000:.1f} | {cpu / max(cpu2, 1e-4):.2f} |",
+              f"{peaks[0]:.0f}, {peaks[1]:.0f} | {'the same' if same else 'DIFFERS'} |", flush=True)
+    print(f"least of {runs} by turns, load {os.getloadavg()[0]:.1f}, {os.cpu_count()} processors")
+
+
+if __name__ == "__main__":
+    main()

@@ -1,0 +1,116 @@
+#!/usr/bin/env python3
+"""Compares runs by workers with runs by one thread, and measures them.
+
+usage: workers.py same PROGRAM [SEED [COUNT]]    PROGRAM is the built wl_sim: random plans of bench/differ.py by 2, 3 and 8 workers and either link; the
+                                                 bytes, the fault and the status have to be those of one thread; status 1 where one differs
+       workers.py speed ROWS [ROUNDS]            ROWS is the built worker_rows: three plans of 16 nodes with 60,000 quanta each, by one thread and by
+                                                 1, 2 and 4 workers and either link in turns; the table of docs/workers.md
+
+In the table a time is the least and the median of the rounds, in seconds. One thread's is that of reading the plan, the simulation and the report;
+that of workers is what a process that runs them after it takes more. Records, turns and waits are of all workers together, in the last round. Sleeps
+are voluntary context switches (getrusage) beyond those of one thread, the median.
+"""
+import os
+import random
+import re
+import statistics
+import subprocess
+import sys
+import tempfile
+import time
+from datetime import date
+from pathlib import Path
+
+sys.dont_write_bytecode = True
+HERE = Path(__file__).resolve().parent
+NUMBERS = (2, 3, 8)
+LINKS = ("hub", "mail")
+RUNS = [(None, 0)] + [(link, workers) for workers in (1, 2, 4) for link in LINKS]
+
+
+def answer(words, text):
+    ran = subprocess.run(words, input=text, capture_output=True, timeout=600)
+    return ran.returncode, ran.stdout, ran.stderr
+
+
+def same(program, seed, count):
+    """Runs random plans, and says whether each answer by workers is that of one thread."""
+    import differ
+
+    rng, differs, refused = random.Random(seed), 0, 0
+    for number in range(count):
+        text = differ.toml_text(differ.random_plan(rng), False).encode() + b"\n"
+        wanted = answer([program, "run"], text)
+        refused += wanted[0] != 0
+        for workers, link in ((workers, link) for workers in NUMBERS for link in LINKS):
+            if answer([program, "run", "--workers", str(workers), "--link", link], text) != wanted:
+                differs += 1
+                with tempfile.NamedTemporaryFile("wb", prefix=f"workers-{workers}-{link}-", suffix=".toml", delete=False) as kept: kept.write(text)
+                print(f"plan {number} by {workers} workers, {link}, differs: {kept.name}")
+    many = ", ".join(map(str, NUMBERS))
+    print(f"{count} random plans from {seed}, of which {refused} are refused, by {many} workers and either link: {differs} answers differ")
+    return differs == 0
+
+
+def plans():
+    """The busy plan of bench/plan.py; the same with 400 quanta from each node to the cable; the same with a frame a node and no disturbances."""
+    busy = subprocess.run([sys.executable, HERE / "plan.py"], capture_output=True, text=True, check=True).stdout
+    idle = re.sub(r"\n\[\[disturbance\]\]\n(?:.+\n)+", "", busy)
+    idle = re.sub(r"(\n\[\[node\.frame\]\]\n(?:.+\n)+)(?:\n\[\[node\.frame\]\]\n(?:.+\n)+)*", r"\1", idle)
+    return {"busy": busy, "delays of 400 quanta": busy.replace("\nout = 40\n", "\nout = 40000\n"), "mostly idle": idle}
+
+
+def run_rows(rows, text, link, workers):
+    """One process: its wall time, its sleeps, and what it says of the workers."""
+    steps = f"{'mail ' if link == 'mail' else ''}count {workers}\n" if workers else ""
+    with tempfile.TemporaryFile() as source, tempfile.TemporaryFile() as sink:
+        source.write((steps + "plan\n" + text).encode())
+        source.seek(0)
+        start = time.monotonic()
+        child = subprocess.Popen([rows], stdin=source, stdout=sink)
+        _, status, usage = os.wait4(child.pid, 0)
+        wall = time.monotonic() - start
+        sink.seek(0)
+        said = sink.read().decode()
+    if status or workers and not said.endswith(": as one thread\n"): sys.exit(f"{workers} workers: status {status}, {said}")
+    return wall, usage.ru_nvcsw, said
+
+
+def counted(said):
+    """The records, turns and waits of all workers together."""
+    turns, records, waits = re.fullmatch(r".*turns ([\d ]+), records (\d+), gives \d+, news \d+, waits (\d+): .*\n", said).groups()
+    return f"{records} | {sum(map(int, turns.split()))} | {waits}"
+
+
+def seconds(walls, alone):
+    return f"{min(walls) - alone:.2f}, {statistics.median(walls) - alone:.2f}"
+
+
+def speed(rows, rounds):
+    print("| Plan | Workers | Link | Seconds: least, median | Records | Turns | Waits | Sleeps |\n|---|---|---|---|---|---|---|---|")
+    for name, text in plans().items():
+        walls, sleeps, said = {run: [] for run in RUNS}, {run: [] for run in RUNS}, {}
+        for _ in range(rounds):
+            for run in RUNS:
+                wall, slept, said[run] = run_rows(rows, text, *run)
+                walls[run].append(wall)
+                sleeps[run].append(slept)
+        alone = statistics.median(walls[RUNS[0]])
+        print(f"| {name} | one thread | | {seconds(walls[RUNS[0]], 0)} | | | | |")
+        for run in RUNS[1:]:
+            slept = statistics.median(sleeps[run]) - statistics.median(sleeps[RUNS[0]])
+            print(f"| {name} | {run[1]} | {run[0]} | {seconds(walls[run], alone)} | {counted(said[run])} | {slept:.0f} |", flush=True)
+    model = next(line.split(": ")[1].strip() for line in open("/proc/cpuinfo") if line.startswith("model name"))
+    print(f"\n{model}, {os.cpu_count()} processors, load {os.getloadavg()[0]:.1f}, {rounds} rounds, {date.today()}")
+
+
+def main():
+    words = sys.argv[1:]
+    if len(words) in (2, 3, 4) and words[0] == "same":
+        seed, count = map(int, words[2:] + ["1", "500"][len(words) - 2:])
+        sys.exit(0 if same(words[1], seed, count) else 1)
+    if len(words) in (2, 3) and words[0] == "speed": speed(words[1], int(words[2]) if len(words) == 3 else 5)
+    else: sys.exit(__doc__)
+
+
+main()

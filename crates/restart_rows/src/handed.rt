@@ -1,0 +1,198 @@
+//! What links bring again, and a letter of another plan.
+ghost use Rattle.std.specs.Prelude.{◌≡◌, ◌≤◌, IfOk, length};
+ghost use Rattle.wl_plan.specs.declared.plan.Plan.{Plan as GivenPlan};
+ghost use Rattle.wl_plan.specs.Checked.{IsChecked};
+
+use crate::steps::Kind;
+use anyhow::{Result, bail};
+use std::alloc::{AllocError, Global};
+use std::sync::Wait;
+use wl_group::{Group, value_laws};
+use wl_hub::Hub;
+use wl_mail::{MailFault, Post, posts};
+use wl_plan::Plan;
+use wl_worker::{Bell, HubLink, Link, LinkFault, MailLink, PlanName, shape_of_plan};
+
+/// Node 0 alone gives what it emits by a link of this kind; what another link brings to a group of node 1, before and after a restart.
+pub fn tell_links<R: Wait>(rt: &R, alloc: Global, plan: &Plan, kind: Kind) -> Result<String>
+    requires { IsChecked plan.now }
+{
+    if plan.nodes.len() < 2 {
+        bail!("one node alone");
+    }
+    let bell = Bell::new(alloc, 2)?;
+    match kind {
+        Kind::Hub => {
+            let shape = shape_of_plan(alloc, plan)?;
+            let name = PlanName {
+                plan: plan.clone_in(alloc)?,
+            };
+            let (hub, pass) = Hub::start(alloc, shape.as_slice(), &name)?;
+            let mut pass = pass;
+            let own = hub.split(&mut pass);
+            let giving = HubLink::new(rt, alloc, &hub, own, &bell, 0)?;
+            let bringing = HubLink::new(rt, alloc, &hub, pass, &bell, 1)?;
+            tell_two(alloc, plan, giving, bringing)
+        }
+        Kind::Mail => {
+            let (mut posts, _hold) = posts(alloc, 2)?;
+            let (Some(second), Some(first)) = (posts.pop(), posts.pop()) else {
+                bail!("not two posts");
+            };
+            let giving = MailLink::new(rt, alloc, first, plan, &bell, 0)?;
+            let bringing = MailLink::new(rt, alloc, second, plan, &bell, 1)?;
+            tell_two(alloc, plan, giving, bringing)
+        }
+    }
+}
+
+/// One link gives what node 0 emits, and another one brings what there is to a group of node 1, twice, and once more after a restart.
+fn tell_two<L: Link + Drop>(alloc: Global, plan: &Plan, giving: L, bringing: L) -> Result<String>
+    requires checked { IsChecked plan.now }
+    requires nodes { 2 ≤ length plan.now.nodes }
+    requires giving { L.is_of giving plan.now }
+    requires bringing { L.is_of bringing plan.now }
+{
+    let mut giving = giving;
+    let mut bringing = bringing;
+    give_first(alloc, plan, &mut giving)?;
+    let mut group = Group::new(alloc, plan, &[1])?;
+    let came = bring(alloc, &mut group, &mut bringing)?;
+    let more = bring(alloc, &mut group, &mut bringing)?;
+    let known = horizon_of(&group, 0);
+    restart(&mut group)?;
+    bringing.rewind();
+    let anew = bring(alloc, &mut group, &mut bringing)?;
+    let same = horizon_of(&group, 0) == known;
+    Ok(format!(in alloc; "came {came}, then {more}; restarted: came {anew}, all of it {same}")?)
+}
+
+/// Gives by a link what node 0 alone emits.
+fn give_first<L: Link>(alloc: Global, plan: &Plan, link: &mut L) -> Result<(), LinkFault>
+    requires checked { IsChecked plan.now }
+    requires nodes { 2 ≤ length plan.now.nodes }
+    requires of { L.is_of link.old plan.now }
+{
+    let mut group = Group::new(alloc, plan, &[0])?;
+    run_on(alloc, &mut group)?;
+    give_emitted(alloc, &group, link)
+}
+
+/// Gives by a link what a group emitted.
+#[tactic(auto, using(crate::proofs::Handing::emitted_true))]
+fn give_emitted<L: Link>(alloc: Global, group: &Group, link: &mut L) -> Result<(), LinkFault>
+    requires { L.is_of link.old group.now.plan }
+{
+    link.give(alloc, group.emitted())
+}
+
+/// What a link brings to a group: whether the group knows more.
+fn bring<L: Link>(alloc: Global, group: &mut Group, link: &mut L) -> Result<bool, LinkFault>
+    requires { L.is_of link.old group.old.plan }
+    ensures same { (p : GivenPlan) → L.is_of link.old p → L.is_of link.new p }
+    ensures plan { group.new.plan ≡ group.old.plan }
+{
+    link.fetch(alloc, group)
+}
+
+/// Restarts a group.
+fn restart(group: &mut Group) -> Result<(), AllocError>
+    ensures { group.new.plan ≡ group.old.plan }
+{
+    group.restart()
+}
+
+/// Advances a group as far as it can.
+fn run_on(alloc: Global, group: &mut Group) -> Result<(), AllocError>
+    ensures { group.new.plan ≡ group.old.plan }
+{
+    value_laws();
+    // (reading a part gives the proof what the type keeps)
+    let _ = group.plan();
+    group.advance_all(alloc)?;
+    Ok(())
+}
+
+/// Up to when a group knows a node; 0 for a number that is no node.
+fn horizon_of(group: &Group, node: u8) -> u64 {
+    if node < group.replica().nodes() {
+        group.replica().horizon(node)
+    } else {
+        0
+    }
+}
+
+/// How many quanta a member has run; 0 for a node that is none.
+fn quanta_of(group: &Group, node: u8) -> u64 {
+    if group.has(node) {
+        group.node(node).quanta()
+    } else {
+        0
+    }
+}
+
+/// A letter of the plan with its end one tick later comes to a group of node 0 of the plan.
+pub fn tell_foreign<R: Wait>(rt: &R, alloc: Global, plan: &Plan) -> Result<String>
+    requires { IsChecked plan.now }
+{
+    let mut later = plan.clone_in(alloc)?;
+    later.end = later.end.saturating_add(1);
+    if later.nodes.len() < 2 || later.check().is_err() {
+        bail!("one node alone, or the latest end");
+    }
+    let (mut posts, _hold) = posts(alloc, 2)?;
+    let (Some(mut second), Some(mut first)) = (posts.pop(), posts.pop()) else {
+        bail!("not two posts");
+    };
+    send_first(rt, alloc, &later, &mut second)?;
+    let (foreign, same) = receive_one(rt, alloc, plan, &mut first)?;
+    Ok(format!(in alloc; "a letter of another plan: foreign {foreign}, group unchanged {same}")?)
+}
+
+/// Sends by a post what node 1 alone emits.
+fn send_first<R: Wait>(rt: &R, alloc: Global, plan: &Plan, post: &mut Post) -> Result<(), MailFault>
+    requires checked { IsChecked plan.now }
+    requires nodes { 2 ≤ length plan.now.nodes }
+{
+    let mut group = Group::new(alloc, plan, &[1])?;
+    run_on(alloc, &mut group)?;
+    post_emitted(rt, alloc, &group, post)
+}
+
+/// Sends by a post what a group emitted.
+#[tactic(auto, using(crate::proofs::Handing::emitted_true))]
+fn post_emitted<R: Wait>(
+    rt: &R,
+    alloc: Global,
+    group: &Group,
+    post: &mut Post,
+) -> Result<(), MailFault> {
+    post.send(rt, alloc, group.plan(), group.emitted())
+}
+
+/// Whether the next letter of a post is foreign to a group of node 0, and whether that group is then as it was: what it knows, and its quanta.
+fn receive_one<R: Wait>(
+    rt: &R,
+    alloc: Global,
+    plan: &Plan,
+    post: &mut Post,
+) -> Result<(bool, bool), AllocError>
+    requires checked { IsChecked plan.now }
+    requires nodes { 1 ≤ length plan.now.nodes }
+{
+    let mut group = Group::new(alloc, plan, &[0])?;
+    run_on(alloc, &mut group)?;
+    let known = group.replica().canonical(alloc)?;
+    let quanta = quanta_of(&group, 0);
+    let foreign = is_foreign(rt, alloc, &mut group, post);
+    let then = group.replica().canonical(alloc)?;
+    Ok((
+        foreign,
+        known.as_slice() == then.as_slice() && quanta == quanta_of(&group, 0),
+    ))
+}
+
+/// Whether the next letter of a post is foreign to a group.
+fn is_foreign<R: Wait>(rt: &R, alloc: Global, group: &mut Group, post: &mut Post) -> bool {
+    post.receive(rt, alloc, group) == Err(MailFault::Foreign)
+}

@@ -1,0 +1,460 @@
+//! The text on a plan that is refused: what is wrong, with its place, keys and values, and what to change.
+ghost use Rattle.std.specs.Prelude.{◌≡◌, ◌+◌, ◌<◌, ◌≤◌, ◌^◌, ◌++◌, IfOk, OnOk, Some, length, option_and_then, option_map, string_bytes};
+ghost use Rattle.toml.specs.Data.{get_member};
+ghost use Rattle.toml.specs.View.{array_view, view, table_view};
+ghost use Rattle.wl_setup.specs.Kinds.{list_of, value_at};
+ghost use Rattle.wl_setup.specs.Shown.{shown};
+ghost use Rattle.wl_setup.specs.Spots.{table_at};
+ghost use Rattle.wl_explain.specs.Refusals.{IsRefusal, begins_letter, keys_of_clock, column_behind, column_number, fault_spot, keys_of_frame, frame_called, lacking, rate_called, valued, is_newline, key_words, keys_words, line_number, lines, missing_words, name_words, named_words, node_called, two_nodes, place_words, plan_subject, quanta_words, refusal_words, keys_of_segments, size_words, spot_words, subject, subject_words, toml_words, topology_subject, value_words};
+
+use crate::remedies::{CORRECT, NO_TOML, SHORTEN, TOO_LONG, cause, remedy};
+use std::alloc::{AllocError, Global};
+use toml::value::Array;
+use toml::{Table, Value};
+use wl_clock::ClockFault;
+use wl_frame::frame::FrameFault;
+use wl_plan::PlanFault;
+use wl_segments::SegmentsFault;
+use wl_setup::{
+    Key, NoDocument, SetupFault, Spot, Text, document_or_place, faulty_spot, table_at, value_named,
+};
+use wl_topology::TopologyFault;
+
+/// What a value is.
+fn value_words(alloc: Global, value: &Value) -> Result<String, AllocError>
+    ensures { IfOk result (λ text. string_bytes text ≡ value_words (view value.now)) }
+{
+    match value {
+        Value::String(text) => {
+            let shown = Text::new(alloc, text.as_str())?;
+            format!(in alloc; "\"{shown}\"")
+        }
+        Value::Integer(number) => {
+            let number = *number;
+            format!(in alloc; "{number}")
+        }
+        Value::Float(_) => String::from_str(alloc, "a number with a fraction"),
+        Value::Boolean(truth) => String::from_str(alloc, if *truth { "true" } else { "false" }),
+        Value::Datetime(_) => String::from_str(alloc, "a date or a time"),
+        Value::Array(items) => {
+            let many = many_of(items);
+            format!(in alloc; "an array of {many}")
+        }
+        Value::Table(_) => String::from_str(alloc, "a table"),
+    }
+}
+
+/// The number of an array's elements.
+#[tactic(auto, using(crate::proofs::Counts::counted))]
+fn many_of(items: &Array) -> usize
+    ensures { result ≡ length (list_of (array_view items.now)) }
+{
+    items.len()
+}
+
+/// Adds a key and what its value is.
+fn push_key(text: &mut String, label: &str, said: &str) -> Result<(), AllocError>
+    ensures { OnOk result (string_bytes text.new ≡ string_bytes text.old ++ valued label.now said.now) }
+{
+    write!(text, ", {label} = {said}")
+}
+
+/// A key with its value, where it is there.
+fn key_words(alloc: Global, label: &str, value: Option<&Value>) -> Result<String, AllocError>
+    ensures { IfOk result (λ text. string_bytes text ≡ key_words label.now (option_map (λ v. view v.now) value.entry)) }
+{
+    let mut text = String::new(alloc);
+    if let Some(value) = value {
+        let said = value_words(alloc, value)?;
+        push_key(&mut text, label, said.as_str())?;
+    }
+    Ok(text)
+}
+
+/// Some keys of a table with their values.
+fn keys_in(alloc: Global, keys: &[Key], table: &Table) -> Result<String, AllocError>
+    ensures { IfOk result (λ text. string_bytes text ≡ keys_words keys.now (Some (table_view table.now))) }
+{
+    let mut text = String::new(alloc);
+    for key in keys {
+        let label = key.text();
+        let said = key_words(alloc, label, value_named(table, label))?;
+        text.push_str(said.as_str())?;
+    }
+    Ok(text)
+}
+
+fn keys_words(alloc: Global, keys: &[Key], table: Option<&Table>) -> Result<String, AllocError>
+    ensures { IfOk result (λ text. string_bytes text
+        ≡ keys_words keys.now (option_map (λ t. table_view t.now) table.entry)) }
+{
+    match table {
+        Some(table) => keys_in(alloc, keys, table),
+        None => Ok(String::new(alloc)),
+    }
+}
+
+/// A name, where the value is one.
+fn name_words(alloc: Global, value: Option<&Value>) -> Result<String, AllocError>
+    ensures { IfOk result (λ text. string_bytes text ≡ name_words (option_map (λ v. view v.now) value.entry)) }
+{
+    match value {
+        Some(Value::String(name)) => {
+            let shown = Text::new(alloc, name.as_str())?;
+            format!(in alloc; " {shown}")
+        }
+        _ => Ok(String::new(alloc)),
+    }
+}
+
+/// What stands at the name of node `i`.
+fn name_of_node(top: &Table, i: u64) -> Option<&Value>
+    ensures { option_map (λ v. view v.now) result
+        ≡ option_and_then (value_at Key.Name) (table_at (Spot.Node i) (table_view top.now)) }
+{
+    match table_at(top, Spot::Node(i)) {
+        Some(node) => value_named(node, Key::Name.text()),
+        None => None,
+    }
+}
+
+/// A node by its number, and its name where the text gives one.
+fn node_called(alloc: Global, top: &Table, i: u64) -> Result<String, AllocError>
+    ensures { IfOk result (λ text. string_bytes text ≡ node_called (table_view top.now) i) }
+{
+    let name = name_words(alloc, name_of_node(top, i))?;
+    format!(in alloc; "node {i}{name}")
+}
+
+/// Adds a node's rate, by what the node is called and the rate's number.
+fn push_rate(text: &mut String, node: &str, n: u64) -> Result<(), AllocError>
+    ensures { OnOk result (string_bytes text.new ≡ string_bytes text.old ++ rate_called node.now n) }
+{
+    write!(text, "{node}, rate {n}")
+}
+
+/// Adds a node's frame likewise.
+fn push_frame(text: &mut String, node: &str, n: u64) -> Result<(), AllocError>
+    ensures { OnOk result (string_bytes text.new ≡ string_bytes text.old ++ frame_called node.now n) }
+{
+    write!(text, "{node}, frame {n}")
+}
+
+fn rate_of_node(alloc: Global, node: &str, n: u64) -> Result<String, AllocError>
+    ensures { IfOk result (λ text. string_bytes text ≡ rate_called node.now n) }
+{
+    let mut text = String::new(alloc);
+    push_rate(&mut text, node, n)?;
+    Ok(text)
+}
+
+fn frame_of_node(alloc: Global, node: &str, n: u64) -> Result<String, AllocError>
+    ensures { IfOk result (λ text. string_bytes text ≡ frame_called node.now n) }
+{
+    let mut text = String::new(alloc);
+    push_frame(&mut text, node, n)?;
+    Ok(text)
+}
+
+/// A table of the document.
+fn spot_words(alloc: Global, top: &Table, spot: Spot) -> Result<String, AllocError>
+    ensures { IfOk result (λ text. string_bytes text ≡ spot_words (table_view top.now) spot) }
+{
+    match spot {
+        Spot::Top => String::from_str(alloc, "the plan"),
+        Spot::Node(i) => node_called(alloc, top, i),
+        Spot::Rate(i, n) => {
+            let node = node_called(alloc, top, i)?;
+            rate_of_node(alloc, node.as_str(), n)
+        }
+        Spot::Frame(i, n) => {
+            let node = node_called(alloc, top, i)?;
+            frame_of_node(alloc, node.as_str(), n)
+        }
+        Spot::Disturbance(n) => format!(in alloc; "disturbance {n}"),
+    }
+}
+
+/// A table, and what some of its keys say.
+fn subject_words(alloc: Global, top: &Table, spot: Spot, keys: &[Key]) -> Result<String, AllocError>
+    ensures { IfOk result (λ text. string_bytes text ≡ subject_words (table_view top.now) spot keys.now) }
+{
+    let place = spot_words(alloc, top, spot)?;
+    let said = keys_words(alloc, keys, table_at(top, spot))?;
+    format!(in alloc; "{place}{said}")
+}
+
+/// The keys that a refused clock is made of.
+fn keys_of_clock(fault: ClockFault) -> &'static [Key]
+    ensures { result.now ≡ keys_of_clock fault }
+{
+    match fault {
+        ClockFault::BigOffset => &[Key::Offset],
+        _ => &[Key::Quantum, Key::Ppm, Key::Num, Key::Den, Key::Rates],
+    }
+}
+
+/// The keys that refused segments are made of.
+fn keys_of_segments(fault: SegmentsFault) -> &'static [Key]
+    ensures { result.now ≡ keys_of_segments fault }
+{
+    match fault {
+        SegmentsFault::Prop => &[Key::Prop],
+        SegmentsFault::Phase1 => &[Key::Ps1],
+        SegmentsFault::Phase2 => &[Key::Ps2],
+        SegmentsFault::Jump => &[Key::Sjw, Key::Ps1],
+        SegmentsFault::Length => &[Key::Prop, Key::Ps1, Key::Ps2],
+    }
+}
+
+/// The keys that a refused frame is made of.
+fn keys_of_frame(fault: FrameFault) -> &'static [Key]
+    ensures { result.now ≡ keys_of_frame fault }
+{
+    match fault {
+        FrameFault::Dlc => &[Key::Dlc],
+        FrameFault::DataLength => &[Key::Dlc, Key::Remote, Key::Bytes],
+        FrameFault::Id | FrameFault::ExtendedId => &[Key::Id, Key::Extended],
+    }
+}
+
+/// A node that sends and one that receives.
+fn two_nodes(alloc: Global, top: &Table, i: u64, j: u64) -> Result<String, AllocError>
+    ensures { IfOk result (λ text. string_bytes text ≡ two_nodes (table_view top.now) i j) }
+{
+    let from = subject_words(alloc, top, Spot::Node(i), &[Key::X, Key::Out])?;
+    let to = subject_words(alloc, top, Spot::Node(j), &[Key::X, Key::In])?;
+    format!(in alloc; "{from}; {to}")
+}
+
+/// What a fault of the topology is about.
+fn topology_subject(alloc: Global, top: &Table, fault: TopologyFault) -> Result<String, AllocError>
+    ensures { IfOk result (λ text. string_bytes text ≡ topology_subject (table_view top.now) fault) }
+{
+    match fault {
+        TopologyFault::NoNodes | TopologyFault::TooManyNodes => {
+            subject_words(alloc, top, Spot::Top, &[Key::Node])
+        }
+        TopologyFault::ZeroDelay(i, j) | TopologyFault::TooLong(i, j) => {
+            two_nodes(alloc, top, i as u64, j as u64)
+        }
+    }
+}
+
+/// An end, and the clock of node `i`.
+fn quanta_words(alloc: Global, top: &Table, i: u64) -> Result<String, AllocError>
+    ensures { IfOk result (λ text. string_bytes text ≡ quanta_words (table_view top.now) i) }
+{
+    let end = subject_words(alloc, top, Spot::Top, &[Key::End, Key::Sync])?;
+    let keys = &[
+        Key::Offset,
+        Key::Quantum,
+        Key::Ppm,
+        Key::Num,
+        Key::Den,
+        Key::Rates,
+    ];
+    let node = subject_words(alloc, top, Spot::Node(i), keys)?;
+    format!(in alloc; "{end}; {node}")
+}
+
+/// What a fault of the whole plan is about.
+fn plan_subject(alloc: Global, top: &Table, fault: PlanFault) -> Result<String, AllocError>
+    ensures { IfOk result (λ text. string_bytes text ≡ plan_subject (table_view top.now) fault) }
+{
+    match fault {
+        PlanFault::Nodes => subject_words(alloc, top, Spot::Top, &[Key::Node]),
+        PlanFault::End => subject_words(alloc, top, Spot::Top, &[Key::End]),
+        PlanFault::Quanta(i) => quanta_words(alloc, top, i),
+        PlanFault::Queue(i) => subject_words(alloc, top, Spot::Node(i), &[Key::Frame]),
+        PlanFault::Disturbance(n) => subject_words(
+            alloc,
+            top,
+            Spot::Disturbance(n),
+            &[Key::X, Key::From, Key::To],
+        ),
+    }
+}
+
+/// The table in which the first fault of keys stands.
+fn fault_spot(top: &Table) -> Spot
+    ensures { result ≡ fault_spot (table_view top.now) }
+{
+    faulty_spot(top).unwrap_or(Spot::Top)
+}
+
+/// Adds a table and a key that it lacks.
+fn push_missing(text: &mut String, place: &str, key: &Text) -> Result<(), AllocError>
+    ensures { OnOk result (string_bytes text.new ≡ string_bytes text.old ++ lacking place.now (shown key.now)) }
+{
+    write!(text, "{place}, no {key}")
+}
+
+/// A table that lacks a key.
+fn missing_words(alloc: Global, top: &Table, key: &Text) -> Result<String, AllocError>
+    ensures { IfOk result (λ text. string_bytes text ≡ missing_words (table_view top.now) key.now) }
+{
+    let place = spot_words(alloc, top, fault_spot(top))?;
+    let mut text = String::new(alloc);
+    push_missing(&mut text, place.as_str(), key)?;
+    Ok(text)
+}
+
+/// The value at a key of the table in which the first fault of keys stands.
+fn value_of_fault<'a>(top: &'a Table, key: &Text) -> Option<&'a Value>
+    ensures { option_map (λ v. view v.now) result
+        ≡ option_and_then (get_member key.now) (table_at (fault_spot (table_view top.now)) (table_view top.now)) }
+{
+    match table_at(top, fault_spot(top)) {
+        Some(table) => value_named(table, key.as_str()),
+        None => None,
+    }
+}
+
+/// A key of that table with its value.
+fn named_words(alloc: Global, top: &Table, key: &Text) -> Result<String, AllocError>
+    ensures { IfOk result (λ text. string_bytes text ≡ named_words (table_view top.now) key.now) }
+{
+    let place = spot_words(alloc, top, fault_spot(top))?;
+    let label = format!(in alloc; "{key}")?;
+    let said = key_words(alloc, label.as_str(), value_of_fault(top, key))?;
+    format!(in alloc; "{place}{said}")
+}
+
+/// What a fault is about.
+fn subject(alloc: Global, top: &Table, fault: &SetupFault) -> Result<String, AllocError>
+    ensures { IfOk result (λ text. string_bytes text ≡ subject (table_view top.now) fault.now) }
+{
+    match fault {
+        SetupFault::Version => subject_words(alloc, top, Spot::Top, &[Key::Version]),
+        SetupFault::Missing(key) => missing_words(alloc, top, key),
+        SetupFault::Kind(key) => named_words(alloc, top, key),
+        SetupFault::Unknown(key) => named_words(alloc, top, key),
+        SetupFault::NodeClock(i, fault) => {
+            subject_words(alloc, top, Spot::Node(*i), keys_of_clock(*fault))
+        }
+        SetupFault::NodeSegments(i, fault) => {
+            subject_words(alloc, top, Spot::Node(*i), keys_of_segments(*fault))
+        }
+        SetupFault::NodeFrame(i, n, fault) => {
+            subject_words(alloc, top, Spot::Frame(*i, *n), keys_of_frame(*fault))
+        }
+        SetupFault::Topology(fault) => topology_subject(alloc, top, *fault),
+        SetupFault::Plan(fault) => plan_subject(alloc, top, *fault),
+        _ => String::from_str(alloc, "the plan"),
+    }
+}
+
+/// Adds the two lines on what is wrong and what to change.
+fn push_lines(text: &mut String, about: &str, wrong: &str, change: &str) -> Result<(), AllocError>
+    ensures { OnOk result (string_bytes text.new ≡ string_bytes text.old ++ lines about.now wrong.now change.now) }
+{
+    write!(text, "wrong: {about}: {wrong}\nchange: {change}\n")
+}
+
+/// The two lines on what is wrong and what to change.
+fn lines(alloc: Global, about: &str, wrong: &str, change: &str) -> Result<String, AllocError>
+    ensures { IfOk result (λ text. string_bytes text ≡ lines about.now wrong.now change.now) }
+{
+    let mut text = String::new(alloc);
+    push_lines(&mut text, about, wrong, change)?;
+    Ok(text)
+}
+
+fn refusal_words(alloc: Global, top: &Table, fault: &SetupFault) -> Result<String, AllocError>
+    ensures { IfOk result (λ text. string_bytes text ≡ refusal_words (table_view top.now) fault.now) }
+{
+    let about = subject(alloc, top, fault)?;
+    lines(alloc, about.as_str(), cause(fault), remedy(fault))
+}
+
+fn is_newline(byte: u8) -> bool
+    ensures { result ≡ is_newline byte }
+{
+    byte == b'\n'
+}
+
+fn begins_letter(byte: u8) -> bool
+    ensures { result ≡ begins_letter byte }
+{
+    byte < 128 || 192 <= byte
+}
+
+/// The line of the place behind some bytes, from 1.
+fn line_number(before: &[u8]) -> u64
+    ensures { result ≡ line_number before.now }
+{
+    let _ = before.len();
+    let mut line = 1;
+    for byte in before {
+        if is_newline(*byte) {
+            line += 1;
+        }
+    }
+    line
+}
+
+/// The column behind a byte that stands in this column.
+fn next_column(column: u64, byte: u8) -> u64
+    requires { column < 2 ^ 63 }
+    ensures value { result ≡ column_behind column byte }
+    ensures most { result ≤ column + 1 }
+{
+    if is_newline(byte) {
+        1
+    } else if begins_letter(byte) {
+        column + 1
+    } else {
+        column
+    }
+}
+
+/// Its column, in characters, from 1.
+fn column_number(before: &[u8]) -> u64
+    ensures { result ≡ column_number before.now }
+{
+    let _ = before.len();
+    let mut column = 1;
+    for byte in before {
+        column = next_column(column, *byte);
+    }
+    column
+}
+
+/// Adds a line and a column.
+fn push_place(text: &mut String, line: u64, column: u64) -> Result<(), AllocError>
+    ensures { OnOk result (string_bytes text.new ≡ string_bytes text.old ++ place_words line column) }
+{
+    write!(text, "line {line}, column {column}")
+}
+
+/// The text on a text that is no TOML, behind these bytes.
+fn toml_words(alloc: Global, before: &[u8]) -> Result<String, AllocError>
+    ensures { IfOk result (λ text. string_bytes text ≡ toml_words before.now) }
+{
+    let line = line_number(before);
+    let column = column_number(before);
+    let mut about = String::new(alloc);
+    push_place(&mut about, line, column)?;
+    lines(alloc, about.as_str(), NO_TOML, CORRECT)
+}
+
+/// The text on a plan that is too long.
+pub fn explain_size(alloc: Global) -> Result<String, AllocError>
+    ensures { IfOk result (λ text. string_bytes text ≡ size_words) }
+{
+    lines(alloc, "the plan", TOO_LONG, SHORTEN)
+}
+
+/// The text on a plan's text that is refused by this fault, its first: two lines. The one says what is wrong: the table with its number
+/// and, of a node, its name; the keys with their values; and what of them is refused. The other says what to change. Of a text that
+/// is no TOML the first line has line and column, from 1, of a place where the parser stopped. Refused out of memory alone.
+pub fn explain_fault(alloc: Global, text: &[u8], fault: &SetupFault) -> Result<String, AllocError>
+    ensures { IfOk result (λ said. IsRefusal text.now fault.now (string_bytes said)) }
+{
+    match document_or_place(alloc, text) {
+        Ok(top) => refusal_words(alloc, &top, fault),
+        Err(NoDocument::At(place)) => toml_words(alloc, &text[..place]),
+        Err(NoDocument::Memory) => Err(AllocError),
+    }
+}

@@ -1,0 +1,97 @@
+//! The ways from a worker to all other workers.
+ghost use Rattle.std.specs.Prelude.{◌≡◌, ◌≢◌, ℕ, ◌-◌, ◌<◌, Err, IfOk, OnOk, OnErr, map, replicate, length};
+ghost use Rattle.wl_mail.specs.Truth.{AreTrueOfPlan};
+ghost use Rattle.wl_mail.specs.Ways.{one_more, one_more_to};
+ghost use Rattle.wl_mail.specs.declared.fault.MailFault.TheVariants.{Foreign};
+
+use crate::fault::MailFault;
+use crate::letter::Letter;
+use crossbeam_channel::Sender;
+use std::alloc::{AllocError, Global};
+use std::marker::Model;
+use std::sync::Wait;
+use wl_plan::Plan;
+use wl_record_core::Record;
+
+/// The way to another worker.
+#[derive(Drop)]
+struct Way {
+    to: Sender<Letter>,
+    // How many letters went that way; at 2^64 - 1 it stays.
+    letters: u64,
+}
+
+/// The ways to all other workers. Contracts see how many letters went each way.
+#[derive(Drop)]
+pub(crate) struct Ways {
+    ways: Vec<Way>,
+}
+
+impl Model for Ways {
+    ghost use Rattle.std.specs.Prelude.{List, ℕ, map};
+
+    ghost Value = { List ℕ };
+
+    ghost view = { λ ways. map (λ way. way.letters) ways.ways.items };
+}
+
+impl Way {
+    /// Sends a letter that way.
+    fn send<R: Wait>(&mut self, rt: &R, letter: Letter) -> Result<(), MailFault>
+        ensures ok { OnOk result (self.new.letters ≡ one_more self.old.letters) }
+        ensures err { OnErr result (self.new.letters ≡ self.old.letters) }
+        ensures cause { result ≢ Err Foreign }
+    {
+        if let Err(unsent) = self.to.send(rt, letter) {
+            if unsent.is_out_of_memory() {
+                return Err(MailFault::Memory);
+            }
+            return Err(MailFault::Gone);
+        }
+        self.letters = self.letters.saturating_add(1);
+        Ok(())
+    }
+}
+
+impl Ways {
+    /// Sends a letter of these records, which are true of the plan, every way. Refused, it may have gone the first ways.
+    pub(crate) fn send<R: Wait>(
+        &mut self,
+        rt: &R,
+        alloc: Global,
+        plan: &Plan,
+        records: &[Record],
+    ) -> Result<(), MailFault>
+        requires { AreTrueOfPlan plan.now records.now }
+        ensures all { OnOk result (self.new ≡ map one_more self.old) }
+        ensures some { (k : ℕ) × (self.new ≡ one_more_to k self.old) }
+        ensures cause { result ≢ Err Foreign }
+    {
+        for i in 0..self.ways.len() {
+            let letter = Letter::new(alloc, plan, records)?;
+            self.ways[i].send(rt, letter)?;
+        }
+        Ok(())
+    }
+}
+
+/// The ways of a worker, by where each worker's letters are sent to.
+pub(crate) fn ways_of(
+    alloc: Global,
+    senders: &[Sender<Letter>],
+    worker: usize,
+) -> Result<Ways, AllocError>
+    requires { worker < length senders.now }
+    ensures { IfOk result (λ ways. ways ≡ replicate (length senders.now - 1) 0) }
+{
+    let mut ways = Vec::new(alloc);
+    for i in 0..senders.len() {
+        if i != worker {
+            ways.push(Way {
+                to: senders[i].clone()?,
+                letters: 0,
+            })?;
+        }
+    }
+    Ok(Ways { ways })
+}

@@ -1,0 +1,72 @@
+-- Quanta of one level that a node has run, some more of them, and where its drive stands by them.
+use Rattle.std.proofs.Common.{◌≡◌, ◌≢◌, ◌∙◌, ℕ, ◌+◌, ◌-◌, ◌<◌, inl, inr, List, ◌++◌, replicate, refl, sym, ap, subst, arith, append-nil, append_assoc}
+use Rattle.std.proofs.lemmas.Bool.{cases_lt}
+use Rattle.std.proofs.lemmas.List.{replicate-append-replicate}
+use Rattle.wl_level.specs.declared.Level.{Level}
+use Rattle.wl_node.specs.declared.setup.NodeSetup.{NodeSetup}
+use Rattle.wl_node.specs.declared.node.Node.{Node}
+use Rattle.wl_node.specs.History.{history_of}
+use Rattle.wl_node.specs.Reached.{node_setup, quanta_of, IsNode, IsSameNode, Shows, StandsFor, TurnsAfter, HasGone}
+
+-- the drive after these levels
+abbrev drive_by : NodeSetup → List Level → Level
+drive_by setup levels = (history_of setup levels).drive
+
+-- so many of a level, and so many more
+joined : (levels : List Level) (level : Level) (a b : ℕ) → (levels ++ replicate a level) ++ replicate b level ≡ levels ++ replicate (a + b) level
+joined levels level a b = append_assoc levels (replicate a level) (replicate b level) ∙ ap (λ more. levels ++ more) (replicate-append-replicate a b level)
+
+pub stands_first : (node : Node) (level : Level) → StandsFor node level 0
+stands_first node level levels is = ap (drive_by node.setup) (append-nil levels)
+
+pub gone_none : (node : Node) (level : Level) → HasGone level 0 node node
+gone_none node level = record {
+  node = λ levels is. subst (λ more. IsNode more node) (sym (append-nil levels)) is;
+  setup = refl;
+  quanta = omega arith;
+  stood = λ m h. absurd (omega arith);
+}
+
+pub gone_same : {level : Level} {n : ℕ} {old mid new : Node} → HasGone level n old mid → IsSameNode mid new → node_setup new ≡ node_setup mid → quanta_of new ≡ quanta_of mid
+    → HasGone level n old new
+gone_same g same setup quanta = record {
+  node = λ levels is. same _ (g.node levels is);
+  setup = setup ∙ g.setup;
+  quanta = quanta ∙ g.quanta;
+  stood = g.stood;
+}
+
+module _ (level : Level) (a b : ℕ) (old mid new : Node) (first : HasGone level a old mid) (stands : StandsFor old level a) (second : HasGone level b mid new) where
+  -- after some of the second ones the drive is that after the first ones
+  stood_on : (k : ℕ) → StandsFor mid level k → StandsFor old level (a + k)
+  stood_on k s levels is =
+      ap (drive_by old.setup) (sym (joined levels level a k))
+      ∙ ap (λ setup. drive_by setup ((levels ++ replicate a level) ++ replicate k level)) (sym first.setup)
+      ∙ s (levels ++ replicate a level) (first.node levels is)
+      ∙ ap (λ setup. drive_by setup (levels ++ replicate a level)) first.setup
+      ∙ stands levels is
+
+  stood_in : (m : ℕ) → m < a + b → StandsFor old level m
+  stood_in m h = elim (cases_lt m a) [
+    | inl before ↦ first.stood m before
+    | inr behind ↦ (let e : a + (m - a) ≡ m = omega arith in subst (λ (n : ℕ). StandsFor old level n) e (stood_on (m - a) (second.stood (m - a) (omega arith))))
+  ]
+
+  pub gone_more : HasGone level (a + b) old new
+  gone_more = record {
+    node = λ levels is. subst (λ more. IsNode more new) (joined levels level a b) (second.node (levels ++ replicate a level) (first.node levels is));
+    setup = second.setup ∙ first.setup;
+    quanta = (let e = first.quanta in let f = second.quanta in omega arith);
+    stood = stood_in;
+  }
+
+-- by what the node drives before and after
+module _ {level : Level} {n : ℕ} {old new : Node} (g : HasGone level n old new) {before after : Level} (was : Shows old (λ h. before ≡ h.drive)) (now : Shows new (λ h. after ≡ h.drive)) where
+  now_is : (levels : List Level) → IsNode levels old → after ≡ drive_by old.setup (levels ++ replicate n level)
+  now_is levels is = now (levels ++ replicate n level) (g.node levels is) ∙ ap (λ setup. drive_by setup (levels ++ replicate n level)) g.setup
+
+  pub stands_by : after ≡ before → StandsFor old level n
+  stands_by e levels is = sym (now_is levels is) ∙ (e ∙ was levels is)
+
+  pub turns_by : after ≢ before → TurnsAfter old level n
+  turns_by ne levels is e = ne (now_is levels is ∙ (e ∙ sym (was levels is)))

@@ -1,0 +1,101 @@
+-- A recessive sample of a free bus, with no frame ready: it is stored, and nothing else comes of it.
+use Rattle.std.proofs.Common.{◌≡◌, ◌∙◌, [], ◌∷◌, ◌++◌, length, Option, None, Some, true, false, refl, sym, ap, subst, append-nil, add-zero}
+use Rattle.std.specs.Prelude.{is_some}
+use Rattle.std.specs.Option.{option_map}
+use Rattle.std.proofs.lemmas.List.Sums.{fold-append}
+use Rattle.wl_level.specs.declared.Level.{Level}
+use Rattle.wl_level.specs.declared.Level.TheVariants.{Recessive}
+use Rattle.wl_confine.specs.declared.Mode.{Mode}
+use Rattle.wl_confine.specs.declared.Mode.TheVariants.{Active, Passive, Off}
+use Rattle.wl_confine.specs.declared.Happened.TheVariants.{Nothing}
+use Rattle.wl_confine.specs.Counts.{counts_after, counts_of, mode_of, no_counts, is_error}
+use Rattle.wl_machine.specs.Stretch.{Stretch, Sampled, Judgement, continues}
+use Rattle.wl_machine.specs.Stretch.Input.{Sample}
+use Rattle.wl_machine.specs.Stretch.Sort.{Idle}
+use Rattle.wl_machine.specs.Judged.{judged, judged_by, or_next, stretch_of, drive_by, drive_of, head_of, is_free_sort}
+use Rattle.wl_machine.specs.Quiet.{idle_on}
+use Rattle.wl_machine.specs.Reached.{IsMachine}
+use Rattle.wl_machine.specs.States.{sample_of}
+use Rattle.wl_machine.proofs.Callers.{free_sort, stretch_next}
+use Rattle.wl_node.specs.declared.setup.NodeSetup.{NodeSetup}
+use Rattle.wl_node.specs.declared.traffic.Traffic.{Traffic}
+use Rattle.wl_node.specs.History.{History, sampled_next, history_after_judgement, history_after_sample, switched_off, unsent_of, ready_head}
+use Rattle.wl_node.specs.Kept.{IsTraffic}
+use Rattle.wl_node.proofs.Sends.{count_append}
+
+pub none_mapped : {A B : Type 0} (f : A → B) (o : Option A) → is_some o ≡ false → option_map f o ≡ None
+none_mapped f None e = refl
+none_mapped f (Some x) e = cc
+
+never_off : (m : Mode) → switched_off m m ≡ []
+never_off Active = refl
+never_off Passive = refl
+never_off Off = refl
+
+-- the history after such a sample
+abbrev rested : History → Sampled → History
+rested h x = record {
+  seen = h.seen;
+  inputs = h.inputs ++ Sample x ∷ [];
+  happened = h.happened ++ Nothing ∷ [];
+  samples = h.samples ++ (length h.seen, Recessive) ∷ [];
+  frames = h.frames;
+  syncs = h.syncs;
+  drive = h.drive;
+}
+
+module _ (setup : NodeSetup) (h : History) (none : ready_head (unsent_of setup h) (length h.seen) ≡ None) (free : is_free_sort (stretch_of h.inputs).sort ≡ true) where
+  abbrev s : Stretch
+  s = stretch_of h.inputs
+
+  abbrev x : Sampled
+  x = sampled_next setup h Recessive
+
+  idle : s.sort ≡ Idle
+  idle = free_sort s.sort free
+
+  judged_is : judged s x ≡ continues Nothing
+  judged_is = ap (λ t. judged_by t s.own x) idle ∙ ap idle_on none
+
+  counts_same : counts_of (h.happened ++ Nothing ∷ []) ≡ counts_of h.happened
+  counts_same = fold-append counts_after no_counts h.happened (Nothing ∷ [])
+
+  off : switched_off x.mode (mode_of (counts_of (h.happened ++ Nothing ∷ []))) ≡ []
+  off = ap (λ c. switched_off x.mode (mode_of c)) counts_same ∙ never_off x.mode
+
+  history_is : history_after_sample setup h Recessive ≡ rested h x
+  history_is =
+      ap (history_after_judgement h x) judged_is
+      ∙ λ i. record {
+        seen = h.seen;
+        inputs = (ap (λ o. (h.inputs ++ Sample x ∷ []) ++ o) off ∙ append-nil (h.inputs ++ Sample x ∷ [])) i;
+        happened = h.happened ++ Nothing ∷ [];
+        samples = h.samples ++ (length h.seen, Recessive) ∷ [];
+        frames = append-nil h.frames i;
+        syncs = h.syncs;
+        drive = h.drive;
+      }
+
+  sort_stays : (stretch_of (h.inputs ++ Sample x ∷ [])).sort ≡ Idle
+  sort_stays = ap (λ (r : Stretch). r.sort) (stretch_next h.inputs (Sample x)) ∙ ap (λ (j : Judgement). (or_next j.next (record { sort = s.sort; own = s.own ++ Recessive ∷ [] })).sort) judged_is ∙ idle
+
+  drive_stays : drive_of (stretch_of (h.inputs ++ Sample x ∷ [])) ≡ Recessive
+  drive_stays = ap (λ t. drive_by t (stretch_of (h.inputs ++ Sample x ∷ [])).own) sort_stays
+
+  x_is : sample_of Recessive None x.mode ≡ x
+  x_is = λ i. record { level = Recessive; head = sym none i; mode = x.mode }
+
+  pub rests : (old new : Traffic) → IsTraffic setup old h → new.machine ≡ old.machine → new.counters ≡ old.counters → new.pending ≡ old.pending → new.sent ≡ old.sent
+      → new.errors ≡ old.errors → new.frames ≡ old.frames → new.samples.items ≡ old.samples.items ++ (length h.seen, Recessive) ∷ []
+      → IsMachine old.machine (h.inputs ++ Sample (sample_of Recessive None x.mode) ∷ [])
+      → IsTraffic setup new (history_after_sample setup h Recessive)
+  rests old new kept machine counters pending sent errors frames samples reached = subst (IsTraffic setup new) (sym history_is) (record {
+    machine = subst (λ m. IsMachine m (h.inputs ++ Sample x ∷ [])) (sym machine) (subst (λ y. IsMachine old.machine (h.inputs ++ Sample y ∷ [])) x_is reached);
+    counters = counters ∙ kept.counters ∙ sym counts_same;
+    pending = pending ∙ kept.pending ∙ ap (λ t. drive_by t s.own) idle ∙ sym drive_stays;
+    sent = sent ∙ kept.sent;
+    errors = errors ∙ kept.errors ∙ sym (count_append is_error h.happened (Nothing ∷ []) ∙ add-zero _);
+    samples = samples ∙ ap (λ l. l ++ (length h.seen, Recessive) ∷ []) kept.samples;
+    frames = ap (λ f. f.items) frames ∙ kept.frames;
+    sends = λ frame e. (let f = sym (ap head_of sort_stays) ∙ e in cc);
+  })

@@ -1,0 +1,37 @@
+//! Quanta of one level, as many as may run without a change of the drive.
+
+use crate::node::Node;
+use std::alloc::AllocError;
+use wl_level::Level;
+
+impl Node {
+    ghost use Rattle.std.specs.Prelude.{◌+◌, ◌<◌, ◌≤◌, OnErr, IfOk};
+    ghost use Rattle.wl_node.specs.Limits.{most_run_quanta};
+    ghost use Rattle.wl_node.specs.Reached.{quanta_of, HasGone, HasStopped, TurnsAfter};
+
+    /// Quanta of one level, up to the first that changes the drive, that one too: at most `most`, which is above 0. Answers
+    /// how many ran, at least one.
+    ///
+    /// At most [`MOST_RUN_QUANTA`](crate::MOST_RUN_QUANTA) quanta were run, `most` more counted. Refused where memory runs
+    /// out: fewer than `most` were run then, or none, and the node drives what it drove.
+    pub fn go(&mut self, level: Level, most: u64) -> Result<u64, AllocError>
+        requires some { 0 < most }
+        requires short { quanta_of self.old + most ≤ most_run_quanta }
+        ensures gone { IfOk result (λ n. HasGone level n self.old self.new) }
+        ensures some { IfOk result (λ n. 0 < n) }
+        ensures few { IfOk result (λ n. n ≤ most) }
+        ensures turned { IfOk result (λ n. n < most → TurnsAfter self.old level n) }
+        ensures stopped { OnErr result (HasStopped level most self.old self.new) }
+    {
+        let before = self.drive();
+        let mut done = 0;
+        while done < most {
+            self.prepare()?;
+            done += self.leap(level, most - done);
+            if !self.drive().is(before) {
+                return Ok(done);
+            }
+        }
+        Ok(done)
+    }
+}

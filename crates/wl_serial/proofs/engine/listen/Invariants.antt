@@ -1,0 +1,7 @@
+use Rattle.std.proofs.Common.{◌≡◌, ℕ, ◌<◌, length, slice_index_or}
+use Rattle.wl_serial.specs.declared.ear.Ear.{Ear}
+use Rattle.wl_serial.specs.Heard.{IsEar}
+use Rattle.wl_serial.proofs.engine.listen.Given as goal
+
+abbrev pub invariant-loop-j : goal.invariant-loop-j
+invariant-loop-j l = (length l.ears.items ≡ l.j) × ((i : ℕ) (d : Ear) → i < length l.ears.items → IsEar l.plan i (slice_index_or l.ears.items i d))

@@ -1,0 +1,15 @@
+use Rattle.std.proofs.Common.{◌≡◌, ◌⊎◌, ◌<◌}
+use Rattle.wl_serial.specs.Heard.{IsEar}
+use Rattle.wl_serial.specs.Running.{AreRunning, KnowsOthers, ticks_left}
+use Rattle.wl_serial.proofs.turn.run_below.Given as goal
+
+-- the others wait, so that the horizon stays; and fewer ticks are left, once a quantum has run
+abbrev pub invariant-loop-running : goal.invariant-loop-running
+invariant-loop-running l =
+    AreRunning l.plan l.running
+    × IsEar l.plan l.j l.ear
+    × KnowsOthers l.plan l.j l.horizon l.running
+    × ((l.running ≡ l.fn.running) ⊎ (ticks_left l.plan.end l.running < ticks_left l.plan.end l.fn.running))
+
+abbrev pub decreases-loop-running : goal.decreases-loop-running
+decreases-loop-running l = ticks_left l.plan.end l.running

@@ -1,0 +1,118 @@
+//! Levels that stay for some ticks.
+ghost use Rattle.std.specs.Prelude.{◌≡◌, ℕ, true, ◌+◌, ◌-◌, ◌<◌, ◌≤◌, ◌^◌, length, slice_index_or};
+ghost use Rattle.wl_record_core.specs.Truth.{count_below, odd, IsIncreasing};
+ghost use Rattle.wl_serial.specs.Heard.{IsPulse, drove};
+
+/// Whether something is dominant, from a tick on and below another one.
+#[derive(Clone, Copy)]
+pub(crate) struct Pulse {
+    pub(crate) from: u64,
+    pub(crate) until: u64,
+    pub(crate) dominant: bool,
+}
+
+/// Whether a node with these changes drove dominant `delay` ticks before tick `t`, and up to when that stays. `come` is how many changes had come
+/// when it was asked for last: it speeds up the next time, and decides nothing.
+pub(crate) fn pulse_of(changes: &[u64], delay: u64, t: u64, come: &mut usize) -> Pulse
+    requires order { IsIncreasing changes.now }
+    requires early { t < 2 ^ 63 }
+    ensures from { result.from ≡ t }
+    ensures until { t < result.until }
+    ensures dominant { IsPulse (drove changes.now delay) result }
+{
+    if all_come(changes, delay, t, *come) {
+        return Pulse {
+            from: t,
+            until: u64::MAX,
+            dominant: *come % 2 == 1,
+        };
+    }
+    pulse_up_to_a_change(changes, delay, t, come)
+}
+
+/// Whether so many changes are all that there are, and each of them is `delay` ticks or more before tick `t`.
+fn all_come(changes: &[u64], delay: u64, t: u64, come: usize) -> bool
+    requires order { IsIncreasing changes.now }
+    requires early { t < 2 ^ 63 }
+    ensures { result ≡ true → (u : ℕ) → t ≤ u → drove changes.now delay u ≡ odd come }
+{
+    wl_record_core::table_laws();
+    if come != changes.len() {
+        return false;
+    }
+    if come == 0 {
+        return true;
+    }
+    changes[come - 1].saturating_add(delay) <= t
+}
+
+/// The same, where a change may still come.
+fn pulse_up_to_a_change(changes: &[u64], delay: u64, t: u64, come: &mut usize) -> Pulse
+    requires order { IsIncreasing changes.now }
+    requires early { t < 2 ^ 63 }
+    ensures from { result.from ≡ t }
+    ensures until { t < result.until }
+    ensures dominant { IsPulse (drove changes.now delay) result }
+{
+    wl_record_core::table_laws();
+    if t < delay {
+        return Pulse {
+            from: t,
+            until: delay,
+            dominant: false,
+        };
+    }
+    let count = count_until(changes, t - delay, *come);
+    *come = count;
+    Pulse {
+        from: t,
+        until: change_at(changes, count).saturating_add(delay),
+        dominant: count % 2 == 1,
+    }
+}
+
+/// The tick of the change of this number, and where there is none the last tick of all.
+fn change_at(changes: &[u64], number: usize) -> u64
+    ensures there { number < length changes.now → result ≡ slice_index_or changes.now number 0 }
+    ensures none { length changes.now ≤ number → result ≡ 2 ^ 64 - 1 }
+{
+    if number < changes.len() {
+        return changes[number];
+    }
+    u64::MAX
+}
+
+/// How many of the changes are not after this tick, where `guess` were not after an earlier one.
+fn count_until(changes: &[u64], tick: u64, guess: usize) -> usize
+    requires { IsIncreasing changes.now }
+    ensures { result ≡ count_below (tick + 1) changes.now }
+{
+    wl_record_core::table_laws();
+    let mut count = sure(changes, tick, guess);
+    while count < changes.len() && changes[count] <= tick {
+        count += 1;
+    }
+    count
+}
+
+/// The guess, if so many of the changes are surely not after this tick, and else none.
+fn sure(changes: &[u64], tick: u64, guess: usize) -> usize
+    requires { IsIncreasing changes.now }
+    ensures { result ≤ count_below (tick + 1) changes.now }
+{
+    wl_record_core::table_laws();
+    if guess == 0 || guess > changes.len() {
+        return 0;
+    }
+    if tick < changes[guess - 1] {
+        return 0;
+    }
+    guess
+}
+
+/// No tick at all.
+pub(crate) const SILENCE: Pulse = Pulse {
+    from: 0,
+    until: 0,
+    dominant: false,
+};

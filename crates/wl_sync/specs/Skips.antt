@@ -1,0 +1,44 @@
+-- Quanta of one level that a clock passes over at once: none of them samples a bit, and no edge synchronises one.
+use Rattle.std.specs.Prelude.{◌≡◌, ◌≢◌, ℕ, ◌+◌, ◌-◌, ◌<◌, ◌==◌, ◌&&◌, nat_le, not, Bool, List, ◌++◌, None, replicate, if◌then◌else◌}
+use Rattle.wl_level.specs.declared.Level.{Level}
+use Rattle.wl_level.specs.Levels.{is_dominant}
+use Rattle.wl_segments.specs.Lengths.{Lengths, sample_at}
+use Rattle.wl_sync.specs.declared.Beat.TheVariants.{Plain, Sample}
+use Rattle.wl_sync.specs.Edges.{Seen}
+use Rattle.wl_sync.specs.Bits.{beat_of, sync_of}
+use Rattle.wl_sync.specs.Running.{Running}
+use Rattle.wl_sync.specs.Steps.{end_of}
+
+-- the place of the sample, as edges have moved it so far
+abbrev pub moved_place : Running → ℕ
+moved_place r = sample_at r.lengths + r.longer
+
+-- the next quantum, at this level, finds an edge from recessive to dominant
+abbrev pub finds_edge : Running → Level → Bool
+finds_edge r level = is_dominant level && not (is_dominant r.level)
+
+-- From the last quantum to the next sample, that one not counted, on a line that keeps its level: in the running bit, or, where that was sampled, up to its end
+-- and in the bit that follows.
+abbrev pub quanta_before_sample : Running → ℕ
+quanta_before_sample r = if nat_le r.quanta (moved_place r) then moved_place r - r.quanta else end_of r - r.quanta + sample_at r.lengths
+
+-- and to the next sample or start of a bit, that one not counted
+abbrev pub quanta_before_beat : Running → ℕ
+quanta_before_beat r = if r.quanta == 0 then 0 else if nat_le r.quanta (moved_place r) then moved_place r - r.quanta else end_of r - r.quanta
+
+-- How many quanta of this level come before the next beat, or before the next sample where starts of bits don't matter; none where the first finds an edge.
+abbrev pub free_quanta : (starts : Bool) → Running → Level → ℕ
+free_quanta starts r level =
+    if finds_edge r level then 0 else if starts then quanta_before_sample r else quanta_before_beat r
+
+-- in so many quanta more, each as x, no edge synchronises
+abbrev pub IsUnmoved : Lengths → List Seen → Seen → ℕ → Type 0
+IsUnmoved l past x n = (m : ℕ) → m < n → sync_of l (past ++ replicate m x) x ≡ None
+
+-- and none is a sample
+abbrev pub IsUnsampled : Lengths → List Seen → Seen → ℕ → Type 0
+IsUnsampled l past x n = (m : ℕ) (level : Level) → m < n → beat_of l (past ++ replicate m x) x ≢ Sample level
+
+-- and none is a sample or begins a bit
+abbrev pub IsPlain : Lengths → List Seen → Seen → ℕ → Type 0
+IsPlain l past x n = (m : ℕ) → m < n → beat_of l (past ++ replicate m x) x ≡ Plain

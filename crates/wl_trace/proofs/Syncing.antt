@@ -1,0 +1,187 @@
+-- What the synchronisations of a history say of it, and how the counts of a node tell them.
+use Rattle.std.proofs.Common.{◌≡◌, ◌∙◌, refl, sym, ap, subst, arith, ℕ, ℤ, suc, ◌+◌, ◌<◌, ◌≤◌, cond, List, [], ◌∷◌, ◌++◌, length, fold, append-nil, Option, Some, None, option_map, get_or, zero-add, add-zero}
+use Rattle.std.specs.Prelude.{count_by}
+use Rattle.std.specs.List.{All, flat_map}
+use Rattle.std.proofs.lemmas.List.{length-append}
+use Rattle.std.proofs.lemmas.List.Elements.{All-append, All-cons, All-nil}
+use Rattle.std.proofs.lemmas.List.Sums.{fold-append, sum_by-append}
+use Rattle.std.proofs.lemmas.List.Concat.{flat_map-append}
+use Rattle.std.proofs.Math.Seq.{get_or-append_seam}
+use Rattle.wl_level.specs.declared.Level.{Level}
+use Rattle.wl_sync.specs.declared.Sync.{Sync}
+use Rattle.wl_sync.specs.declared.Sync.TheVariants.{Hard, Error}
+use Rattle.wl_sync.specs.Bits.{sync_of}
+use Rattle.wl_node.specs.declared.setup.NodeSetup.{NodeSetup}
+use Rattle.wl_node.specs.History.{History, no_history, history_of, history_after, seen_next, syncs_at, is_hard, phase_of, hards_of, phases_of}
+use Rattle.wl_trace.specs.declared.event.Event.TheVariants as events
+use Rattle.wl_trace.specs.declared.event.Noted.{Noted}
+use Rattle.wl_trace.specs.Events.{noted}
+use Rattle.wl_trace.specs.Synced.{sync_event, sync_next, with_next, synced_after, syncs_of}
+use Rattle.wl_trace.specs.Laws.{tells_hard, told_phases}
+
+hards_in : List (ℕ × Sync) → ℕ
+hards_in syncs = count_by is_hard syncs
+
+-- the events say this of the history
+record IsSynced (h : History) (es : List Noted) : Type 0 where
+  hards : count_by tells_hard es ≡ hards_of h
+  phases : flat_map told_phases es ≡ phases_of h
+  quanta : All (λ e. e.quantum < length h.seen) es
+
+-- what one synchronisation adds, or none
+hards_next : (es : List Noted) (quantum bit : ℕ) (o : Option Sync)
+    → count_by tells_hard (with_next es (option_map (λ sync. noted quantum bit (sync_event sync)) o)) ≡ count_by tells_hard es + count_by is_hard (syncs_at quantum o)
+hards_next es quantum bit None = sym (add-zero (count_by tells_hard es))
+hards_next es quantum bit (Some Hard) = sum_by-append (λ n. cond (tells_hard n) 1 0) es (noted quantum bit events.HardSynchronised ∷ [])
+hards_next es quantum bit (Some (Error e)) = sum_by-append (λ n. cond (tells_hard n) 1 0) es (noted quantum bit (events.Resynchronised e) ∷ [])
+
+phases_next : (es : List Noted) (quantum bit : ℕ) (o : Option Sync)
+    → flat_map told_phases (with_next es (option_map (λ sync. noted quantum bit (sync_event sync)) o)) ≡ flat_map told_phases es ++ flat_map phase_of (syncs_at quantum o)
+phases_next es quantum bit None = sym (append-nil (flat_map told_phases es))
+phases_next es quantum bit (Some Hard) = flat_map-append told_phases es (noted quantum bit events.HardSynchronised ∷ [])
+phases_next es quantum bit (Some (Error e)) = flat_map-append told_phases es (noted quantum bit (events.Resynchronised e) ∷ [])
+
+later : (n : ℕ) (es : List Noted) → All (λ e. e.quantum < n) es → All (λ e. e.quantum < suc n) es
+later n es h = λ k d b. let q = h k d b in omega arith
+
+quanta_next : (es : List Noted) (quantum bit : ℕ) (o : Option Sync) → All (λ e. e.quantum < quantum) es
+    → All (λ e. e.quantum < suc quantum) (with_next es (option_map (λ sync. noted quantum bit (sync_event sync)) o))
+quanta_next es quantum bit None h = later quantum es h
+quanta_next es quantum bit (Some sync) h =
+    All-append (λ (e : Noted). e.quantum < suc quantum) es (noted quantum bit (sync_event sync) ∷ []) (later quantum es h)
+    (All-cons (λ (e : Noted). e.quantum < suc quantum) (noted quantum bit (sync_event sync)) [] (omega arith) (All-nil (λ (e : Noted). e.quantum < suc quantum)))
+
+module _ (setup : NodeSetup) where
+  abbrev sync_then : History → Level → Option Sync
+  sync_then h level = sync_of setup.segments h.seen (seen_next h level)
+
+  hards_after : (h : History) (level : Level) → hards_of (history_after setup h level) ≡ hards_of h + count_by is_hard (syncs_at (length h.seen) (sync_then h level))
+  hards_after h level = sum_by-append (λ s. cond (is_hard s) 1 0) h.syncs (syncs_at (length h.seen) (sync_then h level))
+
+  phases_after : (h : History) (level : Level) → phases_of (history_after setup h level) ≡ phases_of h ++ flat_map phase_of (syncs_at (length h.seen) (sync_then h level))
+  phases_after h level = flat_map-append phase_of h.syncs (syncs_at (length h.seen) (sync_then h level))
+
+  pub one_more : (h : History) (level : Level) → length (history_after setup h level).seen ≡ suc (length h.seen)
+  one_more h level = length-append h.seen (seen_next h level ∷ []) ∙ (let e : length h.seen + 1 ≡ suc (length h.seen) = omega arith in e)
+
+  synced_next : (h : History) (es : List Noted) (level : Level) → IsSynced h es → IsSynced (history_after setup h level) (with_next es (sync_next setup h level))
+  synced_next h es level s = record {
+    hards =
+        hards_next es (length h.seen) (length h.samples) (sync_then h level)
+        ∙ ap (λ (n : ℕ). n + count_by is_hard (syncs_at (length h.seen) (sync_then h level))) s.hards ∙ sym (hards_after h level);
+    phases =
+        phases_next es (length h.seen) (length h.samples) (sync_then h level)
+        ∙ ap (λ (ps : List (ℕ × ℤ)). ps ++ flat_map phase_of (syncs_at (length h.seen) (sync_then h level))) s.phases ∙ sym (phases_after h level);
+    quanta =
+        subst (λ n. All (λ (e : Noted). e.quantum < n) (with_next es (sync_next setup h level))) (sym (one_more h level))
+        (quanta_next es (length h.seen) (length h.samples) (sync_then h level) s.quanta);
+  }
+
+  synced_fold : (levels : List Level) (h : History) (es : List Noted) → IsSynced h es
+      → IsSynced (fold (history_after setup) h levels) (fold (synced_after setup) (h, es) levels).1
+  synced_fold [] h es s = s
+  synced_fold (level ∷ levels) h es s = synced_fold levels (history_after setup h level) (with_next es (sync_next setup h level)) (synced_next h es level s)
+
+  synced : (levels : List Level) → IsSynced (history_of setup levels) (syncs_of setup levels)
+  unfolding history_of syncs_of
+  synced levels = synced_fold levels no_history [] (record { hards = refl; phases = refl; quanta = All-nil (λ (e : Noted). e.quantum < 0) })
+
+  seen_fold : (levels : List Level) (h : History) → length (fold (history_after setup) h levels).seen ≡ length h.seen + length levels
+  seen_fold [] h = sym (add-zero (length h.seen))
+  seen_fold (level ∷ levels) h =
+      seen_fold levels (history_after setup h level)
+      ∙ (let e = one_more h level in let f : length (history_after setup h level).seen + length levels ≡ length h.seen + suc (length levels) = omega arith in f)
+
+  -- each level was seen
+  pub all_seen : (levels : List Level) → length (history_of setup levels).seen ≡ length levels
+  unfolding history_of
+  all_seen levels = seen_fold levels no_history ∙ zero-add (length levels)
+
+  pub history_more : (levels : List Level) (level : Level) → history_of setup (levels ++ level ∷ []) ≡ history_after setup (history_of setup levels) level
+  unfolding history_of
+  history_more levels level = fold-append (history_after setup) no_history levels (level ∷ [])
+
+  fold_first : (levels : List Level) (h : History) (es : List Noted) → (fold (synced_after setup) (h, es) levels).0 ≡ fold (history_after setup) h levels
+  fold_first [] h es = refl
+  fold_first (level ∷ levels) h es = fold_first levels (history_after setup h level) (with_next es (sync_next setup h level))
+
+  pub syncs_first : syncs_of setup [] ≡ []
+  unfolding syncs_of
+  syncs_first = refl
+
+  pub syncs_more : (levels : List Level) (level : Level)
+      → syncs_of setup (levels ++ level ∷ []) ≡ with_next (syncs_of setup levels) (sync_next setup (history_of setup levels) level)
+  unfolding syncs_of history_of
+  syncs_more levels level =
+      ap (λ (r : History × List Noted). r.1) (fold-append (synced_after setup) (no_history, []) levels (level ∷ []))
+      ∙ ap (λ (h : History). with_next (fold (synced_after setup) (no_history, []) levels).1 (sync_next setup h level)) (fold_first levels no_history [])
+
+pub hards_told : (setup : NodeSetup) (levels : List Level) → count_by tells_hard (syncs_of setup levels) ≡ hards_of (history_of setup levels)
+hards_told setup levels = (synced setup levels).hards
+
+pub phases_told : (setup : NodeSetup) (levels : List Level) → flat_map told_phases (syncs_of setup levels) ≡ phases_of (history_of setup levels)
+phases_told setup levels = (synced setup levels).phases
+
+pub sync_quanta_in_time : (setup : NodeSetup) (levels : List Level) → All (λ n. n.quantum < length levels) (syncs_of setup levels)
+sync_quanta_in_time setup levels = subst (λ n. All (λ (e : Noted). e.quantum < n) (syncs_of setup levels)) (all_seen setup levels) (synced setup levels).quanta
+
+-- what the count of hard synchronisations and the list of phase errors tell of the last quantum, where they were so before it
+module _ (quantum : ℕ) (hards : ℕ) (phases : List (ℕ × ℤ)) where
+  pub hard_if_more : (o : Option Sync) → hards < hards + count_by is_hard (syncs_at quantum o) → o ≡ Some Hard
+  hard_if_more None h = absurd (omega arith)
+  hard_if_more (Some Hard) h = refl
+  hard_if_more (Some (Error e)) h = absurd (omega arith)
+
+  none_longer : length (phases ++ []) ≡ length phases
+  none_longer = ap (λ (ps : List (ℕ × ℤ)). length ps) (append-nil phases)
+
+  pub error_if_longer : (o : Option Sync) (d : ℕ × ℤ) → length phases < length (phases ++ flat_map phase_of (syncs_at quantum o))
+      → o ≡ Some (Error (get_or (phases ++ flat_map phase_of (syncs_at quantum o)) (length phases) d).1)
+  error_if_longer None d h = let e = none_longer in absurd (omega arith)
+  error_if_longer (Some Hard) d h = let e = none_longer in absurd (omega arith)
+  error_if_longer (Some (Error x)) d h = ap (λ (p : ℕ × ℤ). Some (Error p.1)) (sym (get_or-append_seam phases (quantum, x) [] d))
+
+  pub none_if_same : (o : Option Sync) → hards + count_by is_hard (syncs_at quantum o) ≤ hards
+      → length (phases ++ flat_map phase_of (syncs_at quantum o)) ≤ length phases → o ≡ None
+  none_if_same None h e = refl
+  none_if_same (Some Hard) h e = absurd (omega arith)
+  none_if_same (Some (Error x)) h e = let more = length-append phases ((quantum, x) ∷ []) in absurd (omega arith)
+
+-- the same of a node that sees one level more
+module _ (setup : NodeSetup) (levels : List Level) (level : Level) where
+  abbrev before : History
+  before = history_of setup levels
+
+  abbrev found : Option Sync
+  found = sync_then setup before level
+
+  hards_then : hards_of (history_of setup (levels ++ level ∷ [])) ≡ hards_of before + count_by is_hard (syncs_at (length before.seen) found)
+  hards_then = ap hards_of (history_more setup levels level) ∙ hards_after setup before level
+
+  phases_then : phases_of (history_of setup (levels ++ level ∷ [])) ≡ phases_of before ++ flat_map phase_of (syncs_at (length before.seen) found)
+  phases_then = ap phases_of (history_more setup levels level) ∙ phases_after setup before level
+
+  as_noted : (sync : Sync) → found ≡ Some sync → sync_next setup before level ≡ Some (noted (length levels) (length before.samples) (sync_event sync))
+  as_noted sync e =
+      ap (option_map (λ s. noted (length before.seen) (length before.samples) (sync_event s))) e
+      ∙ ap (λ (n : ℕ). Some (noted n (length before.samples) (sync_event sync))) (all_seen setup levels)
+
+  pub found_hard : hards_of before < hards_of (history_of setup (levels ++ level ∷ []))
+      → sync_next setup before level ≡ Some (noted (length levels) (length before.samples) events.HardSynchronised)
+  found_hard more =
+      as_noted Hard (hard_if_more (length before.seen) (hards_of before) (phases_of before) found (subst (λ n. hards_of before < n) hards_then more))
+
+  pub found_error : (d : ℕ × ℤ) → length (phases_of before) < length (phases_of (history_of setup (levels ++ level ∷ [])))
+      → sync_next setup before level
+      ≡ Some (noted (length levels) (length before.samples) (events.Resynchronised (get_or (phases_of (history_of setup (levels ++ level ∷ []))) (length (phases_of before)) d).1))
+  found_error d more =
+      as_noted _ (error_if_longer (length before.seen) (hards_of before) (phases_of before) found d
+      (subst (λ (ps : List (ℕ × ℤ)). length (phases_of before) < length ps) phases_then more))
+      ∙ ap (λ (ps : List (ℕ × ℤ)). Some (noted (length levels) (length before.samples) (events.Resynchronised (get_or ps (length (phases_of before)) d).1))) (sym phases_then)
+
+  pub found_none : hards_of (history_of setup (levels ++ level ∷ [])) ≤ hards_of before
+      → length (phases_of (history_of setup (levels ++ level ∷ []))) ≤ length (phases_of before) → sync_next setup before level ≡ None
+  found_none same short =
+      ap (option_map (λ s. noted (length before.seen) (length before.samples) (sync_event s)))
+      (none_if_same (length before.seen) (hards_of before) (phases_of before) found (subst (λ n. n ≤ hards_of before) hards_then same)
+      (subst (λ (ps : List (ℕ × ℤ)). length ps ≤ length (phases_of before)) phases_then short))

@@ -1,0 +1,301 @@
+//! The trace of a run: what happened to each node, a line for each event.
+ghost use Rattle.std.specs.Prelude.{◌≡◌, ◌<◌, ◌≤◌, ◌^◌, ◌++◌, OnOk, IfOk, length};
+ghost use Rattle.std.specs.List.{All};
+ghost use Rattle.wl_plan.specs.Checked.{IsChecked};
+ghost use Rattle.wl_report.specs.Lines.{GrowsBy};
+ghost use Rattle.wl_serial.specs.Outcome.{outcome_of};
+ghost use Rattle.wl_views.specs.Sent.{by_tick};
+ghost use Rattle.wl_views.specs.Trace.{all_told, error_kind_word, event_text, events_at_end, field_word, flag_word, line_start, place_text, sample_words, syncs_at_end, told_at_end, told_by, trace_line, trace_text};
+
+use crate::dump::name_of;
+use crate::seen::levels_seen;
+use std::alloc::{AllocError, Global};
+use wl_clock::Clock;
+use wl_confine::{Counters, ErrorKind};
+use wl_plan::Plan;
+use wl_report::{mode_word, push_content};
+use wl_serial::Outcome;
+use wl_setup::Names;
+use wl_trace::{Event, FlagForm, FrameField, Noted, Place, node_events, node_syncs};
+
+/// The word of a field.
+fn field_word(field: FrameField) -> &'static str
+    ensures { result.now ≡ field_word field }
+{
+    match field {
+        FrameField::StartOfFrame => "sof",
+        FrameField::Identifier => "id",
+        FrameField::SubstituteRemoteRequest => "srr",
+        FrameField::IdentifierExtension => "ide",
+        FrameField::ExtendedIdentifier => "ext_id",
+        FrameField::RemoteRequest => "rtr",
+        FrameField::Reserved1 => "r1",
+        FrameField::Reserved0 => "r0",
+        FrameField::DataLengthCode => "dlc",
+        FrameField::Data => "data",
+        FrameField::CrcSequence => "crc",
+        FrameField::CrcDelimiter => "crc_delimiter",
+        FrameField::AckSlot => "ack_slot",
+        FrameField::AckDelimiter => "ack_delimiter",
+        FrameField::EndOfFrame => "eof",
+        FrameField::FlagDelimiter => "delimiter",
+    }
+}
+
+/// The word of an error's kind.
+fn error_kind_word(kind: ErrorKind) -> &'static str
+    ensures { result.now ≡ error_kind_word kind }
+{
+    match kind {
+        ErrorKind::Bit => "bit",
+        ErrorKind::Stuff => "stuff",
+        ErrorKind::Form => "form",
+        ErrorKind::Crc => "crc",
+        ErrorKind::Ack => "ack",
+    }
+}
+
+/// The word of a flag.
+fn flag_word(form: FlagForm) -> &'static str
+    ensures { result.now ≡ flag_word form }
+{
+    match form {
+        FlagForm::Active => "active",
+        FlagForm::Passive => "passive",
+        FlagForm::Overload => "overload",
+    }
+}
+
+/// Adds a field and which of its bits.
+fn push_place(text: &mut String, place: Place) -> Result<(), AllocError>
+    ensures { OnOk result (GrowsBy text.old text.new (place_text place)) }
+{
+    let field = field_word(place.field);
+    let bit = place.bit;
+    write!(text, "{field} {bit}")
+}
+
+/// Adds an error.
+fn push_error(
+    text: &mut String,
+    kind: ErrorKind,
+    sends: bool,
+    stuff: bool,
+    place: Place,
+) -> Result<(), AllocError>
+    ensures { OnOk result (GrowsBy text.old text.new (event_text (Event.Error kind sends stuff place))) }
+{
+    let kind = error_kind_word(kind);
+    let role = if sends { "tx" } else { "rx" };
+    let at = if stuff { "after" } else { "in" };
+    write!(text, "error {kind} {role} {at} ")?;
+    push_place(text, place)
+}
+
+/// Adds the mode that counters give, and the counters.
+fn push_mode(text: &mut String, counters: Counters) -> Result<(), AllocError>
+    ensures { OnOk result (GrowsBy text.old text.new (event_text (Event.ModeChanged counters))) }
+{
+    let mode = mode_word(counters.mode());
+    let tec = counters.tec();
+    let rec = counters.rec();
+    write!(text, "mode {mode} tec {tec} rec {rec}")
+}
+
+/// Adds what happened.
+fn push_event(text: &mut String, event: Event) -> Result<(), AllocError>
+    ensures { OnOk result (GrowsBy text.old text.new (event_text event)) }
+{
+    match event {
+        Event::ArbitrationLost(place) => {
+            text.push_str("lost in ")?;
+            push_place(text, place)
+        }
+        Event::Error {
+            kind,
+            sends,
+            stuff,
+            place,
+        } => push_error(text, kind, sends, stuff, place),
+        Event::Flag(form) => {
+            text.push_str("flag ")?;
+            text.push_str(flag_word(form))
+        }
+        Event::Sent(frame) => {
+            text.push_str("sent ")?;
+            push_content(text, &frame)
+        }
+        Event::Received(frame) => {
+            text.push_str("received ")?;
+            push_content(text, &frame)
+        }
+        Event::ModeChanged(counters) => push_mode(text, counters),
+        Event::HardSynchronised => text.push_str("sync hard"),
+        Event::Resynchronised(error) => write!(text, "sync {error}"),
+    }
+}
+
+/// Adds a tick and a node's number.
+fn push_start(text: &mut String, tick: u64, i: usize) -> Result<(), AllocError>
+    ensures { OnOk result (GrowsBy text.old text.new (line_start tick i)) }
+{
+    write!(text, "{tick} {i} ")
+}
+
+/// Adds a quantum and a bit.
+fn push_sample_words(text: &mut String, quantum: u64, bit: u64) -> Result<(), AllocError>
+    ensures { OnOk result (GrowsBy text.old text.new (sample_words quantum bit)) }
+{
+    write!(text, " q {quantum} b {bit} ")
+}
+
+/// Adds the line of an event of node `i` at a tick.
+fn push_line(
+    text: &mut String,
+    names: &Names,
+    tick: u64,
+    i: usize,
+    noted: Noted,
+) -> Result<(), AllocError>
+    ensures { OnOk result (GrowsBy text.old text.new (trace_line names.now (tick, (i, noted)))) }
+{
+    push_start(text, tick, i)?;
+    text.push_str(name_of(names, i))?;
+    push_sample_words(text, noted.quantum, noted.bit)?;
+    push_event(text, noted.event)?;
+    text.push_str("\n")?;
+    Ok(())
+}
+
+/// Adds the events of node `i`, each with its tick.
+fn push_told(
+    told: &mut Vec<(u64, (usize, Noted))>,
+    clock: &Clock,
+    i: usize,
+    events: &[Noted],
+) -> Result<(), AllocError>
+    requires { All (λ n. n.quantum ≤ 2 ^ 21) events.now }
+    ensures { OnOk result (told.new.items ≡ told.old.items ++ told_by clock.now i events.now) }
+{
+    for noted in events {
+        told.push((clock.at(noted.quantum), (i, *noted)))?;
+    }
+    Ok(())
+}
+
+/// How node `i` was synchronised.
+fn syncs_at_end(
+    alloc: Global,
+    plan: &Plan,
+    outcome: &Outcome,
+    i: usize,
+) -> Result<Vec<Noted>, AllocError>
+    requires checked { IsChecked plan.now }
+    requires outcome { outcome.now ≡ outcome_of plan.now }
+    requires node { i < length plan.now.nodes }
+    ensures { IfOk result (λ syncs. syncs.items ≡ syncs_at_end plan.now i) }
+{
+    wl_plan::checked_is_sound();
+    wl_plan::simulation_laws();
+    wl_trace::trace_laws();
+    let levels = levels_seen(alloc, plan, outcome, i)?;
+    node_syncs(alloc, &plan.nodes.as_slice()[i], &levels)
+}
+
+/// What the samples of node `i` did.
+fn events_at_end(
+    alloc: Global,
+    plan: &Plan,
+    outcome: &Outcome,
+    i: usize,
+) -> Result<Vec<Noted>, AllocError>
+    requires checked { IsChecked plan.now }
+    requires outcome { outcome.now ≡ outcome_of plan.now }
+    requires node { i < length plan.now.nodes }
+    ensures { IfOk result (λ events. events.items ≡ events_at_end plan.now i) }
+{
+    let setups = plan.nodes.as_slice();
+    let nodes = outcome.nodes.as_slice();
+    let samples = nodes[i].samples.as_slice();
+    let events = node_events(alloc, &setups[i], samples)?;
+    Ok(events)
+}
+
+/// Adds how node `i` was synchronised and what its samples did, each with its tick.
+fn push_node(
+    alloc: Global,
+    told: &mut Vec<(u64, (usize, Noted))>,
+    plan: &Plan,
+    outcome: &Outcome,
+    i: usize,
+) -> Result<(), AllocError>
+    requires checked { IsChecked plan.now }
+    requires outcome { outcome.now ≡ outcome_of plan.now }
+    requires node { i < length plan.now.nodes }
+    ensures { OnOk result (told.new.items ≡ told.old.items ++ told_at_end plan.now i) }
+{
+    wl_plan::checked_is_sound();
+    wl_plan::simulation_laws();
+    wl_trace::trace_laws();
+    let clock = &plan.nodes.as_slice()[i].clock;
+    let syncs = syncs_at_end(alloc, plan, outcome, i)?;
+    push_told(told, clock, i, &syncs)?;
+    let events = events_at_end(alloc, plan, outcome, i)?;
+    push_told(told, clock, i, &events)?;
+    Ok(())
+}
+
+/// The events of all nodes, node by node, each with its tick.
+fn all_told(
+    alloc: Global,
+    plan: &Plan,
+    outcome: &Outcome,
+) -> Result<Vec<(u64, (usize, Noted))>, AllocError>
+    requires checked { IsChecked plan.now }
+    requires outcome { outcome.now ≡ outcome_of plan.now }
+    ensures { IfOk result (λ told. told.items ≡ all_told plan.now) }
+{
+    let mut told = Vec::new(alloc);
+    for i in 0..plan.nodes.len() {
+        push_node(alloc, &mut told, plan, outcome, i)?;
+    }
+    Ok(told)
+}
+
+/// The events of all nodes in the order of their ticks; those of one tick node by node.
+fn told_in_order(
+    alloc: Global,
+    plan: &Plan,
+    outcome: &Outcome,
+) -> Result<Vec<(u64, (usize, Noted))>, AllocError>
+    requires checked { IsChecked plan.now }
+    requires outcome { outcome.now ≡ outcome_of plan.now }
+    ensures { IfOk result (λ told. told.items ≡ by_tick plan.now.end (all_told plan.now)) }
+{
+    wl_plan::checked_is_sound();
+    wl_plan::simulation_laws();
+    wl_trace::trace_laws();
+    let mut told = all_told(alloc, plan, outcome)?;
+    told.sort_by_key(|(tick, _)| *tick)?;
+    Ok(told)
+}
+
+/// The trace of a plan's simulation, which is `outcome`, under these names of its nodes: for each event a line
+/// `{tick} {node} {name} q {quantum} b {bit} {what}`, in the order of their ticks; those of one tick node by node.
+pub fn trace(
+    alloc: Global,
+    plan: &Plan,
+    names: &Names,
+    outcome: &Outcome,
+) -> Result<Vec<u8>, AllocError>
+    requires checked { IsChecked plan.now }
+    requires outcome { outcome.now ≡ outcome_of plan.now }
+    ensures { IfOk result (λ text. text.items ≡ trace_text plan.now names.now) }
+{
+    let told = told_in_order(alloc, plan, outcome)?;
+    let mut text = String::new(alloc);
+    for (tick, (i, noted)) in told.iter() {
+        push_line(&mut text, names, *tick, *i, *noted)?;
+    }
+    Ok(text.into_bytes())
+}

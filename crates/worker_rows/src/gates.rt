@@ -1,0 +1,105 @@
+//! Gates that watch workers, or stop them.
+
+use std::alloc::{AllocError, Global};
+use std::sync::atomic::{AtomicU64, Ordering};
+use std::thread;
+use wl_worker::{Gate, MOST_WORKERS};
+
+/// A gate that refuses at most one turn of one worker.
+#[derive(Drop)]
+pub struct OneRefusal {
+    pub refused: Option<(u8, u64)>,
+}
+
+impl Gate for OneRefusal {
+    fn turn(&self, worker: u8, turn: u64) -> bool {
+        self.refused != Some((worker, turn))
+    }
+}
+
+/// A gate that refuses each worker this turn.
+#[derive(Drop)]
+pub struct LastTurn {
+    pub refused: u64,
+}
+
+impl Gate for LastTurn {
+    fn turn(&self, _worker: u8, turn: u64) -> bool {
+        turn != self.refused
+    }
+}
+
+/// A gate that counts the turns of each worker.
+#[derive(Drop)]
+pub struct TurnCounts {
+    turns: Vec<AtomicU64>,
+}
+
+impl TurnCounts {
+    /// A gate at which no worker had a turn. Refused only when out of memory.
+    pub fn new(alloc: Global) -> Result<TurnCounts, AllocError> {
+        let mut turns = Vec::new(alloc);
+        for _ in 0..MOST_WORKERS {
+            turns.push(AtomicU64::new(0))?;
+        }
+        Ok(TurnCounts { turns })
+    }
+
+    /// How many turns a worker had so far; 0 for a number above 7.
+    pub fn of(&self, worker: u8) -> u64 {
+        match self.turns.get(usize::from(worker)) {
+            Some(count) => count.load(Ordering::SeqCst),
+            None => 0,
+        }
+    }
+}
+
+impl Gate for TurnCounts {
+    fn turn(&self, worker: u8, _turn: u64) -> bool {
+        if let Some(count) = self.turns.get(usize::from(worker)) {
+            count.fetch_add(1, Ordering::SeqCst);
+        }
+        true
+    }
+}
+
+/// A gate that holds workers 0 and 1 in their first turns, each until the other one is in its first turn too. After so many polls it
+/// refuses the turn.
+#[derive(Drop)]
+pub struct Overlap {
+    zero: AtomicU64,
+    one: AtomicU64,
+    polls: u64,
+}
+
+impl Overlap {
+    /// A gate at which no worker had a turn.
+    pub fn new(polls: u64) -> Overlap {
+        Overlap {
+            zero: AtomicU64::new(0),
+            one: AtomicU64::new(0),
+            polls,
+        }
+    }
+}
+
+impl Gate for Overlap {
+    fn turn(&self, worker: u8, turn: u64) -> bool {
+        if turn > 0 {
+            return true;
+        }
+        let (own, other) = match worker {
+            0 => (&self.zero, &self.one),
+            1 => (&self.one, &self.zero),
+            _ => return true,
+        };
+        own.store(1, Ordering::SeqCst);
+        for _ in 0..self.polls {
+            if other.load(Ordering::SeqCst) == 1 {
+                return true;
+            }
+            thread::yield_now();
+        }
+        false
+    }
+}

@@ -1,0 +1,153 @@
+//! Runs over links that are made here.
+ghost use Rattle.std.specs.Prelude.{◌≤◌, All, IfOk, IsTrue, length};
+ghost use Rattle.wl_plan.specs.Checked.{IsChecked};
+ghost use Rattle.wl_plan.specs.PlanLine.{IsTrueOfPlan};
+
+use crate::gates::TurnCounts;
+use crate::watched::{Counts, watch_all};
+use anyhow::{Result, bail};
+use std::alloc::{AllocError, Global};
+use std::sync::Wait;
+use std::thread::Threads;
+use wl_group::Group;
+use wl_hub::Hub;
+use wl_mail::posts;
+use wl_plan::Plan;
+use wl_record_core::Record;
+use wl_serial::{Outcome, run_serial};
+use wl_worker::{
+    Bell, Fault, HubLink, Link, LinkKind, MailLink, PlanName, hub_links, mail_links, shape_of_plan,
+    simulate_over,
+};
+
+/// Runs a plan by so many workers, over links of this kind that are made here and watched.
+pub fn run_over<R: Threads + Wait + Sync>(
+    rt: &R,
+    alloc: Global,
+    plan: &Plan,
+    workers: u8,
+    kind: LinkKind,
+    gate: &TurnCounts,
+    counts: &Counts,
+) -> Result<Outcome, Fault>
+    requires { IsChecked plan.now }
+{
+    let bell = Bell::new(alloc, workers)?;
+    match kind {
+        LinkKind::Hub => {
+            let shape = shape_of_plan(alloc, plan)?;
+            let name = PlanName {
+                plan: plan.clone_in(alloc)?,
+            };
+            let (hub, pass) = Hub::start(alloc, shape.as_slice(), &name)?;
+            let links = hub_links(rt, alloc, &hub, pass, &bell, workers)?;
+            run_watched(rt, alloc, plan, links, gate, counts)
+        }
+        LinkKind::Mail => {
+            let (posts, _hold) = posts(alloc, workers)?;
+            let links = mail_links(rt, alloc, posts, plan, &bell)?;
+            run_watched(rt, alloc, plan, links, gate, counts)
+        }
+    }
+}
+
+/// Runs a plan over these links, watched.
+fn run_watched<R: Threads + Wait + Sync, L: Link + Send + Drop>(
+    rt: &R,
+    alloc: Global,
+    plan: &Plan,
+    links: Vec<L>,
+    gate: &TurnCounts,
+    counts: &Counts,
+) -> Result<Outcome, Fault>
+    requires checked { IsChecked plan.now }
+    requires links { All (λ link. L.is_of link plan.now) links.items }
+{
+    let links = watch_all(alloc, plan, links, counts)?;
+    simulate_over(rt, alloc, plan.clone_in(alloc)?, links, gate)
+}
+
+/// Whether a record is true of a plan.
+fn is_true(alloc: Global, plan: &Plan, entry: Record) -> Result<bool, AllocError>
+    requires { IsChecked plan.now }
+    ensures { IfOk result (λ b. IsTrue b → IsTrueOfPlan plan.now entry) }
+{
+    let outcome = run_serial(alloc, plan)?;
+    let node = usize::from(entry.node());
+    if node >= outcome.nodes.len() {
+        return Ok(false);
+    }
+    let changes = &outcome.nodes.as_slice()[node].changes;
+    Ok(entry.is_true_of(plan.topology.nodes(), changes.as_slice()))
+}
+
+/// Of two links of this kind one gives the silence of a node after so many changes up to tick `until`, and the other one brings what there
+/// is to a group of node 1, twice. Says what came, and up to when the group knows the node then.
+pub fn tell_links<R: Wait>(
+    rt: &R,
+    alloc: Global,
+    plan: &Plan,
+    kind: LinkKind,
+    silence: (u8, u32, u64),
+) -> Result<String>
+    requires { IsChecked plan.now }
+{
+    let (node, count, until) = silence;
+    let entry = Record::Silence { node, count, until };
+    if plan.nodes.len() < 2 || !is_true(alloc, plan, entry)? {
+        bail!("a record that is not true, or one node alone");
+    }
+    let bell = Bell::new(alloc, 2)?;
+    match kind {
+        LinkKind::Hub => {
+            let shape = shape_of_plan(alloc, plan)?;
+            let name = PlanName {
+                plan: plan.clone_in(alloc)?,
+            };
+            let (hub, pass) = Hub::start(alloc, shape.as_slice(), &name)?;
+            let mut pass = pass;
+            let own = hub.split(&mut pass);
+            let giving = HubLink::new(rt, alloc, &hub, own, &bell, 0)?;
+            let bringing = HubLink::new(rt, alloc, &hub, pass, &bell, 1)?;
+            tell_two(alloc, plan, giving, bringing, entry)
+        }
+        LinkKind::Mail => {
+            let (mut posts, _hold) = posts(alloc, 2)?;
+            let (Some(second), Some(first)) = (posts.pop(), posts.pop()) else {
+                bail!("not two posts");
+            };
+            let giving = MailLink::new(rt, alloc, first, plan, &bell, 0)?;
+            let bringing = MailLink::new(rt, alloc, second, plan, &bell, 1)?;
+            tell_two(alloc, plan, giving, bringing, entry)
+        }
+    }
+}
+
+/// One link gives a record, and another one brings what there is to a group of node 1, twice.
+fn tell_two<L: Link + Drop>(
+    alloc: Global,
+    plan: &Plan,
+    giving: L,
+    bringing: L,
+    entry: Record,
+) -> Result<String>
+    requires checked { IsChecked plan.now }
+    requires nodes { 2 ≤ length plan.now.nodes }
+    requires giving { L.is_of giving plan.now }
+    requires bringing { L.is_of bringing plan.now }
+    requires truth { IsTrueOfPlan plan.now entry }
+{
+    let mut giving = giving;
+    let mut bringing = bringing;
+    let mut group = Group::new(alloc, plan, &[1])?;
+    giving.give(alloc, &[entry])?;
+    let came = bringing.fetch(alloc, &mut group)?;
+    let again = bringing.fetch(alloc, &mut group)?;
+    let node = entry.node();
+    let mut said = String::new(alloc);
+    if node < group.replica().nodes() {
+        let horizon = group.replica().horizon(node);
+        write!(said, "came {came}, then {again}, horizon {horizon}")?;
+    }
+    Ok(said)
+}

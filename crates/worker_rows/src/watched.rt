@@ -1,0 +1,110 @@
+//! Links that count what workers do.
+ghost use Rattle.std.specs.Prelude.{All, IfOk};
+ghost use Rattle.wl_plan.specs.declared.plan.Plan.{Plan as GivenPlan};
+
+use std::alloc::{AllocError, Global};
+use std::fmt;
+use std::fmt::{Display, Formatter, Write};
+use std::sync::atomic::{AtomicU64, Ordering};
+use wl_group::Group;
+use wl_plan::Plan;
+use wl_record_core::Record;
+use wl_worker::{Link, LinkFault};
+
+/// What all workers of a run did together.
+#[derive(Drop)]
+pub struct Counts {
+    records: AtomicU64,
+    gives: AtomicU64,
+    news: AtomicU64,
+    waits: AtomicU64,
+}
+
+impl Counts {
+    /// Nothing so far.
+    pub fn new() -> Counts {
+        Counts {
+            records: AtomicU64::new(0),
+            gives: AtomicU64::new(0),
+            news: AtomicU64::new(0),
+            waits: AtomicU64::new(0),
+        }
+    }
+}
+
+impl Display for Counts {
+    fn fmt<W: Write>(&self, f: &mut Formatter<W>) -> fmt::Result {
+        let records = self.records.load(Ordering::SeqCst);
+        let gives = self.gives.load(Ordering::SeqCst);
+        let news = self.news.load(Ordering::SeqCst);
+        let waits = self.waits.load(Ordering::SeqCst);
+        write!(
+            f,
+            "records {records}, gives {gives}, news {news}, waits {waits}"
+        )
+    }
+}
+
+/// A link, of which the records and the times that some were given, the fetches that brought something and the waits are counted.
+#[derive(Drop)]
+pub struct Watched<'c, L: Drop> {
+    link: L,
+    counts: &'c Counts,
+}
+
+impl<'c, L: Link + Drop> Link for Watched<'c, L> {
+    ghost is_of = { λ watched plan. L.is_of watched.link plan };
+
+    ghost is_rewound = { λ watched. L.is_rewound watched.link };
+
+    fn worker(&self) -> u8 {
+        self.link.worker()
+    }
+
+    fn give(&mut self, alloc: Global, records: &[Record]) -> Result<(), LinkFault> {
+        self.counts
+            .records
+            .fetch_add(records.len() as u64, Ordering::SeqCst);
+        self.counts.gives.fetch_add(1, Ordering::SeqCst);
+        self.link.give(alloc, records)
+    }
+
+    fn fetch(&mut self, alloc: Global, group: &mut Group) -> Result<bool, LinkFault> {
+        let news = self.link.fetch(alloc, group)?;
+        if news {
+            self.counts.news.fetch_add(1, Ordering::SeqCst);
+        }
+        Ok(news)
+    }
+
+    fn rewind(&mut self) {
+        self.link.rewind()
+    }
+
+    fn wait(&mut self) -> Option<u8> {
+        self.counts.waits.fetch_add(1, Ordering::SeqCst);
+        self.link.wait()
+    }
+
+    fn stop(&mut self) {
+        self.link.stop()
+    }
+}
+
+/// These links, which are of a plan, watched.
+pub fn watch_all<'c, L: Link + Drop>(
+    alloc: Global,
+    plan: &Plan,
+    links: Vec<L>,
+    counts: &'c Counts,
+) -> Result<Vec<Watched<'c, L>>, AllocError>
+    requires { All (λ link. L.is_of link plan.now) links.items }
+    ensures { IfOk result (λ all. All (λ watched. L.is_of watched.link plan.now) all.items) }
+{
+    let _ = plan;
+    let mut all = Vec::new(alloc);
+    for link in links {
+        all.push(Watched { link, counts })?;
+    }
+    Ok(all)
+}
