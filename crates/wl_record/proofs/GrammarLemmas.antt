@@ -91,7 +91,7 @@ spelled_once line r q h g =
     by_numbers (Silence a b c) (Silence x y z) l e = let ea : a ≡ x = cc in let eb : b ≡ y = cc in let ec : c ≡ z = cc in (λ i. Silence (ea i) (eb i) (ec i))
 
 -- ---- what is written
-own : IsNumeralModel (AllDigits 10) (digits_value 10)
+pub own : IsNumeralModel (AllDigits 10) (digits_value 10)
 own = numerals_by_value (AllDigits 10) (search rules)
 
 pub number_is_decimal : (x : List ℕ) (n : ℕ) → IsNumber x n → n < 2 ^ 64 → x ≡ decimal n

@@ -4,6 +4,7 @@ mod LineLemmas
 mod NumberLemmas
 mod ParseLemmas
 mod PieceLemmas
+mod QuickLemmas
 mod ReadLemmas
 mod Rows
 mod WriteLemmas

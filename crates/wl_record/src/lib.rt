@@ -5,6 +5,7 @@ mod fault;
 mod laws;
 mod limits;
 mod parse;
+mod quick;
 mod read;
 #[cfg(test)]
 mod tests;

@@ -3,6 +3,7 @@ ghost use Rattle.std.specs.Prelude.{◌≡◌, ◌↔◌, ◌+◌, ◌<◌, ◌�
 ghost use Rattle.std.specs.Char.{digit_value};
 
 use crate::limits::MOST_LINE;
+use crate::quick::quick_line;
 use std::alloc::AllocError;
 use wl_record_core::{MOST_EDGES, MOST_NODES, Record, TICK_END};
 
@@ -31,7 +32,8 @@ ghost use Rattle.wl_record.specs.Parsing.{IsDigits, IsField, FieldsThen, number_
 /// More than any number that is within. Greater numbers in a text are read as this one.
 const CAP: u64 = 1_000_000_000_000_000_000;
 
-fn is_digit(byte: u8) -> bool
+/// Whether a byte is a decimal digit.
+pub fn is_digit(byte: u8) -> bool
     ensures { IsTrue result ↔ (digit_value byte < 10) }
 {
     byte.is_ascii_digit()
@@ -108,7 +110,7 @@ ghost use Rattle.wl_record.specs.Parsing.{IsFront, IsOnlyWithin, IsRecordFront, 
 
 /// The edge with these numbers, if it is within.
 #[tactic(auto, unfolding(wl_record_core::specs::Limits::most_nodes, wl_record_core::specs::Limits::most_edges, wl_record_core::specs::Limits::tick_end))]
-fn edge(node: u64, seq: u64, tick: u64) -> Option<Record>
+pub fn edge(node: u64, seq: u64, tick: u64) -> Option<Record>
     ensures { IsOnlyWithin (Edge node seq tick) result }
 {
     if node < u64::from(MOST_NODES) && seq < u64::from(MOST_EDGES) && tick < TICK_END {
@@ -134,7 +136,7 @@ fn clash(node: u64, seq: u64) -> Option<Record>
 
 /// The silence with these numbers, if it is within.
 #[tactic(auto, unfolding(wl_record_core::specs::Limits::most_nodes, wl_record_core::specs::Limits::most_edges, wl_record_core::specs::Limits::tick_end))]
-fn silence(node: u64, count: u64, until: u64) -> Option<Record>
+pub fn silence(node: u64, count: u64, until: u64) -> Option<Record>
     ensures { IsOnlyWithin (Silence node count until) result }
 {
     if node < u64::from(MOST_NODES) && count <= u64::from(MOST_EDGES) && until < TICK_END {
@@ -246,7 +248,8 @@ fn slow_line(bytes: &[u8]) -> Result<(Record, &[u8]), Stop>
 }
 
 /// The same, which looks for no newline first.
-fn take_line(bytes: &[u8]) -> Result<(Record, &[u8]), Stop>
+#[inline(never)]
+fn plain_line(bytes: &[u8]) -> Result<(Record, &[u8]), Stop>
     ensures told { IfOk result (λ t. TakesLine bytes.now t.0 t.1.now) }
     ensures stop { IfErr result (λ stop. IsStop bytes.now stop) }
 {
@@ -256,6 +259,18 @@ fn take_line(bytes: &[u8]) -> Result<(Record, &[u8]), Stop>
         }
     }
     slow_line(bytes)
+}
+
+/// The same, by the quick line where that answers.
+#[inline(always)]
+fn take_line(bytes: &[u8]) -> Result<(Record, &[u8]), Stop>
+    ensures told { IfOk result (λ t. TakesLine bytes.now t.0 t.1.now) }
+    ensures stop { IfErr result (λ stop. IsStop bytes.now stop) }
+{
+    match quick_line(bytes) {
+        Some(taken) => Ok(taken),
+        None => plain_line(bytes),
+    }
 }
 
 ghost use Rattle.wl_record.specs.Parsing.{TakesLines, Appends};

@@ -1,7 +1,7 @@
 use Rattle.std.proofs.Common.{arith, subst, ◌≡◌, get_or, Some}
 use Rattle.wl_record.specs.Parsing.{IsRecordFront}
 use Rattle.wl_record.proofs.LineLemmas.{front_line, first_and_rest}
-use Rattle.wl_record.proofs.parse.take_line.Goals as goal
+use Rattle.wl_record.proofs.parse.plain_line.Goals as goal
 
 pub returns-in-10-clause-told : goal.returns-in-10-clause-told
 returns-in-10-clause-told c =
