@@ -24,7 +24,9 @@ mod ChangesStand
 mod WalkLemmas
 mod PromiseLemmas
 mod WaveLemmas
+mod RunLemmas
 mod PlaceLemmas
+mod RunsKept
 mod BatchLemmas
 mod DenseLemmas
 mod DenseShown

@@ -44,7 +44,7 @@ pub goes_tick : (e : ℕ → FlatWord) (s : ℕ → ℕ) (n : ℕ) → run_goes_
 goes_tick e s zero h = (and_parts _ _ h).0
 goes_tick e s (suc n) h = (and_parts _ _ (and_parts _ _ h).0).0
 
-goes_above : (e : ℕ → FlatWord) (s : ℕ → ℕ) (n : ℕ) → run_goes_on e s n ≡ true → after_edges e n ≤ tick_in (e n)
+pub goes_above : (e : ℕ → FlatWord) (s : ℕ → ℕ) (n : ℕ) → run_goes_on e s n ≡ true → after_edges e n ≤ tick_in (e n)
 goes_above e s zero h = omega arith
 goes_above e s (suc n) h = above (tick_in (e n)) (tick_in (e (suc n))) (and_parts _ _ h).1 where
   above : (a b : ℕ) → nat_lt a b ≡ true → suc a ≤ b

@@ -1,15 +1,15 @@
 // The dominant intervals of a node's run.
 ghost use Rattle.std.specs.Prelude.{◌≡◌, ◌<◌, max, [], ◌∷◌, ◌++◌, OnOk, IfOk, IfSome, IfNone, Some, None};
-ghost use Rattle.wl_record_core.specs.Limits.{most_edges};
 ghost use Rattle.wl_intervals.specs.Pairs.{covers, last_end};
-ghost use Rattle.wl_replica.specs.Kept.{edges_in, silences_in, TicksAreWithin};
-ghost use Rattle.wl_replica.specs.Known.{greatest_passing, is_run, known_by, ticks, intervals};
+ghost use Rattle.wl_replica.specs.Kept.{edges_in};
+ghost use Rattle.wl_replica.specs.Known.{ticks, intervals};
+ghost use Rattle.wl_replica.specs.Runs.{IsRunOfEdges};
 
-use crate::walks::{promise_of, run_of};
+use crate::known_run::KnownRun;
 use std::alloc::{AllocError, Global};
 use std::collections::BTreeMap;
 use wl_intervals::{Intervals, IntervalsFault};
-use wl_lattice::{FlatWord, MaxWord};
+use wl_lattice::FlatWord;
 
 /// Adds an interval after all others.
 pub fn push_behind(set: &mut Intervals, from: u64, to: u64) -> Result<(), AllocError>
@@ -46,28 +46,22 @@ pub fn flip(set: &mut Intervals, since: Option<u64>, tick: u64) -> Result<Option
 pub fn wave_of(
     alloc: Global,
     edges: &BTreeMap<(u8, u32), FlatWord>,
-    silences: &BTreeMap<(u8, u32), MaxWord>,
     node: u8,
+    known: KnownRun,
 ) -> Result<Intervals, AllocError>
-    requires node { node < 255 }
-    requires within { TicksAreWithin edges.now }
+    requires { IsRunOfEdges (edges_in edges.now node) known }
     ensures { IfOk result (λ set.
-        let e = edges_in edges.now node in
-        let s = silences_in silences.now node in
-        let n = greatest_passing most_edges (is_run e s) in
-        set ≡ intervals (ticks e n) (known_by e s n)) }
+        set ≡ intervals (ticks (edges_in edges.now node) known.run.length) known.horizon) }
 {
-    let run = run_of(edges, silences, node);
-    let horizon = run.end.max(promise_of(silences, node, run.length));
     let mut set = Intervals::new(alloc);
     let mut since = None;
-    for (_, word) in edges.range((node, 0)..(node, run.length)) {
+    for (_, word) in edges.range((node, 0)..(node, known.run.length)) {
         if let FlatWord::Value(tick) = *word {
             since = flip(&mut set, since, tick)?;
         }
     }
     if let Some(from) = since {
-        push_behind(&mut set, from, horizon)?;
+        push_behind(&mut set, from, known.horizon)?;
     }
     Ok(set)
 }
@@ -76,23 +70,16 @@ pub fn wave_of(
 /// of its run.
 pub fn is_dominant_at(
     edges: &BTreeMap<(u8, u32), FlatWord>,
-    silences: &BTreeMap<(u8, u32), MaxWord>,
     node: u8,
+    known: KnownRun,
     tick: u64,
 ) -> bool
-    requires node { node < 255 }
-    requires within { TicksAreWithin edges.now }
-    requires known { let e = edges_in edges.now node in
-        let s = silences_in silences.now node in
-        tick < known_by e s (greatest_passing most_edges (is_run e s)) }
-    ensures { let e = edges_in edges.now node in
-        let s = silences_in silences.now node in
-        let n = greatest_passing most_edges (is_run e s) in
-        result ≡ covers (intervals (ticks e n) (known_by e s n)) tick }
+    requires run { IsRunOfEdges (edges_in edges.now node) known }
+    requires known { tick < known.horizon }
+    ensures { result ≡ covers (intervals (ticks (edges_in edges.now node) known.run.length) known.horizon) tick }
 {
-    let run = run_of(edges, silences, node);
     let mut dominant = false;
-    for (_, word) in edges.range((node, 0)..(node, run.length)) {
+    for (_, word) in edges.range((node, 0)..(node, known.run.length)) {
         match *word {
             FlatWord::Value(change) if change <= tick => dominant = !dominant,
             _ => return dominant,

@@ -1,6 +1,5 @@
-use Rattle.wl_replica.specs.Kept.{edges_in, silences_in}
-use Rattle.wl_replica.specs.Known.{ticks, greatest_passing, is_run}
-use Rattle.wl_record_core.specs.Limits.{most_edges}
+use Rattle.wl_replica.specs.Kept.{edges_in}
+use Rattle.wl_replica.specs.Known.{ticks}
 use Rattle.wl_replica.proofs.WaveLemmas.{AllTicks, IsMade, ticks_of}
 use Rattle.wl_replica.proofs.waves.wave_of.Given as goal
 
@@ -10,5 +9,5 @@ invariant-loop-word l = record {
   can_next : (goal.iterator-loop-word).can_next l.word-iterator;
   finite : (goal.iterator-loop-word).is_finite l.word-iterator;
   held : AllTicks l.word-iterator;
-  made : IsMade (ticks (edges_in l.fn.edges l.fn.node) (greatest_passing most_edges (is_run (edges_in l.fn.edges l.fn.node) (silences_in l.fn.silences l.fn.node)))) l.horizon l.set l.since (ticks_of l.word-iterator);
+  made : IsMade (ticks (edges_in l.fn.edges l.fn.node) l.fn.known.run.length) l.fn.known.horizon l.set l.since (ticks_of l.word-iterator);
 }
