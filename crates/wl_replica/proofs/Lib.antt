@@ -26,6 +26,7 @@ mod PromiseLemmas
 mod WaveLemmas
 mod RunLemmas
 mod PlaceLemmas
+mod HalvingLemmas
 mod RunsKept
 mod BatchLemmas
 mod DenseLemmas

@@ -1,15 +1,15 @@
 // The dominant intervals of a node's run.
-ghost use Rattle.std.specs.Prelude.{◌≡◌, ◌<◌, max, [], ◌∷◌, ◌++◌, OnOk, IfOk, IfSome, IfNone, Some, None};
+ghost use Rattle.std.specs.Prelude.{◌≡◌, ◌<◌, ◌≤◌, ℕ, max, [], ◌∷◌, ◌++◌, OnOk, IfOk, IfSome, IfNone, Some, None};
 ghost use Rattle.wl_intervals.specs.Pairs.{covers, last_end};
 ghost use Rattle.wl_replica.specs.Kept.{edges_in};
-ghost use Rattle.wl_replica.specs.Known.{ticks, intervals};
+ghost use Rattle.wl_replica.specs.Known.{tick_in, ticks, intervals};
 ghost use Rattle.wl_replica.specs.Runs.{IsRunOfEdges};
 
 use crate::known_run::KnownRun;
 use std::alloc::{AllocError, Global};
 use std::collections::BTreeMap;
 use wl_intervals::{Intervals, IntervalsFault};
-use wl_lattice::FlatWord;
+use wl_lattice::{FlatWord, Slots};
 
 /// Adds an interval after all others.
 pub fn push_behind(set: &mut Intervals, from: u64, to: u64) -> Result<(), AllocError>
@@ -66,6 +66,41 @@ pub fn wave_of(
     Ok(set)
 }
 
+/// The tick of a change, 0 where there is none.
+fn tick_at(edges: &BTreeMap<(u8, u32), FlatWord>, node: u8, seq: u32) -> u64
+    ensures { result ≡ tick_in (edges_in edges.now node seq) }
+{
+    match edges.word(&(node, seq)) {
+        FlatWord::Value(tick) => tick,
+        _ => 0,
+    }
+}
+
+/// How many of the changes of a node's run come at a tick or before it, by halving.
+fn changes_up_to(
+    edges: &BTreeMap<(u8, u32), FlatWord>,
+    node: u8,
+    known: KnownRun,
+    tick: u64,
+) -> u32
+    requires { IsRunOfEdges (edges_in edges.now node) known }
+    ensures few { result ≤ known.run.length }
+    ensures before { (n : ℕ) → n < result → tick_in (edges_in edges.now node n) ≤ tick }
+    ensures after { (n : ℕ) → result ≤ n → n < known.run.length → tick < tick_in (edges_in edges.now node n) }
+{
+    let mut low = 0;
+    let mut high = known.run.length;
+    while low < high {
+        let middle = low + (high - low) / 2;
+        if tick_at(edges, node, middle) <= tick {
+            low = middle + 1;
+        } else {
+            high = middle;
+        }
+    }
+    low
+}
+
 /// Whether a node drives dominant at a tick below its horizon: after an odd number of the changes
 /// of its run.
 pub fn is_dominant_at(
@@ -78,12 +113,5 @@ pub fn is_dominant_at(
     requires known { tick < known.horizon }
     ensures { result ≡ covers (intervals (ticks (edges_in edges.now node) known.run.length) known.horizon) tick }
 {
-    let mut dominant = false;
-    for (_, word) in edges.range((node, 0)..(node, known.run.length)) {
-        match *word {
-            FlatWord::Value(change) if change <= tick => dominant = !dominant,
-            _ => return dominant,
-        }
-    }
-    dominant
+    changes_up_to(edges, node, known, tick) % 2 == 1
 }
