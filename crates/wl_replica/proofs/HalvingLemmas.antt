@@ -3,9 +3,9 @@ use Rattle.std.proofs.Common.{◌≡◌, ℕ, zero, suc, ◌+◌, ◌-◌, ◌/�
 use Rattle.std.proofs.lemmas.Bool.{cases_eq, lt-leb, le-leb, and_parts}
 use Rattle.std.proofs.lemmas.Bool.Decides.{nat_tests}
 use Rattle.wl_lattice.specs.declared.FlatWord.{FlatWord}
-use Rattle.wl_replica.specs.Known.{tick_in, is_run, after_edges, ticks}
+use Rattle.wl_replica.specs.Known.{tick_in, is_run, after_edges, ticks, ticks_from}
 use Rattle.wl_replica.proofs.SmallFacts.{run_part}
-use Rattle.wl_replica.proofs.WaveLemmas.{goes_above, flips, ticks_from, ticks_from_first}
+use Rattle.wl_replica.proofs.WaveLemmas.{goes_above, flips, ticks_from_first}
 
 -- the ticks of a run climb
 module _ (e : ℕ → FlatWord) (s : ℕ → ℕ) where

@@ -27,6 +27,7 @@ mod WaveLemmas
 mod RunLemmas
 mod PlaceLemmas
 mod HalvingLemmas
+mod WaveAfter
 mod RunsKept
 mod BatchLemmas
 mod DenseLemmas

@@ -5,7 +5,7 @@ use crate::batch::{join_slots, make_slots};
 use crate::canonical::{push_edges, push_silences};
 use crate::known_run::{KnownRun, NOTHING, all_came, edge_came, silence_came};
 use crate::laws::known_laws;
-use crate::waves::{is_dominant_at, wave_of};
+use crate::waves::{is_dominant_at, wave_after_of, wave_of};
 use crate::words::{join_in, make_room, raise};
 use std::alloc::{AllocError, Global};
 use std::collections::BTreeMap;
@@ -239,7 +239,7 @@ impl Replica {
         self.runs[node as usize].horizon
     }
 
-    ghost use Rattle.wl_replica.specs.Known.{wave, wave_at, place_horizon};
+    ghost use Rattle.wl_replica.specs.Known.{wave, wave_after, wave_at, place_horizon};
     ghost use Rattle.wl_level.specs.Levels.{level_of};
     ghost use Rattle.wl_intervals.specs.Pairs.{covers, last_end};
     ghost use Rattle.wl_topology.specs.Delays.{delay_of};
@@ -254,7 +254,17 @@ impl Replica {
         ensures set { IfOk result (λ set. set ≡ wave (slots_of self.now) node) }
         ensures early { IfOk result (λ set. IfSome (last_end set) (λ end. end ≤ tick_end)) }
     {
-        wave_of(alloc, &self.edges, node, self.runs[node as usize])
+        wave_of(alloc, &self.edges, node, self.runs[node as usize], 0)
+    }
+
+    /// Of the wave, the intervals that end after a tick, without a walk over the changes before it: from that tick
+    /// on it tells the same levels. Refused for want of memory.
+    pub fn wave_after(&self, alloc: Global, node: u8, tick: u64) -> Result<Intervals, AllocError>
+        requires { node < self.now.nodes }
+        ensures set { IfOk result (λ set. set ≡ wave_after (slots_of self.now) node tick) }
+        ensures level { IfOk result (λ set. (t : ℕ) → tick ≤ t → covers set t ≡ wave_at (slots_of self.now) node t) }
+    {
+        wave_after_of(alloc, &self.edges, node, self.runs[node as usize], tick)
     }
 
     /// The tick below which the line at node `j` is known: the least horizon of a node, later by its

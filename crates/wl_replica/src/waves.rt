@@ -1,8 +1,8 @@
 // The dominant intervals of a node's run.
-ghost use Rattle.std.specs.Prelude.{◌≡◌, ◌<◌, ◌≤◌, ℕ, max, [], ◌∷◌, ◌++◌, OnOk, IfOk, IfSome, IfNone, Some, None};
+ghost use Rattle.std.specs.Prelude.{◌≡◌, ◌<◌, ◌≤◌, ◌-◌, ℕ, max, filter, nat_lt, [], ◌∷◌, ◌++◌, OnOk, IfOk, IfSome, IfNone, Some, None};
 ghost use Rattle.wl_intervals.specs.Pairs.{covers, last_end};
 ghost use Rattle.wl_replica.specs.Kept.{edges_in};
-ghost use Rattle.wl_replica.specs.Known.{tick_in, ticks, intervals};
+ghost use Rattle.wl_replica.specs.Known.{tick_in, ticks, ticks_from, intervals};
 ghost use Rattle.wl_replica.specs.Runs.{IsRunOfEdges};
 
 use crate::known_run::KnownRun;
@@ -42,30 +42,6 @@ pub fn flip(set: &mut Intervals, since: Option<u64>, tick: u64) -> Result<Option
     }
 }
 
-/// The intervals in which a node drives dominant, as far as its run and its silences tell.
-pub fn wave_of(
-    alloc: Global,
-    edges: &BTreeMap<(u8, u32), FlatWord>,
-    node: u8,
-    known: KnownRun,
-) -> Result<Intervals, AllocError>
-    requires { IsRunOfEdges (edges_in edges.now node) known }
-    ensures { IfOk result (λ set.
-        set ≡ intervals (ticks (edges_in edges.now node) known.run.length) known.horizon) }
-{
-    let mut set = Intervals::new(alloc);
-    let mut since = None;
-    for (_, word) in edges.range((node, 0)..(node, known.run.length)) {
-        if let FlatWord::Value(tick) = *word {
-            since = flip(&mut set, since, tick)?;
-        }
-    }
-    if let Some(from) = since {
-        push_behind(&mut set, from, known.horizon)?;
-    }
-    Ok(set)
-}
-
 /// The tick of a change, 0 where there is none.
 fn tick_at(edges: &BTreeMap<(u8, u32), FlatWord>, node: u8, seq: u32) -> u64
     ensures { result ≡ tick_in (edges_in edges.now node seq) }
@@ -99,6 +75,49 @@ fn changes_up_to(
         }
     }
     low
+}
+
+/// The intervals in which a node drives dominant, by the changes of its run from an even number on.
+pub fn wave_of(
+    alloc: Global,
+    edges: &BTreeMap<(u8, u32), FlatWord>,
+    node: u8,
+    known: KnownRun,
+    first: u32,
+) -> Result<Intervals, AllocError>
+    requires run { IsRunOfEdges (edges_in edges.now node) known }
+    requires first { first ≤ known.run.length }
+    ensures { IfOk result (λ set. let length = known.run.length in
+        set ≡ intervals (ticks_from (edges_in edges.now node) first (length - first)) known.horizon) }
+{
+    let mut set = Intervals::new(alloc);
+    let mut since = None;
+    for place in first..known.run.length {
+        since = flip(&mut set, since, tick_at(edges, node, place))?;
+    }
+    if let Some(from) = since {
+        push_behind(&mut set, from, known.horizon)?;
+    }
+    Ok(set)
+}
+
+/// The intervals that end after a tick: from the change before it on, if that is to dominant.
+pub fn wave_after_of(
+    alloc: Global,
+    edges: &BTreeMap<(u8, u32), FlatWord>,
+    node: u8,
+    known: KnownRun,
+    tick: u64,
+) -> Result<Intervals, AllocError>
+    requires { IsRunOfEdges (edges_in edges.now node) known }
+    ensures { IfOk result (λ set. let e = edges_in edges.now node in
+        set ≡ filter (λ p. nat_lt tick p.1) (intervals (ticks e known.run.length) known.horizon)) }
+{
+    if known.horizon <= tick {
+        return Ok(Intervals::new(alloc));
+    }
+    let count = changes_up_to(edges, node, known, tick);
+    wave_of(alloc, edges, node, known, count - count % 2)
 }
 
 /// Whether a node drives dominant at a tick below its horizon: after an odd number of the changes
