@@ -2,9 +2,9 @@
 use Rattle.std.proofs.Common.{◌≡◌, ℕ, zero, suc, ◌+◌, ◌-◌, ◌<◌, ◌≤◌, max, true, false, List, [], ◌∷◌, length, Option, refl, ◌∙◌, ap, subst, arith}
 use Rattle.wl_lattice.specs.declared.FlatWord.{FlatWord}
 use Rattle.wl_lattice.specs.declared.FlatWord.TheVariants as flat
-use Rattle.wl_replica.specs.Known.{is_tick, tick_in, longest_promise}
+use Rattle.wl_replica.specs.Known.{is_tick, tick_in, longest_promise, ticks_from}
 use Rattle.wl_replica.specs.Dense.{row_number, edges_of_row, edge_of_number}
-use Rattle.wl_replica.proofs.WaveLemmas.{IsMade, ticks_from}
+use Rattle.wl_replica.proofs.WaveLemmas.{IsMade}
 
 -- past its end a row holds nothing
 pub number_past : (row : List ℕ) (n : ℕ) → length row ≤ n → row_number row n ≡ 0

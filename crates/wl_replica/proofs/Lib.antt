@@ -24,7 +24,11 @@ mod ChangesStand
 mod WalkLemmas
 mod PromiseLemmas
 mod WaveLemmas
+mod RunLemmas
 mod PlaceLemmas
+mod HalvingLemmas
+mod WaveAfter
+mod RunsKept
 mod BatchLemmas
 mod DenseLemmas
 mod DenseShown

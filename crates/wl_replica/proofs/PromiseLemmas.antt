@@ -34,7 +34,7 @@ promised_has s (suc m) n h = elim (cases_eq n (suc m)) [
   | inr other ↦ omega (arith, promised_has s m n (omega arith))
 ]
 
-promised_least : (s : ℕ → ℕ) (m top : ℕ) → ((n : ℕ) → n ≤ m → s n ≤ top) → longest_promise s m ≤ top
+pub promised_least : (s : ℕ → ℕ) (m top : ℕ) → ((n : ℕ) → n ≤ m → s n ≤ top) → longest_promise s m ≤ top
 promised_least s zero top h = h 0 (omega arith)
 promised_least s (suc m) top h = omega (arith, promised_least s m top (λ n le. h n (omega arith)), h (suc m) (omega arith))
 

@@ -16,16 +16,12 @@ use Rattle.wl_lattice.specs.declared.FlatWord.{FlatWord}
 use Rattle.wl_lattice.specs.declared.FlatWord.TheVariants as flat
 use Rattle.wl_replica.specs.Keys.{Key, key_cmp}
 use Rattle.wl_replica.specs.Kept.{edges_in}
-use Rattle.wl_replica.specs.Known.{is_tick, tick_in, run_goes_on, is_run, after_edges, known_by, ticks, intervals}
+use Rattle.wl_replica.specs.Known.{is_tick, tick_in, run_goes_on, is_run, after_edges, known_by, ticks, ticks_from, intervals}
 use Rattle.wl_replica.proofs.SmallFacts.{run_part}
 use Rattle.wl_replica.proofs.KeptLemmas.{found}
 use Rattle.wl_replica.proofs.WalkLemmas.{Rising, none_before, number_at_is, number_after, rising_part}
 
 -- ---- ticks from a number on
-abbrev pub ticks_from : (ℕ → FlatWord) → ℕ → ℕ → List ℕ
-ticks_from e m zero = []
-ticks_from e m (suc d) = tick_in (e m) ∷ ticks_from e (suc m) d
-
 ticks_both : (e : ℕ → FlatWord) (m d : ℕ) → ticks e m ++ ticks_from e m d ≡ ticks e (m + d)
 ticks_both e m zero = append-nil (ticks e m) ∙ ap (ticks e) (let same : m ≡ m + 0 = omega arith in same)
 ticks_both e m (suc d) =
@@ -44,7 +40,7 @@ pub goes_tick : (e : ℕ → FlatWord) (s : ℕ → ℕ) (n : ℕ) → run_goes_
 goes_tick e s zero h = (and_parts _ _ h).0
 goes_tick e s (suc n) h = (and_parts _ _ (and_parts _ _ h).0).0
 
-goes_above : (e : ℕ → FlatWord) (s : ℕ → ℕ) (n : ℕ) → run_goes_on e s n ≡ true → after_edges e n ≤ tick_in (e n)
+pub goes_above : (e : ℕ → FlatWord) (s : ℕ → ℕ) (n : ℕ) → run_goes_on e s n ≡ true → after_edges e n ≤ tick_in (e n)
 goes_above e s zero h = omega arith
 goes_above e s (suc n) h = above (tick_in (e n)) (tick_in (e (suc n))) (and_parts _ _ h).1 where
   above : (a b : ℕ) → nat_lt a b ≡ true → suc a ≤ b
@@ -53,7 +49,7 @@ goes_above e s (suc n) h = above (tick_in (e n)) (tick_in (e (suc n))) (and_part
 pub run_ticks : (e : ℕ → FlatWord) (s : ℕ → ℕ) (m : ℕ) → is_run e s m ≡ true → (n : ℕ) → n < m → is_tick (e n) ≡ true
 run_ticks e s m h n lt = goes_tick e s n (run_part e s m n h lt)
 
-climbs_from : (e : ℕ → FlatWord) (s : ℕ → ℕ) (m d n h : ℕ) → n ≡ m + d → is_run e s n ≡ true → after_edges e n ≤ h → Climbs (after_edges e m) (ticks_from e m d) h
+pub climbs_from : (e : ℕ → FlatWord) (s : ℕ → ℕ) (m d n h : ℕ) → n ≡ m + d → is_run e s n ≡ true → after_edges e n ≤ h → Climbs (after_edges e m) (ticks_from e m d) h
 climbs_from e s m zero n h is run le = subst (λ k. after_edges e k ≤ h) (let same : n ≡ m = omega arith in same) le
 climbs_from e s m (suc d) n h is run le =
     (goes_above e s m (run_part e s n m run (omega arith)), climbs_from e s (suc m) d n h (omega arith) run le)

@@ -84,8 +84,3 @@ HasSlots edges silences slots = AllByRecursion (HasSlot edges silences) slots
 -- and for what each record tells
 abbrev pub HaveSlots : BTreeMap Key FlatWord → BTreeMap Key MaxWord → List Record → Type 0
 HaveSlots edges silences rs = AllByRecursion (λ r. HasSlot edges silences (slot_of r)) rs
-
--- What the maps of a prepared replica keep: those of a replica, with a key for each slot.
-pub record ArePrepared (nodes : ℕ) (edges : BTreeMap Key FlatWord) (silences : BTreeMap Key MaxWord) (slots : List Slot) : Type 0 where
-  pub kept : AreKept nodes edges silences
-  pub room : HasSlots edges silences slots

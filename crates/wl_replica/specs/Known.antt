@@ -1,6 +1,6 @@
 -- Up to when slots tell a node's level, and which: run length, horizon and wave. Chandy and Misra 1979:
 -- what a process may rest on is bounded by the promises that it has received. The slots are this project's profile.
-use Rattle.std.specs.Prelude.{ℕ, zero, suc, pred, ◌+◌, min, max, Bool, true, false, ◌&&◌, List, [], ◌∷◌, ◌++◌, nat_lt, nat_le, if◌then◌else◌}
+use Rattle.std.specs.Prelude.{ℕ, zero, suc, pred, ◌+◌, min, max, Bool, true, false, ◌&&◌, List, [], ◌∷◌, ◌++◌, nat_lt, nat_le, if◌then◌else◌, filter}
 use Rattle.wl_lattice.specs.declared.FlatWord.{FlatWord}
 use Rattle.wl_lattice.specs.declared.FlatWord.TheVariants as flat
 use Rattle.wl_intervals.specs.Pairs.{covers}
@@ -55,6 +55,11 @@ abbrev pub ticks : (ℕ → FlatWord) → ℕ → List ℕ
 ticks e zero = []
 ticks e (suc m) = ticks e m ++ tick_in (e m) ∷ []
 
+-- the ticks of d edges from number m on
+abbrev pub ticks_from : (ℕ → FlatWord) → ℕ → ℕ → List ℕ
+ticks_from e m zero = []
+ticks_from e m (suc d) = tick_in (e m) ∷ ticks_from e (suc m) d
+
 -- from each first to each second tick, an open last one up to a horizon
 abbrev pub intervals : List ℕ → ℕ → List (ℕ × ℕ)
 intervals [] h = []
@@ -83,6 +88,10 @@ place_horizon nodes delay w j = least_up_to (λ i. horizon w i + delay i j) (pre
 -- the intervals in which node i drives dominant, as far as it is known
 abbrev pub wave : Contents → ℕ → List (ℕ × ℕ)
 wave w i = intervals (ticks (w.edge i) (run_length w i)) (horizon w i)
+
+-- those of them that end after a tick
+abbrev pub wave_after : Contents → ℕ → ℕ → List (ℕ × ℕ)
+wave_after w i t = filter (λ p. nat_lt t p.1) (wave w i)
 
 -- whether node i drives dominant at t, by its wave
 abbrev pub wave_at : Contents → ℕ → ℕ → Bool

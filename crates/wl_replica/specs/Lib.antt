@@ -4,6 +4,7 @@ pub mod Words
 pub mod Canonical
 pub mod Laws
 pub mod Kept
+pub mod Runs
 pub mod Stored
 pub mod Prepared
 pub mod Known

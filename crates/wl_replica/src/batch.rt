@@ -1,14 +1,16 @@
 // Several records taken at once, all or none: first room in their slots, then the words.
-ghost use Rattle.std.specs.Prelude.{◌≡◌, ◌∷◌, [], OnOk};
-ghost use Rattle.std.specs.List.{filter_map};
+ghost use Rattle.std.specs.Prelude.{◌≡◌, ◌∷◌, [], length, OnOk};
+ghost use Rattle.std.specs.List.{filter_map, AllByRecursion};
 ghost use Rattle.std.specs.BTreeMap.{IsOrdered};
 ghost use Rattle.wl_lattice.specs.declared.FlatWord.{FlatWord};
 ghost use Rattle.wl_lattice.specs.Words.{joined_flat, joined_max, max_word};
 ghost use Rattle.wl_replica.specs.Keys.{key_cmp};
 ghost use Rattle.wl_record_core.specs.Slots.{slot_of};
 ghost use Rattle.wl_replica.specs.Kept.{SameWords, JoinsIn, HasSlot, HasSlots, HaveSlots};
-ghost use Rattle.wl_replica.specs.State.{edge_word, silence_word};
+ghost use Rattle.wl_replica.specs.State.{edge_word, silence_word, Fits};
+ghost use Rattle.wl_replica.specs.Runs.{AreKeptWithRuns};
 
+use crate::known_run::{KnownRun, edge_came, silence_came};
 use crate::words::{join_at, make_room_at};
 use std::alloc::AllocError;
 use std::collections::BTreeMap;
@@ -57,9 +59,13 @@ fn make_slot(
 pub fn join_slots(
     edges: &mut BTreeMap<(u8, u32), FlatWord>,
     silences: &mut BTreeMap<(u8, u32), MaxWord>,
+    runs: &mut Vec<KnownRun>,
     told: &[Record],
 )
-    requires { HaveSlots edges.old silences.old told.now }
+    requires room { HaveSlots edges.old silences.old told.now }
+    requires kept { AreKeptWithRuns (length runs.old.items) edges.old silences.old runs.old.items }
+    requires fits { AllByRecursion (Fits (length runs.old.items)) told.now }
+    ensures kept { AreKeptWithRuns (length runs.old.items) edges.new silences.new runs.new.items }
     ensures edges_ordered { IsOrdered key_cmp edges.new }
     ensures silences_ordered { IsOrdered key_cmp silences.new }
     ensures edges_joined { JoinsIn FlatWord.Nothing joined_flat edges.old edges.new (filter_map edge_word told.now) }
@@ -67,7 +73,7 @@ pub fn join_slots(
         (filter_map silence_word told.now) }
 {
     for record in told {
-        join_slot(edges, silences, record);
+        join_slot(edges, silences, runs, record);
     }
     let _ = (edges.len(), silences.len());
 }
@@ -76,9 +82,13 @@ pub fn join_slots(
 fn join_slot(
     edges: &mut BTreeMap<(u8, u32), FlatWord>,
     silences: &mut BTreeMap<(u8, u32), MaxWord>,
+    runs: &mut Vec<KnownRun>,
     told: &Record,
 )
-    requires { HasSlot edges.old silences.old (slot_of told.now) }
+    requires room { HasSlot edges.old silences.old (slot_of told.now) }
+    requires kept { AreKeptWithRuns (length runs.old.items) edges.old silences.old runs.old.items }
+    requires fits { Fits (length runs.old.items) told.now }
+    ensures kept { AreKeptWithRuns (length runs.old.items) edges.new silences.new runs.new.items }
     ensures edges_ordered { IsOrdered key_cmp edges.new }
     ensures silences_ordered { IsOrdered key_cmp silences.new }
     ensures edges_joined { JoinsIn FlatWord.Nothing joined_flat edges.old edges.new
@@ -88,10 +98,17 @@ fn join_slot(
 {
     let _ = (edges.len(), silences.len());
     match *told {
-        Record::Edge { node, seq, tick } => join_at(edges, (node, seq), &FlatWord::Value(tick)),
-        Record::Clash { node, seq } => join_at(edges, (node, seq), &FlatWord::Clash),
+        Record::Edge { node, seq, tick } => {
+            join_at(edges, (node, seq), &FlatWord::Value(tick));
+            edge_came(runs, edges, silences, node, seq);
+        }
+        Record::Clash { node, seq } => {
+            join_at(edges, (node, seq), &FlatWord::Clash);
+            edge_came(runs, edges, silences, node, seq);
+        }
         Record::Silence { node, count, until } => {
-            join_at(silences, (node, count), &MaxWord { word: until })
+            join_at(silences, (node, count), &MaxWord { word: until });
+            silence_came(runs, edges, silences, node, count);
         }
     }
 }

@@ -6,6 +6,7 @@ mod batch;
 mod canonical;
 mod dense;
 mod dense_walks;
+mod known_run;
 mod laws;
 mod node_row;
 mod replica;

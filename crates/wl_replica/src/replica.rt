@@ -3,9 +3,9 @@ ghost use Rattle.std.specs.Prelude.{◌≡◌, ◌↔◌, ℕ, IsTrue, IfOk, IfE
 
 use crate::batch::{join_slots, make_slots};
 use crate::canonical::{push_edges, push_silences};
+use crate::known_run::{KnownRun, NOTHING, all_came, edge_came, silence_came};
 use crate::laws::known_laws;
-use crate::walks::{promise_of, run_of};
-use crate::waves::{is_dominant_at, wave_of};
+use crate::waves::{is_dominant_at, wave_after_of, wave_of};
 use crate::words::{join_in, make_room, raise};
 use std::alloc::{AllocError, Global};
 use std::collections::BTreeMap;
@@ -35,12 +35,14 @@ pub struct Replica {
     nodes: u8,
     edges: BTreeMap<(u8, u32), FlatWord>,
     silences: BTreeMap<(u8, u32), MaxWord>,
+    runs: Vec<KnownRun>,
 }
 
 impl Model for Replica {
     ghost use Rattle.wl_replica.specs.State.{State};
     ghost use Rattle.wl_replica.specs.Stored.{coded_state};
-    ghost use Rattle.wl_replica.specs.Kept.{words_shown, holds_edge, holds_silence, AreKept};
+    ghost use Rattle.wl_replica.specs.Kept.{words_shown, holds_edge, holds_silence};
+    ghost use Rattle.wl_replica.specs.Runs.{AreKeptWithRuns};
 
     ghost Value = { State };
 
@@ -48,7 +50,7 @@ impl Model for Replica {
 
     ghost view = { λ r. record { nodes = r.nodes; edges = words_shown holds_edge r.edges.entries; silences = words_shown holds_silence r.silences.entries } };
 
-    ghost invariant = { λ r. AreKept r.nodes r.edges r.silences };
+    ghost invariant = { λ r. AreKeptWithRuns r.nodes r.edges r.silences r.runs.items };
 }
 
 impl Replica {
@@ -67,10 +69,13 @@ impl Replica {
     pub fn new(alloc: Global, nodes: u8) -> Result<Replica, AllocError>
         ensures { IfOk result (λ made. made ≡ state_of nodes []) }
     {
+        let mut runs = Vec::new(alloc);
+        runs.resize(nodes as usize, NOTHING)?;
         Ok(Replica {
             nodes,
             edges: BTreeMap::new(alloc),
             silences: BTreeMap::new(alloc),
+            runs,
         })
     }
 
@@ -106,13 +111,16 @@ impl Replica {
         known_laws();
         match told {
             Record::Edge { node, seq, tick } => {
-                raise(&mut self.edges, (node, seq), &FlatWord::Value(tick))?
+                raise(&mut self.edges, (node, seq), &FlatWord::Value(tick))?;
+                edge_came(&mut self.runs, &self.edges, &self.silences, node, seq);
             }
             Record::Clash { node, seq } => {
-                raise(&mut self.edges, (node, seq), &FlatWord::Clash)?
+                raise(&mut self.edges, (node, seq), &FlatWord::Clash)?;
+                edge_came(&mut self.runs, &self.edges, &self.silences, node, seq);
             }
             Record::Silence { node, count, until } => {
-                raise(&mut self.silences, (node, count), &MaxWord { word: until })?
+                raise(&mut self.silences, (node, count), &MaxWord { word: until })?;
+                silence_came(&mut self.runs, &self.edges, &self.silences, node, count);
             }
         }
         Ok(())
@@ -131,6 +139,7 @@ impl Replica {
                 nodes: replica.nodes,
                 edges: replica.edges,
                 silences: replica.silences,
+                runs: replica.runs,
                 slots,
             }),
             Err(_) => Err(replica),
@@ -154,6 +163,7 @@ impl Replica {
         make_room(&mut self.silences, &other.silences)?;
         join_in(&mut self.edges, &other.edges);
         join_in(&mut self.silences, &other.silences);
+        all_came(&mut self.runs, &self.edges, &self.silences, self.nodes);
         Ok(())
     }
 
@@ -210,7 +220,7 @@ impl Replica {
         ensures length { result ≡ run_length (slots_of self.now) node }
         ensures few { result ≤ most_edges }
     {
-        run_of(&self.edges, &self.silences, node).length
+        self.runs[node as usize].run.length
     }
 
     /// The tick below which the node's level is known, if all that was taken is true: past the last
@@ -226,11 +236,10 @@ impl Replica {
     {
         known_laws();
         wl_record_core::table_laws();
-        let run = run_of(&self.edges, &self.silences, node);
-        run.end.max(promise_of(&self.silences, node, run.length))
+        self.runs[node as usize].horizon
     }
 
-    ghost use Rattle.wl_replica.specs.Known.{wave, wave_at, place_horizon};
+    ghost use Rattle.wl_replica.specs.Known.{wave, wave_after, wave_at, place_horizon};
     ghost use Rattle.wl_level.specs.Levels.{level_of};
     ghost use Rattle.wl_intervals.specs.Pairs.{covers, last_end};
     ghost use Rattle.wl_topology.specs.Delays.{delay_of};
@@ -245,7 +254,17 @@ impl Replica {
         ensures set { IfOk result (λ set. set ≡ wave (slots_of self.now) node) }
         ensures early { IfOk result (λ set. IfSome (last_end set) (λ end. end ≤ tick_end)) }
     {
-        wave_of(alloc, &self.edges, &self.silences, node)
+        wave_of(alloc, &self.edges, node, self.runs[node as usize], 0)
+    }
+
+    /// Of the wave, the intervals that end after a tick, without a walk over the changes before it: from that tick
+    /// on it tells the same levels. Refused for want of memory.
+    pub fn wave_after(&self, alloc: Global, node: u8, tick: u64) -> Result<Intervals, AllocError>
+        requires { node < self.now.nodes }
+        ensures set { IfOk result (λ set. set ≡ wave_after (slots_of self.now) node tick) }
+        ensures level { IfOk result (λ set. (t : ℕ) → tick ≤ t → covers set t ≡ wave_at (slots_of self.now) node t) }
+    {
+        wave_after_of(alloc, &self.edges, node, self.runs[node as usize], tick)
     }
 
     /// The tick below which the line at node `j` is known: the least horizon of a node, later by its
@@ -299,7 +318,7 @@ impl Replica {
             result ≡ (nat_le delay t && wave_at (slots_of self.now) i (t - delay)) }
     {
         let delay = topology.delay(i, j);
-        delay <= t && is_dominant_at(&self.edges, &self.silences, i, t - delay)
+        delay <= t && is_dominant_at(&self.edges, i, self.runs[i as usize], t - delay)
     }
 }
 
@@ -317,12 +336,14 @@ pub struct Prepared {
     nodes: u8,
     edges: BTreeMap<(u8, u32), FlatWord>,
     silences: BTreeMap<(u8, u32), MaxWord>,
+    runs: Vec<KnownRun>,
     slots: [Slot; PREPARED_SLOTS],
 }
 
 impl Model for Prepared {
     ghost use Rattle.wl_replica.specs.Prepared.{PreparedState, coded_prepared};
-    ghost use Rattle.wl_replica.specs.Kept.{words_shown, holds_edge, holds_silence, ArePrepared};
+    ghost use Rattle.wl_replica.specs.Kept.{words_shown, holds_edge, holds_silence};
+    ghost use Rattle.wl_replica.specs.Runs.{ArePrepared};
 
     ghost Value = { PreparedState };
 
@@ -330,7 +351,7 @@ impl Model for Prepared {
 
     ghost view = { λ p. record { known = record { nodes = p.nodes; edges = words_shown holds_edge p.edges.entries; silences = words_shown holds_silence p.silences.entries }; slots = p.slots } };
 
-    ghost invariant = { λ p. ArePrepared p.nodes p.edges p.silences p.slots };
+    ghost invariant = { λ p. ArePrepared p.nodes p.edges p.silences p.runs.items p.slots };
 }
 
 impl Prepared {
@@ -357,11 +378,17 @@ impl Prepared {
     {
         known_laws();
         let mut prepared = self;
-        join_slots(&mut prepared.edges, &mut prepared.silences, told);
+        join_slots(
+            &mut prepared.edges,
+            &mut prepared.silences,
+            &mut prepared.runs,
+            told,
+        );
         Replica {
             nodes: prepared.nodes,
             edges: prepared.edges,
             silences: prepared.silences,
+            runs: prepared.runs,
         }
     }
 }

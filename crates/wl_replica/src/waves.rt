@@ -1,15 +1,15 @@
 // The dominant intervals of a node's run.
-ghost use Rattle.std.specs.Prelude.{◌≡◌, ◌<◌, max, [], ◌∷◌, ◌++◌, OnOk, IfOk, IfSome, IfNone, Some, None};
-ghost use Rattle.wl_record_core.specs.Limits.{most_edges};
+ghost use Rattle.std.specs.Prelude.{◌≡◌, ◌<◌, ◌≤◌, ◌-◌, ℕ, max, filter, nat_lt, [], ◌∷◌, ◌++◌, OnOk, IfOk, IfSome, IfNone, Some, None};
 ghost use Rattle.wl_intervals.specs.Pairs.{covers, last_end};
-ghost use Rattle.wl_replica.specs.Kept.{edges_in, silences_in, TicksAreWithin};
-ghost use Rattle.wl_replica.specs.Known.{greatest_passing, is_run, known_by, ticks, intervals};
+ghost use Rattle.wl_replica.specs.Kept.{edges_in};
+ghost use Rattle.wl_replica.specs.Known.{tick_in, ticks, ticks_from, intervals};
+ghost use Rattle.wl_replica.specs.Runs.{IsRunOfEdges};
 
-use crate::walks::{promise_of, run_of};
+use crate::known_run::KnownRun;
 use std::alloc::{AllocError, Global};
 use std::collections::BTreeMap;
 use wl_intervals::{Intervals, IntervalsFault};
-use wl_lattice::{FlatWord, MaxWord};
+use wl_lattice::{FlatWord, Slots};
 
 /// Adds an interval after all others.
 pub fn push_behind(set: &mut Intervals, from: u64, to: u64) -> Result<(), AllocError>
@@ -42,61 +42,95 @@ pub fn flip(set: &mut Intervals, since: Option<u64>, tick: u64) -> Result<Option
     }
 }
 
-/// The intervals in which a node drives dominant, as far as its run and its silences tell.
+/// The tick of a change, 0 where there is none.
+fn tick_at(edges: &BTreeMap<(u8, u32), FlatWord>, node: u8, seq: u32) -> u64
+    ensures { result ≡ tick_in (edges_in edges.now node seq) }
+{
+    match edges.word(&(node, seq)) {
+        FlatWord::Value(tick) => tick,
+        _ => 0,
+    }
+}
+
+/// How many of the changes of a node's run come at a tick or before it, by halving.
+fn changes_up_to(
+    edges: &BTreeMap<(u8, u32), FlatWord>,
+    node: u8,
+    known: KnownRun,
+    tick: u64,
+) -> u32
+    requires { IsRunOfEdges (edges_in edges.now node) known }
+    ensures few { result ≤ known.run.length }
+    ensures before { (n : ℕ) → n < result → tick_in (edges_in edges.now node n) ≤ tick }
+    ensures after { (n : ℕ) → result ≤ n → n < known.run.length → tick < tick_in (edges_in edges.now node n) }
+{
+    let mut low = 0;
+    let mut high = known.run.length;
+    while low < high {
+        let middle = low + (high - low) / 2;
+        if tick_at(edges, node, middle) <= tick {
+            low = middle + 1;
+        } else {
+            high = middle;
+        }
+    }
+    low
+}
+
+/// The intervals in which a node drives dominant, by the changes of its run from an even number on.
 pub fn wave_of(
     alloc: Global,
     edges: &BTreeMap<(u8, u32), FlatWord>,
-    silences: &BTreeMap<(u8, u32), MaxWord>,
     node: u8,
+    known: KnownRun,
+    first: u32,
 ) -> Result<Intervals, AllocError>
-    requires node { node < 255 }
-    requires within { TicksAreWithin edges.now }
-    ensures { IfOk result (λ set.
-        let e = edges_in edges.now node in
-        let s = silences_in silences.now node in
-        let n = greatest_passing most_edges (is_run e s) in
-        set ≡ intervals (ticks e n) (known_by e s n)) }
+    requires run { IsRunOfEdges (edges_in edges.now node) known }
+    requires first { first ≤ known.run.length }
+    ensures { IfOk result (λ set. let length = known.run.length in
+        set ≡ intervals (ticks_from (edges_in edges.now node) first (length - first)) known.horizon) }
 {
-    let run = run_of(edges, silences, node);
-    let horizon = run.end.max(promise_of(silences, node, run.length));
     let mut set = Intervals::new(alloc);
     let mut since = None;
-    for (_, word) in edges.range((node, 0)..(node, run.length)) {
-        if let FlatWord::Value(tick) = *word {
-            since = flip(&mut set, since, tick)?;
-        }
+    for place in first..known.run.length {
+        since = flip(&mut set, since, tick_at(edges, node, place))?;
     }
     if let Some(from) = since {
-        push_behind(&mut set, from, horizon)?;
+        push_behind(&mut set, from, known.horizon)?;
     }
     Ok(set)
+}
+
+/// The intervals that end after a tick: from the change before it on, if that is to dominant.
+pub fn wave_after_of(
+    alloc: Global,
+    edges: &BTreeMap<(u8, u32), FlatWord>,
+    node: u8,
+    known: KnownRun,
+    tick: u64,
+) -> Result<Intervals, AllocError>
+    requires { IsRunOfEdges (edges_in edges.now node) known }
+    ensures { IfOk result (λ set. let e = edges_in edges.now node in
+        set ≡ filter (λ p. nat_lt tick p.1) (intervals (ticks e known.run.length) known.horizon)) }
+{
+    if known.horizon <= tick {
+        return Ok(Intervals::new(alloc));
+    }
+    let count = changes_up_to(edges, node, known, tick);
+    wave_of(alloc, edges, node, known, count - count % 2)
 }
 
 /// Whether a node drives dominant at a tick below its horizon: after an odd number of the changes
 /// of its run.
 pub fn is_dominant_at(
     edges: &BTreeMap<(u8, u32), FlatWord>,
-    silences: &BTreeMap<(u8, u32), MaxWord>,
     node: u8,
+    known: KnownRun,
     tick: u64,
 ) -> bool
-    requires node { node < 255 }
-    requires within { TicksAreWithin edges.now }
-    requires known { let e = edges_in edges.now node in
-        let s = silences_in silences.now node in
-        tick < known_by e s (greatest_passing most_edges (is_run e s)) }
-    ensures { let e = edges_in edges.now node in
-        let s = silences_in silences.now node in
-        let n = greatest_passing most_edges (is_run e s) in
-        result ≡ covers (intervals (ticks e n) (known_by e s n)) tick }
+    requires run { IsRunOfEdges (edges_in edges.now node) known }
+    requires known { tick < known.horizon }
+    ensures { result ≡ covers (intervals (ticks (edges_in edges.now node) known.run.length) known.horizon) tick }
 {
-    let run = run_of(edges, silences, node);
-    let mut dominant = false;
-    for (_, word) in edges.range((node, 0)..(node, run.length)) {
-        match *word {
-            FlatWord::Value(change) if change <= tick => dominant = !dominant,
-            _ => return dominant,
-        }
-    }
-    dominant
+    changes_up_to(edges, node, known, tick) % 2 == 1
 }

@@ -1,10 +1,10 @@
 use Rattle.std.proofs.Common.{◌≡◌, ◌<◌, ◌-◌, ◌+◌, true, max, ap, sym, ◌∙◌, arith}
 use Rattle.wl_record_core.specs.Limits.{most_edges}
 use Rattle.wl_replica.specs.Dense.{row_number, edges_of_row}
-use Rattle.wl_replica.specs.Known.{ticks, greatest_passing, is_run, is_tick, tick_in, known_by}
+use Rattle.wl_replica.specs.Known.{ticks, greatest_passing, is_run, is_tick, tick_in, known_by, ticks_from}
 use Rattle.wl_replica.proofs.DenseWalks.{one_left, no_tick_none}
 use Rattle.wl_replica.proofs.WalkLemmas.{longest_passes}
-use Rattle.wl_replica.proofs.WaveLemmas.{ticks_from, ticks_from_first, run_ticks, made_first, made_more, can_close}
+use Rattle.wl_replica.proofs.WaveLemmas.{ticks_from_first, run_ticks, made_first, made_more, can_close}
 use Rattle.wl_replica.proofs.dense_walks.wave_in.Goals as goal
 
 pub loop-place-init : goal.loop-place-init

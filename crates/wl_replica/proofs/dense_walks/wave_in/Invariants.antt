@@ -1,8 +1,8 @@
 use Rattle.std.proofs.Common.{◌-◌}
 use Rattle.wl_record_core.specs.Limits.{most_edges}
 use Rattle.wl_replica.specs.Dense.{row_number, edges_of_row}
-use Rattle.wl_replica.specs.Known.{ticks, greatest_passing, is_run}
-use Rattle.wl_replica.proofs.WaveLemmas.{IsMade, ticks_from}
+use Rattle.wl_replica.specs.Known.{ticks, greatest_passing, is_run, ticks_from}
+use Rattle.wl_replica.proofs.WaveLemmas.{IsMade}
 use Rattle.wl_replica.proofs.dense_walks.wave_in.Given as goal
 
 -- what is made so far, and the ticks that are left

@@ -1,14 +1,12 @@
-use Rattle.wl_replica.specs.Kept.{edges_in, silences_in}
-use Rattle.wl_replica.specs.Known.{ticks, greatest_passing, is_run}
-use Rattle.wl_record_core.specs.Limits.{most_edges}
-use Rattle.wl_replica.proofs.WaveLemmas.{AllTicks, IsMade, ticks_of}
+use Rattle.std.proofs.Common.{◌-◌}
+use Rattle.wl_replica.specs.Kept.{edges_in}
+use Rattle.wl_replica.specs.Known.{ticks_from}
+use Rattle.wl_replica.proofs.WaveLemmas.{IsMade}
 use Rattle.wl_replica.proofs.waves.wave_of.Given as goal
 
 -- what is made so far, and the ticks that are left
-abbrev pub invariant-loop-word : goal.invariant-loop-word
-invariant-loop-word l = record {
-  can_next : (goal.iterator-loop-word).can_next l.word-iterator;
-  finite : (goal.iterator-loop-word).is_finite l.word-iterator;
-  held : AllTicks l.word-iterator;
-  made : IsMade (ticks (edges_in l.fn.edges l.fn.node) (greatest_passing most_edges (is_run (edges_in l.fn.edges l.fn.node) (silences_in l.fn.silences l.fn.node)))) l.horizon l.set l.since (ticks_of l.word-iterator);
-}
+abbrev pub invariant-loop-place : goal.invariant-loop-place
+invariant-loop-place l =
+    let e = edges_in l.edges l.node in
+    let n = l.known.run.length in
+    IsMade (ticks_from e l.fn.first (n - l.fn.first)) l.known.horizon l.set l.since (ticks_from e l.place (n - l.place))

@@ -21,10 +21,10 @@ pub returns-clause-list : goal.returns-clause-list
 returns-clause-list c =
     let n : c.loop-node.node ≡ c.self.inside.nodes = omega arith in
     let f = records_of_node c.self.inside.edges.entries c.self.inside.silences.entries in
-    c.loop-node.invariant ∙ (ap (λ m. flat_map f (range_with_len 0 m)) n ∙ (canonical_of_kept c.self.inside.nodes c.self.inside.edges c.self.inside.silences c.self.invariant.edges_ordered c.self.invariant.silences_ordered ∙ ap canonical c.self.view_is))
+    c.loop-node.invariant ∙ (ap (λ m. flat_map f (range_with_len 0 m)) n ∙ (canonical_of_kept c.self.inside.nodes c.self.inside.edges c.self.inside.silences c.self.invariant.kept.edges_ordered c.self.invariant.kept.silences_ordered ∙ ap canonical c.self.view_is))
 
 pub returns-clause-fits : goal.returns-clause-fits
 returns-clause-fits c =
     subst (λ (n : ℕ). All (Fits n) c.loop-node.all.items) (ap (λ (s : State). s.nodes) c.self.view_is)
     (All-same (Fits c.self.inside.nodes) c.loop-node.all.items _ c.loop-node.invariant
-    (kept_fits c.self.inside.nodes c.self.inside.edges c.self.inside.silences c.self.invariant (range_with_len 0 c.loop-node.node)))
+    (kept_fits c.self.inside.nodes c.self.inside.edges c.self.inside.silences c.self.invariant.kept (range_with_len 0 c.loop-node.node)))

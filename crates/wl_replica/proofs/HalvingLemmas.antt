@@ -1,0 +1,64 @@
+-- The changes of a run up to a tick, and the level that they leave.
+use Rattle.std.proofs.Common.{◌≡◌, ℕ, zero, suc, ◌+◌, ◌-◌, ◌/◌, ◌%◌, ◌<◌, ◌≤◌, ◌==◌, Bool, true, false, not, cond, inl, inr, refl, sym, ◌∙◌, ap, subst, arith, nat_le}
+use Rattle.std.proofs.lemmas.Bool.{cases_eq, lt-leb, le-leb, and_parts}
+use Rattle.std.proofs.lemmas.Bool.Decides.{nat_tests}
+use Rattle.wl_lattice.specs.declared.FlatWord.{FlatWord}
+use Rattle.wl_replica.specs.Known.{tick_in, is_run, after_edges, ticks, ticks_from}
+use Rattle.wl_replica.proofs.SmallFacts.{run_part}
+use Rattle.wl_replica.proofs.WaveLemmas.{goes_above, flips, ticks_from_first}
+
+-- the ticks of a run climb
+module _ (e : ℕ → FlatWord) (s : ℕ → ℕ) where
+  before_end : (m n : ℕ) → is_run e s m ≡ true → n < m → tick_in (e n) < after_edges e m
+  before_end zero n run lt = absurd (omega arith)
+  before_end (suc m) n run lt = elim (cases_eq n m) [
+    | inl same ↦ subst (λ k. tick_in (e k) < suc (tick_in (e m))) (sym same) (omega arith)
+    | inr other ↦ omega (arith, before_end m n (and_parts _ _ run).0 (omega arith), goes_above e s m (and_parts _ _ run).1)
+  ]
+
+  run_shortened : (m n : ℕ) → is_run e s m ≡ true → n ≤ m → is_run e s n ≡ true
+  run_shortened zero n run le = subst (λ k. is_run e s k ≡ true) (let same : 0 ≡ n = omega arith in same) refl
+  run_shortened (suc m) n run le = elim (cases_eq n (suc m)) [
+    | inl same ↦ subst (λ k. is_run e s k ≡ true) (sym same) run
+    | inr other ↦ run_shortened m n (and_parts _ _ run).0 (omega arith)
+  ]
+
+  pub run_climbs : (length m n : ℕ) → is_run e s length ≡ true → m < length → n ≤ m → tick_in (e n) ≤ tick_in (e m)
+  run_climbs length m n run lt le = elim (cases_eq n m) [
+    | inl same ↦ subst (λ k. tick_in (e k) ≤ tick_in (e m)) (sym same) (omega arith)
+    | inr other ↦
+        (let low = before_end m n (run_shortened length m run (omega arith)) (omega arith) in
+        let high = goes_above e s m (run_part e s length m run lt) in
+        omega arith)
+  ]
+
+-- whether a number is odd, by steps
+abbrev pub odd : ℕ → Bool
+odd zero = false
+odd (suc n) = not (odd n)
+
+turned : (n : ℕ) → (suc n % 2 == 1) ≡ not (n % 2 == 1)
+turned n = grind (arith, nat_tests)
+
+pub odd_is : (n : ℕ) → (n % 2 == 1) ≡ odd n
+odd_is zero = refl
+odd_is (suc n) = turned n ∙ ap not (odd_is n)
+
+-- the level after so many of the ticks that are left
+pub flips_are : (e : ℕ → FlatWord) (m d c t : ℕ) → c ≤ d → ((n : ℕ) → m ≤ n → n < m + c → tick_in (e n) ≤ t) → (c < d → t < tick_in (e (m + c))) → flips (ticks_from e m d) t ≡ odd c
+flips_are e m zero zero t le p q = refl
+flips_are e m zero (suc c) t le p q = absurd (omega arith)
+flips_are e m (suc d) zero t le p q =
+    let past : t < tick_in (e m) = subst (λ k. t < tick_in (e k)) (let same : m + 0 ≡ m = omega arith in same) (q (omega arith)) in
+    ap (λ b. cond b (not (flips (ticks_from e (suc m) d) t)) false) (lt-leb (tick_in (e m)) t past)
+flips_are e m (suc d) (suc c) t le p q =
+    ap (λ b. cond b (not (flips (ticks_from e (suc m) d) t)) false) (le-leb (tick_in (e m)) t (p m (omega arith) (omega arith)))
+    ∙ ap not (flips_are e (suc m) d c t (omega arith) (λ n le lt. p n (omega arith) (omega arith)) (λ lt. subst (λ k. t < tick_in (e k)) (let same : m + suc c ≡ suc m + c = omega arith in same) (q (omega arith))))
+
+pub level_after : (e : ℕ → FlatWord) (length c t : ℕ) → c ≤ length → ((n : ℕ) → n < c → tick_in (e n) ≤ t) → ((n : ℕ) → c ≤ n → n < length → t < tick_in (e n)) → flips (ticks e length) t ≡ (c % 2 == 1)
+level_after e length c t le p q =
+    ap (λ ts. flips ts t) (sym (ticks_from_first e length))
+    ∙ (flips_are e 0 length c t le (λ n low lt. p n (omega arith)) (λ lt. subst (λ k. t < tick_in (e k)) (let same : c ≡ 0 + c = omega arith in same) (q c (omega arith) lt)) ∙ sym (odd_is c))
+
+pub middle_below : (a b : ℕ) → a < b → a + (b - a) / 2 < b
+middle_below a b lt = omega arith
