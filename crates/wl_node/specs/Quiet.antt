@@ -1,7 +1,7 @@
 -- For how many quanta more the drive of a node is sure to stay, whatever it sees. A drive changes only where a bit starts, to what the machine wants
 -- since the last sample, and a sample comes the least way after that at the earliest (Bosch CAN 2.0 part B, section 10; that a node tells it is the lookahead of
 -- Chandy and Misra 1979).
-use Rattle.std.specs.Prelude.{◌≡◌, ℕ, zero, suc, ◌+◌, ◌*◌, nat_lt, not, min, count_by, Bool, true, false, List, length, take, Option, Some, None}
+use Rattle.std.specs.Prelude.{ℕ, zero, suc, ◌+◌, ◌*◌, nat_lt, not, min, count_by, Bool, true, false, List, length, take, Option, Some, None}
 use Rattle.wl_level.specs.declared.Level.{Level}
 use Rattle.wl_level.specs.Levels.{same}
 use Rattle.wl_level.specs.Places.{count_places}
