@@ -1,19 +1,19 @@
 -- Reading by places is the grammar.
-use Rattle.std.proofs.Common.{◌≡◌, ℕ, zero, suc, ◌+◌, ◌-◌, ◌*◌, ◌/◌, ◌%◌, ◌<◌, ◌≤◌, ◌∙◌, List, [], ◌∷◌, ◌++◌, length, Bool, true, false, refl, sym, ap, subst, arith, map, take, drop, length-append, append_assoc, get_or, set, replicate, eq-eqb, eqb-true, ◌↔◌, ◌≢◌, inl, inr}
+use Rattle.std.proofs.Common.{◌≡◌, ℕ, zero, suc, ◌+◌, ◌-◌, ◌*◌, ◌/◌, ◌%◌, ◌<◌, ◌≤◌, ◌∙◌, List, [], ◌∷◌, ◌++◌, length, Bool, true, false, refl, sym, ap, subst, cond, arith, map, take, drop, length-append, append_assoc, get_or, set, replicate, eq-eqb, eqb-true, ◌↔◌, ◌≢◌, inl, inr}
 use Rattle.std.specs.List.{flat_map}
 use Rattle.std.specs.Prelude.{◌==◌, ◌&&◌, nat_le}
 use Rattle.std.proofs.Math.Nat.{mod-lt, mod-add-div'}
 use Rattle.std.proofs.Math.Seq.{take-add}
 use Rattle.std.proofs.lemmas.Nat.{div-mul-add, mod-mul-add}
-use Rattle.std.proofs.lemmas.List.{length-map, length-drop, drop-drop, take_at, drop_at, take_all, take-append-drop, nil_from_length, set_at, get_or_default}
-use Rattle.std.proofs.lemmas.Bool.{cases_lt, le-leb, le-ltb, leb-true, eqb-false, and_right}
+use Rattle.std.proofs.lemmas.List.{length-map, length-drop, drop-drop, take_at, drop_at, take_all, drop_all, take-append-drop, nil_from_length, set_at, get_or_default}
+use Rattle.std.proofs.lemmas.Bool.{cases_lt, le-leb, lt-leb, le-ltb, leb-true, eqb-false, and_right}
 use Rattle.wl_level.specs.declared.Level.{Level}
 use Rattle.wl_level.specs.declared.Level.TheVariants.{Dominant, Recessive}
 use Rattle.wl_level.specs.Places.{at}
 use Rattle.wl_frame.specs.Crc.{bit_of_level, level_of_bit, number_of, crc_bits, crc_of}
 use Rattle.wl_frame.specs.Header.{Free, Field, Name, sent_free, one_bit, fields_of, width_of, header_of, header_bits, part_bits, field_bits, value_in, is_extended}
 use Rattle.wl_frame.specs.Header.Name.{SubstituteRemoteRequest, RemoteRequest, Reserved1, Reserved0, DataLengthCode}
-use Rattle.wl_frame.specs.Grammar.{Content, IsContent, number_bits, number_from, bits_before_crc, with_crc, bits_of, IsFrame, byte_count, layout_of, layout_by, covered_length, is_whole, is_crc_right, bytes_from, content_of, content_by, id_by, is_front, is_arbitration, greatest_id, IsReadAs}
+use Rattle.wl_frame.specs.Grammar.{Content, IsContent, number_bits, number_from, bits_before_crc, with_crc, bits_of, IsFrame, byte_count, layout_of, layout_by, covered_length, is_whole, is_crc_right, bytes_from, content_of, content_by, id_by, is_front, bits_left, is_arbitration, greatest_id, IsReadAs}
 use Rattle.wl_frame.specs.Limits.{most_bits_before_crc, most_frame_bits, most_header_bits}
 use Rattle.wl_frame.specs.Padded.{eight_bytes}
 use Rattle.wl_frame.proofs.Spelled.{bit_level, map_bit_level, map_level_bit, length_number_bits, length_crc, number_injective}
@@ -374,6 +374,58 @@ front_room ls f w =
     let here : length ls ≤ covered_length ls + 15 = leb-true (length ls) (covered_length ls + 15) f in
     let other : length ls ≢ covered_length ls + 15 = eqb-false (length ls) (covered_length ls + 15) w in
     omega (arith, covered_most ls)
+
+-- The bits to come.
+
+-- the header of a front doesn't get shorter
+header_grows : (ls : List Level) (l : Level) → (layout_of ls).header ≤ (layout_of (ls ++ l ∷ [])).header
+header_grows ls l = elim (cases_lt (length ls) 14) [
+  | inl short ↦ header_short short
+  | inr long ↦ (let same : (layout_of (ls ++ l ∷ [])).header ≡ (layout_of ls).header = ap (λ x. width_of (fields_of x)) (format_front ls (l ∷ []) long) in omega arith)
+]
+  where
+    header_short : length ls < 14 → (layout_of ls).header ≤ (layout_of (ls ++ l ∷ [])).header
+    header_short short =
+        let none : number_from ls 13 1 ≡ 0 = ap (λ rest. number_of (map bit_of_level (take 1 rest))) (drop_all 13 ls (omega arith)) in
+        let base : (layout_of ls).header ≡ 19 = ap (λ n. width_of (fields_of (n == 1))) none in
+        omega (arith, header_some (is_extended (ls ++ l ∷ [])))
+
+abbrev left_by : Bool → List Level → ℕ
+left_by b ls = cond b (covered_length ls) (layout_of ls).header + 15 - length ls
+
+left_there : (ls : List Level) → (layout_of ls).header ≤ length ls → bits_left ls ≡ covered_length ls + 15 - length ls
+unfolding bits_left
+left_there ls h = ap (λ b. left_by b ls) (le-leb (layout_of ls).header (length ls) h)
+
+left_before : (ls : List Level) → length ls < (layout_of ls).header → bits_left ls ≡ (layout_of ls).header + 15 - length ls
+unfolding bits_left
+left_before ls h = ap (λ b. left_by b ls) (lt-leb (layout_of ls).header (length ls) h)
+
+pub left_least : (ls : List Level) → 34 ≤ length ls + bits_left ls
+left_least ls = elim (cases_lt (length ls) (layout_of ls).header) [
+  | inl short ↦ omega (arith, left_before ls short, header_some (is_extended ls))
+  | inr long ↦ omega (arith, left_there ls long, header_some (is_extended ls))
+]
+
+pub left_more : (ls : List Level) (l : Level) → bits_left ls ≤ suc (bits_left (ls ++ l ∷ []))
+left_more ls l = elim (cases_lt (length ls) (layout_of ls).header) [
+  | inl short ↦ (elim (cases_lt (length (ls ++ l ∷ [])) (layout_of (ls ++ l ∷ [])).header) [
+    | inl later ↦ omega (arith, length-append ls (l ∷ []), left_before ls short, left_before (ls ++ l ∷ []) later, header_grows ls l)
+    | inr now ↦ omega (arith, length-append ls (l ∷ []), left_before ls short, left_there (ls ++ l ∷ []) now, header_grows ls l)
+  ])
+  | inr long ↦ there long
+]
+  where
+    there : (layout_of ls).header ≤ length ls → bits_left ls ≤ suc (bits_left (ls ++ l ∷ []))
+    there long =
+        let same : (layout_of (ls ++ l ∷ [])).header ≡ (layout_of ls).header =
+        ap (λ x. width_of (fields_of x)) (format_front ls (l ∷ []) (omega (arith, header_some (is_extended ls)))) in
+        let longer : length (ls ++ l ∷ []) ≡ length ls + 1 = length-append ls (l ∷ []) in
+        let after = left_there (ls ++ l ∷ []) (omega arith) in
+        omega (arith, left_there ls long, covered_front ls (l ∷ []) long)
+
+pub left_whole : (ls : List Level) → is_whole ls ≡ true → bits_left ls ≡ 0
+left_whole ls w = (let here : length ls ≡ covered_length ls + 15 = whole_length ls w in omega (arith, left_there ls (omega arith)))
 
 -- The arbitration.
 

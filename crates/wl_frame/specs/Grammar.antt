@@ -1,5 +1,5 @@
 -- Frames as whole lists of bits, without stuff bits, from the start of frame to the last bit of the CRC sequence.
-use Rattle.std.specs.Prelude.{◌≡◌, ℕ, zero, suc, ◌+◌, ◌*◌, ◌^◌, ◌<◌, ◌≤◌, ◌==◌, ◌&&◌, nat_lt, nat_le, min, Bool, true, false, not, List, [], ◌∷◌, ◌++◌, length, take, map, if◌then◌else◌, slice_index_or, Option, Some, None, Result, Ok, Err}
+use Rattle.std.specs.Prelude.{◌≡◌, ℕ, zero, suc, ◌+◌, ◌-◌, ◌*◌, ◌^◌, ◌<◌, ◌≤◌, ◌==◌, ◌&&◌, nat_lt, nat_le, min, Bool, true, false, not, List, [], ◌∷◌, ◌++◌, length, take, map, if◌then◌else◌, slice_index_or, Option, Some, None, Result, Ok, Err}
 use Rattle.std.specs.List.{flat_map}
 use Rattle.wl_level.specs.declared.Level.{Level}
 use Rattle.wl_level.specs.declared.Level.TheVariants.{Dominant}
@@ -109,6 +109,11 @@ is_front bits = nat_le (length bits) (covered_length bits + crc_length)
 -- and is to have more bits; Bosch CAN 2.0 part B, section 3.2.1
 abbrev pub IsUnfinished : List Level → Type 0
 IsUnfinished bits = (is_front bits ≡ true) × (is_whole bits ≡ false)
+
+-- The bits that a frame which begins so has still to come at least, up to the last of the CRC sequence: its format says how long its header is, and
+-- the header how many bytes there are; Bosch CAN 2.0 part B, section 3.2.1
+unfoldable pub bits_left : List Level → ℕ
+bits_left bits = (if nat_le (layout_of bits).header (length bits) then covered_length bits else (layout_of bits).header) + crc_length - length bits
 
 -- a place is one of the arbitration, in which a sender may lose; Bosch CAN 2.0 part B, section 3.2.1 (the arbitration field)
 abbrev pub is_arbitration : List Level → ℕ → Bool

@@ -1,10 +1,10 @@
 //! Laws of the definitions, each as the contract of a function that does nothing.
 
-ghost use Rattle.std.specs.Prelude.{◌≡◌, ◌↔◌, ◌<◌, ◌≤◌, ℕ, suc, nat_le, true, false, List, [], ◌∷◌, ◌++◌, MatchOption, length, take};
+ghost use Rattle.std.specs.Prelude.{◌≡◌, ◌↔◌, ◌<◌, ◌≤◌, ℕ, suc, nat_le, true, false, List, [], ◌∷◌, ◌++◌, ◌+◌, MatchOption, length, take};
 ghost use Rattle.wl_level.specs.declared.Level.{Level};
 ghost use Rattle.wl_level.specs.Places.{run_at};
-ghost use Rattle.wl_frame.specs.Grammar.{Content, IsContent, IsFrame, IsReadAs, IsUnfinished, bits_of, covered_length, is_arbitration, is_front, is_whole, layout_of};
-ghost use Rattle.wl_frame.specs.Limits.{most_frame_bits};
+ghost use Rattle.wl_frame.specs.Grammar.{Content, IsContent, IsFrame, IsReadAs, IsUnfinished, bits_left, bits_of, covered_length, is_arbitration, is_front, is_whole, layout_of};
+ghost use Rattle.wl_frame.specs.Limits.{least_frame_bits, most_frame_bits};
 ghost use Rattle.wl_frame.specs.Stuffing.{IsStuffedFront, NoSixBefore, Stuffs, first_six, is_stuff, destuffed_bits};
 
 /// Law: a list has one stuffing. So what [`stuff`](crate::stuffing::stuff) answers is the only right
@@ -52,4 +52,12 @@ pub fn a_front_is_read_to_its_end()
     ensures sent { (c : Content) → IsContent c → is_whole (bits_of c) ≡ true }
     ensures over { (read sent : List Level) (place : ℕ) → is_whole read ≡ true → length read ≤ place
         → is_arbitration sent place ≡ false }
+{}
+
+/// Law, of the bits that a frame has still to come, by what has come: a bit more takes one of them at most, a whole frame has none to come, and no
+/// frame has fewer than 34 in all.
+pub fn each_bit_takes_one_of_those_left()
+    ensures next { (bits : List Level) (bit : Level) → bits_left bits ≤ suc (bits_left (bits ++ bit ∷ [])) }
+    ensures whole { (bits : List Level) → is_whole bits ≡ true → bits_left bits ≡ 0 }
+    ensures least { (bits : List Level) → least_frame_bits ≤ length bits + bits_left bits }
 {}

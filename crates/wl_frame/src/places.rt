@@ -2,9 +2,9 @@
 //! the front that it has, and what is a whole frame (Bosch CAN 2.0 part B, section 3.2.1).
 
 ghost use Rattle.std.specs.Prelude.{◌≡◌, ◌≤◌, true, length};
-ghost use Rattle.wl_frame.specs.Grammar.{content_of, covered_length, is_arbitration, is_crc_right, is_whole, layout_of};
+ghost use Rattle.wl_frame.specs.Grammar.{bits_left, content_of, covered_length, is_arbitration, is_crc_right, is_whole, layout_of};
 ghost use Rattle.wl_frame.specs.Header.{is_extended};
-ghost use Rattle.wl_frame.specs.Limits.{most_bits_before_crc, most_header_bits};
+ghost use Rattle.wl_frame.specs.Limits.{most_bits_before_crc, most_frame_bits, most_header_bits};
 
 use crate::checksum::crc15;
 use crate::frame::byte_count;
@@ -80,6 +80,22 @@ pub fn is_whole(bits: &[Level]) -> bool
 {
     bits.len() >= header_length(bits) + CRC_LENGTH
         && bits.len() == places_covered(bits) + CRC_LENGTH
+}
+
+/// How many bits a frame that begins so has still to come at least, up to the last of its CRC sequence: by its
+/// format, and by its data length code once that is there. In constant time.
+#[tactic(auto, unfolding(crate::specs::Grammar::bits_left))]
+pub fn bits_left(bits: &[Level]) -> usize
+    ensures value { result ≡ bits_left bits.now }
+    ensures most { result ≤ most_frame_bits }
+{
+    let header = header_length(bits);
+    let covered = if bits.len() < header {
+        header
+    } else {
+        places_covered(bits)
+    };
+    (covered + CRC_LENGTH).saturating_sub(bits.len())
 }
 
 /// The place is one of the arbitration, where a sender of these bits may lose: after the start of

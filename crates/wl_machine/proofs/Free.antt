@@ -1,5 +1,5 @@
 -- Where the bus is free to a machine: a recessive sample leaves it there.
-use Rattle.std.proofs.Common.{◌≡◌, ◌∙◌, List, Bool, true, None, refl, sym, ap}
+use Rattle.std.proofs.Common.{◌≡◌, ◌∙◌, List, true, None, refl, sym, ap}
 use Rattle.wl_level.specs.declared.Level.{Level}
 use Rattle.wl_level.specs.declared.Level.TheVariants.{Recessive}
 use Rattle.wl_confine.specs.declared.Mode.{Mode}

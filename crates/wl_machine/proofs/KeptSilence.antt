@@ -5,9 +5,8 @@ use Rattle.wl_level.specs.declared.Level.{Level}
 use Rattle.wl_level.specs.declared.Level.TheVariants.{Dominant, Recessive}
 use Rattle.wl_level.specs.Levels.{opposite}
 use Rattle.wl_level.specs.Places.{run_at_end}
-use Rattle.wl_frame.specs.Limits.{least_frame_bits}
 use Rattle.wl_frame.specs.Stuffing.{destuffed_bits}
-use Rattle.wl_frame.specs.Grammar.{Content}
+use Rattle.wl_frame.specs.Grammar.{Content, bits_left}
 use Rattle.wl_machine.specs.declared.progress.Progress.{Progress}
 use Rattle.wl_machine.specs.declared.state.Cause.{Cause}
 use Rattle.wl_machine.specs.declared.state.Cause.TheVariants.{Error, Overload}
@@ -46,8 +45,8 @@ silence_at heads (states.Integrating run) bits sent sort own h = sort_silence he
 silence_at heads states.Idle bits sent sort own h = sort_silence heads sort Idle own (if heads then 0 else 5) h refl
 silence_at heads (states.Sending last run) bits sent sort own h = sort_silence heads sort (Framing (Some h.0)) own 0 h.1 (in_part heads (Some h.0) own Tx h.2 h.4.going_on)
 silence_at heads (states.Receiving last run) bits sent sort own h =
-    sort_silence heads sort (Framing h.0) own (min (5 - run) (least_frame_bits - length bits)) h.1
-    (in_part heads h.0 own Rx h.2 h.3.going_on ∙ ap (λ r. min (5 - r) (least_frame_bits - length (destuffed_bits own (length own)))) (sym h.3.run_is) ∙ ap (λ k. min (5 - run) (least_frame_bits - length k)) (sym h.3.bits_are))
+    sort_silence heads sort (Framing h.0) own (min (5 - run) (bits_left bits)) h.1
+    (in_part heads h.0 own Rx h.2 h.3.going_on ∙ ap (λ r. min (5 - r) (bits_left (destuffed_bits own (length own)))) (sym h.3.run_is) ∙ ap (λ k. min (5 - run) (bits_left k)) (sym h.3.bits_are))
 silence_at heads (states.SentTail place) bits sent sort own h = sort_silence heads sort (Framing (Some h.0)) own 0 h.1 (behind_end heads (Some h.0) own Tx h.3 h.2 h.4.found)
 silence_at heads (states.ReceivedTail place right) bits sent sort own h = sort_silence heads sort (Framing h.0) own 0 h.1 (behind_end heads h.0 own Rx h.3 h.2 h.4.tail.found)
 silence_at heads (states.Flag cause role count run) bits sent sort own h = sort_silence heads sort (Flagging (flag_of cause) role) own 0 h.0 (flag_silence heads cause role own)

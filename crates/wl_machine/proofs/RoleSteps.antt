@@ -1,5 +1,5 @@
 -- The role of a stretch, by the judgement of each sample.
-use Rattle.std.proofs.Common.{◌≡◌, ◌∙◌, ℕ, ◌-◌, List, [], ◌∷◌, ◌++◌, length, Bool, true, false, cond, ◌&&◌, Option, Some, None, is_some, refl, sym, ap, subst}
+use Rattle.std.proofs.Common.{◌≡◌, ◌∙◌, ℕ, ◌-◌, List, [], ◌∷◌, ◌++◌, length, Bool, true, false, cond, ◌&&◌, Option, Some, None, refl, sym, ap, subst}
 use Rattle.std.specs.Prelude.{fold, nat_le, ◌==◌}
 use Rattle.wl_level.specs.declared.Level.{Level}
 use Rattle.wl_level.specs.Levels.{is_dominant}
@@ -22,7 +22,7 @@ use Rattle.wl_machine.specs.Flags.{error_of, flag_bit_of, long_of, error_flag, f
 use Rattle.wl_machine.specs.Quiet.{integration, idle, idle_on, intermission, after_intermission, suspension, off_bus}
 use Rattle.wl_machine.specs.Frames.{stuffed_end, sent_at, frame_role, differing, unanswered, sent_tail, received_tail, framing_sent, framing_received, framing_by}
 use Rattle.wl_machine.specs.States.{stretch_by}
-use Rattle.wl_machine.specs.Judged.{judged_by, judged, or_next, stretch_after, stretch_of, role_by, role_of, head_of}
+use Rattle.wl_machine.specs.Judged.{judged_by, judged, or_next, stretch_after, stretch_of, role_by, role_of}
 use Rattle.wl_machine.specs.Roles.{counted_role, loses, loses_by, ends_role, ends_role_by, begun_role}
 use Rattle.wl_machine.proofs.Framed.{role_next}
 

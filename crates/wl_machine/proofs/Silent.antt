@@ -1,5 +1,5 @@
 -- A machine keeps its silence, sample by sample.
-use Rattle.std.proofs.Common.{◌≡◌, ◌∙◌, ℕ, suc, ◌+◌, ◌-◌, ◌*◌, ◌%◌, ◌<◌, ◌≤◌, List, [], ◌∷◌, ◌++◌, length, Bool, true, false, not, cond, ◌&&◌, Option, Some, None, refl, sym, ap, subst, arith, length-append, min, max}
+use Rattle.std.proofs.Common.{◌≡◌, ◌∙◌, ℕ, suc, ◌+◌, ◌-◌, ◌*◌, ◌%◌, ◌<◌, ◌≤◌, List, [], ◌∷◌, ◌++◌, length, Bool, true, false, not, cond, ◌&&◌, Option, Some, None, refl, sym, ap, subst, arith, append-nil, length-append, min, max}
 use Rattle.std.specs.Prelude.{nat_lt, nat_eq, ◌==◌, if◌then◌else◌}
 use Rattle.std.specs.List.{list_any}
 use Rattle.std.proofs.lemmas.Bool.{lt-leb, lt-ltb, ne_eqb, eqb-true, eqb-false, and_parts, cond_both}
@@ -8,10 +8,9 @@ use Rattle.wl_level.specs.declared.Level.TheVariants.{Dominant, Recessive}
 use Rattle.wl_level.specs.Levels.{same, is_dominant}
 use Rattle.wl_level.specs.Places.{before, or_at, run_at, run_at_end}
 use Rattle.wl_level.proofs.Callers.{run_more}
-use Rattle.wl_frame.specs.Limits.{least_frame_bits}
 use Rattle.wl_frame.specs.Stuffing.{is_stuff, destuffed_bits}
-use Rattle.wl_frame.specs.Grammar.{Content, is_whole, covered_length}
-use Rattle.wl_frame.proofs.Callers.{covered_some, stuff_run, destuffed_more, run_more as equal_more}
+use Rattle.wl_frame.specs.Grammar.{Content, is_whole, bits_left}
+use Rattle.wl_frame.proofs.Callers.{left_least, left_more, left_whole, stuff_run, destuffed_more, run_more as equal_more}
 use Rattle.wl_confine.specs.declared.ErrorKind.TheVariants.{Stuff}
 use Rattle.wl_confine.specs.declared.Happened.{Happened}
 use Rattle.wl_confine.specs.declared.Happened.TheVariants as happens
@@ -111,13 +110,10 @@ equal_few : (b : Bool) (r : ℕ) → cond b (suc r) 1 ≤ suc r
 equal_few true r = omega arith
 equal_few false r = omega arith
 
-kept_few : (s : Bool) (level : Level) → length (cond s [] (level ∷ [])) ≤ 1
-kept_few true level = omega arith
-kept_few false level = omega arith
-
--- a frame has 34 bits without stuff bits at least
-whole_long : (bits : List Level) → is_whole bits ≡ true → 34 ≤ length bits
-whole_long bits h = (let e : length bits ≡ covered_length bits + 15 = eqb-true (length bits) (covered_length bits + 15) h in omega (arith, covered_some bits))
+-- a sample takes one of the bits that are left at most
+left_kept : (bits : List Level) (s : Bool) (level : Level) → bits_left bits ≤ suc (bits_left (bits ++ cond s [] (level ∷ [])))
+left_kept bits true level = (let e : bits_left (bits ++ []) ≡ bits_left bits = ap bits_left (append-nil bits) in omega arith)
+left_kept bits false level = left_more bits level
 
 module _ (heads : Bool) (head : Option Content) (own : List Level) (x : Sampled) (n : ℕ) where
   abbrev grown : List Level
@@ -126,34 +122,34 @@ module _ (heads : Bool) (head : Option Content) (own : List Level) (x : Sampled)
   equal_grown : run_at grown (length grown) ≤ suc (run_at own (length own))
   equal_grown = (let e = equal_more own x.level in let f = equal_few (same (before own (length own)) x.level) (run_at own (length own)) in omega arith)
 
-  kept_grown : length (destuffed_bits grown (length grown)) ≤ suc (length (destuffed_bits own (length own)))
-  kept_grown =
-      let e : length (destuffed_bits grown (length grown)) ≡ length (destuffed_bits own (length own)) + length (cond (is_stuff own (length own)) [] (x.level ∷ [])) =
-      ap length (destuffed_more own x.level) ∙ length-append (destuffed_bits own (length own)) (cond (is_stuff own (length own)) [] (x.level ∷ [])) in
-      let f = kept_few (is_stuff own (length own)) x.level in
+  left_grown : bits_left (destuffed_bits own (length own)) ≤ suc (bits_left (destuffed_bits grown (length grown)))
+  left_grown =
+      let e : bits_left (destuffed_bits grown (length grown)) ≡ bits_left (destuffed_bits own (length own) ++ cond (is_stuff own (length own)) [] (x.level ∷ [])) =
+      ap bits_left (destuffed_more own x.level) in
+      let f = left_kept (destuffed_bits own (length own)) (is_stuff own (length own)) x.level in
       omega arith
 
-  goes_in : frame_role head grown ≡ Rx → stuffed_end grown ≡ None → suc n ≤ min (5 - run_at own (length own)) (least_frame_bits - length (destuffed_bits own (length own))) → IsSilent heads n (stretch_by (Framing head) grown)
+  goes_in : frame_role head grown ≡ Rx → stuffed_end grown ≡ None → suc n ≤ min (5 - run_at own (length own)) (bits_left (destuffed_bits own (length own))) → IsSilent heads n (stretch_by (Framing head) grown)
   goes_in role end h = record {
     drive = ap (λ e. drive_up_to e head grown) end ∙ ap (λ r. stuffed_drive r head grown) role;
     left =
-        (let e : silence_by heads (Framing head) grown ≡ min (5 - run_at grown (length grown)) (least_frame_bits - length (destuffed_bits grown (length grown))) =
+        (let e : silence_by heads (Framing head) grown ≡ min (5 - run_at grown (length grown)) (bits_left (destuffed_bits grown (length grown))) =
         ap (λ o. silence_in_frame (frame_role head grown) o grown) end ∙ ap (λ r. silence_in_frame r None grown) role in
         let f = equal_grown in
-        let g = kept_grown in
+        let g = left_grown in
         omega arith);
   }
 
   ends : frame_role head grown ≡ Rx → stuffed_end grown ≡ Some (length grown) → is_whole (destuffed_bits grown (length grown)) ≡ true
-      → suc n ≤ min (5 - run_at own (length own)) (least_frame_bits - length (destuffed_bits own (length own))) → IsSilent heads n (stretch_by (Framing head) grown)
+      → suc n ≤ min (5 - run_at own (length own)) (bits_left (destuffed_bits own (length own))) → IsSilent heads n (stretch_by (Framing head) grown)
   ends role end whole h = record {
     drive =
         ap (λ e. drive_up_to e head grown) end ∙ ap (λ r. tail_drive r (destuffed_bits grown (length grown)) (length grown - length grown)) role
         ∙ ap (tail_drive Rx (destuffed_bits grown (length grown))) (let e : length grown - length grown ≡ 0 = omega arith in e);
-    left = (let f = whole_long (destuffed_bits grown (length grown)) whole in let g = kept_grown in omega arith);
+    left = (let f = left_whole (destuffed_bits grown (length grown)) whole in let g = left_grown in omega arith);
   }
 
-  receives : frame_role head own ≡ Rx → stuffed_end own ≡ None → suc n ≤ min (5 - run_at own (length own)) (least_frame_bits - length (destuffed_bits own (length own)))
+  receives : frame_role head own ≡ Rx → stuffed_end own ≡ None → suc n ≤ min (5 - run_at own (length own)) (bits_left (destuffed_bits own (length own)))
       → IsSilent heads n (stretch_after (stretch_by (Framing head) own) (Sample x))
   receives role going h =
       by_judgement heads n (stretch_by (Framing head) own) x (continues happens.Nothing)
@@ -212,7 +208,7 @@ flags heads unacknowledged role own x n h = by_run (run_at_end x.level (own ++ x
 
 -- after a start of frame
 started : (heads : Bool) (n : ℕ) (level : Level) → n ≤ 4 → IsSilent heads n (stretch_by (Framing None) (level ∷ []))
-started heads n level h = record { drive = refl; left = omega arith }
+started heads n level h = record { drive = refl; left = (let l = left_least (level ∷ []) in omega arith) }
 
 abbrev suspended : Sampled → List Level → Judgement
 suspended x own = cond (length own == 7) (begins happens.Nothing (free x.head) []) (continues happens.Nothing)

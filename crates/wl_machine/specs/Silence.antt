@@ -5,7 +5,7 @@ use Rattle.std.specs.Prelude.{◌≡◌, ℕ, suc, ◌-◌, ◌*◌, ◌%◌, �
 use Rattle.wl_level.specs.declared.Level.{Level}
 use Rattle.wl_level.specs.declared.Level.TheVariants.{Dominant, Recessive}
 use Rattle.wl_level.specs.Places.{run_at, run_at_end}
-use Rattle.wl_frame.specs.Limits.{least_frame_bits}
+use Rattle.wl_frame.specs.Grammar.{bits_left}
 use Rattle.wl_frame.specs.Stuffing.{destuffed_bits}
 use Rattle.wl_machine.specs.declared.state.Role.{Role}
 use Rattle.wl_machine.specs.declared.state.Role.TheVariants.{Rx}
@@ -19,10 +19,10 @@ use Rattle.wl_machine.specs.Frames.{stuffed_end, frame_role}
 use Rattle.wl_machine.specs.Quiet.{recessive_runs}
 use Rattle.wl_machine.specs.Judged.{stretch_after, drive_of}
 
--- A receiver in the stuffed part of a frame: it finds an error only with the sixth equal bit, and no frame has fewer bits without stuff bits than 34, those
--- of one without bytes.
+-- A receiver in the stuffed part of a frame: it finds an error only with the sixth equal bit, and acknowledges no frame before its last bit, of which the bits
+-- that have come say how near it can be.
 abbrev pub silence_in_frame : Role → Option ℕ → List Level → ℕ
-silence_in_frame Rx None own = min (5 - run_at own (length own)) (least_frame_bits - length (destuffed_bits own (length own)))
+silence_in_frame Rx None own = min (5 - run_at own (length own)) (bits_left (destuffed_bits own (length own)))
 silence_in_frame role end own = 0
 
 -- By the running stretch. What ends an integration is the eleventh recessive sample in a row, and a bus off the 128th run of eleven. A passive flag ends with six
@@ -56,7 +56,7 @@ pub record SilenceLaws : Type 0 where
 -- for how many samples more the machine is silent, by what is kept
 abbrev pub state_silence : Bool → State → List Level → ℕ
 state_silence heads (states.Integrating run) bits = 10 - run
-state_silence heads (states.Receiving last run) bits = min (5 - run) (least_frame_bits - length bits)
+state_silence heads (states.Receiving last run) bits = min (5 - run) (bits_left bits)
 state_silence heads (states.PassiveFlag role owed last run) bits = 7 - run
 state_silence heads (states.Wait role late left) bits = 1
 state_silence heads states.Idle bits = if heads then 0 else 5

@@ -5,15 +5,13 @@ ghost use Rattle.wl_machine.specs.Silence.{state_silence};
 
 use crate::progress::Progress;
 use crate::state::State;
+use wl_frame::places::bits_left;
 
 /// With so many recessive samples in a row an integration ends.
 const INTEGRATED: u16 = 11;
 
 /// So many equal samples in a row are a stuff error, and end a passive flag.
 const SIX: u16 = 6;
-
-/// The bits of a frame without bytes, without its stuff bits.
-const SHORTEST: usize = 34;
 
 /// The bits of a suspension.
 const SUSPENDED: u16 = 8;
@@ -29,7 +27,7 @@ impl Progress {
         match self.state {
             State::Integrating { run } => (INTEGRATED - 1).saturating_sub(run as u16),
             State::Receiving { run, .. } => {
-                let bits = SHORTEST.saturating_sub(self.bits.len()) as u16;
+                let bits = bits_left(&self.bits) as u16;
                 (SIX - 1).saturating_sub(run as u16).min(bits)
             }
             State::PassiveFlag { run, .. } => (SIX + 1).saturating_sub(run as u16),

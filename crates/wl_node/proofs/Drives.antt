@@ -1,11 +1,11 @@
 -- A node keeps its drive for as long as it promises, and changes it seldom.
-use Rattle.std.proofs.Common.{◌≡◌, ◌∙◌, ℕ, zero, suc, ◌+◌, ◌*◌, ◌/◌, ◌<◌, ◌≤◌, Bool, true, false, cond, not, List, [], ◌∷◌, ◌++◌, length, drop, Option, Some, None, refl, sym, ap, subst, arith, ◌⊎◌, inl, inr, append-nil, append_assoc, add-one}
+use Rattle.std.proofs.Common.{◌≡◌, ◌∙◌, ℕ, zero, suc, ◌+◌, ◌*◌, ◌/◌, ◌<◌, ◌≤◌, Bool, true, false, cond, not, List, [], ◌∷◌, ◌++◌, length, drop, Option, Some, None, refl, sym, ap, subst, arith, ◌⊎◌, inl, inr, append-nil, append_assoc, add-one, add-zero, length-append}
 use Rattle.std.specs.Prelude.{count_by, nat_lt}
 use Rattle.std.proofs.Math.Nat.{mul-le-mul_left, div-add-mod}
-use Rattle.std.proofs.lemmas.Bool.{cases_lt, ltb-false, le-ltb}
+use Rattle.std.proofs.lemmas.Bool.{cases_lt, lt-leb, ltb-false, le-ltb}
 use Rattle.std.proofs.lemmas.List.{take-append-le, take_all, drop_all}
 use Rattle.wl_level.specs.declared.Level.{Level}
-use Rattle.wl_level.specs.declared.Level.TheVariants.{Dominant, Recessive}
+use Rattle.wl_level.specs.declared.Level.TheVariants.{Recessive}
 use Rattle.wl_level.specs.Levels.{same}
 use Rattle.wl_level.specs.Places.{count_places}
 use Rattle.wl_level.proofs.Callers.{length_more, same_self, same_equal}
@@ -16,15 +16,19 @@ use Rattle.wl_sync.specs.Bits.{beat_of, sync_of}
 use Rattle.wl_sync.specs.SampleLaws.{SampleLaws, quanta_to_sample}
 use Rattle.wl_confine.specs.declared.Mode.{Mode}
 use Rattle.wl_confine.specs.Counts.{counts_of, mode_of}
-use Rattle.wl_machine.specs.Stretch.{Stretch, Sampled, Input}
+use Rattle.wl_machine.specs.Stretch.{Sort, Stretch, Sampled, Input, Ended}
+use Rattle.wl_machine.specs.Stretch.Ended.{NoFrame, Sent, Received}
+use Rattle.wl_machine.specs.Stretch.Sort.{Integration, Idle, Framing, Flagging, Waiting, Delimiting, Intermission, Suspension, OffBus}
 use Rattle.wl_machine.specs.Stretch.Input.{Sample as Given, SwitchedOff}
-use Rattle.wl_machine.specs.Judged.{judged, stretch_of, stretch_after, drive_of}
-use Rattle.wl_machine.specs.Silence.{SilenceLaws, silence_of}
+use Rattle.wl_machine.specs.Judged.{judged, stretch_of, stretch_after, drive_of, head_of}
+use Rattle.wl_machine.specs.Silence.{SilenceLaws, silence_by, silence_of}
+use Rattle.wl_machine.specs.Laws.{HeadLaws}
 use Rattle.wl_machine.proofs.Callers.{stretch_next}
+use Rattle.wl_node.specs.declared.setup.Queued.{Queued}
 use Rattle.wl_node.specs.declared.setup.NodeSetup.{NodeSetup}
-use Rattle.wl_node.specs.History.{History, history_of, no_history, seen_next, sampled_next, ready_head, is_sent, passed_frames, switched_off, by_beat, syncs_at}
+use Rattle.wl_node.specs.History.{History, history_of, no_history, seen_next, sampled_next, ready_head, is_sent, passed_frames, switched_off, by_beat, syncs_at, unsent_of}
 use Rattle.wl_node.specs.Limits.{most_quiet, most_quiet-is}
-use Rattle.wl_node.specs.Quiet.{pending_of, is_waiting, floor_by, floor_at, floor_and_silence, promise_at, quiet_of, drive_at, changes_of}
+use Rattle.wl_node.specs.Quiet.{pending_of, is_waiting, floor_by, floor_at, floor_and_silence, promise_by, until_ready, promise_at, quiet_of, drive_at, changes_of}
 use Rattle.wl_node.proofs.Turns.{history_first, history_next}
 use Rattle.wl_node.proofs.Sends.{off_or_not, count_append}
 
@@ -108,12 +112,12 @@ module _ (ways : SampleLaws) (setup : NodeSetup) where
 
 module _ (silences : SilenceLaws) (ways : SampleLaws) (setup : NodeSetup) where
   -- where a quantum leaves a node that is quiet for it and for k quanta more
-  record Keeps (h next : History) (k : ℕ) : Type 0 where
+  record Keeps (heads : Bool) (h next : History) (k : ℕ) : Type 0 where
     drive : next.drive ≡ h.drive
-    promise : k ≤ promise_at setup next
+    promise : k ≤ promise_by heads setup next
 
-  abbrev silence_at : History → ℕ
-  silence_at h = silence_of (is_waiting setup h) (stretch_of h.inputs)
+  abbrev silence_at : Bool → History → ℕ
+  silence_at heads h = silence_of heads (stretch_of h.inputs)
 
   -- a promise that is some rests on a floor that is
   some_floor : (f s k : ℕ) → suc k ≤ floor_and_silence f s (place_of setup) → 0 < f
@@ -128,35 +132,35 @@ module _ (silences : SilenceLaws) (ways : SampleLaws) (setup : NodeSetup) where
   longer_near : (f g s k : ℕ) → f ≤ suc g → 0 < g → suc k ≤ floor_and_silence f s (place_of setup) → k ≤ floor_and_silence g s (place_of setup)
   longer_near f g s k n h q = (let a = longer_is f s (some_floor f s k q) in let b = longer_is g s h in omega arith)
 
-  keeps_start : (h : History) (level : Level) → beat_next setup h level ≡ Start → IsSettled setup h → (k : ℕ) → suc k ≤ promise_at setup h → Keeps h (behind setup h level Start) k
-  keeps_start h level e s k q = record {
+  keeps_start : (heads : Bool) (h : History) (level : Level) → beat_next setup h level ≡ Start → IsSettled setup h → (k : ℕ) → suc k ≤ promise_by heads setup h → Keeps heads h (behind setup h level Start) k
+  keeps_start heads h level e s k q = record {
     drive = (starts (way_at setup h) refl (same h.drive (pending_of h)) refl some).0;
     promise =
-        subst (λ o. k ≤ floor_and_silence (floor_by o (same (pending_of h) (pending_of h)) (place_of setup)) (silence_at h) (place_of setup)) (sym after.1.0)
-        (longer_near (floor_at setup h) after.0 (silence_at h) k (let f = (starts (way_at setup h) refl (same h.drive (pending_of h)) refl some).1 in let low = after.1.1 in omega arith) (let low = after.1.1 in omega arith) q);
+        subst (λ o. k ≤ floor_and_silence (floor_by o (same (pending_of h) (pending_of h)) (place_of setup)) (silence_at heads h) (place_of setup)) (sym after.1.0)
+        (longer_near (floor_at setup h) after.0 (silence_at heads h) k (let f = (starts (way_at setup h) refl (same h.drive (pending_of h)) refl some).1 in let low = after.1.1 in omega arith) (let low = after.1.1 in omega arith) q);
   }
     where
       after : (m : ℕ) × ((quanta_to_sample setup.segments (h.seen ++ seen_next h level ∷ []) ≡ Some m) × (least_way setup.segments ≤ m))
       after = ways.start setup.segments h.seen (seen_next h level) e
 
       some : 0 < floor_at setup h
-      some = some_floor (floor_at setup h) (silence_at h) k q
+      some = some_floor (floor_at setup h) (silence_at heads h) k q
 
       starts : (o : Option ℕ) → way_at setup h ≡ o → (t : Bool) → same h.drive (pending_of h) ≡ t → 0 < floor_by o t (place_of setup) → (pending_of h ≡ h.drive) × (floor_by o t (place_of setup) ≤ suc (place_of setup))
       starts (Some n) f t g r = (sym (s n f), (let m = ways.few setup.segments h.seen n f in let low = ways.least setup.segments in omega arith))
       starts None f true g r = (sym (same_equal h.drive (pending_of h) g), omega arith)
       starts None f false g r = absurd (omega arith)
 
-  keeps_plain : (h : History) (level : Level) → beat_next setup h level ≡ Plain → (k : ℕ) → suc k ≤ promise_at setup h → Keeps h (behind setup h level Plain) k
-  keeps_plain h level e k q = record { drive = refl; promise = plain (way_at setup h) refl q }
+  keeps_plain : (heads : Bool) (h : History) (level : Level) → beat_next setup h level ≡ Plain → (k : ℕ) → suc k ≤ promise_by heads setup h → Keeps heads h (behind setup h level Plain) k
+  keeps_plain heads h level e k q = record { drive = refl; promise = plain (way_at setup h) refl q }
     where
-      plain : (o : Option ℕ) → way_at setup h ≡ o → suc k ≤ floor_and_silence (floor_by o (same h.drive (pending_of h)) (place_of setup)) (silence_at h) (place_of setup) → k ≤ promise_at setup (behind setup h level Plain)
+      plain : (o : Option ℕ) → way_at setup h ≡ o → suc k ≤ floor_and_silence (floor_by o (same h.drive (pending_of h)) (place_of setup)) (silence_at heads h) (place_of setup) → k ≤ promise_by heads setup (behind setup h level Plain)
       plain None f r =
-          subst (λ o. k ≤ floor_and_silence (floor_by o (same h.drive (pending_of h)) (place_of setup)) (silence_at h) (place_of setup)) (sym (ways.after setup.segments h.seen (seen_next h level) e f)) (omega arith)
+          subst (λ o. k ≤ floor_and_silence (floor_by o (same h.drive (pending_of h)) (place_of setup)) (silence_at heads h) (place_of setup)) (sym (ways.after setup.segments h.seen (seen_next h level) e f)) (omega arith)
       plain (Some n) f r =
           let near = ways.near setup.segments h.seen (seen_next h level) n e f in
-          subst (λ o. k ≤ floor_and_silence (floor_by o (same h.drive (pending_of h)) (place_of setup)) (silence_at h) (place_of setup)) (sym near.1.0)
-          (longer_near n near.0 (silence_at h) k near.1.1 (ways.some setup.segments (h.seen ++ seen_next h level ∷ []) near.0 near.1.0) r)
+          subst (λ o. k ≤ floor_and_silence (floor_by o (same h.drive (pending_of h)) (place_of setup)) (silence_at heads h) (place_of setup)) (sym near.1.0)
+          (longer_near n near.0 (silence_at heads h) k near.1.1 (ways.some setup.segments (h.seen ++ seen_next h level ∷ []) near.0 near.1.0) r)
 
   -- after a sample that a silence reaches beyond the machine wants recessive still, and is silent for one sample less at most
   record IsSilentBehind (heads : Bool) (inputs : List Input) (s : ℕ) : Type 0 where
@@ -194,55 +198,140 @@ module _ (silences : SilenceLaws) (ways : SampleLaws) (setup : NodeSetup) where
   never_less true false r e = silences.none r
   never_less false later r e = subst (λ b. silence_of false r ≤ silence_of b r) (sym (e refl)) (omega arith)
 
-  keeps_sample : (h : History) (level v : Level) → beat_next setup h level ≡ Sample v → IsSettled setup h → (k : ℕ) → suc k ≤ promise_at setup h → Keeps h (behind setup h level (Sample v)) k
-  keeps_sample h level v e s k q = record { drive = refl; promise = by_silence (silence_at h) refl }
+  keeps_sample : (heads : Bool) (h : History) (level v : Level) → beat_next setup h level ≡ Sample v → (heads ≡ false → (sampled_next setup h level).head ≡ None) → IsSettled setup h → (k : ℕ) → suc k ≤ promise_by heads setup h → Keeps heads h (behind setup h level (Sample v)) k
+  keeps_sample heads h level v e none s k q = record { drive = refl; promise = by_silence (silence_at heads h) refl }
     where
       one : way_at setup h ≡ Some 1
       one = ways.sampled setup.segments h.seen (seen_next h level) v e
 
-      few : suc k ≤ floor_and_silence 1 (silence_at h) (place_of setup)
-      few = subst (λ o. suc k ≤ floor_and_silence (floor_by o (same h.drive (pending_of h)) (place_of setup)) (silence_at h) (place_of setup)) one q
+      few : suc k ≤ floor_and_silence 1 (silence_at heads h) (place_of setup)
+      few = subst (λ o. suc k ≤ floor_and_silence (floor_by o (same h.drive (pending_of h)) (place_of setup)) (silence_at heads h) (place_of setup)) one q
 
-      by_silence : (n : ℕ) → silence_at h ≡ n → k ≤ promise_at setup (behind setup h level (Sample v))
-      by_silence zero f = (let r = few in let g : floor_and_silence 1 (silence_at h) (place_of setup) ≡ 1 + 0 * suc (place_of setup) = ap (λ m. floor_and_silence 1 m (place_of setup)) f in omega arith)
+      by_silence : (n : ℕ) → silence_at heads h ≡ n → k ≤ promise_by heads setup (behind setup h level (Sample v))
+      by_silence zero f = (let r = few in let g : floor_and_silence 1 (silence_at heads h) (place_of setup) ≡ 1 + 0 * suc (place_of setup) = ap (λ m. floor_and_silence 1 m (place_of setup)) f in omega arith)
       by_silence (suc n) f =
           let r = few in
           let x : Sampled = sampled_next setup h level in
           let after : Mode = mode_of (counts_of (h.happened ++ (judged (stretch_of h.inputs) x).happened ∷ [])) in
           let next : History = behind setup h level (Sample v) in
-          let more : suc n ≤ silence_at h = omega arith in
-          let b : IsSilentBehind (is_waiting setup h) next.inputs n =
-          silent_behind (is_waiting setup h) h.inputs (switched_off x.mode after) x n (off_or_not x.mode after) (none_handed (count_by is_sent h.frames) (length h.seen)) more in
-          let later : silence_of (is_waiting setup h) (stretch_of next.inputs) ≤ silence_at next =
-          never_less (is_waiting setup h) (is_waiting setup next) (stretch_of next.inputs)
-          (none_later (count_by is_sent h.frames) (count_by is_sent next.frames) (let g = count_append is_sent h.frames (passed_frames (length h.seen) (judged (stretch_of h.inputs) x).ended) in omega arith)) in
-          let settled_next : same h.drive (pending_of next) ≡ true = same_when h.drive (pending_of next) (s 1 one ∙ silences.now (is_waiting setup h) (stretch_of h.inputs) n more ∙ sym b.pending) in
+          let more : suc n ≤ silence_at heads h = omega arith in
+          let b : IsSilentBehind heads next.inputs n =
+          silent_behind heads h.inputs (switched_off x.mode after) x n (off_or_not x.mode after) none more in
+          let settled_next : same h.drive (pending_of next) ≡ true = same_when h.drive (pending_of next) (s 1 one ∙ silences.now heads (stretch_of h.inputs) n more ∙ sym b.pending) in
           let floor_next : floor_at setup next ≡ suc (place_of setup) =
           ap (λ o. floor_by o (same h.drive (pending_of next)) (place_of setup)) (ways.sample setup.segments h.seen (seen_next h level) v e) ∙ ap (λ t. floor_by None t (place_of setup)) settled_next in
-          let promise_next : promise_at setup next ≡ suc (place_of setup) + silence_at next * suc (place_of setup) = ap (λ m. floor_and_silence m (silence_at next) (place_of setup)) floor_next in
-          let now : floor_and_silence 1 (silence_at h) (place_of setup) ≡ 1 + suc n * suc (place_of setup) = ap (λ m. floor_and_silence 1 m (place_of setup)) f in
-          let enough : suc (place_of setup) * n ≤ suc (place_of setup) * silence_at next = mul-le-mul_left (suc (place_of setup)) (let l = b.left in omega arith) in
+          let promise_next : promise_by heads setup next ≡ suc (place_of setup) + silence_at heads next * suc (place_of setup) = ap (λ m. floor_and_silence m (silence_at heads next) (place_of setup)) floor_next in
+          let now : floor_and_silence 1 (silence_at heads h) (place_of setup) ≡ 1 + suc n * suc (place_of setup) = ap (λ m. floor_and_silence 1 m (place_of setup)) f in
+          let enough : suc (place_of setup) * n ≤ suc (place_of setup) * silence_at heads next = mul-le-mul_left (suc (place_of setup)) (let l = b.left in omega arith) in
           omega arith
 
-  keeps_by : (h : History) (level : Level) (b : Beat) → beat_next setup h level ≡ b → IsSettled setup h → (k : ℕ) → suc k ≤ promise_at setup h → Keeps h (behind setup h level b) k
-  keeps_by h level Start e s k q = keeps_start h level e s k q
-  keeps_by h level (Sample v) e s k q = keeps_sample h level v e s k q
-  keeps_by h level Plain e s k q = keeps_plain h level e k q
+  keeps_by : (heads : Bool) (h : History) (level : Level) (b : Beat) → beat_next setup h level ≡ b → (heads ≡ false → (sampled_next setup h level).head ≡ None) → IsSettled setup h
+      → (k : ℕ) → suc k ≤ promise_by heads setup h → Keeps heads h (behind setup h level b) k
+  keeps_by heads h level Start e none s k q = keeps_start heads h level e s k q
+  keeps_by heads h level (Sample v) e none s k q = keeps_sample heads h level v e none s k q
+  keeps_by heads h level Plain e none s k q = keeps_plain heads h level e k q
 
-  keeps : (levels : List Level) (x : Level) (k : ℕ) → suc k ≤ promise_at setup (history_of setup levels) → Keeps (history_of setup levels) (history_of setup (levels ++ x ∷ [])) k
-  keeps levels x k q =
-      subst (λ next. Keeps (history_of setup levels) next k) (sym (history_next setup levels x))
-      (keeps_by (history_of setup levels) x (beat_next setup (history_of setup levels) x) refl (settled ways setup levels) k q)
+  -- a longer silence is no shorter promise
+  more_silence : (f s t : ℕ) → s ≤ t → floor_and_silence f s (place_of setup) ≤ floor_and_silence f t (place_of setup)
+  more_silence zero s t h = omega arith
+  more_silence (suc f) s t h = (let m = mul-le-mul_left (suc (place_of setup)) h in omega arith)
 
-  stays : (more levels : List Level) → length more ≤ promise_at setup (history_of setup levels) → (history_of setup (levels ++ more)).drive ≡ (history_of setup levels).drive
-  stays [] levels q = ap (λ l. (history_of setup l).drive) (append-nil levels)
-  stays (x ∷ more) levels q =
-      let k = keeps levels x (length more) (omega arith) in
-      ap (λ l. (history_of setup l).drive) (sym (append_assoc levels (x ∷ []) more)) ∙ (stays more (levels ++ x ∷ []) k.promise ∙ k.drive)
+  -- the frames that were sent by a quantum more
+  sent_by : (h : History) (level : Level) (b : Beat) → count_by is_sent h.frames ≤ count_by is_sent (behind setup h level b).frames
+  sent_by h level Start = omega arith
+  sent_by h level Plain = omega arith
+  sent_by h level (Sample v) =
+      (let g = count_append is_sent h.frames (passed_frames (length h.seen) (judged (stretch_of h.inputs) (sampled_next setup h level)).ended) in omega arith)
 
-  pub quiet : (levels more : List Level) → length more ≤ quiet_of setup levels → (history_of setup (levels ++ more)).drive ≡ (history_of setup levels).drive
-  unfolding quiet_of
-  quiet levels more q = stays more levels (omega arith)
+  -- where a node leaves the machine without a head, a quantum more leaves it no nearer than by one
+  abbrev handed_in : History → ℕ
+  handed_in h = until_ready (unsent_of setup h) (length h.seen)
+
+  none_ready : (unsent : List Queued) (quantum k : ℕ) → suc k ≤ until_ready unsent quantum → ready_head unsent quantum ≡ None
+  none_ready [] quantum k h = refl
+  none_ready (q ∷ qs) quantum k h = ap (λ b. cond b (Some q.frame) None) (lt-leb q.ready quantum (omega arith))
+
+  nearer : (unsent : List Queued) (quantum k : ℕ) → suc k ≤ until_ready unsent quantum → k ≤ until_ready unsent (suc quantum)
+  nearer [] quantum k h = absurd (omega arith)
+  nearer (q ∷ qs) quantum k h = omega arith
+
+  -- heads make a difference only to a machine that is in no frame
+  heads_matter : (s : Sort) (own : List Level) → (silence_by false s own ≡ silence_by true s own) ⊎ (head_of s ≡ None)
+  heads_matter (Framing head) own = inl refl
+  heads_matter Integration own = inr refl
+  heads_matter Idle own = inr refl
+  heads_matter (Flagging flag role) own = inr refl
+  heads_matter (Waiting flag role flagged) own = inr refl
+  heads_matter (Delimiting role) own = inr refl
+  heads_matter (Intermission role) own = inr refl
+  heads_matter Suspension own = inr refl
+  heads_matter OffBus own = inr refl
+
+  abbrev Goes : History → History → ℕ → Type 0
+  Goes h next k = (next.drive ≡ h.drive) × (k ≤ promise_at setup next)
+
+  -- a node that may be handed a head, or has none to hand
+  goes_waiting : (h : History) (level : Level) (b : Beat) → beat_next setup h level ≡ b → IsSettled setup h → (k : ℕ) → suc k ≤ promise_by (is_waiting setup h) setup h → Goes h (behind setup h level b) k
+  goes_waiting h level b e s k q =
+      let next : History = behind setup h level b in
+      let g = keeps_by (is_waiting setup h) h level b e (none_handed (count_by is_sent h.frames) (length h.seen)) s k q in
+      let p = g.promise in
+      let later : silence_of (is_waiting setup h) (stretch_of next.inputs) ≤ silence_of (is_waiting setup next) (stretch_of next.inputs) =
+      never_less (is_waiting setup h) (is_waiting setup next) (stretch_of next.inputs)
+      (none_later (count_by is_sent h.frames) (count_by is_sent next.frames) (sent_by h level b)) in
+      let more = more_silence (floor_at setup next) (silence_of (is_waiting setup h) (stretch_of next.inputs)) (silence_of (is_waiting setup next) (stretch_of next.inputs)) later in
+      (g.drive, omega arith)
+
+  module _ (heads : HeadLaws) where
+    -- a machine in no frame sends none with its next sample
+    same_sent : (h : History) (level : Level) (b : Beat) → head_of (stretch_of h.inputs).sort ≡ None → unsent_of setup (behind setup h level b) ≡ unsent_of setup h
+    same_sent h level Start none = refl
+    same_sent h level Plain none = refl
+    same_sent h level (Sample v) none = by_end (judged (stretch_of h.inputs) (sampled_next setup h level)).ended refl
+      where
+        by_end : (ended : Ended) → (judged (stretch_of h.inputs) (sampled_next setup h level)).ended ≡ ended → unsent_of setup (behind setup h level (Sample v)) ≡ unsent_of setup h
+        by_end NoFrame e = ap (λ n. drop n setup.queue) (count_append is_sent h.frames (passed_frames (length h.seen) (judged (stretch_of h.inputs) (sampled_next setup h level)).ended)
+            ∙ ap (λ d. count_by is_sent h.frames + count_by is_sent (passed_frames (length h.seen) d)) e ∙ add-zero _)
+        by_end (Received frame) e = ap (λ n. drop n setup.queue) (count_append is_sent h.frames (passed_frames (length h.seen) (judged (stretch_of h.inputs) (sampled_next setup h level)).ended)
+            ∙ ap (λ d. count_by is_sent h.frames + count_by is_sent (passed_frames (length h.seen) d)) e ∙ add-zero _)
+        by_end (Sent frame) e = (let f : head_of (stretch_of h.inputs).sort ≡ Some frame = ap head_of (heads.sent (stretch_of h.inputs) (sampled_next setup h level) frame e) in cc)
+
+    goes_ready : (h : History) (level : Level) (b : Beat) → beat_next setup h level ≡ b → IsSettled setup h → (k : ℕ) → suc k ≤ handed_in h → suc k ≤ promise_by false setup h
+        → (silence_of false (stretch_of h.inputs) ≡ silence_of true (stretch_of h.inputs)) ⊎ (head_of (stretch_of h.inputs).sort ≡ None) → Goes h (behind setup h level b) k
+    goes_ready h level b e s k r q (inl f) = goes_waiting h level b e s k (any (is_waiting setup h))
+      where
+        any : (w : Bool) → suc k ≤ promise_by w setup h
+        any true = subst (λ n. suc k ≤ floor_and_silence (floor_at setup h) n (place_of setup)) f q
+        any false = q
+    goes_ready h level b e s k r q (inr f) =
+        let next : History = behind setup h level b in
+        let g = keeps_by false h level b e (λ t. none_ready (unsent_of setup h) (length h.seen) k r) s k q in
+        let p = g.promise in
+        let near = nearer (unsent_of setup h) (length h.seen) k r in
+        let here : handed_in next ≡ until_ready (unsent_of setup h) (suc (length h.seen)) =
+        ap (λ u. until_ready u (length next.seen)) (same_sent h level b f) ∙ ap (until_ready (unsent_of setup h)) (length-append h.seen (seen_next h level ∷ []) ∙ add-one (length h.seen)) in
+        (g.drive, omega arith)
+
+    goes : (h : History) (level : Level) → IsSettled setup h → (k : ℕ) → suc k ≤ promise_at setup h → Goes h (behind setup h level (beat_next setup h level)) k
+    goes h level s k q = elim (cases_lt k (promise_by (is_waiting setup h) setup h)) [
+      | inl few ↦ goes_waiting h level (beat_next setup h level) refl s k few
+      | inr many ↦ goes_ready h level (beat_next setup h level) refl s k (omega arith) (omega arith) (heads_matter (stretch_of h.inputs).sort (stretch_of h.inputs).own)
+    ]
+
+    keeps : (levels : List Level) (x : Level) (k : ℕ) → suc k ≤ promise_at setup (history_of setup levels) → Goes (history_of setup levels) (history_of setup (levels ++ x ∷ [])) k
+    keeps levels x k q =
+        subst (λ next. Goes (history_of setup levels) next k) (sym (history_next setup levels x))
+        (goes (history_of setup levels) x (settled ways setup levels) k q)
+
+    stays : (more levels : List Level) → length more ≤ promise_at setup (history_of setup levels) → (history_of setup (levels ++ more)).drive ≡ (history_of setup levels).drive
+    stays [] levels q = ap (λ l. (history_of setup l).drive) (append-nil levels)
+    stays (x ∷ more) levels q =
+        let k = keeps levels x (length more) (omega arith) in
+        ap (λ l. (history_of setup l).drive) (sym (append_assoc levels (x ∷ []) more)) ∙ (stays more (levels ++ x ∷ []) k.1 ∙ k.0)
+
+    pub quiet : (levels more : List Level) → length more ≤ quiet_of setup levels → (history_of setup (levels ++ more)).drive ≡ (history_of setup levels).drive
+    unfolding quiet_of
+    quiet levels more q = stays more levels (omega arith)
 
 -- what laws of places say of counts
 abbrev pub CountsBelow : Type 0

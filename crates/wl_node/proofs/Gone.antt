@@ -1,4 +1,5 @@
 -- Quanta of one level that a node has run, some more of them, and where its drive stands by them.
+use Rattle.std.specs.Prelude.{Result, Ok, Err, OnErr}
 use Rattle.std.proofs.Common.{◌≡◌, ◌≢◌, ◌∙◌, ℕ, ◌+◌, ◌-◌, ◌<◌, inl, inr, List, ◌++◌, replicate, refl, sym, ap, subst, arith, append-nil, append_assoc}
 use Rattle.std.proofs.lemmas.Bool.{cases_lt}
 use Rattle.std.proofs.lemmas.List.{replicate-append-replicate}
@@ -6,7 +7,7 @@ use Rattle.wl_level.specs.declared.Level.{Level}
 use Rattle.wl_node.specs.declared.setup.NodeSetup.{NodeSetup}
 use Rattle.wl_node.specs.declared.node.Node.{Node}
 use Rattle.wl_node.specs.History.{history_of}
-use Rattle.wl_node.specs.Reached.{node_setup, quanta_of, IsNode, IsSameNode, Shows, StandsFor, TurnsAfter, HasGone}
+use Rattle.wl_node.specs.Reached.{node_setup, quanta_of, IsNode, IsSameNode, Shows, StandsFor, TurnsAfter, HasGone, HasSeen, HasStopped}
 
 -- the drive after these levels
 abbrev drive_by : NodeSetup → List Level → Level
@@ -60,6 +61,28 @@ module _ (level : Level) (a b : ℕ) (old mid new : Node) (first : HasGone level
     stood = stood_in;
   }
 
+  -- and where the second ones stopped
+  pub stands_more : StandsFor mid level b → StandsFor old level (a + b)
+  stands_more = stood_on b
+
+-- one quantum
+pub gone_one : {level : Level} {old new : Node} → HasSeen level old new → node_setup new ≡ node_setup old → quanta_of new ≡ quanta_of old + 1 → HasGone level 1 old new
+gone_one {level} {old} {new} seen setup quanta = record {
+  node = seen;
+  setup = setup;
+  quanta = quanta;
+  stood = λ m h. subst (λ (k : ℕ). StandsFor old level k) (let e : 0 ≡ m = omega arith in e) (stands_first old level);
+}
+
+-- some quanta behind which the drive stands, and then fewer than were asked for
+pub stopped_more : (level : Level) (a b : ℕ) (old mid new : Node) → HasGone level a old mid → StandsFor old level a → HasStopped level b mid new → HasStopped level (a + b) old new
+stopped_more level a b old mid new first stands second = record {
+  n = a + second.n;
+  few = (let f = second.few in omega arith);
+  gone = gone_more level a second.n old mid new first stands second.gone;
+  stands = stands_more level a second.n old mid new first stands second.gone second.stands;
+}
+
 -- by what the node drives before and after
 module _ {level : Level} {n : ℕ} {old new : Node} (g : HasGone level n old new) {before after : Level} (was : Shows old (λ h. before ≡ h.drive)) (now : Shows new (λ h. after ≡ h.drive)) where
   now_is : (levels : List Level) → IsNode levels old → after ≡ drive_by old.setup (levels ++ replicate n level)
@@ -70,3 +93,7 @@ module _ {level : Level} {n : ℕ} {old new : Node} (g : HasGone level n old new
 
   pub turns_by : after ≢ before → TurnsAfter old level n
   turns_by ne levels is e = ne (now_is levels is ∙ (e ∙ sym (was levels is)))
+
+pub on_err : {T E P : Type 0} (r : Result T E) → P → OnErr r P
+on_err (Ok x) p = tt
+on_err (Err e) p = p

@@ -1,13 +1,11 @@
 -- The frame that a machine sends is the first unsent one of its node, sample by sample.
 use Rattle.std.proofs.Common.{◌≡◌, ◌∙◌, ℕ, ◌+◌, Bool, true, false, cond, nat_le, List, [], ◌∷◌, ◌++◌, drop, Option, Some, None, ◌⊎◌, inl, inr, refl, sym, ap, append-nil, add-zero}
 use Rattle.std.specs.Prelude.{count_by, if◌then◌else◌}
-use Rattle.std.proofs.lemmas.List.Sums.{fold-append, sum_by-append}
+use Rattle.std.proofs.lemmas.List.Sums.{sum_by-append}
 use Rattle.wl_confine.specs.declared.Mode.{Mode}
 use Rattle.wl_confine.specs.declared.Mode.TheVariants.{Active, Passive, Off}
 use Rattle.wl_frame.specs.Grammar.{Content}
-use Rattle.wl_machine.specs.declared.state.Role.TheVariants.{Tx}
 use Rattle.wl_machine.specs.Stretch.{Stretch, Sampled, Input, Ended}
-use Rattle.wl_machine.specs.Stretch.Sort.{Framing, Intermission, Integration}
 use Rattle.wl_machine.specs.Stretch.Input.{Sample, SwitchedOff}
 use Rattle.wl_machine.specs.Stretch.Ended.{NoFrame, Sent, Received}
 use Rattle.wl_machine.specs.Judged.{judged, or_next, stretch_after, stretch_of, head_of}

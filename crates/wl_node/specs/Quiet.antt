@@ -1,7 +1,7 @@
 -- For how many quanta more the drive of a node is sure to stay, whatever it sees. A drive changes only where a bit starts, to what the machine wants
 -- since the last sample, and a sample comes the least way after that at the earliest (Bosch CAN 2.0 part B, section 10; that a node tells it is the lookahead of
 -- Chandy and Misra 1979).
-use Rattle.std.specs.Prelude.{◌≡◌, ℕ, zero, suc, ◌+◌, ◌*◌, nat_lt, not, min, count_by, Bool, true, false, List, length, take, Option, Some, None}
+use Rattle.std.specs.Prelude.{ℕ, zero, suc, ◌+◌, ◌-◌, ◌*◌, nat_lt, not, min, max, count_by, Bool, true, false, List, [], ◌∷◌, length, take, Option, Some, None}
 use Rattle.wl_level.specs.declared.Level.{Level}
 use Rattle.wl_level.specs.Levels.{same}
 use Rattle.wl_level.specs.Places.{count_places}
@@ -9,8 +9,9 @@ use Rattle.wl_segments.specs.Lengths.{least_way}
 use Rattle.wl_sync.specs.SampleLaws.{quanta_to_sample}
 use Rattle.wl_machine.specs.Judged.{stretch_of, drive_of}
 use Rattle.wl_machine.specs.Silence.{silence_of}
+use Rattle.wl_node.specs.declared.setup.Queued.{Queued}
 use Rattle.wl_node.specs.declared.setup.NodeSetup.{NodeSetup}
-use Rattle.wl_node.specs.History.{History, history_of, is_sent}
+use Rattle.wl_node.specs.History.{History, history_of, is_sent, unsent_of}
 use Rattle.wl_node.specs.Limits.{most_quiet}
 
 -- the level that the machine wants since the last sample, which the next bit's start puts on the line
@@ -38,8 +39,18 @@ floor_and_silence (suc n) silence place = suc n + silence * suc place
 abbrev pub is_waiting : NodeSetup → History → Bool
 is_waiting setup h = nat_lt (count_by is_sent h.frames) (length setup.queue)
 
+-- what the drive rests on where the machine may be handed a head, and as long as it is handed none
+abbrev pub promise_by : Bool → NodeSetup → History → ℕ
+promise_by heads setup h = floor_and_silence (floor_at setup h) (silence_of heads (stretch_of h.inputs)) (least_way setup.segments)
+
+-- the quanta before the one at which the first frame of a queue is ready
+abbrev pub until_ready : List Queued → ℕ → ℕ
+until_ready [] quantum = 0
+until_ready (q ∷ qs) quantum = q.ready - quantum
+
+-- before that the machine is handed none
 abbrev pub promise_at : NodeSetup → History → ℕ
-promise_at setup h = floor_and_silence (floor_at setup h) (silence_of (is_waiting setup h) (stretch_of h.inputs)) (least_way setup.segments)
+promise_at setup h = max (promise_by (is_waiting setup h) setup h) (min (until_ready (unsent_of setup h) (length h.seen)) (promise_by false setup h))
 
 -- what a node promises
 abbrev pub quiet_at : NodeSetup → History → ℕ

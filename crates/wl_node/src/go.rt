@@ -7,7 +7,7 @@ use wl_level::Level;
 impl Node {
     ghost use Rattle.std.specs.Prelude.{◌+◌, ◌<◌, ◌≤◌, OnErr, IfOk};
     ghost use Rattle.wl_node.specs.Limits.{most_run_quanta};
-    ghost use Rattle.wl_node.specs.Reached.{quanta_of, HasGone, HasStopped, TurnsAfter};
+    ghost use Rattle.wl_node.specs.Reached.{quanta_of, HasGone, HasStopped, StandsFor, TurnsAfter};
 
     /// Quanta of one level, up to the first that changes the drive, that one too: at most `most`, which is above 0. Answers
     /// how many ran, at least one.
@@ -26,12 +26,40 @@ impl Node {
         let before = self.drive();
         let mut done = 0;
         while done < most {
-            self.prepare()?;
-            done += self.leap(level, most - done);
+            done += self.leap(level, most - done)?;
             if !self.drive().is(before) {
                 return Ok(done);
             }
         }
         Ok(done)
+    }
+
+    /// One quantum of this level at least, and `most` at most: those in which nothing happens at once, and one more. Refused
+    /// where memory runs out: fewer than `most` were run then, or none, and the node drives what it drove.
+    fn leap(&mut self, level: Level, most: u64) -> Result<u64, AllocError>
+        requires some { 0 < most }
+        requires short { quanta_of self.old + most ≤ most_run_quanta }
+        ensures gone { IfOk result (λ n. HasGone level n self.old self.new) }
+        ensures some { IfOk result (λ n. 0 < n) }
+        ensures few { IfOk result (λ n. n ≤ most) }
+        ensures stopped { OnErr result (HasStopped level most self.old self.new) }
+    {
+        let passed = self.pass(level, most);
+        if passed == most {
+            return Ok(passed);
+        }
+        self.prepare()?;
+        self.run(level);
+        Ok(passed + 1)
+    }
+
+    /// Those quanta of this level, at most `most`, in which nothing happens.
+    fn pass(&mut self, level: Level, most: u64) -> u64
+        requires short { quanta_of self.old + most ≤ most_run_quanta }
+        ensures gone { HasGone level result self.old self.new }
+        ensures stands { StandsFor self.old level result }
+        ensures few { result ≤ most }
+    {
+        self.progress.pass(level, most)
     }
 }

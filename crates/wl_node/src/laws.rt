@@ -15,5 +15,6 @@ pub fn drive_laws()
 {
     wl_level::place_laws();
     wl_machine::laws::a_silence_is_kept();
+    wl_machine::laws::a_sent_frame_is_the_head_that_began_its_stretch();
     wl_sync::the_sample_comes_near();
 }

@@ -19,7 +19,7 @@ use wl_level::{Level, Listed};
 #[derive(Drop)]
 pub struct Node {
     setup: NodeSetup,
-    progress: Progress,
+    pub(crate) progress: Progress,
     ghost few_hards: { progress.syncs.hards ≤ progress.quanta },
     ghost few_errors: { progress.traffic.errors ≤ progress.quanta },
     ghost reached: { ∥ ((levels : List Level) × IsProgress setup progress levels) ∥₁ },
@@ -41,7 +41,7 @@ impl Node {
     ghost use Rattle.wl_node.specs.History.{counters_of, phases_of, hards_of, error_count, unsent_count};
     ghost use Rattle.wl_node.specs.Limits.{most_quiet, most_run_quanta};
     ghost use Rattle.wl_node.specs.Quiet.{quiet_of};
-    ghost use Rattle.wl_node.specs.Reached.{node_setup, quanta_of, IsNode, HasGone, HasRoom, Shows, HasSeen, IsSameNode};
+    ghost use Rattle.wl_node.specs.Reached.{node_setup, quanta_of, IsNode, HasRoom, Shows, HasSeen, IsSameNode};
 
     /// A node of this setup that has run no quantum: it drives recessive. Refused only where memory
     /// runs out.
@@ -86,18 +86,6 @@ impl Node {
         ensures quanta { quanta_of self.new ≡ quanta_of self.old + 1 }
     {
         self.progress.run(&self.setup, level);
-    }
-
-    /// One quantum of this level at least, and `most` at most, where [`Node::prepare`] has made room.
-    pub(crate) fn leap(&mut self, level: Level, most: u64) -> u64
-        requires room { HasRoom self.old }
-        requires some { 0 < most }
-        requires short { quanta_of self.old + most ≤ most_run_quanta }
-        ensures gone { HasGone level result self.old self.new }
-        ensures some { 0 < result }
-        ensures few { result ≤ most }
-    {
-        self.progress.leap(&self.setup, level, most)
     }
 
     /// The next quantum, at which the node sees this level: [`Node::prepare`], and then

@@ -95,32 +95,9 @@ impl Progress {
         self.quanta += 1;
     }
 
-    /// Quanta of this level, at most `most`: those in which nothing happens at once, and one more.
-    pub fn leap(&mut self, setup: &NodeSetup, level: Level, most: u64) -> u64
-        requires room { IsRoomy self.old }
-        requires some { 0 < most }
-        requires short { self.old.quanta + most ≤ most_run_quanta }
-        requires hards { self.old.syncs.hards ≤ self.old.quanta }
-        requires errors { self.old.traffic.errors ≤ self.old.quanta }
-        ensures place { HasProgressedBy setup.now level result self.old self.new }
-        ensures drive { KeepsDrive setup.now level result self.old }
-        ensures some { 0 < result }
-        ensures few { result ≤ most }
-        ensures quanta { self.new.quanta ≡ self.old.quanta + result }
-        ensures hards { self.new.syncs.hards ≤ self.old.syncs.hards + 1 }
-        ensures errors { self.new.traffic.errors ≤ self.old.traffic.errors + 1 }
-    {
-        let passed = self.pass(level, most);
-        if passed == most {
-            return passed;
-        }
-        self.run(setup, level);
-        passed + 1
-    }
-
     /// Those quanta of this level, at most `most`, in which nothing happens: none is a sample, none finds an edge, and a
     /// bit starts only where the node drives what its machine wants.
-    fn pass(&mut self, level: Level, most: u64) -> u64
+    pub fn pass(&mut self, level: Level, most: u64) -> u64
         requires short { self.old.quanta + most ≤ most_run_quanta }
         ensures place { (setup : NodeSetup) → HasProgressedBy setup level result self.old self.new }
         ensures drive { (setup : NodeSetup) → KeepsDrive setup level (suc result) self.old }

@@ -1,14 +1,14 @@
 //! For how long a node's drive is sure to stay.
 
-ghost use Rattle.std.specs.Prelude.{◌≡◌, ◌≤◌, List, []};
+ghost use Rattle.std.specs.Prelude.{◌≡◌, ◌≤◌, List, [], drop};
 ghost use Rattle.wl_level.specs.declared.Level.{Level};
 ghost use Rattle.wl_node.specs.Kept.{IsProgress};
 ghost use Rattle.wl_node.specs.Limits.{most_quiet};
-ghost use Rattle.wl_node.specs.Quiet.{floor_by, floor_and_silence, quiet_of};
+ghost use Rattle.wl_node.specs.Quiet.{floor_by, floor_and_silence, until_ready, quiet_of};
 
 use crate::limits::MOST_QUIET;
 use crate::progress::Progress;
-use crate::setup::NodeSetup;
+use crate::setup::{NodeSetup, Queued};
 use wl_machine::Machine;
 
 impl Progress {
@@ -22,8 +22,15 @@ impl Progress {
         let place = setup.segments.least_way() as u32;
         let least = floor(self.clock.before_sample(), settled, place);
         let waiting = self.traffic.sent < setup.queue.len();
-        let silence = self.traffic.machine.silence(waiting);
-        longer(least, silence, place).min(MOST_QUIET)
+        let handed = longer(least, self.traffic.machine.silence(waiting), place);
+        let ready_in = until_ready(setup.queue.as_slice(), self.traffic.sent, self.quanta);
+        if ready_in <= handed as u64 {
+            return handed.min(MOST_QUIET);
+        }
+        let unhanded = longer(least, self.traffic.machine.silence(false), place);
+        handed
+            .max(ready_in.min(unhanded as u64) as u32)
+            .min(MOST_QUIET)
     }
 }
 
@@ -38,6 +45,16 @@ impl NodeSetup {
         let place = self.segments.least_way() as u32;
         let silence = Machine::new().silence(0 < self.queue.len());
         longer(place + 1, silence, place).min(MOST_QUIET)
+    }
+}
+
+/// The quanta before the one at which the first frame that was not sent yet is ready.
+fn until_ready(queue: &[Queued], sent: usize, quantum: u64) -> u64
+    ensures { result ≡ until_ready (drop sent queue.now) quantum }
+{
+    match queue.get(sent) {
+        Some(first) => first.ready.saturating_sub(quantum),
+        None => 0,
     }
 }
 

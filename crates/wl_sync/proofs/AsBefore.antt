@@ -1,15 +1,14 @@
 -- Where SYNC_SEG comes after an edge, each rule is what it is without the choice.
 use Rattle.std.proofs.Common.{◌≡◌, ℕ, suc, ◌+◌, ◌-◌, ◌∙◌, Bool, true, false, cond, ◌&&◌, ◌||◌, not, Some, refl, sym, ap, arith, min}
-use Rattle.std.specs.Prelude.{ℤ, pos, ◌-ℤ◌, ◌==◌, nat_lt, nat_le}
+use Rattle.std.specs.Prelude.{pos, ◌-ℤ◌, ◌==◌, nat_lt, nat_le}
 use Rattle.wl_level.specs.declared.Level.{Level}
 use Rattle.wl_level.specs.Levels.{is_dominant}
-use Rattle.wl_segments.specs.declared.SyncSeg.{SyncSeg}
 use Rattle.wl_segments.specs.declared.SyncSeg.TheVariants.{After}
 use Rattle.wl_segments.specs.Lengths.{Lengths, sample_at, bit_quanta, found_by, found_at}
 use Rattle.wl_sync.specs.Edges.{Seen, looks, edge_counts, edge_restarts, phase_error, longer_by}
 use Rattle.wl_sync.specs.Bits.{Bit, due_bit, edge_bit, edge_bit_by, going_on}
 use Rattle.wl_sync.specs.Running.{Running}
-use Rattle.wl_sync.specs.Steps.{running_due, running_edge, running_edge_by, running_sync, running_restart, running_moved, running_over, running_placed, running_passed}
+use Rattle.wl_sync.specs.Steps.{running_due, running_edge, running_edge_by, running_sync, running_restart, running_moved, running_over, running_placed}
 
 module _ (l : Lengths) (h : l.sync ≡ After) where
   found_none : found_at l ≡ 0

@@ -1,4 +1,5 @@
 mod Rows
+mod Rests
 mod Skips
 mod Ways
 mod AsBefore

@@ -1,5 +1,5 @@
 -- A bit clock keeps the last level of the line and the last sample, across the borders of bits.
-use Rattle.std.proofs.Common.{◌≡◌, ◌+◌, ◌∙◌, List, [], ◌∷◌, ◌++◌, Bool, true, false, cond, refl, sym, ap, subst, arith, ◌||◌, ◌&&◌, not}
+use Rattle.std.proofs.Common.{◌≡◌, ◌+◌, ◌∙◌, List, [], ◌∷◌, ◌++◌, Bool, true, false, cond, refl, sym, ap, arith, ◌||◌}
 use Rattle.std.specs.Prelude.{◌==◌}
 use Rattle.std.proofs.lemmas.Bool.{eqb-true, ne_eqb}
 use Rattle.wl_segments.specs.declared.SyncSeg.{SyncSeg}
@@ -10,7 +10,7 @@ use Rattle.wl_sync.specs.declared.Beat.TheVariants.{Plain, Sample, Start}
 use Rattle.wl_sync.specs.Edges.{Seen}
 use Rattle.wl_sync.specs.Bits.{beat_of}
 use Rattle.wl_sync.specs.Running.{Running, clock_after, sample_after}
-use Rattle.wl_sync.specs.Steps.{running_due, running_edge, running_edge_by, running_sync, running_restart, running_moved, running_first, running_over, running_placed, running_beat, is_sampled, end_of}
+use Rattle.wl_sync.specs.Steps.{running_edge, running_edge_by, running_sync, running_restart, running_moved, running_first, running_over, running_placed, running_beat, is_sampled, end_of}
 use Rattle.wl_sync.proofs.Cuts.{clock_next, beat_next}
 
 -- a bit begins with the last sample of the one before

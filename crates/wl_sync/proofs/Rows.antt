@@ -3,7 +3,6 @@ use Rattle.std.proofs.Common.{◌≡◌, ℕ, List, ◌++◌, Bool, true, false,
 use Rattle.std.specs.Prelude.{◌-◌, pos, negsuc, nat_lt, if◌then◌else◌}
 use Rattle.wl_level.specs.declared.Level.{Level}
 use Rattle.wl_level.specs.declared.Level.TheVariants.{Dominant, Recessive}
-use Rattle.wl_segments.specs.declared.SyncSeg.{SyncSeg}
 use Rattle.wl_segments.specs.declared.SyncSeg.TheVariants.{After, Inside}
 use Rattle.wl_segments.specs.Lengths.{Lengths}
 use Rattle.wl_sync.specs.declared.Sync.{Sync}

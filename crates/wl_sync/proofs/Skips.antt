@@ -155,11 +155,11 @@ module _ (r : Running) (x : Seen) (is : GoesOn r x) where
 
 -- so many quanta more are no sample, and the first finds no edge
 pub record AreFree (r : Running) (level : Level) (n : ℕ) : Type 0 where
-  lengths : AreLengths r.lengths
-  shorter : r.shorter ≤ r.lengths.ps2
-  inside : r.quanta ≤ end_of r
-  no_edge : finds_edge r level ≡ false
-  apart : (r.quanta + n ≤ moved_place r) ⊎ ((moved_place r < r.quanta) × (r.quanta + n ≤ end_of r + sample_at r.lengths))
+  pub lengths : AreLengths r.lengths
+  pub shorter : r.shorter ≤ r.lengths.ps2
+  pub inside : r.quanta ≤ end_of r
+  pub no_edge : finds_edge r level ≡ false
+  pub apart : (r.quanta + n ≤ moved_place r) ⊎ ((moved_place r < r.quanta) × (r.quanta + n ≤ end_of r + sample_at r.lengths))
 
 same_twice : (level : Level) → (is_dominant level && not (is_dominant level)) ≡ false
 same_twice level = go (is_dominant level)
@@ -250,7 +250,7 @@ module _ (r : Running) (x : Seen) (m : ℕ) (are : AreFree r x.level (suc m)) wh
     ]
   ]
 
-snoc : (past : List Seen) (x : Seen) (n : ℕ) → past ++ replicate (suc n) x ≡ (past ++ replicate n x) ++ x ∷ []
+pub snoc : (past : List Seen) (x : Seen) (n : ℕ) → past ++ replicate (suc n) x ≡ (past ++ replicate n x) ++ x ∷ []
 snoc past x n =
     ap (λ k. past ++ replicate k x) (sym (add-one n))
     ∙ ap (λ more. past ++ more) (sym (replicate_more n x)) ∙ sym (append_assoc past (replicate n x) (x ∷ []))

@@ -1,5 +1,5 @@
 -- The way to the sample, by what a bit clock keeps.
-use Rattle.std.proofs.Common.{◌≡◌, ◌≢◌, ℕ, suc, ◌+◌, ◌-◌, ◌<◌, ◌≤◌, ◌∙◌, List, [], ◌∷◌, ◌++◌, Bool, true, false, cond, ◌&&◌, Option, Some, None, refl, sym, ap, subst, arith, min, ◌||◌, not, ◌⊎◌, inl, inr}
+use Rattle.std.proofs.Common.{◌≡◌, ◌≢◌, ℕ, suc, ◌+◌, ◌-◌, ◌<◌, ◌≤◌, ◌∙◌, List, [], ◌∷◌, ◌++◌, Bool, true, false, cond, ◌&&◌, Option, Some, None, refl, sym, ap, subst, arith, min, ◌||◌, not}
 use Rattle.std.specs.Prelude.{fold, ◌==◌, nat_lt, nat_le}
 use Rattle.std.proofs.lemmas.Bool.{ltb-true, leb-true, leb-false, eqb-true, eqb-false, le-leb, lt-leb, lt-ltb, and_parts, not-true, or_parts, cond_both}
 use Rattle.wl_level.specs.declared.Level.{Level}
@@ -10,7 +10,7 @@ use Rattle.wl_sync.specs.declared.Beat.TheVariants.{Plain, Sample, Start}
 use Rattle.wl_sync.specs.Edges.{Seen, longer_by}
 use Rattle.wl_sync.specs.Bits.{quanta_up_to, bit_after, beat_of, first_bit}
 use Rattle.wl_sync.specs.Running.{Running, running, clock_after}
-use Rattle.wl_sync.specs.Steps.{running_due, running_edge, running_edge_by, running_sync, running_restart, running_moved, running_first, running_over, running_placed, running_after, is_sampled, end_of}
+use Rattle.wl_sync.specs.Steps.{running_due, running_edge, running_edge_by, running_sync, running_restart, running_moved, running_over, running_placed, running_after, is_sampled, end_of}
 use Rattle.wl_sync.specs.SampleLaws.{quanta_to_sample}
 use Rattle.wl_sync.proofs.Cuts.{clock_next, beat_next, bit_next, running_at_first, first_is}
 

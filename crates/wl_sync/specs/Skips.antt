@@ -1,12 +1,13 @@
 -- Quanta of one level that a clock passes over at once: none of them samples a bit, and no edge synchronises one.
-use Rattle.std.specs.Prelude.{◌≡◌, ◌≢◌, ℕ, ◌+◌, ◌-◌, ◌<◌, ◌==◌, ◌&&◌, nat_le, not, Bool, List, ◌++◌, None, replicate, if◌then◌else◌}
+use Rattle.std.specs.Prelude.{◌≡◌, ◌≢◌, ℕ, suc, ◌+◌, ◌-◌, ◌<◌, ◌==◌, ◌&&◌, nat_le, not, Bool, false, List, ◌++◌, None, replicate, if◌then◌else◌}
 use Rattle.wl_level.specs.declared.Level.{Level}
+use Rattle.wl_level.specs.declared.Level.TheVariants.{Recessive}
 use Rattle.wl_level.specs.Levels.{is_dominant}
 use Rattle.wl_segments.specs.Lengths.{Lengths, sample_at}
 use Rattle.wl_sync.specs.declared.Beat.TheVariants.{Plain, Sample}
 use Rattle.wl_sync.specs.Edges.{Seen}
 use Rattle.wl_sync.specs.Bits.{beat_of, sync_of}
-use Rattle.wl_sync.specs.Running.{Running}
+use Rattle.wl_sync.specs.Running.{Running, clock_after}
 use Rattle.wl_sync.specs.Steps.{end_of}
 
 -- the place of the sample, as edges have moved it so far
@@ -42,3 +43,16 @@ IsUnsampled l past x n = (m : ℕ) (level : Level) → m < n → beat_of l (past
 -- and none is a sample or begins a bit
 abbrev pub IsPlain : Lengths → List Seen → Seen → ℕ → Type 0
 IsPlain l past x n = (m : ℕ) → m < n → beat_of l (past ++ replicate m x) x ≡ Plain
+
+-- right behind the recessive sample of a bit that nothing moved
+abbrev pub steady_clock : Lengths → Running
+steady_clock l = record { lengths = l; quanta = suc (sample_at l); longer = 0; shorter = 0; synced = false; level = Recessive; sample = Recessive }
+
+-- so many quanta more, each as x, are a bit that leaves what the clock keeps as it is: the last of them samples it recessive, no other is a sample, and no edge synchronises
+pub record IsRestingBit (l : Lengths) (past : List Seen) (x : Seen) (n : ℕ) : Type 0 where
+  pub last : ℕ
+  pub bit : n ≡ suc last
+  pub clock : clock_after l (past ++ replicate n x) ≡ clock_after l past
+  pub unmoved : IsUnmoved l past x n
+  pub unsampled : IsUnsampled l past x last
+  pub sampled : beat_of l (past ++ replicate last x) x ≡ Sample Recessive

@@ -7,7 +7,7 @@
 //! project's profile. Whether an edge lies in the quantum that finds it, or in the one before, is said by the segments.
 #![tactic(auto)]
 
-ghost use Rattle.std.specs.Prelude.{◌≡◌, suc, ◌+◌, ◌-◌, ◌<◌, ◌≤◌, replicate, ◌==◌, ◌&&◌, true, false, List, [], ◌∷◌, ◌++◌, Some, if◌then◌else◌};
+ghost use Rattle.std.specs.Prelude.{◌≡◌, ℕ, suc, ◌+◌, ◌-◌, ◌<◌, ◌≤◌, replicate, ◌==◌, ◌&&◌, true, false, List, [], ◌∷◌, ◌++◌, Some, if◌then◌else◌};
 ghost use Rattle.wl_segments.specs.Lengths.{Lengths, AreLengths, sample_at, bit_quanta, found_at};
 
 mod laws;
@@ -90,7 +90,7 @@ impl BitClock {
     ghost use Rattle.wl_sync.specs.Edges.{Seen, seen_as, edge_restarts, longer_by, looks, phase_error, shorter_by};
     ghost use Rattle.wl_sync.specs.Bits.{beat_of, sync_of, before_sample, bit_of};
     ghost use Rattle.wl_sync.specs.Running.{clock_after, Follows};
-    ghost use Rattle.wl_sync.specs.Skips.{finds_edge, free_quanta, IsPlain, IsUnmoved, IsUnsampled};
+    ghost use Rattle.wl_sync.specs.Skips.{finds_edge, free_quanta, steady_clock, IsPlain, IsRestingBit, IsUnmoved, IsUnsampled};
     ghost use Rattle.wl_sync.specs.Steps.{IsBitClock, beat_between, end_of, is_inside, is_sampled, running_due, running_edge, running_moved, running_on, running_passed, running_sync};
 
     /// The bit clock before the first quantum: a bit begins with it, or where that finds an edge with the edge, and the line was recessive.
@@ -168,6 +168,32 @@ impl BitClock {
         } else {
             rest
         }
+    }
+
+    /// The quanta of a bit, where as many recessive ones would leave what the clock keeps as it is: the last of them samples the bit, and
+    /// nothing else comes of them. So it is right behind the recessive sample of a bit that nothing moved; None elsewhere.
+    pub fn resting_bit(&self) -> Option<u8>
+        ensures some { (n : ℕ) → result ≡ Some n → 0 < n }
+        ensures rests { (n : ℕ) → result ≡ Some n → Follows self.now (λ l past. (x : Seen) → x.level ≡ Level.Recessive
+            → IsRestingBit l past x n) }
+    {
+        if self.is_steady() {
+            Some(self.bit_quanta())
+        } else {
+            None
+        }
+    }
+
+    /// The last quantum was the recessive sample of a bit that nothing moved.
+    fn is_steady(&self) -> bool
+        ensures { result ≡ true → self.now ≡ steady_clock self.now.lengths }
+    {
+        !self.synced
+            && self.quanta == self.sample_at() + 1
+            && self.longer == 0
+            && self.shorter == 0
+            && !self.level.is_dominant()
+            && !self.sample.is_dominant()
     }
 
     /// So many quanta of this level at once: no more than [`BitClock::free_quanta`] says with `starts`, so that none of them is a sample,
@@ -493,6 +519,9 @@ mod tests {
         assert_eq!(rt; clock.free_quanta(Level::Recessive, true), 9);
         clock.skip(Level::Recessive, 9);
         assert_eq!(rt; clock.before_sample(), Some(1));
+        assert_eq!(rt; clock.resting_bit(), None);
+        let _ = clock.step(Level::Recessive, false, false);
+        assert_eq!(rt; clock.resting_bit(), Some(10));
         the_sample_comes_near();
         Ok(())
     }

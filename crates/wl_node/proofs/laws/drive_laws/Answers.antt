@@ -9,7 +9,7 @@ returns c =
     let silences : SilenceLaws = c.a_silence_is_kept.ensures in
     record {
       settled = settled ways;
-      quiet = quiet silences ways;
+      quiet = λ setup. quiet silences ways setup c.a_sent_frame_is_the_head_that_began_its_stretch.ensures;
       floor = floor ways;
       most = most ways;
       few_changes = few_changes c.place_laws.ensures.counted_below ways;

@@ -1,9 +1,9 @@
-use Rattle.std.proofs.Common.{◌≡◌, ◌∙◌, ◌&&◌, true, false, cond, Some, None, refl, ap, sym}
+use Rattle.std.proofs.Common.{◌≡◌, ◌∙◌, ◌&&◌, cond, Some, None, refl, ap, sym}
 use Rattle.std.proofs.lemmas.Bool.{and_parts, not-true}
 use Rattle.wl_sync.specs.declared.Sync.TheVariants.{Hard, Error}
 use Rattle.wl_sync.specs.Edges.{Seen, seen_as, edge_restarts, phase_error}
 use Rattle.wl_sync.specs.Running.{Running}
-use Rattle.wl_sync.specs.Steps.{running_sync, running_restart, running_passed, running_placed, running_beat, running_answer, running_edge, running_after, beat_between}
+use Rattle.wl_sync.specs.Steps.{running_restart, running_passed, running_placed, running_beat, running_answer, running_edge, running_after, beat_between}
 use Rattle.wl_sync.proofs.Cuts.{clock_next, beat_next, sync_next}
 use Rattle.wl_sync.proofs.BitClock.look.Goals as goal
 use Rattle.wl_sync.proofs.BitClock.look.Goals.{then-counts, else-counts}

@@ -1,5 +1,4 @@
 use Rattle.std.proofs.Common.{◌≡◌, ◌∙◌, ◌++◌, ap, sym, subst, arith, append-nil, replicate}
-use Rattle.wl_level.specs.declared.Level.{Level}
 use Rattle.wl_node.specs.Kept.{IsProgress}
 use Rattle.wl_node.proofs.progress.Progress.pass.Goals as goal
 

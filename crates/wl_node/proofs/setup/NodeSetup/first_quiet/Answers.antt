@@ -1,23 +1,31 @@
-use Rattle.std.proofs.Common.{◌≡◌, ◌∙◌, suc, ◌+◌, ap, sym, arith, min, [], true}
+use Rattle.std.proofs.Common.{◌≡◌, ◌∙◌, suc, ◌+◌, ap, sym, refl, arith, min, [], ℕ, false, true}
 use Rattle.wl_segments.specs.Lengths.{least_way}
-use Rattle.wl_node.specs.History.{history_of}
+use Rattle.wl_node.specs.declared.setup.NodeSetup.{NodeSetup}
+use Rattle.wl_node.specs.History.{history_of, no_history}
 use Rattle.wl_node.specs.Limits.{most_quiet}
-use Rattle.wl_node.specs.Quiet.{floor_by, floor_and_silence, quiet_of}
+use Rattle.wl_node.specs.Quiet.{floor_by, floor_and_silence, is_waiting, promise_by, quiet_of}
 use Rattle.wl_node.proofs.setup.NodeSetup.first_quiet.Goals as goal
 
+-- a node that has run nothing promises the same whether it may be handed a head or not
+both : (setup : NodeSetup) (longer least : ℕ) → longer ≡ promise_by false setup no_history → least ≡ min longer most_quiet → least ≡ quiet_of setup []
+unfolding quiet_of history_of
+both setup longer least e f =
+    let g : promise_by (is_waiting setup no_history) setup no_history ≡ promise_by false setup no_history = refl in
+    omega arith
+
 pub returns-clause-value : goal.returns-clause-value
-unfolding quiet_of history_of most_quiet
+unfolding most_quiet
 returns-clause-value c =
     let place : c.least_way-place.result ≡ least_way c.args.self.now.segments = c.least_way-place.ensures.way in
     let start : c.least_way-place.result + 1 ≡ suc (least_way c.args.self.now.segments) = omega arith in
     let silence : c.silence-silence.result ≡ 10 = c.silence-silence.ensures [] c.new.ensures in
-    c.min.ensures
-    ∙ ap (λ n. min n most_quiet)
-    (c.longer.ensures ∙ ap (λ n. floor_and_silence n c.silence-silence.result c.least_way-place.result) start
+    let promise : c.longer.result ≡ promise_by false c.args.self.now no_history =
+    c.longer.ensures ∙ ap (λ n. floor_and_silence n c.silence-silence.result c.least_way-place.result) start
     ∙ ap (λ n. floor_and_silence (suc (least_way c.args.self.now.segments)) n c.least_way-place.result) silence
     ∙ ap (floor_and_silence (suc (least_way c.args.self.now.segments)) 10) place
     ∙ ap (λ o. floor_and_silence (floor_by o true (least_way c.args.self.now.segments)) 10 (least_way c.args.self.now.segments))
-    (sym (c.the_sample_comes_near.ensures.at_first c.args.self.now.segments c.least_way-place.ensures.lengths)))
+    (sym (c.the_sample_comes_near.ensures.at_first c.args.self.now.segments c.least_way-place.ensures.lengths)) in
+    both c.args.self.now c.longer.result c.min.result promise c.min.ensures
 
 pub returns-clause-most : goal.returns-clause-most
 unfolding most_quiet
