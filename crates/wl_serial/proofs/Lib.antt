@@ -1,5 +1,6 @@
 mod Counts
 mod Found
+mod Hearing
 mod Rows
 mod Runners
 mod Steps

@@ -12,7 +12,7 @@ use Rattle.wl_serial.specs.declared.outcome.NodeOutcome.{NodeOutcome}
 use Rattle.wl_serial.specs.declared.ear.Ear.{Ear}
 use Rattle.wl_serial.specs.Heard.{IsEar, AreEars}
 use Rattle.wl_serial.specs.Outcome.{node_outcome_of}
-use Rattle.wl_serial.specs.Running.{IsRunning, AreRunning, KnowsOthers, IsNext, NoneBefore, ticks_left}
+use Rattle.wl_serial.specs.Running.{IsRunning, AreRunning, KnowsOthers, AllKnown, IsNext, ticks_left}
 
 -- one more that runs, after the others
 get_or_before : (xs : List Running) (x d : Running) (j : ℕ) → j < length xs → get_or (xs ++ x ∷ []) j d ≡ get_or xs j d
@@ -96,71 +96,53 @@ same_left end [] j r d same = omega arith
 same_left end (x ∷ xs) zero r d same = omega (arith, same)
 same_left end (x ∷ xs) (suc j) r d same = (let f = same_left end xs j r d same in omega (arith, f))
 
--- Of the first i nodes: those that have a quantum before the end are known up to this tick at least, and the one that was picked, if there is such a one,
--- has its next quantum no later.
+-- Of the first i nodes: they are known up to this tick at least, which is no later than the end, and the one that was picked, if there is such a one, no further.
 abbrev pub IsLeast : ℕ → List Running → ℕ → ℕ → Option ℕ → Type 0
 IsLeast end rs i least node =
-    ((k : ℕ) (d : Running) → k < i → (get_or rs k d).next < end → least ≤ (get_or rs k d).known)
-    × MatchOption node (((k : ℕ) (d : Running) → k < i → end ≤ (get_or rs k d).next) × (least ≡ end))
-    (λ j. (j < i) × ((d : Running) → (get_or rs j d).next < end) × ((d : Running) → (get_or rs j d).next ≤ least))
+    ((k : ℕ) (d : Running) → k < i → least ≤ (get_or rs k d).known)
+    × MatchOption node (least ≡ end) (λ j. (j < i) × (least < end) × ((d : Running) → (get_or rs j d).known ≡ least))
 
 pub at_place : (rs : List Running) (i : ℕ) (r d : Running) → i < length rs → r ≡ get_or rs i r → get_or rs i d ≡ r
 at_place rs i r d b is = get_or_default rs i d r b ∙ sym is
 
-pub pick : (end : ℕ) (rs : List Running) (i least known : ℕ) (picked : Option ℕ) (r : Running) → i < length rs → r ≡ get_or rs i r → IsLeast end rs i least picked
-    → r.next < end → r.next ≤ known → known ≤ r.known → known ≤ least → IsLeast end rs (i + 1) known (Some i)
-pick end rs i least known picked r b is so_far before promised told less = (each, (omega arith, (λ d. subst (λ x. x.next < end) (sym (at_place rs i r d b is)) before), (λ d. subst (λ x. x.next ≤ known) (sym (at_place rs i r d b is)) promised)))
+pub pick : (end : ℕ) (rs : List Running) (i least : ℕ) (picked : Option ℕ) (r : Running) → i < length rs → r ≡ get_or rs i r → least ≤ end → IsLeast end rs i least picked
+    → r.known < least → IsLeast end rs (i + 1) r.known (Some i)
+pick end rs i least picked r b is few so_far less = (each, (omega arith, omega (arith, few, less), (λ d. ap (λ x. x.known) (at_place rs i r d b is))))
   where
-    each : (k : ℕ) (d : Running) → k < i + 1 → (get_or rs k d).next < end → known ≤ (get_or rs k d).known
-    each k d c early = elim (cases_lt k i) [
-      | inl below ↦ (let f = so_far.0 k d below early in omega (arith, f, less))
-      | inr here ↦ (let same : i ≡ k = omega (arith, here, c) in subst (λ n. known ≤ (get_or rs n d).known) same (subst (λ x. known ≤ x.known) (sym (at_place rs i r d b is)) told))
+    each : (k : ℕ) (d : Running) → k < i + 1 → r.known ≤ (get_or rs k d).known
+    each k d c = elim (cases_lt k i) [
+      | inl below ↦ (let f = so_far.0 k d below in omega (arith, f, less))
+      | inr here ↦ (let same : i ≡ k = omega (arith, here, c) in let e = ap (λ x. x.known) (at_place rs i r d b is) in
+          subst (λ n. r.known ≤ (get_or rs n d).known) same (omega (arith, e)))
     ]
 
-pub keep : (end : ℕ) (rs : List Running) (i least known : ℕ) (picked : Option ℕ) (r : Running) → i < length rs → r ≡ get_or rs i r → IsLeast end rs i least picked
-    → known ≤ r.known → known ≤ end → (end ≤ r.next) ⊎ (least < known) → IsLeast end rs (i + 1) least picked
-keep end rs i least known picked r b is so_far told few passed = (each, one picked so_far.1)
+pub keep : (end : ℕ) (rs : List Running) (i least : ℕ) (picked : Option ℕ) (r : Running) → i < length rs → r ≡ get_or rs i r → IsLeast end rs i least picked
+    → least ≤ r.known → IsLeast end rs (i + 1) least picked
+keep end rs i least picked r b is so_far more = (each, one picked so_far.1)
   where
-    each : (k : ℕ) (d : Running) → k < i + 1 → (get_or rs k d).next < end → least ≤ (get_or rs k d).known
-    each k d c early = elim (cases_lt k i) [
-      | inl below ↦ so_far.0 k d below early
-      | inr here ↦ (let same : k ≡ i = omega (arith, here, c) in let e : get_or rs k d ≡ r = ap (λ n. get_or rs n d) same ∙ at_place rs i r d b is in
-          let f : r.next < end = subst (λ x. x.next < end) e early in
-          subst (λ x. least ≤ x.known) (sym e) (elim passed [
-            | inl past ↦ absurd (omega (arith, past, f))
-            | inr more ↦ omega (arith, more, told)
-          ]))
+    each : (k : ℕ) (d : Running) → k < i + 1 → least ≤ (get_or rs k d).known
+    each k d c = elim (cases_lt k i) [
+      | inl below ↦ so_far.0 k d below
+      | inr here ↦ (let same : i ≡ k = omega (arith, here, c) in let e = ap (λ x. x.known) (at_place rs i r d b is) in
+          subst (λ n. least ≤ (get_or rs n d).known) same (omega (arith, e, more)))
     ]
 
-    none : ((k : ℕ) (d : Running) → k < i → end ≤ (get_or rs k d).next) → least ≡ end → (k : ℕ) (d : Running) → k < i + 1 → end ≤ (get_or rs k d).next
-    none ended all k d c = elim (cases_lt k i) [
-      | inl below ↦ ended k d below
-      | inr here ↦ (let same : k ≡ i = omega (arith, here, c) in let e : get_or rs k d ≡ r = ap (λ n. get_or rs n d) same ∙ at_place rs i r d b is in
-          subst (λ x. end ≤ x.next) (sym e) (elim passed [
-            | inl past ↦ past
-            | inr more ↦ absurd (omega (arith, more, few, all))
-          ]))
-    ]
-
-    one : (n : Option ℕ) → MatchOption n (((k : ℕ) (d : Running) → k < i → end ≤ (get_or rs k d).next) × (least ≡ end))
-        (λ j. (j < i) × ((d : Running) → (get_or rs j d).next < end) × ((d : Running) → (get_or rs j d).next ≤ least))
-        → MatchOption n (((k : ℕ) (d : Running) → k < i + 1 → end ≤ (get_or rs k d).next) × (least ≡ end))
-        (λ j. (j < i + 1) × ((d : Running) → (get_or rs j d).next < end) × ((d : Running) → (get_or rs j d).next ≤ least))
-    one None h = (none h.0 h.1, h.1)
+    one : (n : Option ℕ) → MatchOption n (least ≡ end) (λ j. (j < i) × (least < end) × ((d : Running) → (get_or rs j d).known ≡ least))
+        → MatchOption n (least ≡ end) (λ j. (j < i + 1) × (least < end) × ((d : Running) → (get_or rs j d).known ≡ least))
+    one None h = h
     one (Some j) h = (let c = h.0 in (omega (arith, c), h.1, h.2))
 
--- all others are known up to its next quantum
+-- the others are known as far, and its next quantum is not behind that
 pub least_is_next : (plan : Plan) (rs : List Running) (i least : ℕ) (node : Option ℕ) → AreRunning plan rs → i ≡ length rs → IsLeast plan.end rs i least node
-    → MatchOption node (NoneBefore plan.end rs) (IsNext plan.end rs)
-least_is_next plan rs i least None running all found = λ k d b. found.1.0 k d (omega (arith, all, b))
-least_is_next plan rs i least (Some j) running all found = record {
-  is_node = (let b = found.1.0 in omega (arith, all, b));
-  before = found.1.1;
-  first = λ d k e b. elim (cases_lt (get_or rs k e).next plan.end) [
-    | inl early ↦ (let f = found.0 k e (omega (arith, all, b)) early in let g = found.1.2 d in omega (arith, f, g))
-    | inr late ↦ (let f = found.1.1 d in let p = (running.each k e b).1.promised in omega (arith, f, p, late))
-  ];
-}
+    → MatchOption node (AllKnown plan.end rs) (IsNext plan.end rs)
+least_is_next plan rs i least None running all found = λ k d b. (let f = found.0 k d (omega (arith, all, b)) in let e = found.1 in omega (arith, f, e))
+least_is_next plan rs i least (Some j) running all found =
+    let there : j < length rs = (let b = found.1.0 in omega (arith, all, b)) in
+    record {
+      is_node = there;
+      before = λ d. let p = (running.each j d there).1.promised in let e = found.1.2 d in let f = found.1.1 in omega (arith, p, e, f);
+      first = λ d k e b. let p = (running.each j d there).1.promised in let same = found.1.2 d in let f = found.0 k e (omega (arith, all, b)) in omega (arith, p, same, f);
+    }
 
 -- one ear anew
 pub ear_on : (plan : Plan) (j : ℕ) (es : List Ear) (e : Ear) → j < length es → AreEars plan es → IsEar plan j e → AreEars plan (set es j e)

@@ -1,5 +1,5 @@
 -- What a place hears, and for how long it stays so. This project's profile.
-use Rattle.std.specs.Prelude.{◌≡◌, ℕ, ◌+◌, ◌-◌, ◌<◌, ◌≤◌, ◌&&◌, Bool, List, length, nat_le, slice_index_or}
+use Rattle.std.specs.Prelude.{◌≡◌, ℕ, ◌+◌, ◌-◌, ◌<◌, ◌≤◌, ◌&&◌, Bool, List, [], ◌∷◌, ◌++◌, length, nat_le, slice_index_or}
 use Rattle.wl_level.specs.declared.Level.{Level}
 use Rattle.wl_record_core.specs.Truth.{count_below, odd}
 use Rattle.wl_topology.specs.Delays.{delay_of}
@@ -47,6 +47,22 @@ OwnIsTold plan j changes t = comes plan j j t ≡ drove changes (delay_of plan.t
 -- from tick t on and below another one the disturbance neither comes to place j nor is over there
 abbrev pub IsStill : Plan → ℕ → ℕ → ℕ → Disturbance → Type 0
 IsStill plan j t until d = (u : ℕ) → t ≤ u → u < until → is_at plan j u d ≡ is_at plan j t d
+
+-- whether the changes of node i tell that it drives dominant at tick u
+abbrev pub tells : List Running → Running → ℕ → ℕ → Bool
+tells rs d i u = odd (count_below (u + 1) (slice_index_or rs i d).changes)
+
+-- At each tick of the pulse, the changes that the nodes have told make it at place j as the pulse says.
+abbrev pub IsHeard : Plan → List Running → ℕ → Pulse → Type 0
+IsHeard plan rs j p = (d : Running) (t : ℕ) → p.from ≤ t → t < p.until → driven (length plan.nodes) (delay_of plan.topology) (tells rs d) j t ≡ p.dominant
+
+-- at each place
+abbrev pub AreHeard : Plan → List Running → List Ear → Type 0
+AreHeard plan rs ears = (j : ℕ) (d : Ear) → j < length ears → IsHeard plan rs j (slice_index_or ears j d).heard
+
+-- node i has told one change more, at this tick
+abbrev pub HasChanged : ℕ → ℕ → List Running → Running → Type 0
+HasChanged i tick rs r = (d : Running) → r.changes ≡ (slice_index_or rs i d).changes ++ tick ∷ []
 
 -- Node j finds this level at each tick from one on and below another one, as long as these changes tell its own drive.
 abbrev pub StaysWhile : Plan → ℕ → List ℕ → ℕ → ℕ → Level → Type 0

@@ -1,5 +1,5 @@
 -- Where each node of a plan is while the engine goes from quantum to quantum.
-use Rattle.std.specs.Prelude.{◌≡◌, ℕ, ◌+◌, ◌-◌, ◌<◌, ◌≤◌, ◌≢◌, List, [], ◌∷◌, length, slice_index_or, take}
+use Rattle.std.specs.Prelude.{◌≡◌, ℕ, ◌+◌, ◌-◌, ◌<◌, ◌≤◌, ◌≢◌, Option, Some, None, List, [], ◌∷◌, ◌++◌, length, slice_index_or, take}
 use Rattle.wl_level.specs.declared.Level.{Level}
 use Rattle.wl_level.specs.Levels.{level_of}
 use Rattle.wl_topology.specs.Delays.{delay_of}
@@ -29,6 +29,11 @@ pub record HasRun (plan : Plan) (i : ℕ) (r : Running) (k : ℕ) : Type 0 where
 -- some number of quanta
 abbrev pub IsRunning : Plan → ℕ → Running → Type 0
 IsRunning plan i r = (k : ℕ) × HasRun plan i r k
+
+-- changes, and one more where there is one
+abbrev pub one_more : List ℕ → Option ℕ → List ℕ
+one_more changes None = changes
+one_more changes (Some tick) = changes ++ tick ∷ []
 
 -- each node of a plan
 pub record AreRunning (plan : Plan) (rs : List Running) : Type 0 where

@@ -1,8 +1,8 @@
 //! What a node finds on the line, and for how long, by how far the nodes have run.
-ghost use Rattle.std.specs.Prelude.{◌≡◌, ℕ, ◌<◌, ◌≤◌, ◌||◌, IfOk, length};
+ghost use Rattle.std.specs.Prelude.{◌≡◌, ℕ, ◌+◌, ◌<◌, ◌≤◌, ◌^◌, ◌||◌, IfOk, List, length, set, slice_index_or};
 ghost use Rattle.wl_level.specs.Levels.{level_of};
 ghost use Rattle.wl_plan.specs.Checked.{IsChecked};
-ghost use Rattle.wl_serial.specs.Heard.{AreMade, AreDelays, IsEar, IsFound};
+ghost use Rattle.wl_serial.specs.Heard.{AreMade, AreDelays, IsEar, AreEars, IsFound, IsHeard, AreHeard, HasChanged};
 ghost use Rattle.wl_serial.specs.Running.{AreRunning, KnowsOthers, RunsBelow, AllKnown};
 
 use crate::pulse::{Pulse, SILENCE, pulse_of};
@@ -16,12 +16,14 @@ use wl_topology::MOST_NODES;
 /// For each node, how many of its changes had come when they were last asked for. It speeds up the next time, and decides nothing.
 pub(crate) type Come = [usize; MOST_NODES];
 
-/// What a place keeps of the line: the delay from each node, what has come from it, and what the disturbances make.
+/// What a place keeps of the line: the delay from each node, what has come from it, what the disturbances make, and what the nodes make
+/// by the changes that they have told.
 #[derive(Drop)]
 pub(crate) struct Ear {
     pub(crate) delays: Vec<u64>,
     pub(crate) come: Come,
     pub(crate) shaken: Pulse,
+    pub(crate) heard: Pulse,
 }
 
 /// The level that a node finds below a tick.
@@ -36,7 +38,8 @@ impl Ear {
     pub(crate) fn new(alloc: Global, plan: &Plan, j: usize) -> Result<Ear, AllocError>
         requires checked { IsChecked plan.now }
         requires node { j < length plan.now.nodes }
-        ensures { IfOk result (IsEar plan.now j) }
+        ensures ear { IfOk result (IsEar plan.now j) }
+        ensures nothing { IfOk result (λ ear. ear.heard.until ≡ 0) }
     {
         let mut delays = Vec::new(alloc);
         for i in 0..plan.nodes.len() {
@@ -46,6 +49,7 @@ impl Ear {
             delays,
             come: [0; MOST_NODES],
             shaken: SILENCE,
+            heard: SILENCE,
         })
     }
 
@@ -78,12 +82,15 @@ impl Ear {
         requires known { KnowsOthers plan.now j horizon running.now }
         requires ends { horizon ≤ plan.now.end }
         requires below { RunsBelow horizon running.now j }
+        requires heard { IsHeard plan.now running.now j self.old.heard }
         ensures ear { IsEar plan.now j self.new }
+        ensures heard { IsHeard plan.now running.now j self.new.heard }
         ensures few { result.until ≤ horizon }
         ensures found { IsFound plan.now j running.now result }
     {
         let t = running[j].next;
-        let nodes = hear_nodes(plan, running, &self.delays, &mut self.come, j, t, horizon);
+        self.hear_anew(plan, running, j, t);
+        let nodes = below_horizon(plan, running, &self.heard, j, t, horizon);
         if t < self.shaken.from || self.shaken.until <= t {
             self.shaken = shaken_at(plan, j, t);
         }
@@ -91,6 +98,53 @@ impl Ear {
             until: nodes.until.min(self.shaken.until),
             level: level_by(nodes.dominant, self.shaken.dominant),
         }
+    }
+
+    /// Asks what comes from the nodes, where what was heard of them last doesn't tell it for tick `t`.
+    fn hear_anew(&mut self, plan: &Plan, running: &[Running], j: usize, t: u64)
+        requires checked { IsChecked plan.now }
+        requires node { j < length plan.now.nodes }
+        requires running { AreRunning plan.now running.now }
+        requires early { t < 2 ^ 63 }
+        requires ear { IsEar plan.now j self.old }
+        requires heard { IsHeard plan.now running.now j self.old.heard }
+        ensures ear { IsEar plan.now j self.new }
+        ensures heard { IsHeard plan.now running.now j self.new.heard }
+        ensures from { self.new.heard.from ≤ t }
+        ensures until { t < self.new.heard.until }
+        ensures shaken { self.new.shaken ≡ self.old.shaken }
+    {
+        if t < self.heard.from || self.heard.until <= t {
+            self.heard = hear_nodes(plan, running, &self.delays, &mut self.come, j, t);
+        }
+    }
+
+    /// Notes that a change of node `i` at this tick will come.
+    fn expect(&mut self, i: usize, tick: u64)
+        requires node { i < length self.old.delays.items }
+        ensures delays { self.new.delays ≡ self.old.delays }
+        ensures shaken { self.new.shaken ≡ self.old.shaken }
+        ensures from { self.new.heard.from ≡ self.old.heard.from }
+        ensures few { self.new.heard.until ≤ self.old.heard.until }
+        ensures comes { self.new.heard.until ≤ tick + slice_index_or self.old.delays.items i 0 }
+        ensures dominant { self.new.heard.dominant ≡ self.old.heard.dominant }
+    {
+        let comes = tick.saturating_add(self.delays[i]);
+        self.heard.until = self.heard.until.min(comes);
+    }
+}
+
+/// Tells the ears that node `i` changed its drive at this tick.
+pub(crate) fn tell(plan: &Plan, ears: &mut [Ear], i: usize, tick: u64)
+    requires ears { AreEars plan.now ears.old }
+    requires node { i < length plan.now.nodes }
+    ensures ears { AreEars plan.now ears.new }
+    ensures heard { (rs : List Running) (r : Running) → i < length rs → AreHeard plan.now rs ears.old → HasChanged i tick rs r
+        → AreHeard plan.now (set rs i r) ears.new }
+{
+    wl_record_core::table_laws();
+    for m in 0..ears.len() {
+        ears[m].expect(i, tick);
     }
 }
 
@@ -104,12 +158,11 @@ fn level_by(driven: bool, disturbed: bool) -> Level
     Level::Recessive
 }
 
-/// Whether some node drives dominant at place `j`, from tick `t` on, as long as the drive of its own node stays.
-fn hear_nodes(
+/// What the nodes make at place `j` from tick `t` on and below the horizon, as long as the drive of its own node stays.
+fn below_horizon(
     plan: &Plan,
     running: &[Running],
-    delays: &[u64],
-    come: &mut Come,
+    heard: &Pulse,
     j: usize,
     t: u64,
     horizon: u64,
@@ -117,10 +170,11 @@ fn hear_nodes(
     requires checked { IsChecked plan.now }
     requires node { j < length plan.now.nodes }
     requires running { AreRunning plan.now running.now }
-    requires delays { AreDelays plan.now j delays.now }
     requires known { KnowsOthers plan.now j horizon running.now }
-    requires ends { horizon ≤ plan.now.end }
     requires below { t < horizon }
+    requires heard { IsHeard plan.now running.now j heard.now }
+    requires from { heard.now.from ≤ t }
+    requires until { t < heard.now.until }
     ensures from { result.from ≡ t }
     ensures until { t < result.until }
     ensures few { result.until ≤ horizon }
@@ -129,7 +183,35 @@ fn hear_nodes(
     wl_plan::checked_is_sound();
     wl_plan::simulation_laws();
     wl_record_core::table_laws();
-    let mut until = horizon;
+    Pulse {
+        from: t,
+        until: heard.until.min(horizon),
+        dominant: heard.dominant,
+    }
+}
+
+/// Whether the changes of some node tell that it drives dominant at place `j`, from tick `t` on.
+fn hear_nodes(
+    plan: &Plan,
+    running: &[Running],
+    delays: &[u64],
+    come: &mut Come,
+    j: usize,
+    t: u64,
+) -> Pulse
+    requires checked { IsChecked plan.now }
+    requires node { j < length plan.now.nodes }
+    requires running { AreRunning plan.now running.now }
+    requires delays { AreDelays plan.now j delays.now }
+    requires early { t < 2 ^ 63 }
+    ensures from { result.from ≡ t }
+    ensures until { t < result.until }
+    ensures heard { IsHeard plan.now running.now j result }
+{
+    wl_plan::checked_is_sound();
+    wl_plan::simulation_laws();
+    wl_record_core::table_laws();
+    let mut until = u64::MAX;
     let mut dominant = false;
     for i in 0..running.len() {
         let one = pulse_of(running[i].changes.as_slice(), delays[i], t, &mut come[i]);

@@ -3,8 +3,8 @@ ghost use Rattle.std.specs.Prelude.{◌≡◌, ◌<◌, ◌≤◌, IfOk, OnOk, M
 ghost use Rattle.std.specs.List.{range_with_len};
 ghost use Rattle.wl_plan.specs.Checked.{IsChecked};
 ghost use Rattle.wl_serial.specs.Outcome.{node_outcome_of, outcome_of};
-ghost use Rattle.wl_serial.specs.Heard.{AreEars};
-ghost use Rattle.wl_serial.specs.Running.{AreRunning, NoneBefore, IsNext};
+ghost use Rattle.wl_serial.specs.Heard.{AreEars, AreHeard};
+ghost use Rattle.wl_serial.specs.Running.{AreRunning, AllKnown, NoneBefore, IsNext};
 
 use crate::ear::Ear;
 use crate::outcome::{NodeOutcomes, Outcome};
@@ -45,7 +45,8 @@ fn begin(alloc: Global, plan: &Plan) -> Result<Vec<Running>, AllocError>
 /// An ear at each place.
 fn listen(alloc: Global, plan: &Plan) -> Result<Vec<Ear>, AllocError>
     requires { IsChecked plan.now }
-    ensures { IfOk result (λ ears. AreEars plan.now ears.items) }
+    ensures ears { IfOk result (λ ears. AreEars plan.now ears.items) }
+    ensures heard { IfOk result (λ ears. (running : List Running) → AreHeard plan.now running ears.items) }
 {
     let mut ears = Vec::new(alloc);
     for j in 0..plan.nodes.len() {
@@ -59,11 +60,12 @@ fn run(plan: &Plan, running: &mut [Running], ears: &mut [Ear]) -> Result<(), All
     requires checked { IsChecked plan.now }
     requires running { AreRunning plan.now running.old }
     requires ears { AreEars plan.now ears.old }
+    requires heard { AreHeard plan.now running.old ears.old }
     ensures running { OnOk result (AreRunning plan.now running.new) }
     ensures ended { OnOk result (NoneBefore plan.now.end running.new) }
 {
     while let Some(j) = next_before(plan, running) {
-        turn(plan, running, &mut ears[j], j)?;
+        turn(plan, running, ears, j)?;
     }
     Ok(())
 }
@@ -73,16 +75,39 @@ fn next_before(plan: &Plan, running: &[Running]) -> Option<usize>
     requires { AreRunning plan.now running.now }
     ensures { MatchOption result (NoneBefore plan.now.end running.now) (IsNext plan.now.end running.now) }
 {
+    if let Some(j) = least_known(plan, running) {
+        return Some(j);
+    }
+    left_before(plan, running)
+}
+
+/// The node whose drive is known the least far, unless all are known up to the end.
+fn least_known(plan: &Plan, running: &[Running]) -> Option<usize>
+    requires { AreRunning plan.now running.now }
+    ensures { MatchOption result (AllKnown plan.now.end running.now) (IsNext plan.now.end running.now) }
+{
     let mut least = plan.end;
     let mut node = None;
     for (i, r) in running.iter().enumerate() {
-        let known = r.known.min(plan.end);
-        if r.next < plan.end && known <= least {
-            least = known;
+        if r.known < least {
+            least = r.known;
             node = Some(i);
         }
     }
     node
+}
+
+/// A node that has a quantum before the end, where all are known up to the end.
+fn left_before(plan: &Plan, running: &[Running]) -> Option<usize>
+    requires { AllKnown plan.now.end running.now }
+    ensures { MatchOption result (NoneBefore plan.now.end running.now) (IsNext plan.now.end running.now) }
+{
+    for (i, r) in running.iter().enumerate() {
+        if r.next < plan.end {
+            return Some(i);
+        }
+    }
+    None
 }
 
 /// What the nodes did, where all have run to the end.

@@ -6,7 +6,7 @@ ghost use Rattle.wl_plan.specs.Checked.{IsChecked};
 ghost use Rattle.wl_plan.specs.declared.plan.Plan.{Plan as GivenPlan};
 ghost use Rattle.wl_serial.specs.Outcome.{node_outcome_of};
 ghost use Rattle.wl_serial.specs.Heard.{StaysWhile};
-ghost use Rattle.wl_serial.specs.Running.{IsRunning};
+ghost use Rattle.wl_serial.specs.Running.{IsRunning, one_more};
 
 use crate::outcome::{Changes, NodeOutcome};
 use std::alloc::{AllocError, Global};
@@ -44,13 +44,14 @@ impl Running {
     }
 
     /// Runs the quanta below tick `until`, at which the node finds this level as long as its drive stays, up to the first that changes the drive.
+    /// Answers the tick of that one, if there is one.
     pub(crate) fn go(
         &mut self,
         plan: &Plan,
         i: usize,
         level: Level,
         until: u64,
-    ) -> Result<(), AllocError>
+    ) -> Result<Option<u64>, AllocError>
         requires checked { IsChecked plan.now }
         requires node { i < length plan.now.nodes }
         requires running { IsRunning plan.now i self.old }
@@ -58,6 +59,7 @@ impl Running {
         requires ends { until ≤ plan.now.end }
         requires found { StaysWhile plan.now i self.old.changes self.old.next until level }
         ensures running { OnOk result (IsRunning plan.now i self.new) }
+        ensures told { IfOk result (λ change. self.new.changes ≡ one_more self.old.changes change) }
         ensures later { OnOk result (self.old.next < self.new.next) }
     {
         wl_plan::checked_is_sound();
@@ -69,10 +71,10 @@ impl Running {
         let most = clock.first_not_before(until) - quanta;
         let last = quanta + self.node.go(level, most)? - 1;
         let after = self.node.drive();
-        keep_change(&mut self.changes, clock, last, before, after)?;
+        let change = keep_change(&mut self.changes, clock, last, before, after)?;
         self.next = clock.at(last + 1);
         self.known = self.known.max(self.next);
-        Ok(())
+        Ok(change)
     }
 
     /// Tells up to when the drive is known, whatever the node sees.
@@ -82,6 +84,7 @@ impl Running {
         requires running { IsRunning plan.now i self.old }
         ensures running { IsRunning plan.now i self.new }
         ensures next { self.new.next ≡ self.old.next }
+        ensures changes { self.new.changes ≡ self.old.changes }
     {
         wl_plan::checked_is_sound();
         wl_plan::simulation_laws();
@@ -114,20 +117,23 @@ impl Running {
     }
 }
 
-/// The tick of a quantum more, where it changed the drive.
+/// The tick of a quantum more, where it changed the drive. Answers that tick.
 fn keep_change(
     changes: &mut Changes,
     clock: &Clock,
     quantum: u64,
     before: Level,
     after: Level,
-) -> Result<(), AllocError>
+) -> Result<Option<u64>, AllocError>
     requires { quantum ≤ 2 ^ 21 }
-    ensures { OnOk result (changes.new
+    ensures kept { OnOk result (changes.new
         ≡ (if same after before then changes.old else changes.old ++ tick_of clock.now quantum ∷ [])) }
+    ensures told { IfOk result (λ change. changes.new ≡ one_more changes.old change) }
 {
-    if !after.is(before) {
-        changes.push(clock.at(quantum))?;
+    if after.is(before) {
+        return Ok(None);
     }
-    Ok(())
+    let tick = clock.at(quantum);
+    changes.push(tick)?;
+    Ok(Some(tick))
 }

@@ -5,3 +5,4 @@ use Rattle.wl_serial.proofs.engine.listen.Given as goal
 
 abbrev pub invariant-loop-j : goal.invariant-loop-j
 invariant-loop-j l = (length l.ears.items ≡ l.j) × ((i : ℕ) (d : Ear) → i < length l.ears.items → IsEar l.plan i (slice_index_or l.ears.items i d))
+    × ((i : ℕ) (d : Ear) → i < length l.ears.items → (slice_index_or l.ears.items i d).heard.until ≡ 0)

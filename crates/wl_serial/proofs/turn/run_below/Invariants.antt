@@ -1,5 +1,5 @@
 use Rattle.std.proofs.Common.{◌≡◌, ◌⊎◌, ◌<◌}
-use Rattle.wl_serial.specs.Heard.{IsEar}
+use Rattle.wl_serial.specs.Heard.{AreEars, AreHeard}
 use Rattle.wl_serial.specs.Running.{AreRunning, KnowsOthers, ticks_left}
 use Rattle.wl_serial.proofs.turn.run_below.Given as goal
 
@@ -7,7 +7,8 @@ use Rattle.wl_serial.proofs.turn.run_below.Given as goal
 abbrev pub invariant-loop-running : goal.invariant-loop-running
 invariant-loop-running l =
     AreRunning l.plan l.running
-    × IsEar l.plan l.j l.ear
+    × AreEars l.plan l.ears
+    × AreHeard l.plan l.running l.ears
     × KnowsOthers l.plan l.j l.horizon l.running
     × ((l.running ≡ l.fn.running) ⊎ (ticks_left l.plan.end l.running < ticks_left l.plan.end l.fn.running))
 

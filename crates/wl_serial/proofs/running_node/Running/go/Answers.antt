@@ -74,7 +74,7 @@ returns-clause-running c =
             gone = subst (λ n. HasGone c.args.level n c.args.self.now.node c.go.new.self) count c.in_ok-last.ensures.gone;
             before_is = c.drive-before.ensures;
             after_is = c.drive-after.ensures;
-            kept = c.in_ok-keep_change.ensures
+            kept = c.in_ok-change.ensures.kept
                 ∙ (ap (λ n. if same c.drive-after.result c.drive-before.result then c.args.self.now.changes else c.args.self.now.changes ++ tick_of (get_or c.as_slice.result.now c.args.i c.index-as_slice-i.result).clock n ∷ []) last
                 ∙ ap (λ u. if same c.drive-after.result c.drive-before.result then c.args.self.now.changes else c.args.self.now.changes ++ tick_of u.clock (k + p) ∷ []) element);
             next = c.at-self.ensures.tick ∙ (ap (λ n. tick_of (get_or c.as_slice.result.now c.args.i c.index-as_slice-i.result).clock n) after ∙ ap (λ u. tick_of u.clock (suc (k + p))) element);

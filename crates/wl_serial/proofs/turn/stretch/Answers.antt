@@ -1,0 +1,35 @@
+-- The node that ran on is where the simulation has it, and the others stay.
+use Rattle.std.proofs.Common.{◌∙◌, get_or, ap, arith}
+use Rattle.std.proofs.Math.ListN.{set}
+use Rattle.std.proofs.lemmas.List.{get_or_default}
+use Rattle.wl_serial.specs.Running.{one_more}
+use Rattle.wl_serial.proofs.Hearing.{heard_same, heard_anew}
+use Rattle.wl_serial.proofs.Runners.{one_on, fewer_left}
+use Rattle.wl_serial.proofs.turn.stretch.Goals as goal
+
+pub returns-in-Some-clause-running : goal.returns-in-Some-clause-running
+returns-in-Some-clause-running c =
+    one_on c.args.plan.now c.args.running.now c.args.j c.go.new.self (omega (arith, c.requires.node, c.requires.running.all)) c.requires.running c.in_ok-tick.ensures.running
+
+pub returns-in-Some-clause-fewer : goal.returns-in-Some-clause-fewer
+returns-in-Some-clause-fewer c =
+    let d = c.index-running-j.result in
+    fewer_left c.args.plan.now.end c.args.running.now c.args.j c.go.new.self d (omega (arith, c.requires.node, c.requires.running.all))
+    (let b = c.requires.below d in omega (arith, b, c.requires.ends)) c.in_ok-tick.ensures.later
+
+pub returns-in_default-clause-running : goal.returns-in_default-clause-running
+returns-in_default-clause-running c =
+    one_on c.args.plan.now c.args.running.now c.args.j c.go.new.self (omega (arith, c.requires.node, c.requires.running.all)) c.requires.running c.in_ok-tick.ensures.running
+
+pub returns-in_default-clause-heard : goal.returns-in_default-clause-heard
+returns-in_default-clause-heard c =
+    heard_same c.args.plan.now c.args.running.now c.args.j c.go.new.self (set c.args.ears.now c.args.j c.hear-found.new.self) (omega (arith, c.requires.node, c.requires.running.all))
+    (λ d. c.in_ok-tick.ensures.told ∙ (ap (one_more (get_or c.args.running.now c.args.j c.index-running-j.result).changes) c.in_default.is
+    ∙ ap (λ r. r.changes) (get_or_default c.args.running.now c.args.j c.index-running-j.result d (omega (arith, c.requires.node, c.requires.running.all)))))
+    (heard_anew c.args.plan.now c.args.running.now c.args.j c.args.ears.now c.hear-found.new.self (omega (arith, c.requires.node, c.requires.ears.all)) c.hear-found.ensures.heard c.requires.heard)
+
+pub returns-in_default-clause-fewer : goal.returns-in_default-clause-fewer
+returns-in_default-clause-fewer c =
+    let d = c.index-running-j.result in
+    fewer_left c.args.plan.now.end c.args.running.now c.args.j c.go.new.self d (omega (arith, c.requires.node, c.requires.running.all))
+    (let b = c.requires.below d in omega (arith, b, c.requires.ends)) c.in_ok-tick.ensures.later
