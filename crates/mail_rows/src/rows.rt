@@ -1,0 +1,219 @@
+//! What posts answer.
+ghost use Rattle.std.specs.Prelude.{◌≡◌, ◌≤◌, length};
+ghost use Rattle.wl_plan.specs.Checked.{IsChecked};
+
+use crate::answers::{came, sent};
+use anyhow::{Result, bail};
+use std::alloc::{AllocError, Global};
+use std::fmt::Write;
+use std::sync::Wait;
+use wl_group::{Group, first_silence, value_laws};
+use wl_mail::{Hold, MailFault, Post, posts};
+use wl_plan::Plan;
+
+/// Lets posts exchange letters of a plan, and tells what they answer.
+pub fn of_plan<R: Wait>(rt: &R, alloc: Global, plan: &Plan) -> Result<String>
+    requires checked { IsChecked plan.now }
+    requires nodes { 2 ≤ length plan.now.nodes }
+{
+    let mut told = String::new(alloc);
+    tell_letters(rt, alloc, plan, &mut told)?;
+    tell_gone(rt, alloc, plan, &mut told)?;
+    tell_many(rt, alloc, plan, &mut told)?;
+    Ok(told)
+}
+
+/// The posts of three workers, and the hold on what they read.
+#[derive(Drop)]
+struct Office {
+    first: Post,
+    second: Post,
+    third: Post,
+    hold: Hold,
+}
+
+/// The posts of three workers.
+fn open(alloc: Global) -> Result<Office> {
+    let (mut all, hold) = posts(alloc, 3)?;
+    let third = last_of(&mut all)?;
+    let second = last_of(&mut all)?;
+    let first = last_of(&mut all)?;
+    Ok(Office {
+        first,
+        second,
+        third,
+        hold,
+    })
+}
+
+/// Takes the last of some posts.
+fn last_of(all: &mut Vec<Post>) -> Result<Post> {
+    match all.pop() {
+        Some(post) => Ok(post),
+        None => bail!("no post"),
+    }
+}
+
+/// Sends a letter of node 0's first silence to all other workers.
+fn send_first<R: Wait>(rt: &R, alloc: Global, plan: &Plan, post: &mut Post) -> Result<(), MailFault>
+    requires checked { IsChecked plan.now }
+    requires nodes { 2 ≤ length plan.now.nodes }
+{
+    post.send(rt, alloc, plan, &[first_silence(plan, 0)])
+}
+
+/// A letter reaches both other workers; the same once more tells them nothing, and neither does a letter of no records.
+fn tell_letters<R: Wait>(rt: &R, alloc: Global, plan: &Plan, told: &mut String) -> Result<()>
+    requires checked { IsChecked plan.now }
+    requires nodes { 2 ≤ length plan.now.nodes }
+{
+    let mut office = open(alloc)?;
+    let mut group = Group::new(alloc, plan, &[1])?;
+    send_first(rt, alloc, plan, &mut office.first)?;
+    send_first(rt, alloc, plan, &mut office.first)?;
+    send_none(rt, alloc, plan, &mut office.first)?;
+    tell_three(rt, alloc, &mut office.second, &mut group, told)?;
+    tell_three(rt, alloc, &mut office.third, &mut group, told)
+}
+
+/// Sends a letter of no records to all other workers.
+fn send_none<R: Wait>(
+    rt: &R,
+    alloc: Global,
+    plan: &Plan,
+    post: &mut Post,
+) -> Result<(), MailFault> {
+    post.send(rt, alloc, plan, &[])
+}
+
+/// Restarts a group, and tells what three letters of a post are to it.
+fn tell_three<R: Wait>(
+    rt: &R,
+    alloc: Global,
+    post: &mut Post,
+    group: &mut Group,
+    told: &mut String,
+) -> Result<()> {
+    group.restart()?;
+    let first = came(post.receive(rt, alloc, group));
+    let second = came(post.receive(rt, alloc, group));
+    let third = came(post.receive(rt, alloc, group));
+    writeln!(told, "three letters: {first}, {second}, {third}")?;
+    Ok(())
+}
+
+/// What comes where ends are given up: a hold keeps the receivers, and a letter that was sent still comes.
+fn tell_gone<R: Wait>(rt: &R, alloc: Global, plan: &Plan, told: &mut String) -> Result<()>
+    requires checked { IsChecked plan.now }
+    requires nodes { 2 ≤ length plan.now.nodes }
+{
+    let Office {
+        first,
+        second,
+        third,
+        hold,
+    } = open(alloc)?;
+    drop(second);
+    let unsent = send_unheld(rt, alloc, plan, first, hold)?;
+    writeln!(told, "a reader given up: {unsent}")?;
+    tell_last(rt, alloc, plan, third, told)
+}
+
+/// Sends one letter while its readers are held, and tells what comes of another one once they are not. Then the post is given up.
+fn send_unheld<R: Wait>(
+    rt: &R,
+    alloc: Global,
+    plan: &Plan,
+    post: Post,
+    hold: Hold,
+) -> Result<&'static str>
+    requires checked { IsChecked plan.now }
+    requires nodes { 2 ≤ length plan.now.nodes }
+{
+    let mut post = post;
+    send_first(rt, alloc, plan, &mut post)?;
+    drop(hold);
+    Ok(sent(send_first(rt, alloc, plan, &mut post)))
+}
+
+/// What a post receives, three times, whose writers were all given up.
+fn tell_last<R: Wait>(
+    rt: &R,
+    alloc: Global,
+    plan: &Plan,
+    post: Post,
+    told: &mut String,
+) -> Result<()>
+    requires { IsChecked plan.now }
+{
+    let mut post = post;
+    let mut none = Group::new(alloc, plan, &[])?;
+    for _ in 0..3 {
+        let last = came(post.receive(rt, alloc, &mut none));
+        writeln!(told, "the writers given up: {last}")?;
+    }
+    Ok(())
+}
+
+/// What a letter of all that node 0 emits tells a group of node 1. Where memory is refused meanwhile, the letter comes again.
+fn tell_many<R: Wait>(rt: &R, alloc: Global, plan: &Plan, told: &mut String) -> Result<()>
+    requires checked { IsChecked plan.now }
+    requires nodes { 2 ≤ length plan.now.nodes }
+{
+    let mut office = open(alloc)?;
+    send_all(rt, alloc, plan, &mut office.first)?;
+    let mut group = Group::new(alloc, plan, &[1])?;
+    let post = &mut office.second;
+    if tell_coming(rt, alloc, post, &mut group, told)? {
+        tell_coming(rt, alloc, post, &mut group, told)?;
+    }
+    Ok(())
+}
+
+/// Sends all that node 0 alone emits.
+fn send_all<R: Wait>(rt: &R, alloc: Global, plan: &Plan, post: &mut Post) -> Result<(), MailFault>
+    requires checked { IsChecked plan.now }
+    requires nodes { 2 ≤ length plan.now.nodes }
+{
+    let mut group = Group::new(alloc, plan, &[0])?;
+    run_on(alloc, &mut group)?;
+    send_emitted(rt, alloc, &group, post)
+}
+
+/// Advances a group as far as it can.
+fn run_on(alloc: Global, group: &mut Group) -> Result<(), AllocError>
+    ensures { group.new.plan ≡ group.old.plan }
+{
+    value_laws();
+    // (reading a part gives the proof what the type keeps)
+    let _ = group.plan();
+    group.advance_all(alloc)?;
+    Ok(())
+}
+
+/// Sends all that a group emitted.
+#[tactic(auto, using(crate::proofs::Truth::emitted_true))]
+fn send_emitted<R: Wait>(
+    rt: &R,
+    alloc: Global,
+    group: &Group,
+    post: &mut Post,
+) -> Result<(), MailFault> {
+    post.send(rt, alloc, group.plan(), group.emitted())
+}
+
+/// Hands a group the next letter of a post, and tells what came and how many records the group knows then. Answers whether memory was
+/// refused.
+fn tell_coming<R: Wait>(
+    rt: &R,
+    alloc: Global,
+    post: &mut Post,
+    group: &mut Group,
+    told: &mut String,
+) -> Result<bool> {
+    let answer = post.receive(rt, alloc, group);
+    let called = came(answer);
+    let known = group.replica().canonical(alloc)?.len();
+    writeln!(told, "a letter of many records: {called}, {known} known")?;
+    Ok(answer == Err(MailFault::Memory))
+}
