@@ -22,7 +22,6 @@ mod KeptFits
 mod OfRecords
 mod ChangesStand
 mod WalkLemmas
-mod PromiseLemmas
 mod WaveLemmas
 mod RunLemmas
 mod PlaceLemmas

@@ -22,9 +22,12 @@ use Rattle.wl_replica.specs.Runs.{IsRunOf, WasRunBeforeEdge, WasRunBeforeSilence
 use Rattle.wl_replica.proofs.KeyLaws.{key_cmp_total}
 use Rattle.wl_replica.proofs.KeptLemmas.{same_key}
 use Rattle.wl_replica.proofs.SmallFacts.{run_part}
-use Rattle.wl_replica.proofs.PromiseLemmas.{promised_least}
 use Rattle.wl_replica.proofs.WalkLemmas.{longest_run, no_value, no_more}
 use Rattle.wl_replica.proofs.WaveLemmas.{goes_above, run_ticks, flips, level_is}
+
+promised_least : (s : ℕ → ℕ) (m top : ℕ) → ((n : ℕ) → n ≤ m → s n ≤ top) → longest_promise s m ≤ top
+promised_least s zero top h = h 0 (omega arith)
+promised_least s (suc m) top h = omega (arith, promised_least s m top (λ n le. h n (omega arith)), h (suc m) (omega arith))
 
 module _ (e : ℕ → FlatWord) (s : ℕ → ℕ) where
   goes_outside : (n : ℕ) → run_goes_on e s n ≡ true → s n ≤ tick_in (e n)

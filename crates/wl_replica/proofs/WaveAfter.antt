@@ -1,14 +1,13 @@
 -- The intervals of a wave that end after a tick.
-use Rattle.std.proofs.Common.{◌≡◌, ℕ, zero, suc, ◌+◌, ◌-◌, ◌%◌, ◌<◌, ◌≤◌, None, Bool, true, false, ◌&&◌, ◌||◌, cond, inl, inr, List, [], ◌∷◌, length, refl, sym, ◌∙◌, ap, subst, arith, nat_lt, nat_le}
+use Rattle.std.proofs.Common.{◌≡◌, ℕ, zero, suc, ◌+◌, ◌-◌, ◌%◌, ◌<◌, ◌≤◌, None, Bool, true, false, ◌&&◌, ◌||◌, cond, List, [], ◌∷◌, refl, sym, ◌∙◌, ap, subst, arith, nat_lt, nat_le}
 use Rattle.std.specs.Prelude.{filter}
-use Rattle.std.proofs.lemmas.Bool.{lt-leb, lt-ltb, le-ltb}
+use Rattle.std.proofs.lemmas.Bool.{lt-ltb, le-ltb}
 use Rattle.std.proofs.lemmas.Bool.Decides.{nat_tests}
 use Rattle.wl_intervals.specs.Pairs.{covers}
 use Rattle.wl_lattice.specs.declared.FlatWord.{FlatWord}
 use Rattle.wl_replica.specs.declared.known_run.KnownRun.{KnownRun}
-use Rattle.wl_replica.specs.Known.{tick_in, is_run, after_edges, known_by, ticks, ticks_from, intervals}
+use Rattle.wl_replica.specs.Known.{tick_in, after_edges, ticks, ticks_from, intervals}
 use Rattle.wl_replica.specs.Runs.{IsRunOf}
-use Rattle.wl_replica.proofs.RunLemmas.{horizon_is}
 use Rattle.wl_replica.proofs.WaveLemmas.{Climbs, IsMade, climbs_from, none_made, ticks_from_first}
 
 -- ---- the whole of it

@@ -1,25 +1,15 @@
 -- The intervals of a run's ticks, made one by one.
-use Rattle.std.proofs.Common.{◌≡◌, ℕ, zero, suc, ◌+◌, ◌<◌, ◌≤◌, Bool, true, false, not, ◌&&◌, ◌||◌, cond, inl, inr, List, [], ◌∷◌, ◌++◌, Option, None, Some, unwrap_or, refl, sym, ◌∙◌, ap, subst, arith, nat_lt, nat_le, append_assoc}
-use Rattle.std.specs.Prelude.{map, IfSome, IfNone}
+use Rattle.std.proofs.Common.{◌≡◌, ℕ, zero, suc, ◌+◌, ◌<◌, ◌≤◌, Bool, true, false, not, ◌&&◌, ◌||◌, cond, inl, inr, List, [], ◌∷◌, ◌++◌, Option, None, Some, refl, sym, ◌∙◌, ap, subst, arith, nat_lt, nat_le, append_assoc}
+use Rattle.std.specs.Prelude.{IfSome, IfNone}
 use Rattle.std.specs.Option.{option_to_list}
-use Rattle.std.specs.List.{AllByRecursion}
-use Rattle.std.specs.declared.ops.Bound.TheVariants.{Included, Excluded}
-use Rattle.std.specs.BTreeMap.{BTreeMap, IsOrdered, is_at}
-use Rattle.std.specs.BTreeMap.Range.{range_contains, entries_between}
-use Rattle.std.proofs.lemmas.Bool.{cases_eq, cases_lt, and_parts, and_right, false≢true, le-leb, lt-leb, lt-ltb, le-ltb}
+use Rattle.std.proofs.lemmas.Bool.{cases_lt, and_parts, and_right, le-leb, lt-leb, lt-ltb, le-ltb}
 use Rattle.std.proofs.lemmas.Bool.Decides.{nat_tests}
-use Rattle.std.proofs.lemmas.Map.Entries.{lookup-filter-keys}
 use Rattle.std.proofs.Math.Bool.{not-not}
 use Rattle.std.proofs.lemmas.List.{append-nil}
 use Rattle.wl_intervals.specs.Pairs.{covers, last_end}
 use Rattle.wl_lattice.specs.declared.FlatWord.{FlatWord}
-use Rattle.wl_lattice.specs.declared.FlatWord.TheVariants as flat
-use Rattle.wl_replica.specs.Keys.{Key, key_cmp}
-use Rattle.wl_replica.specs.Kept.{edges_in}
 use Rattle.wl_replica.specs.Known.{is_tick, tick_in, run_goes_on, is_run, after_edges, known_by, ticks, ticks_from, intervals}
 use Rattle.wl_replica.proofs.SmallFacts.{run_part}
-use Rattle.wl_replica.proofs.KeptLemmas.{found}
-use Rattle.wl_replica.proofs.WalkLemmas.{Rising, none_before, number_at_is, number_after, rising_part}
 
 -- ---- ticks from a number on
 ticks_both : (e : ℕ → FlatWord) (m d : ℕ) → ticks e m ++ ticks_from e m d ≡ ticks e (m + d)
@@ -91,74 +81,6 @@ covers_flips low h t (x ∷ y ∷ ts) c lt = elim (cases_lt t x) [
   ]
 ]
 
--- ---- the entries of a run
-abbrev pub run_range : ℕ → ℕ → List (Key × FlatWord) → List (Key × FlatWord)
-run_range node n es = entries_between key_cmp (Included (node, 0)) (Excluded (node, n)) es
-
--- the ticks of some entries
-abbrev pub ticks_of : List (Key × FlatWord) → List ℕ
-ticks_of es = map (λ f. tick_in f.1) es
-
-abbrev pub AllTicks : List (Key × FlatWord) → Type 0
-AllTicks es = AllByRecursion (λ f. is_tick f.1 ≡ true) es
-
-module _ (e : ℕ → FlatWord) (node n : ℕ) (held : (k : ℕ) → k < n → is_tick (e k) ≡ true) where
-  -- of the edges e of a node, the entries from number m up to, and not with, n
-  record IsPart (m : ℕ) (es : List (Key × FlatWord)) : Type 0 where
-    order : Rising node m es
-    below : AllByRecursion (λ f. f.0.1 < n) es
-    words : (k : ℕ) → m ≤ k → k < n → e k ≡ unwrap_or (found es (node, k)) flat.Nothing
-
-  no_tick : (w : FlatWord) → w ≡ flat.Nothing → is_tick w ≡ true → ⊥
-  no_tick w is h = false≢true (sym (ap is_tick is) ∙ h)
-
-  part_ticks : (m d : ℕ) (es : List (Key × FlatWord)) → n ≡ m + d → IsPart m es → (ticks_of es ≡ ticks_from e m d) × AllTicks es
-  part_ticks m zero [] is p = (refl, tt)
-  part_ticks m (suc d) [] is p = absurd (no_tick (e m) (p.words m (omega arith) (omega arith)) (held m (omega arith)))
-  part_ticks m zero (f ∷ es) is p = absurd (omega (arith, p.order.1, p.below.0))
-  part_ticks m (suc d) (f ∷ es) is p = elim (cases_eq f.0.1 m) [
-    | inl same ↦
-        let here : e m ≡ f.1 = p.words m (omega arith) (omega arith) ∙ ap (λ b. unwrap_or (cond b (Some f.1) (found es (node, m))) flat.Nothing) (number_at_is node m f.0 p.order.0 same) in
-        let rest : IsPart (suc m) es = record {
-          order = subst (λ k. Rising node (suc k) es) same p.order.2;
-          below = p.below.1;
-          words = λ k le lt. p.words k (omega arith) lt ∙ ap (λ b. unwrap_or (cond b (Some f.1) (found es (node, k))) flat.Nothing) (number_after node k f.0 (omega arith));
-        } in
-        let r = part_ticks (suc m) d es (omega arith) rest in
-        ((λ i. tick_in (sym here i) ∷ r.0 i), (sym (ap is_tick here) ∙ held m (omega arith), r.1))
-    | inr other ↦
-        absurd (no_tick (e m) (p.words m (omega arith) (omega arith) ∙ ap (λ o. unwrap_or o flat.Nothing) (none_before node f.0.1 m (f ∷ es) (p.order.0, omega arith, p.order.2) (omega (arith, p.order.1)))) (held m (omega arith)))
-  ]
-
--- ---- a run's entries in a map
-has_part : (node n k : ℕ) → k < n → (q : Key) → is_at (key_cmp (node, k)) q ≡ true → range_contains key_cmp (Included (node, 0)) (Excluded (node, n)) q ≡ true
-has_part node n k lt q h = grind (arith, nat_tests)
-
-part_below : (node n : ℕ) (es : List (Key × FlatWord)) → AllByRecursion (λ f. f.0.1 < n) (run_range node n es)
-part_below node n [] = tt
-part_below node n (f ∷ es) =
-    let rest = part_below node n es in
-    elim (range_contains key_cmp (Included (node, 0)) (Excluded (node, n)) f.0)
-    as (λ b. range_contains key_cmp (Included (node, 0)) (Excluded (node, n)) f.0 ≡ b → AllByRecursion (λ (g : Key × FlatWord). g.0.1 < n) (cond b (f ∷ run_range node n es) (run_range node n es))) [
-      | true ↦ λ is. (number_below node n f.0 is, rest)
-      | false ↦ λ is. rest
-    ] refl
-  where
-    number_below : (node n : ℕ) (q : Key) → range_contains key_cmp (Included (node, 0)) (Excluded (node, n)) q ≡ true → q.1 < n
-    number_below node n q h = grind (arith, nat_tests)
-
-pub run_entries : (edges : BTreeMap Key FlatWord) (node : ℕ) (s : ℕ → ℕ) (n : ℕ) → IsOrdered key_cmp edges → is_run (edges_in edges node) s n ≡ true
-    → (ticks_of (run_range node n edges.entries) ≡ ticks (edges_in edges node) n) × AllTicks (run_range node n edges.entries)
-run_entries edges node s n h run =
-    let e = edges_in edges node in
-    let part : IsPart e node n (run_ticks e s n run) 0 (run_range node n edges.entries) = record {
-      order = rising_part node n edges.entries h;
-      below = part_below node n edges.entries;
-      words = λ k le lt. ap (λ o. unwrap_or o flat.Nothing) (sym (lookup-filter-keys (is_at (key_cmp (node, k))) (range_contains key_cmp (Included (node, 0)) (Excluded (node, n))) true (has_part node n k lt) edges.entries));
-    } in
-    let r = part_ticks e node n (run_ticks e s n run) 0 n (run_range node n edges.entries) (omega arith) part in
-    (r.0 ∙ ticks_from_first e n, r.1)
-
 -- ---- the intervals, made one by one
 -- the first tick that may come after some intervals
 abbrev pub low_of : Option ℕ → ℕ
@@ -214,36 +136,9 @@ module _ (all : List ℕ) (h : ℕ) (set : List (ℕ × ℕ)) where
   pub all_ended : (a : ℕ) → IsMade all h set (Some a) [] → set ++ (a, h) ∷ [] ≡ intervals all h
   all_ended a m = sym m.makes
 
--- ---- the entries that are left, one by one
-pub first_tick : (es : List (Key × FlatWord)) (f : Key × FlatWord) (rest : List (Key × FlatWord)) → es ≡ f ∷ rest → AllTicks es → (is_tick f.1 ≡ true) × AllTicks rest
-first_tick es f rest is h = subst AllTicks is h
-
--- the level by the ticks so far, and those to come
-abbrev pub flipped : Bool → List ℕ → ℕ → Bool
-flipped dominant left t = cond dominant (not (flips left t)) (flips left t)
-
-pub flipped_more : (b : Bool) (a t : ℕ) (left : List ℕ) → a ≤ t → flipped (not b) left t ≡ flipped b (a ∷ left) t
-flipped_more true a t left h = sym (not-not (flips left t)) ∙ ap (λ c. not (cond c (not (flips left t)) false)) (sym (le-leb a t h))
-flipped_more false a t left h = ap (λ c. cond c (not (flips left t)) false) (sym (le-leb a t h))
-
-pub flipped_end : (b : Bool) (a t : ℕ) (left : List ℕ) → t < a → b ≡ flipped b (a ∷ left) t
-flipped_end true a t left h = ap (λ c. not (cond c (not (flips left t)) false)) (sym (lt-leb a t h))
-flipped_end false a t left h = ap (λ c. cond c (not (flips left t)) false) (sym (lt-leb a t h))
-
-pub flipped_none : (b : Bool) (t : ℕ) → b ≡ flipped b [] t
-flipped_none true t = refl
-flipped_none false t = refl
-
 -- ---- at the start and at the end
 after_known : (e : ℕ → FlatWord) (s : ℕ → ℕ) (n : ℕ) → after_edges e n ≤ known_by e s n
 after_known e s n = omega arith
-
-pub run_left : (edges : BTreeMap Key FlatWord) (node : ℕ) (s : ℕ → ℕ) (n m : ℕ) (es : List (Key × FlatWord)) → es ≡ run_range node m edges.entries → m ≡ n
-    → IsOrdered key_cmp edges → is_run (edges_in edges node) s n ≡ true → (ticks_of es ≡ ticks (edges_in edges node) n) × AllTicks es
-run_left edges node s n m es is same h run =
-    let all : es ≡ run_range node n edges.entries = is ∙ ap (λ k. run_range node k edges.entries) same in
-    let r = run_entries edges node s n h run in
-    (ap ticks_of all ∙ r.0, subst AllTicks (sym all) r.1)
 
 pub level_is : (e : ℕ → FlatWord) (s : ℕ → ℕ) (n t : ℕ) → is_run e s n ≡ true → t < known_by e s n → flips (ticks e n) t ≡ covers (intervals (ticks e n) (known_by e s n)) t
 level_is e s n t run lt = sym (covers_flips 0 (known_by e s n) t (ticks e n) (climbs e s n (known_by e s n) run (after_known e s n)) lt)
@@ -253,6 +148,3 @@ pub made_first : (e : ℕ → FlatWord) (s : ℕ → ℕ) (n h : ℕ) (set : Lis
 made_first e s n h set left run is none all =
     let climb : Climbs 0 (ticks e n) h = climbs e s n h run (subst (λ k. after_edges e n ≤ k) (sym is) (after_known e s n)) in
     subst (λ ps. IsMade (ticks e n) h ps None left) (sym none) (subst (λ ts. IsMade (ticks e n) h [] None ts) (sym all) (none_made (ticks e n) h climb))
-
-pub left_is : (es : List (Key × FlatWord)) (k : Key) (w : FlatWord) (t : ℕ) (rest : List (Key × FlatWord)) → es ≡ (k, w) ∷ rest → w ≡ flat.Value t → ticks_of es ≡ t ∷ ticks_of rest
-left_is es k w t rest is value = ap ticks_of is ∙ ap (λ v. v ∷ ticks_of rest) (ap tick_in value)

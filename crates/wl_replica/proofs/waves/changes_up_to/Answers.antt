@@ -1,4 +1,4 @@
-use Rattle.std.proofs.Common.{ℕ, ◌+◌, ◌-◌, ◌/◌, ◌<◌, ◌≤◌, arith}
+use Rattle.std.proofs.Common.{◌+◌, ◌-◌, ◌/◌, arith}
 use Rattle.wl_replica.specs.Kept.{edges_in}
 use Rattle.wl_replica.proofs.HalvingLemmas.{run_climbs, middle_below}
 use Rattle.wl_replica.proofs.waves.changes_up_to.Goals as goal

@@ -1,4 +1,4 @@
-use Rattle.std.proofs.Common.{◌-◌, ◌+◌, sym, arith}
+use Rattle.std.proofs.Common.{◌-◌, ◌+◌, sym}
 use Rattle.wl_replica.specs.Kept.{edges_in}
 use Rattle.wl_replica.specs.Known.{ticks_from}
 use Rattle.wl_replica.proofs.DenseWalks.{one_left}

@@ -1,4 +1,4 @@
-use Rattle.std.proofs.Common.{◌≡◌, ◌<◌, ◌≤◌, ℕ, List, ap, subst, sym, ◌∙◌, nat_lt, arith}
+use Rattle.std.proofs.Common.{◌≡◌, ◌≤◌, ℕ, List, ap, subst, ◌∙◌, nat_lt, arith}
 use Rattle.std.specs.Prelude.{IfOk, filter}
 use Rattle.std.proofs.lemmas.Result.{IfOk-weaker}
 use Rattle.wl_intervals.specs.Pairs.{covers}
