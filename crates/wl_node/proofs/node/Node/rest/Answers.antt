@@ -1,4 +1,4 @@
-use Rattle.std.proofs.Common.{◌+◌, arith}
+use Rattle.std.proofs.Common.{arith}
 use Rattle.wl_level.specs.declared.Level.TheVariants.{Recessive}
 use Rattle.wl_node.proofs.Gone.{gone_more, stands_more}
 use Rattle.wl_node.proofs.node.Node.rest.Goals as goal

@@ -1,14 +1,10 @@
-use Rattle.std.proofs.Common.{◌≡◌, ◌∙◌, ◌+◌, ◌-◌, ℕ, List, drop, length, not, None, Some, true, refl, sym, ap, subst, arith}
-use Rattle.std.specs.Prelude.{count_by}
-use Rattle.wl_level.specs.declared.Level.{Level}
+use Rattle.std.proofs.Common.{◌≡◌, ◌∙◌, ◌+◌, ◌-◌, ℕ, drop, length, None, refl, sym, ap, subst, arith}
 use Rattle.wl_level.specs.declared.Level.TheVariants.{Recessive}
 use Rattle.wl_level.proofs.Callers.{same_equal}
 use Rattle.wl_sync.specs.Skips.{IsRestingBit}
-use Rattle.wl_machine.specs.Judged.{stretch_of, is_free_sort}
 use Rattle.wl_node.specs.declared.setup.NodeSetup.{NodeSetup}
-use Rattle.wl_node.specs.History.{History, history_of, is_sent, ready_head, seen_next, unsent_of}
+use Rattle.wl_node.specs.History.{History, history_of, ready_head, seen_next, unsent_of}
 use Rattle.wl_node.specs.Kept.{FitsHistory}
-use Rattle.wl_node.specs.Quiet.{pending_of}
 use Rattle.wl_node.specs.Rest.{IsRest}
 use Rattle.wl_node.proofs.Rested.{none_mapped}
 use Rattle.wl_node.proofs.progress.Progress.next_rest.Goals as goal
