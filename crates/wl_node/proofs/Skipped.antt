@@ -16,12 +16,12 @@ use Rattle.wl_node.proofs.Turns.{history_next}
 abbrev pub seen_more : History → List Seen → History
 seen_more h more = record h { seen = h.seen ++ more }
 
-snoc : {A : Type 0} (xs : List A) (x : A) (n : ℕ) → xs ++ replicate (suc n) x ≡ (xs ++ replicate n x) ++ x ∷ []
+pub snoc : {A : Type 0} (xs : List A) (x : A) (n : ℕ) → xs ++ replicate (suc n) x ≡ (xs ++ replicate n x) ++ x ∷ []
 snoc xs x n =
     ap (λ k. xs ++ replicate k x) (sym (add-one n))
     ∙ ap (λ more. xs ++ more) (sym (replicate_more n x)) ∙ sym (append_assoc xs (replicate n x) (x ∷ []))
 
-same_history : (h : History) {seen seen' : List Seen} {syncs syncs' : List (ℕ × Sync)} → seen ≡ seen' → syncs ≡ syncs'
+pub same_history : (h : History) {seen seen' : List Seen} {syncs syncs' : List (ℕ × Sync)} → seen ≡ seen' → syncs ≡ syncs'
     → ◌≡◌ {A = History} (record h { seen = seen; syncs = syncs }) (record h { seen = seen'; syncs = syncs' })
 same_history h e f i = record h { seen = e i; syncs = f i }
 

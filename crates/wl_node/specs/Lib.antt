@@ -4,4 +4,5 @@ pub mod Laws
 pub mod Limits
 pub mod Quiet
 pub mod Reached
+pub mod Rest
 pub mod Same

@@ -34,7 +34,7 @@ impl Node {
         Ok(done)
     }
 
-    /// One quantum of this level at least, and `most` at most: those in which nothing happens at once, and one more. Refused
+    /// One quantum of this level at least, and `most` at most: those of which nothing comes at once, and one more. Refused
     /// where memory runs out: fewer than `most` were run then, or none, and the node drives what it drove.
     fn leap(&mut self, level: Level, most: u64) -> Result<u64, AllocError>
         requires some { 0 < most }
@@ -53,13 +53,57 @@ impl Node {
         Ok(passed + 1)
     }
 
-    /// Those quanta of this level, at most `most`, in which nothing happens.
+    /// Those quanta of this level, at most `most`, of which nothing comes but samples: whole bits of a free bus, and those before the
+    /// next sample.
     fn pass(&mut self, level: Level, most: u64) -> u64
         requires short { quanta_of self.old + most ≤ most_run_quanta }
         ensures gone { HasGone level result self.old self.new }
         ensures stands { StandsFor self.old level result }
         ensures few { result ≤ most }
     {
+        let rested = self.rest(level, most);
+        rested + self.skip(level, most - rested)
+    }
+
+    /// Those in which nothing happens at all.
+    fn skip(&mut self, level: Level, most: u64) -> u64
+        requires short { quanta_of self.old + most ≤ most_run_quanta }
+        ensures gone { HasGone level result self.old self.new }
+        ensures stands { StandsFor self.old level result }
+        ensures few { result ≤ most }
+    {
         self.progress.pass(level, most)
+    }
+
+    /// Whole bits of a recessive line on a free bus, at most `most` quanta, of which only the samples are kept: none where a frame is
+    /// ready, and no more than there is room for.
+    fn rest(&mut self, level: Level, most: u64) -> u64
+        requires short { quanta_of self.old + most ≤ most_run_quanta }
+        ensures gone { HasGone level result self.old self.new }
+        ensures stands { StandsFor self.old level result }
+        ensures few { result ≤ most }
+    {
+        let mut done = 0;
+        if level.is_dominant() {
+            return done;
+        }
+        while done < most {
+            let rested = self.rest_bit(most - done);
+            if rested == 0 {
+                return done;
+            }
+            done += rested;
+        }
+        done
+    }
+
+    /// One of them.
+    fn rest_bit(&mut self, most: u64) -> u64
+        requires short { quanta_of self.old + most ≤ most_run_quanta }
+        ensures gone { HasGone Level.Recessive result self.old self.new }
+        ensures stands { StandsFor self.old Level.Recessive result }
+        ensures few { result ≤ most }
+    {
+        self.progress.rest_bit(&self.setup, most)
     }
 }

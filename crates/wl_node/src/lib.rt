@@ -7,6 +7,7 @@ mod limits;
 mod node;
 mod progress;
 mod quiet;
+mod rest;
 pub mod setup;
 mod syncs;
 #[cfg(test)]

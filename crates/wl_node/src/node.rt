@@ -18,7 +18,7 @@ use wl_level::{Level, Listed};
 /// [`Node::run`] in its place.
 #[derive(Drop)]
 pub struct Node {
-    setup: NodeSetup,
+    pub(crate) setup: NodeSetup,
     pub(crate) progress: Progress,
     ghost few_hards: { progress.syncs.hards ≤ progress.quanta },
     ghost few_errors: { progress.traffic.errors ≤ progress.quanta },

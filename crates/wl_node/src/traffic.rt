@@ -36,7 +36,7 @@ pub struct Traffic {
 }
 
 /// The first unsent frame, if it is ready.
-fn ready_head(queue: &[Queued], sent: usize, quantum: u64) -> Option<&Frame>
+pub fn ready_head(queue: &[Queued], sent: usize, quantum: u64) -> Option<&Frame>
     ensures { option_copied result ≡ ready_head (drop sent queue.now) quantum }
 {
     match queue.get(sent) {
