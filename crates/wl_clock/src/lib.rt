@@ -12,13 +12,15 @@ ghost use Rattle.wl_clock.specs.Timing.{Timing, IsTiming, tick_of, timing_of, ti
 ghost use Rattle.wl_clock.specs.Padded.{padded_rates};
 
 mod laws;
+mod quotients;
 mod refusals;
 mod stretches;
 
 pub use laws::ticks_increase;
+use quotients::inverse;
 use refusals::{any_bad_from, any_big_den, any_too_fast, any_too_slow, any_zero_den, in_order};
 use std::marker::Model;
-use stretches::{first_from, ticks_from};
+use stretches::{first_from, quick_first, quick_stretch, ticks_from};
 use thiserror::Error;
 
 /// Why an offset and rates make no clock.
@@ -63,6 +65,9 @@ const LARGEST_DEVIATION: u64 = 100_000;
 const MILLION: u64 = 1_000_000;
 
 const MOST_RATES: usize = 16;
+
+/// Up to so many ticks, 2^44, a product with a denominator fits 64 bits.
+const QUICK_TICKS: u64 = 17_592_186_044_416;
 
 /// A rate of `num / den` ticks per quantum, from quantum `from` on.
 ///
@@ -113,6 +118,9 @@ pub struct Clock {
     offset: u64,
     count: usize,
     rates: [Rate; MOST_RATES],
+    /// By what quotients by the first rate's denominator and numerator are guessed.
+    inverse_of_den: u64,
+    inverse_of_num: u64,
 }
 
 impl Model for Clock {
@@ -202,6 +210,8 @@ impl Clock {
             offset,
             count: rates.len(),
             rates: filled(rates),
+            inverse_of_den: inverse(rates[0].den as u128),
+            inverse_of_num: inverse(rates[0].num),
         })
     }
 
@@ -224,6 +234,9 @@ impl Clock {
         ensures high { result ≤ self.now.offset + k * slowest_rate }
     {
         let rates = self.rates();
+        if rates.len() == 1 {
+            return quick_stretch(&rates[0], self.inverse_of_den, k) + self.offset;
+        }
         ticks_from(&rates[0], &rates[1..], k) + self.offset
     }
 
@@ -241,7 +254,11 @@ impl Clock {
             return 0;
         }
         let rates = self.rates();
-        first_from(&rates[0], &rates[1..], t - self.offset)
+        let ticks = t - self.offset;
+        if rates.len() == 1 && ticks <= QUICK_TICKS {
+            return quick_first(&rates[0], self.inverse_of_num, ticks);
+        }
+        first_from(&rates[0], &rates[1..], ticks)
     }
 }
 

@@ -3,6 +3,7 @@ ghost use Rattle.std.specs.Prelude.{◌≡◌, ℕ, ◌+◌, ◌-◌, ◌*◌, �
 ghost use Rattle.wl_clock.specs.Timing.{IsRate, begin_after, slowest_rate, ticks_at_rate, ticks_from};
 
 use crate::Rate;
+use crate::quotients::quotient;
 
 /// How many ticks after the first of its quanta quantum `k` begins, at one rate.
 fn stretch(rate: &Rate, k: u64) -> u64
@@ -26,6 +27,29 @@ fn first_at(rate: &Rate, ticks: u64) -> u64
 {
     let wanted = ticks as u128 * rate.den as u128;
     rate.from + wanted.div_ceil(rate.num) as u64
+}
+
+/// As `stretch`, where a quotient by the denominator is guessed by this inverse.
+pub fn quick_stretch(rate: &Rate, inverse: u64, k: u64) -> u64
+    requires rate { IsRate rate.now }
+    requires begun { rate.now.from ≤ k }
+    requires near { k ≤ 2 ^ 21 }
+    ensures ticks { result ≡ ticks_at_rate rate.now k }
+    ensures high { result ≤ (k - rate.now.from) * slowest_rate }
+{
+    quotient((k - rate.from) * rate.num as u64, rate.den, inverse)
+}
+
+/// As `first_at`, where a quotient by the numerator is guessed by this inverse.
+pub fn quick_first(rate: &Rate, inverse: u64, ticks: u64) -> u64
+    requires rate { IsRate rate.now }
+    requires some { 0 < ticks }
+    requires near { ticks ≤ 2 ^ 44 }
+    ensures reached { ticks ≤ ticks_at_rate rate.now result }
+    ensures least { (k : ℕ) → k < result → ticks_at_rate rate.now k < ticks }
+    ensures soon { result ≤ rate.now.from + ticks }
+{
+    rate.from + quotient(ticks * rate.den - 1, rate.num as u64, inverse) + 1
 }
 
 /// How many ticks after the first quantum of a rate quantum `k` begins, where later rates follow.
