@@ -1,10 +1,13 @@
 -- What a turn keeps: the plan and the members of a group, and the truth of what it says.
-use Rattle.std.proofs.Common.{◌≡◌, List, [], ◌∷◌, ◌++◌, ap, sym, subst}
+use Rattle.std.proofs.Common.{◌≡◌, ℕ, Bool, true, false, ◌&&◌, not, if◌then◌else◌, nat_le, List, [], ◌∷◌, ◌++◌, refl, ap, sym, subst}
 use Rattle.wl_record_core.specs.declared.record.Record.{Record}
 use Rattle.wl_plan.specs.declared.plan.Plan.{Plan}
-use Rattle.wl_plan.specs.PlanLine.{IsTrueOfPlan}
-use Rattle.wl_group.specs.GroupValue.{GroupValue, IsGroupValue, belongs}
-use Rattle.wl_group.specs.Running.{Ran}
+use Rattle.wl_replica.specs.State.{slots_of}
+use Rattle.wl_plan.specs.PlanLine.{IsTrueOfPlan, line_of}
+use Rattle.wl_group.specs.GroupValue.{GroupValue, IsGroupValue, belongs, members_now, emission_at}
+use Rattle.wl_group.specs.Running.{HasReplied}
+use Rattle.wl_group.specs.Advanced.{emitted, blocked, ended}
+use Rattle.wl_group.specs.Member.{can_run, next_tick}
 use Rattle.wl_group.specs.ValueLaws.{ValueLaws}
 use Rattle.wl_worker.specs.Handed.{AreTrueOfPlan, Took}
 
@@ -18,8 +21,18 @@ took_members old new t = ap belongs t.taken
 pub took_of : (P : Plan → Type 0) (old new : GroupValue) → Took old new → P old.plan → P new.plan
 took_of P old new t p = subst P (sym (took_plan old new t)) p
 
-pub said_true : ValueLaws → (g h : GroupValue) (rs : List Record) → IsGroupValue g → Ran g rs h → AreTrueOfPlan g.plan rs
-said_true laws g h rs is r = (laws.all_run g h rs is r).said_true
+emitted_where : (b e c : Bool) (x rs : List Record) → emitted rs ≡ (if not b then blocked else if e then ended else if c then emitted x else blocked)
+    → ((b && c) ≡ true) × (rs ≡ x)
+emitted_where true false true x rs h = (refl, cc)
+emitted_where true false false x rs h = absurd cc
+emitted_where true true c x rs h = absurd cc
+emitted_where false e c x rs h = absurd cc
+
+pub replied_true : ValueLaws → (g h : GroupValue) (i : ℕ) (rs : List Record) → IsGroupValue g → HasReplied i g h (emitted rs) → AreTrueOfPlan g.plan rs
+replied_true laws g h i rs is r =
+    let e = emitted_where (belongs g i) (nat_le g.plan.end (next_tick (line_of g.plan) i (members_now g i))) (can_run (line_of g.plan) i (members_now g i) (slots_of g.replica))
+    (emission_at g i) rs r.reply in
+    subst (AreTrueOfPlan g.plan) (sym e.1) (laws.emits_true g is i e.0)
 
 true_more : (plan : Plan) (rs : List Record) (r : Record) → AreTrueOfPlan plan rs → IsTrueOfPlan plan r → AreTrueOfPlan plan (rs ++ r ∷ [])
 true_more plan [] r h g = (g, tt)

@@ -13,6 +13,7 @@ use wl_hub::{Hub, Pass, words_tell_records};
 use wl_lattice::FlatWord;
 use wl_record_core::{Record, Slot};
 use wl_replica::{Word, joining_is_a_join, slots_of_states, taking_is_joining};
+use wl_topology::MOST_NODES;
 
 /// Whether one of the two is.
 fn either(one: bool, other: bool) -> bool
@@ -127,18 +128,31 @@ fn learn_edges(
     Ok((came, next))
 }
 
+/// Where to begin to look for a node's changes: behind so many that were handed to a group before, if it knows the last of them; else, as after a
+/// restart of the group, at the first.
+fn first_to_see(group: &Group, node: u8, handed: u32) -> u32 {
+    if handed == 0 {
+        return 0;
+    }
+    let seq = handed - 1;
+    match group.replica().slot(Slot::EdgeAt { node, seq }) {
+        Word::Edge(FlatWord::Value(_)) => handed,
+        _ => 0,
+    }
+}
+
 /// Takes what the hub has of a node's next changes and of the silence after them, where the node is no member. Answers whether something
-/// was taken.
+/// was taken. `handed` is how many of its changes were handed over so far.
 #[tactic(auto, using(crate::proofs::Took::took_nothing, crate::proofs::Took::took_both, crate::proofs::Named::still_named))]
 fn learn_node(
     hub: &Hub<PlanName>,
     pass: &mut Pass<PlanName>,
     group: &mut Group,
     node: u8,
+    handed: &mut u32,
 ) -> Result<bool, AllocError>
     requires here { IsPassOf hub.now pass.old }
     requires name { name_of pass.old ≡ Some (name_of_plan group.old.plan) }
-    requires node { node < length group.old.plan.nodes }
     ensures here { IsPassOf hub.now pass.new }
     ensures name { name_of pass.new ≡ name_of pass.old }
     ensures took { Took group.old group.new }
@@ -149,8 +163,9 @@ fn learn_node(
     if group.has(node) {
         return Ok(false);
     }
-    let first = group.replica().run_length(node);
+    let first = first_to_see(group, node, *handed);
     let (edges, next) = learn_edges(hub, pass, group, node, first)?;
+    *handed = next;
     let Some(until) = silence_seen(hub, pass, node, next) else {
         return Ok(edges);
     };
@@ -158,12 +173,16 @@ fn learn_node(
     Ok(either(edges, silence))
 }
 
+/// For each node that there may be, how many of its changes were handed to a group.
+pub(crate) type Handed = [u32; MOST_NODES];
+
 /// Takes what the hub has of all nodes that are no members of the group. Answers whether something was taken.
 #[tactic(auto, using(crate::proofs::Took::took_nothing, crate::proofs::Took::took_both, crate::proofs::Named::still_named))]
 pub(crate) fn learn_all(
     hub: &Hub<PlanName>,
     pass: &mut Pass<PlanName>,
     group: &mut Group,
+    handed: &mut Handed,
 ) -> Result<bool, AllocError>
     requires here { IsPassOf hub.now pass.old }
     requires name { name_of pass.old ≡ Some (name_of_plan group.old.plan) }
@@ -175,8 +194,8 @@ pub(crate) fn learn_all(
     joining_is_a_join();
     taking_is_joining();
     let mut came = false;
-    for node in 0..group.replica().nodes() {
-        let taken = learn_node(hub, pass, group, node)?;
+    for node in 0..MOST_NODES as u8 {
+        let taken = learn_node(hub, pass, group, node, &mut handed[usize::from(node)])?;
         came = either(came, taken);
     }
     Ok(came)

@@ -6,7 +6,7 @@ ghost use Rattle.wl_worker.specs.Handed.{AreTrueOfPlan};
 ghost use Rattle.wl_worker.specs.Shared.{IsOfPlan, with_edges, with_silences};
 
 use crate::bell::Bell;
-use crate::coming::learn_all;
+use crate::coming::{Handed, learn_all};
 use crate::link::{Link, LinkFault};
 use crate::shared::PlanName;
 use std::alloc::{AllocError, Global};
@@ -14,6 +14,7 @@ use std::sync::Wait;
 use wl_group::Group;
 use wl_hub::{Hub, Pass};
 use wl_record_core::Record;
+use wl_topology::MOST_NODES;
 
 /// A link over a pass of a hub, whose name is the link's plan. It waits at a bell.
 #[derive(Drop)]
@@ -25,6 +26,8 @@ pub struct HubLink<'h, R: Wait> {
     worker: u8,
     // How often the bell had rung when the last fetch began; 0 after a rewind.
     heard: u64,
+    // It speeds up the next fetch, and decides nothing.
+    handed: Handed,
     pub ghost edges: { pass.edges.seat.table_id ≡ hub.now.edges.table.shared.table_id },
     pub ghost silences: { pass.silences.seat.table_id ≡ hub.now.silences.table.shared.table_id },
     pub ghost shape: { pass.edges.seat.me.0.shape ≡ hub.now.shape.items },
@@ -52,6 +55,7 @@ impl<'h, R: Wait> HubLink<'h, R> {
             bell,
             worker,
             heard: 0,
+            handed: [0; MOST_NODES],
         })
     }
 }
@@ -107,7 +111,7 @@ impl<'h, R: Wait> Link for HubLink<'h, R> {
     fn fetch(&mut self, alloc: Global, group: &mut Group) -> Result<bool, LinkFault> {
         let _ = alloc;
         self.heard = self.bell.rings();
-        Ok(learn_all(self.hub, &mut self.pass, group)?)
+        Ok(learn_all(self.hub, &mut self.pass, group, &mut self.handed)?)
     }
 
     /// Hears no bell any more, so that a wait before the next fetch ends where anything was given. What a fetch takes goes by what the

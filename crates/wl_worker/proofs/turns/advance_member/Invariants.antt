@@ -1,0 +1,11 @@
+use Rattle.std.specs.Prelude.{IfSome}
+use Rattle.std.proofs.Common.{◌≡◌}
+use Rattle.wl_group.specs.GroupValue.{belongs}
+use Rattle.wl_worker.specs.Handed.{AreTrueOfPlan}
+use Rattle.wl_plan.specs.PlanLine.{IsTrueOfPlan}
+use Rattle.wl_worker.proofs.turns.advance_member.Given as goal
+
+abbrev pub invariant-loop : goal.invariant-loop
+invariant-loop l =
+    AreTrueOfPlan l.fn.group.plan l.said.items × IfSome l.silence (IsTrueOfPlan l.fn.group.plan)
+    × (l.group.plan ≡ l.fn.group.plan) × (belongs l.group ≡ belongs l.fn.group)
