@@ -180,43 +180,60 @@ module _ (e : ℕ → FlatWord) (s : ℕ → ℕ) where
     pub edge_cut_few : n < k.run.length → n ≤ most_edges
     edge_cut_few lt = omega (arith, was.2.few)
 
-  module _ (n : ℕ) (k : KnownRun) (was : WasRunBeforeSilence e s n k) where
+  module _ (n until : ℕ) (k : KnownRun) (was : WasRunBeforeSilence e s n until k) where
     other_silences : (m : ℕ) → ¬ (m ≡ n) → s m ≡ was.0 m
-    other_silences m other = was.3.others m other
+    other_silences m other = was.2.others m other
 
     further : (m : ℕ) → was.0 m ≤ s m
     further m = elim (cases_eq m n) [
-      | inl here ↦ subst (λ j. was.0 j ≤ s j) (sym here) (omega (arith, was.3.here))
+      | inl here ↦ subst (λ j. was.0 j ≤ s j) (sym here) (omega (arith, was.2.here))
       | inr other ↦ omega (arith, other_silences m other)
     ]
 
-    pub silence_beyond : k.run.length ≤ n → (r : KnownRun) → r.run ≡ k.run → r.horizon ≡ max k.run.end (s k.run.length) → IsRunOf e s r
-    silence_beyond le r is horizon =
-        made_of k.run.length was.2.few (run_same e e was.0 s k.run.length (λ m lt. refl) (λ m lt. other_silences m (omega arith)) was.2.run)
-        (stays_stopped e was.0 s k.run.length was.2.stops (further k.run.length)) r k.run is refl was.2.end horizon
+    pub silence_reaches : until ≤ s n
+    silence_reaches = omega (arith, was.2.here)
 
-    pub silence_under : n < k.run.length → (t : ℕ) → e n ≡ flat.Value t → s n ≤ t → IsRunOf e s k
+    same_run : k.run.length ≤ n → is_run e s k.run.length ≡ true
+    same_run le = run_same e e was.0 s k.run.length (λ m lt. refl) (λ m lt. other_silences m (omega arith)) was.1.run
+
+    pub silence_past : k.run.length < n → IsRunOf e s k
+    silence_past lt =
+        made_of k.run.length was.1.few (same_run (omega arith)) (stays_stopped e was.0 s k.run.length was.1.stops (further k.run.length)) k k.run refl refl was.1.end
+        (was.1.horizon ∙ ap (max k.run.end) (sym (other_silences k.run.length (omega arith))))
+
+    pub silence_next : n ≡ k.run.length → (r : KnownRun) → r.run ≡ k.run → r.horizon ≡ max k.horizon until → IsRunOf e s r
+    silence_next same r is horizon =
+        let here : s k.run.length ≡ max (was.0 k.run.length) until = subst (λ j. s j ≡ max (was.0 j) until) same was.2.here in
+        made_of k.run.length was.1.few (same_run (omega arith)) (stays_stopped e was.0 s k.run.length was.1.stops (further k.run.length)) r k.run is refl was.1.end
+        (omega (arith, horizon, was.1.horizon, here))
+
+    pub silence_under : n < k.run.length → (t : ℕ) → e n ≡ flat.Value t → until ≤ t → IsRunOf e s k
     silence_under lt t is le =
         let last = other_silences k.run.length (omega arith) in
         record {
-          few = was.2.few;
-          run = run_all e s k.run.length (λ m below. goes_under e was.0 s m (run_part e was.0 k.run.length m was.2.run below) (under m below));
-          stops = stays_stopped e was.0 s k.run.length was.2.stops (further k.run.length);
-          end = was.2.end;
-          horizon = was.2.horizon ∙ ap (max k.run.end) (sym last);
+          few = was.1.few;
+          run = run_all e s k.run.length (λ m below. goes_under e was.0 s m (run_part e was.0 k.run.length m was.1.run below) (under m below));
+          stops = stays_stopped e was.0 s k.run.length was.1.stops (further k.run.length);
+          end = was.1.end;
+          horizon = was.1.horizon ∙ ap (max k.run.end) (sym last);
         }
       where
         under : (m : ℕ) → m < k.run.length → s m ≤ tick_in (e m)
-        under m below = elim (cases_eq m n) [
-          | inl here ↦ (let tick : tick_in (e n) ≡ t = ap tick_in is in subst (λ j. s j ≤ tick_in (e j)) (sym here) (omega arith))
-          | inr other ↦ (let out = goes_outside e was.0 m (run_part e was.0 k.run.length m was.2.run below) in omega (arith, other_silences m other, out))
-        ]
+        under m below =
+            let out = goes_outside e was.0 m (run_part e was.0 k.run.length m was.1.run below) in
+            elim (cases_eq m n) [
+              | inl here ↦
+                  (let tick : tick_in (e m) ≡ t = ap (λ j. tick_in (e j)) here ∙ ap tick_in is in
+                  let end : s m ≡ max (was.0 m) until = subst (λ j. s j ≡ max (was.0 j) until) (sym here) was.2.here in
+                  omega (arith, tick, end, out))
+              | inr other ↦ omega (arith, other_silences m other, out)
+            ]
 
     pub silence_cut : n < k.run.length → is_run e s n ≡ true
-    silence_cut lt = run_same e e was.0 s n (λ m below. refl) (λ m below. other_silences m (omega arith)) (run_shorter e was.0 k.run.length n was.2.run (omega arith))
+    silence_cut lt = run_same e e was.0 s n (λ m below. refl) (λ m below. other_silences m (omega arith)) (run_shorter e was.0 k.run.length n was.1.run (omega arith))
 
     pub silence_cut_few : n < k.run.length → n ≤ most_edges
-    silence_cut_few lt = omega (arith, was.2.few)
+    silence_cut_few lt = omega (arith, was.1.few)
 
 -- ---- the runs of all nodes
 pub one_run_set : (P : ℕ → KnownRun → Type 0) (xs : List KnownRun) (n : ℕ) (r : KnownRun) → n < length xs → P n r
@@ -231,9 +248,9 @@ module _ (edges : BTreeMap Key FlatWord) (silences : BTreeMap Key MaxWord) (node
   other_edge_runs were i d other lt =
       subst (λ (e : ℕ → FlatWord). IsRunOf e (silences_in silences i) (slice_index_or runs i d)) (λ j m. sym (were.3.others (i, m) (λ same. other (ap (λ (k : Key). k.0) same))) j) (were.2 i d lt)
 
-  pub other_silence_runs : WereRunsBeforeSilence edges silences (node, n) runs → (i : ℕ) (d : KnownRun) → ¬ (i ≡ node) → i < length runs → IsRunOf (edges_in edges i) (silences_in silences i) (slice_index_or runs i d)
-  other_silence_runs were i d other lt =
-      subst (λ (s : ℕ → ℕ). IsRunOf (edges_in edges i) s (slice_index_or runs i d)) (λ j m. (sym (were.3.others (i, m) (λ same. other (ap (λ (k : Key). k.0) same))) j).word) (were.2 i d lt)
+  pub other_silence_runs : (until : ℕ) → WereRunsBeforeSilence edges silences (node, n) until runs → (i : ℕ) (d : KnownRun) → ¬ (i ≡ node) → i < length runs → IsRunOf (edges_in edges i) (silences_in silences i) (slice_index_or runs i d)
+  other_silence_runs until were i d other lt =
+      subst (λ (s : ℕ → ℕ). IsRunOf (edges_in edges i) s (slice_index_or runs i d)) (λ j m. (sym (were.2.others (i, m) (λ same. other (ap (λ (k : Key). k.0) same))) j).word) (were.1 i d lt)
 
 -- the level that a run tells
 pub level_of_run : (e : ℕ → FlatWord) (s : ℕ → ℕ) (k : KnownRun) → IsRunOf e s k → (t : ℕ) → t < k.horizon → flips (ticks e k.run.length) t ≡ covers (intervals (ticks e k.run.length) k.horizon) t

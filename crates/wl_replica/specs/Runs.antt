@@ -33,17 +33,17 @@ AreRunsOf edges silences runs = (i : ℕ) (d : KnownRun) → i < length runs →
 abbrev pub WasRunBeforeEdge : (ℕ → FlatWord) → (ℕ → ℕ) → ℕ → KnownRun → Type 0
 WasRunBeforeEdge e s seq k = (before : ℕ → FlatWord) × (word : FlatWord) × IsRunOf before s k × IsRaised joined_flat before seq word e
 
-abbrev pub WasRunBeforeSilence : (ℕ → FlatWord) → (ℕ → ℕ) → ℕ → KnownRun → Type 0
-WasRunBeforeSilence e s count k = (before : ℕ → ℕ) × (until : ℕ) × IsRunOf e before k × IsRaised max before count until s
+abbrev pub WasRunBeforeSilence : (ℕ → FlatWord) → (ℕ → ℕ) → ℕ → ℕ → KnownRun → Type 0
+WasRunBeforeSilence e s count until k = (before : ℕ → ℕ) × IsRunOf e before k × IsRaised max before count until s
 
 -- the runs of all nodes were so
 abbrev pub WereRunsBeforeEdge : BTreeMap Key FlatWord → BTreeMap Key MaxWord → Key → List KnownRun → Type 0
 WereRunsBeforeEdge edges silences key runs =
     (before : BTreeMap Key FlatWord) × (word : FlatWord) × AreRunsOf before silences runs × IsRaised joined_flat (word_in flat.Nothing before) key word (word_in flat.Nothing edges)
 
-abbrev pub WereRunsBeforeSilence : BTreeMap Key FlatWord → BTreeMap Key MaxWord → Key → List KnownRun → Type 0
-WereRunsBeforeSilence edges silences key runs =
-    (before : BTreeMap Key MaxWord) × (word : MaxWord) × AreRunsOf edges before runs × IsRaised joined_max (word_in (max_word 0) before) key word (word_in (max_word 0) silences)
+abbrev pub WereRunsBeforeSilence : BTreeMap Key FlatWord → BTreeMap Key MaxWord → Key → ℕ → List KnownRun → Type 0
+WereRunsBeforeSilence edges silences key until runs =
+    (before : BTreeMap Key MaxWord) × AreRunsOf edges before runs × IsRaised joined_max (word_in (max_word 0) before) key (max_word until) (word_in (max_word 0) silences)
 
 -- What a replica keeps: its maps, and for each node its run.
 pub record AreKeptWithRuns (nodes : ℕ) (edges : BTreeMap Key FlatWord) (silences : BTreeMap Key MaxWord) (runs : List KnownRun) : Type 0 where

@@ -108,7 +108,7 @@ fn join_slot(
         }
         Record::Silence { node, count, until } => {
             join_at(silences, (node, count), &MaxWord { word: until });
-            silence_came(runs, edges, silences, node, count);
+            silence_came(runs, edges, silences, node, count, until);
         }
     }
 }

@@ -148,17 +148,24 @@ fn after_silence(
     silences: &BTreeMap<(u8, u32), MaxWord>,
     node: u8,
     count: u32,
+    until: u64,
     known: KnownRun,
 ) -> KnownRun
     requires within { TicksAreWithin edges.now }
-    requires was { WasRunBeforeSilence (edges_in edges.now node) (silences_in silences.now node) count known }
+    requires was { WasRunBeforeSilence (edges_in edges.now node) (silences_in silences.now node) count until known }
     ensures { IsRunOf (edges_in edges.now node) (silences_in silences.now node) result }
 {
-    if count >= known.run.length {
-        return known_at(silences, node, known.run);
+    if count > known.run.length {
+        return known;
+    }
+    if count == known.run.length {
+        return KnownRun {
+            run: known.run,
+            horizon: known.horizon.max(until),
+        };
     }
     match edges.word(&(node, count)) {
-        FlatWord::Value(tick) if silence_at(silences, node, count) <= tick => known,
+        FlatWord::Value(tick) if until <= tick => known,
         _ => known_at(silences, node, first_of(edges, node, count)),
     }
 }
@@ -188,15 +195,16 @@ pub fn silence_came(
     silences: &BTreeMap<(u8, u32), MaxWord>,
     node: u8,
     count: u32,
+    until: u64,
 )
     requires node { node < length runs.old.items }
     requires within { TicksAreWithin edges.now }
-    requires were { WereRunsBeforeSilence edges.now silences.now (node, count) runs.old.items }
+    requires were { WereRunsBeforeSilence edges.now silences.now (node, count) until runs.old.items }
     ensures runs { AreRunsOf edges.now silences.now runs.new.items }
     ensures count { length runs.new.items ≡ length runs.old.items }
 {
     let known = runs[node as usize];
-    runs[node as usize] = after_silence(edges, silences, node, count, known);
+    runs[node as usize] = after_silence(edges, silences, node, count, until, known);
 }
 
 /// Works the runs of as many nodes out anew.

@@ -120,7 +120,14 @@ impl Replica {
             }
             Record::Silence { node, count, until } => {
                 raise(&mut self.silences, (node, count), &MaxWord { word: until })?;
-                silence_came(&mut self.runs, &self.edges, &self.silences, node, count);
+                silence_came(
+                    &mut self.runs,
+                    &self.edges,
+                    &self.silences,
+                    node,
+                    count,
+                    until,
+                );
             }
         }
         Ok(())

@@ -53,12 +53,7 @@ fn tick_at(edges: &BTreeMap<(u8, u32), FlatWord>, node: u8, seq: u32) -> u64
 }
 
 /// How many of the changes of a node's run come at a tick or before it, by halving.
-fn changes_up_to(
-    edges: &BTreeMap<(u8, u32), FlatWord>,
-    node: u8,
-    known: KnownRun,
-    tick: u64,
-) -> u32
+fn changes_up_to(edges: &BTreeMap<(u8, u32), FlatWord>, node: u8, known: KnownRun, tick: u64) -> u32
     requires { IsRunOfEdges (edges_in edges.now node) known }
     ensures few { result ≤ known.run.length }
     ensures before { (n : ℕ) → n < result → tick_in (edges_in edges.now node n) ≤ tick }

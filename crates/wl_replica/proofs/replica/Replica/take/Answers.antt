@@ -63,7 +63,7 @@ edge_came-requires-in-Clash-clause-were c =
 pub silence_came-requires-clause-were : goal.silence_came-requires-clause-were
 silence_came-requires-clause-were c =
     let word = max_word c.in-Silence.until in
-    (c.self.inside.silences, word, c.self.invariant.known, raised_by (max_word 0) joined_max c.self.inside.silences c.raise-in-Silence.new.words (c.in-Silence.node, c.in-Silence.count) word c.in_ok-raise-in-Silence.ensures.ok)
+    (c.self.inside.silences, c.self.invariant.known, raised_by (max_word 0) joined_max c.self.inside.silences c.raise-in-Silence.new.words (c.in-Silence.node, c.in-Silence.count) word c.in_ok-raise-in-Silence.ensures.ok)
 
 pub invariant_of-self : goal.invariant_of-self
 invariant_of-self c =
