@@ -128,8 +128,8 @@ fn learn_edges(
     Ok((came, next))
 }
 
-/// Where to begin to look for a node's changes: behind so many that were handed to a group before, if it knows the last of them; else, as after a
-/// restart of the group, at the first.
+/// Where to begin to look for a node's changes: behind so many that were handed to a group before, if it knows the last of them; else, as
+/// after a restart of the group, at the first.
 fn first_to_see(group: &Group, node: u8, handed: u32) -> u32 {
     if handed == 0 {
         return 0;

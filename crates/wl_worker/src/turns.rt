@@ -192,8 +192,8 @@ fn advance_members(group: &mut Group, said: &mut Vec<Record>) -> Result<(), Allo
     Ok(())
 }
 
-/// Advances a member, as far as it can but few quanta. Of what it emits others have to know the changes and the last silence: any one before ends no later
-/// than that, or than the change behind it.
+/// Advances a member, as far as it can but few quanta. Of what it emits others have to know the changes and the last silence: any one before
+/// ends no later than that, or than the change behind it.
 fn advance_member(group: &mut Group, i: u8, said: &mut Vec<Record>) -> Result<(), AllocError>
     requires { AreTrueOfPlan group.old.plan said.old.items }
     ensures truth { AreTrueOfPlan group.old.plan said.new.items }
@@ -234,8 +234,8 @@ fn put_changes(
 ) -> Result<Option<Record>, AllocError>
     ensures said { (plan : GivenPlan) → AreTrueOfPlan plan emission.now → AreTrueOfPlan plan said.old.items
         → AreTrueOfPlan plan said.new.items }
-    ensures silence { IfOk result (λ last. (plan : GivenPlan) → AreTrueOfPlan plan emission.now → IfSome silence (IsTrueOfPlan plan)
-        → IfSome last (IsTrueOfPlan plan)) }
+    ensures silence { IfOk result (λ last. (plan : GivenPlan) → AreTrueOfPlan plan emission.now
+        → IfSome silence (IsTrueOfPlan plan) → IfSome last (IsTrueOfPlan plan)) }
 {
     let mut last = silence;
     for i in 0..emission.len() {
