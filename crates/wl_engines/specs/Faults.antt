@@ -4,6 +4,8 @@ use Rattle.wl_record.specs.declared.fault.TextFault.{TextFault}
 use Rattle.wl_record.specs.declared.fault.TextFault.TheVariants as text
 use Rattle.wl_setup.specs.declared.fault.SetupFault.{SetupFault}
 use Rattle.wl_setup.specs.declared.fault.SetupFault.TheVariants as setup
+use Rattle.wl_views.specs.declared.fault.ViewFault.{ViewFault}
+use Rattle.wl_views.specs.declared.fault.ViewFault.TheVariants as views
 use Rattle.wl_worker.specs.declared.link.Fault.{Fault}
 use Rattle.wl_worker.specs.declared.link.Fault.TheVariants as work
 use Rattle.wl_engines.specs.declared.fault.RunFault.{RunFault}
@@ -41,6 +43,11 @@ of_work work.Memory = run.Memory
 of_work work.Workers = run.Work work.Workers
 of_work work.Foreign = run.Work work.Foreign
 of_work (work.Worker w) = run.Work (work.Worker w)
+
+-- a view that wasn't written whole
+abbrev pub of_view : ViewFault → RunFault
+of_view views.Write = run.Write
+of_view views.Memory = run.Memory
 
 -- the input is refused for what it says
 abbrev pub is_refusal : RunFault → Bool

@@ -5,6 +5,7 @@ use thiserror::Error;
 use wl_device::WriteFault;
 use wl_record::TextFault;
 use wl_setup::SetupFault;
+use wl_views::ViewFault;
 use wl_worker::Fault;
 
 /// Why a run ended early. Each is shown as the fault that was met; what wraps it isn't shown.
@@ -106,5 +107,19 @@ impl From<AllocError> for RunFault {
 
     fn from(_: AllocError) -> RunFault {
         RunFault::Memory
+    }
+}
+
+impl From<ViewFault> for RunFault {
+    ghost use Rattle.std.specs.Prelude.{◌≡◌};
+    ghost use Rattle.wl_engines.specs.Faults.{of_view};
+
+    ghost from_gives = { λ fault given. given ≡ of_view fault };
+
+    fn from(fault: ViewFault) -> RunFault {
+        match fault {
+            ViewFault::Write => RunFault::Write,
+            ViewFault::Memory => RunFault::Memory,
+        }
     }
 }

@@ -2,7 +2,6 @@
 ghost use Rattle.std.specs.Prelude.{◌≡◌, IfOk};
 ghost use Rattle.wl_plan.specs.Checked.{IsChecked};
 ghost use Rattle.wl_views.specs.Candump.{log_text};
-ghost use Rattle.wl_views.specs.Vcd.{vcd_text};
 ghost use Rattle.wl_views.specs.Trace.{trace_text};
 ghost use Rattle.wl_engines.specs.Plans.{RunsPlan, IsCandumpOutput, IsTraceOutput, IsVcdOutput};
 
@@ -43,20 +42,11 @@ pub fn candump_run<R: Source, W: Sink>(
     Ok(())
 }
 
-/// The waveform of a plan's simulation, under these names of its nodes.
-fn vcd_text(alloc: Global, tick: Tick, plan: &Plan, names: &Names) -> Result<Vec<u8>, AllocError>
-    requires { IsChecked plan.now }
-    ensures { IfOk result (λ text. text.items ≡ vcd_text tick plan.now names.now) }
-{
-    let outcome = run_serial(alloc, plan)?;
-    vcd(alloc, tick, plan, names, &outcome)
-}
-
 /// Reads a plan's text, simulates the plan, and writes the waveform as a Value Change Dump (IEEE 1364-2005, clause 18.2): for each
 /// node its drive, what it finds on the line and its samples; a tick of the plan takes as long as `tick` says.
 ///
-/// The whole output stands before the first write. Where the input is refused, or memory runs out, the writer isn't called;
-/// where the writer fails, a prefix of the output has been written.
+/// The output goes out by pieces, as it is found; memory is asked for before the first of them. Where the input is refused, or memory
+/// runs out, the writer isn't called; where the writer fails, a prefix of the output has been written.
 pub fn vcd_run<R: Source, W: Sink>(
     alloc: Global,
     tick: Tick,
@@ -66,8 +56,8 @@ pub fn vcd_run<R: Source, W: Sink>(
     ensures { RunsPlan R.gives W.takes (IsVcdOutput tick) reader.old reader.new writer.old writer.new result }
 {
     let (plan, names) = read_plan(alloc, reader)?;
-    let text = vcd_text(alloc, tick, &plan, &names)?;
-    write_all(&text, writer)?;
+    let outcome = run_serial(alloc, &plan)?;
+    vcd(alloc, tick, &plan, &names, &outcome, writer)?;
     Ok(())
 }
 

@@ -11,3 +11,5 @@ mod PlanRows
 mod Rows
 mod Telling
 mod WaveRows
+mod Watching
+mod Sending

@@ -1,21 +1,21 @@
 -- A dump that looks only where something may change tells every tick.
-use Rattle.std.proofs.Common.{◌≡◌, ◌∙◌, refl, sym, ap, ap₂, arith, add-one, ℕ, zero, suc, ◌+◌, ◌-◌, ◌<◌, ◌≤◌, Bool, true, false, List, [], ◌∷◌, ◌++◌, length, get_or, take, min, append-nil, append_assoc}
+use Rattle.std.proofs.Common.{◌≡◌, ◌∙◌, refl, sym, ap, ap₂, arith, add-one, ℕ, zero, suc, ◌+◌, ◌-◌, ◌<◌, ◌≤◌, Bool, true, false, List, [], ◌∷◌, ◌++◌, length, get_or, take, append-nil, append_assoc}
 use Rattle.std.specs.List.{flat_map, range_with_len}
 use Rattle.std.proofs.lemmas.List.Concat.{flat_map-append}
 use Rattle.wl_views.specs.declared.tick.Tick.{Tick}
 use Rattle.wl_views.specs.declared.signals.NodeSignals.{NodeSignals}
-use Rattle.wl_views.specs.Vcd.{change_line, changes_from, first_lines, node_changes, tick_lines, time_line, under}
+use Rattle.wl_views.specs.Vcd.{change_line, changes_from, node_changes, tick_lines, time_line, under}
 
 pub no_change : (letter : List ℕ) (i : ℕ) (b : Bool) → change_line letter i b b ≡ []
 no_change letter i true = refl
 no_change letter i false = refl
 
+pub same_node : (i : ℕ) (n : NodeSignals) → node_changes i n n ≡ []
+same_node i n = ap₂ (λ a b. a ++ b) (ap₂ (λ a b. a ++ b) (no_change _ i n.tx) (no_change _ i n.rx)) (no_change _ i n.sample)
+
 nothing_changed : (i : ℕ) (now : List NodeSignals) → changes_from i now now ≡ []
 nothing_changed i [] = refl
-nothing_changed i (n ∷ now) =
-    ap₂ (λ a b. a ++ b)
-    (ap₂ (λ a b. a ++ b) (ap₂ (λ a b. a ++ b) (no_change _ i n.tx) (no_change _ i n.rx)) (no_change _ i n.sample))
-    (nothing_changed (suc i) now)
+nothing_changed i (n ∷ now) = ap₂ (λ a b. a ++ b) (same_node i n) (nothing_changed (suc i) now)
 
 -- one node more
 changes_more : (a k : ℕ) (was now : List NodeSignals) (d : NodeSignals) → k < length was → k < length now
@@ -73,37 +73,40 @@ module _ (tick : Tick) (levels : ℕ → List NodeSignals) where
       (quiet_range now (t + 1) (until - t - 1) (omega arith) (λ u from below. same u (omega arith) (omega arith)))
       ∙ append-nil (under (time_line tick t) (changes_from 0 was now)))
 
-  -- nothing is told of the first ticks up to another one
-  pub told_first : (until : ℕ) (now : List NodeSignals) → ((u : ℕ) → 0 ≤ u → u < until → levels u ≡ now) → lines (range_with_len 1 (until - 1)) ≡ []
-  told_first zero now same = refl
-  told_first (suc until) now same =
-      quiet_range now 1 (suc until - 1) (omega arith) (λ u from below. same u (omega arith) (omega arith))
+  -- the same, where the text of what came before stands
+  pub tick_more : (t until : ℕ) → 1 ≤ t → t < until → ((u : ℕ) → t ≤ u → u < until → levels u ≡ levels t)
+      → lines (range_with_len 1 (until - 1)) ≡ lines (range_with_len 1 (t - 1)) ++ tick_lines tick levels t
+  unfolding tick_lines
+  tick_more t until some later same = told_until t until (levels (t - 1)) (levels t) some later refl same
 
-  -- the dump up to some tick
-  abbrev pub dumped : ℕ → List ℕ
-  dumped until = first_lines tick (levels 0) ++ lines (range_with_len 1 (until - 1))
+  -- what comes from tick t on
+  pub rest_of : (t end : ℕ) → 1 ≤ t → t ≤ end
+      → lines (range_with_len 1 (end - 1)) ≡ lines (range_with_len 1 (t - 1)) ++ lines (range_with_len t (end - t))
+  rest_of t end some inside =
+      ap (λ (n : ℕ). lines (range_with_len 1 n)) {x = end - 1} {y = (t - 1) + (end - t)} (omega arith)
+      ∙ ap lines (range_parts 1 (t - 1) (end - t) ∙ ap (λ (k : ℕ). range_with_len 1 (t - 1) ++ range_with_len k (end - t)) {x = 1 + (t - 1)} {y = t} (omega arith))
+      ∙ flat_map-append (tick_lines tick levels) (range_with_len 1 (t - 1)) (range_with_len t (end - t))
 
-  pub begin_told : (old text : List ℕ) (end until : ℕ) (now : List NodeSignals) → text ≡ old ++ first_lines tick now → 0 < until
-      → ((u : ℕ) → 0 ≤ u → u < until → levels u ≡ now) → text ≡ old ++ dumped (min until end)
-  begin_told old text end until now is some same =
-      is
-      ∙ ap (λ ys. old ++ ys)
-      (ap (first_lines tick) (sym (same 0 (omega arith) some)) ∙ sym (append-nil (first_lines tick (levels 0)))
-      ∙ ap (λ ys. first_lines tick (levels 0) ++ ys) (sym (told_first (min until end) now (λ u from below. same u from (omega arith)))))
+pub under_some : (time more : List ℕ) → 0 < length more → under time more ≡ time ++ more
+under_some time [] some = absurd (omega arith)
+under_some time (b ∷ more) some = refl
 
-  pub step_told : (old text more : List ℕ) (t end until : ℕ) (was now : List NodeSignals) → 1 ≤ t → t < end → t < until → levels (t - 1) ≡ was
-      → ((u : ℕ) → t ≤ u → u < until → levels u ≡ now) → text ≡ old ++ dumped t → more ≡ text ++ under (time_line tick t) (changes_from 0 was now)
-      → more ≡ old ++ dumped (min until end)
-  step_told old text more t end until was now some inside later before same told grows =
-      let here : List ℕ = under (time_line tick t) (changes_from 0 was now) in
-      grows ∙ ap (λ ys. ys ++ here) told
-      ∙ append_assoc old (dumped t) here
-      ∙ ap (λ ys. old ++ ys)
-      (append_assoc (first_lines tick (levels 0)) (lines (range_with_len 1 (t - 1))) here
-      ∙ ap (λ ys. first_lines tick (levels 0) ++ ys) (sym (told_until t (min until end) was now some (omega arith) before (λ u from below. same u from (omega arith)))))
+pub under_none : (time more : List ℕ) → length more ≡ 0 → under time more ≡ []
+under_none time [] none = refl
+under_none time (b ∷ more) none = absurd (omega arith)
 
-  pub end_told : (old text more : List ℕ) (end until : ℕ) → end ≤ until → until ≤ end → text ≡ old ++ dumped until → more ≡ text ++ time_line tick end
-      → more ≡ old ++ (dumped end ++ time_line tick end)
-  end_told old text more end until past capped told grows =
-      let is : until ≡ end = omega arith in
-      grows ∙ ap (λ ys. ys ++ time_line tick end) (told ∙ ap (λ n. old ++ dumped n) is) ∙ append_assoc old (dumped end) (time_line tick end)
+-- The text that has gone out and that which waits, and what is still to come.
+pub whole_of : (front sent text told rest all time : List ℕ) → sent ++ text ≡ front ++ told → all ≡ told ++ rest
+    → sent ++ (text ++ (rest ++ time)) ≡ front ++ (all ++ time)
+whole_of front sent text told rest all time is parts =
+    sym (append_assoc sent text (rest ++ time)) ∙ ap (λ ys. ys ++ (rest ++ time)) is ∙ append_assoc front told (rest ++ time)
+    ∙ ap (λ ys. front ++ ys) (sym (append_assoc told rest time) ∙ ap (λ ys. ys ++ time) (sym parts))
+
+pub one_tick : (front sent text told gone kept new here next : List ℕ) → sent ++ text ≡ front ++ told → gone ++ kept ≡ sent ++ text
+    → new ≡ kept ++ here → next ≡ told ++ here → gone ++ new ≡ front ++ next
+one_tick front sent text told gone kept new here next is moved grows more =
+    ap (λ ys. gone ++ ys) grows ∙ sym (append_assoc gone kept here) ∙ ap (λ ys. ys ++ here) (moved ∙ is) ∙ append_assoc front told here ∙ ap (λ ys. front ++ ys) (sym more)
+
+pub all_told : (front sent text told new time all : List ℕ) → sent ++ text ≡ front ++ told → new ≡ text ++ time → all ≡ told → sent ++ new ≡ front ++ (all ++ time)
+all_told front sent text told new time all is grows same =
+    ap (λ ys. sent ++ ys) grows ∙ sym (append_assoc sent text time) ∙ ap (λ ys. ys ++ time) is ∙ append_assoc front told time ∙ ap (λ ys. front ++ (ys ++ time)) (sym same)

@@ -1,14 +1,16 @@
 -- Values that stay from one tick up to another, so that the ticks in between needn't be asked for (this project's profile).
-use Rattle.std.specs.Prelude.{◌≡◌, ℕ, ◌+◌, ◌-◌, ◌<◌, ◌≤◌, ◌&&◌, nat_le, Bool, List, length, slice_index}
+use Rattle.std.specs.Prelude.{◌≡◌, ℕ, ◌+◌, ◌-◌, ◌<◌, ◌≤◌, ◌&&◌, nat_le, min, not, Bool, false, List, length, slice_index, slice_index_or}
 use Rattle.wl_topology.specs.Delays.{delay_of}
 use Rattle.wl_topology.specs.Driven.{driven}
 use Rattle.wl_record_core.specs.Truth.{count_below, odd}
 use Rattle.wl_plan.specs.declared.plan.Plan.{Plan}
-use Rattle.wl_plan.specs.PlanLine.{line_of}
+use Rattle.wl_plan.specs.Line.{found}
+use Rattle.wl_plan.specs.PlanLine.{line_of, table_of}
 use Rattle.wl_plan.specs.Simulation.{level}
 use Rattle.wl_views.specs.declared.held.Held.{Held}
 use Rattle.wl_views.specs.declared.signals.NodeSignals.{NodeSignals}
-use Rattle.wl_views.specs.Signals.{node_signals, signals}
+use Rattle.wl_views.specs.declared.signals.Watched.{Watched}
+use Rattle.wl_views.specs.Signals.{sample_ticks}
 
 -- from tick t up to another one a value is this one
 pub record Holds (f : ℕ → Bool) (t : ℕ) (held : Held) : Type 0 where
@@ -31,12 +33,30 @@ turn_after ticks count delay = slice_index ticks count + delay
 abbrev pub IsBeforeTurn : List ℕ → ℕ → ℕ → ℕ → Type 0
 IsBeforeTurn ticks count delay t = count < length ticks → t < turn_after ticks count delay
 
--- from tick t up to another one the signals of node i are these
-pub record NodeHolds (plan : Plan) (i t until : ℕ) (now : NodeSignals) : Type 0 where
-  pub later : t < until
-  pub same : (u : ℕ) → t ≤ u → u < until → node_signals plan u i ≡ now
+-- what is known of a node before anything is: values that have run out
+abbrev pub unwatched : Watched
+unwatched = record { drive = record { value = false; until = 0 }; line = record { value = false; until = 0 }; mark = record { value = false; until = 0 } }
 
--- and so those of all nodes
-pub record AllHold (plan : Plan) (t until : ℕ) (now : List NodeSignals) : Type 0 where
-  pub later : t < until
-  pub same : (u : ℕ) → t ≤ u → u < until → signals plan u ≡ now
+-- the signals that such values are
+abbrev pub signals_by : Watched → NodeSignals
+signals_by w = record { tx = not w.drive.value; rx = not w.line.value; sample = w.mark.value }
+
+-- up to when all of them stay
+abbrev pub stays_until : Watched → ℕ
+stays_until w = min (min w.drive.until w.line.until) w.mark.until
+
+-- from tick t on what node i drives, what it finds and its mark are these
+pub record Watches (plan : Plan) (i t : ℕ) (w : Watched) : Type 0 where
+  pub drive : Holds (turned_at 0 (table_of plan i)) t w.drive
+  pub line : Holds (found (line_of plan) (level (line_of plan)) i) t w.line
+  pub mark : Holds (turned_at 0 (sample_ticks plan i)) t w.mark
+
+-- and so are those of them that haven't run out at tick t
+pub record Remembers (plan : Plan) (i t : ℕ) (w : Watched) : Type 0 where
+  pub drive : t < w.drive.until → Holds (turned_at 0 (table_of plan i)) t w.drive
+  pub line : t < w.line.until → Holds (found (line_of plan) (level (line_of plan)) i) t w.line
+  pub mark : t < w.mark.until → Holds (turned_at 0 (sample_ticks plan i)) t w.mark
+
+-- that of all nodes
+abbrev pub AllWatched : Plan → ℕ → List Watched → Type 0
+AllWatched plan t all = (i : ℕ) → i < length plan.nodes → Watches plan i t (slice_index_or all i unwatched)

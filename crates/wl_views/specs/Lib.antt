@@ -5,4 +5,5 @@ pub mod Candump
 pub mod Signals
 pub mod Held
 pub mod Vcd
+pub mod Streams
 pub mod Trace

@@ -3,8 +3,10 @@
 
 mod digits;
 mod dump;
+mod fault;
 mod held;
 mod laws;
+mod lines;
 mod log;
 mod samples;
 mod seen;
@@ -13,10 +15,12 @@ mod signals;
 mod tick;
 mod told;
 mod turned;
+mod wave;
 
-pub use dump::vcd;
+pub use fault::ViewFault;
 pub use laws::sent_in_time;
 pub use log::candump;
 pub use signals::NodeSignals;
 pub use tick::{Tick, TimeUnit};
 pub use told::trace;
+pub use wave::vcd;

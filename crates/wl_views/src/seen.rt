@@ -29,7 +29,7 @@ fn level_of(dominant: bool) -> Level
 }
 
 /// Whether node `j` finds the line dominant at tick `t`, by what it found before and for how long that stays.
-fn found_at(
+pub(crate) fn found_at(
     plan: &Plan,
     outcome: &Outcome,
     j: usize,

@@ -1,6 +1,7 @@
 //! The signals of a simulation's nodes at a tick, and how long they stay.
-ghost use Rattle.std.specs.Prelude.{◌≡◌, ℕ, ◌+◌, ◌<◌, ◌≤◌, ◌&&◌, nat_le, nat_lt, IfOk, length, map};
-ghost use Rattle.std.specs.List.{range_with_len};
+ghost use Rattle.std.specs.Prelude.{◌≡◌, ℕ, ◌+◌, ◌-◌, ◌<◌, ◌≤◌, ◌&&◌, ◌++◌, nat_le, nat_lt, IfOk, OnOk, length};
+ghost use Rattle.arrayvec.specs.ArrayVec.{array_vec_len};
+ghost use Rattle.wl_record_core.specs.Truth.{IsIncreasing};
 ghost use Rattle.wl_topology.specs.Limits.{longest_delay};
 ghost use Rattle.wl_topology.specs.Delays.{delay_of, disturbance_delay};
 ghost use Rattle.wl_topology.specs.Driven.{driven};
@@ -10,12 +11,15 @@ ghost use Rattle.wl_plan.specs.Line.{found};
 ghost use Rattle.wl_plan.specs.PlanLine.{disturbed, is_at, line_of};
 ghost use Rattle.wl_plan.specs.Simulation.{level};
 ghost use Rattle.wl_serial.specs.Outcome.{outcome_of};
-ghost use Rattle.wl_views.specs.Held.{AllHold, Holds, NodeHolds, driven_at};
-ghost use Rattle.wl_views.specs.Signals.{sample_ticks};
+ghost use Rattle.wl_views.specs.Held.{AllWatched, Holds, Remembers, Watches, driven_at, signals_by, stays_until, turned_at, unwatched};
+ghost use Rattle.wl_views.specs.Signals.{all_sample_ticks, node_signals, sample_ticks, signals};
+ghost use Rattle.wl_views.specs.Vcd.{changes_from, node_changes};
 
 use crate::held::Held;
+use crate::lines::{Lines, push_node_changes};
+use crate::seen::found_at;
 use crate::turned::turned;
-use std::alloc::AllocError;
+use std::alloc::{AllocError, Global};
 use wl_level::Listed;
 use wl_plan::{Disturbance, Plan};
 use wl_serial::Outcome;
@@ -32,17 +36,56 @@ pub struct NodeSignals {
     pub sample: bool,
 }
 
-/// Signals, and a later tick up to which they stay.
+/// What is known of a node's signals from a tick on, each with how long it stays.
 #[derive(Clone, Copy)]
-struct HeldSignals {
-    now: NodeSignals,
-    until: u64,
+pub(crate) struct Watched {
+    /// Whether it drives dominant.
+    pub(crate) drive: Held,
+    /// Whether it finds the line dominant.
+    pub(crate) line: Held,
+    /// Whether its mark of samples is high.
+    pub(crate) mark: Held,
+}
+
+impl Watched {
+    /// Nothing is known yet.
+    pub(crate) fn new() -> Watched
+        ensures { result ≡ unwatched }
+    {
+        let none = Held {
+            value: false,
+            until: 0,
+        };
+        Watched {
+            drive: none,
+            line: none,
+            mark: none,
+        }
+    }
+
+    /// The signals.
+    pub(crate) fn now(self) -> NodeSignals
+        ensures { result ≡ signals_by self }
+    {
+        NodeSignals {
+            tx: !self.drive.value,
+            rx: !self.line.value,
+            sample: self.mark.value,
+        }
+    }
+
+    /// How long all of them stay.
+    pub(crate) fn until(self) -> u64
+        ensures { result ≡ stays_until self }
+    {
+        self.drive.until.min(self.line.until).min(self.mark.until)
+    }
 }
 
 /// For a node, how many changes of each node had come to it, and of its own drive and its samples, when they were last asked for.
 /// It speeds up the next time, and decides nothing.
 #[derive(Clone, Copy)]
-struct Come {
+pub(crate) struct Come {
     line: [usize; MOST_NODES],
     drive: usize,
     samples: usize,
@@ -157,61 +200,158 @@ pub(crate) fn line_at(
     others.or(disturbed(plan, j, t))
 }
 
-/// The signals of node `i` at tick `t`, by the ticks of its samples.
-fn signals_of(
+/// What turns at each of these ticks, at tick `t`, by what it was before and for how long that stays.
+fn turned_on(ticks: &[u64], t: u64, held: Held, come: &mut usize) -> Held
+    requires increasing { IsIncreasing ticks.now }
+    requires early { t ≤ latest_end }
+    requires held { t < held.until → Holds (turned_at 0 ticks.now) t held }
+    ensures { Holds (turned_at 0 ticks.now) t result }
+{
+    if t < held.until {
+        held
+    } else {
+        turned(ticks, 0, t, come)
+    }
+}
+
+/// What is known of node `i` from tick `t` on, by the ticks of its samples and by what was known of it before.
+pub(crate) fn watch(
     plan: &Plan,
     outcome: &Outcome,
     samples: &[u64],
     i: usize,
     t: u64,
+    was: Watched,
     come: &mut Come,
-) -> HeldSignals
+) -> Watched
     requires checked { IsChecked plan.now }
     requires outcome { outcome.now ≡ outcome_of plan.now }
     requires samples { samples.now ≡ sample_ticks plan.now i }
     requires node { i < length plan.now.nodes }
     requires early { t ≤ latest_end }
-    ensures { NodeHolds plan.now i t result.until result.now }
+    requires was { Remembers plan.now i t was }
+    ensures { Watches plan.now i t result }
 {
     wl_plan::checked_is_sound();
     wl_plan::simulation_laws();
     let nodes = outcome.nodes.as_slice();
     let changes = nodes[i].changes.as_slice();
-    let drive = turned(changes, 0, t, &mut come.drive);
-    let line = line_at(plan, outcome, i, t, &mut come.line);
-    let mark = turned(samples, 0, t, &mut come.samples);
-    HeldSignals {
-        now: NodeSignals {
-            tx: !drive.value,
-            rx: !line.value,
-            sample: mark.value,
-        },
-        until: drive.until.min(line.until).min(mark.until),
-    }
+    let drive = turned_on(changes, t, was.drive, &mut come.drive);
+    let line = found_at(plan, outcome, i, t, was.line, &mut come.line);
+    let mark = turned_on(samples, t, was.mark, &mut come.samples);
+    Watched { drive, line, mark }
 }
 
-/// Puts the signals of all nodes at tick `t` into `now`, and answers a later tick up to which they stay.
-pub(crate) fn look(
+/// Makes known all nodes' signals from tick 0 on, and answers the signals at tick 0.
+pub(crate) fn watch_all(
+    alloc: Global,
+    plan: &Plan,
+    outcome: &Outcome,
+    samples: &[Listed<u64>],
+    come: &mut AllCome,
+    watched: &mut [Watched; MOST_NODES],
+) -> Result<Vec<NodeSignals>, AllocError>
+    requires checked { IsChecked plan.now }
+    requires outcome { outcome.now ≡ outcome_of plan.now }
+    requires samples { samples.now ≡ all_sample_ticks plan.now }
+    ensures now { IfOk result (λ now. now.items ≡ signals plan.now 0) }
+    ensures watched { OnOk result (AllWatched plan.now 0 watched.new) }
+{
+    wl_plan::checked_is_sound();
+    wl_plan::simulation_laws();
+    let mut now = Vec::new(alloc);
+    for i in 0..plan.nodes.len() {
+        let ticks = samples[i].as_slice();
+        let first = watch(
+            plan,
+            outcome,
+            ticks,
+            i,
+            0,
+            Watched::new(),
+            &mut come.nodes[i],
+        );
+        watched[i] = first;
+        now.push(first.now())?;
+    }
+    Ok(now)
+}
+
+/// Adds those signals of node `i` that change at tick `t`, and answers what is known of it from then on.
+fn push_node(
+    text: &mut Lines,
+    plan: &Plan,
+    outcome: &Outcome,
+    samples: &[u64],
+    i: usize,
+    t: u64,
+    was: Watched,
+    come: &mut Come,
+) -> Watched
+    requires checked { IsChecked plan.now }
+    requires outcome { outcome.now ≡ outcome_of plan.now }
+    requires samples { samples.now ≡ sample_ticks plan.now i }
+    requires node { i < length plan.now.nodes }
+    requires some { 0 < t }
+    requires early { t ≤ latest_end }
+    requires was { Watches plan.now i (t - 1) was }
+    requires room { array_vec_len text.old + 69 ≤ 16384 }
+    ensures lines { text.new.items ≡ text.old.items
+        ++ node_changes i (node_signals plan.now (t - 1) i) (node_signals plan.now t i) }
+    ensures grown { array_vec_len text.new ≤ array_vec_len text.old + 69 }
+    ensures watches { Watches plan.now i t result }
+{
+    wl_plan::checked_is_sound();
+    wl_plan::simulation_laws();
+    if t < was.until() {
+        return was;
+    }
+    let now = watch(plan, outcome, samples, i, t, was, come);
+    push_node_changes(text, i, was.now(), now.now());
+    now
+}
+
+/// Adds those signals of all nodes that change at tick `t`, and answers a later tick up to which none of them changes again.
+pub(crate) fn push_changes(
+    text: &mut Lines,
     plan: &Plan,
     outcome: &Outcome,
     samples: &[Listed<u64>],
     t: u64,
     come: &mut AllCome,
-    now: &mut Vec<NodeSignals>,
-) -> Result<u64, AllocError>
+    watched: &mut [Watched; MOST_NODES],
+) -> u64
     requires checked { IsChecked plan.now }
     requires outcome { outcome.now ≡ outcome_of plan.now }
-    requires samples { samples.now ≡ map (sample_ticks plan.now) (range_with_len 0 (length plan.now.nodes)) }
-    requires early { t ≤ latest_end }
-    ensures { IfOk result (λ until. AllHold plan.now t until now.new.items) }
+    requires samples { samples.now ≡ all_sample_ticks plan.now }
+    requires some { 0 < t }
+    requires early { t < plan.now.end }
+    requires watched { AllWatched plan.now (t - 1) watched.old }
+    requires room { array_vec_len text.old + 1104 ≤ 16384 }
+    ensures lines { text.new.items ≡ text.old.items ++ changes_from 0 (signals plan.now (t - 1)) (signals plan.now t) }
+    ensures grown { array_vec_len text.new ≤ array_vec_len text.old + 1104 }
+    ensures later { t < result }
+    ensures inside { result ≤ plan.now.end }
+    ensures stays { (u : ℕ) → t ≤ u → u < result → signals plan.now u ≡ signals plan.now t }
+    ensures watched { AllWatched plan.now (result - 1) watched.new }
 {
-    now.clear();
-    let mut until = u64::MAX;
+    wl_plan::checked_is_sound();
+    wl_plan::simulation_laws();
+    let mut until = plan.end;
     for i in 0..plan.nodes.len() {
         let ticks = samples[i].as_slice();
-        let held = signals_of(plan, outcome, ticks, i, t, &mut come.nodes[i]);
-        now.push(held.now)?;
-        until = until.min(held.until);
+        let now = push_node(
+            text,
+            plan,
+            outcome,
+            ticks,
+            i,
+            t,
+            watched[i],
+            &mut come.nodes[i],
+        );
+        watched[i] = now;
+        until = until.min(now.until());
     }
-    Ok(until)
+    until
 }

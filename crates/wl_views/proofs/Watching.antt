@@ -1,0 +1,95 @@
+-- What is known of nodes from a tick on, at later ticks.
+use Rattle.std.proofs.Common.{◌≡◌, ◌∙◌, refl, sym, subst, ap₂, arith, zero-add, below_more, get_or-set_other, get_or-set_same, ℕ, zero, suc, ◌+◌, ◌<◌, ◌≤◌, ◌≢◌, false, Bool, List, ◌∷◌, ◌++◌, length, get_or, set, take, map}
+use Rattle.std.specs.List.{range_with_len}
+use Rattle.std.proofs.lemmas.List.FromFn.{get_or-map-range_with_len, length-map-range_with_len}
+use Rattle.wl_plan.specs.declared.plan.Plan.{Plan}
+use Rattle.wl_plan.specs.PlanLine.{line_of}
+use Rattle.wl_plan.specs.SimulationLaws.{SimulationLaws}
+use Rattle.wl_plan.specs.Sound.{IsSound}
+use Rattle.wl_views.specs.declared.held.Held.{Held}
+use Rattle.wl_views.specs.declared.signals.NodeSignals.{NodeSignals}
+use Rattle.wl_views.specs.declared.signals.Watched.{Watched}
+use Rattle.wl_views.specs.Held.{Holds, Remembers, Watches, signals_by, stays_until, unwatched}
+use Rattle.wl_views.specs.Signals.{node_signals, signals}
+use Rattle.wl_views.specs.Vcd.{changes_from, node_changes}
+use Rattle.wl_views.proofs.SignalProofs.{signals_are}
+use Rattle.wl_views.proofs.Walk.{changed_more}
+
+abbrev pub low : NodeSignals
+low = record { tx = false; rx = false; sample = false }
+
+narrow : (f : ℕ → Bool) (t u : ℕ) (held : Held) → Holds f t held → t ≤ u → u < held.until → Holds f u held
+narrow f t u held h from below = record { later = below; same = λ v more less. h.same v (omega arith) less }
+
+-- what is known goes on as long as it stays
+pub on : (plan : Plan) (i t u : ℕ) (w : Watched) → Watches plan i t w → t ≤ u → u < stays_until w → Watches plan i u w
+on plan i t u w h from below = record {
+  drive = narrow _ t u w.drive h.drive from (omega arith);
+  line = narrow _ t u w.line h.line from (omega arith);
+  mark = narrow _ t u w.mark h.mark from (omega arith);
+}
+
+pub remembered : (plan : Plan) (i t u : ℕ) (w : Watched) → Watches plan i t w → t ≤ u → Remembers plan i u w
+remembered plan i t u w h from = record {
+  drive = λ below. narrow _ t u w.drive h.drive from below;
+  line = λ below. narrow _ t u w.line h.line from below;
+  mark = λ below. narrow _ t u w.mark h.mark from below;
+}
+
+pub nothing_remembered : (plan : Plan) (i t : ℕ) → Remembers plan i t unwatched
+nothing_remembered plan i t = record {
+  drive = λ below. absurd (omega arith);
+  line = λ below. absurd (omega arith);
+  mark = λ below. absurd (omega arith);
+}
+
+module _ (laws : SimulationLaws) (plan : Plan) (sound : IsSound (line_of plan)) (i : ℕ) (b : i < length plan.nodes) where
+  pub stays : (t u : ℕ) (w : Watched) → Watches plan i t w → t ≤ u → u < stays_until w → node_signals plan u i ≡ signals_by w
+  stays t u w h from below =
+      signals_are laws plan sound i b u w.drive.value w.line.value w.mark.value
+      (h.drive.same u from (omega arith)) (h.line.same u from (omega arith)) (h.mark.same u from (omega arith))
+
+  pub now : (t : ℕ) (w : Watched) → Watches plan i t w → node_signals plan t i ≡ signals_by w
+  now t w h =
+      let p = h.drive.later in
+      let q = h.line.later in
+      let r = h.mark.later in
+      stays t t w h (omega arith) (omega arith)
+
+-- a range of equal values
+same_range : {X : Type 0} (f g : ℕ → X) (a n : ℕ) → ((k : ℕ) → a ≤ k → k < a + n → f k ≡ g k) → map f (range_with_len a n) ≡ map g (range_with_len a n)
+same_range f g a zero same = refl
+same_range f g a (suc n) same =
+    ap₂ (λ x xs. x ∷ xs) (same a (omega arith) (omega arith)) (same_range f g (a + 1) n (λ k from below. same k (omega arith) (omega arith)))
+
+pub all_same : (plan : Plan) (t u : ℕ) → ((i : ℕ) → i < length plan.nodes → node_signals plan u i ≡ node_signals plan t i) → signals plan u ≡ signals plan t
+all_same plan t u same = same_range (node_signals plan u) (node_signals plan t) 0 (length plan.nodes) (λ k from below. same k (omega arith))
+
+pub all_nodes : (plan : Plan) (u : ℕ) → length (signals plan u) ≡ length plan.nodes
+all_nodes plan u = length-map-range_with_len (node_signals plan u) 0 (length plan.nodes)
+
+-- the changes of one node more
+pub node_more : (plan : Plan) (s t k : ℕ) → k < length plan.nodes
+    → changes_from 0 (take (k + 1) (signals plan s)) (take (k + 1) (signals plan t))
+    ≡ changes_from 0 (take k (signals plan s)) (take k (signals plan t)) ++ node_changes k (node_signals plan s k) (node_signals plan t k)
+node_more plan s t k b =
+    let m = all_nodes plan s in
+    let n = all_nodes plan t in
+    let was : get_or (signals plan s) k low ≡ node_signals plan s k = get_or-map-range_with_len (node_signals plan s) 0 (length plan.nodes) k k low b (zero-add k) in
+    let now : get_or (signals plan t) k low ≡ node_signals plan t k = get_or-map-range_with_len (node_signals plan t) 0 (length plan.nodes) k k low b (zero-add k) in
+    changed_more k (signals plan s) (signals plan t) low (omega arith) (omega arith)
+    ∙ ap₂ (λ x y. changes_from 0 (take k (signals plan s)) (take k (signals plan t)) ++ node_changes k x y) was now
+
+-- what is known of the nodes up to one, of which it is put in place
+pub known_more : (P : ℕ → Watched → Type 0) (all : List Watched) (i : ℕ) (w : Watched) → i < length all
+    → ((k : ℕ) → k < i → P k (get_or all k unwatched)) → P i w → (k : ℕ) → k < i + 1 → P k (get_or (set all i w) k unwatched)
+known_more P all i w room below here =
+    below_more (λ k. P k (get_or (set all i w) k unwatched)) i
+    (λ k h. let ne : k ≢ i = omega arith in subst (P k) (sym (get_or-set_other all i k w unwatched ne)) (below k h))
+    (subst (P i) (sym (get_or-set_same all i w unwatched room)) here)
+
+-- and of the others, which stay as they are
+pub others_stay : (P : ℕ → Watched → Type 0) (all : List Watched) (i n : ℕ) (w : Watched)
+    → ((k : ℕ) → i ≤ k → k < n → P k (get_or all k unwatched)) → (k : ℕ) → i + 1 ≤ k → k < n → P k (get_or (set all i w) k unwatched)
+others_stay P all i n w others k from inside =
+    let ne : k ≢ i = omega arith in subst (P k) (sym (get_or-set_other all i k w unwatched ne)) (others k (omega arith) inside)

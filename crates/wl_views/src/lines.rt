@@ -1,0 +1,86 @@
+//! Text in a room of a fixed size, which needs no memory: what changes at a tick.
+ghost use Rattle.std.specs.Prelude.{◌≡◌, ◌+◌, ◌≤◌, ◌++◌, length};
+ghost use Rattle.std.specs.Fmt.{decimal};
+ghost use Rattle.arrayvec.specs.ArrayVec.{array_vec_len};
+ghost use Rattle.wl_plan.specs.Limits.{latest_end};
+ghost use Rattle.wl_views.specs.Vcd.{change_line, node_changes, time_line, value_line};
+
+use crate::signals::NodeSignals;
+use crate::tick::Tick;
+use arrayvec::ArrayVec;
+use itoa::write_digits;
+
+/// How many bytes there is room for.
+pub(crate) const ROOM: usize = 16_384;
+
+/// A text in that room.
+pub(crate) type Lines = ArrayVec<u8, ROOM>;
+
+/// Adds these bytes.
+fn push_bytes(text: &mut Lines, bytes: &[u8])
+    requires { array_vec_len text.old + length bytes.now ≤ 16384 }
+    ensures bytes { text.new.items ≡ text.old.items ++ bytes.now }
+    ensures len { array_vec_len text.new ≡ array_vec_len text.old + length bytes.now }
+{
+    let put = text.try_extend_from_slice(bytes);
+    prove!(put.is_ok());
+}
+
+/// Adds a number.
+fn push_number(text: &mut Lines, number: u64)
+    requires { array_vec_len text.old + 20 ≤ 16384 }
+    ensures bytes { text.new.items ≡ text.old.items ++ decimal number }
+    ensures grown { array_vec_len text.new ≤ array_vec_len text.old + 20 }
+{
+    let mut digits = [0u8; 20];
+    let at = write_digits(number, &mut digits, 20);
+    push_bytes(text, &digits[at..]);
+}
+
+/// Adds the time of a tick.
+pub(crate) fn push_time(text: &mut Lines, tick: Tick, t: u64)
+    requires room { array_vec_len text.old + 22 ≤ 16384 }
+    requires early { t ≤ latest_end }
+    ensures line { text.new.items ≡ text.old.items ++ time_line tick t }
+    ensures grown { array_vec_len text.new ≤ array_vec_len text.old + 22 }
+{
+    text.push(b'#');
+    push_number(text, t * u64::from(tick.count));
+    text.push(b'\n');
+}
+
+/// Adds the level of a signal of node `i`.
+fn push_value(text: &mut Lines, letter: &str, i: usize, high: bool)
+    requires room { array_vec_len text.old + 23 ≤ 16384 }
+    requires letter { length letter.now ≤ 1 }
+    ensures line { text.new.items ≡ text.old.items ++ value_line letter.now i high }
+    ensures grown { array_vec_len text.new ≤ array_vec_len text.old + 23 }
+{
+    text.push(if high { b'1' } else { b'0' });
+    push_bytes(text, letter.as_bytes());
+    push_number(text, i as u64);
+    text.push(b'\n');
+}
+
+/// Adds the level of a signal of node `i`, where it is another than before.
+fn push_change(text: &mut Lines, letter: &str, i: usize, was: bool, now: bool)
+    requires room { array_vec_len text.old + 23 ≤ 16384 }
+    requires letter { length letter.now ≤ 1 }
+    ensures line { text.new.items ≡ text.old.items ++ change_line letter.now i was now }
+    ensures grown { array_vec_len text.new ≤ array_vec_len text.old + 23 }
+{
+    if was != now {
+        push_value(text, letter, i, now);
+    }
+}
+
+/// Adds the levels of those signals of node `i` that changed.
+pub(crate) fn push_node_changes(text: &mut Lines, i: usize, was: NodeSignals, now: NodeSignals)
+    requires { array_vec_len text.old + 69 ≤ 16384 }
+    ensures lines { text.new.items ≡ text.old.items ++ node_changes i was now }
+    ensures grown { array_vec_len text.new ≤ array_vec_len text.old + 69 }
+{
+    push_change(text, "t", i, was.tx, now.tx);
+    push_change(text, "r", i, was.rx, now.rx);
+    push_change(text, "s", i, was.sample, now.sample);
+}

@@ -1,0 +1,145 @@
+//! The waveform, written by pieces as it is found.
+ghost use Rattle.std.specs.Prelude.{◌≡◌, ℕ, ◌+◌, ◌-◌, ◌<◌, ◌≤◌, ◌++◌};
+ghost use Rattle.std.specs.List.{flat_map, range_with_len};
+ghost use Rattle.arrayvec.specs.ArrayVec.{array_vec_len};
+ghost use Rattle.wl_device.specs.Devices.{Writes};
+ghost use Rattle.wl_plan.specs.Checked.{IsChecked};
+ghost use Rattle.wl_serial.specs.Outcome.{outcome_of};
+ghost use Rattle.wl_views.specs.Held.{AllWatched};
+ghost use Rattle.wl_views.specs.Signals.{all_sample_ticks, signals};
+ghost use Rattle.wl_views.specs.Streams.{Streams};
+ghost use Rattle.wl_views.specs.Vcd.{tick_lines, time_line, vcd_text};
+
+use crate::dump::front;
+use crate::fault::ViewFault;
+use crate::lines::{Lines, push_time};
+use crate::samples::all_sample_ticks;
+use crate::signals::{AllCome, Watched, push_changes, watch_all};
+use crate::tick::Tick;
+use arrayvec::ArrayVec;
+use std::alloc::Global;
+use wl_device::{Sink, WriteFault, send};
+use wl_level::Listed;
+use wl_plan::Plan;
+use wl_serial::Outcome;
+use wl_setup::Names;
+use wl_topology::MOST_NODES;
+
+/// From how many bytes on a piece goes out.
+const PIECE: usize = 8_192;
+
+/// Adds what changes at tick `t` under its time, and answers a later tick up to which nothing changes again.
+fn push_tick(
+    text: &mut Lines,
+    tick: Tick,
+    plan: &Plan,
+    outcome: &Outcome,
+    samples: &[Listed<u64>],
+    t: u64,
+    come: &mut AllCome,
+    watched: &mut [Watched; MOST_NODES],
+) -> u64
+    requires checked { IsChecked plan.now }
+    requires outcome { outcome.now ≡ outcome_of plan.now }
+    requires samples { samples.now ≡ all_sample_ticks plan.now }
+    requires some { 0 < t }
+    requires early { t < plan.now.end }
+    requires watched { AllWatched plan.now (t - 1) watched.old }
+    requires room { array_vec_len text.old ≤ 8192 }
+    ensures lines { text.new.items ≡ text.old.items ++ tick_lines tick (signals plan.now) t }
+    ensures grown { array_vec_len text.new ≤ 16000 }
+    ensures later { t < result }
+    ensures inside { result ≤ plan.now.end }
+    ensures stays { (u : ℕ) → t ≤ u → u < result → signals plan.now u ≡ signals plan.now t }
+    ensures watched { AllWatched plan.now (result - 1) watched.new }
+{
+    wl_plan::checked_is_sound();
+    let before = text.len();
+    push_time(text, tick, t);
+    let timed = text.len();
+    let until = push_changes(text, plan, outcome, samples, t, come, watched);
+    if text.len() == timed {
+        text.truncate(before);
+    }
+    until
+}
+
+/// Writes this front and all that changes from tick 1 on, by pieces and without memory.
+fn write_from<W: Sink>(
+    front: &[u8],
+    tick: Tick,
+    plan: &Plan,
+    outcome: &Outcome,
+    samples: &[Listed<u64>],
+    come: &mut AllCome,
+    watched: &mut [Watched; MOST_NODES],
+    writer: &mut W,
+) -> Result<(), WriteFault>
+    requires checked { IsChecked plan.now }
+    requires outcome { outcome.now ≡ outcome_of plan.now }
+    requires samples { samples.now ≡ all_sample_ticks plan.now }
+    requires watched { AllWatched plan.now 0 watched.old }
+    ensures { Writes W.takes writer.old
+        (front.now ++ (flat_map (tick_lines tick (signals plan.now)) (range_with_len 1 (plan.now.end - 1)) ++ time_line tick plan.now.end))
+        result writer.new }
+{
+    wl_plan::checked_is_sound();
+    let mut calls = match send(front, writer, 0) {
+        Ok(made) => made,
+        Err(fault) => return Err(fault),
+    };
+    let mut text: Lines = ArrayVec::new();
+    let mut t = 1;
+    while t < plan.end {
+        if text.len() > PIECE {
+            calls = match send(text.as_slice(), writer, calls) {
+                Ok(made) => made,
+                Err(fault) => return Err(fault),
+            };
+            text.clear();
+        }
+        t = push_tick(&mut text, tick, plan, outcome, samples, t, come, watched);
+    }
+    push_time(&mut text, tick, plan.end);
+    match send(text.as_slice(), writer, calls) {
+        Ok(_) => Ok(()),
+        Err(fault) => Err(fault),
+    }
+}
+
+/// Writes the Value Change Dump of a plan's simulation, which is `outcome`, under these names of its nodes, by pieces.
+///
+/// Memory is asked for before the first write. Where it runs out, the writer isn't called; where the writer fails, a prefix of the
+/// dump has been written.
+pub fn vcd<W: Sink>(
+    alloc: Global,
+    tick: Tick,
+    plan: &Plan,
+    names: &Names,
+    outcome: &Outcome,
+    writer: &mut W,
+) -> Result<(), ViewFault>
+    requires checked { IsChecked plan.now }
+    requires outcome { outcome.now ≡ outcome_of plan.now }
+    ensures { Streams W.takes writer.old (vcd_text tick plan.now names.now) writer.new result }
+{
+    let samples = all_sample_ticks(alloc, plan, outcome)?;
+    let mut come = AllCome::new();
+    let mut watched = [Watched::new(); MOST_NODES];
+    let now = watch_all(alloc, plan, outcome, &samples, &mut come, &mut watched)?;
+    let front = front(alloc, tick, names, &now)?;
+    let written = write_from(
+        front.as_bytes(),
+        tick,
+        plan,
+        outcome,
+        &samples,
+        &mut come,
+        &mut watched,
+        writer,
+    );
+    match written {
+        Ok(()) => Ok(()),
+        Err(fault) => Err(ViewFault::from(fault)),
+    }
+}
