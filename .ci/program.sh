@@ -6,7 +6,8 @@
 # - the explanation and the trace of each of them as bench/plain.py gives them, and the explanation of a plan with every doubt
 # - the log of one plan, as ticks of three lengths have it, and the waveform of one, as ticks of two have it
 # - each row of .ci/refused.txt: the status, the one line on standard error, and nothing on standard output but what explain says of it
-# - command lines that name no task: status 2, and nothing on standard output
+# - command lines that name no task, or are no text: status 2, and nothing on standard output
+# - a run that doesn't end in 300 seconds, as one whose workers wait for each other for ever, has failed
 # - a reader and a writer that fail, and threads that can't be made: status 3
 # - each allocation refused in turn, of some commands and amid the events of a world; worlds that restart
 set -uo pipefail
@@ -28,7 +29,7 @@ is() { # is NAME CONDITION..: counts one comparison
 runs() { # runs NAME INPUT STATUS STDOUT STDERR WORDS..: STDERR '-' where it is not compared
   local name=$1 input=$2 status=$3 out=$4 err=$5 ended=0
   shift 5
-  "$program" "$@" < "$input" > "$room/out" 2> "$room/err" || ended=$?
+  timeout 300 "$program" "$@" < "$input" > "$room/out" 2> "$room/err" || ended=$?
   is "$name (status $ended, wanted $status)" [ "$ended" = "$status" ]
   is "$name (standard output)" cmp -s "$room/out" "$out"
   [ "$err" = - ] || is "$name (standard error: $(head -c 200 "$room/err"))" cmp -s "$room/err" "$err"
@@ -146,6 +147,9 @@ vcd --tick
 vcd --tick 1ms
 WORDS
 
+printf "error: the arguments can't be read\n" > "$room/fault"
+runs "words that are no text" examples/clean_500k.toml 2 "$room/none" "$room/fault" run $'\xff'
+
 for word in merge horizon check records run explain trace candump vcd; do
   printf 'fault: Read\n' > "$room/fault"
   runs "$word of a reader that fails" / 3 "$room/none" "$room/fault" "$word"
@@ -161,7 +165,7 @@ for word in merge check explain trace; do
 done
 
 # The least limit on memory under which the program runs by one thread leaves no room for the stacks of eight more.
-limited() { (ulimit -v "$1" && shift && "$program" run "$@" < examples/clean_500k.toml > "$room/out" 2> "$room/err"); }
+limited() { (ulimit -v "$1" && shift && timeout 300 "$program" run "$@" < examples/clean_500k.toml > "$room/out" 2> "$room/err"); }
 limit=2000
 until limited "$limit" || [ "$limit" -gt 200000 ]; do limit=$((limit + 1000)); done
 ended=0

@@ -15,7 +15,7 @@ gcc -O2 -shared -fPIC -o "$scratch/refuse.so" "$(dirname "$0")/refuse.c" -ldl
 
 attempt() { # N: runs with the Nth allocation refused
   status=0
-  REFUSE=$1 LD_PRELOAD=$scratch/refuse.so "$program" "$task" "${options[@]}" < "$input" > "$scratch/out" 2> "$scratch/err" || status=$?
+  timeout 300 env REFUSE="$1" LD_PRELOAD="$scratch/refuse.so" "$program" "$task" "${options[@]}" < "$input" > "$scratch/out" 2> "$scratch/err" || status=$?
 }
 
 attempt 0
