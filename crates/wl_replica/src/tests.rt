@@ -174,23 +174,6 @@ fn a_node_is_known_up_to_a_gap(rt: HostRuntime) -> Result<(), Fail> {
     Ok(())
 }
 
-/// Changes count towards the run once those before them are there; a clash ends the run where it falls.
-#[test]
-fn a_clash_lowers_run_and_horizon(rt: HostRuntime) -> Result<(), Fail> {
-    let records = [edge(0, 2, 30), edge(0, 0, 10), edge(0, 1, 20)];
-    let mut replica = told(&rt, rt.alloc(), 1, &records)?;
-    assert!(rt; replica.nodes() == 1);
-    assert_eq!(rt; (replica.run_length(0), replica.horizon(0)), (3, 31));
-    assert!(rt; replica.fits(&clash(0, 1)));
-    replica.take(clash(0, 1))?;
-    assert!(rt; replica.nodes() == 1);
-    assert_eq!(rt; (replica.run_length(0), replica.horizon(0)), (1, 11));
-    let all = replica.canonical(rt.alloc())?;
-    let left = [edge(0, 0, 10), clash(0, 1), edge(0, 2, 30)];
-    assert_eq!(rt; all.as_slice(), left.as_slice());
-    Ok(())
-}
-
 /// Two nodes 50 ticks apart, each seeing itself a tick later.
 fn apart(rt: &impl Abort) -> Topology {
     let place = |x| Place {
