@@ -2,3 +2,4 @@ mod Gathering
 mod MergeLaws
 mod RowTexts
 mod Working
+mod Viewing
