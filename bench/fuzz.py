@@ -274,4 +274,6 @@ def main():
 
 
 if __name__ == "__main__":
+    # Sets are walked in the order of their hashes, so these have to be the same for the same texts.
+    if os.environ.get("PYTHONHASHSEED") != "0": os.execve(sys.executable, [sys.executable, *sys.argv], {**os.environ, "PYTHONHASHSEED": "0"})
     main()
