@@ -14,7 +14,7 @@ pub enum RunFault {
     /// The record text was refused, or its reader failed; nothing was written.
     #[error("{0}")]
     Text(TextFault),
-    /// The plan text was refused, or its reader failed; nothing was written.
+    /// The plan text was refused, or its reader failed; nothing was written, but by `explain_run` what is wrong with a text that is refused.
     #[error("{0}")]
     Setup(SetupFault),
     /// The workers came to no outcome; nothing was written.
@@ -23,7 +23,7 @@ pub enum RunFault {
     /// The writer failed; a prefix of the output may have been written.
     #[error("Write")]
     Write,
-    /// Want of memory; nothing was written.
+    /// Out of memory; nothing was written.
     #[error("Memory")]
     Memory,
 }

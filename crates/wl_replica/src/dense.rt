@@ -199,7 +199,7 @@ impl Rows {
     }
 
     /// The ticks below the node's horizon at which it drives dominant, as far as its run tells: from each first to
-    /// each second change, an open last one up to the horizon. Refused for want of memory.
+    /// each second change, an open last one up to the horizon. Refused out of memory.
     pub fn wave(&self, alloc: Global, node: u8) -> Result<Intervals, AllocError>
         requires { node < self.now.nodes }
         ensures { IfOk result (λ set. set ≡ wave (slots_of self.now) node) }

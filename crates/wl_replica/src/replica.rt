@@ -265,7 +265,7 @@ impl Replica {
     }
 
     /// Of the wave, the intervals that end after a tick, without a walk over the changes before it: from that tick
-    /// on it tells the same levels. Refused for want of memory.
+    /// on it tells the same levels. Refused out of memory.
     pub fn wave_after(&self, alloc: Global, node: u8, tick: u64) -> Result<Intervals, AllocError>
         requires { node < self.now.nodes }
         ensures set { IfOk result (λ set. set ≡ wave_after (slots_of self.now) node tick) }

@@ -10,7 +10,7 @@ pub enum ViewFault {
     /// The writer failed; a prefix was written.
     #[error("Write")]
     Write,
-    /// Want of memory; nothing was written.
+    /// Out of memory; nothing was written.
     #[error("Memory")]
     Memory,
 }
