@@ -22,10 +22,28 @@ def made(script, *words):
     return subprocess.run([sys.executable, os.path.join(HERE, script), *words], capture_output=True, check=True).stdout
 
 
+SILENT = """version = 1
+end = 68719476736
+per = 1
+[[node]]
+name = "silent"
+offset = 0
+num = 1048576
+den = 1
+prop = 3
+ps1 = 3
+ps2 = 3
+sjw = 2
+x = 0
+out = 0
+in = 1
+"""
+
 INPUTS = [
     ("run, busy: 16 nodes, 64 frames each", "run", lambda: worst.plan().encode()),
     ("run, busy, drifting, 16 disturbances (plan.py)", "run", lambda: made("plan.py")),
     ("run, a pair, one sends all the time", "run", lambda: worst.plan(nodes=2, senders=1).encode()),
+    ("run, one silent node to 2^36 ticks, 65,536 quanta", "run", lambda: SILENT.encode()),
     ("run, one silent node, 1,048,000 quanta", "run", lambda: worst.plan(nodes=1, frames=0, quanta=1_048_000, num=65_535).encode()),
     ("run, 16 idle nodes", "run", lambda: worst.plan(frames=0).encode()),
     ("run, busy, 64 disturbances", "run", lambda: worst.plan(disturbances=64).encode()),

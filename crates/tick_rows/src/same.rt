@@ -1,0 +1,73 @@
+//! What two outcomes have in common.
+
+use anyhow::Result;
+use std::alloc::Global;
+use wl_report::report;
+use wl_serial::{NodeOutcome, Outcome};
+
+/// Tells how much happened where the two are the same, and else what differs.
+pub fn tell(alloc: Global, one: &Outcome, other: &Outcome) -> Result<String> {
+    let mut told = String::new(alloc);
+    if let Some((i, what)) = first_difference(one, other) {
+        write!(told, "differs: node {i}, {what}")?;
+        return Ok(told);
+    }
+    if report(alloc, one)?.as_slice() != report(alloc, other)?.as_slice() {
+        told.push_str("differs: the report")?;
+        return Ok(told);
+    }
+    tell_sums(one, &mut told)?;
+    Ok(told)
+}
+
+/// The first node of which something is another in the two, and what.
+fn first_difference(one: &Outcome, other: &Outcome) -> Option<(usize, &'static str)> {
+    if one.nodes.len() != other.nodes.len() || one.end != other.end {
+        return Some((0, "the number of nodes or the end"));
+    }
+    let pairs = one.nodes.as_slice().iter().zip(other.nodes.as_slice());
+    for (i, (a, b)) in pairs.enumerate() {
+        if let Some(what) = difference(a, b) {
+            return Some((i, what));
+        }
+    }
+    None
+}
+
+/// What is another at a node, if anything.
+fn difference(one: &NodeOutcome, other: &NodeOutcome) -> Option<&'static str> {
+    if one.changes.as_slice() != other.changes.as_slice() {
+        return Some("changes");
+    }
+    if one.samples.as_slice() != other.samples.as_slice() {
+        return Some("samples");
+    }
+    if one.frames.as_slice() != other.frames.as_slice() {
+        return Some("frames");
+    }
+    if one.phases.as_slice() != other.phases.as_slice() {
+        return Some("phase errors");
+    }
+    if one.counters != other.counters {
+        return Some("counters");
+    }
+    if one.hards != other.hards || one.errors != other.errors || one.unsent != other.unsent {
+        return Some("hard synchronisations, errors or unsent frames");
+    }
+    None
+}
+
+/// How much happened at all nodes.
+fn tell_sums(outcome: &Outcome, told: &mut String) -> Result<()> {
+    let (mut samples, mut frames, mut changes) = (0u64, 0u64, 0u64);
+    for node in outcome.nodes.as_slice() {
+        samples = samples.saturating_add(node.samples.len() as u64);
+        frames = frames.saturating_add(node.frames.len() as u64);
+        changes = changes.saturating_add(node.changes.len() as u64);
+    }
+    write!(
+        told,
+        "same: {samples} samples, {frames} frames, {changes} changes"
+    )?;
+    Ok(())
+}
