@@ -521,7 +521,7 @@ def main():
             faults[re.sub(r"\b[0-9]+\b", "n", fault[7:-1])] += 1
             if program == "-": continue
             got = asked(program, command, text)
-            # What `explain` says of a refused plan has no second writing: its two lines go by the table of faults.
+            # What `explain` says of a refused plan is compared by refused.py; plain.py has no words for it.
             if command == "explain" and status == 1 and re.fullmatch(b"wrong: .*\nchange: .*\n", got[0]): out = got[0].decode()
             if got == (out.encode(), fault.encode(), status):
                 agreed[command] += 1

@@ -1,14 +1,12 @@
 -- Lines of records, from their end.
-use Rattle.std.specs.Prelude.{◌≡◌, ℕ, ◌+◌, ◌<◌, ◌≤◌, List, [], ◌∷◌, ◌++◌, ◌≢◌, ◌-◌, length, take, drop, refl}
+use Rattle.std.specs.Prelude.{◌≡◌, ℕ, ◌+◌, ◌<◌, ◌≤◌, List, [], ◌∷◌, ◌++◌, ◌-◌, length, take, drop, refl}
 use Rattle.std.specs.Fmt.{decimal}
-use Rattle.std.proofs.Common.{inl, inr, sym, ap, ◌∙◌, arith, append_assoc, get_or, take-append-drop, length-append, length-drop}
+use Rattle.std.proofs.Common.{sym, ap, ◌∙◌, arith, append_assoc, get_or, take-append-drop, length-drop}
 use Rattle.std.proofs.Math.Seq.{take-suc}
 use Rattle.std.proofs.lemmas.Slice.{put_mid-paste}
 use Rattle.std.proofs.lemmas.List.Edits.{take-paste}
 use borrow.Rule.Slice.PartMut.{put_mid}
 use Prim.Native.Nat.{suc}
-use Rattle.wl_device.specs.Devices.{Answer, GoesOn, failed, moved_bytes, WentOut, BrokeOff}
-use Rattle.wl_device.proofs.Runs.{SoFar, run_on, all_append, moved_bytes-append}
 use Rattle.std.proofs.lemmas.Fmt.{length-decimal-le}
 use Rattle.std.proofs.lemmas.List.{append-nil, nil_from_length, take_all}
 use Rattle.wl_record_core.specs.declared.record.Record.{Record}
@@ -52,39 +50,6 @@ pub clash_line : (r : Record) (a b : ℕ) (line one_on new : List ℕ) → r ≡
 clash_line r a b line one_on new is len one three =
     three ∙ (ap (λ z. 67 ∷ (32 ∷ decimal a ++ (32 ∷ decimal b ++ z))) (one ∙ ap (λ z. 10 ∷ z) (drop_whole 40 line len)) ∙ (sym (line_of_clash a b) ∙ ap text_line (sym is)))
 
--- ---- one piece after another
-pub sent_more : {S : Type 0} (takes : S → Answer → S → Type 0) (s : S) (sent : List ℕ) (n : ℕ) (t : S) (answers : List Answer) (bytes : List ℕ) (u : S) (more : List Answer) (made : ℕ)
-    → SoFar takes s sent n t answers → WentOut takes t bytes u more → made ≡ n + length more → SoFar takes s (sent ++ bytes) made u (answers ++ more)
-sent_more takes s sent n t answers bytes u more made h w e = record {
-  run = run_on takes s answers t more u h.run w.run;
-  bytes_are = moved_bytes-append answers more ∙ (λ i. h.bytes_are i ++ w.bytes_are i);
-  goes = all_append GoesOn answers more h.goes w.goes;
-  calls = omega (arith, length-append answers more, h.calls, e);
-}
-
-not_empty : (rest later : List ℕ) → rest ≢ [] → rest ++ later ≢ []
-not_empty [] later some = λ e. some refl
-not_empty (b ∷ rest) later some = λ e. cc
-
-pub broke_off_after : {S : Type 0} (takes : S → Answer → S → Type 0) (s : S) (sent : List ℕ) (n : ℕ) (t : S) (answers : List Answer) (bytes later whole : List ℕ) (u : S) (more : List Answer)
-    → SoFar takes s sent n t answers → BrokeOff takes t bytes n u more → sent ++ (bytes ++ later) ≡ whole → BrokeOff takes s whole 0 u (answers ++ more)
-broke_off_after takes s sent n t answers bytes later whole u more h b e = record {
-  run = run_on takes s answers t more u h.run b.run;
-  left = (
-    b.left.0 ++ later,
-    ap (λ z. z ++ (b.left.0 ++ later)) (moved_bytes-append answers more)
-        ∙ (append_assoc (moved_bytes answers) (moved_bytes more) (b.left.0 ++ later)
-        ∙ (ap (λ z. moved_bytes answers ++ z) (sym (append_assoc (moved_bytes more) b.left.0 later))
-        ∙ ((λ i. h.bytes_are i ++ (b.left.1 i ++ later)) ∙ e))),
-    not_empty b.left.0 later b.left.2,
-  );
-  ends = elim b.ends [
-    | inl f ↦ inl (answers ++ f.0, ap (λ z. answers ++ z) f.1 ∙ sym (append_assoc answers f.0 (failed ∷ [])), all_append GoesOn answers f.0 h.goes f.2)
-    | inr f ↦ inr (omega (arith, length-append answers more, h.calls, f.0), all_append GoesOn answers more h.goes f.1)
-  ];
-  few = omega (arith, length-append answers more, h.calls, b.few);
-}
-
 pub text_of-append : (rs qs : List Record) → text_of (rs ++ qs) ≡ text_of rs ++ text_of qs
 text_of-append [] qs = refl
 text_of-append (r ∷ rs) qs = ap (λ z. text_line r ++ z) (text_of-append rs qs) ∙ sym (append_assoc (text_line r) (text_of rs) (text_of qs))
@@ -103,11 +68,3 @@ pub put_behind : (a n : ℕ) (xs ys zs : List ℕ) (m : ℕ) → m ≡ a + n →
 put_behind a n xs ys zs m em within is len =
     let count : n ≡ a + n - a = omega arith in
     (λ i. take (em i) (put_mid-paste a (a + n - a) xs ys zs n is count (sym len) i)) ∙ (take-paste xs a zs n within (omega (arith, len)) ∙ ap (λ z. take a xs ++ z) (take_all n zs (omega (arith, len))))
-
-pub went_out_after : {S : Type 0} (takes : S → Answer → S → Type 0) (s : S) (sent : List ℕ) (n : ℕ) (t : S) (answers : List Answer) (bytes whole : List ℕ) (u : S) (more : List Answer)
-    → SoFar takes s sent n t answers → WentOut takes t bytes u more → sent ++ bytes ≡ whole → WentOut takes s whole u (answers ++ more)
-went_out_after takes s sent n t answers bytes whole u more h w e = record {
-  run = run_on takes s answers t more u h.run w.run;
-  bytes_are = moved_bytes-append answers more ∙ ((λ i. h.bytes_are i ++ w.bytes_are i) ∙ e);
-  goes = all_append GoesOn answers more h.goes w.goes;
-}

@@ -12,4 +12,3 @@ mod Rows
 mod Telling
 mod WaveRows
 mod Watching
-mod Sending

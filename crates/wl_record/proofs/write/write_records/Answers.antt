@@ -3,8 +3,8 @@ use Rattle.std.proofs.lemmas.List.{append-nil, take_all}
 use Rattle.wl_record_core.specs.declared.record.Record.TheVariants.{Edge}
 use Rattle.wl_device.specs.Devices.{Answer}
 use Rattle.wl_record_core.specs.Text.{text_line, text_of}
-use Rattle.wl_device.proofs.Runs.{SoFar}
-use Rattle.wl_record.proofs.WriteLemmas.{sent_more, broke_off_after, went_out_after, text_of-cut, text_of-one}
+use Rattle.wl_device.proofs.Runs.{SoFar, sent_more, broke_off_after, went_out_after}
+use Rattle.wl_record.proofs.WriteLemmas.{text_of-cut, text_of-one}
 use Rattle.wl_record.proofs.write.write_records.Goals as goal
 use Rattle.wl_record.proofs.write.write_records.Goals.{then-filled-gt-CHUNK+in-Ok, else-filled-gt-CHUNK}
 

@@ -2,10 +2,9 @@
 use Rattle.std.proofs.Common.{◌≡◌, ◌∙◌, ◌-◌, ◌<◌, ◌≤◌, ◌++◌, [], ℕ, List, refl, ap, sym, subst, arith, append-nil, length-append}
 use Rattle.std.specs.List.{flat_map, range_with_len}
 use Rattle.wl_device.specs.Devices.{Answer}
-use Rattle.wl_device.proofs.Runs.{SoFar, nothing_so_far}
+use Rattle.wl_device.proofs.Runs.{SoFar, nothing_so_far, broke_off_after, sent_more, went_out_after}
 use Rattle.wl_views.specs.Signals.{signals}
 use Rattle.wl_views.specs.Vcd.{tick_lines, time_line}
-use Rattle.wl_views.proofs.Sending.{broke_off_after, sent_more, went_out_after}
 use Rattle.wl_views.proofs.Walk.{all_told, one_tick, rest_of, tick_more, whole_of}
 use Rattle.wl_views.proofs.wave.write_from.Goals as goal
 use Rattle.wl_views.proofs.wave.write_from.Goals.{then-len-gt-PIECE+in-Ok-send, else-len-gt-PIECE}
