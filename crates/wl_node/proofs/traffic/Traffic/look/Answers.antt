@@ -6,7 +6,7 @@ use Rattle.wl_node.specs.declared.traffic.Traffic.{Traffic}
 use Rattle.wl_node.specs.History.{history_after_sample, is_sent, ready_head, sampled_next, unsent_of}
 use Rattle.wl_node.specs.Kept.{IsTraffic}
 use Rattle.wl_node.proofs.Rested.{none_mapped, rests}
-use Rattle.wl_node.proofs.traffic.Traffic.sample.Goals as goal
+use Rattle.wl_node.proofs.traffic.Traffic.look.Goals as goal
 
 pub returns-then-is_free-clause-traffic : goal.returns-then-is_free-clause-traffic
 returns-then-is_free-clause-traffic c setup h q n old =
