@@ -167,7 +167,7 @@ same_turned Recessive Dominant = refl
 same_turned Recessive Recessive = refl
 
 -- a sixth equal sample, as the run tells it
-six_is : (own : List Level) (x last : Level) (run : ℕ) (bits : List Level) → IsStuffedPart last run bits own
+pub six_is : (own : List Level) (x last : Level) (run : ℕ) (bits : List Level) → IsStuffedPart last run bits own
     → (is_stuff own (length own) && same x (before own (length own))) ≡ (nat_le 5 run && same last x)
 six_is own x last run bits p =
     ap (λ s. s && same x (before own (length own))) (due_by_run last run bits own p)

@@ -5,6 +5,7 @@ mod FlagSteps
 mod Framed
 mod Free
 mod FrameSteps
+mod Keeping
 mod Kept
 mod KeptSilence
 mod Runs

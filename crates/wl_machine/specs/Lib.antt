@@ -5,6 +5,7 @@ pub mod Frames
 pub mod Judged
 pub mod Silence
 pub mod States
+pub mod Keeps
 pub mod Reached
 pub mod Roles
 pub mod Laws

@@ -1,6 +1,6 @@
 //! Frames: transmitter and receiver, up to the end of what is stuffed and after it.
 
-ghost use Rattle.std.specs.Prelude.{◌≡◌, ◌+◌, ◌<◌, ◌≤◌, ◌++◌, [], ◌∷◌, ℕ, nat_le, true, false, length, List, Option, Some, if◌then◌else◌};
+ghost use Rattle.std.specs.Prelude.{◌≡◌, ◌+◌, ◌<◌, ◌≤◌, ◌++◌, ◌&&◌, [], ◌∷◌, ℕ, nat_le, true, false, not, length, List, Option, Some, if◌then◌else◌};
 ghost use Rattle.wl_level.specs.declared.Level.{Level};
 ghost use Rattle.wl_level.specs.Levels.{same, opposite};
 ghost use Rattle.wl_level.specs.Places.{at};
@@ -10,6 +10,7 @@ ghost use Rattle.wl_frame.specs.Limits.{most_bits};
 ghost use Rattle.wl_machine.specs.Flags.{fails};
 ghost use Rattle.wl_machine.specs.Frames.{frame_role, sent_at, unanswered, last_bit};
 ghost use Rattle.wl_machine.specs.Judged.{judged};
+ghost use Rattle.wl_machine.specs.Keeps.{state_keeps, with_sample};
 ghost use Rattle.wl_machine.specs.Stretch.{Stretch, Sampled};
 ghost use Rattle.wl_machine.specs.Stretch.Sort.{Framing as FramingSort};
 ghost use Rattle.wl_machine.specs.States.{IsIn, Meets, IsStuffedPart, IsTaken, IsTail, IsReceivedTail, stretch_by, sample_of};
@@ -109,6 +110,37 @@ impl Progress {
         let run = self.take_bit(last, run, level);
         self.received_bit(level, run);
         plain(Happened::Nothing)
+    }
+
+    /// One sample of a receiver, likewise, unless it is the sixth of equal ones: answers false then, and does nothing.
+    fn keep_bit(&mut self, last: Level, run: u8, level: Level) -> bool
+        requires small { run ≤ 5 }
+        requires room { run < 5 → length self.old.bits.items < most_bits }
+        ensures value { result ≡ not (nat_le 5 run && same last level) }
+        ensures same { result ≡ false → self.new ≡ self.old }
+        ensures next { result ≡ true → (head : Option Content) (own : List Level) → frame_role head own ≡ Role.Rx
+            → IsStuffedPart last run self.old.bits.items own
+            → IsIn self.new (stretch_by (FramingSort head) (own ++ level ∷ [])) }
+    {
+        if run >= STUFF_RUN && last.is(level) {
+            return false;
+        }
+        let run = self.take_bit(last, run, level);
+        self.received_bit(level, run);
+        true
+    }
+
+    /// One sample of which nothing comes but that it is kept: answers false, and does nothing, where it isn't one.
+    pub fn keep(&mut self, level: Level) -> bool
+        requires { ∥ ((s : Stretch) × IsIn self.old s) ∥₁ }
+        ensures value { result ≡ state_keeps self.old.state level }
+        ensures same { result ≡ false → self.new ≡ self.old }
+        ensures next { result ≡ true → (s : Stretch) → IsIn self.old s → IsIn self.new (with_sample s level) }
+    {
+        match self.state {
+            State::Receiving { last, run } => self.keep_bit(last, run, level),
+            _ => false,
+        }
     }
 
     /// One sample of a transmitter, up to the end of what is stuffed.

@@ -2,7 +2,7 @@
 //! intermission, suspension and bus off (Bosch CAN 2.0 part B, sections 3, 6, 7 and 8).
 #![tactic(auto)]
 
-ghost use Rattle.std.specs.Prelude.{◌≡◌, ◌++◌, [], ◌∷◌, true, List, None};
+ghost use Rattle.std.specs.Prelude.{◌≡◌, ◌++◌, [], ◌∷◌, true, false, List, Option, None};
 ghost use Rattle.wl_machine.specs.Stretch.{Input};
 ghost use Rattle.wl_machine.specs.States.{IsReachedBy};
 
@@ -61,7 +61,10 @@ impl Machine {
     ghost use Rattle.wl_machine.specs.Stretch.Input.{Sample, SwitchedOff};
     ghost use Rattle.wl_machine.specs.Judged.{judged, stretch_of, drive_of, is_free_sort, is_idle_sort};
     ghost use Rattle.wl_machine.specs.States.{sample_of, done_of};
+    ghost use Rattle.wl_machine.specs.Keeps.{keeps};
     ghost use Rattle.wl_machine.specs.Silence.{silence_of};
+    ghost use Rattle.wl_machine.specs.Stretch.{continues};
+    ghost use Rattle.wl_frame.specs.Grammar.{Content};
     ghost use Rattle.wl_machine.specs.Reached.{IsMachine};
 
     /// A machine before its first sample. It takes part in the traffic only once it has sampled
@@ -95,6 +98,28 @@ impl Machine {
             happened: step.happened,
             done: step.done,
         }
+    }
+
+    /// One sampled bit of which nothing comes but that the machine has it: no frame begins or ends, nothing is
+    /// counted, and the node drives recessive before and after, whatever it is to send and in whatever mode. Those
+    /// are the bits that a receiver samples up to the end of what is stuffed, but for a sixth equal one (Bosch CAN
+    /// 2.0 part B, sections 6 and 7.1). At any other bit the answer is false, and the machine stays where it was.
+    pub fn keep(&mut self, sample: Level) -> bool
+        ensures value { (past : List Input) → IsMachine self.old past → result ≡ keeps (stretch_of past) sample }
+        ensures stays { result ≡ false → (past : List Input) → IsMachine self.old past → IsMachine self.new past }
+        ensures machine { result ≡ true → (past : List Input) → IsMachine self.old past
+            → (head : Option Content) (mode : Mode)
+            → IsMachine self.new (past ++ Sample (sample_of sample head mode) ∷ []) }
+        ensures judged { result ≡ true → (past : List Input) → IsMachine self.old past
+            → (head : Option Content) (mode : Mode)
+            → judged (stretch_of past) (sample_of sample head mode) ≡ continues Happened.Nothing }
+        ensures before { result ≡ true → (past : List Input) → IsMachine self.old past
+            → drive_of (stretch_of past) ≡ Level.Recessive }
+        ensures after { result ≡ true → (past : List Input) → IsMachine self.old past
+            → (head : Option Content) (mode : Mode)
+            → drive_of (stretch_of (past ++ Sample (sample_of sample head mode) ∷ [])) ≡ Level.Recessive }
+    {
+        self.progress.keep(sample)
     }
 
     /// Puts the machine into bus off, wherever it is: it drives recessive from the next bit start

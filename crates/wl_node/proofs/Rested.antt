@@ -1,8 +1,9 @@
--- A recessive sample of a free bus, with no frame ready: it is stored, and nothing else comes of it.
+-- Samples that are stored, and of which nothing else comes: those that a receiver keeps up to the end of what is stuffed, and a recessive one of a free bus, with no frame ready.
 use Rattle.std.proofs.Common.{◌≡◌, ◌∙◌, [], ◌∷◌, ◌++◌, length, Option, None, Some, true, false, refl, sym, ap, subst, append-nil, add-zero}
 use Rattle.std.specs.Prelude.{is_some}
 use Rattle.std.specs.Option.{option_map}
 use Rattle.std.proofs.lemmas.List.Sums.{fold-append}
+use Rattle.wl_level.specs.declared.Level.{Level}
 use Rattle.wl_level.specs.declared.Level.TheVariants.{Recessive}
 use Rattle.wl_confine.specs.declared.Mode.{Mode}
 use Rattle.wl_confine.specs.declared.Mode.TheVariants.{Active, Passive, Off}
@@ -37,24 +38,18 @@ rested h x = record {
   seen = h.seen;
   inputs = h.inputs ++ Sample x ∷ [];
   happened = h.happened ++ Nothing ∷ [];
-  samples = h.samples ++ (length h.seen, Recessive) ∷ [];
+  samples = h.samples ++ (length h.seen, x.level) ∷ [];
   frames = h.frames;
   syncs = h.syncs;
   drive = h.drive;
 }
 
-module _ (setup : NodeSetup) (h : History) (none : ready_head (unsent_of setup h) (length h.seen) ≡ None) (free : is_free_sort (stretch_of h.inputs).sort ≡ true) where
+module _ (setup : NodeSetup) (h : History) (level : Level) (judged_is : judged (stretch_of h.inputs) (sampled_next setup h level) ≡ continues Nothing) where
+  abbrev x : Sampled
+  x = sampled_next setup h level
+
   abbrev s : Stretch
   s = stretch_of h.inputs
-
-  abbrev x : Sampled
-  x = sampled_next setup h Recessive
-
-  idle : s.sort ≡ Idle
-  idle = free_sort s.sort free
-
-  judged_is : judged s x ≡ continues Nothing
-  judged_is = ap (λ t. judged_by t s.own x) idle ∙ ap idle_on none
 
   counts_same : counts_of (h.happened ++ Nothing ∷ []) ≡ counts_of h.happened
   counts_same = fold-append counts_after no_counts h.happened (Nothing ∷ [])
@@ -62,39 +57,59 @@ module _ (setup : NodeSetup) (h : History) (none : ready_head (unsent_of setup h
   off : switched_off x.mode (mode_of (counts_of (h.happened ++ Nothing ∷ []))) ≡ []
   off = ap (λ c. switched_off x.mode (mode_of c)) counts_same ∙ never_off x.mode
 
-  history_is : history_after_sample setup h Recessive ≡ rested h x
+  history_is : history_after_sample setup h level ≡ rested h x
   history_is =
       ap (history_after_judgement h x) judged_is
       ∙ λ i. record {
         seen = h.seen;
         inputs = (ap (λ o. (h.inputs ++ Sample x ∷ []) ++ o) off ∙ append-nil (h.inputs ++ Sample x ∷ [])) i;
         happened = h.happened ++ Nothing ∷ [];
-        samples = h.samples ++ (length h.seen, Recessive) ∷ [];
+        samples = h.samples ++ (length h.seen, level) ∷ [];
         frames = append-nil h.frames i;
         syncs = h.syncs;
         drive = h.drive;
       }
 
-  sort_stays : (stretch_of (h.inputs ++ Sample x ∷ [])).sort ≡ Idle
-  sort_stays = ap (λ (r : Stretch). r.sort) (stretch_next h.inputs (Sample x)) ∙ ap (λ (j : Judgement). (or_next j.next (record { sort = s.sort; own = s.own ++ Recessive ∷ [] })).sort) judged_is ∙ idle
+  pub stretch_on : stretch_of (h.inputs ++ Sample x ∷ []) ≡ record { sort = s.sort; own = s.own ++ level ∷ [] }
+  stretch_on = stretch_next h.inputs (Sample x) ∙ ap (λ (j : Judgement). or_next j.next (record { sort = s.sort; own = s.own ++ level ∷ [] })) judged_is
 
-  drive_stays : drive_of (stretch_of (h.inputs ++ Sample x ∷ [])) ≡ Recessive
-  drive_stays = ap (λ t. drive_by t (stretch_of (h.inputs ++ Sample x ∷ [])).own) sort_stays
+  pub keeps : (old new : Traffic) → IsTraffic setup old h → new.counters ≡ old.counters → new.pending ≡ old.pending → new.sent ≡ old.sent
+      → new.errors ≡ old.errors → new.frames ≡ old.frames → new.samples.items ≡ old.samples.items ++ (length h.seen, level) ∷ []
+      → drive_of (stretch_of h.inputs) ≡ drive_of (stretch_of (h.inputs ++ Sample x ∷ [])) → IsMachine new.machine (h.inputs ++ Sample x ∷ [])
+      → IsTraffic setup new (history_after_sample setup h level)
+  keeps old new kept counters pending sent errors frames samples drive reached = subst (IsTraffic setup new) (sym history_is) (record {
+    machine = reached;
+    counters = counters ∙ kept.counters ∙ sym counts_same;
+    pending = pending ∙ kept.pending ∙ drive;
+    sent = sent ∙ kept.sent;
+    errors = errors ∙ kept.errors ∙ sym (count_append is_error h.happened (Nothing ∷ []) ∙ add-zero _);
+    samples = samples ∙ ap (λ l. l ++ (length h.seen, level) ∷ []) kept.samples;
+    frames = ap (λ f. f.items) frames ∙ kept.frames;
+    sends = λ frame e. kept.sends frame (sym (ap (λ (r : Stretch). head_of r.sort) stretch_on) ∙ e);
+  })
 
-  x_is : sample_of Recessive None x.mode ≡ x
-  x_is = λ i. record { level = Recessive; head = sym none i; mode = x.mode }
+module _ (setup : NodeSetup) (h : History) (none : ready_head (unsent_of setup h) (length h.seen) ≡ None) (free : is_free_sort (stretch_of h.inputs).sort ≡ true) where
+  abbrev sample : Sampled
+  sample = sampled_next setup h Recessive
+
+  idle : (stretch_of h.inputs).sort ≡ Idle
+  idle = free_sort (stretch_of h.inputs).sort free
+
+  judged_is : judged (stretch_of h.inputs) sample ≡ continues Nothing
+  judged_is = ap (λ t. judged_by t (stretch_of h.inputs).own sample) idle ∙ ap idle_on none
+
+  drive_stays : drive_of (stretch_of h.inputs) ≡ drive_of (stretch_of (h.inputs ++ Sample sample ∷ []))
+  drive_stays =
+      ap (λ t. drive_by t (stretch_of h.inputs).own) idle
+      ∙ sym (ap drive_of (stretch_on setup h Recessive judged_is) ∙ ap (λ t. drive_by t ((stretch_of h.inputs).own ++ Recessive ∷ [])) idle)
+
+  x_is : sample_of Recessive None sample.mode ≡ sample
+  x_is = λ i. record { level = Recessive; head = sym none i; mode = sample.mode }
 
   pub rests : (old new : Traffic) → IsTraffic setup old h → new.machine ≡ old.machine → new.counters ≡ old.counters → new.pending ≡ old.pending → new.sent ≡ old.sent
       → new.errors ≡ old.errors → new.frames ≡ old.frames → new.samples.items ≡ old.samples.items ++ (length h.seen, Recessive) ∷ []
-      → IsMachine old.machine (h.inputs ++ Sample (sample_of Recessive None x.mode) ∷ [])
+      → IsMachine old.machine (h.inputs ++ Sample (sample_of Recessive None sample.mode) ∷ [])
       → IsTraffic setup new (history_after_sample setup h Recessive)
-  rests old new kept machine counters pending sent errors frames samples reached = subst (IsTraffic setup new) (sym history_is) (record {
-    machine = subst (λ m. IsMachine m (h.inputs ++ Sample x ∷ [])) (sym machine) (subst (λ y. IsMachine old.machine (h.inputs ++ Sample y ∷ [])) x_is reached);
-    counters = counters ∙ kept.counters ∙ sym counts_same;
-    pending = pending ∙ kept.pending ∙ ap (λ t. drive_by t s.own) idle ∙ sym drive_stays;
-    sent = sent ∙ kept.sent;
-    errors = errors ∙ kept.errors ∙ sym (count_append is_error h.happened (Nothing ∷ []) ∙ add-zero _);
-    samples = samples ∙ ap (λ l. l ++ (length h.seen, Recessive) ∷ []) kept.samples;
-    frames = ap (λ f. f.items) frames ∙ kept.frames;
-    sends = λ frame e. (let f = sym (ap head_of sort_stays) ∙ e in cc);
-  })
+  rests old new kept machine counters pending sent errors frames samples reached =
+      keeps setup h Recessive judged_is old new kept counters pending sent errors frames samples drive_stays
+      (subst (λ m. IsMachine m (h.inputs ++ Sample sample ∷ [])) (sym machine) (subst (λ y. IsMachine old.machine (h.inputs ++ Sample y ∷ [])) x_is reached))

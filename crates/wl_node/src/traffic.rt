@@ -1,6 +1,6 @@
 //! What a node's samples do: to its machine, its counters, and the frames that pass.
 
-ghost use Rattle.std.specs.Prelude.{◌≡◌, ◌+◌, ◌<◌, ◌≤◌, ◌^◌, ◌++◌, [], ◌∷◌, length, drop, count_by, List, OnOk, Option, Some, vec_len, vec_capacity};
+ghost use Rattle.std.specs.Prelude.{◌≡◌, ◌+◌, ◌<◌, ◌≤◌, ◌^◌, ◌++◌, [], ◌∷◌, true, false, length, drop, count_by, List, OnOk, Option, Some, vec_len, vec_capacity};
 ghost use Rattle.std.specs.Option.{option_copied};
 ghost use Rattle.wl_frame.specs.Grammar.{Content};
 ghost use Rattle.wl_confine.specs.Counts.{is_error};
@@ -113,6 +113,38 @@ impl Traffic {
 
     /// A sample at this quantum: it is stored, and goes to the machine and then to the counters.
     pub fn sample(&mut self, queue: &[Queued], quantum: u64, level: Level)
+        requires samples { vec_len self.old.samples < vec_capacity self.old.samples }
+        requires frames { vec_len self.old.frames < vec_capacity self.old.frames }
+        requires fits { self.old.errors < most_run_quanta }
+        ensures traffic { (setup : NodeSetup) (h : History) → setup.queue ≡ queue.now → length h.seen ≡ quantum
+            → IsTraffic setup self.old h → IsTraffic setup self.new (history_after_sample setup h level) }
+        ensures errors { self.new.errors ≤ self.old.errors + 1 }
+    {
+        if !self.keep(quantum, level) {
+            self.look(queue, quantum, level);
+        }
+    }
+
+    /// The same where nothing comes of it to a machine that receives; elsewhere the answer is false, and nothing changes.
+    fn keep(&mut self, quantum: u64, level: Level) -> bool
+        requires { vec_len self.old.samples < vec_capacity self.old.samples }
+        ensures kept { result ≡ true → (setup : NodeSetup) (h : History) → length h.seen ≡ quantum
+            → IsTraffic setup self.old h → IsTraffic setup self.new (history_after_sample setup h level) }
+        ensures same { result ≡ false → (setup : NodeSetup) (h : History)
+            → IsTraffic setup self.old h → IsTraffic setup self.new h }
+        ensures samples { result ≡ false → self.new.samples ≡ self.old.samples }
+        ensures frames { self.new.frames ≡ self.old.frames }
+        ensures errors { self.new.errors ≡ self.old.errors }
+    {
+        let keeps = self.machine.keep(level);
+        if keeps {
+            self.samples.push_reserved((quantum, level));
+        }
+        keeps
+    }
+
+    /// The same, also on a free bus.
+    fn look(&mut self, queue: &[Queued], quantum: u64, level: Level)
         requires samples { vec_len self.old.samples < vec_capacity self.old.samples }
         requires frames { vec_len self.old.frames < vec_capacity self.old.frames }
         requires fits { self.old.errors < most_run_quanta }

@@ -1,0 +1,141 @@
+-- Samples of which nothing comes but that they are kept.
+use Rattle.std.proofs.Common.{◌≡◌, ◌∙◌, ℕ, ◌+◌, ◌-◌, ◌≤◌, List, [], ◌∷◌, ◌++◌, length, Bool, true, false, not, cond, ◌&&◌, Option, Some, None, refl, sym, ap, subst, arith}
+use Rattle.std.specs.Prelude.{nat_le}
+use Rattle.std.proofs.Math.Logic.{∥∥₁_map}
+use Rattle.std.proofs.lemmas.Bool.{le-leb}
+use Rattle.wl_level.specs.declared.Level.{Level}
+use Rattle.wl_level.specs.declared.Level.TheVariants.{Recessive}
+use Rattle.wl_level.specs.Levels.{same}
+use Rattle.wl_level.specs.Places.{or_at}
+use Rattle.wl_confine.specs.declared.Mode.{Mode}
+use Rattle.wl_confine.specs.declared.Mode.TheVariants.{Active}
+use Rattle.wl_confine.specs.declared.Happened.TheVariants as happens
+use Rattle.wl_frame.specs.Stuffing.{destuffed_bits}
+use Rattle.wl_frame.specs.Grammar.{Content}
+use Rattle.wl_machine.specs.declared.progress.Progress.{Progress}
+use Rattle.wl_machine.specs.declared.state.Role.{Role}
+use Rattle.wl_machine.specs.declared.state.Role.TheVariants.{Rx, Tx}
+use Rattle.wl_machine.specs.declared.state.State.{State}
+use Rattle.wl_machine.specs.declared.state.State.TheVariants as states
+use Rattle.wl_machine.specs.Stretch.{Sort, Stretch, Input, Judgement, continues}
+use Rattle.wl_machine.specs.Stretch.Input.{Sample}
+use Rattle.wl_machine.specs.Stretch.Sort.{Framing}
+use Rattle.wl_machine.specs.Frames.{stuffed_end, frame_role, frame_drive, drive_up_to, stuffed_drive, tail_drive}
+use Rattle.wl_machine.specs.Judged.{judged, or_next, stretch_of, drive_by, drive_of}
+use Rattle.wl_machine.specs.Keeps.{keeps, keeps_by, keeps_in_frame, state_keeps, with_sample}
+use Rattle.wl_machine.specs.States.{IsIn, IsAtState, IsReachedBy, IsStuffedPart, IsTaken, sample_of, state_drive, stretch_by}
+use Rattle.wl_machine.proofs.Framed.{role_receives, taken}
+use Rattle.wl_machine.proofs.FrameSteps.{six_is, receiving_on}
+use Rattle.wl_machine.proofs.Kept.{drive_kept}
+use Rattle.wl_machine.proofs.Runs.{stretch_next}
+
+-- whether a sample is only kept
+
+sends_none : (own : List Level) (level : Level) (role : Role) (end : Option ℕ) → role ≡ Tx → keeps_in_frame role end own level ≡ false
+sends_none own level role end e = ap (λ r. keeps_in_frame r end own level) e
+
+tail_none : (own : List Level) (level : Level) (role : Role) (end : Option ℕ) (at : ℕ) → end ≡ Some at → keeps_in_frame role end own level ≡ false
+tail_none own level Rx end at e = ap (λ k. keeps_in_frame Rx k own level) e
+tail_none own level Tx end at e = refl
+
+receives_so : (head : Option Content) (own : List Level) (level last : Level) (run : ℕ) (bits : List Level) → frame_role head own ≡ Rx → IsStuffedPart last run bits own
+    → keeps_by (Framing head) own level ≡ not (nat_le 5 run && same last level)
+receives_so head own level last run bits role p =
+    ap (λ r. keeps_in_frame r (stuffed_end own) own level) role ∙ ap (λ e. keeps_in_frame Rx e own level) p.going_on ∙ ap not (six_is own level last run bits p)
+
+by_sort : (level : Level) (own : List Level) (sort known : Sort) (b : Bool) → sort ≡ known → keeps_by known own level ≡ b → b ≡ keeps_by sort own level
+by_sort level own sort known b e k = sym (ap (λ t. keeps_by t own level) e ∙ k)
+
+keeps_at : (level : Level) (state : State) (bits sent : List Level) (sort : Sort) (own : List Level) → IsAtState state bits sent sort own → state_keeps state level ≡ keeps_by sort own level
+keeps_at level (states.Integrating run) bits sent sort own h = by_sort level own sort _ false h.0 refl
+keeps_at level states.Idle bits sent sort own h = by_sort level own sort _ false h refl
+keeps_at level (states.Sending last run) bits sent sort own h = by_sort level own sort _ false h.1 (sends_none own level _ (stuffed_end own) h.2)
+keeps_at level (states.Receiving last run) bits sent sort own h = by_sort level own sort _ _ h.1 (receives_so h.0 own level last run bits h.2 h.3)
+keeps_at level (states.SentTail place) bits sent sort own h = by_sort level own sort _ false h.1 (sends_none own level _ (stuffed_end own) h.2)
+keeps_at level (states.ReceivedTail place right) bits sent sort own h = by_sort level own sort _ false h.1 (tail_none own level (frame_role h.0 own) _ h.3 h.4.tail.found)
+keeps_at level (states.Flag cause role count run) bits sent sort own h = by_sort level own sort _ false h.0 refl
+keeps_at level (states.PassiveFlag role owed last run) bits sent sort own h = by_sort level own sort _ false h.1 refl
+keeps_at level (states.Wait role late left) bits sent sort own h = by_sort level own sort _ false h.2 refl
+keeps_at level (states.Delimiter role count) bits sent sort own h = by_sort level own sort _ false h.0 refl
+keeps_at level (states.Intermission role count) bits sent sort own h = by_sort level own sort _ false h.0 refl
+keeps_at level (states.Suspended count) bits sent sort own h = by_sort level own sort _ false h.0 refl
+keeps_at level (states.BusOff runs run) bits sent sort own h = by_sort level own sort _ false h.0 refl
+
+pub keeps_kept : (m : Progress) (s : Stretch) (level : Level) → IsIn m s → state_keeps m.state level ≡ keeps s level
+keeps_kept m s level h = keeps_at level m.state m.bits.items m.sent.items s.sort s.own h
+
+-- the sample is no sixth equal one
+not_true : (b : Bool) → not b ≡ true → b ≡ false
+not_true true e = cc
+not_true false e = refl
+
+pub no_sixth : (last level : Level) (run : ℕ) → not (nat_le 5 run && same last level) ≡ true → 5 ≤ run → same last level ≡ false
+no_sixth last level run e due = not_true (same last level) (ap (λ b. not (b && same last level)) (sym (le-leb 5 run due)) ∙ e)
+
+-- what comes of one that is only kept
+
+none_driven : (head : Option Content) (own : List Level) (whole : Bool) → frame_role head own ≡ Rx → stuffed_end own ≡ or_at None whole (length own) → frame_drive head own ≡ Recessive
+none_driven head own false role e = ap (λ o. drive_up_to o head own) e ∙ ap (λ r. stuffed_drive r head own) role
+none_driven head own true role e =
+    ap (λ o. drive_up_to o head own) e
+    ∙ ap (λ r. tail_drive r (destuffed_bits own (length own)) (length own - length own)) role
+    ∙ ap (λ (k : ℕ). tail_drive Rx (destuffed_bits own (length own)) k) (let z : length own - length own ≡ 0 = omega arith in z)
+
+frame_next : (head : Option Content) (own : List Level) (level last : Level) (run : ℕ) (bits : List Level) → frame_role head own ≡ Rx → IsStuffedPart last run bits own
+    → (5 ≤ run → same last level ≡ false) → frame_drive head (own ++ level ∷ []) ≡ Recessive
+frame_next head own level last run bits role p due =
+    let t : IsTaken level (cond (same last level) (run + 1) 1) (cond (nat_le 5 run) bits (bits ++ level ∷ [])) (own ++ level ∷ []) =
+    taken last run bits own level _ _ p refl refl due in
+    none_driven head (own ++ level ∷ []) _ (role_receives head own level role) t.end_is
+
+abbrev JudgedSo : Sort → List Level → Level → Type 0
+JudgedSo sort own level = (head : Option Content) (mode : Mode) → judged (stretch_by sort own) (sample_of level head mode) ≡ continues happens.Nothing
+
+pub record OnlyKept (s : Stretch) (level : Level) : Type 0 where
+  pub judged : JudgedSo s.sort s.own level
+  pub before : drive_of s ≡ Recessive
+  pub after : drive_of (with_sample s level) ≡ Recessive
+
+at_receiving : (level last : Level) (run : ℕ) (m : Progress) (s : Stretch) → m.state ≡ states.Receiving last run → IsIn m s → not (nat_le 5 run && same last level) ≡ true → OnlyKept s level
+at_receiving level last run m s at i e =
+    let h = subst (λ st. IsAtState st m.bits.items m.sent.items s.sort s.own) at i in
+    record {
+      judged = λ head mode. ap (λ t. judged (stretch_by t s.own) (sample_of level head mode)) h.1
+          ∙ receiving_on h.0 s.own (sample_of level head mode) last run m.bits.items h.2 h.3 (no_sixth last level run e);
+      before = sym (drive_kept m s i) ∙ ap (λ st. state_drive st m.bits.items m.sent.items) at;
+      after = ap (λ t. drive_by t (s.own ++ level ∷ [])) h.1 ∙ frame_next h.0 s.own level last run m.bits.items h.2 h.3 (no_sixth last level run e);
+    }
+
+kept_at : (level : Level) (state : State) (m : Progress) (s : Stretch) → m.state ≡ state → IsIn m s → state_keeps state level ≡ true → OnlyKept s level
+kept_at level (states.Receiving last run) m s at i e = at_receiving level last run m s at i e
+kept_at level (states.Integrating run) m s at i e = cc
+kept_at level states.Idle m s at i e = cc
+kept_at level (states.Sending last run) m s at i e = cc
+kept_at level (states.SentTail place) m s at i e = cc
+kept_at level (states.ReceivedTail place right) m s at i e = cc
+kept_at level (states.Flag cause role count run) m s at i e = cc
+kept_at level (states.PassiveFlag role owed last run) m s at i e = cc
+kept_at level (states.Wait role late left) m s at i e = cc
+kept_at level (states.Delimiter role count) m s at i e = cc
+kept_at level (states.Intermission role count) m s at i e = cc
+kept_at level (states.Suspended count) m s at i e = cc
+kept_at level (states.BusOff runs run) m s at i e = cc
+
+pub only_kept : (m : Progress) (s : Stretch) (level : Level) → IsIn m s → state_keeps m.state level ≡ true → OnlyKept s level
+only_kept m s level i e = kept_at level m.state m s refl i e
+
+-- the running stretch after it
+pub kept_next : (past : List Input) (level : Level) (head : Option Content) (mode : Mode) → OnlyKept (stretch_of past) level
+    → stretch_of (past ++ Sample (sample_of level head mode) ∷ []) ≡ with_sample (stretch_of past) level
+kept_next past level head mode k =
+    stretch_next past (Sample (sample_of level head mode)) ∙ ap (λ (j : Judgement). or_next j.next (with_sample (stretch_of past) level)) (k.judged head mode)
+
+-- the machine is somewhere, whether the sample was kept or not
+pub reached_on : (old new : Progress) (level : Level) (kept : Bool) → kept ≡ state_keeps old.state level → (kept ≡ false → new ≡ old) → (kept ≡ true → (s : Stretch) → IsIn old s → IsIn new (with_sample s level))
+    → ∥ ((past : List Input) × IsReachedBy old past) ∥₁ → ∥ ((past : List Input) × IsReachedBy new past) ∥₁
+reached_on old new level false v same next r = ∥∥₁_map r (λ (past, h). (past, subst (λ m. IsReachedBy m past) (sym (same refl)) h))
+reached_on old new level true v same next r =
+    ∥∥₁_map r (λ (past, h). (
+      past ++ Sample (sample_of level None Active) ∷ [],
+      subst (IsIn new) (sym (kept_next past level None Active (only_kept old (stretch_of past) level h (sym v)))) (next refl (stretch_of past) h),
+    ))
