@@ -32,7 +32,7 @@ never_off Passive = refl
 never_off Off = refl
 
 -- the history after such a sample
-abbrev rested : History → Sampled → History
+abbrev pub rested : History → Sampled → History
 rested h x = record {
   seen = h.seen;
   inputs = h.inputs ++ Sample x ∷ [];
@@ -62,7 +62,7 @@ module _ (setup : NodeSetup) (h : History) (none : ready_head (unsent_of setup h
   off : switched_off x.mode (mode_of (counts_of (h.happened ++ Nothing ∷ []))) ≡ []
   off = ap (λ c. switched_off x.mode (mode_of c)) counts_same ∙ never_off x.mode
 
-  history_is : history_after_sample setup h Recessive ≡ rested h x
+  pub history_is : history_after_sample setup h Recessive ≡ rested h x
   history_is =
       ap (history_after_judgement h x) judged_is
       ∙ λ i. record {
@@ -75,7 +75,7 @@ module _ (setup : NodeSetup) (h : History) (none : ready_head (unsent_of setup h
         drive = h.drive;
       }
 
-  sort_stays : (stretch_of (h.inputs ++ Sample x ∷ [])).sort ≡ Idle
+  pub sort_stays : (stretch_of (h.inputs ++ Sample x ∷ [])).sort ≡ Idle
   sort_stays = ap (λ (r : Stretch). r.sort) (stretch_next h.inputs (Sample x)) ∙ ap (λ (j : Judgement). (or_next j.next (record { sort = s.sort; own = s.own ++ Recessive ∷ [] })).sort) judged_is ∙ idle
 
   drive_stays : drive_of (stretch_of (h.inputs ++ Sample x ∷ [])) ≡ Recessive
