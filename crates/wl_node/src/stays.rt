@@ -27,11 +27,7 @@ impl Progress {
         if self.drive.is_dominant() || !self.traffic.machine.is_free() {
             return quiet;
         }
-        quiet.max(until_frame(
-            setup.queue.as_slice(),
-            self.traffic.sent,
-            self.quanta,
-        ))
+        quiet.max(until_frame(setup.queue.as_slice(), self.traffic.sent, self.quanta))
     }
 }
 
