@@ -33,7 +33,7 @@ never_off Passive = refl
 never_off Off = refl
 
 -- the history after such a sample
-abbrev rested : History → Sampled → History
+abbrev pub rested : History → Sampled → History
 rested h x = record {
   seen = h.seen;
   inputs = h.inputs ++ Sample x ∷ [];
@@ -97,6 +97,12 @@ module _ (setup : NodeSetup) (h : History) (none : ready_head (unsent_of setup h
 
   judged_is : judged (stretch_of h.inputs) sample ≡ continues Nothing
   judged_is = ap (λ t. judged_by t (stretch_of h.inputs).own sample) idle ∙ ap idle_on none
+
+  pub history_free : history_after_sample setup h Recessive ≡ rested h sample
+  history_free = history_is setup h Recessive judged_is
+
+  pub sort_stays : (stretch_of (h.inputs ++ Sample sample ∷ [])).sort ≡ Idle
+  sort_stays = ap (λ (r : Stretch). r.sort) (stretch_on setup h Recessive judged_is) ∙ idle
 
   drive_stays : drive_of (stretch_of h.inputs) ≡ drive_of (stretch_of (h.inputs ++ Sample sample ∷ []))
   drive_stays =

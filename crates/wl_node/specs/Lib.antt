@@ -6,3 +6,4 @@ pub mod Quiet
 pub mod Reached
 pub mod Rest
 pub mod Same
+pub mod Stays

@@ -9,6 +9,7 @@ mod progress;
 mod quiet;
 mod rest;
 pub mod setup;
+mod stays;
 mod syncs;
 #[cfg(test)]
 mod tests;

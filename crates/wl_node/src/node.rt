@@ -1,6 +1,6 @@
 //! A node, quantum by quantum.
 
-ghost use Rattle.std.specs.Prelude.{◌≤◌, List};
+ghost use Rattle.std.specs.Prelude.{◌≤◌, List, ℕ};
 ghost use Rattle.wl_level.specs.declared.Level.{Level};
 ghost use Rattle.wl_node.specs.Kept.{IsProgress};
 
@@ -41,7 +41,8 @@ impl Node {
     ghost use Rattle.wl_node.specs.History.{counters_of, phases_of, hards_of, error_count, unsent_count};
     ghost use Rattle.wl_node.specs.Limits.{most_quiet, most_run_quanta};
     ghost use Rattle.wl_node.specs.Quiet.{quiet_of};
-    ghost use Rattle.wl_node.specs.Reached.{node_setup, quanta_of, IsNode, HasRoom, Shows, HasSeen, IsSameNode};
+    ghost use Rattle.wl_node.specs.Reached.{node_setup, quanta_of, IsNode, HasRoom, Shows, HasSeen, IsSameNode, StandsFor};
+    ghost use Rattle.wl_node.specs.Stays.{free_stay};
 
     /// A node of this setup that has run no quantum: it drives recessive. Refused only where memory
     /// runs out.
@@ -123,6 +124,21 @@ impl Node {
         ensures most { result ≤ most_quiet }
     {
         self.progress.quiet(&self.setup)
+    }
+
+    /// For how many quanta more the node is sure to keep its drive where it sees recessive at each of them: at most
+    /// [`MOST_RUN_QUANTA`](crate::MOST_RUN_QUANTA), and no fewer than [`Node::quiet`] tells.
+    ///
+    /// On a free bus (Bosch CAN 2.0 part B, section 3.2.5, bus idle) that is at least up to the quantum at which the
+    /// next frame is ready, that one too, and where no frame waits as many as a node may run.
+    pub fn stays(&self) -> u64
+        ensures stands { (m : ℕ) → m ≤ result → StandsFor self.now Level.Recessive m }
+        ensures quiet { (levels : List Level) → IsNode levels self.now
+            → quiet_of (node_setup self.now) levels ≤ result }
+        ensures free { Shows self.now (λ h. free_stay (node_setup self.now) h ≤ result) }
+        ensures most { result ≤ most_run_quanta }
+    {
+        self.progress.stays(&self.setup)
     }
 
     /// The number of quanta that the node has run.

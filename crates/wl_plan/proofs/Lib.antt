@@ -2,6 +2,7 @@ mod ChangeProofs
 mod LineProofs
 mod OutcomeProofs
 mod QuantumProofs
+mod RestProofs
 mod Rows
 mod CheckProofs
 mod EqualProofs

@@ -3,6 +3,7 @@ pub mod Groupings
 pub mod Limits
 pub mod Line
 pub mod PlanLine
+pub mod Rest
 pub mod Same
 pub mod Simulation
 pub mod SimulationLaws

@@ -1,6 +1,7 @@
 //! Laws of plans and of the one-thread simulation, as contracts of functions with an empty body.
 
 ghost use Rattle.wl_plan.specs.SimulationLaws.{SimulationLaws, OutcomeIsTrue};
+ghost use Rattle.wl_plan.specs.Rest.{RestLaw};
 ghost use Rattle.wl_plan.specs.Checked.{FaultlessIsChecked, CheckedIsSound};
 ghost use Rattle.wl_plan.specs.Groupings.{GroupingLaws};
 ghost use Rattle.wl_plan.specs.PlanLine.{TestOfTruth};
@@ -9,6 +10,15 @@ ghost use Rattle.wl_plan.specs.PlanLine.{TestOfTruth};
 /// which ticks its drive changes, and that what was driven stays.
 pub fn simulation_laws()
     ensures { SimulationLaws }
+{
+    wl_topology::driven_laws();
+    wl_record_core::table_laws();
+}
+
+/// Law: on a line at rest no node changes its drive: where what the nodes have driven, and the disturbances, come recessive to each node from
+/// its next quantum on and below some tick, and no node would drive dominant by then as long as it sees recessive only, none does.
+pub fn a_line_at_rest_stays()
+    ensures { RestLaw }
 {
     wl_topology::driven_laws();
     wl_record_core::table_laws();

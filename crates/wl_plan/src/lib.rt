@@ -10,8 +10,8 @@ mod plan;
 pub use check::PlanFault;
 pub use grouping::{Grouping, GroupingFault, MOST_GROUPS};
 pub use laws::{
-    checked_is_sound, faultless_is_checked, grouping_laws, outcome_is_true, simulation_laws,
-    test_of_truth,
+    a_line_at_rest_stays, checked_is_sound, faultless_is_checked, grouping_laws, outcome_is_true,
+    simulation_laws, test_of_truth,
 };
 pub use limits::{LATEST_END, MOST_DISTURBANCES, MOST_QUANTA, MOST_QUEUED, MOST_SHORT_QUANTA};
 pub use plan::{Disturbance, Disturbances, Nodes, Plan};
