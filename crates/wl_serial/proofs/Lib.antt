@@ -1,6 +1,7 @@
 mod Counts
 mod Found
 mod Hearing
+mod Known
 mod Rows
 mod Runners
 mod Steps

@@ -1,10 +1,10 @@
 -- All nodes together while one after another runs.
-use Rattle.std.proofs.Common.{◌≡◌, ℕ, zero, suc, ◌+◌, ◌<◌, ◌≤◌, ◌≢◌, ◌⊎◌, inl, inr, Option, Some, None, MatchOption, List, [], ◌∷◌, ◌++◌, length, map, get_or, refl, sym, ◌∙◌, ap, subst, arith, length-append}
+use Rattle.std.proofs.Common.{◌≡◌, ℕ, zero, suc, ◌+◌, ◌<◌, ◌≤◌, ◌≢◌, ◌⊎◌, inl, inr, List, [], ◌∷◌, ◌++◌, length, map, get_or, refl, sym, ◌∙◌, ap, subst, arith, length-append}
 use Rattle.std.proofs.Math.ListN.{set, length-set}
 use Rattle.std.specs.List.{range_with_len}
 use Rattle.std.proofs.lemmas.List.FromFn.{map-range_with_len_more}
 use Rattle.std.proofs.lemmas.Bool.{cases_lt, cases_eq}
-use Rattle.std.proofs.lemmas.List.{get_or-set_same, get_or-set_other, get_or_default}
+use Rattle.std.proofs.lemmas.List.{get_or-set_same, get_or-set_other}
 use Rattle.wl_topology.specs.Delays.{delay_of}
 use Rattle.wl_plan.specs.declared.plan.Plan.{Plan}
 use Rattle.wl_serial.specs.declared.running_node.Running.{Running}
@@ -12,7 +12,7 @@ use Rattle.wl_serial.specs.declared.outcome.NodeOutcome.{NodeOutcome}
 use Rattle.wl_serial.specs.declared.ear.Ear.{Ear}
 use Rattle.wl_serial.specs.Heard.{IsEar, AreEars}
 use Rattle.wl_serial.specs.Outcome.{node_outcome_of}
-use Rattle.wl_serial.specs.Running.{IsRunning, AreRunning, KnowsOthers, AllKnown, IsNext, ticks_left}
+use Rattle.wl_serial.specs.Running.{IsRunning, AreRunning, KnowsOthers, ticks_left}
 
 -- one more that runs, after the others
 get_or_before : (xs : List Running) (x d : Running) (j : ℕ) → j < length xs → get_or (xs ++ x ∷ []) j d ≡ get_or xs j d
@@ -95,54 +95,6 @@ pub same_left : (end : ℕ) (rs : List Running) (j : ℕ) (r d : Running) → r.
 same_left end [] j r d same = omega arith
 same_left end (x ∷ xs) zero r d same = omega (arith, same)
 same_left end (x ∷ xs) (suc j) r d same = (let f = same_left end xs j r d same in omega (arith, f))
-
--- Of the first i nodes: they are known up to this tick at least, which is no later than the end, and the one that was picked, if there is such a one, no further.
-abbrev pub IsLeast : ℕ → List Running → ℕ → ℕ → Option ℕ → Type 0
-IsLeast end rs i least node =
-    ((k : ℕ) (d : Running) → k < i → least ≤ (get_or rs k d).known)
-    × MatchOption node (least ≡ end) (λ j. (j < i) × (least < end) × ((d : Running) → (get_or rs j d).known ≡ least))
-
-pub at_place : (rs : List Running) (i : ℕ) (r d : Running) → i < length rs → r ≡ get_or rs i r → get_or rs i d ≡ r
-at_place rs i r d b is = get_or_default rs i d r b ∙ sym is
-
-pub pick : (end : ℕ) (rs : List Running) (i least : ℕ) (picked : Option ℕ) (r : Running) → i < length rs → r ≡ get_or rs i r → least ≤ end → IsLeast end rs i least picked
-    → r.known < least → IsLeast end rs (i + 1) r.known (Some i)
-pick end rs i least picked r b is few so_far less = (each, (omega arith, omega (arith, few, less), (λ d. ap (λ x. x.known) (at_place rs i r d b is))))
-  where
-    each : (k : ℕ) (d : Running) → k < i + 1 → r.known ≤ (get_or rs k d).known
-    each k d c = elim (cases_lt k i) [
-      | inl below ↦ (let f = so_far.0 k d below in omega (arith, f, less))
-      | inr here ↦ (let same : i ≡ k = omega (arith, here, c) in let e = ap (λ x. x.known) (at_place rs i r d b is) in
-          subst (λ n. r.known ≤ (get_or rs n d).known) same (omega (arith, e)))
-    ]
-
-pub keep : (end : ℕ) (rs : List Running) (i least : ℕ) (picked : Option ℕ) (r : Running) → i < length rs → r ≡ get_or rs i r → IsLeast end rs i least picked
-    → least ≤ r.known → IsLeast end rs (i + 1) least picked
-keep end rs i least picked r b is so_far more = (each, one picked so_far.1)
-  where
-    each : (k : ℕ) (d : Running) → k < i + 1 → least ≤ (get_or rs k d).known
-    each k d c = elim (cases_lt k i) [
-      | inl below ↦ so_far.0 k d below
-      | inr here ↦ (let same : i ≡ k = omega (arith, here, c) in let e = ap (λ x. x.known) (at_place rs i r d b is) in
-          subst (λ n. least ≤ (get_or rs n d).known) same (omega (arith, e, more)))
-    ]
-
-    one : (n : Option ℕ) → MatchOption n (least ≡ end) (λ j. (j < i) × (least < end) × ((d : Running) → (get_or rs j d).known ≡ least))
-        → MatchOption n (least ≡ end) (λ j. (j < i + 1) × (least < end) × ((d : Running) → (get_or rs j d).known ≡ least))
-    one None h = h
-    one (Some j) h = (let c = h.0 in (omega (arith, c), h.1, h.2))
-
--- the others are known as far, and its next quantum is not behind that
-pub least_is_next : (plan : Plan) (rs : List Running) (i least : ℕ) (node : Option ℕ) → AreRunning plan rs → i ≡ length rs → IsLeast plan.end rs i least node
-    → MatchOption node (AllKnown plan.end rs) (IsNext plan.end rs)
-least_is_next plan rs i least None running all found = λ k d b. (let f = found.0 k d (omega (arith, all, b)) in let e = found.1 in omega (arith, f, e))
-least_is_next plan rs i least (Some j) running all found =
-    let there : j < length rs = (let b = found.1.0 in omega (arith, all, b)) in
-    record {
-      is_node = there;
-      before = λ d. let p = (running.each j d there).1.promised in let e = found.1.2 d in let f = found.1.1 in omega (arith, p, e, f);
-      first = λ d k e b. let p = (running.each j d there).1.promised in let same = found.1.2 d in let f = found.0 k e (omega (arith, all, b)) in omega (arith, p, same, f);
-    }
 
 -- one ear anew
 pub ear_on : (plan : Plan) (j : ℕ) (es : List Ear) (e : Ear) → j < length es → AreEars plan es → IsEar plan j e → AreEars plan (set es j e)

@@ -1,8 +1,9 @@
 -- What a place hears, and for how long it stays so. This project's profile.
-use Rattle.std.specs.Prelude.{◌≡◌, ℕ, ◌+◌, ◌-◌, ◌<◌, ◌≤◌, ◌&&◌, Bool, List, [], ◌∷◌, ◌++◌, length, nat_le, slice_index_or}
+use Rattle.std.specs.Prelude.{◌≡◌, ℕ, ◌+◌, ◌-◌, ◌<◌, ◌≤◌, ◌&&◌, Bool, List, [], ◌∷◌, ◌++◌, length, ◌≢◌, nat_le, slice_index_or}
 use Rattle.wl_level.specs.declared.Level.{Level}
 use Rattle.wl_record_core.specs.Truth.{count_below, odd}
 use Rattle.wl_topology.specs.Delays.{delay_of}
+use Rattle.wl_topology.specs.Limits.{most_places}
 use Rattle.wl_topology.specs.Driven.{driven}
 use Rattle.wl_plan.specs.declared.plan.Plan.{Plan}
 use Rattle.wl_plan.specs.declared.plan.Disturbance.{Disturbance}
@@ -30,9 +31,16 @@ IsPulse dominant p = (t : ℕ) → p.from ≤ t → t < p.until → dominant t �
 abbrev pub AreDelays : Plan → ℕ → List ℕ → Type 0
 AreDelays plan j delays = (length delays ≡ length plan.nodes) × ((i d : ℕ) → i < length delays → slice_index_or delays i d ≡ delay_of plan.topology i j)
 
+-- the delays from each other node to place j, and some from its own
+pub record AreOthers (plan : Plan) (j : ℕ) (others : List ℕ) : Type 0 where
+  pub all : length others ≡ most_places
+  pub each : (i d : ℕ) → i < length plan.nodes → i ≢ j → slice_index_or others i d ≡ delay_of plan.topology i j
+  pub some : (i d : ℕ) → i < length others → 1 ≤ slice_index_or others i d
+
 -- what a place keeps
 pub record IsEar (plan : Plan) (j : ℕ) (ear : Ear) : Type 0 where
   pub delays : AreDelays plan j ear.delays.items
+  pub others : AreOthers plan j ear.others
   pub shaken : IsPulse (disturbed plan j) ear.shaken
 
 -- of each place

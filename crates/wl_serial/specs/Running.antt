@@ -3,6 +3,7 @@ use Rattle.std.specs.Prelude.{◌≡◌, ℕ, ◌+◌, ◌-◌, ◌<◌, ◌≤�
 use Rattle.wl_level.specs.declared.Level.{Level}
 use Rattle.wl_level.specs.Levels.{level_of}
 use Rattle.wl_topology.specs.Delays.{delay_of}
+use Rattle.wl_topology.specs.Limits.{most_places}
 use Rattle.wl_record_core.specs.Truth.{count_below}
 use Rattle.wl_plan.specs.declared.plan.Plan.{Plan}
 use Rattle.wl_plan.specs.PlanLine.{setup_at, line_of, table_of}
@@ -47,6 +48,17 @@ NoneBefore t rs = (i : ℕ) (d : Running) → i < length rs → t ≤ (slice_ind
 -- the drive of each node is known below tick t
 abbrev pub AllKnown : ℕ → List Running → Type 0
 AllKnown t rs = (i : ℕ) (d : Running) → i < length rs → t ≤ (slice_index_or rs i d).known
+
+-- Up to these ticks the drives of the nodes are known; where there is no node of a number, up to the end at least.
+pub record AreKnown (end : ℕ) (rs : List Running) (known : List ℕ) : Type 0 where
+  pub all : length known ≡ most_places
+  pub few : length rs ≤ most_places
+  pub each : (i d : ℕ) (r : Running) → i < length rs → slice_index_or known i d ≡ (slice_index_or rs i r).known
+  pub beyond : (i d : ℕ) → length rs ≤ i → i < length known → end ≤ slice_index_or known i d
+
+-- no node but node j has run
+abbrev pub OnlyOne : ℕ → List Running → List Running → Type 0
+OnlyOne j old new = (i : ℕ) (d : Running) → i ≢ j → slice_index_or new i d ≡ slice_index_or old i d
 
 -- node j has its next quantum before the end, and what each node drives before that is known
 pub record IsNext (end : ℕ) (rs : List Running) (j : ℕ) : Type 0 where

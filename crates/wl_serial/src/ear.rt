@@ -2,11 +2,11 @@
 ghost use Rattle.std.specs.Prelude.{◌≡◌, ℕ, ◌+◌, ◌<◌, ◌≤◌, ◌^◌, ◌||◌, IfOk, List, length, set, slice_index_or};
 ghost use Rattle.wl_level.specs.Levels.{level_of};
 ghost use Rattle.wl_plan.specs.Checked.{IsChecked};
-ghost use Rattle.wl_serial.specs.Heard.{AreMade, AreDelays, IsEar, AreEars, IsFound, IsHeard, AreHeard, HasChanged};
-ghost use Rattle.wl_serial.specs.Running.{AreRunning, KnowsOthers, RunsBelow, AllKnown};
+ghost use Rattle.wl_serial.specs.Heard.{AreMade, AreDelays, AreOthers, IsEar, AreEars, IsFound, IsHeard, AreHeard, HasChanged};
+ghost use Rattle.wl_serial.specs.Running.{AreRunning, AreKnown, KnowsOthers, RunsBelow, AllKnown};
 
 use crate::pulse::{Pulse, SILENCE, pulse_of};
-use crate::running_node::Running;
+use crate::running_node::{Running, Ticks};
 use crate::shaken::shaken_at;
 use std::alloc::{AllocError, Global};
 use wl_level::Level;
@@ -16,11 +16,12 @@ use wl_topology::MOST_NODES;
 /// For each node, how many of its changes had come when they were last asked for. It speeds up the next time, and decides nothing.
 pub(crate) type Come = [usize; MOST_NODES];
 
-/// What a place keeps of the line: the delay from each node, what has come from it, what the disturbances make, and what the nodes make
+/// What a place keeps of the line: the delay from each node, the delay from each other node, what has come from it, what the disturbances make, and what the nodes make
 /// by the changes that they have told.
 #[derive(Drop)]
 pub(crate) struct Ear {
     pub(crate) delays: Vec<u64>,
+    pub(crate) others: Ticks,
     pub(crate) come: Come,
     pub(crate) shaken: Pulse,
     pub(crate) heard: Pulse,
@@ -47,6 +48,7 @@ impl Ear {
         }
         Ok(Ear {
             delays,
+            others: delays_of_others(plan, j),
             come: [0; MOST_NODES],
             shaken: SILENCE,
             heard: SILENCE,
@@ -54,9 +56,10 @@ impl Ear {
     }
 
     /// The tick below which all is known that comes to node `j` from the others, and no later than the end.
-    pub(crate) fn horizon(&self, plan: &Plan, running: &[Running], j: usize) -> u64
+    pub(crate) fn horizon(&self, plan: &Plan, running: &[Running], known: &Ticks, j: usize) -> u64
         requires checked { IsChecked plan.now }
         requires running { AreRunning plan.now running.now }
+        requires known { AreKnown plan.now.end running.now known.now }
         requires node { j < length plan.now.nodes }
         requires ear { IsEar plan.now j self.now }
         ensures known { KnowsOthers plan.now j result running.now }
@@ -64,11 +67,8 @@ impl Ear {
         ensures later { (t : ℕ) → t < plan.now.end → AllKnown t running.now → t < result }
     {
         let mut horizon = plan.end;
-        for i in 0..running.len() {
-            if i != j {
-                let known = running[i].known;
-                horizon = horizon.min(known.saturating_add(self.delays[i]));
-            }
+        for i in 0..MOST_NODES {
+            horizon = horizon.min(known[i].saturating_add(self.others[i]));
         }
         horizon
     }
@@ -123,6 +123,7 @@ impl Ear {
     fn expect(&mut self, i: usize, tick: u64)
         requires node { i < length self.old.delays.items }
         ensures delays { self.new.delays ≡ self.old.delays }
+        ensures others { self.new.others ≡ self.old.others }
         ensures shaken { self.new.shaken ≡ self.old.shaken }
         ensures from { self.new.heard.from ≡ self.old.heard.from }
         ensures few { self.new.heard.until ≤ self.old.heard.until }
@@ -132,6 +133,21 @@ impl Ear {
         let comes = tick.saturating_add(self.delays[i]);
         self.heard.until = self.heard.until.min(comes);
     }
+}
+
+/// The delay from each other node to place `j`, and from its own one more than any tick.
+fn delays_of_others(plan: &Plan, j: usize) -> Ticks
+    requires checked { IsChecked plan.now }
+    requires node { j < length plan.now.nodes }
+    ensures { AreOthers plan.now j result }
+{
+    let mut others = [u64::MAX; MOST_NODES];
+    for i in 0..plan.nodes.len() {
+        if i != j {
+            others[i] = plan.topology.delay(i as u8, j as u8);
+        }
+    }
+    others
 }
 
 /// Tells the ears that node `i` changed its drive at this tick.

@@ -4,15 +4,16 @@ ghost use Rattle.std.specs.List.{range_with_len};
 ghost use Rattle.wl_plan.specs.Checked.{IsChecked};
 ghost use Rattle.wl_serial.specs.Outcome.{node_outcome_of, outcome_of};
 ghost use Rattle.wl_serial.specs.Heard.{AreEars, AreHeard};
-ghost use Rattle.wl_serial.specs.Running.{AreRunning, AllKnown, NoneBefore, IsNext};
+ghost use Rattle.wl_serial.specs.Running.{AreRunning, AreKnown, AllKnown, NoneBefore, IsNext};
 
 use crate::ear::Ear;
 use crate::outcome::{NodeOutcomes, Outcome};
-use crate::running_node::Running;
+use crate::running_node::{Running, Ticks};
 use crate::turn::turn;
 use std::alloc::{AllocError, Global};
 use wl_level::Listed;
 use wl_plan::Plan;
+use wl_topology::MOST_NODES;
 
 /// The outcome of the tick-by-tick simulation of a plan that passed its check.
 ///
@@ -23,7 +24,8 @@ pub fn run_serial(alloc: Global, plan: &Plan) -> Result<Outcome, AllocError>
 {
     let mut running = begin(alloc, plan)?;
     let mut ears = listen(alloc, plan)?;
-    run(plan, &mut running, &mut ears)?;
+    let mut known = all_known(plan, &running);
+    run(plan, &mut running, &mut ears, &mut known)?;
     Ok(Outcome {
         nodes: finish(alloc, plan, running)?,
         end: plan.end,
@@ -55,46 +57,70 @@ fn listen(alloc: Global, plan: &Plan) -> Result<Vec<Ear>, AllocError>
     Ok(ears)
 }
 
+/// Up to which ticks the drives are known.
+fn all_known(plan: &Plan, running: &[Running]) -> Ticks
+    requires checked { IsChecked plan.now }
+    requires running { AreRunning plan.now running.now }
+    ensures { AreKnown plan.now.end running.now result }
+{
+    let mut known = [u64::MAX; MOST_NODES];
+    for i in 0..running.len() {
+        known[i] = running[i].known;
+    }
+    known
+}
+
 /// Runs all quanta before the end.
-fn run(plan: &Plan, running: &mut [Running], ears: &mut [Ear]) -> Result<(), AllocError>
+fn run(
+    plan: &Plan,
+    running: &mut [Running],
+    ears: &mut [Ear],
+    known: &mut Ticks,
+) -> Result<(), AllocError>
     requires checked { IsChecked plan.now }
     requires running { AreRunning plan.now running.old }
     requires ears { AreEars plan.now ears.old }
     requires heard { AreHeard plan.now running.old ears.old }
+    requires known { AreKnown plan.now.end running.old known.old }
     ensures running { OnOk result (AreRunning plan.now running.new) }
     ensures ended { OnOk result (NoneBefore plan.now.end running.new) }
 {
-    while let Some(j) = next_before(plan, running) {
-        turn(plan, running, ears, j)?;
+    while let Some(j) = next_before(plan, running, known) {
+        turn(plan, running, ears, known, j)?;
     }
     Ok(())
 }
 
 /// Of the nodes that have a quantum before the end, the one whose drive is known the least far: all others wait for it.
-fn next_before(plan: &Plan, running: &[Running]) -> Option<usize>
-    requires { AreRunning plan.now running.now }
+fn next_before(plan: &Plan, running: &[Running], known: &Ticks) -> Option<usize>
+    requires running { AreRunning plan.now running.now }
+    requires known { AreKnown plan.now.end running.now known.now }
     ensures { MatchOption result (NoneBefore plan.now.end running.now) (IsNext plan.now.end running.now) }
 {
-    if let Some(j) = least_known(plan, running) {
+    if let Some(j) = least_known(plan, running, known) {
         return Some(j);
     }
     left_before(plan, running)
 }
 
 /// The node whose drive is known the least far, unless all are known up to the end.
-fn least_known(plan: &Plan, running: &[Running]) -> Option<usize>
-    requires { AreRunning plan.now running.now }
+fn least_known(plan: &Plan, running: &[Running], known: &Ticks) -> Option<usize>
+    requires running { AreRunning plan.now running.now }
+    requires known { AreKnown plan.now.end running.now known.now }
     ensures { MatchOption result (AllKnown plan.now.end running.now) (IsNext plan.now.end running.now) }
 {
-    let mut least = plan.end;
-    let mut node = None;
-    for (i, r) in running.iter().enumerate() {
-        if r.known < least {
-            least = r.known;
-            node = Some(i);
+    let mut node = 0;
+    let mut least = known[0];
+    for i in 1..MOST_NODES {
+        if known[i] < least {
+            least = known[i];
+            node = i;
         }
     }
-    node
+    if plan.end <= least {
+        return None;
+    }
+    Some(node)
 }
 
 /// A node that has a quantum before the end, where all are known up to the end.

@@ -14,6 +14,10 @@ use wl_clock::Clock;
 use wl_level::{Level, Listed};
 use wl_node::Node;
 use wl_plan::Plan;
+use wl_topology::MOST_NODES;
+
+/// For each node a tick.
+pub(crate) type Ticks = [u64; MOST_NODES];
 
 /// A node, the changes of its drive so far, the tick of its next quantum, and the tick below which its drive is known.
 #[derive(Drop)]

@@ -2,10 +2,10 @@
 ghost use Rattle.std.specs.Prelude.{◌≡◌, ℕ, ◌<◌, ◌≤◌, OnOk, length};
 ghost use Rattle.wl_plan.specs.Checked.{IsChecked};
 ghost use Rattle.wl_serial.specs.Heard.{AreEars, AreHeard};
-ghost use Rattle.wl_serial.specs.Running.{AreRunning, KnowsOthers, IsNext, IsFewer, RunsBelow, ticks_left};
+ghost use Rattle.wl_serial.specs.Running.{AreRunning, AreKnown, KnowsOthers, IsNext, IsFewer, OnlyOne, RunsBelow, ticks_left};
 
 use crate::ear::{Ear, tell};
-use crate::running_node::Running;
+use crate::running_node::{Running, Ticks};
 use std::alloc::AllocError;
 use wl_plan::Plan;
 
@@ -14,21 +14,25 @@ pub(crate) fn turn(
     plan: &Plan,
     running: &mut [Running],
     ears: &mut [Ear],
+    known: &mut Ticks,
     j: usize,
 ) -> Result<(), AllocError>
     requires checked { IsChecked plan.now }
     requires running { AreRunning plan.now running.old }
     requires ears { AreEars plan.now ears.old }
     requires heard { AreHeard plan.now running.old ears.old }
+    requires known { AreKnown plan.now.end running.old known.old }
     requires next { IsNext plan.now.end running.old j }
     ensures running { OnOk result (AreRunning plan.now running.new) }
     ensures ears { OnOk result (AreEars plan.now ears.new) }
     ensures heard { OnOk result (AreHeard plan.now running.new ears.new) }
+    ensures known { OnOk result (AreKnown plan.now.end running.new known.new) }
     ensures fewer { OnOk result (ticks_left plan.now.end running.new < ticks_left plan.now.end running.old) }
 {
-    let horizon = ears[j].horizon(plan, running, j);
+    let horizon = ears[j].horizon(plan, running, known, j);
     run_below(plan, running, ears, j, horizon)?;
     running[j].promise(plan, j);
+    known[j] = running[j].known;
     Ok(())
 }
 
@@ -50,6 +54,7 @@ fn run_below(
     ensures running { OnOk result (AreRunning plan.now running.new) }
     ensures ears { OnOk result (AreEars plan.now ears.new) }
     ensures heard { OnOk result (AreHeard plan.now running.new ears.new) }
+    ensures others { OnOk result (OnlyOne j running.old running.new) }
     ensures fewer { OnOk result (IsFewer plan.now.end horizon j running.old running.new) }
 {
     while running[j].next < horizon {
@@ -79,6 +84,7 @@ fn stretch(
     ensures ears { OnOk result (AreEars plan.now ears.new) }
     ensures heard { OnOk result (AreHeard plan.now running.new ears.new) }
     ensures known { OnOk result (KnowsOthers plan.now j horizon running.new) }
+    ensures others { OnOk result (OnlyOne j running.old running.new) }
     ensures fewer { OnOk result (ticks_left plan.now.end running.new < ticks_left plan.now.end running.old) }
 {
     let found = ears[j].hear(plan, running, j, horizon);

@@ -1,7 +1,7 @@
 -- Each ear in turn is told: what it heard stays up to the tick at which the change comes there.
 use Rattle.std.proofs.Common.{◌<◌, length, get_or, sym, subst, arith}
 use Rattle.std.proofs.Math.ListN.{set}
-use Rattle.wl_serial.specs.Heard.{AreDelays, IsPulse, IsEar}
+use Rattle.wl_serial.specs.Heard.{AreDelays, AreOthers, IsPulse, IsEar}
 use Rattle.wl_plan.specs.PlanLine.{disturbed}
 use Rattle.wl_serial.proofs.Hearing.{heard_before, told_one_more}
 use Rattle.wl_serial.proofs.Runners.{ear_on}
@@ -18,6 +18,7 @@ loop-m-preserved c =
       ear_on plan m ears e b c.loop-m.invariant.0
           (record {
             delays = subst (λ xs. AreDelays plan m xs.items) (sym c.expect.ensures.delays) was.delays;
+            others = subst (AreOthers plan m) (sym c.expect.ensures.others) was.others;
             shaken = subst (IsPulse (disturbed plan m)) (sym c.expect.ensures.shaken) was.shaken;
           }),
       λ rs r inside are changed.

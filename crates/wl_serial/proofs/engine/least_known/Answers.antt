@@ -1,26 +1,30 @@
 -- The one that is known the least far, if that is before the end.
-use Rattle.std.proofs.Common.{arith}
-use Rattle.wl_serial.proofs.Runners.{pick, keep, least_is_next}
+use Rattle.std.proofs.Common.{◌≡◌, ◌<◌, length, subst, arith}
+use Rattle.std.proofs.lemmas.List.{get_or_default}
+use Rattle.wl_serial.proofs.Known.{IsLeast, least_one_more, least_stays, least_is_next, all_known}
 use Rattle.wl_serial.proofs.engine.least_known.Goals as goal
-use Rattle.wl_serial.proofs.engine.least_known.Goals.{then-r-least, else-r-least}
+use Rattle.wl_serial.proofs.engine.least_known.Goals.{then-known-i, else-known-i}
 
 pub loop-i-preserved : goal.loop-i-preserved
-loop-i-preserved c = elim c.if-r-least.branch [
-  | then-r-least w ↦
-      rw (w.least-is, w.node-is)
-      (let less = w.if-r-least.true in (
-        omega (arith, less, c.loop-i.invariant.0),
-        pick c.args.plan.now.end c.args.running.now c.loop-i.i c.loop-i.least c.loop-i.node c.index-running-i.result c.loop-i-test.true c.index-running-i.is c.loop-i.invariant.0
-            c.loop-i.invariant.1 less,
-      ))
-  | else-r-least w ↦
-      rw (w.least-is, w.node-is) (
-        c.loop-i.invariant.0,
-        keep c.args.plan.now.end c.args.running.now c.loop-i.i c.loop-i.least c.loop-i.node c.index-running-i.result c.loop-i-test.true c.index-running-i.is c.loop-i.invariant.1
-            (omega (arith, w.if-r-least.false)),
-      )
-]
+loop-i-preserved c =
+    let b : c.loop-i.i < length c.args.known.now = omega (arith, c.loop-i-test.true, c.told-known) in
+    elim c.if-known-i.branch [
+      | then-known-i w ↦
+          rw (w.node-is, w.least-is)
+          (least_one_more c.args.known.now c.loop-i.i c.loop-i.node c.loop-i.least _ b (get_or_default c.args.known.now c.loop-i.i 0 _ b) c.loop-i.invariant w.if-known-i.true)
+      | else-known-i w ↦
+          rw (w.node-is, w.least-is)
+          (least_stays c.args.known.now c.loop-i.i c.loop-i.node c.loop-i.least _ b (get_or_default c.args.known.now c.loop-i.i 0 _ b) c.loop-i.invariant w.if-known-i.false)
+    ]
 
 pub returns : goal.returns
 returns c =
-    least_is_next c.args.plan.now c.args.running.now c.loop-i.i c.loop-i.least c.loop-i.node c.requires (omega (arith, c.loop-i-test.false, c.loop-i.auto.i-end)) c.loop-i.invariant.1
+    let all : c.loop-i.i ≡ length c.args.known.now = omega (arith, c.told-known, c.loop-i-test.false, c.loop-i.auto.i-end) in
+    least_is_next c.args.plan.now c.args.running.now c.args.known.now c.loop-i.node c.loop-i.least c.requires.running c.requires.known
+    (subst (λ n. IsLeast c.args.known.now n c.loop-i.node c.loop-i.least) all c.loop-i.invariant) c.if-plan-least.false
+
+pub returns-then-plan-least : goal.returns-then-plan-least
+returns-then-plan-least c =
+    let all : c.loop-i.i ≡ length c.args.known.now = omega (arith, c.told-known, c.loop-i-test.false, c.loop-i.auto.i-end) in
+    all_known c.args.plan.now c.args.running.now c.args.known.now c.loop-i.node c.loop-i.least c.requires.known
+    (subst (λ n. IsLeast c.args.known.now n c.loop-i.node c.loop-i.least) all c.loop-i.invariant) c.if-plan-least.true

@@ -1,6 +1,6 @@
 use Rattle.std.proofs.Common.{◌≡◌, ◌⊎◌, ◌<◌}
 use Rattle.wl_serial.specs.Heard.{AreEars, AreHeard}
-use Rattle.wl_serial.specs.Running.{AreRunning, KnowsOthers, ticks_left}
+use Rattle.wl_serial.specs.Running.{AreRunning, KnowsOthers, OnlyOne, ticks_left}
 use Rattle.wl_serial.proofs.turn.run_below.Given as goal
 
 -- the others wait, so that the horizon stays; and fewer ticks are left, once a quantum has run
@@ -9,6 +9,7 @@ invariant-loop-running l =
     AreRunning l.plan l.running
     × AreEars l.plan l.ears
     × AreHeard l.plan l.running l.ears
+    × OnlyOne l.j l.fn.running l.running
     × KnowsOthers l.plan l.j l.horizon l.running
     × ((l.running ≡ l.fn.running) ⊎ (ticks_left l.plan.end l.running < ticks_left l.plan.end l.fn.running))
 

@@ -1,7 +1,7 @@
 -- The node that ran on is where the simulation has it, and the others stay.
 use Rattle.std.proofs.Common.{◌∙◌, get_or, ap, arith}
 use Rattle.std.proofs.Math.ListN.{set}
-use Rattle.std.proofs.lemmas.List.{get_or_default}
+use Rattle.std.proofs.lemmas.List.{get_or_default, get_or-set_other}
 use Rattle.wl_serial.specs.Running.{one_more}
 use Rattle.wl_serial.proofs.Hearing.{heard_same, heard_anew}
 use Rattle.wl_serial.proofs.Runners.{one_on, fewer_left}
@@ -33,3 +33,9 @@ returns-in_default-clause-fewer c =
     let d = c.index-running-j.result in
     fewer_left c.args.plan.now.end c.args.running.now c.args.j c.go.new.self d (omega (arith, c.requires.node, c.requires.running.all))
     (let b = c.requires.below d in omega (arith, b, c.requires.ends)) c.in_ok-tick.ensures.later
+
+pub returns-in-Some-clause-others : goal.returns-in-Some-clause-others
+returns-in-Some-clause-others c i d other = get_or-set_other c.args.running.now c.args.j i c.go.new.self d other
+
+pub returns-in_default-clause-others : goal.returns-in_default-clause-others
+returns-in_default-clause-others c i d other = get_or-set_other c.args.running.now c.args.j i c.go.new.self d other
