@@ -69,7 +69,7 @@ fn goes_off(before: Mode, after: Mode) -> bool
 
 impl Replay {
     /// Before the first sample.
-    fn new(alloc: Global) -> Replay
+    pub(crate) fn new(alloc: Global) -> Replay
         ensures past { IsReplay result no_past }
         ensures sent { result.sent ≡ 0 }
     {
@@ -82,7 +82,7 @@ impl Replay {
     }
 
     /// The sample at which `notes` stands, of this level.
-    fn sample(
+    pub(crate) fn sample(
         &mut self,
         queue: &[Queued],
         level: Level,

@@ -1,0 +1,8 @@
+use Rattle.std.proofs.Common.{◌≡◌, ◌∙◌, ap, sym, length, refl}
+use Rattle.std.proofs.lemmas.List.{take_all}
+use Rattle.wl_node.specs.History.{history_of}
+use Rattle.wl_trace.proofs.Replayed.{by_samples}
+use Rattle.wl_trace.proofs.laws.state_by_samples.Goals as goal
+
+pub returns : goal.returns
+returns c = λ setup levels. by_samples setup levels
