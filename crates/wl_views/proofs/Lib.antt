@@ -13,3 +13,4 @@ mod Telling
 mod WaveRows
 mod Watching
 mod Sending
+mod StateAt

@@ -16,6 +16,7 @@ mod tick;
 mod told;
 mod turned;
 mod wave;
+mod words;
 
 pub use fault::ViewFault;
 pub use laws::sent_in_time;

@@ -14,7 +14,7 @@ returns g c =
     let lines : List ℕ = flat_map (tick_lines c.args.tick (signals c.args.plan.now)) (range_with_len 1 (c.args.plan.now.end - 1)) in
     let last : List ℕ = time_line c.args.tick c.args.plan.now.end in
     let front : c.as_bytes.result.now ≡ top ++ first =
-    c.as_bytes.ensures.value ∙ c.in_ok-front.ensures ∙ ap (λ now. top ++ first_lines c.args.tick now) (c.deref-2.ensures.value ∙ c.in_ok-now.ensures.now)
+    c.as_bytes.ensures.value ∙ c.in_ok-front.ensures ∙ ap (λ now. top ++ first_lines c.args.tick now) (c.deref-3.ensures.value ∙ c.in_ok-now.ensures.now)
     in
     let whole : c.as_bytes.result.now ++ (lines ++ last) ≡ vcd_text c.args.tick c.args.plan.now c.args.names.now =
     ap (λ ys. ys ++ (lines ++ last)) front ∙ append_assoc top first (lines ++ last) ∙ ap (λ ys. top ++ ys) (sym (append_assoc first lines last))
