@@ -1,5 +1,5 @@
 -- A history's events are those of its samples.
-use Rattle.std.proofs.Common.{◌≡◌, ◌∙◌, refl, ap, sym, arith, ℕ, ◌≤◌, List, [], ◌∷◌, ◌++◌, length, map, fold, append-nil, length-append, ◌+◌, ◌<◌, take, get_or, subst, ap₂}
+use Rattle.std.proofs.Common.{◌≡◌, ◌∙◌, refl, ap, sym, arith, ℕ, List, [], ◌∷◌, ◌++◌, length, map, fold, append-nil, length-append, ◌+◌, ◌<◌, take, get_or, subst, ap₂}
 use Rattle.std.proofs.lemmas.List.{take_all, take_more}
 use Rattle.std.proofs.lemmas.List.Sums.{fold-append}
 use Rattle.wl_level.specs.declared.Level.{Level}
@@ -10,7 +10,7 @@ use Rattle.wl_node.specs.declared.setup.NodeSetup.{NodeSetup}
 use Rattle.wl_node.specs.History.{History, no_history, history_of, history_after, by_beat, seen_next}
 use Rattle.wl_trace.specs.declared.event.Noted.{Noted}
 use Rattle.wl_trace.specs.Events.{noted, beat_events, events_at, traced_after, events_of}
-use Rattle.wl_trace.specs.Replay.{IsReplay, SampledPast, no_past, past_after, then_events}
+use Rattle.wl_trace.specs.Replay.{IsReplay, SampledPast, no_past, past_after, past_of, then_events}
 use Rattle.wl_trace.specs.declared.noting.Notes.{Notes}
 use Rattle.wl_trace.specs.declared.replay.Replay.{Replay}
 use Rattle.wl_trace.specs.States.{state_after, state_of, state_then}
@@ -25,9 +25,6 @@ replayed_after setup (p, events) s = (past_after setup p s, events ++ past_event
 
 pub replay_of : NodeSetup → List (ℕ × Level) → SampledPast × List Noted
 replay_of setup samples = fold (replayed_after setup) (no_past, []) samples
-
-abbrev past_of : History → SampledPast
-past_of h = record { inputs = h.inputs; happened = h.happened; frames = h.frames; samples = h.samples }
 
 module _ (setup : NodeSetup) where
   pub replay_first : replay_of setup [] ≡ (no_past, [])

@@ -6,3 +6,4 @@ pub mod Running
 pub mod Replay
 pub mod Notes
 pub mod States
+pub mod Starts

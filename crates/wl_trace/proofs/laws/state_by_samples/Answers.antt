@@ -1,6 +1,3 @@
-use Rattle.std.proofs.Common.{◌≡◌, ◌∙◌, ap, sym, length, refl}
-use Rattle.std.proofs.lemmas.List.{take_all}
-use Rattle.wl_node.specs.History.{history_of}
 use Rattle.wl_trace.proofs.Replayed.{by_samples}
 use Rattle.wl_trace.proofs.laws.state_by_samples.Goals as goal
 
