@@ -3,6 +3,7 @@ mod InTime
 mod Lists
 mod Pieces
 mod SampleOrder
+mod StartOrder
 mod Seeing
 mod SignalProofs
 mod Turns

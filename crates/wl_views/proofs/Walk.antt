@@ -20,7 +20,8 @@ same_word : (letter : List ℕ) (i : ℕ) (word : List ℕ) → word_change lett
 same_word letter i word = ap (λ b. cond b [] (word_line letter i word)) ((bytes_eq-Decides word word).1 refl)
 
 same_levels : (i : ℕ) (n : NodeSignals) → level_changes i n n ≡ []
-same_levels i n = ap₂ (λ a b. a ++ b) (ap₂ (λ a b. a ++ b) (no_change _ i n.tx) (no_change _ i n.rx)) (no_change _ i n.sample)
+same_levels i n =
+    ap₂ (λ a b. a ++ b) (ap₂ (λ a b. a ++ b) (ap₂ (λ a b. a ++ b) (no_change _ i n.tx) (no_change _ i n.rx)) (no_change _ i n.sample)) (no_change _ i n.start)
 
 same_state : (i : ℕ) (n : NodeState) → state_changes i n n ≡ []
 same_state i n =

@@ -24,7 +24,7 @@ use Rattle.wl_views.proofs.StateAt.{state_now}
 use Rattle.wl_views.proofs.Walk.{changed_more}
 
 abbrev pub low : NodeSignals
-low = record { tx = false; rx = false; sample = false; state = record { tec = 0; rec = 0; mode = Active; doing = Integrating } }
+low = record { tx = false; rx = false; sample = false; start = false; state = record { tec = 0; rec = 0; mode = Active; doing = Integrating } }
 
 narrow : (f : ℕ → Bool) (t u : ℕ) (held : Held) → Holds f t held → t ≤ u → u < held.until → Holds f u held
 narrow f t u held h from below = record { later = below; same = λ v more less. h.same v (omega arith) less }
@@ -37,6 +37,7 @@ pub on : (plan : Plan) (i t u : ℕ) (w : Watched) → Watches plan i t w → t 
 on plan i t u w h from below = record {
   drive = narrow _ t u w.drive h.drive from (omega arith);
   line = narrow _ t u w.line h.line from (omega arith);
+  starts = narrow _ t u w.starts h.starts from (omega arith);
   samples = narrow_count _ t u w.samples h.samples from (omega arith);
   state = h.state;
 }
@@ -45,6 +46,7 @@ pub remembered : (plan : Plan) (i t u : ℕ) (w : Watched) → Watches plan i t 
 remembered plan i t u w h from = record {
   drive = λ below. narrow _ t u w.drive h.drive from below;
   line = λ below. narrow _ t u w.line h.line from below;
+  starts = λ below. narrow _ t u w.starts h.starts from below;
   samples = λ below. narrow_count _ t u w.samples h.samples from below;
 }
 
@@ -52,6 +54,7 @@ pub nothing_remembered : (plan : Plan) (i t : ℕ) → Remembers plan i t unwatc
 nothing_remembered plan i t = record {
   drive = λ below. absurd (omega arith);
   line = λ below. absurd (omega arith);
+  starts = λ below. absurd (omega arith);
   samples = λ below. absurd (omega arith);
 }
 
@@ -59,8 +62,8 @@ module _ (sounds : CheckedIsSound) (laws : SimulationLaws) (tables : TableLaws) 
   pub stays : (t u : ℕ) (w : Watched) → Watches plan i t w → t ≤ u → u < stays_until w → node_signals plan u i ≡ signals_by w
   stays t u w h from below =
       let had : count_below (suc u) (sample_ticks plan i) ≡ w.samples.count = h.samples.same u from (omega arith) in
-      signals_are laws plan (sounds plan checked) i b u w.samples.count w.drive.value w.line.value w.state
-      (h.drive.same u from (omega arith)) (h.line.same u from (omega arith)) had
+      signals_are laws plan (sounds plan checked) i b u w.samples.count w.drive.value w.line.value w.starts.value w.state
+      (h.drive.same u from (omega arith)) (h.line.same u from (omega arith)) (h.starts.same u from (omega arith)) had
       (state_now sounds laws tables states plan checked i b u ∙ ap (state_after (setup_at plan i) (history_at_end plan i).samples) had ∙ sym h.state)
 
   pub now : (t : ℕ) (w : Watched) → Watches plan i t w → node_signals plan t i ≡ signals_by w
@@ -68,6 +71,7 @@ module _ (sounds : CheckedIsSound) (laws : SimulationLaws) (tables : TableLaws) 
       let p = h.drive.later in
       let q = h.line.later in
       let r = h.samples.later in
+      let s = h.starts.later in
       stays t t w h (omega arith) (omega arith)
 
 -- a range of equal values

@@ -15,7 +15,7 @@ use Rattle.wl_views.specs.declared.held.Counted.{Counted}
 use Rattle.wl_views.specs.declared.held.Held.{Held}
 use Rattle.wl_views.specs.declared.signals.NodeSignals.{NodeSignals}
 use Rattle.wl_views.specs.declared.signals.Watched.{Watched}
-use Rattle.wl_views.specs.Signals.{sample_ticks}
+use Rattle.wl_views.specs.Signals.{sample_ticks, start_ticks}
 
 -- from tick t up to another one a value is this one
 pub record Holds (f : ℕ → Bool) (t : ℕ) (held : Held) : Type 0 where
@@ -48,22 +48,24 @@ abbrev pub unwatched : Watched
 unwatched = record {
   drive = record { value = false; until = 0 };
   line = record { value = false; until = 0 };
+  starts = record { value = false; until = 0 };
   samples = record { count = 0; until = 0 };
   state = record { tec = 0; rec = 0; mode = Active; doing = Integrating };
 }
 
 -- the signals that such values are
 abbrev pub signals_by : Watched → NodeSignals
-signals_by w = record { tx = not w.drive.value; rx = not w.line.value; sample = odd w.samples.count; state = w.state }
+signals_by w = record { tx = not w.drive.value; rx = not w.line.value; sample = odd w.samples.count; start = w.starts.value; state = w.state }
 
 -- up to when all of them stay
 abbrev pub stays_until : Watched → ℕ
-stays_until w = min (min w.drive.until w.line.until) w.samples.until
+stays_until w = min (min (min w.drive.until w.line.until) w.starts.until) w.samples.until
 
--- from tick t on what node i drives, what it finds, its samples and what it is at after them are these
+-- from tick t on what node i drives, what it finds, its bit starts and samples and what it is at after them are these
 pub record Watches (plan : Plan) (i t : ℕ) (w : Watched) : Type 0 where
   pub drive : Holds (turned_at 0 (table_of plan i)) t w.drive
   pub line : Holds (found (line_of plan) (level (line_of plan)) i) t w.line
+  pub starts : Holds (turned_at 0 (start_ticks plan i)) t w.starts
   pub samples : CountHolds (sample_ticks plan i) t w.samples
   pub state : w.state ≡ state_after (setup_at plan i) (history_at_end plan i).samples w.samples.count
 
@@ -71,6 +73,7 @@ pub record Watches (plan : Plan) (i t : ℕ) (w : Watched) : Type 0 where
 pub record Remembers (plan : Plan) (i t : ℕ) (w : Watched) : Type 0 where
   pub drive : t < w.drive.until → Holds (turned_at 0 (table_of plan i)) t w.drive
   pub line : t < w.line.until → Holds (found (line_of plan) (level (line_of plan)) i) t w.line
+  pub starts : t < w.starts.until → Holds (turned_at 0 (start_ticks plan i)) t w.starts
   pub samples : t < w.samples.until → CountHolds (sample_ticks plan i) t w.samples
 
 -- that of all nodes

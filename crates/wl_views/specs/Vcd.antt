@@ -37,7 +37,7 @@ var_line kind letter i name word =
 abbrev pub level_vars : ℕ → List ℕ → List ℕ
 level_vars i name =
     var_line (codes "wire 1") (codes "t") i name (codes "tx") ++ var_line (codes "wire 1") (codes "r") i name (codes "rx")
-    ++ var_line (codes "wire 1") (codes "s") i name (codes "sample")
+    ++ var_line (codes "wire 1") (codes "s") i name (codes "sample") ++ var_line (codes "wire 1") (codes "b") i name (codes "start")
 
 abbrev pub state_vars : ℕ → List ℕ → List ℕ
 state_vars i name =
@@ -90,7 +90,8 @@ doing_word OffBus = codes "bus_off"
 
 -- the levels of node i, and what it is at
 abbrev pub level_values : ℕ → NodeSignals → List ℕ
-level_values i now = value_line (codes "t") i now.tx ++ value_line (codes "r") i now.rx ++ value_line (codes "s") i now.sample
+level_values i now =
+    value_line (codes "t") i now.tx ++ value_line (codes "r") i now.rx ++ value_line (codes "s") i now.sample ++ value_line (codes "b") i now.start
 
 abbrev pub state_values : ℕ → NodeState → List ℕ
 state_values i now =
@@ -116,6 +117,7 @@ word_change letter i was now = if bytes_eq was now then [] else word_line letter
 abbrev pub level_changes : ℕ → NodeSignals → NodeSignals → List ℕ
 level_changes i was now =
     change_line (codes "t") i was.tx now.tx ++ change_line (codes "r") i was.rx now.rx ++ change_line (codes "s") i was.sample now.sample
+    ++ change_line (codes "b") i was.start now.start
 
 abbrev pub state_changes : ℕ → NodeState → NodeState → List ℕ
 state_changes i was now =

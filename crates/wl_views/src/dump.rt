@@ -66,6 +66,7 @@ fn push_level_vars(text: &mut String, i: usize, name: &str) -> Result<(), AllocE
     push_var(text, "wire 1", "t", i, name, "tx")?;
     push_var(text, "wire 1", "r", i, name, "rx")?;
     push_var(text, "wire 1", "s", i, name, "sample")?;
+    push_var(text, "wire 1", "b", i, name, "start")?;
     Ok(())
 }
 
@@ -166,7 +167,8 @@ fn push_levels(text: &mut String, i: usize, now: NodeSignals) -> Result<(), Allo
 {
     push_value(text, "t", i, now.tx)?;
     push_value(text, "r", i, now.rx)?;
-    push_value(text, "s", i, now.sample)
+    push_value(text, "s", i, now.sample)?;
+    push_value(text, "b", i, now.start)
 }
 
 /// Adds what node `i` is at.

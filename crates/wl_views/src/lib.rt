@@ -12,6 +12,7 @@ mod samples;
 mod seen;
 mod sent;
 mod signals;
+mod starts;
 mod tick;
 mod told;
 mod turned;

@@ -115,13 +115,14 @@ fn push_word_change(text: &mut Lines, letter: &str, i: usize, was: &str, now: &s
 
 /// Adds the levels of node `i` that changed.
 fn push_level_changes(text: &mut Lines, i: usize, was: NodeSignals, now: NodeSignals)
-    requires { array_vec_len text.old + 69 ≤ 16384 }
+    requires { array_vec_len text.old + 92 ≤ 16384 }
     ensures lines { text.new.items ≡ text.old.items ++ level_changes i was now }
-    ensures grown { array_vec_len text.new ≤ array_vec_len text.old + 69 }
+    ensures grown { array_vec_len text.new ≤ array_vec_len text.old + 92 }
 {
     push_change(text, "t", i, was.tx, now.tx);
     push_change(text, "r", i, was.rx, now.rx);
     push_change(text, "s", i, was.sample, now.sample);
+    push_change(text, "b", i, was.start, now.start);
 }
 
 /// Adds what changed of that which node `i` is at.
@@ -138,9 +139,9 @@ fn push_state_changes(text: &mut Lines, i: usize, was: NodeState, now: NodeState
 
 /// Adds those signals of node `i` that changed.
 pub(crate) fn push_node_changes(text: &mut Lines, i: usize, was: NodeSignals, now: NodeSignals)
-    requires { array_vec_len text.old + 240 ≤ 16384 }
+    requires { array_vec_len text.old + 256 ≤ 16384 }
     ensures lines { text.new.items ≡ text.old.items ++ node_changes i was now }
-    ensures grown { array_vec_len text.new ≤ array_vec_len text.old + 240 }
+    ensures grown { array_vec_len text.new ≤ array_vec_len text.old + 256 }
 {
     push_level_changes(text, i, was, now);
     push_state_changes(text, i, was.state, now.state);

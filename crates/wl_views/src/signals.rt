@@ -12,7 +12,7 @@ ghost use Rattle.wl_plan.specs.PlanLine.{disturbed, is_at, line_of};
 ghost use Rattle.wl_plan.specs.Simulation.{level};
 ghost use Rattle.wl_serial.specs.Outcome.{outcome_of};
 ghost use Rattle.wl_views.specs.Held.{AllWatched, Holds, Remembers, Watches, driven_at, signals_by, stays_until, turned_at, unwatched};
-ghost use Rattle.wl_views.specs.Signals.{all_sample_ticks, all_states, node_signals, sample_ticks, signals, states_at};
+ghost use Rattle.wl_views.specs.Signals.{all_sample_ticks, all_start_ticks, all_states, node_signals, sample_ticks, signals, start_ticks, states_at};
 ghost use Rattle.wl_views.specs.Vcd.{changes_from, node_changes};
 
 use crate::held::{Counted, Held};
@@ -36,6 +36,8 @@ pub struct NodeSignals {
     pub rx: bool,
     /// Low at first, and turned at each of its samples.
     pub sample: bool,
+    /// Low at first, and turned at each start of a bit.
+    pub start: bool,
     /// What it is at: its error counters, and what it does.
     pub state: NodeState,
 }
@@ -47,6 +49,8 @@ pub(crate) struct Watched {
     pub(crate) drive: Held,
     /// Whether it finds the line dominant.
     pub(crate) line: Held,
+    /// Whether its mark of bit starts is high.
+    pub(crate) starts: Held,
     /// How many samples it has had.
     pub(crate) samples: Counted,
     /// What it is at after them.
@@ -65,6 +69,7 @@ impl Watched {
         Watched {
             drive: none,
             line: none,
+            starts: none,
             samples: Counted { count: 0, until: 0 },
             state: NodeState {
                 tec: 0,
@@ -83,6 +88,7 @@ impl Watched {
             tx: !self.drive.value,
             rx: !self.line.value,
             sample: self.samples.count % 2 == 1,
+            start: self.starts.value,
             state: self.state,
         }
     }
@@ -94,15 +100,17 @@ impl Watched {
         self.drive
             .until
             .min(self.line.until)
+            .min(self.starts.until)
             .min(self.samples.until)
     }
 }
 
-/// For a node, how many changes of each node had come to it, and of its own drive, when they were last asked for. It speeds up the next time, and decides nothing.
+/// For a node, how many changes of each node had come to it, and of its own drive and bit starts, when they were last asked for. It speeds up the next time, and decides nothing.
 #[derive(Clone, Copy)]
 pub(crate) struct Come {
     line: [usize; MOST_NODES],
     drive: usize,
+    starts: usize,
 }
 
 /// That of all nodes.
@@ -117,6 +125,7 @@ impl AllCome {
         let none = Come {
             line: [0; MOST_NODES],
             drive: 0,
+            starts: 0,
         };
         AllCome {
             nodes: [none; MOST_NODES],
@@ -234,11 +243,12 @@ fn state_after(states: &[NodeState], count: usize, none: NodeState) -> NodeState
     states.get(count).copied().unwrap_or(none)
 }
 
-/// What is known of node `i` from tick `t` on, by the ticks of its samples and by what was known of it before.
+/// What is known of node `i` from tick `t` on, by the ticks of its samples and bit starts and by what was known of it before.
 pub(crate) fn watch(
     plan: &Plan,
     outcome: &Outcome,
     samples: &[u64],
+    starts: &[u64],
     states: &[NodeState],
     i: usize,
     t: u64,
@@ -248,6 +258,7 @@ pub(crate) fn watch(
     requires checked { IsChecked plan.now }
     requires outcome { outcome.now ≡ outcome_of plan.now }
     requires samples { samples.now ≡ sample_ticks plan.now i }
+    requires starts { starts.now ≡ start_ticks plan.now i }
     requires states { states.now ≡ states_at plan.now i }
     requires node { i < length plan.now.nodes }
     requires early { t ≤ latest_end }
@@ -260,11 +271,13 @@ pub(crate) fn watch(
     let changes = nodes[i].changes.as_slice();
     let drive = turned_on(changes, t, was.drive, &mut come.drive);
     let line = found_at(plan, outcome, i, t, was.line, &mut come.line);
+    let starts = turned_on(starts, t, was.starts, &mut come.starts);
     let samples = counted(samples, t, was.samples);
     let state = state_after(states, samples.count, was.state);
     Watched {
         drive,
         line,
+        starts,
         samples,
         state,
     }
@@ -276,6 +289,7 @@ pub(crate) fn watch_all(
     plan: &Plan,
     outcome: &Outcome,
     samples: &[Listed<u64>],
+    starts: &[Listed<u64>],
     states: &[Listed<NodeState>],
     come: &mut AllCome,
     watched: &mut [Watched; MOST_NODES],
@@ -283,6 +297,7 @@ pub(crate) fn watch_all(
     requires checked { IsChecked plan.now }
     requires outcome { outcome.now ≡ outcome_of plan.now }
     requires samples { samples.now ≡ all_sample_ticks plan.now }
+    requires starts { starts.now ≡ all_start_ticks plan.now }
     requires states { states.now ≡ all_states plan.now }
     ensures now { IfOk result (λ now. now.items ≡ signals plan.now 0) }
     ensures watched { OnOk result (AllWatched plan.now 0 watched.new) }
@@ -294,9 +309,20 @@ pub(crate) fn watch_all(
     let mut now = Vec::new(alloc);
     for i in 0..plan.nodes.len() {
         let ticks = samples[i].as_slice();
+        let begun = starts[i].as_slice();
         let known = states[i].as_slice();
         let none = Watched::new();
-        let first = watch(plan, outcome, ticks, known, i, 0, none, &mut come.nodes[i]);
+        let first = watch(
+            plan,
+            outcome,
+            ticks,
+            begun,
+            known,
+            i,
+            0,
+            none,
+            &mut come.nodes[i],
+        );
         watched[i] = first;
         now.push(first.now())?;
     }
@@ -309,6 +335,7 @@ fn push_node(
     plan: &Plan,
     outcome: &Outcome,
     samples: &[u64],
+    starts: &[u64],
     states: &[NodeState],
     i: usize,
     t: u64,
@@ -318,15 +345,16 @@ fn push_node(
     requires checked { IsChecked plan.now }
     requires outcome { outcome.now ≡ outcome_of plan.now }
     requires samples { samples.now ≡ sample_ticks plan.now i }
+    requires starts { starts.now ≡ start_ticks plan.now i }
     requires states { states.now ≡ states_at plan.now i }
     requires node { i < length plan.now.nodes }
     requires some { 0 < t }
     requires early { t ≤ latest_end }
     requires was { Watches plan.now i (t - 1) was }
-    requires room { array_vec_len text.old + 240 ≤ 16384 }
+    requires room { array_vec_len text.old + 256 ≤ 16384 }
     ensures lines { text.new.items ≡ text.old.items
         ++ node_changes i (node_signals plan.now (t - 1) i) (node_signals plan.now t i) }
-    ensures grown { array_vec_len text.new ≤ array_vec_len text.old + 240 }
+    ensures grown { array_vec_len text.new ≤ array_vec_len text.old + 256 }
     ensures watches { Watches plan.now i t result }
 {
     wl_plan::checked_is_sound();
@@ -336,7 +364,7 @@ fn push_node(
     if t < was.until() {
         return was;
     }
-    let now = watch(plan, outcome, samples, states, i, t, was, come);
+    let now = watch(plan, outcome, samples, starts, states, i, t, was, come);
     push_node_changes(text, i, was.now(), now.now());
     now
 }
@@ -347,6 +375,7 @@ pub(crate) fn push_changes(
     plan: &Plan,
     outcome: &Outcome,
     samples: &[Listed<u64>],
+    starts: &[Listed<u64>],
     states: &[Listed<NodeState>],
     t: u64,
     come: &mut AllCome,
@@ -355,13 +384,14 @@ pub(crate) fn push_changes(
     requires checked { IsChecked plan.now }
     requires outcome { outcome.now ≡ outcome_of plan.now }
     requires samples { samples.now ≡ all_sample_ticks plan.now }
+    requires starts { starts.now ≡ all_start_ticks plan.now }
     requires states { states.now ≡ all_states plan.now }
     requires some { 0 < t }
     requires early { t < plan.now.end }
     requires watched { AllWatched plan.now (t - 1) watched.old }
-    requires room { array_vec_len text.old + 3840 ≤ 16384 }
+    requires room { array_vec_len text.old + 4096 ≤ 16384 }
     ensures lines { text.new.items ≡ text.old.items ++ changes_from 0 (signals plan.now (t - 1)) (signals plan.now t) }
-    ensures grown { array_vec_len text.new ≤ array_vec_len text.old + 3840 }
+    ensures grown { array_vec_len text.new ≤ array_vec_len text.old + 4096 }
     ensures later { t < result }
     ensures inside { result ≤ plan.now.end }
     ensures stays { (u : ℕ) → t ≤ u → u < result → signals plan.now u ≡ signals plan.now t }
@@ -374,6 +404,7 @@ pub(crate) fn push_changes(
     let mut until = plan.end;
     for i in 0..plan.nodes.len() {
         let ticks = samples[i].as_slice();
+        let begun = starts[i].as_slice();
         let known = states[i].as_slice();
         let was = watched[i];
         let now = push_node(
@@ -381,6 +412,7 @@ pub(crate) fn push_changes(
             plan,
             outcome,
             ticks,
+            begun,
             known,
             i,
             t,

@@ -3,9 +3,9 @@ use Rattle.std.proofs.Common.{◌∙◌, ℕ, ◌-◌, ◌<◌, ◌≤◌, ◌++
 use Rattle.std.proofs.lemmas.List.{take_all}
 use Rattle.std.proofs.lemmas.List.FromFn.{length-map-range_with_len}
 use Rattle.wl_views.specs.Held.{Watches, stays_until, unwatched}
-use Rattle.wl_views.specs.Signals.{node_signals, sample_ticks, signals, states_at}
+use Rattle.wl_views.specs.Signals.{node_signals, sample_ticks, signals, start_ticks, states_at}
 use Rattle.wl_views.specs.Vcd.{changes_from, node_changes}
-use Rattle.wl_views.proofs.SignalProofs.{samples_are, states_are}
+use Rattle.wl_views.proofs.SignalProofs.{samples_are, starts_are, states_are}
 use Rattle.wl_views.proofs.Watching.{all_nodes, all_same, known_more, node_more, now, on, others_stay, stays}
 use Rattle.wl_views.proofs.signals.push_changes.Goals as goal
 
@@ -33,6 +33,7 @@ loop-i-preserved c =
     let p = watches.drive.later in
     let q = watches.line.later in
     let r = watches.samples.later in
+    let s = watches.starts.later in
     let inv = c.loop-i.invariant in
     let until = c.until.ensures in
     record {
@@ -91,3 +92,14 @@ pub push_node-now-requires-clause-states : goal.push_node-now-requires-clause-st
 push_node-now-requires-clause-states c =
     let b : c.loop-i.i < length c.args.plan.now.nodes = omega arith in
     c.as_slice-known.ensures ∙ c.index-states-i.is ∙ states_are c.args.plan.now c.args.states.now c.loop-i.i c.index-states-i.result c.requires.states b
+
+pub bounds-starts-i : goal.bounds-starts-i
+bounds-starts-i c =
+    let e = ap length c.requires.starts in
+    let n = length-map-range_with_len (start_ticks c.args.plan.now) 0 (length c.args.plan.now.nodes) in
+    omega arith
+
+pub push_node-now-requires-clause-starts : goal.push_node-now-requires-clause-starts
+push_node-now-requires-clause-starts c =
+    let b : c.loop-i.i < length c.args.plan.now.nodes = omega arith in
+    c.as_slice-begun.ensures ∙ c.index-starts-i.is ∙ starts_are c.args.plan.now c.args.starts.now c.loop-i.i c.index-starts-i.result c.requires.starts b

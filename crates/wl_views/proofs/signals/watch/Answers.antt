@@ -10,8 +10,9 @@ use Rattle.wl_trace.specs.declared.state.NodeState.{NodeState}
 use Rattle.wl_trace.specs.States.{state_after}
 use Rattle.std.proofs.lemmas.List.{length-map}
 use Rattle.std.proofs.lemmas.List.Sums.{count_by-le-length}
-use Rattle.std.proofs.lemmas.List.FromFn.{get_or-map-range_with_len, length-map-range_with_len}
+use Rattle.std.proofs.lemmas.List.FromFn.{get_or-map-range_with_len}
 use Rattle.wl_views.proofs.SampleOrder.{sample_ticks_increase}
+use Rattle.wl_views.proofs.StartOrder.{start_ticks_increase}
 use Rattle.wl_views.proofs.SignalProofs.{node_is, nodes_all}
 use Rattle.wl_views.proofs.signals.watch.Goals as goal
 
@@ -48,6 +49,15 @@ pub counted-samples-requires-clause-was : goal.counted-samples-requires-clause-w
 counted-samples-requires-clause-was c =
     subst (λ xs. c.args.t < c.args.was.samples.until → CountHolds xs c.args.t c.args.was.samples) (sym c.requires.samples) c.requires.was.samples
 
+pub turned_on-starts-requires-clause-increasing : goal.turned_on-starts-requires-clause-increasing
+turned_on-starts-requires-clause-increasing c =
+    subst IsIncreasing (sym c.requires.starts)
+    (start_ticks_increase c.checked_is_sound.ensures c.simulation_laws.ensures c.args.plan.now c.requires.checked c.args.i c.requires.node)
+
+pub turned_on-starts-requires-clause-held : goal.turned_on-starts-requires-clause-held
+turned_on-starts-requires-clause-held c =
+    subst (λ xs. c.args.t < c.args.was.starts.until → Holds (turned_at 0 xs) c.args.t c.args.was.starts) (sym c.requires.starts) c.requires.was.starts
+
 pub returns : goal.returns
 returns c =
     let are : c.as_slice-changes.result.now ≡ table_of c.args.plan.now c.args.i =
@@ -63,6 +73,7 @@ returns c =
     record {
       drive = subst (λ xs. Holds (turned_at 0 xs) c.args.t c.turned_on-drive.result) are c.turned_on-drive.ensures;
       line = c.found_at-line.ensures;
+      starts = subst (λ xs. Holds (turned_at 0 xs) c.args.t c.turned_on-starts.result) c.requires.starts c.turned_on-starts.ensures;
       samples = subst (λ xs. CountHolds xs c.args.t c.counted-samples.result) c.requires.samples c.counted-samples.ensures;
       state =
           c.state_after-state.ensures

@@ -3,8 +3,8 @@ use Rattle.std.proofs.Common.{◌∙◌, ◌<◌, ◌++◌, ◌∷◌, [], List,
 use Rattle.std.proofs.lemmas.List.FromFn.{length-map-range_with_len, map-range_with_len_more}
 use Rattle.wl_views.specs.declared.signals.NodeSignals.{NodeSignals}
 use Rattle.wl_views.specs.Held.{Watches}
-use Rattle.wl_views.specs.Signals.{node_signals, sample_ticks, states_at}
-use Rattle.wl_views.proofs.SignalProofs.{samples_are, states_are}
+use Rattle.wl_views.specs.Signals.{node_signals, sample_ticks, start_ticks, states_at}
+use Rattle.wl_views.proofs.SignalProofs.{samples_are, starts_are, states_are}
 use Rattle.wl_views.proofs.Watching.{known_more, now}
 use Rattle.wl_views.proofs.signals.watch_all.Goals as goal
 
@@ -45,3 +45,14 @@ pub watch-first-requires-clause-states : goal.watch-first-requires-clause-states
 watch-first-requires-clause-states c =
     let b : c.loop-i.i < length c.args.plan.now.nodes = omega arith in
     c.as_slice-known.ensures ∙ c.index-states-i.is ∙ states_are c.args.plan.now c.args.states.now c.loop-i.i c.index-states-i.result c.requires.states b
+
+pub bounds-starts-i : goal.bounds-starts-i
+bounds-starts-i c =
+    let e = ap length c.requires.starts in
+    let n = length-map-range_with_len (start_ticks c.args.plan.now) 0 (length c.args.plan.now.nodes) in
+    omega arith
+
+pub watch-first-requires-clause-starts : goal.watch-first-requires-clause-starts
+watch-first-requires-clause-starts c =
+    let b : c.loop-i.i < length c.args.plan.now.nodes = omega arith in
+    c.as_slice-begun.ensures ∙ c.index-starts-i.is ∙ starts_are c.args.plan.now c.args.starts.now c.loop-i.i c.index-starts-i.result c.requires.starts b

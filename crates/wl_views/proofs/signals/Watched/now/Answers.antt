@@ -8,5 +8,6 @@ returns c = λ x. record {
   tx = not c.args.self.drive.value;
   rx = not c.args.self.line.value;
   sample = odd_is c.args.self.samples.count x;
+  start = c.args.self.starts.value;
   state = c.args.self.state;
 }
