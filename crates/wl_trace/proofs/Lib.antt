@@ -7,4 +7,5 @@ mod Added
 mod Replayed
 mod InTime
 mod Syncing
+mod Starting
 pub mod Callers

@@ -1,6 +1,6 @@
 -- A history's events are those of its samples.
-use Rattle.std.proofs.Common.{◌≡◌, ◌∙◌, refl, ap, sym, ℕ, List, [], ◌∷◌, ◌++◌, length, map, fold, append-nil, length-append, ◌+◌, ◌<◌, take, get_or, subst, ap₂}
-use Rattle.std.proofs.lemmas.List.{take_more}
+use Rattle.std.proofs.Common.{◌≡◌, ◌∙◌, refl, ap, sym, arith, ℕ, List, [], ◌∷◌, ◌++◌, length, map, fold, append-nil, length-append, ◌+◌, ◌<◌, take, get_or, subst, ap₂}
+use Rattle.std.proofs.lemmas.List.{take_all, take_more}
 use Rattle.std.proofs.lemmas.List.Sums.{fold-append}
 use Rattle.wl_level.specs.declared.Level.{Level}
 use Rattle.wl_sync.specs.declared.Beat.{Beat}
@@ -10,9 +10,10 @@ use Rattle.wl_node.specs.declared.setup.NodeSetup.{NodeSetup}
 use Rattle.wl_node.specs.History.{History, no_history, history_of, history_after, by_beat, seen_next}
 use Rattle.wl_trace.specs.declared.event.Noted.{Noted}
 use Rattle.wl_trace.specs.Events.{noted, beat_events, events_at, traced_after, events_of}
-use Rattle.wl_trace.specs.Replay.{IsReplay, SampledPast, no_past, past_after, then_events}
+use Rattle.wl_trace.specs.Replay.{IsReplay, SampledPast, no_past, past_after, past_of, then_events}
 use Rattle.wl_trace.specs.declared.noting.Notes.{Notes}
 use Rattle.wl_trace.specs.declared.replay.Replay.{Replay}
+use Rattle.wl_trace.specs.States.{state_after, state_of, state_then}
 use Rattle.wl_trace.specs.Notes.{Adds}
 
 abbrev pub past_events : NodeSetup → SampledPast → ℕ × Level → List Noted
@@ -24,9 +25,6 @@ replayed_after setup (p, events) s = (past_after setup p s, events ++ past_event
 
 pub replay_of : NodeSetup → List (ℕ × Level) → SampledPast × List Noted
 replay_of setup samples = fold (replayed_after setup) (no_past, []) samples
-
-abbrev past_of : History → SampledPast
-past_of h = record { inputs = h.inputs; happened = h.happened; frames = h.frames; samples = h.samples }
 
 module _ (setup : NodeSetup) where
   pub replay_first : replay_of setup [] ≡ (no_past, [])
@@ -82,3 +80,34 @@ module _ (setup : NodeSetup) (samples : List (ℕ × Level)) (bit : ℕ) (d : �
 
   pub count_more : length front.0.samples ≡ bit → length (replay_of setup (take (bit + 1) samples)).0.samples ≡ bit + 1
   count_more n = ap (λ (r : SampledPast × List Noted). length r.0.samples) (ap (replay_of setup) (take_more samples bit d below)) ∙ samples_counted setup (take bit samples) (get_or samples bit d) bit n
+
+-- the past alone
+module _ (setup : NodeSetup) where
+  fold_past : (samples : List (ℕ × Level)) (p : SampledPast) (es : List Noted)
+      → (fold (replayed_after setup) (p, es) samples).0 ≡ fold (past_after setup) p samples
+  fold_past [] p es = refl
+  fold_past (s ∷ samples) p es = fold_past samples (past_after setup p s) (es ++ past_events setup p s)
+
+  past_is : (samples : List (ℕ × Level)) → (replay_of setup samples).0 ≡ fold (past_after setup) no_past samples
+  unfolding replay_of
+  past_is samples = fold_past samples no_past []
+
+  history_is : (levels : List Level) → fold (past_after setup) no_past (history_of setup levels).samples ≡ past_of (history_of setup levels)
+  unfolding history_of
+  history_is levels =
+      sym (past_is (fold (history_after setup) no_history levels).samples)
+      ∙ ap (λ (r : SampledPast × List Noted). r.0) (fold_replayed setup levels no_history [] (replay_first setup))
+
+  pub by_samples : (levels : List Level)
+      → state_of (history_of setup levels) ≡ state_after setup (history_of setup levels).samples (length (history_of setup levels).samples)
+  by_samples levels =
+      ap state_then (sym (history_is levels))
+      ∙ ap (λ (xs : List (ℕ × Level)). state_then (fold (past_after setup) no_past xs))
+      (sym (take_all (length (history_of setup levels).samples) (history_of setup levels).samples (omega arith)))
+
+  -- one sample more of a list
+  pub past_next : (samples : List (ℕ × Level)) (k : ℕ) (d : ℕ × Level) → k < length samples
+      → fold (past_after setup) no_past (take (k + 1) samples) ≡ past_after setup (fold (past_after setup) no_past (take k samples)) (get_or samples k d)
+  past_next samples k d below =
+      ap (fold (past_after setup) no_past) (take_more samples k d below)
+      ∙ fold-append (past_after setup) no_past (take k samples) (get_or samples k d ∷ [])

@@ -5,3 +5,5 @@ pub mod Laws
 pub mod Running
 pub mod Replay
 pub mod Notes
+pub mod States
+pub mod Starts

@@ -5,11 +5,11 @@ use Rattle.wl_confine.specs.declared.Happened.{Happened}
 use Rattle.wl_confine.specs.Counts.{counts_of, mode_of}
 use Rattle.wl_machine.specs.Stretch.{Sampled, Input, Judgement}
 use Rattle.wl_machine.specs.Stretch.Input.{Sample}
-use Rattle.wl_machine.specs.Judged.{judged, stretch_of}
+use Rattle.wl_machine.specs.Judged.{drive_of, judged, stretch_of}
 use Rattle.wl_machine.specs.Reached.{IsMachine}
 use Rattle.wl_node.specs.declared.setup.NodeSetup.{NodeSetup}
 use Rattle.wl_node.specs.declared.setup.Passed.{Passed}
-use Rattle.wl_node.specs.History.{ready_head, passed_frames, is_sent, switched_off}
+use Rattle.wl_node.specs.History.{History, ready_head, passed_frames, is_sent, switched_off}
 use Rattle.wl_trace.specs.declared.event.Event.{Event}
 use Rattle.wl_trace.specs.declared.replay.Replay.{Replay}
 use Rattle.wl_trace.specs.Events.{judged_events}
@@ -24,6 +24,10 @@ pub record SampledPast : Type 0 where
 
 abbrev pub no_past : SampledPast
 no_past = record { inputs = []; happened = []; frames = []; samples = [] }
+
+-- that of a history
+abbrev pub past_of : History → SampledPast
+past_of h = record { inputs = h.inputs; happened = h.happened; frames = h.frames; samples = h.samples }
 
 -- what the machine is given with a sample at this quantum
 abbrev pub sampled_then : NodeSetup → SampledPast → ℕ → Level → Sampled
@@ -56,5 +60,6 @@ then_events setup p quantum level = judged_events (stretch_of p.inputs) level (c
 pub record IsReplay (kept : Replay) (p : SampledPast) : Type 0 where
   pub machine : IsMachine kept.machine p.inputs
   pub counters : kept.counters ≡ counts_of p.happened
+  pub pending : kept.pending ≡ drive_of (stretch_of p.inputs)
   pub sent : kept.sent ≡ count_by is_sent p.frames
   pub stretch : KeepsStretch kept.stretch (stretch_of p.inputs)

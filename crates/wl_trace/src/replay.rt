@@ -5,7 +5,7 @@ ghost use Rattle.wl_level.specs.declared.Level.{Level};
 ghost use Rattle.wl_machine.specs.Stretch.{Ended, Input};
 ghost use Rattle.wl_machine.specs.Stretch.Input.{SwitchedOff};
 ghost use Rattle.wl_machine.specs.States.{done_of};
-ghost use Rattle.wl_machine.specs.Judged.{stretch_of};
+ghost use Rattle.wl_machine.specs.Judged.{drive_of, stretch_of};
 ghost use Rattle.wl_machine.specs.Reached.{IsMachine};
 ghost use Rattle.wl_node.specs.declared.setup.NodeSetup.{NodeSetup};
 ghost use Rattle.wl_node.specs.History.{history_of, is_sent, passed_frames, ready_head, switched_off};
@@ -29,6 +29,8 @@ use wl_node::{NodeSetup, Queued};
 pub(crate) struct Replay {
     pub(crate) machine: Machine,
     pub(crate) counters: Counters,
+    /// What the node drives from its next bit start on.
+    pub(crate) pending: Level,
     /// How many frames of the queue were sent.
     pub(crate) sent: usize,
     pub(crate) stretch: RunningStretch,
@@ -69,20 +71,21 @@ fn goes_off(before: Mode, after: Mode) -> bool
 
 impl Replay {
     /// Before the first sample.
-    fn new(alloc: Global) -> Replay
+    pub(crate) fn new(alloc: Global) -> Replay
         ensures past { IsReplay result no_past }
         ensures sent { result.sent ≡ 0 }
     {
         Replay {
             machine: Machine::new(),
             counters: Counters::new(),
+            pending: Level::Recessive,
             sent: 0,
             stretch: RunningStretch::new(alloc),
         }
     }
 
     /// The sample at which `notes` stands, of this level.
-    fn sample(
+    pub(crate) fn sample(
         &mut self,
         queue: &[Queued],
         level: Level,
@@ -101,6 +104,7 @@ impl Replay {
         let head = ready_head(queue, self.sent, notes.quantum);
         let turn = self.machine.bit(level, head, mode);
         let next = self.stretch.next(level, head, mode, turn.happened);
+        self.pending = turn.drive;
         self.counters.apply(turn.happened);
         let new = self.counters;
         notes.push_sample(
@@ -124,11 +128,14 @@ impl Replay {
             → IsMachine self.new.machine (past ++ switched_off before after) }
         ensures stretch { (past : List Input) → KeepsStretch self.old.stretch (stretch_of past)
             → KeepsStretch self.new.stretch (stretch_of (past ++ switched_off before after)) }
+        ensures pending { (past : List Input) → self.old.pending ≡ drive_of (stretch_of past)
+            → self.new.pending ≡ drive_of (stretch_of (past ++ switched_off before after)) }
         ensures counters { self.new.counters ≡ self.old.counters }
         ensures sent { self.new.sent ≡ self.old.sent }
     {
         if goes_off(before, after) {
             self.machine.bus_off();
+            self.pending = Level::Recessive;
             self.stretch.switch_off();
         }
     }

@@ -3,6 +3,7 @@ mod InTime
 mod Lists
 mod Pieces
 mod SampleOrder
+mod StartOrder
 mod Seeing
 mod SignalProofs
 mod Turns
@@ -12,3 +13,4 @@ mod Rows
 mod Telling
 mod WaveRows
 mod Watching
+mod StateAt

@@ -28,7 +28,7 @@ Samples = List (ℕ × Level)
 abbrev quanta : Samples → List ℕ
 quanta samples = map (λ s. s.0) samples
 
-AllUnder : ℕ → List ℕ → Type 0
+unfoldable pub AllUnder : ℕ → List ℕ → Type 0
 AllUnder n [] = Unit {0}
 AllUnder n (x ∷ xs) = (x < n) × AllUnder n xs
 
@@ -40,17 +40,17 @@ above_behind : (t n : ℕ) (xs : List ℕ) → t < n → AllAbove t xs → AllAb
 above_behind t n [] h a = (h, tt)
 above_behind t n (x ∷ xs) h a = (a.0, above_behind t n xs h a.1)
 
-under_more : (n : ℕ) (xs : List ℕ) → AllUnder n xs → AllUnder (suc n) xs
+pub under_more : (n : ℕ) (xs : List ℕ) → AllUnder n xs → AllUnder (suc n) xs
 unfolding AllUnder
 under_more n [] u = tt
 under_more n (x ∷ xs) u = (let h = u.0 in omega arith, under_more n xs u.1)
 
-under_behind : (n : ℕ) (xs : List ℕ) → AllUnder n xs → AllUnder (suc n) (xs ++ n ∷ [])
+pub under_behind : (n : ℕ) (xs : List ℕ) → AllUnder n xs → AllUnder (suc n) (xs ++ n ∷ [])
 unfolding AllUnder
 under_behind n [] u = (omega arith, tt)
 under_behind n (x ∷ xs) u = (let h = u.0 in omega arith, under_behind n xs u.1)
 
-behind : (n : ℕ) (xs : List ℕ) → IsIncreasing xs → AllUnder n xs → IsIncreasing (xs ++ n ∷ [])
+pub behind : (n : ℕ) (xs : List ℕ) → IsIncreasing xs → AllUnder n xs → IsIncreasing (xs ++ n ∷ [])
 unfolding AllUnder
 behind n [] i u = (tt, tt)
 behind n (x ∷ xs) i u = (above_behind x n xs u.0 i.0, behind n xs i.1 u.1)
@@ -115,7 +115,7 @@ module _ (sounds : CheckedIsSound) (laws : SimulationLaws) (plan : Plan) (checke
       (λ q h. let less : q < most_quanta = (sound sounds laws plan checked).few_quanta i q b (inside sounds laws plan checked i q b h) in within q less few)
       ordered.1
 
-  grows : (k m : ℕ) → k < m → tick_of (setup_at plan i).clock k < tick_of (setup_at plan i).clock m
+  pub grows : (k m : ℕ) → k < m → tick_of (setup_at plan i).clock k < tick_of (setup_at plan i).clock m
   grows k m h =
       let causal = (sound sounds laws plan checked).causal in
       let step : (line_of plan).instant i k < (line_of plan).instant i (suc k) = causal.clocks i k b in

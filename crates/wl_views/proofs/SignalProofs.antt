@@ -16,7 +16,9 @@ use Rattle.wl_serial.specs.declared.outcome.Outcome.{Outcome}
 use Rattle.wl_serial.specs.Outcome.{node_outcome_of, outcome_of}
 use Rattle.wl_views.specs.declared.held.Held.{Held}
 use Rattle.wl_views.specs.Held.{Holds, turned_at}
-use Rattle.wl_views.specs.Signals.{node_signals, sample_ticks}
+use Rattle.wl_views.specs.Signals.{all_start_ticks, all_states, history_then, node_signals, sample_ticks, start_ticks, states_at}
+use Rattle.wl_trace.specs.declared.state.NodeState.{NodeState}
+use Rattle.wl_trace.specs.States.{state_of}
 use Rattle.wl_views.proofs.Turns.{holds_as}
 
 pub node_is : (plan : Plan) (outcome : Outcome) (i : ℕ) (d : NodeOutcome) → outcome ≡ outcome_of plan → i < length plan.nodes
@@ -31,6 +33,16 @@ pub samples_are : (plan : Plan) (all : List (List ℕ)) (i : ℕ) (d : List ℕ)
     → get_or all i d ≡ sample_ticks plan i
 samples_are plan all i d is b =
     ap (λ (xs : List (List ℕ)). get_or xs i d) is ∙ get_or-map-range_with_len (sample_ticks plan) 0 (length plan.nodes) i i d b (zero-add i)
+
+pub starts_are : (plan : Plan) (all : List (List ℕ)) (i : ℕ) (d : List ℕ) → all ≡ all_start_ticks plan → i < length plan.nodes
+    → get_or all i d ≡ start_ticks plan i
+starts_are plan all i d is b =
+    ap (λ (xs : List (List ℕ)). get_or xs i d) is ∙ get_or-map-range_with_len (start_ticks plan) 0 (length plan.nodes) i i d b (zero-add i)
+
+pub states_are : (plan : Plan) (all : List (List NodeState)) (i : ℕ) (d : List NodeState) → all ≡ all_states plan → i < length plan.nodes
+    → get_or all i d ≡ states_at plan i
+states_are plan all i d is b =
+    ap (λ (xs : List (List NodeState)). get_or xs i d) is ∙ get_or-map-range_with_len (states_at plan) 0 (length plan.nodes) i i d b (zero-add i)
 
 -- without a delay
 here : (ticks : List ℕ) (u : ℕ) → turned_at 0 ticks u ≡ odd (count_below (suc u) ticks)
@@ -53,13 +65,16 @@ module _ (laws : SimulationLaws) (plan : Plan) (sound : IsSound (line_of plan)) 
       holds_as (turned_at delay ticks) (λ u. nat_le (delay_of plan.topology i j) u && level (line_of plan) i (u - delay_of plan.topology i j)) t from
       (λ u. ap₂ (λ d xs. turned_at d xs u) is are ∙ came (delay_of plan.topology i j) u) h
 
-  pub signals_are : (u : ℕ) (drive line mark : Bool) → turned_at 0 (table_of plan i) u ≡ drive → found (line_of plan) (level (line_of plan)) i u ≡ line
-      → turned_at 0 (sample_ticks plan i) u ≡ mark → node_signals plan u i ≡ record { tx = not drive; rx = not line; sample = mark }
+  pub signals_are : (u count : ℕ) (drive line start : Bool) (state : NodeState) → turned_at 0 (table_of plan i) u ≡ drive
+      → found (line_of plan) (level (line_of plan)) i u ≡ line → turned_at 0 (start_ticks plan i) u ≡ start → count_below (suc u) (sample_ticks plan i) ≡ count → state_of (history_then plan i u) ≡ state
+      → node_signals plan u i ≡ record { tx = not drive; rx = not line; sample = odd count; start = start; state = state }
   unfolding node_signals
-  signals_are u drive line mark d l m = λ x. record {
+  signals_are u count drive line start state d l b m e = λ x. record {
     tx = ap not (sym (driven_here u) ∙ d) x;
     rx = ap not l x;
-    sample = (sym (here (sample_ticks plan i) u) ∙ m) x;
+    sample = ap odd m x;
+    start = (sym (here (start_ticks plan i) u) ∙ b) x;
+    state = e x;
   }
 
 -- a disturbance that hasn't come, lasts, or is gone

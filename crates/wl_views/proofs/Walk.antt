@@ -1,17 +1,36 @@
 -- A dump that looks only where something may change tells every tick.
-use Rattle.std.proofs.Common.{◌≡◌, ◌∙◌, refl, sym, ap, ap₂, arith, add-one, ℕ, zero, suc, ◌+◌, ◌-◌, ◌<◌, ◌≤◌, Bool, true, false, List, [], ◌∷◌, ◌++◌, length, get_or, take, append-nil, append_assoc}
+use Rattle.std.proofs.Common.{◌≡◌, ◌∙◌, eq-eqb, cond, refl, sym, ap, ap₂, arith, add-one, ℕ, zero, suc, ◌+◌, ◌-◌, ◌<◌, ◌≤◌, Bool, true, false, List, [], ◌∷◌, ◌++◌, length, get_or, take, append-nil, append_assoc}
 use Rattle.std.specs.List.{flat_map, range_with_len}
 use Rattle.std.proofs.lemmas.List.Concat.{flat_map-append}
+use Rattle.std.proofs.lemmas.Slice.Eq.{bytes_eq-Decides}
 use Rattle.wl_views.specs.declared.tick.Tick.{Tick}
 use Rattle.wl_views.specs.declared.signals.NodeSignals.{NodeSignals}
-use Rattle.wl_views.specs.Vcd.{change_line, changes_from, node_changes, tick_lines, time_line, under}
+use Rattle.wl_report.specs.Lines.{mode_word}
+use Rattle.wl_trace.specs.declared.state.NodeState.{NodeState}
+use Rattle.wl_views.specs.Vcd.{change_line, changes_from, doing_word, level_changes, node_changes, number_change, number_line, state_changes, tick_lines, time_line, under, word_change, word_line}
 
 pub no_change : (letter : List ℕ) (i : ℕ) (b : Bool) → change_line letter i b b ≡ []
 no_change letter i true = refl
 no_change letter i false = refl
 
+same_number : (letter : List ℕ) (i n : ℕ) → number_change letter i n n ≡ []
+same_number letter i n = ap (λ b. cond b [] (number_line letter i n)) (eq-eqb n n refl)
+
+same_word : (letter : List ℕ) (i : ℕ) (word : List ℕ) → word_change letter i word word ≡ []
+same_word letter i word = ap (λ b. cond b [] (word_line letter i word)) ((bytes_eq-Decides word word).1 refl)
+
+same_levels : (i : ℕ) (n : NodeSignals) → level_changes i n n ≡ []
+same_levels i n =
+    ap₂ (λ a b. a ++ b) (ap₂ (λ a b. a ++ b) (ap₂ (λ a b. a ++ b) (no_change _ i n.tx) (no_change _ i n.rx)) (no_change _ i n.sample)) (no_change _ i n.start)
+
+same_state : (i : ℕ) (n : NodeState) → state_changes i n n ≡ []
+same_state i n =
+    ap₂ (λ a b. a ++ b)
+    (ap₂ (λ a b. a ++ b) (ap₂ (λ a b. a ++ b) (same_number _ i n.tec) (same_number _ i n.rec)) (same_word _ i (mode_word n.mode)))
+    (same_word _ i (doing_word n.doing))
+
 pub same_node : (i : ℕ) (n : NodeSignals) → node_changes i n n ≡ []
-same_node i n = ap₂ (λ a b. a ++ b) (ap₂ (λ a b. a ++ b) (no_change _ i n.tx) (no_change _ i n.rx)) (no_change _ i n.sample)
+same_node i n = ap₂ (λ a b. a ++ b) (same_levels i n) (same_state i n.state)
 
 nothing_changed : (i : ℕ) (now : List NodeSignals) → changes_from i now now ≡ []
 nothing_changed i [] = refl

@@ -1,59 +1,77 @@
 -- What is known of nodes from a tick on, at later ticks.
-use Rattle.std.proofs.Common.{◌≡◌, ◌∙◌, refl, sym, subst, ap₂, arith, zero-add, below_more, get_or-set_other, get_or-set_same, ℕ, zero, suc, ◌+◌, ◌<◌, ◌≤◌, ◌≢◌, false, Bool, List, ◌∷◌, ◌++◌, length, get_or, set, take, map}
+use Rattle.std.proofs.Common.{◌≡◌, ◌∙◌, refl, sym, subst, ap, ap₂, arith, zero-add, below_more, get_or-set_other, get_or-set_same, ℕ, zero, suc, ◌+◌, ◌<◌, ◌≤◌, ◌≢◌, false, Bool, List, ◌∷◌, ◌++◌, length, get_or, set, take, map}
 use Rattle.std.specs.List.{range_with_len}
 use Rattle.std.proofs.lemmas.List.FromFn.{get_or-map-range_with_len, length-map-range_with_len}
 use Rattle.wl_plan.specs.declared.plan.Plan.{Plan}
-use Rattle.wl_plan.specs.PlanLine.{line_of}
+use Rattle.wl_confine.specs.declared.Mode.TheVariants.{Active}
+use Rattle.wl_record_core.specs.Truth.{count_below}
+use Rattle.wl_record_core.specs.TableLaws.{TableLaws}
+use Rattle.wl_plan.specs.PlanLine.{setup_at}
 use Rattle.wl_plan.specs.SimulationLaws.{SimulationLaws}
-use Rattle.wl_plan.specs.Sound.{IsSound}
+use Rattle.wl_plan.specs.Checked.{IsChecked, CheckedIsSound}
+use Rattle.wl_serial.specs.Outcome.{history_at_end}
+use Rattle.wl_trace.specs.declared.state.Doing.TheVariants.{Integrating}
+use Rattle.wl_trace.specs.States.{StateBySamples, state_after}
+use Rattle.wl_views.specs.declared.held.Counted.{Counted}
 use Rattle.wl_views.specs.declared.held.Held.{Held}
 use Rattle.wl_views.specs.declared.signals.NodeSignals.{NodeSignals}
 use Rattle.wl_views.specs.declared.signals.Watched.{Watched}
-use Rattle.wl_views.specs.Held.{Holds, Remembers, Watches, signals_by, stays_until, unwatched}
-use Rattle.wl_views.specs.Signals.{node_signals, signals}
+use Rattle.wl_views.specs.Held.{CountHolds, Holds, Remembers, Watches, signals_by, stays_until, unwatched}
+use Rattle.wl_views.specs.Signals.{node_signals, sample_ticks, signals}
 use Rattle.wl_views.specs.Vcd.{changes_from, node_changes}
 use Rattle.wl_views.proofs.SignalProofs.{signals_are}
+use Rattle.wl_views.proofs.StateAt.{state_now}
 use Rattle.wl_views.proofs.Walk.{changed_more}
 
 abbrev pub low : NodeSignals
-low = record { tx = false; rx = false; sample = false }
+low = record { tx = false; rx = false; sample = false; start = false; state = record { tec = 0; rec = 0; mode = Active; doing = Integrating } }
 
 narrow : (f : ℕ → Bool) (t u : ℕ) (held : Held) → Holds f t held → t ≤ u → u < held.until → Holds f u held
 narrow f t u held h from below = record { later = below; same = λ v more less. h.same v (omega arith) less }
+
+narrow_count : (ticks : List ℕ) (t u : ℕ) (counted : Counted) → CountHolds ticks t counted → t ≤ u → u < counted.until → CountHolds ticks u counted
+narrow_count ticks t u counted h from below = record { later = below; same = λ v more less. h.same v (omega arith) less }
 
 -- what is known goes on as long as it stays
 pub on : (plan : Plan) (i t u : ℕ) (w : Watched) → Watches plan i t w → t ≤ u → u < stays_until w → Watches plan i u w
 on plan i t u w h from below = record {
   drive = narrow _ t u w.drive h.drive from (omega arith);
   line = narrow _ t u w.line h.line from (omega arith);
-  mark = narrow _ t u w.mark h.mark from (omega arith);
+  starts = narrow _ t u w.starts h.starts from (omega arith);
+  samples = narrow_count _ t u w.samples h.samples from (omega arith);
+  state = h.state;
 }
 
 pub remembered : (plan : Plan) (i t u : ℕ) (w : Watched) → Watches plan i t w → t ≤ u → Remembers plan i u w
 remembered plan i t u w h from = record {
   drive = λ below. narrow _ t u w.drive h.drive from below;
   line = λ below. narrow _ t u w.line h.line from below;
-  mark = λ below. narrow _ t u w.mark h.mark from below;
+  starts = λ below. narrow _ t u w.starts h.starts from below;
+  samples = λ below. narrow_count _ t u w.samples h.samples from below;
 }
 
 pub nothing_remembered : (plan : Plan) (i t : ℕ) → Remembers plan i t unwatched
 nothing_remembered plan i t = record {
   drive = λ below. absurd (omega arith);
   line = λ below. absurd (omega arith);
-  mark = λ below. absurd (omega arith);
+  starts = λ below. absurd (omega arith);
+  samples = λ below. absurd (omega arith);
 }
 
-module _ (laws : SimulationLaws) (plan : Plan) (sound : IsSound (line_of plan)) (i : ℕ) (b : i < length plan.nodes) where
+module _ (sounds : CheckedIsSound) (laws : SimulationLaws) (tables : TableLaws) (states : StateBySamples) (plan : Plan) (checked : IsChecked plan) (i : ℕ) (b : i < length plan.nodes) where
   pub stays : (t u : ℕ) (w : Watched) → Watches plan i t w → t ≤ u → u < stays_until w → node_signals plan u i ≡ signals_by w
   stays t u w h from below =
-      signals_are laws plan sound i b u w.drive.value w.line.value w.mark.value
-      (h.drive.same u from (omega arith)) (h.line.same u from (omega arith)) (h.mark.same u from (omega arith))
+      let had : count_below (suc u) (sample_ticks plan i) ≡ w.samples.count = h.samples.same u from (omega arith) in
+      signals_are laws plan (sounds plan checked) i b u w.samples.count w.drive.value w.line.value w.starts.value w.state
+      (h.drive.same u from (omega arith)) (h.line.same u from (omega arith)) (h.starts.same u from (omega arith)) had
+      (state_now sounds laws tables states plan checked i b u ∙ ap (state_after (setup_at plan i) (history_at_end plan i).samples) had ∙ sym h.state)
 
   pub now : (t : ℕ) (w : Watched) → Watches plan i t w → node_signals plan t i ≡ signals_by w
   now t w h =
       let p = h.drive.later in
       let q = h.line.later in
-      let r = h.mark.later in
+      let r = h.samples.later in
+      let s = h.starts.later in
       stays t t w h (omega arith) (omega arith)
 
 -- a range of equal values

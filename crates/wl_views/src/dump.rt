@@ -4,12 +4,14 @@ ghost use Rattle.std.specs.List.{enumerate_from, flat_map};
 ghost use Rattle.wl_report.specs.Lines.{GrowsBy};
 ghost use Rattle.wl_plan.specs.Limits.{latest_end};
 ghost use Rattle.wl_setup.specs.Check.{name_of};
-ghost use Rattle.wl_views.specs.Vcd.{first_lines, header, node_values, scope_lines, shown_name, signal_id, time_line, unit_word, value_line, var_line, var_lines};
+ghost use Rattle.wl_views.specs.Vcd.{first_lines, header, level_values, level_vars, node_values, number_line, scope_lines, shown_name, signal_id, state_values, state_vars, time_line, unit_word, value_line, var_line, var_lines, word_line};
 
 use crate::signals::NodeSignals;
 use crate::tick::{Tick, TimeUnit};
+use crate::words::{doing_word, mode};
 use std::alloc::{AllocError, Global};
 use wl_setup::Names;
+use wl_trace::NodeState;
 
 /// The word of a unit.
 fn unit_word(unit: TimeUnit) -> &'static str
@@ -39,14 +41,17 @@ fn push_name(text: &mut String, name: &str, word: &str) -> Result<(), AllocError
 /// Adds the line that declares a signal of node `i`.
 fn push_var(
     text: &mut String,
+    kind: &str,
     letter: &str,
     i: usize,
     name: &str,
     word: &str,
 ) -> Result<(), AllocError>
-    ensures { OnOk result (GrowsBy text.old text.new (var_line letter.now i name.now word.now)) }
+    ensures { OnOk result (GrowsBy text.old text.new (var_line kind.now letter.now i name.now word.now)) }
 {
-    text.push_str("$var wire 1 ")?;
+    text.push_str("$var ")?;
+    text.push_str(kind)?;
+    text.push_str(" ")?;
     push_id(text, letter, i)?;
     text.push_str(" ")?;
     push_name(text, name, word)?;
@@ -54,13 +59,34 @@ fn push_var(
     Ok(())
 }
 
+/// Adds the lines that declare the levels of node `i`.
+fn push_level_vars(text: &mut String, i: usize, name: &str) -> Result<(), AllocError>
+    ensures { OnOk result (GrowsBy text.old text.new (level_vars i name.now)) }
+{
+    push_var(text, "wire 1", "t", i, name, "tx")?;
+    push_var(text, "wire 1", "r", i, name, "rx")?;
+    push_var(text, "wire 1", "s", i, name, "sample")?;
+    push_var(text, "wire 1", "b", i, name, "start")?;
+    Ok(())
+}
+
+/// Adds the lines that declare what node `i` is at.
+fn push_state_vars(text: &mut String, i: usize, name: &str) -> Result<(), AllocError>
+    ensures { OnOk result (GrowsBy text.old text.new (state_vars i name.now)) }
+{
+    push_var(text, "real 64", "e", i, name, "tec")?;
+    push_var(text, "real 64", "c", i, name, "rec")?;
+    push_var(text, "string 1", "m", i, name, "mode")?;
+    push_var(text, "string 1", "d", i, name, "state")?;
+    Ok(())
+}
+
 /// Adds the lines that declare the signals of node `i`.
 fn push_vars(text: &mut String, i: usize, name: &str) -> Result<(), AllocError>
     ensures { OnOk result (GrowsBy text.old text.new (var_lines i name.now)) }
 {
-    push_var(text, "t", i, name, "tx")?;
-    push_var(text, "r", i, name, "rx")?;
-    push_var(text, "s", i, name, "sample")
+    push_level_vars(text, i, name)?;
+    push_state_vars(text, i, name)
 }
 
 /// Adds the lines that declare the signals of node `i` under its name.
@@ -121,13 +147,46 @@ fn push_value(text: &mut String, letter: &str, i: usize, high: bool) -> Result<(
     writeln!(text, "{level}{letter}{i}")
 }
 
-/// Adds the levels of all signals of node `i`.
-fn push_values(text: &mut String, i: usize, now: NodeSignals) -> Result<(), AllocError>
-    ensures { OnOk result (GrowsBy text.old text.new (node_values (i, now))) }
+/// Adds a number of node `i`.
+fn push_number(text: &mut String, letter: &str, i: usize, number: u64) -> Result<(), AllocError>
+    ensures { OnOk result (GrowsBy text.old text.new (number_line letter.now i number)) }
+{
+    writeln!(text, "r{number} {letter}{i}")
+}
+
+/// Adds a word of node `i`.
+fn push_word(text: &mut String, letter: &str, i: usize, word: &str) -> Result<(), AllocError>
+    ensures { OnOk result (GrowsBy text.old text.new (word_line letter.now i word.now)) }
+{
+    writeln!(text, "s{word} {letter}{i}")
+}
+
+/// Adds the levels of node `i`.
+fn push_levels(text: &mut String, i: usize, now: NodeSignals) -> Result<(), AllocError>
+    ensures { OnOk result (GrowsBy text.old text.new (level_values i now)) }
 {
     push_value(text, "t", i, now.tx)?;
     push_value(text, "r", i, now.rx)?;
-    push_value(text, "s", i, now.sample)
+    push_value(text, "s", i, now.sample)?;
+    push_value(text, "b", i, now.start)
+}
+
+/// Adds what node `i` is at.
+fn push_state(text: &mut String, i: usize, now: NodeState) -> Result<(), AllocError>
+    ensures { OnOk result (GrowsBy text.old text.new (state_values i now)) }
+{
+    push_number(text, "e", i, now.tec)?;
+    push_number(text, "c", i, now.rec)?;
+    push_word(text, "m", i, mode(now.mode))?;
+    push_word(text, "d", i, doing_word(now.doing))
+}
+
+/// Adds all signals of node `i`.
+fn push_values(text: &mut String, i: usize, now: NodeSignals) -> Result<(), AllocError>
+    ensures { OnOk result (GrowsBy text.old text.new (node_values (i, now))) }
+{
+    push_levels(text, i, now)?;
+    push_state(text, i, now.state)
 }
 
 /// Adds the levels of all signals of all nodes, as those at tick 0.

@@ -12,10 +12,12 @@ mod samples;
 mod seen;
 mod sent;
 mod signals;
+mod starts;
 mod tick;
 mod told;
 mod turned;
 mod wave;
+mod words;
 
 pub use fault::ViewFault;
 pub use laws::sent_in_time;

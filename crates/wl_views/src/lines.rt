@@ -3,12 +3,14 @@ ghost use Rattle.std.specs.Prelude.{◌≡◌, ◌+◌, ◌≤◌, ◌++◌, len
 ghost use Rattle.std.specs.Fmt.{decimal};
 ghost use Rattle.arrayvec.specs.ArrayVec.{array_vec_len};
 ghost use Rattle.wl_plan.specs.Limits.{latest_end};
-ghost use Rattle.wl_views.specs.Vcd.{change_line, node_changes, time_line, value_line};
+ghost use Rattle.wl_views.specs.Vcd.{change_line, level_changes, node_changes, number_change, state_changes, time_line, value_line, word_change};
 
 use crate::signals::NodeSignals;
 use crate::tick::Tick;
+use crate::words::{doing_word, mode};
 use arrayvec::ArrayVec;
 use itoa::write_digits;
+use wl_trace::NodeState;
 
 /// How many bytes there is room for.
 pub(crate) const ROOM: usize = 16_384;
@@ -74,13 +76,73 @@ fn push_change(text: &mut Lines, letter: &str, i: usize, was: bool, now: bool)
     }
 }
 
-/// Adds the levels of those signals of node `i` that changed.
-pub(crate) fn push_node_changes(text: &mut Lines, i: usize, was: NodeSignals, now: NodeSignals)
-    requires { array_vec_len text.old + 69 ≤ 16384 }
-    ensures lines { text.new.items ≡ text.old.items ++ node_changes i was now }
-    ensures grown { array_vec_len text.new ≤ array_vec_len text.old + 69 }
+/// Adds a number of node `i`, where it is another than before.
+fn push_number_change(text: &mut Lines, letter: &str, i: usize, was: u64, now: u64)
+    requires room { array_vec_len text.old + 44 ≤ 16384 }
+    requires letter { length letter.now ≤ 1 }
+    ensures line { text.new.items ≡ text.old.items ++ number_change letter.now i was now }
+    ensures grown { array_vec_len text.new ≤ array_vec_len text.old + 44 }
+{
+    if was == now {
+        return;
+    }
+    text.push(b'r');
+    push_number(text, now);
+    text.push(b' ');
+    push_bytes(text, letter.as_bytes());
+    push_number(text, i as u64);
+    text.push(b'\n');
+}
+
+/// Adds a word of node `i`, where it is another than before.
+fn push_word_change(text: &mut Lines, letter: &str, i: usize, was: &str, now: &str)
+    requires room { array_vec_len text.old + 37 ≤ 16384 }
+    requires letter { length letter.now ≤ 1 }
+    requires word { length now.now ≤ 13 }
+    ensures line { text.new.items ≡ text.old.items ++ word_change letter.now i was.now now.now }
+    ensures grown { array_vec_len text.new ≤ array_vec_len text.old + 37 }
+{
+    if was == now {
+        return;
+    }
+    text.push(b's');
+    push_bytes(text, now.as_bytes());
+    text.push(b' ');
+    push_bytes(text, letter.as_bytes());
+    push_number(text, i as u64);
+    text.push(b'\n');
+}
+
+/// Adds the levels of node `i` that changed.
+fn push_level_changes(text: &mut Lines, i: usize, was: NodeSignals, now: NodeSignals)
+    requires { array_vec_len text.old + 92 ≤ 16384 }
+    ensures lines { text.new.items ≡ text.old.items ++ level_changes i was now }
+    ensures grown { array_vec_len text.new ≤ array_vec_len text.old + 92 }
 {
     push_change(text, "t", i, was.tx, now.tx);
     push_change(text, "r", i, was.rx, now.rx);
     push_change(text, "s", i, was.sample, now.sample);
+    push_change(text, "b", i, was.start, now.start);
+}
+
+/// Adds what changed of that which node `i` is at.
+fn push_state_changes(text: &mut Lines, i: usize, was: NodeState, now: NodeState)
+    requires { array_vec_len text.old + 162 ≤ 16384 }
+    ensures lines { text.new.items ≡ text.old.items ++ state_changes i was now }
+    ensures grown { array_vec_len text.new ≤ array_vec_len text.old + 162 }
+{
+    push_number_change(text, "e", i, was.tec, now.tec);
+    push_number_change(text, "c", i, was.rec, now.rec);
+    push_word_change(text, "m", i, mode(was.mode), mode(now.mode));
+    push_word_change(text, "d", i, doing_word(was.doing), doing_word(now.doing));
+}
+
+/// Adds those signals of node `i` that changed.
+pub(crate) fn push_node_changes(text: &mut Lines, i: usize, was: NodeSignals, now: NodeSignals)
+    requires { array_vec_len text.old + 256 ≤ 16384 }
+    ensures lines { text.new.items ≡ text.old.items ++ node_changes i was now }
+    ensures grown { array_vec_len text.new ≤ array_vec_len text.old + 256 }
+{
+    push_level_changes(text, i, was, now);
+    push_state_changes(text, i, was.state, now.state);
 }

@@ -1,5 +1,5 @@
 //! The signals of a simulation's nodes at a tick, and how long they stay.
-ghost use Rattle.std.specs.Prelude.{◌≡◌, ℕ, ◌+◌, ◌-◌, ◌<◌, ◌≤◌, ◌&&◌, ◌++◌, nat_le, nat_lt, IfOk, OnOk, length};
+ghost use Rattle.std.specs.Prelude.{◌≡◌, ℕ, ◌+◌, ◌-◌, ◌<◌, ◌≤◌, ◌&&◌, ◌++◌, nat_le, nat_lt, IfOk, OnOk, length, slice_index_or};
 ghost use Rattle.arrayvec.specs.ArrayVec.{array_vec_len};
 ghost use Rattle.wl_record_core.specs.Truth.{IsIncreasing};
 ghost use Rattle.wl_topology.specs.Limits.{longest_delay};
@@ -12,18 +12,20 @@ ghost use Rattle.wl_plan.specs.PlanLine.{disturbed, is_at, line_of};
 ghost use Rattle.wl_plan.specs.Simulation.{level};
 ghost use Rattle.wl_serial.specs.Outcome.{outcome_of};
 ghost use Rattle.wl_views.specs.Held.{AllWatched, Holds, Remembers, Watches, driven_at, signals_by, stays_until, turned_at, unwatched};
-ghost use Rattle.wl_views.specs.Signals.{all_sample_ticks, node_signals, sample_ticks, signals};
+ghost use Rattle.wl_views.specs.Signals.{all_sample_ticks, all_start_ticks, all_states, node_signals, sample_ticks, signals, start_ticks, states_at};
 ghost use Rattle.wl_views.specs.Vcd.{changes_from, node_changes};
 
-use crate::held::Held;
+use crate::held::{Counted, Held};
 use crate::lines::{Lines, push_node_changes};
 use crate::seen::found_at;
-use crate::turned::turned;
+use crate::turned::{counted, turned};
 use std::alloc::{AllocError, Global};
+use wl_confine::Mode;
 use wl_level::Listed;
 use wl_plan::{Disturbance, Plan};
 use wl_serial::Outcome;
 use wl_topology::MOST_NODES;
+use wl_trace::{Doing, NodeState};
 
 /// The signals of a node at a tick, as logic levels: true is high.
 #[derive(Clone, Copy, Debug, PartialEq, Eq)]
@@ -34,6 +36,10 @@ pub struct NodeSignals {
     pub rx: bool,
     /// Low at first, and turned at each of its samples.
     pub sample: bool,
+    /// Low at first, and turned at each start of a bit.
+    pub start: bool,
+    /// What it is at: its error counters, and what it does.
+    pub state: NodeState,
 }
 
 /// What is known of a node's signals from a tick on, each with how long it stays.
@@ -43,8 +49,12 @@ pub(crate) struct Watched {
     pub(crate) drive: Held,
     /// Whether it finds the line dominant.
     pub(crate) line: Held,
-    /// Whether its mark of samples is high.
-    pub(crate) mark: Held,
+    /// Whether its mark of bit starts is high.
+    pub(crate) starts: Held,
+    /// How many samples it has had.
+    pub(crate) samples: Counted,
+    /// What it is at after them.
+    pub(crate) state: NodeState,
 }
 
 impl Watched {
@@ -59,7 +69,14 @@ impl Watched {
         Watched {
             drive: none,
             line: none,
-            mark: none,
+            starts: none,
+            samples: Counted { count: 0, until: 0 },
+            state: NodeState {
+                tec: 0,
+                rec: 0,
+                mode: Mode::Active,
+                doing: Doing::Integrating,
+            },
         }
     }
 
@@ -70,7 +87,9 @@ impl Watched {
         NodeSignals {
             tx: !self.drive.value,
             rx: !self.line.value,
-            sample: self.mark.value,
+            sample: self.samples.count % 2 == 1,
+            start: self.starts.value,
+            state: self.state,
         }
     }
 
@@ -78,17 +97,20 @@ impl Watched {
     pub(crate) fn until(self) -> u64
         ensures { result ≡ stays_until self }
     {
-        self.drive.until.min(self.line.until).min(self.mark.until)
+        self.drive
+            .until
+            .min(self.line.until)
+            .min(self.starts.until)
+            .min(self.samples.until)
     }
 }
 
-/// For a node, how many changes of each node had come to it, and of its own drive and its samples, when they were last asked for.
-/// It speeds up the next time, and decides nothing.
+/// For a node, how many changes of each node had come to it, and of its own drive and bit starts, when they were last asked for. It speeds up the next time, and decides nothing.
 #[derive(Clone, Copy)]
 pub(crate) struct Come {
     line: [usize; MOST_NODES],
     drive: usize,
-    samples: usize,
+    starts: usize,
 }
 
 /// That of all nodes.
@@ -103,7 +125,7 @@ impl AllCome {
         let none = Come {
             line: [0; MOST_NODES],
             drive: 0,
-            samples: 0,
+            starts: 0,
         };
         AllCome {
             nodes: [none; MOST_NODES],
@@ -214,11 +236,20 @@ fn turned_on(ticks: &[u64], t: u64, held: Held, come: &mut usize) -> Held
     }
 }
 
-/// What is known of node `i` from tick `t` on, by the ticks of its samples and by what was known of it before.
+/// Of these states the one after so many samples, and where there is none this one.
+fn state_after(states: &[NodeState], count: usize, none: NodeState) -> NodeState
+    ensures { result ≡ slice_index_or states.now count none }
+{
+    states.get(count).copied().unwrap_or(none)
+}
+
+/// What is known of node `i` from tick `t` on, by the ticks of its samples and bit starts and by what was known of it before.
 pub(crate) fn watch(
     plan: &Plan,
     outcome: &Outcome,
     samples: &[u64],
+    starts: &[u64],
+    states: &[NodeState],
     i: usize,
     t: u64,
     was: Watched,
@@ -227,6 +258,8 @@ pub(crate) fn watch(
     requires checked { IsChecked plan.now }
     requires outcome { outcome.now ≡ outcome_of plan.now }
     requires samples { samples.now ≡ sample_ticks plan.now i }
+    requires starts { starts.now ≡ start_ticks plan.now i }
+    requires states { states.now ≡ states_at plan.now i }
     requires node { i < length plan.now.nodes }
     requires early { t ≤ latest_end }
     requires was { Remembers plan.now i t was }
@@ -238,8 +271,16 @@ pub(crate) fn watch(
     let changes = nodes[i].changes.as_slice();
     let drive = turned_on(changes, t, was.drive, &mut come.drive);
     let line = found_at(plan, outcome, i, t, was.line, &mut come.line);
-    let mark = turned_on(samples, t, was.mark, &mut come.samples);
-    Watched { drive, line, mark }
+    let starts = turned_on(starts, t, was.starts, &mut come.starts);
+    let samples = counted(samples, t, was.samples);
+    let state = state_after(states, samples.count, was.state);
+    Watched {
+        drive,
+        line,
+        starts,
+        samples,
+        state,
+    }
 }
 
 /// Makes known all nodes' signals from tick 0 on, and answers the signals at tick 0.
@@ -248,27 +289,38 @@ pub(crate) fn watch_all(
     plan: &Plan,
     outcome: &Outcome,
     samples: &[Listed<u64>],
+    starts: &[Listed<u64>],
+    states: &[Listed<NodeState>],
     come: &mut AllCome,
     watched: &mut [Watched; MOST_NODES],
 ) -> Result<Vec<NodeSignals>, AllocError>
     requires checked { IsChecked plan.now }
     requires outcome { outcome.now ≡ outcome_of plan.now }
     requires samples { samples.now ≡ all_sample_ticks plan.now }
+    requires starts { starts.now ≡ all_start_ticks plan.now }
+    requires states { states.now ≡ all_states plan.now }
     ensures now { IfOk result (λ now. now.items ≡ signals plan.now 0) }
     ensures watched { OnOk result (AllWatched plan.now 0 watched.new) }
 {
     wl_plan::checked_is_sound();
     wl_plan::simulation_laws();
+    wl_record_core::table_laws();
+    wl_trace::state_by_samples();
     let mut now = Vec::new(alloc);
     for i in 0..plan.nodes.len() {
         let ticks = samples[i].as_slice();
+        let begun = starts[i].as_slice();
+        let known = states[i].as_slice();
+        let none = Watched::new();
         let first = watch(
             plan,
             outcome,
             ticks,
+            begun,
+            known,
             i,
             0,
-            Watched::new(),
+            none,
             &mut come.nodes[i],
         );
         watched[i] = first;
@@ -283,6 +335,8 @@ fn push_node(
     plan: &Plan,
     outcome: &Outcome,
     samples: &[u64],
+    starts: &[u64],
+    states: &[NodeState],
     i: usize,
     t: u64,
     was: Watched,
@@ -291,22 +345,26 @@ fn push_node(
     requires checked { IsChecked plan.now }
     requires outcome { outcome.now ≡ outcome_of plan.now }
     requires samples { samples.now ≡ sample_ticks plan.now i }
+    requires starts { starts.now ≡ start_ticks plan.now i }
+    requires states { states.now ≡ states_at plan.now i }
     requires node { i < length plan.now.nodes }
     requires some { 0 < t }
     requires early { t ≤ latest_end }
     requires was { Watches plan.now i (t - 1) was }
-    requires room { array_vec_len text.old + 69 ≤ 16384 }
+    requires room { array_vec_len text.old + 256 ≤ 16384 }
     ensures lines { text.new.items ≡ text.old.items
         ++ node_changes i (node_signals plan.now (t - 1) i) (node_signals plan.now t i) }
-    ensures grown { array_vec_len text.new ≤ array_vec_len text.old + 69 }
+    ensures grown { array_vec_len text.new ≤ array_vec_len text.old + 256 }
     ensures watches { Watches plan.now i t result }
 {
     wl_plan::checked_is_sound();
     wl_plan::simulation_laws();
+    wl_record_core::table_laws();
+    wl_trace::state_by_samples();
     if t < was.until() {
         return was;
     }
-    let now = watch(plan, outcome, samples, i, t, was, come);
+    let now = watch(plan, outcome, samples, starts, states, i, t, was, come);
     push_node_changes(text, i, was.now(), now.now());
     now
 }
@@ -317,6 +375,8 @@ pub(crate) fn push_changes(
     plan: &Plan,
     outcome: &Outcome,
     samples: &[Listed<u64>],
+    starts: &[Listed<u64>],
+    states: &[Listed<NodeState>],
     t: u64,
     come: &mut AllCome,
     watched: &mut [Watched; MOST_NODES],
@@ -324,12 +384,14 @@ pub(crate) fn push_changes(
     requires checked { IsChecked plan.now }
     requires outcome { outcome.now ≡ outcome_of plan.now }
     requires samples { samples.now ≡ all_sample_ticks plan.now }
+    requires starts { starts.now ≡ all_start_ticks plan.now }
+    requires states { states.now ≡ all_states plan.now }
     requires some { 0 < t }
     requires early { t < plan.now.end }
     requires watched { AllWatched plan.now (t - 1) watched.old }
-    requires room { array_vec_len text.old + 1104 ≤ 16384 }
+    requires room { array_vec_len text.old + 4096 ≤ 16384 }
     ensures lines { text.new.items ≡ text.old.items ++ changes_from 0 (signals plan.now (t - 1)) (signals plan.now t) }
-    ensures grown { array_vec_len text.new ≤ array_vec_len text.old + 1104 }
+    ensures grown { array_vec_len text.new ≤ array_vec_len text.old + 4096 }
     ensures later { t < result }
     ensures inside { result ≤ plan.now.end }
     ensures stays { (u : ℕ) → t ≤ u → u < result → signals plan.now u ≡ signals plan.now t }
@@ -337,17 +399,24 @@ pub(crate) fn push_changes(
 {
     wl_plan::checked_is_sound();
     wl_plan::simulation_laws();
+    wl_record_core::table_laws();
+    wl_trace::state_by_samples();
     let mut until = plan.end;
     for i in 0..plan.nodes.len() {
         let ticks = samples[i].as_slice();
+        let begun = starts[i].as_slice();
+        let known = states[i].as_slice();
+        let was = watched[i];
         let now = push_node(
             text,
             plan,
             outcome,
             ticks,
+            begun,
+            known,
             i,
             t,
-            watched[i],
+            was,
             &mut come.nodes[i],
         );
         watched[i] = now;

@@ -3,9 +3,9 @@ use Rattle.std.proofs.Common.{◌∙◌, ℕ, ◌-◌, ◌<◌, ◌≤◌, ◌++
 use Rattle.std.proofs.lemmas.List.{take_all}
 use Rattle.std.proofs.lemmas.List.FromFn.{length-map-range_with_len}
 use Rattle.wl_views.specs.Held.{Watches, stays_until, unwatched}
-use Rattle.wl_views.specs.Signals.{node_signals, sample_ticks, signals}
+use Rattle.wl_views.specs.Signals.{node_signals, sample_ticks, signals, start_ticks, states_at}
 use Rattle.wl_views.specs.Vcd.{changes_from, node_changes}
-use Rattle.wl_views.proofs.SignalProofs.{samples_are}
+use Rattle.wl_views.proofs.SignalProofs.{samples_are, starts_are, states_are}
 use Rattle.wl_views.proofs.Watching.{all_nodes, all_same, known_more, node_more, now, on, others_stay, stays}
 use Rattle.wl_views.proofs.signals.push_changes.Goals as goal
 
@@ -32,7 +32,8 @@ loop-i-preserved c =
     let watches = c.push_node-now.ensures.watches in
     let p = watches.drive.later in
     let q = watches.line.later in
-    let r = watches.mark.later in
+    let r = watches.samples.later in
+    let s = watches.starts.later in
     let inv = c.loop-i.invariant in
     let until = c.until.ensures in
     record {
@@ -57,7 +58,6 @@ returns c =
     let plan = c.args.plan.now in
     let t : ℕ = c.args.t in
     let inv = c.loop-i.invariant in
-    let sound = c.checked_is_sound.ensures c.args.plan.now c.requires.checked in
     let m = all_nodes plan (t - 1) in
     let n = all_nodes plan t in
     record {
@@ -72,8 +72,8 @@ returns c =
           let w = get_or c.loop-i.watched k unwatched in
           let inside : k < c.loop-i.i = omega arith in
           let less = inv.lasting k inside in
-          stays c.simulation_laws.ensures plan sound k b t u w (inv.known k inside) from (omega arith)
-          ∙ sym (now c.simulation_laws.ensures plan sound k b t w (inv.known k inside)));
+          stays c.checked_is_sound.ensures c.simulation_laws.ensures c.table_laws.ensures c.state_by_samples.ensures plan c.requires.checked k b t u w (inv.known k inside) from (omega arith)
+          ∙ sym (now c.checked_is_sound.ensures c.simulation_laws.ensures c.table_laws.ensures c.state_by_samples.ensures plan c.requires.checked k b t w (inv.known k inside)));
       watched = λ k b.
           let w = get_or c.loop-i.watched k unwatched in
           let inside : k < c.loop-i.i = omega arith in
@@ -81,3 +81,25 @@ returns c =
           let later = inv.later in
           on plan k t (c.loop-i.until - 1) w (inv.known k inside) (omega arith) (omega arith);
     }
+
+pub bounds-states-i : goal.bounds-states-i
+bounds-states-i c =
+    let e = ap length c.requires.states in
+    let n = length-map-range_with_len (states_at c.args.plan.now) 0 (length c.args.plan.now.nodes) in
+    omega arith
+
+pub push_node-now-requires-clause-states : goal.push_node-now-requires-clause-states
+push_node-now-requires-clause-states c =
+    let b : c.loop-i.i < length c.args.plan.now.nodes = omega arith in
+    c.as_slice-known.ensures ∙ c.index-states-i.is ∙ states_are c.args.plan.now c.args.states.now c.loop-i.i c.index-states-i.result c.requires.states b
+
+pub bounds-starts-i : goal.bounds-starts-i
+bounds-starts-i c =
+    let e = ap length c.requires.starts in
+    let n = length-map-range_with_len (start_ticks c.args.plan.now) 0 (length c.args.plan.now.nodes) in
+    omega arith
+
+pub push_node-now-requires-clause-starts : goal.push_node-now-requires-clause-starts
+push_node-now-requires-clause-starts c =
+    let b : c.loop-i.i < length c.args.plan.now.nodes = omega arith in
+    c.as_slice-begun.ensures ∙ c.index-starts-i.is ∙ starts_are c.args.plan.now c.args.starts.now c.loop-i.i c.index-starts-i.result c.requires.starts b

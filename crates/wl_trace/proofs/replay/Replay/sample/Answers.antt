@@ -55,6 +55,7 @@ returns-clause-past c setup p q r =
     let code : IsReplay c.switch_off.new.self (made p quantum x c.bit-turn.result.happened ended c.mode.result) = record {
       machine = c.switch_off.ensures.machine (p.inputs ++ Sample x ∷ []) (c.bit-turn.ensures.machine p.inputs r.machine);
       counters = c.switch_off.ensures.counters ∙ counted;
+      pending = c.switch_off.ensures.pending (p.inputs ++ Sample x ∷ []) (c.bit-turn.ensures.drive p.inputs r.machine);
       sent =
           c.switch_off.ensures.sent
           ∙ ap (λ (n : ℕ). n + c.sent_with.result) r.sent

@@ -1,0 +1,36 @@
+-- The quanta that begin a bit, one level more at a time.
+use Rattle.std.proofs.Common.{◌≡◌, ◌∙◌, refl, ap, ℕ, Bool, List, [], ◌∷◌, ◌++◌, fold, length}
+use Rattle.std.proofs.lemmas.List.Sums.{fold-append}
+use Rattle.wl_level.specs.declared.Level.{Level}
+use Rattle.wl_level.specs.Levels.{is_dominant}
+use Rattle.wl_sync.specs.Bits.{Seen}
+use Rattle.wl_machine.specs.Judged.{is_idle_sort, stretch_of}
+use Rattle.wl_node.specs.declared.setup.NodeSetup.{NodeSetup}
+use Rattle.wl_node.specs.History.{History, no_history, history_of, history_after, seen_next}
+use Rattle.wl_trace.specs.Starts.{starts_next, starts_of, started_after, with_start}
+
+-- what the bit clock is given is what it sees
+pub seen_is : (h : History) (level drive : Level) (idle driving : Bool) → idle ≡ is_idle_sort (stretch_of h.inputs).sort
+    → driving ≡ is_dominant drive → drive ≡ h.drive → ◌≡◌ {A = Seen} (record { level = level; idle = idle; driving = driving }) (seen_next h level)
+seen_is h level drive idle driving e f g i = record { level = level; idle = e i; driving = (f ∙ ap is_dominant g) i }
+
+module _ (setup : NodeSetup) where
+  fold_first : (levels : List Level) (h : History) (qs : List ℕ) → (fold (started_after setup) (h, qs) levels).0 ≡ fold (history_after setup) h levels
+  fold_first [] h qs = refl
+  fold_first (level ∷ levels) h qs = fold_first levels (history_after setup h level) (with_start qs (length h.seen) (starts_next setup h level))
+
+  pub history_first : history_of setup [] ≡ no_history
+  unfolding history_of
+  history_first = refl
+
+  pub starts_first : starts_of setup [] ≡ []
+  unfolding starts_of
+  starts_first = refl
+
+  pub starts_more : (levels : List Level) (level : Level)
+      → starts_of setup (levels ++ level ∷ [])
+      ≡ with_start (starts_of setup levels) (length (history_of setup levels).seen) (starts_next setup (history_of setup levels) level)
+  unfolding starts_of history_of
+  starts_more levels level =
+      ap (λ (r : History × List ℕ). r.1) (fold-append (started_after setup) (no_history, []) levels (level ∷ []))
+      ∙ ap (λ (h : History). with_start (fold (started_after setup) (no_history, []) levels).1 (length h.seen) (starts_next setup h level)) (fold_first levels no_history [])
