@@ -1,5 +1,5 @@
 -- Which fault comes first among those of several workers.
-use Rattle.std.proofs.Common.{◌≡◌, ℕ, ◌+◌, ◌<◌, ◌≤◌, Bool, true, false, nat_lt, All, Result, Ok, Err, IfErr, Option, Some, None, List, [], ◌∷◌, ◌++◌, length, refl, sym, subst, ap, ◌∙◌, arith}
+use Rattle.std.proofs.Common.{◌≡◌, ◌+◌, ◌≤◌, Bool, true, false, nat_lt, All, Result, Ok, Err, IfErr, Option, Some, None, List, [], ◌∷◌, ◌++◌, length, refl, ◌∙◌, arith}
 use Rattle.std.specs.Prelude.{Any, IsOk, if◌then◌else◌}
 use Rattle.std.proofs.lemmas.Bool.Decides.{nat_tests}
 use Rattle.std.proofs.lemmas.List.Elements.{All-append, All-cons, All-nil, All-weaker}
@@ -52,3 +52,6 @@ next_first fault ends h = (
 
 pub next_lower : (fault other : Fault) → IsNextFault (Some other) (Err fault) (Some (lower_fault fault other))
 next_lower fault other ends h = lower_at (nat_lt (rank other) (rank fault)) fault other ends refl h
+
+pub first_alone : (fault : Fault) → IsLowestFault (Err fault ∷ []) (Some fault)
+first_alone fault = next_first fault [] (All-nil IsOk)

@@ -1,5 +1,5 @@
 -- A record that is true of a plan has a word in a hub of the plan's shape.
-use Rattle.std.proofs.Common.{◌≡◌, ℕ, zero, suc, ◌+◌, ◌<◌, ◌≤◌, Bool, true, false, length, map, List, [], ◌∷◌, get_or, slice_index_or, subst, ap, ◌∙◌, arith, refl}
+use Rattle.std.proofs.Common.{◌≡◌, ℕ, zero, suc, ◌+◌, ◌<◌, ◌≤◌, Bool, true, false, length, map, List, [], ◌∷◌, get_or, slice_index_or, subst, arith, refl}
 use Rattle.std.specs.Prelude.{slice_index}
 use Rattle.std.proofs.lemmas.List.{get_or-map}
 use Rattle.std.proofs.lemmas.Option.{slice_get_within}
@@ -14,7 +14,7 @@ use Rattle.wl_plan.specs.Limits.{most_quanta, most_quanta-is}
 use Rattle.wl_plan.specs.Line.{Line}
 use Rattle.wl_plan.specs.Sound.{IsCausal}
 use Rattle.wl_plan.specs.Checked.{IsChecked, CheckedIsSound}
-use Rattle.wl_plan.specs.PlanLine.{setup_at, no_setup, line_of, table_of, IsTrueOfPlan}
+use Rattle.wl_plan.specs.PlanLine.{setup_at, line_of, table_of, IsTrueOfPlan}
 use Rattle.wl_plan.specs.Simulation.{seen, differs, changes, AreInside}
 use Rattle.wl_plan.specs.SimulationLaws.{SimulationLaws}
 use Rattle.wl_hub.specs.Words.{IsInShape}

@@ -1,13 +1,12 @@
 -- The members of a worker, what a worker comes to, and what all of them come to.
-use Rattle.std.proofs.Common.{◌≡◌, ◌≢◌, ℕ, ◌+◌, ◌<◌, ◌≤◌, ◌%◌, ◌==◌, ◌||◌, Bool, true, false, All, Result, Ok, Err, IfOk, IfErr, List, [], ◌∷◌, ◌++◌, length, map, refl, sym, ap, subst, ◌∙◌, arith, zero-add, slice_index_or, below_more}
-use Rattle.std.specs.List.{range_with_len}
+use Rattle.std.proofs.Common.{◌≡◌, ◌≢◌, ℕ, ◌+◌, ◌<◌, ◌≤◌, ◌%◌, ◌==◌, ◌||◌, ◌&&◌, nat_lt, Bool, true, false, All, Result, Ok, Err, IfOk, IfErr, List, [], ◌∷◌, ◌++◌, length, refl, sym, ap, subst, ◌∙◌, arith, slice_index_or, below_more}
 use Rattle.std.proofs.lemmas.Bool.Decides.{nat_tests}
+use Rattle.std.proofs.lemmas.Bool.{eq-eqb, eqb-true}
 use Rattle.std.proofs.lemmas.List.Elements.{All-append, All-cons, All-nil}
 use Rattle.std.proofs.lemmas.List.Folds.{list_any-append}
 use Rattle.std.proofs.lemmas.List.{get_or_append_left, get_or_push}
 use Rattle.wl_node.specs.declared.setup.NodeSetup.{NodeSetup}
 use Rattle.wl_node.specs.History.{history_of}
-use Rattle.wl_replica.proofs.Callers.{or_true}
 use Rattle.wl_plan.specs.declared.plan.Plan.{Plan}
 use Rattle.wl_plan.specs.PlanLine.{setup_at, line_of, table_of}
 use Rattle.wl_plan.specs.Checked.{CheckedIsSound}
@@ -23,34 +22,65 @@ use Rattle.wl_worker.specs.Shares.{IsShare, IsDone, IsEnd}
 
 -- ---- members
 
-or_second : (b c : Bool) → c ≡ true → (b || c) ≡ true
-or_second true c e = refl
-or_second false c e = e
+or_none : (b : Bool) → b ≡ (b || false)
+or_none true = refl
+or_none false = refl
 
-pub names_more : (xs ys : List ℕ) (i k : ℕ) → ys ≡ xs ++ i ∷ [] → names xs k ≡ true → names ys k ≡ true
-names_more xs ys i k e h = ap (λ zs. names zs k) e ∙ (list_any-append (λ m. m == k) xs (i ∷ []) ∙ or_true (names xs k) (names (i ∷ []) k) h)
+and_all : (b : Bool) → b ≡ (b && true)
+and_all true = refl
+and_all false = refl
 
-pub names_new : (xs ys : List ℕ) (i : ℕ) → ys ≡ xs ++ i ∷ [] → names ys i ≡ true
-names_new xs ys i e =
-    let same : (i == i) ≡ true = grind (arith, nat_tests) in
-    ap (λ zs. names zs i) e ∙ (list_any-append (λ m. m == i) xs (i ∷ []) ∙ or_second (names xs i) (names (i ∷ []) i) (or_true (i == i) false same))
+and_none : (b : Bool) → false ≡ (b && false)
+and_none true = refl
+and_none false = refl
+
+pub names_pushed : (xs ys : List ℕ) (i : ℕ) (wanted : Bool) → ys ≡ xs ++ i ∷ [] → wanted ≡ true → (k : ℕ) → names ys k ≡ (names xs k || (wanted && (i == k)))
+names_pushed xs ys i wanted e want k =
+    ap (λ zs. names zs k) e ∙ (list_any-append (λ m. m == k) xs (i ∷ []) ∙ (ap (λ b. names xs k || b) (sym (or_none (i == k))) ∙ ap (λ w. names xs k || (w && (i == k))) (sym want)))
+
+pub names_same : (xs ys : List ℕ) (i : ℕ) (wanted : Bool) → ys ≡ xs → wanted ≡ false → (k : ℕ) → names ys k ≡ (names xs k || (wanted && (i == k)))
+names_same xs ys i wanted e want k =
+    ap (λ zs. names zs k) e ∙ (or_none (names xs k) ∙ ap (λ w. names xs k || (w && (i == k))) (sym want))
+
+pub none_below : (k : ℕ) (b : Bool) → false ≡ (nat_lt k 0 && b)
+none_below k b = let e : nat_lt k 0 ≡ false = grind (arith, nat_tests) in ap (λ c. c && b) (sym e)
+
+one_below : (f : ℕ → Bool) (i k : ℕ) (here : Bool) → (i == k) ≡ here → ((nat_lt k i && f k) || (f i && here)) ≡ (nat_lt k (i + 1) && f k)
+one_below f i k true e =
+    let same : i ≡ k = grind (arith, nat_tests) in
+    let out : nat_lt k i ≡ false = grind (arith, nat_tests) in
+    let within : nat_lt k (i + 1) ≡ true = grind (arith, nat_tests) in
+    ap (λ b. (b && f k) || (f i && true)) out ∙ (sym (and_all (f i)) ∙ (ap f same ∙ ap (λ b. b && f k) (sym within)))
+one_below f i k false e =
+    let as_before : nat_lt k i ≡ nat_lt k (i + 1) = grind (arith, nat_tests) in
+    ap (λ b. (nat_lt k i && f k) || b) (sym (and_none (f i))) ∙ (sym (or_none (nat_lt k i && f k)) ∙ ap (λ b. b && f k) as_before)
+
+-- a list that names what is chosen below i, and then i where that is chosen, names what is chosen below i + 1
+pub chosen_more : (f : ℕ → Bool) (xs ys : List ℕ) (i : ℕ) → ((k : ℕ) → names ys k ≡ (names xs k || (f i && (i == k)))) → ((k : ℕ) → names xs k ≡ (nat_lt k i && f k))
+    → (k : ℕ) → names ys k ≡ (nat_lt k (i + 1) && f k)
+chosen_more f xs ys i more was k = more k ∙ (ap (λ b. b || (f i && (i == k))) (was k) ∙ one_below f i k (i == k) refl)
+
+pub chosen_all : (f : ℕ → Bool) (xs : List ℕ) (n i : ℕ) → n ≤ i → ((k : ℕ) → names xs k ≡ (nat_lt k i && f k)) → (k : ℕ) → k < n → names xs k ≡ f k
+chosen_all f xs n i low was k b = let e : nat_lt k i ≡ true = grind (arith, nat_tests) in was k ∙ ap (λ c. c && f k) e
 
 pub below_pushed : (xs ys : List ℕ) (i n : ℕ) → ys ≡ xs ++ i ∷ [] → i < n → All (λ m. m < n) xs → All (λ m. m < n) ys
 below_pushed xs ys i n e b h =
     subst (All (λ m. m < n)) (sym e) (All-append (λ m. m < n) xs (i ∷ []) h (All-cons (λ m. m < n) i [] b (All-nil (λ m. m < n))))
 
 pub share_is : (plan : Plan) (workers worker n : ℕ) (g : GroupValue) (ms xs : List ℕ) → n ≡ length plan.nodes → xs ≡ ms → g.plan ≡ plan → belongs g ≡ names xs
-    → ((i : ℕ) → i < n → i % workers ≡ worker → names ms i ≡ true) → IsShare plan workers worker g
+    → ((i : ℕ) → i < n → names ms i ≡ (i % workers == worker)) → IsShare plan workers worker g
 share_is plan workers worker n g ms xs count same plan_is members all = record {
   plan_is = plan_is;
-  members = λ i b e. ap (λ f. f i) members ∙ (ap (λ ys. names ys i) same ∙ all i (omega arith) e);
+  members = λ i b.
+      let e : belongs g i ≡ (i % workers == worker) = ap (λ f. f i) members ∙ (ap (λ ys. names ys i) same ∙ all i (omega arith)) in
+      (λ has. eqb-true (i % workers) worker (sym e ∙ has), λ of. e ∙ eq-eqb (i % workers) worker of);
 }
 
 -- ---- what a worker comes to
 
 done_is : (plan : Plan) (workers worker : ℕ) (old new : GroupValue) → IsShare plan workers worker old → HasFinished old new → IsDone plan workers worker new
 done_is plan workers worker old new s f = record {
-  share = record { plan_is = f.plan ∙ s.plan_is; members = λ i b e. ap (λ has. has i) f.members ∙ s.members i b e };
+  share = record { plan_is = f.plan ∙ s.plan_is; members = λ i b. (λ has. (s.members i b).0 (sym (ap (λ h. h i) f.members) ∙ has), λ of. ap (λ h. h i) f.members ∙ (s.members i b).1 of) };
   ended = f.ended;
 }
 
@@ -59,6 +89,10 @@ pub end_is : (plan : Plan) (workers worker : ℕ) (begun : GroupValue) (end : Re
     → IfOk end (HasFinished begun) → IfErr end (λ fault. fault ≢ Workers) → IsEnd plan workers worker end
 end_is plan workers worker begun (Ok done) s f e = done_is plan workers worker begun done s f
 end_is plan workers worker begun (Err fault) s f e = e
+
+pub fault_kept : (plan : Plan) (workers worker : ℕ) (end : Result GroupValue Fault) → IsEnd plan workers worker end → IfErr end (λ fault. fault ≢ Workers)
+fault_kept plan workers worker (Ok g) h = tt
+fault_kept plan workers worker (Err fault) h = h
 
 pub both_ok : {A E : Type 0} (r : Result A E) (P Q S : A → Type 0) → ((x : A) → P x → Q x → S x) → IfOk r P → IfOk r Q → IfOk r S
 both_ok (Ok x) P Q S f p q = f x p q

@@ -1,12 +1,12 @@
 -- What a group takes by a fetch, record by record, and whether that changed what it knows.
-use Rattle.std.proofs.Common.{◌≡◌, ◌≢◌, ℕ, ◌<◌, max, Bool, true, false, ◌||◌, ◌&&◌, ◌==◌, List, [], ◌∷◌, ◌++◌, refl, sym, subst, ap, ◌∙◌, arith}
+use Rattle.std.proofs.Common.{◌≡◌, ◌≢◌, ℕ, ◌<◌, max, Bool, true, ◌||◌, ◌&&◌, ◌==◌, List, [], ◌∷◌, ◌++◌, refl, sym, subst, ap, ◌∙◌, arith}
 use Rattle.std.proofs.lemmas.Bool.Decides.{nat_tests}
 use Rattle.wl_lattice.specs.declared.FlatWord.TheVariants as flat
 use Rattle.wl_lattice.specs.Words.{joined_flat}
 use Rattle.wl_record_core.specs.declared.record.Record.{Record}
 use Rattle.wl_record_core.specs.declared.record.Record.TheVariants.{Edge, Silence}
 use Rattle.wl_replica.specs.Slots.{edge_in, silence_in}
-use Rattle.wl_replica.specs.State.{State, state_of, states_joined, edge_at, silence_at}
+use Rattle.wl_replica.specs.State.{State, edge_at, silence_at}
 use Rattle.wl_replica.specs.SlotsOf.{SlotsOfStates}
 use Rattle.wl_replica.specs.Laws.{TakingIsJoining, IsJoining}
 use Rattle.wl_plan.specs.declared.plan.Plan.{Plan}

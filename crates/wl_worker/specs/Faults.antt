@@ -1,5 +1,5 @@
 -- Which of several faults is answered. This project's profile.
-use Rattle.std.specs.Prelude.{◌≡◌, ℕ, ◌+◌, ◌≤◌, nat_lt, List, [], ◌∷◌, ◌++◌, Any, All, Option, Some, None, Result, Err, IsOk, IfErr, if◌then◌else◌}
+use Rattle.std.specs.Prelude.{◌≡◌, ℕ, ◌+◌, ◌≤◌, nat_lt, List, [], ◌∷◌, ◌++◌, length, Any, All, Option, Some, None, Result, Err, IsOk, IfErr, if◌then◌else◌}
 use Rattle.wl_group.specs.GroupValue.{GroupValue}
 use Rattle.wl_worker.specs.declared.link.Fault.{Fault}
 use Rattle.wl_worker.specs.declared.link.Fault.TheVariants.{Workers, Memory, Foreign, Worker}
@@ -19,6 +19,11 @@ lower_fault fault other = if nat_lt (rank other) (rank fault) then other else fa
 abbrev pub IsLowestFault : List (Result GroupValue Fault) → Option Fault → Type 0
 IsLowestFault ends None = All IsOk ends
 IsLowestFault ends (Some fault) = Any (λ end. end ≡ Err fault) ends × All (λ end. IfErr end (λ other. rank fault ≤ rank other)) ends
+
+-- the first of this fault and of those that so many workers came to
+abbrev pub IsFirstOf : ℕ → Fault → Fault → Type 0
+IsFirstOf workers fault first =
+    (ends : List (Result GroupValue Fault)) × (length ends ≡ workers) × IsLowestFault (Err fault ∷ ends) (Some first)
 
 -- whatever others came to before: with what one more came to, the first fault is this one
 abbrev pub IsNextFault : Option Fault → Result GroupValue Fault → Option Fault → Type 0

@@ -1,5 +1,5 @@
 -- Which nodes a worker has, and what its thread promises. This project's profile.
-use Rattle.std.specs.Prelude.{◌≡◌, ◌≢◌, ℕ, ◌<◌, ◌%◌, List, All, length, true, Result, MatchResult, slice_index_or}
+use Rattle.std.specs.Prelude.{◌≡◌, ◌≢◌, ◌↔◌, ℕ, ◌<◌, ◌%◌, List, All, length, true, Result, MatchResult, slice_index_or}
 use Rattle.wl_plan.specs.declared.plan.Plan.{Plan}
 use Rattle.wl_group.specs.GroupValue.{GroupValue, belongs}
 use Rattle.wl_worker.specs.declared.link.Fault.{Fault}
@@ -11,10 +11,10 @@ use Rattle.wl_worker.specs.Finished.{MembersEnded}
 abbrev pub AreBelow : ℕ → List ℕ → Type 0
 AreBelow nodes numbers = All (λ i. i < nodes) numbers
 
--- the group of a worker has the nodes of the plan whose number leaves the worker's, divided by the number of workers
+-- the group of a worker has exactly the nodes of the plan whose number leaves the worker's, divided by the number of workers
 pub record IsShare (plan : Plan) (workers worker : ℕ) (g : GroupValue) : Type 0 where
   pub plan_is : g.plan ≡ plan
-  pub members : (i : ℕ) → i < length plan.nodes → i % workers ≡ worker → belongs g i ≡ true
+  pub members : (i : ℕ) → i < length plan.nodes → (belongs g i ≡ true) ↔ (i % workers ≡ worker)
 
 -- and has come to the end
 pub record IsDone (plan : Plan) (workers worker : ℕ) (g : GroupValue) : Type 0 where

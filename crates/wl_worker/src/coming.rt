@@ -1,4 +1,4 @@
-//! What a pass sees in a hub that a group does not know yet.
+//! What came: what a pass sees in a hub that a group does not know yet, and how many letters others sent.
 ghost use Rattle.std.specs.Prelude.{◌≡◌, ◌<◌, ◌||◌, ℕ, Some, IfOk, IfSome, length};
 ghost use Rattle.wl_record_core.specs.declared.record.Record.TheVariants.{Edge, Silence};
 ghost use Rattle.wl_plan.specs.PlanLine.{IsTrueOfPlan};
@@ -6,14 +6,52 @@ ghost use Rattle.wl_hub.specs.Passes.{IsPassOf, name_of};
 ghost use Rattle.wl_worker.specs.Handed.{Took, HasChanged};
 ghost use Rattle.wl_worker.specs.Shared.{name_of_plan, IsTrueOfName};
 
+use crate::bell::{Bell, MOST_WORKERS};
 use crate::shared::PlanName;
 use std::alloc::AllocError;
+use std::sync::Wait;
 use wl_group::Group;
 use wl_hub::{Hub, Pass, words_tell_records};
 use wl_lattice::FlatWord;
 use wl_record_core::{Record, Slot};
 use wl_replica::{Word, joining_is_a_join, slots_of_states, taking_is_joining};
 use wl_topology::MOST_NODES;
+
+/// How often a bell had rung before a look for what came. Only a look makes one, and of a number that was read before the look: so whoever
+/// waits until the bell rings again can't miss what was given while it looked.
+#[derive(Clone, Copy, Drop)]
+pub(crate) struct Heard {
+    rings: u64,
+}
+
+impl Heard {
+    /// Before any look: no ring was heard.
+    pub(crate) fn nothing() -> Heard
+        ensures { result.rings ≡ 0 }
+    {
+        Heard { rings: 0 }
+    }
+
+    /// The number of rings.
+    pub(crate) fn rings(self) -> u64
+        ensures { result ≡ self.rings }
+    {
+        self.rings
+    }
+}
+
+/// How many letters the workers other than this one have sent, by a bell that had rung so often before; 2^64 - 1 stands for more.
+pub(crate) fn sent_by_others<R: Wait>(rt: &R, bell: &Bell, worker: u8, rings: u64) -> (u64, Heard)
+    ensures { result.1.rings ≡ rings }
+{
+    let mut sent = 0u64;
+    for other in 0..MOST_WORKERS as u8 {
+        if other != worker {
+            sent = sent.saturating_add(bell.gives(rt, other));
+        }
+    }
+    (sent, Heard { rings })
+}
 
 /// Whether one of the two is.
 fn either(one: bool, other: bool) -> bool
@@ -176,20 +214,23 @@ fn learn_node(
 /// For each node that there may be, how many of its changes were handed to a group.
 pub(crate) type Handed = [u32; MOST_NODES];
 
-/// Takes what the hub has of all nodes that are no members of the group. Answers whether something was taken.
+/// Takes what the hub has of all nodes that are no members of the group, whose bell had rung so often before. Answers whether something was
+/// taken.
 #[tactic(auto, using(crate::proofs::Took::took_nothing, crate::proofs::Took::took_both, crate::proofs::Named::still_named))]
 pub(crate) fn learn_all(
     hub: &Hub<PlanName>,
     pass: &mut Pass<PlanName>,
     group: &mut Group,
     handed: &mut Handed,
-) -> Result<bool, AllocError>
+    rings: u64,
+) -> Result<(bool, Heard), AllocError>
     requires here { IsPassOf hub.now pass.old }
     requires name { name_of pass.old ≡ Some (name_of_plan group.old.plan) }
     ensures here { IsPassOf hub.now pass.new }
     ensures name { name_of pass.new ≡ name_of pass.old }
     ensures took { Took group.old group.new }
-    ensures changed { IfOk result (λ b. HasChanged group.old group.new b) }
+    ensures changed { IfOk result (λ r. HasChanged group.old group.new r.0) }
+    ensures heard { IfOk result (λ r. r.1.rings ≡ rings) }
 {
     joining_is_a_join();
     taking_is_joining();
@@ -198,5 +239,5 @@ pub(crate) fn learn_all(
         let taken = learn_node(hub, pass, group, node, &mut handed[usize::from(node)])?;
         came = either(came, taken);
     }
-    Ok(came)
+    Ok((came, Heard { rings }))
 }

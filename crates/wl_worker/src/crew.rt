@@ -1,9 +1,9 @@
 //! All workers of a plan, each in a thread of its own, and what they come to.
-ghost use Rattle.std.specs.Prelude.{◌≡◌, ◌≢◌, ◌<◌, ◌⊎◌, ◌↔◌, true, All, Err, IfOk, IfErr, IfSome, length, vec_len};
+ghost use Rattle.std.specs.Prelude.{◌≡◌, ◌≢◌, ◌<◌, ◌⊎◌, ◌↔◌, true, All, Err, IfOk, IfErr, IfSome, Some, length, vec_len};
 ghost use Rattle.wl_plan.specs.Checked.{IsChecked};
 ghost use Rattle.wl_group.specs.GroupValue.{belongs, has_ended};
 ghost use Rattle.wl_serial.specs.Outcome.{outcome_of, node_outcome_of};
-ghost use Rattle.wl_worker.specs.Faults.{IsLowestFault, IsNextFault};
+ghost use Rattle.wl_worker.specs.Faults.{IsLowestFault, IsNextFault, IsFirstOf};
 ghost use Rattle.wl_worker.specs.Shares.{IsEnd, IsPromise, EndsKept};
 
 use crate::bell::MOST_WORKERS;
@@ -197,13 +197,12 @@ fn lowest<R: Threads>(
     fault: Fault,
 ) -> Fault
     requires { fault ≢ Fault.Workers }
-    ensures { result ≢ Fault.Workers }
+    ensures first { IsFirstOf (vec_len children) fault result }
+    ensures fault { result ≢ Fault.Workers }
 {
     let mut first = fault;
     for child in children {
-        if let Err(other) = child.join(rt) {
-            first = first.or_lower(other);
-        }
+        first = lower_of(first, &child.join(rt));
     }
     first
 }
@@ -224,9 +223,20 @@ fn with_end(first: Option<Fault>, end: &Result<Group, Fault>) -> Option<Fault>
     ensures { IsNextFault first end.now result }
 {
     match (first, end) {
-        (Some(other), Err(fault)) => Some(fault.or_lower(other)),
+        (Some(fault), _) => Some(lower_of(fault, end)),
         (None, Err(fault)) => Some(*fault),
-        (first, Ok(_)) => first,
+        (None, Ok(_)) => None,
+    }
+}
+
+/// The first of a fault and of that of one end more.
+fn lower_of(first: Fault, end: &Result<Group, Fault>) -> Fault
+    ensures next { IsNextFault (Some first) end.now (Some result) }
+    ensures fault { first ≢ Fault.Workers → IfErr end.now (λ fault. fault ≢ Fault.Workers) → result ≢ Fault.Workers }
+{
+    match end {
+        Err(fault) => fault.or_lower(first),
+        Ok(_) => first,
     }
 }
 

@@ -6,7 +6,7 @@ ghost use Rattle.wl_worker.specs.Handed.{AreTrueOfPlan};
 ghost use Rattle.wl_worker.specs.Shared.{IsOfPlan, with_edges, with_silences};
 
 use crate::bell::Bell;
-use crate::coming::{Handed, learn_all};
+use crate::coming::{Handed, Heard, learn_all};
 use crate::link::{Link, LinkFault};
 use crate::shared::PlanName;
 use std::alloc::{AllocError, Global};
@@ -24,8 +24,8 @@ pub struct HubLink<'h, R: Wait> {
     pass: Pass<PlanName>,
     bell: &'h Bell,
     worker: u8,
-    // How often the bell had rung when the last fetch began; 0 after a rewind.
-    heard: u64,
+    // How often the bell had rung when the last fetch began; nothing after a rewind.
+    heard: Heard,
     // It speeds up the next fetch, and decides nothing.
     handed: Handed,
     pub ghost edges: { pass.edges.seat.table_id ≡ hub.now.edges.table.shared.table_id },
@@ -54,7 +54,7 @@ impl<'h, R: Wait> HubLink<'h, R> {
             pass,
             bell,
             worker,
-            heard: 0,
+            heard: Heard::nothing(),
             handed: [0; MOST_NODES],
         })
     }
@@ -86,7 +86,7 @@ impl<'h, R: Wait> Link for HubLink<'h, R> {
 
     ghost is_of = { λ link plan. IsOfPlan link.hub.now link.pass plan };
 
-    ghost is_rewound = { λ link. link.heard ≡ 0 };
+    ghost is_rewound = { λ link. link.heard.rings ≡ 0 };
 
     fn worker(&self) -> u8 {
         self.worker
@@ -97,7 +97,7 @@ impl<'h, R: Wait> Link for HubLink<'h, R> {
         requires { (p : GivenPlan) × IsOfPlan self.old.hub.now self.old.pass p × AreTrueOfPlan p records.now }
         ensures same { (p : GivenPlan) → IsOfPlan self.old.hub.now self.old.pass p
             → IsOfPlan self.new.hub.now self.new.pass p }
-        ensures rewound { self.old.heard ≡ 0 → self.new.heard ≡ 0 }
+        ensures rewound { self.old.heard.rings ≡ 0 → self.new.heard.rings ≡ 0 }
         ensures edges { OnOk result (given_edges self.new.pass ≡ with_edges (given_edges self.old.pass) records.now) }
         ensures silences { OnOk result
             (given_silences self.new.pass ≡ with_silences (given_silences self.old.pass) records.now) }
@@ -110,18 +110,20 @@ impl<'h, R: Wait> Link for HubLink<'h, R> {
 
     fn fetch(&mut self, alloc: Global, group: &mut Group) -> Result<bool, LinkFault> {
         let _ = alloc;
-        self.heard = self.bell.rings();
-        Ok(learn_all(self.hub, &mut self.pass, group, &mut self.handed)?)
+        let rings = self.bell.rings();
+        let (came, heard) = learn_all(self.hub, &mut self.pass, group, &mut self.handed, rings)?;
+        self.heard = heard;
+        Ok(came)
     }
 
     /// Hears no bell any more, so that a wait before the next fetch ends where anything was given. What a fetch takes goes by what the
     /// group knows: one that begins again gets all that the hub has.
     fn rewind(&mut self) {
-        self.heard = 0;
+        self.heard = Heard::nothing();
     }
 
     fn wait(&mut self) -> Option<u8> {
-        self.bell.wait_past(self.rt, self.heard)
+        self.bell.wait_past(self.rt, self.heard.rings())
     }
 
     fn stop(&mut self) {

@@ -3,7 +3,8 @@ ghost use Rattle.std.specs.Prelude.{◌≡◌, All, IfOk, map, vec_len};
 ghost use Rattle.wl_mail.specs.Posts.{with_sent};
 ghost use Rattle.wl_mail.specs.Ways.{one_more};
 
-use crate::bell::{Bell, MOST_WORKERS};
+use crate::bell::Bell;
+use crate::coming::{Heard, sent_by_others};
 use crate::link::{Link, LinkFault};
 use std::alloc::{AllocError, Global};
 use std::sync::Wait;
@@ -20,8 +21,8 @@ pub struct MailLink<'h, R: Wait> {
     plan: Plan,
     bell: &'h Bell,
     worker: u8,
-    // How often the bell had rung when the last fetch began; 0 after a rewind.
-    heard: u64,
+    // How often the bell had rung when the last fetch began; nothing after a rewind.
+    heard: Heard,
 }
 
 impl From<MailFault> for LinkFault {
@@ -59,19 +60,8 @@ impl<'h, R: Wait> MailLink<'h, R> {
             plan: plan.clone_in(alloc)?,
             bell,
             worker,
-            heard: 0,
+            heard: Heard::nothing(),
         })
-    }
-
-    /// How many letters the other workers have sent to this one, by the bell; 2^64 - 1 stands for more.
-    fn sent_by_others(&self) -> u64 {
-        let mut sent = 0u64;
-        for worker in 0..MOST_WORKERS as u8 {
-            if worker != self.worker {
-                sent = sent.saturating_add(self.bell.gives(self.rt, worker));
-            }
-        }
-        sent
     }
 }
 
@@ -107,8 +97,9 @@ impl<'h, R: Wait> Link for MailLink<'h, R> {
     fn fetch(&mut self, alloc: Global, group: &mut Group) -> Result<bool, LinkFault> {
         wl_replica::joining_is_a_join();
         wl_replica::taking_is_joining();
-        self.heard = self.bell.rings();
-        let sent = self.sent_by_others();
+        let rings = self.bell.rings();
+        let (sent, heard) = sent_by_others(self.rt, self.bell, self.worker, rings);
+        self.heard = heard;
         let end = sent.max(self.post.received() as u64);
         let mut came = false;
         for _ in self.post.handed() as u64..end {
@@ -120,11 +111,11 @@ impl<'h, R: Wait> Link for MailLink<'h, R> {
 
     fn rewind(&mut self) {
         self.post.rewind();
-        self.heard = 0;
+        self.heard = Heard::nothing();
     }
 
     fn wait(&mut self) -> Option<u8> {
-        self.bell.wait_past(self.rt, self.heard)
+        self.bell.wait_past(self.rt, self.heard.rings())
     }
 
     fn stop(&mut self) {

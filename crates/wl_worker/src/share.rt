@@ -1,5 +1,5 @@
 //! The nodes of a worker.
-ghost use Rattle.std.specs.Prelude.{◌≡◌, ◌<◌, ◌%◌, ℕ, true, IfOk, OnOk, length};
+ghost use Rattle.std.specs.Prelude.{◌≡◌, ◌<◌, ◌%◌, ◌==◌, ◌||◌, ◌&&◌, ℕ, IfOk, OnOk, length};
 ghost use Rattle.wl_plan.specs.Checked.{IsChecked};
 ghost use Rattle.wl_group.specs.GroupValue.{names};
 ghost use Rattle.wl_worker.specs.Shares.{AreBelow, IsShare};
@@ -27,8 +27,7 @@ pub(crate) fn share_of(
 fn members_of(alloc: Global, nodes: u8, workers: u8, worker: u8) -> Result<Vec<u8>, AllocError>
     requires { worker < workers }
     ensures below { IfOk result (λ members. AreBelow nodes members.items) }
-    ensures all { IfOk result (λ members. (i : ℕ) → i < nodes → i % workers ≡ worker
-        → names members.items i ≡ true) }
+    ensures all { IfOk result (λ members. (i : ℕ) → i < nodes → names members.items i ≡ (i % workers == worker)) }
 {
     let mut members = Vec::new(alloc);
     for i in 0..nodes {
@@ -40,8 +39,8 @@ fn members_of(alloc: Global, nodes: u8, workers: u8, worker: u8) -> Result<Vec<u
 /// One number more, if it is wanted.
 fn add_member(members: &mut Vec<u8>, i: u8, wanted: bool) -> Result<(), AllocError>
     ensures below { OnOk result ((n : ℕ) → i < n → AreBelow n members.old.items → AreBelow n members.new.items) }
-    ensures kept { OnOk result ((k : ℕ) → names members.old.items k ≡ true → names members.new.items k ≡ true) }
-    ensures new { OnOk result (wanted ≡ true → names members.new.items i ≡ true) }
+    ensures named { OnOk result ((k : ℕ)
+        → names members.new.items k ≡ (names members.old.items k || (wanted && (i == k)))) }
 {
     if wanted {
         members.push(i)?;
