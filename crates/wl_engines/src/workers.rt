@@ -20,7 +20,11 @@ use wl_worker::{Gate, LinkKind, simulate_by};
 struct OpenGate;
 
 impl Gate for OpenGate {
-    fn turn(&self, _worker: u8, _turn: u64) -> bool {
+    ghost use Rattle.std.specs.Prelude.{◌≡◌, true};
+
+    fn turn(&self, _worker: u8, _turn: u64) -> bool
+        ensures { result ≡ true }
+    {
         true
     }
 }
