@@ -1,5 +1,5 @@
 #!/usr/bin/env python3
-"""Compares a program with plain.py on random inputs: standard output, the fault line and the status of all commands but candump and vcd.
+"""Compares a program with plain.py on random inputs: standard output, the fault line and the status of all commands but candump.
 
 usage: differ.py PROGRAM [SEED [COUNT [SYNC]]]     the same words give the same inputs; PROGRAM - runs plain.py alone
 SYNC is the key `sync` of every plan: inside, after, none (no key), wrong (some other value), mixed (any of these; the default), or
@@ -516,7 +516,7 @@ def main():
         rng = random.Random(f"{seed} {number}")
         records = rng.random() < 0.25
         text = record_input(rng) if records else plan_input(rng, random.Random(f"{seed} {number} sync"), sync)
-        for command in ("merge", "horizon") if records else ("check", "records", "run", "explain", "trace"):
+        for command in ("merge", "horizon") if records else ("check", "records", "run", "explain", "trace", "vcd"):
             out, fault, status = plain.answer(command, text)
             faults[re.sub(r"\b[0-9]+\b", "n", fault[7:-1])] += 1
             if program == "-": continue

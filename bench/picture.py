@@ -46,6 +46,7 @@ def picture(wave, events, start, end, title):
     body, top, rows = [], 34, {}
     for name, changes in wave:
         node, word = name.rsplit("_", 1)
+        if word not in ("tx", "rx", "sample"): continue
         if word == "sample":
             for tick, _ in changes:
                 if start < tick < end: body.append(f'<path class="s" d="M{place(tick):.1f} {top - ROW - 3}v{HIGH + 6}"/>')

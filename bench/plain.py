@@ -1,7 +1,7 @@
 #!/usr/bin/env python3
 """Wireline in plain Python: what the proved program is compared with.
 
-usage: plain.py merge|horizon|check|records|run|explain|trace      standard input to standard output
+usage: plain.py merge|horizon|check|records|run|explain|trace|vcd      standard input to standard output
 
 This is a second program, written from the rules and not from the proved one: whole lists, one quantum after another, no cleverness.
 Where both answer the same bytes on many inputs, a mistake would have to be in both. It shares no line with the proved program.
@@ -473,6 +473,9 @@ class Counters:
 
 # ---- Node: one quantum after another
 
+STATES = {"waiting": "idle", "sending": "transmitting", "ending": "receiving", "wait": "waiting", "suspend": "suspended", "off": "bus_off"}
+
+
 class Node:
     def __init__(self, setup):
         self.setup, self.bit_clock, self.machine, self.counters = setup, BitClock(setup.segments), Machine(), Counters()
@@ -481,6 +484,7 @@ class Node:
         self.changes, self.frames, self.phases = [], [], []
         self.samples = self.hards = self.errors = 0
         self.events = []
+        self.starts, self.sampled, self.states = [], [], [(-1, self.state())]
 
     def next_tick(self):
         return self.setup.clock.at(self.quanta)
@@ -493,8 +497,18 @@ class Node:
         if beat == "Start" and self.drive != self.machine.drive():
             self.drive = self.machine.drive()
             self.changes.append(self.next_tick())
-        if beat == "Sample": self.sample(level)
+        if beat == "Start": self.starts.append(self.next_tick())
+        if beat == "Sample":
+            self.sample(level)
+            self.sampled.append(self.next_tick())
+            self.states.append((self.next_tick(), self.state()))
         self.quanta += 1
+
+    def state(self):
+        """What it is at, in the words of a waveform: error counters, mode, and what it does."""
+        word = STATES.get(self.machine.state, self.machine.state)
+        if word == "flag": word = self.machine.flag_kind + "_flag"
+        return self.counters.tec, self.counters.rec, self.counters.mode(), word
 
     def sample(self, level):
         self.samples += 1
@@ -804,6 +818,45 @@ def trace_text(plan):
     return [line for _, line in sorted(lines, key=lambda line: line[0])]
 
 
+SIGNALS = (("wire 1", "t", "tx"), ("wire 1", "r", "rx"), ("wire 1", "s", "sample"), ("wire 1", "b", "start"),
+           ("real 64", "e", "tec"), ("real 64", "c", "rec"), ("string 1", "m", "mode"), ("string 1", "d", "state"))
+
+
+def waves(line, i, node):
+    """The signals of a node, each as a list of ticks from which on it has a value; tick -1 is before all."""
+    def turning(ticks, first): return [(-1, str(first))] + [(tick, str((first + turns) % 2)) for turns, tick in enumerate(ticks, 1)]
+
+    edges = [tick + delay for other, delay in zip(line.nodes, line.delays[i]) for tick in other.changes]
+    edges += [tick for disturbance in line.disturbed[i] for tick in disturbance]
+    found = [(-1, "1")] + [(tick, str(line.found(i, tick))) for tick in sorted(set(edges))]
+    states = [[(tick, at[part]) for tick, at in node.states] for part in range(4)]
+    tec, rec = ([(tick, f"r{count} ") for tick, count in counts] for counts in states[:2])
+    mode, state = ([(tick, f"s{word} ") for tick, word in words] for words in states[2:])
+    return turning(node.changes, RECESSIVE), found, turning(node.sampled, 0), turning(node.starts, 0), tec, rec, mode, state
+
+
+def vcd_text(plan):
+    """The waveform, with a tick of 1 ns (IEEE 1364-2005, clause 18.2)."""
+    nodes = simulate(plan)
+    line, lines, first, changes = Line(plan, nodes), ["$timescale 1 ns $end"], [], []
+    for i, (setup, node) in enumerate(zip(plan.nodes, nodes)):
+        lines += [f"$scope module {setup.name} $end"]
+        lines += [f"$var {kind} {letter}{i} {setup.name}_{word} $end" for kind, letter, word in SIGNALS] + ["$upscope $end"]
+        for (_, letter, _), wave in zip(SIGNALS, waves(line, i, node)):
+            now = [value for tick, value in wave if tick <= 0][-1]
+            first.append(f"{now}{letter}{i}")
+            for tick, value in wave:
+                if 0 < tick < plan.end and value != now: changes.append((tick, f"{value}{letter}{i}"))
+                if 0 < tick: now = value
+    lines += ["$enddefinitions $end", "#0", "$dumpvars", *first, "$end"]
+    last = 0
+    for tick, words in sorted(changes, key=lambda change: change[0]):
+        if tick != last: lines.append(f"#{tick}")
+        last = tick
+        lines.append(words)
+    return lines + [f"#{plan.end}"]
+
+
 def report_text(plan):
     nodes, lines = simulate(plan), []
     for i, node in enumerate(nodes):
@@ -883,6 +936,7 @@ COMMANDS = {
     "run": lambda text: report_text(read_plan(text)),
     "explain": lambda text: explain_text(read_plan(text)),
     "trace": lambda text: trace_text(read_plan(text)),
+    "vcd": lambda text: vcd_text(read_plan(text)),
 }
 
 

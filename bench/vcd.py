@@ -4,7 +4,8 @@
 usage: vcd.py PROGRAM PLAN..     needs gtkwave (vcd2fst, fst2vcd) and sigrok-cli with its decoders; vcd.sh installs them
 
 GTKWave's reader makes an FST file of each waveform, and what it reads back is compared, signal by signal: tx with the edges of `records`, rx with
-those edges a delay later and the plan's disturbances, worked out here, and the number of turns of each sample mark with the report. sigrok's decoder
+those edges a delay later and the plan's disturbances, worked out here, the number of turns of each sample mark with the report, and all values of every
+signal with the waveform of plain.py. sigrok's decoder
 `can` reads the rx of each node, and has to give back every frame that the report says was sent, in order, and no other. Left out is what that
 decoder doesn't know: error frames, which are cut out; remote frames of a data length code above 0, and a code above 8.
 """
@@ -16,6 +17,7 @@ import tomllib
 
 sys.dont_write_bytecode = True
 import candump
+import plain
 import sigrok
 
 TICKS = {"1ns": (1, 10**9), "125ps": (125, 10**12)}  # units a tick, units a second
@@ -34,7 +36,21 @@ def by_gtkwave(path):
         if not words or (time is None and words[0][0] != "#"): continue
         if words[0][0] == "#": time = int(words[0][1:])
         elif words[0][0] in "01": levels[names[words[0][1:]]].append((time, int(words[0][0])))
+        elif words[0][0] in "rs": levels[names[words[1]]].append((time, words[0][1:]))
     return levels, time
+
+
+def by_plain(text, units):
+    """The same of plain.py's waveform, read without another tool; times in units."""
+    lines, fault, status = plain.answer("vcd", text.encode())
+    if status: sys.exit(f"plain.py refuses the plan: {fault}")
+    names, levels, time = {}, {}, None
+    for words in map(str.split, lines.splitlines()):
+        if words[0] == "$var": names[words[3]], levels[words[4]] = words[4], []
+        elif words[0][0] == "#": time = int(words[0][1:]) * units
+        elif words[0][0] in "01": levels[names[words[0][1:]]].append((time, int(words[0][0])))
+        elif words[0][0] in "rs": levels[names[words[1]]].append((time, words[0][1:]))
+    return levels
 
 
 def edges_of(records, nodes):
@@ -82,6 +98,8 @@ def compare(path, plan, text, program, tick, room):
         wanted[node["name"] + "_rx"] = levels_of(line_at(plan, changes, j), plan["end"])
     for name, wave_levels in wanted.items():
         if levels[name] != [(tick * units, level) for tick, level in wave_levels]: sys.exit(f"{path}: {name} is {levels[name]}, wanted {wave_levels}")
+    for name, values in by_plain(text, units).items():
+        if levels[name] != values: sys.exit(f"{path}: {name} is {levels[name]}, plain.py has {values}")
     turns = [len(levels[node["name"] + "_sample"]) - 1 for node in plan["node"]]
     if turns != samples: sys.exit(f"{path}: the marks turn {turns} times, the report has {samples} samples")
     if last != plan["end"] * units: sys.exit(f"{path}: the waveform ends at {last}")
