@@ -9,6 +9,7 @@
 # - command lines that name no task, or are no text: status 2, and nothing on standard output
 # - a run that doesn't end in 300 seconds, as one whose workers wait for each other for ever, has failed
 # - a reader and a writer that fail, and threads that can't be made: status 3
+# - as many workers as were asked for, and by the link that was asked for
 # - each allocation refused in turn, of some commands and amid the events of a world; worlds that restart
 set -uo pipefail
 cd "$(dirname "$0")/.."
@@ -172,6 +173,11 @@ ended=0
 limited "$((limit + 8000))" --workers 8 || ended=$?
 is "threads that can't be made (status $ended: $(head -c 200 "$room/err"))" grep -qxE 'fault: (Worker\([0-7]\)|Memory)' "$room/err"
 is "threads that can't be made (status)" [ "$ended" = 3 -a ! -s "$room/out" ]
+# No clause says how many threads there are: eight workers don't fit into what is just enough for two.
+until limited "$limit" --workers 2 || [ "$limit" -gt 400000 ]; do limit=$((limit + 1000)); done
+ended=0
+limited "$limit" --workers 8 || ended=$?
+is "eight workers where there is room for two (status $ended)" [ "$ended" = 3 -a ! -s "$room/out" ]
 
 world=crates/world_rows/out/world_rows
 if [ -x "$world" ]; then
@@ -186,6 +192,11 @@ fi
 
 # Each allocation refused in turn, where there is a C compiler to make the library that does it.
 if command -v gcc > /dev/null; then
+  # No clause says by which link workers hand records over: each letter takes memory, and a record in a hub takes none.
+  gcc -O2 -shared -fPIC -o "$room/refuse.so" bench/refuse.c -ldl
+  calls() { REFUSE=0 LD_PRELOAD="$room/refuse.so" timeout 300 "$program" run --workers 2 --link "$1" < examples/clean_500k.toml 2>&1 > /dev/null | sed -n 's/^calls //p'; }
+  by_hub=$(calls hub) by_mail=$(calls mail)
+  is "the links (allocations by hub: $by_hub, by mail: $by_mail)" [ "${by_mail:-0}" -gt $((${by_hub:-999999} * 3 / 2)) ]
   is "merge, each allocation refused" bench/refuse.sh "$program" merge examples/records.txt
   is "horizon, each allocation refused" bench/refuse.sh "$program" horizon examples/records.txt
   is "run, each allocation refused" bench/refuse.sh "$program" run examples/clean_500k.toml
