@@ -9,7 +9,7 @@ use Rattle.std.proofs.lemmas.Bool.{cases_lt, le-leb, lt-leb, ltb-true, eqb-true,
 use Rattle.std.proofs.lemmas.Bool.{cond-true, cond-false}
 use Rattle.std.specs.Prelude.{◌==◌}
 use Rattle.wl_clock.specs.declared.Rate.{Rate}
-use Rattle.wl_clock.specs.Timing.{IsRate, ticks_at_rate, ticks_from, ticks_over, begin_after, in_order, slowest_rate}
+use Rattle.wl_clock.specs.Timing.{IsRate, ticks_at_rate, ticks_after, ticks_over, begin_after, in_order, slowest_rate}
 
 -- n divisors more raise a quotient by n at least
 div_raised : (a b d n : ℕ) → 0 < d → n * d ≤ b → a / d + n ≤ (a + b) / d
@@ -74,11 +74,11 @@ stretch_none r k h = let e : k - r.from ≡ 0 = omega arith in ap (λ d. d * r.n
 
 -- ---- several rates
 
-pub up_to_next : (r next : Rate) (rest : List Rate) (k : ℕ) → k ≤ next.from → ticks_from r (next ∷ rest) k ≡ ticks_at_rate r k
+pub up_to_next : (r next : Rate) (rest : List Rate) (k : ℕ) → k ≤ next.from → ticks_after r (next ∷ rest) k ≡ ticks_at_rate r k
 up_to_next r next rest k h = cond-true _ _ _ (le-leb k next.from h)
 
 pub behind_next : (r next : Rate) (rest : List Rate) (k : ℕ) → next.from < k
-    → ticks_from r (next ∷ rest) k ≡ ticks_at_rate r next.from + ticks_from next rest k
+    → ticks_after r (next ∷ rest) k ≡ ticks_at_rate r next.from + ticks_after next rest k
 behind_next r next rest k h = cond-false _ _ _ (lt-leb k next.from h)
 
 pub next_later : (from : ℕ) (next : Rate) (rest : List Rate) → IsTrue (begin_after from (next ∷ rest)) → from < next.from
@@ -88,7 +88,7 @@ pub rest_later : (from : ℕ) (next : Rate) (rest : List Rate) → IsTrue (begin
 rest_later from next rest h = (and_parts _ _ h).1
 
 -- before its first quantum, and at it, a rate takes no tick
-pub none_before : (r : Rate) (later : List Rate) → IsTrue (begin_after r.from later) → (k : ℕ) → k ≤ r.from → ticks_from r later k ≡ 0
+pub none_before : (r : Rate) (later : List Rate) → IsTrue (begin_after r.from later) → (k : ℕ) → k ≤ r.from → ticks_after r later k ≡ 0
 none_before r [] order k h = stretch_none r k h
 none_before r (next ∷ rest) order k h =
     let far = next_later r.from next rest order in
@@ -96,7 +96,7 @@ none_before r (next ∷ rest) order k h =
 
 -- so that both rates tell the tick of the quantum at which they meet
 from_next : (r next : Rate) (rest : List Rate) → IsTrue (begin_after r.from (next ∷ rest)) → (k : ℕ) → next.from ≤ k
-    → ticks_from r (next ∷ rest) k ≡ ticks_at_rate r next.from + ticks_from next rest k
+    → ticks_after r (next ∷ rest) k ≡ ticks_at_rate r next.from + ticks_after next rest k
 from_next r next rest order k h =
     elim (cases_lt next.from k) [
       | inl behind ↦ behind_next r next rest k behind
@@ -108,7 +108,7 @@ from_next r next rest order k h =
     ]
 
 pub one_low : (r : Rate) (later : List Rate) → All IsRate (r ∷ later) → IsTrue (begin_after r.from later) → (k : ℕ) → r.from ≤ k
-    → ticks_from r later k + 1 ≤ ticks_from r later (k + 1)
+    → ticks_after r later k + 1 ≤ ticks_after r later (k + 1)
 one_low r [] rates order k h = stretch_low r (first_of r [] rates) k h
 one_low r (next ∷ rest) rates order k h =
     elim (cases_lt k next.from) [
@@ -123,7 +123,7 @@ one_low r (next ∷ rest) rates order k h =
     ]
 
 pub one_high : (r : Rate) (later : List Rate) → All IsRate (r ∷ later) → IsTrue (begin_after r.from later) → (k : ℕ) → r.from ≤ k
-    → ticks_from r later (k + 1) ≤ ticks_from r later k + slowest_rate
+    → ticks_after r later (k + 1) ≤ ticks_after r later k + slowest_rate
 one_high r [] rates order k h = stretch_high r (first_of r [] rates) k h
 one_high r (next ∷ rest) rates order k h =
     elim (cases_lt k next.from) [
@@ -163,7 +163,7 @@ over_none (r ∷ next ∷ rest) = up_to_next r next rest 0 (omega arith) ∙ str
 -- ---- the least quantum that begins so late
 
 pub reached_behind : (r next : Rate) (rest : List Rate) → IsTrue (begin_after r.from (next ∷ rest)) → (ticks q : ℕ)
-    → ticks_at_rate r next.from < ticks → ticks - ticks_at_rate r next.from ≤ ticks_from next rest q → ticks ≤ ticks_from r (next ∷ rest) q
+    → ticks_at_rate r next.from < ticks → ticks - ticks_at_rate r next.from ≤ ticks_after next rest q → ticks ≤ ticks_after r (next ∷ rest) q
 reached_behind r next rest order ticks q passed reached =
     elim (cases_lt next.from q) [
       | inl behind ↦ (let e = behind_next r next rest q behind in omega arith)
@@ -171,8 +171,8 @@ reached_behind r next rest order ticks q passed reached =
     ]
 
 pub least_behind : (r next : Rate) (rest : List Rate) → IsRate r → IsTrue (begin_after r.from (next ∷ rest)) → (ticks q : ℕ)
-    → ticks_at_rate r next.from < ticks → ((k : ℕ) → k < q → ticks_from next rest k < ticks - ticks_at_rate r next.from)
-    → (k : ℕ) → k < q → ticks_from r (next ∷ rest) k < ticks
+    → ticks_at_rate r next.from < ticks → ((k : ℕ) → k < q → ticks_after next rest k < ticks - ticks_at_rate r next.from)
+    → (k : ℕ) → k < q → ticks_after r (next ∷ rest) k < ticks
 least_behind r next rest is order ticks q passed least k h =
     elim (cases_lt next.from k) [
       | inl behind ↦ (let e = behind_next r next rest k behind in let below = least k h in omega arith)
@@ -190,7 +190,7 @@ parts [] d some = absurd (omega arith)
 parts (r ∷ later) d some = ap (λ xs. r ∷ xs) (sym (take_all (length (r ∷ later) - 1) later (omega arith)))
 
 pub over_parts : (rates : List Rate) (d : Rate) → 1 ≤ length rates → (k : ℕ)
-    → ticks_over rates k ≡ ticks_from (slice_index_or rates 0 d) (take (length rates - 1) (drop 1 rates)) k
+    → ticks_over rates k ≡ ticks_after (slice_index_or rates 0 d) (take (length rates - 1) (drop 1 rates)) k
 over_parts rates d some k = ap (λ xs. ticks_over xs k) (parts rates d some)
 
 pub are_parts : (rates : List Rate) (d : Rate) → 1 ≤ length rates → All IsRate rates
@@ -198,8 +198,8 @@ pub are_parts : (rates : List Rate) (d : Rate) → 1 ≤ length rates → All Is
 are_parts rates d some is = subst (All IsRate) (parts rates d some) is
 
 pub from_parts : (r : Rate) (later : List Rate) (d : Rate) → 1 ≤ length later → (k : ℕ)
-    → ticks_from r later k ≡ ticks_from r (slice_index_or later 0 d ∷ take (length later - 1) (drop 1 later)) k
-from_parts r later d some k = ap (λ xs. ticks_from r xs k) (parts later d some)
+    → ticks_after r later k ≡ ticks_after r (slice_index_or later 0 d ∷ take (length later - 1) (drop 1 later)) k
+from_parts r later d some k = ap (λ xs. ticks_after r xs k) (parts later d some)
 
 pub rest_rates : (r : Rate) (later : List Rate) (d : Rate) → 1 ≤ length later → All IsRate (r ∷ later)
     → All IsRate (slice_index_or later 0 d ∷ take (length later - 1) (drop 1 later))

@@ -1,7 +1,7 @@
 -- How the ticks of a clock lie.
 use Rattle.std.proofs.Common.{◌≡◌, ◌∙◌, refl, sym, ap, subst, List, ◌∷◌, length, take, drop, slice_index_or, All, ℕ, zero, suc, ◌+◌, ◌-◌, ◌*◌, ◌<◌, ◌≤◌, arith}
 use Rattle.wl_clock.specs.declared.Rate.{Rate}
-use Rattle.wl_clock.specs.Timing.{Timing, IsRate, IsTiming, tick_of, ticks_at_rate, ticks_from, ticks_over, slowest_rate}
+use Rattle.wl_clock.specs.Timing.{Timing, IsRate, IsTiming, tick_of, ticks_at_rate, ticks_after, ticks_over, slowest_rate}
 use Rattle.wl_clock.proofs.Runs.{over_low, over_high, over_none, over_parts, are_parts}
 
 pub tick_is : (t : Timing) (k : ℕ) → tick_of t k ≡ t.offset + ticks_over t.rates k
@@ -61,7 +61,7 @@ tick_far t h k =
 
 -- the same over the first rate and the others
 pub tick_parts : (t : Timing) → IsTiming t → (rates : List Rate) → rates ≡ t.rates → (d : Rate) (k : ℕ)
-    → tick_of t k ≡ t.offset + ticks_from (slice_index_or rates 0 d) (take (length rates - 1) (drop 1 rates)) k
+    → tick_of t k ≡ t.offset + ticks_after (slice_index_or rates 0 d) (take (length rates - 1) (drop 1 rates)) k
 tick_parts t h rates e d k =
     let some : 1 ≤ length rates = subst (λ xs. 1 ≤ length xs) (sym e) h.some in
     let same = over_parts rates d some k in
@@ -79,4 +79,4 @@ rates_parts t h rates e d =
 pub tick_one : (t : Timing) → IsTiming t → (rates : List Rate) → rates ≡ t.rates → length rates ≡ 1 → (d : Rate) (k : ℕ)
     → tick_of t k ≡ t.offset + ticks_at_rate (slice_index_or rates 0 d) k
 tick_one t h rates e one d k =
-    tick_parts t h rates e d k ∙ ap (λ n. t.offset + ticks_from (slice_index_or rates 0 d) (take (n - 1) (drop 1 rates)) k) one
+    tick_parts t h rates e d k ∙ ap (λ n. t.offset + ticks_after (slice_index_or rates 0 d) (take (n - 1) (drop 1 rates)) k) one

@@ -40,14 +40,14 @@ ticks_at_rate r k = (k - r.from) * r.num / r.den
 
 -- The same over a rate and the later ones: up to the next rate's first quantum, that one too, by this rate; after it
 -- the ticks up to there, and from there on those of the later rates (this project's profile).
-abbrev pub ticks_from : Rate → List Rate → ℕ → ℕ
-ticks_from r [] k = ticks_at_rate r k
-ticks_from r (next ∷ later) k =
-    if nat_le k next.from then ticks_at_rate r k else ticks_at_rate r next.from + ticks_from next later k
+abbrev pub ticks_after : Rate → List Rate → ℕ → ℕ
+ticks_after r [] k = ticks_at_rate r k
+ticks_after r (next ∷ later) k =
+    if nat_le k next.from then ticks_at_rate r k else ticks_at_rate r next.from + ticks_after next later k
 
 abbrev pub ticks_over : List Rate → ℕ → ℕ
 ticks_over [] k = 0
-ticks_over (r ∷ later) k = ticks_from r later k
+ticks_over (r ∷ later) k = ticks_after r later k
 
 -- the tick at which quantum k begins (this project's profile)
 unfoldable pub tick_of : Timing → ℕ → ℕ

@@ -20,7 +20,7 @@ pub use laws::ticks_increase;
 use quotients::inverse;
 use refusals::{any_bad_from, any_big_den, any_too_fast, any_too_slow, any_zero_den, in_order};
 use std::marker::Model;
-use stretches::{first_from, quick_first, quick_stretch, ticks_from};
+use stretches::{first_from, quick_first, quick_stretch, ticks_after};
 use thiserror::Error;
 
 /// Why an offset and rates make no clock.
@@ -237,7 +237,7 @@ impl Clock {
         if rates.len() == 1 {
             return quick_stretch(&rates[0], self.inverse_of_den, k) + self.offset;
         }
-        ticks_from(&rates[0], &rates[1..], k) + self.offset
+        ticks_after(&rates[0], &rates[1..], k) + self.offset
     }
 
     /// The least quantum that begins at tick `t` or later, for `t` below 2^48.

@@ -1,6 +1,6 @@
 //! Stretches of quanta that go at one rate each.
 ghost use Rattle.std.specs.Prelude.{◌≡◌, ℕ, ◌+◌, ◌-◌, ◌*◌, ◌^◌, ◌<◌, ◌≤◌, IsTrue, All, ◌∷◌};
-ghost use Rattle.wl_clock.specs.Timing.{IsRate, begin_after, slowest_rate, ticks_at_rate, ticks_from};
+ghost use Rattle.wl_clock.specs.Timing.{IsRate, begin_after, slowest_rate, ticks_at_rate, ticks_after};
 
 use crate::Rate;
 use crate::quotients::quotient;
@@ -53,16 +53,16 @@ pub fn quick_first(rate: &Rate, inverse: u64, ticks: u64) -> u64
 }
 
 /// How many ticks after the first quantum of a rate quantum `k` begins, where later rates follow.
-pub fn ticks_from(rate: &Rate, later: &[Rate], k: u64) -> u64
+pub fn ticks_after(rate: &Rate, later: &[Rate], k: u64) -> u64
     requires rates { All IsRate (rate.now ∷ later.now) }
     requires order { IsTrue (begin_after rate.now.from later.now) }
     requires begun { rate.now.from ≤ k }
     requires near { k ≤ 2 ^ 21 }
-    ensures ticks { result ≡ ticks_from rate.now later.now k }
+    ensures ticks { result ≡ ticks_after rate.now later.now k }
     ensures high { result ≤ (k - rate.now.from) * slowest_rate }
 {
     match later {
-        [next, rest @ ..] if next.from < k => stretch(rate, next.from) + ticks_from(next, rest, k),
+        [next, rest @ ..] if next.from < k => stretch(rate, next.from) + ticks_after(next, rest, k),
         _ => stretch(rate, k),
     }
 }
@@ -73,8 +73,8 @@ pub fn first_from(rate: &Rate, later: &[Rate], ticks: u64) -> u64
     requires order { IsTrue (begin_after rate.now.from later.now) }
     requires some { 0 < ticks }
     requires near { ticks < 2 ^ 48 }
-    ensures reached { ticks ≤ ticks_from rate.now later.now result }
-    ensures least { (k : ℕ) → k < result → ticks_from rate.now later.now k < ticks }
+    ensures reached { ticks ≤ ticks_after rate.now later.now result }
+    ensures least { (k : ℕ) → k < result → ticks_after rate.now later.now k < ticks }
     ensures soon { result ≤ rate.now.from + ticks }
 {
     if let [next, rest @ ..] = later {

@@ -7,7 +7,7 @@ use Rattle.wl_replica.specs.Laws.{TakingIsJoining, IsJoining}
 use Rattle.wl_plan.specs.declared.plan.Plan.{Plan}
 use Rattle.wl_group.specs.GroupValue.{GroupValue, with_records}
 use Rattle.wl_mail.specs.Truth.{AreTrueOfPlan}
-use Rattle.wl_mail.specs.Handed.{Took, HasChanged, IsNews}
+use Rattle.wl_mail.specs.Handed.{Took, TellsNews, IsNews}
 
 -- ---- nothing, and more of them
 
@@ -32,7 +32,7 @@ one_longer rs i d b = rw add-one (take-suc rs i d b)
 
 -- ---- whether it changed
 
-pub changed_one : (old new : GroupValue) (r : Record) (answer : Bool) → new ≡ with_records (r ∷ []) old → IsNews old.replica r answer → HasChanged old new answer
+pub changed_one : (old new : GroupValue) (r : Record) (answer : Bool) → new ≡ with_records (r ∷ []) old → IsNews old.replica r answer → TellsNews old new answer
 changed_one old new r true e h = λ same. h (sym (ap (λ (g : GroupValue). g.replica) e) ∙ same)
 changed_one old new r false e h = e ∙ ap (λ (s : State). record { plan = old.plan; ran = old.ran; replica = s; emitted = old.emitted }) h
 
@@ -55,7 +55,7 @@ changed_before laws a b c xs ys d e h same =
     h (x ∙ stays_joined laws a.replica (state_of a.replica.nodes xs) (state_of b.replica.nodes ys) (ap (λ (z : State). z.nodes) x) both)
 
 pub changed_more : IsJoining → (a b c : GroupValue) (xs ys : List Record) → b ≡ with_records xs a → c ≡ with_records ys b
-    → (x y : Bool) → HasChanged a b x → HasChanged b c y → HasChanged a c (x || y)
+    → (x y : Bool) → TellsNews a b x → TellsNews b c y → TellsNews a c (x || y)
 changed_more laws a b c xs ys d e true y h g = changed_before laws a b c xs ys d e h
 changed_more laws a b c xs ys d e false true h g = subst (λ (z : GroupValue). c.replica ≢ z.replica) h g
 changed_more laws a b c xs ys d e false false h g = g ∙ h

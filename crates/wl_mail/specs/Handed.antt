@@ -13,8 +13,8 @@ pub record Took (old new : GroupValue) : Type 0 where
   pub taken : new ≡ with_records more old
 
 -- whether that changed what it knows
-abbrev pub HasChanged : GroupValue → GroupValue → Bool → Type 0
-HasChanged old new answer = MatchBool answer (new.replica ≢ old.replica) (new ≡ old)
+abbrev pub TellsNews : GroupValue → GroupValue → Bool → Type 0
+TellsNews old new answer = MatchBool answer (new.replica ≢ old.replica) (new ≡ old)
 
 -- whether a record says something that a state doesn't know
 abbrev pub IsNews : State → Record → Bool → Type 0

@@ -2,7 +2,7 @@
 ghost use Rattle.std.specs.Prelude.{◌≡◌, ◌≢◌, ◌↔◌, ℕ, Err, IfOk, OnOk, take, true};
 ghost use Rattle.wl_group.specs.GroupValue.{with_records};
 ghost use Rattle.wl_mail.specs.Truth.{AreTrueOfPlan, are_true_of_plan};
-ghost use Rattle.wl_mail.specs.Handed.{Took, HasChanged};
+ghost use Rattle.wl_mail.specs.Handed.{Took, TellsNews};
 ghost use Rattle.wl_mail.specs.declared.fault.MailFault.TheVariants.{Foreign, Gone};
 
 use crate::fault::MailFault;
@@ -42,7 +42,7 @@ impl Letter {
         ensures all { OnOk result (group.new ≡ with_records self.now.records.items group.old) }
         ensures first { (k : ℕ) × (group.new ≡ with_records (take k self.now.records.items) group.old) }
         ensures took { Took group.old group.new }
-        ensures changed { IfOk result (λ b. HasChanged group.old group.new b) }
+        ensures changed { IfOk result (λ b. TellsNews group.old group.new b) }
         ensures plan { OnOk result (self.now.plan ≡ group.old.plan) }
         ensures foreign { result ≡ Err Foreign ↔ (self.now.plan ≢ group.old.plan) }
         ensures untouched { result ≡ Err Foreign → group.new ≡ group.old }

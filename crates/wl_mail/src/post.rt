@@ -1,9 +1,9 @@
 //! Posts: the ends of the channels between workers.
 ghost use Rattle.std.specs.Prelude.{◌≡◌, ◌≢◌, ◌⊎◌, ℕ, suc, ◌-◌, ◌<◌, Err, All, IfOk, OnOk, OnErr, map, vec_len, length};
 ghost use Rattle.wl_mail.specs.Truth.{AreTrueOfPlan};
-ghost use Rattle.wl_mail.specs.Handed.{Took, HasChanged};
+ghost use Rattle.wl_mail.specs.Handed.{Took, TellsNews};
 ghost use Rattle.wl_mail.specs.Posts.{initial_post, with_sent, rewound, KeepsLetters, HandedOut};
-ghost use Rattle.wl_mail.specs.Ways.{one_more, one_more_to};
+ghost use Rattle.wl_mail.specs.Ways.{one_letter_more, one_letter_more_to};
 ghost use Rattle.wl_mail.specs.declared.fault.MailFault.TheVariants.{Foreign, Gone, Memory};
 
 use crate::fault::MailFault;
@@ -57,8 +57,8 @@ impl Post {
         records: &[Record],
     ) -> Result<(), MailFault>
         requires { AreTrueOfPlan plan.now records.now }
-        ensures all { OnOk result (self.new ≡ with_sent (map one_more self.old.sent) self.old) }
-        ensures some { (k : ℕ) × (self.new ≡ with_sent (one_more_to k self.old.sent) self.old) }
+        ensures all { OnOk result (self.new ≡ with_sent (map one_letter_more self.old.sent) self.old) }
+        ensures some { (k : ℕ) × (self.new ≡ with_sent (one_letter_more_to k self.old.sent) self.old) }
         ensures cause { result ≢ Err Foreign }
     {
         self.ways.send(rt, alloc, plan, records)
@@ -79,7 +79,7 @@ impl Post {
         ensures kept { KeepsLetters self.old self.new }
         ensures handed { OnOk result (HandedOut self.old self.new group.old group.new) }
         ensures took { Took group.old group.new }
-        ensures changed { IfOk result (λ b. HasChanged group.old group.new b) }
+        ensures changed { IfOk result (λ b. TellsNews group.old group.new b) }
         ensures untouched { (result ≡ Err Foreign) ⊎ (result ≡ Err Gone) → group.new ≡ group.old }
         ensures foreign { result ≡ Err Foreign → self.new.handed ≡ suc self.old.handed }
         ensures gone { result ≡ Err Gone → self.new ≡ self.old × (self.old.handed ≡ length self.old.kept) }

@@ -3,7 +3,7 @@ ghost use Rattle.std.specs.Prelude.{◌≡◌, ◌≢◌, ℕ, IfOk, MatchBool, 
 ghost use Rattle.wl_plan.specs.PlanLine.{IsTrueOfPlan};
 ghost use Rattle.wl_group.specs.GroupValue.{with_records};
 ghost use Rattle.wl_mail.specs.Truth.{AreTrueOfPlan};
-ghost use Rattle.wl_mail.specs.Handed.{HasChanged, IsNews};
+ghost use Rattle.wl_mail.specs.Handed.{TellsNews, IsNews};
 
 use std::alloc::AllocError;
 use wl_group::Group;
@@ -19,7 +19,7 @@ pub(crate) fn take_all(group: &mut Group, records: &[Record]) -> Result<bool, Al
     requires { AreTrueOfPlan group.old.plan records.now }
     ensures all { OnOk result (group.new ≡ with_records records.now group.old) }
     ensures first { (k : ℕ) × (group.new ≡ with_records (take k records.now) group.old) }
-    ensures changed { IfOk result (λ b. HasChanged group.old group.new b) }
+    ensures changed { IfOk result (λ b. TellsNews group.old group.new b) }
 {
     joining_is_a_join();
     taking_is_joining();
@@ -37,7 +37,7 @@ fn take_one(group: &mut Group, entry: Record) -> Result<bool, AllocError>
     requires { IsTrueOfPlan group.old.plan entry }
     ensures ok { OnOk result (group.new ≡ with_records (entry ∷ []) group.old) }
     ensures err { OnErr result (group.new ≡ group.old) }
-    ensures changed { IfOk result (λ b. HasChanged group.old group.new b) }
+    ensures changed { IfOk result (λ b. TellsNews group.old group.new b) }
 {
     let news = is_news(group.replica(), entry);
     group.take(entry)?;

@@ -1,7 +1,7 @@
 //! The ways from a worker to all other workers.
 ghost use Rattle.std.specs.Prelude.{◌≡◌, ◌≢◌, ℕ, ◌-◌, ◌<◌, Err, IfOk, OnOk, OnErr, map, replicate, length};
 ghost use Rattle.wl_mail.specs.Truth.{AreTrueOfPlan};
-ghost use Rattle.wl_mail.specs.Ways.{one_more, one_more_to};
+ghost use Rattle.wl_mail.specs.Ways.{one_letter_more, one_letter_more_to};
 ghost use Rattle.wl_mail.specs.declared.fault.MailFault.TheVariants.{Foreign};
 
 use crate::fault::MailFault;
@@ -38,7 +38,7 @@ impl Model for Ways {
 impl Way {
     /// Sends a letter that way.
     fn send<R: Wait>(&mut self, rt: &R, letter: Letter) -> Result<(), MailFault>
-        ensures ok { OnOk result (self.new.letters ≡ one_more self.old.letters) }
+        ensures ok { OnOk result (self.new.letters ≡ one_letter_more self.old.letters) }
         ensures err { OnErr result (self.new.letters ≡ self.old.letters) }
         ensures cause { result ≢ Err Foreign }
     {
@@ -63,8 +63,8 @@ impl Ways {
         records: &[Record],
     ) -> Result<(), MailFault>
         requires { AreTrueOfPlan plan.now records.now }
-        ensures all { OnOk result (self.new ≡ map one_more self.old) }
-        ensures some { (k : ℕ) × (self.new ≡ one_more_to k self.old) }
+        ensures all { OnOk result (self.new ≡ map one_letter_more self.old) }
+        ensures some { (k : ℕ) × (self.new ≡ one_letter_more_to k self.old) }
         ensures cause { result ≢ Err Foreign }
     {
         for i in 0..self.ways.len() {

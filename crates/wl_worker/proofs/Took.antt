@@ -12,7 +12,7 @@ use Rattle.wl_replica.specs.Laws.{TakingIsJoining, IsJoining}
 use Rattle.wl_plan.specs.declared.plan.Plan.{Plan}
 use Rattle.wl_plan.specs.PlanLine.{IsTrueOfPlan}
 use Rattle.wl_group.specs.GroupValue.{GroupValue, with_records}
-use Rattle.wl_worker.specs.Handed.{AreTrueOfPlan, Took, HasChanged}
+use Rattle.wl_worker.specs.Handed.{AreTrueOfPlan, Took, TellsNews}
 use Rattle.wl_mail.proofs.Callers.{with_nothing, with_both, changed_more}
 use Rattle.wl_worker.proofs.Steps.{took_plan}
 
@@ -64,5 +64,5 @@ silence_changes laws old new n c u less e same =
     let still : (silence_at new.replica (n, c)).word ≡ (silence_at old.replica (n, c)).word = ap (λ (x : State). (silence_at x (n, c)).word) same in
     absurd (omega arith)
 
-pub changed_both : IsJoining → (a b c : GroupValue) → Took a b → Took b c → (x y : Bool) → HasChanged a b x → HasChanged b c y → HasChanged a c (x || y)
+pub changed_both : IsJoining → (a b c : GroupValue) → Took a b → Took b c → (x y : Bool) → TellsNews a b x → TellsNews b c y → TellsNews a c (x || y)
 changed_both laws a b c t u = changed_more laws a b c t.more u.more t.taken u.taken

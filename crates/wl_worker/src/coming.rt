@@ -3,7 +3,7 @@ ghost use Rattle.std.specs.Prelude.{◌≡◌, ◌<◌, ◌||◌, ℕ, Some, IfO
 ghost use Rattle.wl_record_core.specs.declared.record.Record.TheVariants.{Edge, Silence};
 ghost use Rattle.wl_plan.specs.PlanLine.{IsTrueOfPlan};
 ghost use Rattle.wl_hub.specs.Passes.{IsPassOf, name_of};
-ghost use Rattle.wl_worker.specs.Handed.{Took, HasChanged};
+ghost use Rattle.wl_worker.specs.Handed.{Took, TellsNews};
 ghost use Rattle.wl_worker.specs.Shared.{name_of_plan, IsTrueOfName};
 
 use crate::bell::{Bell, MOST_WORKERS};
@@ -103,7 +103,7 @@ fn silence_seen(hub: &Hub<PlanName>, pass: &mut Pass<PlanName>, node: u8, count:
 fn learn_edge(group: &mut Group, node: u8, seq: u32, tick: u64) -> Result<bool, AllocError>
     requires { IsTrueOfPlan group.old.plan (Edge node seq tick) }
     ensures took { Took group.old group.new }
-    ensures changed { IfOk result (λ b. HasChanged group.old group.new b) }
+    ensures changed { IfOk result (λ b. TellsNews group.old group.new b) }
 {
     joining_is_a_join();
     slots_of_states();
@@ -119,7 +119,7 @@ fn learn_edge(group: &mut Group, node: u8, seq: u32, tick: u64) -> Result<bool, 
 fn learn_silence(group: &mut Group, node: u8, count: u32, until: u64) -> Result<bool, AllocError>
     requires { IsTrueOfPlan group.old.plan (Silence node count until) }
     ensures took { Took group.old group.new }
-    ensures changed { IfOk result (λ b. HasChanged group.old group.new b) }
+    ensures changed { IfOk result (λ b. TellsNews group.old group.new b) }
 {
     joining_is_a_join();
     slots_of_states();
@@ -149,7 +149,7 @@ fn learn_edges(
     ensures here { IsPassOf hub.now pass.new }
     ensures name { name_of pass.new ≡ name_of pass.old }
     ensures took { Took group.old group.new }
-    ensures changed { IfOk result (λ r. HasChanged group.old group.new r.0) }
+    ensures changed { IfOk result (λ r. TellsNews group.old group.new r.0) }
 {
     joining_is_a_join();
     taking_is_joining();
@@ -194,7 +194,7 @@ fn learn_node(
     ensures here { IsPassOf hub.now pass.new }
     ensures name { name_of pass.new ≡ name_of pass.old }
     ensures took { Took group.old group.new }
-    ensures changed { IfOk result (λ b. HasChanged group.old group.new b) }
+    ensures changed { IfOk result (λ b. TellsNews group.old group.new b) }
 {
     joining_is_a_join();
     taking_is_joining();
@@ -229,7 +229,7 @@ pub(crate) fn learn_all(
     ensures here { IsPassOf hub.now pass.new }
     ensures name { name_of pass.new ≡ name_of pass.old }
     ensures took { Took group.old group.new }
-    ensures changed { IfOk result (λ r. HasChanged group.old group.new r.0) }
+    ensures changed { IfOk result (λ r. TellsNews group.old group.new r.0) }
     ensures heard { IfOk result (λ r. r.1.rings ≡ rings) }
 {
     joining_is_a_join();

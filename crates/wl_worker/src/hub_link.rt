@@ -81,7 +81,7 @@ impl<'h, R: Wait> Link for HubLink<'h, R> {
     ghost use Rattle.std.specs.Prelude.{◌≡◌, OnOk};
     ghost use Rattle.wl_hub.specs.Passes.{given_edges, given_silences};
     ghost use Rattle.wl_plan.specs.declared.plan.Plan.{Plan as GivenPlan};
-    ghost use Rattle.wl_worker.specs.Handed.{AreTrueOfPlan, Took, HasChanged};
+    ghost use Rattle.wl_worker.specs.Handed.{AreTrueOfPlan, Took, TellsNews};
     ghost use Rattle.wl_worker.specs.Shared.{IsOfPlan, with_edges, with_silences};
 
     ghost is_of = { λ link plan. IsOfPlan link.hub.now link.pass plan };

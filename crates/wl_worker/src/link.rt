@@ -85,7 +85,7 @@ impl From<AllocError> for Fault {
 /// A call that fails keeps what it gave or took before the fault.
 pub trait Link {
     ghost use Rattle.wl_plan.specs.declared.plan.Plan.{Plan as GivenPlan};
-    ghost use Rattle.wl_worker.specs.Handed.{AreTrueOfPlan, Took, HasChanged};
+    ghost use Rattle.wl_worker.specs.Handed.{AreTrueOfPlan, Took, TellsNews};
 
     /// The link is of this plan.
     ghost is_of: { Self → GivenPlan → Type 0 };
@@ -107,7 +107,7 @@ pub trait Link {
         requires { is_of self.old group.old.plan }
         ensures same { (p : GivenPlan) → is_of self.old p → is_of self.new p }
         ensures took { Took group.old group.new }
-        ensures changed { IfOk result (λ b. HasChanged group.old group.new b) };
+        ensures changed { IfOk result (λ b. TellsNews group.old group.new b) };
 
     /// Begins again: what was fetched may be fetched again, all of it at the next `fetch`.
     fn rewind(&mut self)

@@ -1,7 +1,7 @@
 //! The link by letters.
 ghost use Rattle.std.specs.Prelude.{◌≡◌, All, IfOk, map, vec_len};
 ghost use Rattle.wl_mail.specs.Posts.{with_sent};
-ghost use Rattle.wl_mail.specs.Ways.{one_more};
+ghost use Rattle.wl_mail.specs.Ways.{one_letter_more};
 
 use crate::bell::Bell;
 use crate::coming::{Heard, sent_by_others};
@@ -69,8 +69,8 @@ impl<'h, R: Wait> Link for MailLink<'h, R> {
     ghost use Rattle.std.specs.Prelude.{◌≡◌, OnOk, map};
     ghost use Rattle.wl_plan.specs.declared.plan.Plan.{Plan as GivenPlan};
     ghost use Rattle.wl_mail.specs.Posts.{with_sent};
-    ghost use Rattle.wl_mail.specs.Ways.{one_more};
-    ghost use Rattle.wl_worker.specs.Handed.{AreTrueOfPlan, Took, HasChanged};
+    ghost use Rattle.wl_mail.specs.Ways.{one_letter_more};
+    ghost use Rattle.wl_worker.specs.Handed.{AreTrueOfPlan, Took, TellsNews};
 
     ghost is_of = { λ link plan. link.plan ≡ plan };
 
@@ -85,7 +85,7 @@ impl<'h, R: Wait> Link for MailLink<'h, R> {
         requires { (p : GivenPlan) × (self.old.plan ≡ p) × AreTrueOfPlan p records.now }
         ensures same { (p : GivenPlan) → self.old.plan ≡ p → self.new.plan ≡ p }
         ensures rewound { self.old.post.handed ≡ 0 → self.new.post.handed ≡ 0 }
-        ensures sent { OnOk result (self.new.post ≡ with_sent (map one_more self.old.post.sent) self.old.post) }
+        ensures sent { OnOk result (self.new.post ≡ with_sent (map one_letter_more self.old.post.sent) self.old.post) }
     {
         self.post.send(self.rt, alloc, &self.plan, records)?;
         self.bell.give(self.rt, self.worker);

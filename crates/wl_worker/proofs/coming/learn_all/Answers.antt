@@ -1,5 +1,5 @@
 use Rattle.std.proofs.Common.{◌∙◌, sym, subst}
-use Rattle.wl_worker.specs.Handed.{HasChanged}
+use Rattle.wl_worker.specs.Handed.{TellsNews}
 use Rattle.wl_worker.proofs.Named.{still_named}
 use Rattle.wl_worker.proofs.Steps.{took_plan}
 use Rattle.wl_worker.proofs.Took.{took_both, changed_both}
@@ -14,6 +14,6 @@ loop-node-preserved c =
       still_named _ c.loop-node.group c.learn_node.new.group took (c.in_ok-taken.ensures.name ∙ was.2),
       took_plan c.loop-node.group c.learn_node.new.group took ∙ was.3,
       took_both c.taking_is_joining.ensures c.args.group.now c.loop-node.group c.learn_node.new.group was.4 took,
-      subst (HasChanged c.args.group.now c.learn_node.new.group) (sym c.either-came.ensures)
+      subst (TellsNews c.args.group.now c.learn_node.new.group) (sym c.either-came.ensures)
           (changed_both c.joining_is_a_join.ensures c.args.group.now c.loop-node.group c.learn_node.new.group was.4 took c.loop-node.came c.in_ok-taken.taken was.5 c.in_ok-taken.ensures.changed),
     )

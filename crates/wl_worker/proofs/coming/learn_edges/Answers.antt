@@ -1,5 +1,5 @@
 use Rattle.std.proofs.Common.{◌∙◌, sym, subst}
-use Rattle.wl_worker.specs.Handed.{HasChanged}
+use Rattle.wl_worker.specs.Handed.{TellsNews}
 use Rattle.wl_worker.proofs.Named.{still_named}
 use Rattle.wl_worker.proofs.Took.{took_both, changed_both}
 use Rattle.wl_worker.proofs.coming.learn_edges.Goals as goal
@@ -15,6 +15,6 @@ loop-seq-preserved c =
       c.edge_seen.ensures.name ∙ was.1,
       still_named _ c.loop-seq.group c.learn_edge.new.group took (c.edge_seen.ensures.name ∙ was.2),
       took_both c.taking_is_joining.ensures c.args.group.now c.loop-seq.group c.learn_edge.new.group was.3 took,
-      subst (HasChanged c.args.group.now c.learn_edge.new.group) (sym c.either-came.ensures)
+      subst (TellsNews c.args.group.now c.learn_edge.new.group) (sym c.either-came.ensures)
           (changed_both c.joining_is_a_join.ensures c.args.group.now c.loop-seq.group c.learn_edge.new.group was.3 took c.loop-seq.came c.in_ok-taken.taken was.4 c.in_ok-taken.ensures.changed),
     )
