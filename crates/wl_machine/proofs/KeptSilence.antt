@@ -40,7 +40,7 @@ longest_run : (last : Level) (run : ℕ) (own : List Level) → run ≡ run_at_e
 longest_run Dominant run own e f = omega arith
 longest_run Recessive run own e f = omega arith
 
-silence_at : (heads : Bool) (state : State) (bits sent : List Level) (sort : Sort) (own : List Level) → IsAtState state bits sent sort own → state_silence heads state bits ≡ silence_by heads sort own
+pub silence_at : (heads : Bool) (state : State) (bits sent : List Level) (sort : Sort) (own : List Level) → IsAtState state bits sent sort own → state_silence heads state bits ≡ silence_by heads sort own
 silence_at heads (states.Integrating run) bits sent sort own h = sort_silence heads sort Integration own (10 - run) h.0 (let e = h.1 in omega arith)
 silence_at heads states.Idle bits sent sort own h = sort_silence heads sort Idle own (if heads then 0 else 5) h refl
 silence_at heads (states.Sending last run) bits sent sort own h = sort_silence heads sort (Framing (Some h.0)) own 0 h.1 (in_part heads (Some h.0) own Tx h.2 h.4.going_on)

@@ -14,5 +14,7 @@ mod Cut
 mod Heads
 mod RoleSteps
 mod Silent
+mod Resting
+mod KeptRest
 mod Rows
 mod Confined

@@ -10,10 +10,12 @@ use Rattle.wl_frame.specs.Grammar.{Content, bits_of, number_bits}
 use Rattle.wl_machine.specs.declared.state.Role.{Role}
 use Rattle.wl_machine.specs.declared.state.Role.TheVariants.{Tx, Rx}
 use Rattle.wl_machine.specs.Stretch.{Stretch, Sampled, Input, Ended}
-use Rattle.wl_machine.specs.Stretch.Sort.{Integration}
+use Rattle.wl_machine.specs.Stretch.Sort.{Integration, Flagging, Suspension}
+use Rattle.wl_machine.specs.Stretch.Flag.{PassiveFlag}
 use Rattle.wl_machine.specs.Stretch.Ended.{Sent, Received}
-use Rattle.wl_machine.specs.Stretch.Input.{Sample}
+use Rattle.wl_machine.specs.Stretch.Input.{Sample, SwitchedOff}
 use Rattle.wl_machine.specs.Judged.{judged, stretch_of, stretch_after, drive_of, role_of}
+use Rattle.wl_machine.specs.Rest.{rest_by, rest_of}
 
 abbrev heard : Level → Sampled
 heard level = record { level = level; head = None; mode = Active }
@@ -222,3 +224,98 @@ no_acknowledgement = refl
 
 crc_error_54 : (judged (turned_after 2) (heard Recessive)).happened ≡ happens.RxError Crc
 crc_error_54 = refl
+
+-- Of the two senders above the first has sent its frame with sample 59, the last of seven bits behind an ACK delimiter at 52; so both rest for ten samples after the
+-- acknowledgement, and the second begins its frame behind the three bits of the intermission, at 63.
+abbrev second_rest : ℕ → Option ℕ
+second_rest n = rest_of (pair_after (Some (base 256)) (Some (base 257)) n).second
+
+abbrev first_rest : ℕ → Option ℕ
+first_rest n = rest_of (pair_after (Some (base 256)) (Some (base 257)) n).first
+
+no_rest_50 : second_rest 50 ≡ None
+unfolding bits_of number_bits
+no_rest_50 = refl
+
+rests_51 : second_rest 51 ≡ Some 10
+unfolding bits_of number_bits
+rests_51 = refl
+
+sender_rests_51 : first_rest 51 ≡ Some 10
+unfolding bits_of number_bits
+sender_rests_51 = refl
+
+rests_59 : second_rest 59 ≡ Some 2
+unfolding bits_of number_bits
+rests_59 = refl
+
+rests_61 : second_rest 61 ≡ Some 0
+unfolding bits_of number_bits
+rests_61 = refl
+
+recessive_61 : drive_of (pair_after (Some (base 256)) (Some (base 257)) 61).second ≡ Recessive
+unfolding bits_of number_bits
+recessive_61 = refl
+
+begins_62 : drive_of (pair_after (Some (base 256)) (Some (base 257)) 62).second ≡ Dominant
+unfolding bits_of number_bits
+begins_62 = refl
+
+-- an integration has ten samples before that of its end
+integrates_for : rest_of (stretch_of []) ≡ Some 10
+integrates_for = refl
+
+-- behind the six bits of an error flag: eight of a delimiter and three of an intermission, the last of which is no rest
+abbrev flagged : ℕ → Stretch
+flagged n = stretch_of (all 11 Recessive ++ all 12 Dominant ++ all n Recessive)
+
+waits_for : rest_of (flagged 0) ≡ Some 10
+unfolding bits_of number_bits
+waits_for = refl
+
+delimits_for : rest_of (flagged 1) ≡ Some 9
+unfolding bits_of number_bits
+delimits_for = refl
+
+intermits_for : rest_of (flagged 8) ≡ Some 2
+unfolding bits_of number_bits
+intermits_for = refl
+
+intermits_no_more : rest_of (flagged 10) ≡ Some 0
+unfolding bits_of number_bits
+intermits_no_more = refl
+
+-- a frame that waits there begins with the next sample
+abbrev offered : Stretch → Stretch
+offered s = stretch_after s (Sample (record { level = Recessive; head = zero_frame; mode = Active }))
+
+sends_behind : drive_of (offered (flagged 10)) ≡ Dominant
+unfolding bits_of number_bits
+sends_behind = refl
+
+-- eight samples of a suspension; and 128 times 11 of bus off, of which the last is no rest
+abbrev suspended_for : ℕ → Stretch
+suspended_for n = record { sort = Suspension; own = replicate n Recessive }
+
+suspends_for : rest_of (suspended_for 0) ≡ Some 7
+suspends_for = refl
+
+suspends_no_more : rest_of (suspended_for 7) ≡ Some 0
+suspends_no_more = refl
+
+sends_behind_suspension : drive_of (offered (suspended_for 7)) ≡ Dominant
+unfolding bits_of number_bits
+sends_behind_suspension = refl
+
+off_for : rest_of (stretch_of (SwitchedOff ∷ [])) ≡ Some 1407
+off_for = refl
+
+off_for_less : rest_of (stretch_of (SwitchedOff ∷ all 30 Recessive)) ≡ Some 1377
+off_for_less = refl
+
+-- a passive flag of six bits before the delimiter, and one whose sixth equal bit is still to come
+passive_for : rest_by (Flagging (PassiveFlag false) Rx) [] ≡ Some 16
+passive_for = refl
+
+passive_for_less : rest_by (Flagging (PassiveFlag false) Rx) (Dominant ∷ Recessive ∷ Recessive ∷ []) ≡ Some 14
+passive_for_less = refl

@@ -7,5 +7,6 @@ pub mod Silence
 pub mod States
 pub mod Keeps
 pub mod Reached
+pub mod Rest
 pub mod Roles
 pub mod Laws

@@ -13,6 +13,7 @@ ghost use Rattle.wl_machine.specs.Stretch.Ended.{Sent as SentFrame};
 ghost use Rattle.wl_machine.specs.Frames.{stuffed_end};
 ghost use Rattle.wl_machine.specs.Judged.{judged, stretch_of, stretch_after, head_of};
 ghost use Rattle.wl_machine.specs.Laws.{HeadLaws, NoneEnds, FoundSent, longer_stretch};
+ghost use Rattle.wl_machine.specs.Rest.{RestLaws};
 ghost use Rattle.wl_machine.specs.Roles.{RoleLaws};
 ghost use Rattle.wl_machine.specs.Silence.{SilenceLaws};
 ghost use Rattle.wl_machine.specs.States.{stretch_by};
@@ -64,6 +65,12 @@ pub fn a_sent_frame_is_the_head_that_began_its_stretch()
 /// whatever it is to send, and also where it goes off the bus.
 pub fn a_silence_is_kept()
     ensures { SilenceLaws }
+{}
+
+/// Law: a machine at rest wants recessive with each recessive sample, for as many as its rest says whatever it is
+/// handed, and for ever as long as it is handed no frame; also where it goes off the bus.
+pub fn a_rest_is_kept()
+    ensures { RestLaws }
 {}
 
 /// Law: a node's role goes by its definition: what a sample counts as a transmitter's happens in the role of

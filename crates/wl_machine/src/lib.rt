@@ -2,7 +2,8 @@
 //! intermission, suspension and bus off (Bosch CAN 2.0 part B, sections 3, 6, 7 and 8).
 #![tactic(auto)]
 
-ghost use Rattle.std.specs.Prelude.{◌≡◌, ◌++◌, [], ◌∷◌, true, false, List, Option, None};
+ghost use Rattle.std.specs.Prelude.{◌≡◌, ◌++◌, [], ◌∷◌, ◌≤◌, ℕ, true, false, List, length, map, Option, Some, None};
+ghost use Rattle.std.specs.List.{All};
 ghost use Rattle.wl_machine.specs.Stretch.{Input};
 ghost use Rattle.wl_machine.specs.States.{IsReachedBy};
 
@@ -15,6 +16,7 @@ mod framing;
 pub mod laws;
 mod progress;
 mod quiet;
+mod rest;
 mod silence;
 mod state;
 
@@ -62,8 +64,9 @@ impl Machine {
     ghost use Rattle.wl_machine.specs.Judged.{judged, stretch_of, drive_of, is_free_sort, is_idle_sort};
     ghost use Rattle.wl_machine.specs.States.{sample_of, done_of};
     ghost use Rattle.wl_machine.specs.Keeps.{keeps};
+    ghost use Rattle.wl_machine.specs.Rest.{rest_of, IsRecessive};
     ghost use Rattle.wl_machine.specs.Silence.{silence_of};
-    ghost use Rattle.wl_machine.specs.Stretch.{continues};
+    ghost use Rattle.wl_machine.specs.Stretch.{Sampled, continues};
     ghost use Rattle.wl_frame.specs.Grammar.{Content};
     ghost use Rattle.wl_machine.specs.Reached.{IsMachine};
 
@@ -158,5 +161,18 @@ impl Machine {
         ensures { (past : List Input) → IsMachine self.now past → result ≡ silence_of heads (stretch_of past) }
     {
         self.progress.silence(heads)
+    }
+
+    /// For how many recessive samples more the machine is sure to want recessive, whatever frames it is handed and in
+    /// whatever modes: at most 1,407. `None` where it isn't at rest: in a frame before its ACK delimiter, where its CRC
+    /// sequence is wrong, and in a flag of six dominant bits. A machine at rest that is handed no frame goes on to a free bus
+    /// with recessive samples, and wants recessive all along (Bosch CAN 2.0 part B, sections 3.2 and 8, rule 12).
+    pub fn rest(&self) -> Option<u16>
+        ensures value { (past : List Input) → IsMachine self.now past → result ≡ rest_of (stretch_of past) }
+        ensures stands { (past : List Input) (more : List Sampled) (n : ℕ) → IsMachine self.now past → result ≡ Some n
+            → All IsRecessive more → length more ≤ n
+            → drive_of (stretch_of (past ++ map Sample more)) ≡ Level.Recessive }
+    {
+        self.progress.rest()
     }
 }

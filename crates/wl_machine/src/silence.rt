@@ -14,7 +14,7 @@ const INTEGRATED: u16 = 11;
 const SIX: u16 = 6;
 
 /// The bits of a suspension.
-const SUSPENDED: u16 = 8;
+pub const SUSPENDED: u16 = 8;
 
 /// With so many runs of eleven recessive samples a bus off ends.
 const RECOVERED: u16 = 128;
