@@ -1,8 +1,7 @@
 -- How many changes of a node are not after a tick, read from its list of changes.
-use Rattle.std.proofs.Common.{◌≡◌, ℕ, ◌+◌, ◌-◌, ◌<◌, ◌≤◌, Bool, false, ◌&&◌, inl, inr, List, [], ◌∷◌, length, get_or, sym, ◌∙◌, ap, arith, nat_le, nat_lt}
+use Rattle.std.proofs.Common.{◌≡◌, ℕ, ◌+◌, ◌-◌, ◌<◌, ◌≤◌, Bool, false, ◌&&◌, inl, inr, List, length, get_or, sym, ◌∙◌, ap, arith, nat_lt}
 use Rattle.std.proofs.lemmas.Bool.{le-leb, lt-leb, cases_lt}
 use Rattle.std.proofs.lemmas.List.Sums.{count_by-le-length}
-use Rattle.std.proofs.Math.Bool.{and-false}
 use Rattle.wl_record_core.specs.Truth.{count_below, odd, IsIncreasing}
 use Rattle.wl_record_core.specs.TableLaws.{TableLaws}
 use Rattle.wl_serial.specs.Heard.{drove}
@@ -36,16 +35,3 @@ drove_stays table xs delay count t u v order begun is odd_count later before =
 -- before a delay has passed nothing has come
 pub nothing_yet : (xs : List ℕ) (delay u : ℕ) → u < delay → drove xs delay u ≡ false
 nothing_yet xs delay u early = ap (λ w. w && odd (count_below (u - delay + 1) xs)) (lt-leb delay u early)
-
--- where there is no change, nothing comes
-pub none_to_come : (xs : List ℕ) (delay u : ℕ) → length xs ≡ 0 → drove xs delay u ≡ false
-none_to_come [] delay u e = and-false (nat_le delay u)
-none_to_come (x ∷ xs) delay u e = absurd (omega (arith, e))
-
--- where the last one has come, all have
-pub all_stay : TableLaws → (xs : List ℕ) (delay come u : ℕ) → IsIncreasing xs → come ≡ length xs → 0 < come → get_or xs (come - 1) 0 + delay ≤ u → drove xs delay u ≡ odd come
-all_stay table xs delay come u order all some past =
-    let least = reached table xs (come - 1) (u - delay) order (omega (arith, all, some)) (omega (arith, past)) in
-    let most = count_by-le-length (λ v. nat_lt v (u - delay + 1)) xs in
-    ap (λ w. w && odd (count_below (u - delay + 1) xs)) (le-leb delay u (omega (arith, past)))
-    ∙ ap odd (let e : count_below (u - delay + 1) xs ≡ come = omega (arith, least, most, all, some) in e)

@@ -136,7 +136,7 @@ own_left_out plan j others i own so_far = (
 )
 
 -- where there is an element, one of them
-one_of : (rs : List Running) (i : ℕ) → i < length rs → Running
+pub one_of : (rs : List Running) (i : ℕ) → i < length rs → Running
 one_of [] i b = absurd (omega (arith, b))
 one_of (r ∷ rs) i b = r
 

@@ -1,6 +1,8 @@
 mod Counts
+mod Expected
 mod Found
 mod Hearing
+mod Kept
 mod Known
 mod Rows
 mod Runners

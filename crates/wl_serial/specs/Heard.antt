@@ -1,5 +1,6 @@
 -- What a place hears, and for how long it stays so. This project's profile.
-use Rattle.std.specs.Prelude.{◌≡◌, ℕ, ◌+◌, ◌-◌, ◌<◌, ◌≤◌, ◌&&◌, Bool, List, [], ◌∷◌, ◌++◌, length, ◌≢◌, nat_le, slice_index_or}
+use Rattle.std.specs.Prelude.{◌≡◌, ℕ, zero, suc, ◌+◌, ◌^◌, false, ◌-◌, ◌<◌, ◌≤◌, ◌&&◌, Bool, List, [], ◌∷◌, ◌++◌, length, ◌≢◌, nat_le, slice_index_or}
+use Rattle.std.specs.Int.{from_bool}
 use Rattle.wl_level.specs.declared.Level.{Level}
 use Rattle.wl_record_core.specs.Truth.{count_below, odd}
 use Rattle.wl_topology.specs.Delays.{delay_of}
@@ -11,6 +12,7 @@ use Rattle.wl_plan.specs.PlanLine.{line_of, disturbed, is_at}
 use Rattle.wl_plan.specs.Simulation.{level}
 use Rattle.wl_serial.specs.declared.pulse.Pulse.{Pulse}
 use Rattle.wl_serial.specs.declared.ear.Ear.{Ear}
+use Rattle.wl_serial.specs.declared.sources.Sources.{Sources}
 use Rattle.wl_serial.specs.declared.ear.Found.{Found}
 use Rattle.wl_serial.specs.declared.running_node.Running.{Running}
 use Rattle.wl_serial.specs.Running.{finds}
@@ -29,7 +31,7 @@ IsPulse dominant p = (t : ℕ) → p.from ≤ t → t < p.until → dominant t �
 
 -- these are the delays from each node to place j
 abbrev pub AreDelays : Plan → ℕ → List ℕ → Type 0
-AreDelays plan j delays = (length delays ≡ length plan.nodes) × ((i d : ℕ) → i < length delays → slice_index_or delays i d ≡ delay_of plan.topology i j)
+AreDelays plan j delays = (length delays ≡ most_places) × ((i d : ℕ) → i < length plan.nodes → slice_index_or delays i d ≡ delay_of plan.topology i j)
 
 -- the delays from each other node to place j, and some from its own
 pub record AreOthers (plan : Plan) (j : ℕ) (others : List ℕ) : Type 0 where
@@ -37,9 +39,22 @@ pub record AreOthers (plan : Plan) (j : ℕ) (others : List ℕ) : Type 0 where
   pub each : (i d : ℕ) → i < length plan.nodes → i ≢ j → slice_index_or others i d ≡ delay_of plan.topology i j
   pub some : (i d : ℕ) → i < length others → 1 ≤ slice_index_or others i d
 
+-- how many of the numbers below n pass
+abbrev pub passing : (ℕ → Bool) → ℕ → ℕ
+passing test zero = 0
+passing test (suc n) = passing test n + from_bool (test n)
+
+-- what is kept of n nodes: no change comes from beyond them, and so many of them drive dominant
+pub record AreKept (n : ℕ) (s : Sources) : Type 0 where
+  pub nexts : length s.nexts ≡ most_places
+  pub drives : length s.drives ≡ most_places
+  pub beyond : (i : ℕ) → n ≤ i → i < most_places → 2 ^ 63 ≤ slice_index_or s.nexts i 0
+  pub driving : s.driving ≡ passing (λ i. slice_index_or s.drives i false) n
+
 -- what a place keeps
 pub record IsEar (plan : Plan) (j : ℕ) (ear : Ear) : Type 0 where
-  pub delays : AreDelays plan j ear.delays.items
+  pub delays : AreDelays plan j ear.delays
+  pub sources : AreKept (length plan.nodes) ear.sources
   pub others : AreOthers plan j ear.others
   pub shaken : IsPulse (disturbed plan j) ear.shaken
 
@@ -61,16 +76,37 @@ abbrev pub tells : List Running → Running → ℕ → ℕ → Bool
 tells rs d i u = odd (count_below (u + 1) (slice_index_or rs i d).changes)
 
 -- At each tick of the pulse, the changes that the nodes have told make it at place j as the pulse says.
-abbrev pub IsHeard : Plan → List Running → ℕ → Pulse → Type 0
-IsHeard plan rs j p = (d : Running) (t : ℕ) → p.from ≤ t → t < p.until → driven (length plan.nodes) (delay_of plan.topology) (tells rs d) j t ≡ p.dominant
+abbrev pub IsTold : Plan → List Running → ℕ → Pulse → Type 0
+IsTold plan rs j p = (d : Running) (t : ℕ) → p.from ≤ t → t < p.until → driven (length plan.nodes) (delay_of plan.topology) (tells rs d) j t ≡ p.dominant
+
+-- From tick t on and until the next change of a node comes to place j, its changes make there what is kept.
+abbrev pub AreSources : Plan → List Running → ℕ → ℕ → Sources → Type 0
+AreSources plan rs j t s =
+    (i u : ℕ) (d : Running) → i < length plan.nodes → t ≤ u → u < slice_index_or s.nexts i 0
+    → drove (slice_index_or rs i d).changes (delay_of plan.topology i j) u ≡ slice_index_or s.drives i false
+
+-- a change of node i comes at this tick, or sooner; all else stays
+pub record AreSooner (i comes : ℕ) (old new : Sources) : Type 0 where
+  pub drives : new.drives ≡ old.drives
+  pub driving : new.driving ≡ old.driving
+  pub all : length new.nexts ≡ length old.nexts
+  pub others : (k : ℕ) → k ≢ i → slice_index_or new.nexts k 0 ≡ slice_index_or old.nexts k 0
+  pub few : slice_index_or new.nexts i 0 ≤ slice_index_or old.nexts i 0
+  pub comes_then : slice_index_or new.nexts i 0 ≤ comes
+
+-- What place j has heard, from a tick on that is no later than its next quantum.
+pub record IsHeard (plan : Plan) (rs : List Running) (j : ℕ) (ear : Ear) : Type 0 where
+  pub told : IsTold plan rs j ear.heard
+  pub sources : AreSources plan rs j ear.heard.from ear.sources
+  pub begun : (d : Running) → ear.heard.from ≤ (slice_index_or rs j d).next
 
 -- at each place
 abbrev pub AreHeard : Plan → List Running → List Ear → Type 0
-AreHeard plan rs ears = (j : ℕ) (d : Ear) → j < length ears → IsHeard plan rs j (slice_index_or ears j d).heard
+AreHeard plan rs ears = (j : ℕ) (d : Ear) → j < length ears → IsHeard plan rs j (slice_index_or ears j d)
 
--- node i has told one change more, at this tick
+-- node i has run on, and told one change more, at this tick
 abbrev pub HasChanged : ℕ → ℕ → List Running → Running → Type 0
-HasChanged i tick rs r = (d : Running) → r.changes ≡ (slice_index_or rs i d).changes ++ tick ∷ []
+HasChanged i tick rs r = (d : Running) → (r.changes ≡ (slice_index_or rs i d).changes ++ tick ∷ []) × ((slice_index_or rs i d).next ≤ r.next)
 
 -- Node j finds this level at each tick from one on and below another one, as long as these changes tell its own drive.
 abbrev pub StaysWhile : Plan → ℕ → List ℕ → ℕ → ℕ → Level → Type 0

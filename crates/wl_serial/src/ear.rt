@@ -1,28 +1,25 @@
 //! What a node finds on the line, and for how long, by how far the nodes have run.
-ghost use Rattle.std.specs.Prelude.{◌≡◌, ℕ, ◌+◌, ◌<◌, ◌≤◌, ◌^◌, ◌||◌, IfOk, List, length, set, slice_index_or};
+ghost use Rattle.std.specs.Prelude.{◌≡◌, ℕ, ◌+◌, ◌<◌, ◌≤◌, ◌^◌, ◌||◌, List, length, set, slice_index_or};
 ghost use Rattle.wl_level.specs.Levels.{level_of};
 ghost use Rattle.wl_plan.specs.Checked.{IsChecked};
-ghost use Rattle.wl_serial.specs.Heard.{AreMade, AreDelays, AreOthers, IsEar, AreEars, IsFound, IsHeard, AreHeard, HasChanged};
+ghost use Rattle.wl_serial.specs.Heard.{AreMade, AreDelays, AreOthers, AreSooner, IsEar, AreEars, IsFound, IsTold, IsHeard, AreHeard, HasChanged};
 ghost use Rattle.wl_serial.specs.Running.{AreRunning, AreKnown, KnowsOthers, RunsBelow, AllKnown};
 
-use crate::pulse::{Pulse, SILENCE, pulse_of};
+use crate::pulse::{Pulse, SILENCE};
 use crate::running_node::{Running, Ticks};
 use crate::shaken::shaken_at;
-use std::alloc::{AllocError, Global};
+use crate::sources::Sources;
 use wl_level::Level;
 use wl_plan::Plan;
 use wl_topology::MOST_NODES;
 
-/// For each node, how many of its changes had come when they were last asked for. It speeds up the next time, and decides nothing.
-pub(crate) type Come = [usize; MOST_NODES];
-
-/// What a place keeps of the line: the delay from each node, the delay from each other node, what has come from it, what the disturbances make, and what the nodes make
-/// by the changes that they have told.
+/// What a place keeps of the line: the delay from each node and from each other node, what comes from each node, what the disturbances make,
+/// and what the nodes make by the changes that they have told.
 #[derive(Drop)]
 pub(crate) struct Ear {
-    pub(crate) delays: Vec<u64>,
+    pub(crate) delays: Ticks,
     pub(crate) others: Ticks,
-    pub(crate) come: Come,
+    pub(crate) sources: Sources,
     pub(crate) shaken: Pulse,
     pub(crate) heard: Pulse,
 }
@@ -36,23 +33,19 @@ pub(crate) struct Found {
 
 impl Ear {
     /// The ear of node `j`, which has heard nothing.
-    pub(crate) fn new(alloc: Global, plan: &Plan, j: usize) -> Result<Ear, AllocError>
+    pub(crate) fn new(plan: &Plan, j: usize) -> Ear
         requires checked { IsChecked plan.now }
         requires node { j < length plan.now.nodes }
-        ensures ear { IfOk result (IsEar plan.now j) }
-        ensures nothing { IfOk result (λ ear. ear.heard.until ≡ 0) }
+        ensures ear { IsEar plan.now j result }
+        ensures heard { (running : List Running) → IsHeard plan.now running j result }
     {
-        let mut delays = Vec::new(alloc);
-        for i in 0..plan.nodes.len() {
-            delays.push(plan.topology.delay(i as u8, j as u8))?;
-        }
-        Ok(Ear {
-            delays,
+        Ear {
+            delays: delays_to(plan, j),
             others: delays_of_others(plan, j),
-            come: [0; MOST_NODES],
+            sources: Sources::new(plan),
             shaken: SILENCE,
             heard: SILENCE,
-        })
+        }
     }
 
     /// The tick below which all is known that comes to node `j` from the others, and no later than the end.
@@ -82,9 +75,9 @@ impl Ear {
         requires known { KnowsOthers plan.now j horizon running.now }
         requires ends { horizon ≤ plan.now.end }
         requires below { RunsBelow horizon running.now j }
-        requires heard { IsHeard plan.now running.now j self.old.heard }
+        requires heard { IsHeard plan.now running.now j self.old }
         ensures ear { IsEar plan.now j self.new }
-        ensures heard { IsHeard plan.now running.now j self.new.heard }
+        ensures heard { IsHeard plan.now running.now j self.new }
         ensures few { result.until ≤ horizon }
         ensures found { IsFound plan.now j running.now result }
     {
@@ -100,39 +93,56 @@ impl Ear {
         }
     }
 
-    /// Asks what comes from the nodes, where what was heard of them last doesn't tell it for tick `t`.
+    /// Asks what comes from the nodes, where what was heard of them last doesn't tell it for tick `t`, at which node `j` has its next quantum.
     fn hear_anew(&mut self, plan: &Plan, running: &[Running], j: usize, t: u64)
         requires checked { IsChecked plan.now }
         requires node { j < length plan.now.nodes }
         requires running { AreRunning plan.now running.now }
         requires early { t < 2 ^ 63 }
+        requires next { (d : Running) → t ≡ (slice_index_or running.now j d).next }
         requires ear { IsEar plan.now j self.old }
-        requires heard { IsHeard plan.now running.now j self.old.heard }
+        requires heard { IsHeard plan.now running.now j self.old }
         ensures ear { IsEar plan.now j self.new }
-        ensures heard { IsHeard plan.now running.now j self.new.heard }
+        ensures heard { IsHeard plan.now running.now j self.new }
         ensures from { self.new.heard.from ≤ t }
         ensures until { t < self.new.heard.until }
         ensures shaken { self.new.shaken ≡ self.old.shaken }
     {
-        if t < self.heard.from || self.heard.until <= t {
-            self.heard = hear_nodes(plan, running, &self.delays, &mut self.come, j, t);
+        if self.heard.until <= t {
+            self.heard = self.sources.hear(plan, running, &self.delays, j, t);
         }
     }
 
     /// Notes that a change of node `i` at this tick will come.
     fn expect(&mut self, i: usize, tick: u64)
-        requires node { i < length self.old.delays.items }
+        requires delays { i < length self.old.delays }
+        requires nexts { i < length self.old.sources.nexts }
         ensures delays { self.new.delays ≡ self.old.delays }
         ensures others { self.new.others ≡ self.old.others }
         ensures shaken { self.new.shaken ≡ self.old.shaken }
         ensures from { self.new.heard.from ≡ self.old.heard.from }
         ensures few { self.new.heard.until ≤ self.old.heard.until }
-        ensures comes { self.new.heard.until ≤ tick + slice_index_or self.old.delays.items i 0 }
+        ensures comes { self.new.heard.until ≤ tick + slice_index_or self.old.delays i 0 }
         ensures dominant { self.new.heard.dominant ≡ self.old.heard.dominant }
+        ensures sources { AreSooner i (tick + slice_index_or self.old.delays i 0) self.old.sources self.new.sources }
     {
         let comes = tick.saturating_add(self.delays[i]);
+        self.sources.expect(i, comes);
         self.heard.until = self.heard.until.min(comes);
     }
+}
+
+/// The delay from each node to place `j`.
+fn delays_to(plan: &Plan, j: usize) -> Ticks
+    requires checked { IsChecked plan.now }
+    requires node { j < length plan.now.nodes }
+    ensures { AreDelays plan.now j result }
+{
+    let mut delays = [0; MOST_NODES];
+    for i in 0..plan.nodes.len() {
+        delays[i] = plan.topology.delay(i as u8, j as u8);
+    }
+    delays
 }
 
 /// The delay from each other node to place `j`, and from its own one more than any tick.
@@ -152,6 +162,7 @@ fn delays_of_others(plan: &Plan, j: usize) -> Ticks
 
 /// Tells the ears that node `i` changed its drive at this tick.
 pub(crate) fn tell(plan: &Plan, ears: &mut [Ear], i: usize, tick: u64)
+    requires checked { IsChecked plan.now }
     requires ears { AreEars plan.now ears.old }
     requires node { i < length plan.now.nodes }
     ensures ears { AreEars plan.now ears.new }
@@ -188,7 +199,7 @@ fn below_horizon(
     requires running { AreRunning plan.now running.now }
     requires known { KnowsOthers plan.now j horizon running.now }
     requires below { t < horizon }
-    requires heard { IsHeard plan.now running.now j heard.now }
+    requires heard { IsTold plan.now running.now j heard.now }
     requires from { heard.now.from ≤ t }
     requires until { t < heard.now.until }
     ensures from { result.from ≡ t }
@@ -203,40 +214,5 @@ fn below_horizon(
         from: t,
         until: heard.until.min(horizon),
         dominant: heard.dominant,
-    }
-}
-
-/// Whether the changes of some node tell that it drives dominant at place `j`, from tick `t` on.
-fn hear_nodes(
-    plan: &Plan,
-    running: &[Running],
-    delays: &[u64],
-    come: &mut Come,
-    j: usize,
-    t: u64,
-) -> Pulse
-    requires checked { IsChecked plan.now }
-    requires node { j < length plan.now.nodes }
-    requires running { AreRunning plan.now running.now }
-    requires delays { AreDelays plan.now j delays.now }
-    requires early { t < 2 ^ 63 }
-    ensures from { result.from ≡ t }
-    ensures until { t < result.until }
-    ensures heard { IsHeard plan.now running.now j result }
-{
-    wl_plan::checked_is_sound();
-    wl_plan::simulation_laws();
-    wl_record_core::table_laws();
-    let mut until = u64::MAX;
-    let mut dominant = false;
-    for i in 0..running.len() {
-        let one = pulse_of(running[i].changes.as_slice(), delays[i], t, &mut come[i]);
-        until = until.min(one.until);
-        dominant = dominant | one.dominant;
-    }
-    Pulse {
-        from: t,
-        until,
-        dominant,
     }
 }

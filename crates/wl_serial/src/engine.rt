@@ -52,7 +52,7 @@ fn listen(alloc: Global, plan: &Plan) -> Result<Vec<Ear>, AllocError>
 {
     let mut ears = Vec::new(alloc);
     for j in 0..plan.nodes.len() {
-        ears.push(Ear::new(alloc, plan, j)?)?;
+        ears.push(Ear::new(plan, j))?;
     }
     Ok(ears)
 }

@@ -10,6 +10,7 @@ mod records;
 mod running_node;
 mod shaken;
 mod so_far;
+mod sources;
 mod turn;
 
 pub use engine::run_serial;

@@ -1,6 +1,6 @@
 //! Levels that stay for some ticks.
-ghost use Rattle.std.specs.Prelude.{◌≡◌, ℕ, true, ◌+◌, ◌-◌, ◌<◌, ◌≤◌, ◌^◌, length, slice_index_or};
-ghost use Rattle.wl_record_core.specs.Truth.{count_below, odd, IsIncreasing};
+ghost use Rattle.std.specs.Prelude.{◌≡◌, ◌+◌, ◌-◌, ◌<◌, ◌≤◌, ◌^◌, length, slice_index_or};
+ghost use Rattle.wl_record_core.specs.Truth.{count_below, IsIncreasing};
 ghost use Rattle.wl_serial.specs.Heard.{IsPulse, drove};
 
 /// Whether something is dominant, from a tick on and below another one.
@@ -14,40 +14,6 @@ pub(crate) struct Pulse {
 /// Whether a node with these changes drove dominant `delay` ticks before tick `t`, and up to when that stays. `come` is how many changes had come
 /// when it was asked for last: it speeds up the next time, and decides nothing.
 pub(crate) fn pulse_of(changes: &[u64], delay: u64, t: u64, come: &mut usize) -> Pulse
-    requires order { IsIncreasing changes.now }
-    requires early { t < 2 ^ 63 }
-    ensures from { result.from ≡ t }
-    ensures until { t < result.until }
-    ensures dominant { IsPulse (drove changes.now delay) result }
-{
-    if all_come(changes, delay, t, *come) {
-        return Pulse {
-            from: t,
-            until: u64::MAX,
-            dominant: *come % 2 == 1,
-        };
-    }
-    pulse_up_to_a_change(changes, delay, t, come)
-}
-
-/// Whether so many changes are all that there are, and each of them is `delay` ticks or more before tick `t`.
-fn all_come(changes: &[u64], delay: u64, t: u64, come: usize) -> bool
-    requires order { IsIncreasing changes.now }
-    requires early { t < 2 ^ 63 }
-    ensures { result ≡ true → (u : ℕ) → t ≤ u → drove changes.now delay u ≡ odd come }
-{
-    wl_record_core::table_laws();
-    if come != changes.len() {
-        return false;
-    }
-    if come == 0 {
-        return true;
-    }
-    changes[come - 1].saturating_add(delay) <= t
-}
-
-/// The same, where a change may still come.
-fn pulse_up_to_a_change(changes: &[u64], delay: u64, t: u64, come: &mut usize) -> Pulse
     requires order { IsIncreasing changes.now }
     requires early { t < 2 ^ 63 }
     ensures from { result.from ≡ t }

@@ -1,7 +1,19 @@
--- Where all have come, the level stays.
-use Rattle.std.proofs.Common.{◌∙◌, sym}
-use Rattle.wl_serial.proofs.Counts.{odd_is}
+-- Until the next change has come, as many have come as now.
+use Rattle.std.proofs.Common.{◌-◌, ◌%◌, ◌==◌, inl, inr, length, arith}
+use Rattle.std.proofs.lemmas.Bool.{cases_lt}
+use Rattle.wl_serial.proofs.Counts.{after_them, drove_stays, odd_is}
 use Rattle.wl_serial.proofs.pulse.pulse_of.Goals as goal
 
-pub returns-then-all_come-clause-dominant : goal.returns-then-all_come-clause-dominant
-returns-then-all_come-clause-dominant c u from until = c.all_come.ensures c.if-all_come.true u from ∙ sym (odd_is c.args.come.now)
+pub returns-clause-until : goal.returns-clause-until
+returns-clause-until c = elim (cases_lt c.count_until-count.result (length c.args.changes.now)) [
+  | inl some ↦
+      let after = after_them c.table_laws.ensures c.args.changes.now c.count_until-count.result (c.args.t - c.args.delay) c.requires.order c.count_until-count.ensures some in
+      omega (arith, after, c.change_at.ensures.there some, c.saturating_add.ensures, c.requires.early, c.if-t-delay.false)
+  | inr none ↦ omega (arith, c.change_at.ensures.none none, c.saturating_add.ensures, c.requires.early, c.if-t-delay.false)
+]
+
+pub returns-clause-dominant : goal.returns-clause-dominant
+returns-clause-dominant c u from until =
+    drove_stays c.table_laws.ensures c.args.changes.now c.args.delay c.count_until-count.result c.args.t u (c.count_until-count.result % 2 == 1) c.requires.order
+    (omega (arith, c.if-t-delay.false)) c.count_until-count.ensures (odd_is c.count_until-count.result) from
+    (λ some. omega (arith, until, c.change_at.ensures.there some, c.saturating_add.ensures))

@@ -26,7 +26,10 @@ returns-clause-heard c =
     let new = c.in_ok-run_below.ensures.running.all in
     let b = c.requires.next.is_node in
     heard_same c.args.plan.now c.run_below.new.running c.args.j c.promise.new.self c.run_below.new.ears (omega (arith, old, new, b))
-    (λ d. c.promise.ensures.changes ∙ ap (λ r. r.changes) (get_or_default c.run_below.new.running c.args.j c.index-running-j.result d (omega (arith, old, new, b))))
+    (λ d. let same = get_or_default c.run_below.new.running c.args.j c.index-running-j.result d (omega (arith, old, new, b)) in (
+      c.promise.ensures.changes ∙ ap (λ r. r.changes) same,
+      (let e = ap (λ r. r.next) same in omega (arith, e, c.promise.ensures.next)),
+    ))
     c.in_ok-run_below.ensures.heard
 
 pub returns-clause-known : goal.returns-clause-known

@@ -1,0 +1,109 @@
+//! What comes to a place from each node, and when that changes next.
+ghost use Rattle.std.specs.Prelude.{◌≡◌, ◌≢◌, ℕ, ◌<◌, ◌≤◌, ◌^◌, false, length, slice_index_or};
+ghost use Rattle.wl_plan.specs.Checked.{IsChecked};
+ghost use Rattle.wl_record_core.specs.Truth.{IsIncreasing};
+ghost use Rattle.wl_serial.specs.Heard.{AreDelays, AreKept, AreSooner, AreSources, IsTold, drove};
+ghost use Rattle.wl_serial.specs.Running.{AreRunning};
+
+use crate::pulse::{Pulse, pulse_of};
+use crate::running_node::{Running, Ticks};
+use wl_plan::Plan;
+use wl_topology::MOST_NODES;
+
+/// Of each node how many of its changes had come when they were last asked for, the tick at which the next one comes to the place, and whether
+/// it drives dominant there up to then; and how many nodes do.
+#[derive(Drop)]
+pub(crate) struct Sources {
+    /// It speeds up the next time, and decides nothing.
+    pub(crate) come: [usize; MOST_NODES],
+    pub(crate) nexts: Ticks,
+    pub(crate) drives: [bool; MOST_NODES],
+    pub(crate) driving: usize,
+}
+
+impl Sources {
+    /// The nodes of a plan, of which nothing has been asked yet.
+    pub(crate) fn new(plan: &Plan) -> Sources
+        requires { IsChecked plan.now }
+        ensures kept { AreKept (length plan.now.nodes) result }
+        ensures nothing { (i : ℕ) → i < length plan.now.nodes → slice_index_or result.nexts i 0 ≡ 0 }
+    {
+        let mut nexts = [u64::MAX; MOST_NODES];
+        for i in 0..plan.nodes.len() {
+            nexts[i] = 0;
+        }
+        Sources {
+            come: [0; MOST_NODES],
+            nexts,
+            drives: [false; MOST_NODES],
+            driving: 0,
+        }
+    }
+
+    /// Whether the changes of some node tell that it drives dominant at place `j`, from tick `t` on. Only nodes of which a change has come are asked.
+    pub(crate) fn hear(
+        &mut self,
+        plan: &Plan,
+        running: &[Running],
+        delays: &Ticks,
+        j: usize,
+        t: u64,
+    ) -> Pulse
+        requires checked { IsChecked plan.now }
+        requires node { j < length plan.now.nodes }
+        requires running { AreRunning plan.now running.now }
+        requires delays { AreDelays plan.now j delays.now }
+        requires early { t < 2 ^ 63 }
+        requires kept { AreKept (length plan.now.nodes) self.old }
+        requires sources { AreSources plan.now running.now j t self.old }
+        ensures kept { AreKept (length plan.now.nodes) self.new }
+        ensures sources { AreSources plan.now running.now j t self.new }
+        ensures from { result.from ≡ t }
+        ensures until { t < result.until }
+        ensures told { IsTold plan.now running.now j result }
+    {
+        wl_plan::checked_is_sound();
+        wl_plan::simulation_laws();
+        wl_record_core::table_laws();
+        let mut until = u64::MAX;
+        for i in 0..MOST_NODES {
+            if self.nexts[i] <= t {
+                self.take(plan, running[i].changes.as_slice(), delays[i], i, t);
+            }
+            until = until.min(self.nexts[i]);
+        }
+        Pulse {
+            from: t,
+            until,
+            dominant: 0 < self.driving,
+        }
+    }
+
+    /// Takes up the changes of node `i` that have come by tick `t`.
+    fn take(&mut self, plan: &Plan, changes: &[u64], delay: u64, i: usize, t: u64)
+        requires checked { IsChecked plan.now }
+        requires node { i < length plan.now.nodes }
+        requires order { IsIncreasing changes.now }
+        requires early { t < 2 ^ 63 }
+        requires kept { AreKept (length plan.now.nodes) self.old }
+        ensures kept { AreKept (length plan.now.nodes) self.new }
+        ensures nexts { (k : ℕ) → k ≢ i → slice_index_or self.new.nexts k 0 ≡ slice_index_or self.old.nexts k 0 }
+        ensures drives { (k : ℕ) → k ≢ i → slice_index_or self.new.drives k false ≡ slice_index_or self.old.drives k false }
+        ensures later { t < slice_index_or self.new.nexts i 0 }
+        ensures drove { (u : ℕ) → t ≤ u → u < slice_index_or self.new.nexts i 0
+            → drove changes.now delay u ≡ slice_index_or self.new.drives i false }
+    {
+        let one = pulse_of(changes, delay, t, &mut self.come[i]);
+        self.nexts[i] = one.until;
+        self.driving = self.driving + usize::from(one.dominant) - usize::from(self.drives[i]);
+        self.drives[i] = one.dominant;
+    }
+
+    /// Notes that a change of node `i` comes at this tick.
+    pub(crate) fn expect(&mut self, i: usize, comes: u64)
+        requires { i < length self.old.nexts }
+        ensures { AreSooner i comes self.old self.new }
+    {
+        self.nexts[i] = self.nexts[i].min(comes);
+    }
+}
