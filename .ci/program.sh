@@ -148,6 +148,14 @@ vcd --tick
 vcd --tick 1ms
 WORDS
 
+# What an option wants, where clap lets in a value that names nothing.
+printf 'error: --link wants hub or mail\n' > "$room/fault"
+runs "a link that is none" examples/clean_500k.toml 2 "$room/none" "$room/fault" run --link post
+printf 'error: --tick wants 1 to 999 and ps, ns or us, as 125ps\n' > "$room/fault"
+for word in candump vcd; do
+  runs "a tick that is none, $word" examples/clean_500k.toml 2 "$room/none" "$room/fault" "$word" --tick 1ms
+done
+
 printf "error: the arguments can't be read\n" > "$room/fault"
 runs "words that are no text" examples/clean_500k.toml 2 "$room/none" "$room/fault" run $'\xff'
 

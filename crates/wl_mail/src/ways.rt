@@ -1,8 +1,13 @@
 //! The ways from a worker to all other workers.
-ghost use Rattle.std.specs.Prelude.{◌≡◌, ◌≢◌, ℕ, ◌-◌, ◌<◌, Err, IfOk, OnOk, OnErr, map, replicate, length};
+ghost use Rattle.std.specs.Prelude.{◌≡◌, ◌≢◌, ℕ, ◌-◌, ◌<◌, Err, IfOk, MatchBool, OnOk, OnErr, map, replicate, length};
 ghost use Rattle.wl_mail.specs.Truth.{AreTrueOfPlan};
+<<<<<<< HEAD
 ghost use Rattle.wl_mail.specs.Ways.{one_letter_more, one_letter_more_to};
 ghost use Rattle.wl_mail.specs.declared.fault.MailFault.TheVariants.{Foreign};
+=======
+ghost use Rattle.wl_mail.specs.Ways.{one_more, one_more_to};
+ghost use Rattle.wl_mail.specs.declared.fault.MailFault.TheVariants.{Foreign, Gone, Memory};
+>>>>>>> c67590e81b4c5b908194e007d24005ba05cb507a
 
 use crate::fault::MailFault;
 use crate::letter::Letter;
@@ -35,6 +40,17 @@ impl Model for Ways {
     ghost view = { λ ways. map (λ way. way.letters) ways.ways.items };
 }
 
+/// Why a letter came back: there was no memory for its place, or its receiver was given up.
+fn fault_of(is_out_of_memory: bool) -> MailFault
+    ensures { MatchBool is_out_of_memory (result ≡ Memory) (result ≡ Gone) }
+{
+    if is_out_of_memory {
+        MailFault::Memory
+    } else {
+        MailFault::Gone
+    }
+}
+
 impl Way {
     /// Sends a letter that way.
     fn send<R: Wait>(&mut self, rt: &R, letter: Letter) -> Result<(), MailFault>
@@ -43,10 +59,7 @@ impl Way {
         ensures cause { result ≢ Err Foreign }
     {
         if let Err(unsent) = self.to.send(rt, letter) {
-            if unsent.is_out_of_memory() {
-                return Err(MailFault::Memory);
-            }
-            return Err(MailFault::Gone);
+            return Err(fault_of(unsent.is_out_of_memory()));
         }
         self.letters = self.letters.saturating_add(1);
         Ok(())

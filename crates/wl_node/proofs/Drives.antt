@@ -33,7 +33,7 @@ use Rattle.wl_node.proofs.Turns.{history_first, history_next}
 use Rattle.wl_node.proofs.Sends.{off_or_not, count_append}
 
 -- what holds of no level, and of one level more where it holds before it, holds of all lists
-grown : {A : Type 0} (P : List A → Type 0) → P [] → ((xs : List A) (x : A) → P xs → P (xs ++ x ∷ [])) → (xs : List A) → P xs
+pub grown : {A : Type 0} (P : List A → Type 0) → P [] → ((xs : List A) (x : A) → P xs → P (xs ++ x ∷ [])) → (xs : List A) → P xs
 grown P none more xs = from [] none xs
   where
     from : (front : List _) → P front → (rest : List _) → P (front ++ rest)
@@ -44,13 +44,13 @@ same_when : (a b : Level) → a ≡ b → same a b ≡ true
 same_when a b e = ap (same a) (sym e) ∙ same_self a
 
 -- the history after a quantum of this beat
-abbrev behind : NodeSetup → History → Level → Beat → History
+abbrev pub behind : NodeSetup → History → Level → Beat → History
 behind setup h level beat = record (by_beat setup h level beat) {
   seen = h.seen ++ seen_next h level ∷ [];
   syncs = h.syncs ++ syncs_at (length h.seen) (sync_of setup.segments h.seen (seen_next h level));
 }
 
-abbrev beat_next : NodeSetup → History → Level → Beat
+abbrev pub beat_next : NodeSetup → History → Level → Beat
 beat_next setup h level = beat_of setup.segments h.seen (seen_next h level)
 
 -- the quanta up to the sample, where there is a way to it
@@ -59,9 +59,22 @@ left (Some n) = n
 left None = 0
 
 -- a longer promise is no shorter one
-longer_least : (f s p : ℕ) → f ≤ floor_and_silence f s p
+pub longer_least : (f s p : ℕ) → f ≤ floor_and_silence f s p
 longer_least zero s p = omega arith
 longer_least (suc f) s p = omega arith
+
+-- a promise that is some rests on a floor that is
+pub some_floor : (p f s k : ℕ) → suc k ≤ floor_and_silence f s p → 0 < f
+some_floor p zero s k q = absurd (omega arith)
+some_floor p (suc f) s k q = omega arith
+
+pub longer_is : (p f s : ℕ) → 0 < f → floor_and_silence f s p ≡ f + s * suc p
+longer_is p zero s h = absurd (omega arith)
+longer_is p (suc f) s h = refl
+
+-- one floor in the place of another that is less by one quantum at most
+pub longer_near : (p f g s k : ℕ) → f ≤ suc g → 0 < g → suc k ≤ floor_and_silence f s p → k ≤ floor_and_silence g s p
+longer_near p f g s k n h q = (let a = longer_is p f s (some_floor p f s k q) in let b = longer_is p g s h in omega arith)
 
 abbrev pub place_of : NodeSetup → ℕ
 place_of setup = least_way setup.segments
@@ -91,7 +104,7 @@ module _ (ways : SampleLaws) (setup : NodeSetup) where
       grown (λ levels. IsSettled setup (history_of setup levels)) (subst (IsSettled setup) (sym (history_first setup)) settled_first)
       (λ levels x s. subst (IsSettled setup) (sym (history_next setup levels x)) (settled_by (history_of setup levels) x (beat_next setup (history_of setup levels) x) refl s))
 
-  floor_few : (h : History) (o : Option ℕ) (t : Bool) → way_at setup h ≡ o → floor_by o t (place_of setup) ≤ suc (place_of setup)
+  pub floor_few : (h : History) (o : Option ℕ) (t : Bool) → way_at setup h ≡ o → floor_by o t (place_of setup) ≤ suc (place_of setup)
   floor_few h (Some n) t e = (let m = ways.few setup.segments h.seen n e in let f = ways.least setup.segments in omega arith)
   floor_few h None true e = omega arith
   floor_few h None false e = omega arith
@@ -119,32 +132,19 @@ module _ (silences : SilenceLaws) (ways : SampleLaws) (setup : NodeSetup) where
   abbrev silence_at : Bool → History → ℕ
   silence_at heads h = silence_of heads (stretch_of h.inputs)
 
-  -- a promise that is some rests on a floor that is
-  some_floor : (f s k : ℕ) → suc k ≤ floor_and_silence f s (place_of setup) → 0 < f
-  some_floor zero s k q = absurd (omega arith)
-  some_floor (suc f) s k q = omega arith
-
-  longer_is : (f s : ℕ) → 0 < f → floor_and_silence f s (place_of setup) ≡ f + s * suc (place_of setup)
-  longer_is zero s h = absurd (omega arith)
-  longer_is (suc f) s h = refl
-
-  -- one floor in the (place_of setup) of another that is less by one quantum at most
-  longer_near : (f g s k : ℕ) → f ≤ suc g → 0 < g → suc k ≤ floor_and_silence f s (place_of setup) → k ≤ floor_and_silence g s (place_of setup)
-  longer_near f g s k n h q = (let a = longer_is f s (some_floor f s k q) in let b = longer_is g s h in omega arith)
-
   keeps_start : (heads : Bool) (h : History) (level : Level) → beat_next setup h level ≡ Start → IsSettled setup h → (k : ℕ) → suc k ≤ promise_by heads setup h → Keeps heads h (behind setup h level Start) k
   keeps_start heads h level e s k q = record {
     drive = (starts (way_at setup h) refl (same h.drive (pending_of h)) refl some).0;
     promise =
         subst (λ o. k ≤ floor_and_silence (floor_by o (same (pending_of h) (pending_of h)) (place_of setup)) (silence_at heads h) (place_of setup)) (sym after.1.0)
-        (longer_near (floor_at setup h) after.0 (silence_at heads h) k (let f = (starts (way_at setup h) refl (same h.drive (pending_of h)) refl some).1 in let low = after.1.1 in omega arith) (let low = after.1.1 in omega arith) q);
+        (longer_near (place_of setup) (floor_at setup h) after.0 (silence_at heads h) k (let f = (starts (way_at setup h) refl (same h.drive (pending_of h)) refl some).1 in let low = after.1.1 in omega arith) (let low = after.1.1 in omega arith) q);
   }
     where
       after : (m : ℕ) × ((quanta_to_sample setup.segments (h.seen ++ seen_next h level ∷ []) ≡ Some m) × (least_way setup.segments ≤ m))
       after = ways.start setup.segments h.seen (seen_next h level) e
 
       some : 0 < floor_at setup h
-      some = some_floor (floor_at setup h) (silence_at heads h) k q
+      some = some_floor (place_of setup) (floor_at setup h) (silence_at heads h) k q
 
       starts : (o : Option ℕ) → way_at setup h ≡ o → (t : Bool) → same h.drive (pending_of h) ≡ t → 0 < floor_by o t (place_of setup) → (pending_of h ≡ h.drive) × (floor_by o t (place_of setup) ≤ suc (place_of setup))
       starts (Some n) f t g r = (sym (s n f), (let m = ways.few setup.segments h.seen n f in let low = ways.least setup.segments in omega arith))
@@ -160,7 +160,7 @@ module _ (silences : SilenceLaws) (ways : SampleLaws) (setup : NodeSetup) where
       plain (Some n) f r =
           let near = ways.near setup.segments h.seen (seen_next h level) n e f in
           subst (λ o. k ≤ floor_and_silence (floor_by o (same h.drive (pending_of h)) (place_of setup)) (silence_at heads h) (place_of setup)) (sym near.1.0)
-          (longer_near n near.0 (silence_at heads h) k near.1.1 (ways.some setup.segments (h.seen ++ seen_next h level ∷ []) near.0 near.1.0) r)
+          (longer_near (place_of setup) n near.0 (silence_at heads h) k near.1.1 (ways.some setup.segments (h.seen ++ seen_next h level ∷ []) near.0 near.1.0) r)
 
   -- after a sample that a silence reaches beyond the machine wants recessive still, and is silent for one sample less at most
   record IsSilentBehind (heads : Bool) (inputs : List Input) (s : ℕ) : Type 0 where
@@ -284,7 +284,7 @@ module _ (silences : SilenceLaws) (ways : SampleLaws) (setup : NodeSetup) where
 
   module _ (heads : HeadLaws) where
     -- a machine in no frame sends none with its next sample
-    same_sent : (h : History) (level : Level) (b : Beat) → head_of (stretch_of h.inputs).sort ≡ None → unsent_of setup (behind setup h level b) ≡ unsent_of setup h
+    pub same_sent : (h : History) (level : Level) (b : Beat) → head_of (stretch_of h.inputs).sort ≡ None → unsent_of setup (behind setup h level b) ≡ unsent_of setup h
     same_sent h level Start none = refl
     same_sent h level Plain none = refl
     same_sent h level (Sample v) none = by_end (judged (stretch_of h.inputs) (sampled_next setup h level)).ended refl

@@ -19,7 +19,7 @@ pub count_append : {X : Type 0} (p : X → Bool) (xs ys : List X) → count_by p
 count_append p xs ys = sum_by-append (λ x. cond (p x) 1 0) xs ys
 
 -- a head that is ready is the first unsent frame
-ready_first : (unsent : List Queued) (quantum : ℕ) (frame : Content) → ready_head unsent quantum ≡ Some frame → first_frame unsent ≡ Some frame
+pub ready_first : (unsent : List Queued) (quantum : ℕ) (frame : Content) → ready_head unsent quantum ≡ Some frame → first_frame unsent ≡ Some frame
 ready_first [] quantum frame e = cc
 ready_first (q ∷ qs) quantum frame e = first_if (nat_le q.ready quantum) e
   where
@@ -41,7 +41,7 @@ module _ (laws : HeadLaws) where
       (before : (frame : Content) → head_of s.sort ≡ Some frame → first_frame unsent ≡ Some frame)
       (ready : x.head ≡ ready_head unsent quantum) where
     -- a sample that leaves a head has sent no frame
-    none_sent : (frame : Content) → head_of (stretch_after s (Sample x)).sort ≡ Some frame → (ended : Ended) → (judged s x).ended ≡ ended
+    pub none_sent : (frame : Content) → head_of (stretch_after s (Sample x)).sort ≡ Some frame → (ended : Ended) → (judged s x).ended ≡ ended
         → count_by is_sent (passed_frames quantum ended) ≡ 0
     none_sent frame e NoFrame j = refl
     none_sent frame e (Received other) j = refl
@@ -67,7 +67,7 @@ module _ (laws : HeadLaws) where
     sends_on frame e = (still_first frame e (judged s x).next refl, none_sent frame e (judged s x).ended refl)
 
   -- the same over all that reached the machine, with the order to go off the bus after the sample
-  sends_off : (past : List Input) (frame : Content) (off : List Input) → (off ≡ []) ⊎ (off ≡ SwitchedOff ∷ [])
+  pub sends_off : (past : List Input) (frame : Content) (off : List Input) → (off ≡ []) ⊎ (off ≡ SwitchedOff ∷ [])
       → head_of (stretch_of (past ++ off)).sort ≡ Some frame → head_of (stretch_of past).sort ≡ Some frame
   sends_off past frame off (inl n) e =
       ap (λ p. head_of (stretch_of p).sort) (sym (append-nil past) ∙ ap (λ o. past ++ o) (sym n)) ∙ e

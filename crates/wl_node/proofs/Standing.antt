@@ -1,100 +1,276 @@
--- On a recessive line a node of a free bus drives recessive up to the quantum at which a frame is ready, and at that one still.
-use Rattle.std.proofs.Common.{◌≡◌, ◌∙◌, ℕ, zero, suc, ◌+◌, ◌<◌, ◌≤◌, true, cond, List, [], ◌∷◌, ◌++◌, length, replicate, Some, None, refl, sym, ap, subst, arith, append-nil, length-append, add-one, add-zero, add-suc}
-use Rattle.std.proofs.lemmas.Bool.{lt-leb}
+-- On a recessive line a recessive drive stands: for as long as the machine rests, whatever it is handed, and up to the quantum at which a frame is ready, at that one still.
+use Rattle.std.proofs.Common.{◌≡◌, ◌∙◌, ℕ, zero, suc, ◌*◌, ◌<◌, ◌≤◌, Bool, true, false, cond, List, [], ◌∷◌, ◌++◌, length, replicate, Option, Some, None, ◌⊎◌, inl, inr, refl, sym, ap, subst, arith, append-nil, append_assoc, length-append, add-one}
+use Rattle.std.proofs.Math.Nat.{mul-le-mul_left}
+use Rattle.std.proofs.lemmas.Bool.{cases_lt, lt-leb}
 use Rattle.wl_level.specs.declared.Level.{Level}
 use Rattle.wl_level.specs.declared.Level.TheVariants.{Recessive}
+use Rattle.wl_level.specs.Levels.{is_dominant}
+use Rattle.wl_level.proofs.Callers.{recessive_from}
 use Rattle.wl_sync.specs.declared.Beat.{Beat}
 use Rattle.wl_sync.specs.declared.Beat.TheVariants.{Plain, Sample, Start}
-use Rattle.wl_sync.specs.Bits.{beat_of}
-use Rattle.wl_machine.specs.Judged.{stretch_of, drive_by, is_free_sort}
-use Rattle.wl_machine.proofs.Callers.{free_sort}
+use Rattle.wl_sync.specs.SampleLaws.{SampleLaws}
+use Rattle.wl_confine.specs.declared.Mode.{Mode}
+use Rattle.wl_confine.specs.Counts.{counts_of, mode_of}
+use Rattle.wl_frame.specs.Grammar.{Content}
+use Rattle.wl_machine.specs.Stretch.{Stretch, Sampled, Input}
+use Rattle.wl_machine.specs.Stretch.Input.{Sample as Given, SwitchedOff}
+use Rattle.wl_machine.specs.Judged.{judged, or_next, stretch_of, stretch_after, head_of}
+use Rattle.wl_machine.specs.Laws.{HeadLaws}
+use Rattle.wl_machine.specs.Rest.{RestLaws, RestsFor, rest_of}
+use Rattle.wl_machine.specs.Silence.{SilenceLaws}
+use Rattle.wl_machine.proofs.Callers.{stretch_next}
 use Rattle.wl_node.specs.declared.setup.Queued.{Queued}
 use Rattle.wl_node.specs.declared.setup.NodeSetup.{NodeSetup}
-use Rattle.wl_node.specs.History.{History, history_of, history_after, seen_next, by_beat, unsent_of, ready_head}
+use Rattle.wl_node.specs.History.{History, history_of, seen_next, sampled_next, unsent_of, ready_head, switched_off}
 use Rattle.wl_node.specs.Limits.{most_run_quanta}
-use Rattle.wl_node.specs.Quiet.{pending_of}
-use Rattle.wl_node.specs.Stays.{until_frame}
+use Rattle.wl_node.specs.Quiet.{floor_by, floor_and_silence}
+use Rattle.wl_node.specs.Stays.{until_frame, rest_stay, stay_by, stay_at}
+use Rattle.wl_node.proofs.Drives.{behind, beat_next, place_of, way_at, floor_few, longer_least, longer_near, same_sent}
+use Rattle.wl_node.proofs.ReadyHeads.{ready_heads, until_now}
+use Rattle.wl_node.proofs.Sends.{off_or_not}
 use Rattle.wl_node.proofs.Turns.{history_next}
-use Rattle.wl_node.proofs.Skipped.{snoc}
-use Rattle.wl_node.proofs.Rested.{history_free, sort_stays}
-
--- the bus is free, the node drives recessive, and these frames wait; so many quanta have run
-record IsFree (setup : NodeSetup) (unsent : List Queued) (n : ℕ) (h : History) : Type 0 where
-  free : is_free_sort (stretch_of h.inputs).sort ≡ true
-  drive : h.drive ≡ Recessive
-  waiting : unsent_of setup h ≡ unsent
-  counted : length h.seen ≡ n
-
--- on a free bus the machine wants recessive
-wants : (h : History) → is_free_sort (stretch_of h.inputs).sort ≡ true → pending_of h ≡ Recessive
-wants h free = ap (λ s. drive_by s (stretch_of h.inputs).own) (free_sort (stretch_of h.inputs).sort free)
-
-module _ (setup : NodeSetup) (unsent : List Queued) where
-  -- any quantum leaves the drive as it is
-  drive_next : (n : ℕ) (h : History) (b : Beat) → IsFree setup unsent n h → (by_beat setup h Recessive b).drive ≡ Recessive
-  drive_next n h Plain is = is.drive
-  drive_next n h Start is = wants h is.free
-  drive_next n h (Sample v) is = is.drive
-
-  counted_next : (n : ℕ) (h : History) → IsFree setup unsent n h → length (history_after setup h Recessive).seen ≡ suc n
-  counted_next n h is = length-append h.seen (seen_next h Recessive ∷ []) ∙ add-one (length h.seen) ∙ ap suc is.counted
-
-  -- and the bus free, if no frame is ready at it
-  free_next : (n : ℕ) (h : History) (b : Beat) → beat_of setup.segments h.seen (seen_next h Recessive) ≡ b → ready_head unsent n ≡ None → IsFree setup unsent n h
-      → IsFree setup unsent (suc n) (history_after setup h Recessive)
-  free_next n h Plain e none is = record {
-    free = ap (λ k. is_free_sort (stretch_of (by_beat setup h Recessive k).inputs).sort) e ∙ is.free;
-    drive = ap (λ k. (by_beat setup h Recessive k).drive) e ∙ is.drive;
-    waiting = ap (λ k. unsent_of setup (by_beat setup h Recessive k)) e ∙ is.waiting;
-    counted = counted_next n h is;
-  }
-  free_next n h Start e none is = record {
-    free = ap (λ k. is_free_sort (stretch_of (by_beat setup h Recessive k).inputs).sort) e ∙ is.free;
-    drive = ap (λ k. (by_beat setup h Recessive k).drive) e ∙ wants h is.free;
-    waiting = ap (λ k. unsent_of setup (by_beat setup h Recessive k)) e ∙ is.waiting;
-    counted = counted_next n h is;
-  }
-  free_next n h (Sample v) e none is =
-      let unready : ready_head (unsent_of setup h) (length h.seen) ≡ None = ap (λ q. ready_head q (length h.seen)) is.waiting ∙ ap (ready_head unsent) is.counted ∙ none in
-      let after = history_free setup h unready is.free in
-      record {
-        free = ap (λ k. is_free_sort (stretch_of (by_beat setup h Recessive k).inputs).sort) e ∙ ap (λ (g : History). is_free_sort (stretch_of g.inputs).sort) after
-            ∙ ap is_free_sort (sort_stays setup h unready is.free);
-        drive = ap (λ k. (by_beat setup h Recessive k).drive) e ∙ is.drive;
-        waiting = ap (λ k. unsent_of setup (by_beat setup h Recessive k)) e ∙ ap (unsent_of setup) after ∙ is.waiting;
-        counted = counted_next n h is;
-      }
-
--- up to the quantum at which a frame is ready none is
-none_ready : (unsent : List Queued) (n j : ℕ) → suc j < until_frame unsent n → ready_head unsent (n + j) ≡ None
-none_ready [] n j less = refl
-none_ready (q ∷ qs) n j less = ap (λ b. cond b (Some q.frame) None) (lt-leb q.ready (n + j) (omega arith))
-
-module _ (setup : NodeSetup) (levels : List Level) (unsent : List Queued) (n : ℕ) (is : IsFree setup unsent n (history_of setup levels)) where
-  free_for : (j : ℕ) → j < until_frame unsent n → IsFree setup unsent (n + j) (history_of setup (levels ++ replicate j Recessive))
-  free_for zero less = subst (λ k. IsFree setup unsent k (history_of setup (levels ++ []))) (sym (add-zero n)) (subst (λ l. IsFree setup unsent n (history_of setup l)) (sym (append-nil levels)) is)
-  free_for (suc j) less =
-      let before = free_for j (omega arith) in
-      let h : History = history_of setup (levels ++ replicate j Recessive) in
-      subst (λ k. IsFree setup unsent k (history_of setup (levels ++ replicate (suc j) Recessive))) (sym (add-suc n j))
-      (subst (IsFree setup unsent (suc (n + j))) (sym (ap (history_of setup) (snoc levels Recessive j) ∙ history_next setup (levels ++ replicate j Recessive) Recessive))
-      (free_next setup unsent (n + j) h (beat_of setup.segments h.seen (seen_next h Recessive)) refl (none_ready unsent n j (omega arith)) before))
-
-  stands_for : (m : ℕ) → m ≤ until_frame unsent n → (history_of setup (levels ++ replicate m Recessive)).drive ≡ Recessive
-  stands_for zero few = ap (λ (l : List Level). (history_of setup l).drive) (append-nil levels) ∙ is.drive
-  stands_for (suc j) few =
-      let h : History = history_of setup (levels ++ replicate j Recessive) in
-      ap (λ (l : List Level). (history_of setup l).drive) (snoc levels Recessive j)
-      ∙ ap (λ (g : History). g.drive) (history_next setup (levels ++ replicate j Recessive) Recessive)
-      ∙ drive_next setup unsent (n + j) h (beat_of setup.segments h.seen (seen_next h Recessive)) (free_for j (omega arith))
-
-pub stands_free : (setup : NodeSetup) (levels : List Level) (m : ℕ) → is_free_sort (stretch_of (history_of setup levels).inputs).sort ≡ true → (history_of setup levels).drive ≡ Recessive
-    → m ≤ until_frame (unsent_of setup (history_of setup levels)) (length (history_of setup levels).seen)
-    → (history_of setup (levels ++ replicate m Recessive)).drive ≡ (history_of setup levels).drive
-stands_free setup levels m free drive few =
-    stands_for setup levels (unsent_of setup (history_of setup levels)) (length (history_of setup levels).seen) (record { free = free; drive = drive; waiting = refl; counted = refl }) m few
-    ∙ sym drive
 
 pub until_frame_most : (unsent : List Queued) (n : ℕ) → until_frame unsent n ≤ most_run_quanta
 until_frame_most [] n = omega arith
 until_frame_most (q ∷ qs) n = omega arith
+
+-- before the quantum at which a frame is ready none is
+none_ready : (unsent : List Queued) (n m : ℕ) → suc (suc m) ≤ until_frame unsent n → ready_head unsent n ≡ None
+none_ready [] n m few = refl
+none_ready (q ∷ qs) n m few = ap (λ b. cond b (Some q.frame) None) (lt-leb q.ready n (omega arith))
+
+until_less : (unsent : List Queued) (n m : ℕ) → suc (suc m) ≤ until_frame unsent n → suc m ≤ until_frame unsent (suc n)
+until_less [] n m few = omega arith
+until_less (q ∷ qs) n m few = omega arith
+
+-- the rest that a history leaves to the machine
+abbrev rest_in : History → Option ℕ
+rest_in h = rest_of (stretch_of h.inputs)
+
+module _ (rests : RestLaws) (silences : SilenceLaws) (ways : SampleLaws) (heads : HeadLaws) (setup : NodeSetup) where
+  -- a rest behind a sample, also where the node goes off the bus with it
+  rest_behind : (h : History) (n : ℕ) → RestsFor n (rest_of (stretch_after (stretch_of h.inputs) (Given (sampled_next setup h Recessive)))) → (v : Level)
+      → RestsFor n (rest_in (behind setup h Recessive (Sample v)))
+  rest_behind h n is v = by (switched_off x.mode after) (off_or_not x.mode after)
+    where
+      x : Sampled
+      x = sampled_next setup h Recessive
+
+      after : Mode
+      after = mode_of (counts_of (h.happened ++ (judged (stretch_of h.inputs) x).happened ∷ []))
+
+      on : RestsFor n (rest_of (stretch_of (h.inputs ++ Given x ∷ [])))
+      on = subst (λ s. RestsFor n (rest_of s)) (sym (stretch_next h.inputs (Given x))) is
+
+      by : (off : List Input) → (off ≡ []) ⊎ (off ≡ SwitchedOff ∷ []) → RestsFor n (rest_of (stretch_of ((h.inputs ++ Given x ∷ []) ++ off)))
+      by off (inl e) =
+          subst (λ s. RestsFor n (rest_of s)) (sym (ap (λ o. stretch_of ((h.inputs ++ Given x ∷ []) ++ o)) e ∙ ap stretch_of (append-nil (h.inputs ++ Given x ∷ [])))) on
+      by off (inr e) =
+          subst (λ s. RestsFor n (rest_of s)) (sym (ap (λ o. stretch_of ((h.inputs ++ Given x ∷ []) ++ o)) e ∙ stretch_next (h.inputs ++ Given x ∷ []) SwitchedOff))
+          (rests.off (stretch_of (h.inputs ++ Given x ∷ [])) n on)
+
+  -- any quantum leaves the drive of a machine at rest recessive
+  drive_next : (h : History) (b : Beat) → RestsFor 0 (rest_in h) → h.drive ≡ Recessive → (behind setup h Recessive b).drive ≡ Recessive
+  drive_next h Plain is d = d
+  drive_next h Start is d = rests.now (stretch_of h.inputs) is
+  drive_next h (Sample v) is d = d
+
+  -- whatever is handed
+
+  -- a longer way, and more samples, are no shorter stay
+  enough : (o : Option ℕ) (n k : ℕ) (g : History) → way_at setup g ≡ None → RestsFor n o → k ≤ suc n * suc (place_of setup) → k ≤ rest_stay o setup g
+  enough None n k g e is few = absurd is
+  enough (Some rest) n k g e is few =
+      subst (λ w. k ≤ floor_and_silence (floor_by w true (place_of setup)) rest (place_of setup)) (sym e)
+      (let more : suc (place_of setup) * n ≤ suc (place_of setup) * rest = mul-le-mul_left (suc (place_of setup)) is in omega arith)
+
+  module _ (h : History) (rest : ℕ) (is : rest_in h ≡ Some rest) (k : ℕ) (few : suc k ≤ rest_stay (Some rest) setup h) where
+    abbrev next : Beat → History
+    next b = behind setup h Recessive b
+
+    -- by the way to the sample
+    by_way : (b : Beat) (w : Option ℕ) → rest_in (next b) ≡ Some rest → way_at setup (next b) ≡ w → k ≤ floor_and_silence (floor_by w true (place_of setup)) rest (place_of setup)
+        → k ≤ rest_stay (rest_in (next b)) setup (next b)
+    by_way b w e f less =
+        subst (λ o. k ≤ rest_stay o setup (next b)) (sym e)
+        (subst (λ v. k ≤ floor_and_silence (floor_by v true (place_of setup)) rest (place_of setup)) (sym f) less)
+
+    left_start : beat_next setup h Recessive ≡ Start → k ≤ rest_stay (rest_in (next Start)) setup (next Start)
+    left_start e =
+        let after = ways.start setup.segments h.seen (seen_next h Recessive) e in
+        let low = after.1.1 in
+        let f = floor_few ways setup h (way_at setup h) true refl in
+        by_way Start (Some after.0) is after.1.0
+        (longer_near (place_of setup) (floor_by (way_at setup h) true (place_of setup)) after.0 rest k (omega arith)
+        (ways.some setup.segments (h.seen ++ seen_next h Recessive ∷ []) after.0 after.1.0) few)
+
+    left_plain : (w : Option ℕ) → way_at setup h ≡ w → beat_next setup h Recessive ≡ Plain → k ≤ rest_stay (rest_in (next Plain)) setup (next Plain)
+    left_plain None f e =
+        let here : suc k ≤ floor_and_silence (suc (place_of setup)) rest (place_of setup) =
+        subst (λ w. suc k ≤ floor_and_silence (floor_by w true (place_of setup)) rest (place_of setup)) f few in
+        by_way Plain None is (ways.after setup.segments h.seen (seen_next h Recessive) e f) (omega arith)
+    left_plain (Some n) f e =
+        let near = ways.near setup.segments h.seen (seen_next h Recessive) n e f in
+        by_way Plain (Some near.0) is near.1.0
+        (longer_near (place_of setup) n near.0 rest k near.1.1 (ways.some setup.segments (h.seen ++ seen_next h Recessive ∷ []) near.0 near.1.0)
+        (subst (λ w. suc k ≤ floor_and_silence (floor_by w true (place_of setup)) rest (place_of setup)) f few))
+
+    left_sample : (v : Level) (r : ℕ) → r ≡ rest → beat_next setup h Recessive ≡ Sample v → k ≤ rest_stay (rest_in (next (Sample v))) setup (next (Sample v))
+    left_sample v r same e = by r same
+      where
+        here : suc k ≤ floor_and_silence 1 rest (place_of setup)
+        here = subst (λ w. suc k ≤ floor_and_silence (floor_by w true (place_of setup)) rest (place_of setup)) (ways.sampled setup.segments h.seen (seen_next h Recessive) v e) few
+
+        by : (r : ℕ) → r ≡ rest → k ≤ rest_stay (rest_in (next (Sample v))) setup (next (Sample v))
+        by zero f = (let g : suc k ≤ floor_and_silence 1 zero (place_of setup) = subst (λ m. suc k ≤ floor_and_silence 1 m (place_of setup)) (sym f) here in omega arith)
+        by (suc n) f =
+            let g : suc k ≤ floor_and_silence 1 (suc n) (place_of setup) = subst (λ m. suc k ≤ floor_and_silence 1 m (place_of setup)) (sym f) here in
+            let rested : RestsFor (suc n) (rest_in h) = subst (RestsFor (suc n)) (sym (is ∙ ap Some (sym f))) (let l : suc n ≤ suc n = omega arith in l) in
+            enough (rest_in (next (Sample v))) n k (next (Sample v)) (ways.sample setup.segments h.seen (seen_next h Recessive) v e)
+            (rest_behind h n (rests.left (stretch_of h.inputs) (sampled_next setup h Recessive) n refl rested) v)
+            (omega arith)
+
+    left_by : (b : Beat) → beat_next setup h Recessive ≡ b → k ≤ rest_stay (rest_in (next b)) setup (next b)
+    left_by Start e = left_start e
+    left_by Plain e = left_plain (way_at setup h) refl e
+    left_by (Sample v) e = left_sample v rest refl e
+
+  -- where a quantum leaves a node that stands for it and for k quanta more
+  record Goes (next : History) (k : ℕ) : Type 0 where
+    drive : next.drive ≡ Recessive
+    left : k ≤ rest_stay (rest_in next) setup next
+
+  goes : (h : History) (k : ℕ) → h.drive ≡ Recessive → suc k ≤ rest_stay (rest_in h) setup h → Goes (behind setup h Recessive (beat_next setup h Recessive)) k
+  goes h k d few = by (rest_in h) refl few
+    where
+      by : (o : Option ℕ) → rest_in h ≡ o → suc k ≤ rest_stay o setup h → Goes (behind setup h Recessive (beat_next setup h Recessive)) k
+      by None e less = absurd (omega arith)
+      by (Some rest) e less = record {
+        drive = drive_next h (beat_next setup h Recessive) (subst (RestsFor 0) (sym e) (let l : 0 ≤ rest = omega arith in l)) d;
+        left = left_by h rest e k less (beat_next setup h Recessive) refl;
+      }
+
+  abbrev drive_after : List Level → Level
+  drive_after levels = (history_of setup levels).drive
+
+  one_more : (levels : List Level) (m : ℕ) → drive_after (levels ++ replicate (suc m) Recessive) ≡ drive_after ((levels ++ Recessive ∷ []) ++ replicate m Recessive)
+  one_more levels m = ap drive_after (sym (append_assoc levels (Recessive ∷ []) (replicate m Recessive)))
+
+  stands_rest : (m : ℕ) (levels : List Level) → drive_after levels ≡ Recessive → m ≤ rest_stay (rest_in (history_of setup levels)) setup (history_of setup levels)
+      → drive_after (levels ++ replicate m Recessive) ≡ Recessive
+  stands_rest zero levels d few = ap drive_after (append-nil levels) ∙ d
+  stands_rest (suc m) levels d few =
+      let g : Goes (history_of setup (levels ++ Recessive ∷ [])) m =
+      subst (λ next. Goes next m) (sym (history_next setup levels Recessive)) (goes (history_of setup levels) m d few) in
+      one_more levels m ∙ stands_rest m (levels ++ Recessive ∷ []) g.drive g.left
+
+  -- as long as none is handed
+
+  record IsUnhanded (h : History) (m : ℕ) : Type 0 where
+    drive : h.drive ≡ Recessive
+    rest : RestsFor 0 (rest_in h)
+    headless : head_of (stretch_of h.inputs).sort ≡ None
+    few : m ≤ until_frame (unsent_of setup h) (length h.seen)
+
+  -- a machine in no frame that is handed none is in none after a recessive sample
+  headless_after : (s : Stretch) (x : Sampled) → x.head ≡ None → head_of s.sort ≡ None → head_of (stretch_after s (Given x)).sort ≡ None
+  headless_after s x none e = by (judged s x).next refl
+    where
+      by : (next : Option Stretch) → (judged s x).next ≡ next → head_of (stretch_after s (Given x)).sort ≡ None
+      by None j = ap head_of (heads.on s x j) ∙ e
+      by (Some next) j =
+          let here : head_of (stretch_after s (Given x)).sort ≡ head_of next.sort = ap (λ n. head_of (or_next n (record { sort = s.sort; own = s.own ++ x.level ∷ [] })).sort) j in
+          elim (heads.head s next x j) [
+            | inl f ↦ here ∙ (f ∙ none)
+            | inr f ↦ here ∙ f
+          ]
+
+  headless_behind : (h : History) (v : Level) → ready_head (unsent_of setup h) (length h.seen) ≡ None → head_of (stretch_of h.inputs).sort ≡ None
+      → head_of (stretch_of (behind setup h Recessive (Sample v)).inputs).sort ≡ None
+  headless_behind h v none e = by (switched_off x.mode after) (off_or_not x.mode after)
+    where
+      x : Sampled
+      x = sampled_next setup h Recessive
+
+      after : Mode
+      after = mode_of (counts_of (h.happened ++ (judged (stretch_of h.inputs) x).happened ∷ []))
+
+      by : (off : List Input) → (off ≡ []) ⊎ (off ≡ SwitchedOff ∷ []) → head_of (stretch_of ((h.inputs ++ Given x ∷ []) ++ off)).sort ≡ None
+      by off (inl f) =
+          ap (λ o. head_of (stretch_of ((h.inputs ++ Given x ∷ []) ++ o)).sort) f
+          ∙ ap (λ i. head_of (stretch_of i).sort) (append-nil (h.inputs ++ Given x ∷ []))
+          ∙ ap (λ s. head_of s.sort) (stretch_next h.inputs (Given x)) ∙ headless_after (stretch_of h.inputs) x none e
+      by off (inr f) =
+          ap (λ o. head_of (stretch_of ((h.inputs ++ Given x ∷ []) ++ o)).sort) f
+          ∙ ap (λ s. head_of s.sort) (stretch_next (h.inputs ++ Given x ∷ []) SwitchedOff)
+
+  unhanded_next : (h : History) (m : ℕ) (b : Beat) → IsUnhanded h (suc (suc m)) → IsUnhanded (behind setup h Recessive b) (suc m)
+  unhanded_next h m b is = record {
+    drive = drive_next h b is.rest is.drive;
+    rest = rest_by b;
+    headless = headless_by b;
+    few = subst (λ n. suc m ≤ n) (sym waiting) (until_less (unsent_of setup h) (length h.seen) m is.few);
+  }
+    where
+      none : ready_head (unsent_of setup h) (length h.seen) ≡ None
+      none = none_ready (unsent_of setup h) (length h.seen) m is.few
+
+      rest_by : (b : Beat) → RestsFor 0 (rest_in (behind setup h Recessive b))
+      rest_by Start = is.rest
+      rest_by Plain = is.rest
+      rest_by (Sample v) = rest_behind h 0 (rests.none (stretch_of h.inputs) (sampled_next setup h Recessive) refl none is.rest) v
+
+      headless_by : (b : Beat) → head_of (stretch_of (behind setup h Recessive b).inputs).sort ≡ None
+      headless_by Start = is.headless
+      headless_by Plain = is.headless
+      headless_by (Sample v) = headless_behind h v none is.headless
+
+      waiting : until_frame (unsent_of setup (behind setup h Recessive b)) (length (behind setup h Recessive b).seen) ≡ until_frame (unsent_of setup h) (suc (length h.seen))
+      waiting =
+          ap (λ u. until_frame u (length (h.seen ++ seen_next h Recessive ∷ []))) (same_sent silences ways setup heads h Recessive b is.headless)
+          ∙ ap (until_frame (unsent_of setup h)) (length-append h.seen (seen_next h Recessive ∷ []) ∙ add-one (length h.seen))
+
+  stands_unhanded : (m : ℕ) (levels : List Level) → IsUnhanded (history_of setup levels) m → drive_after (levels ++ replicate m Recessive) ≡ Recessive
+  stands_unhanded zero levels is = ap drive_after (append-nil levels) ∙ is.drive
+  stands_unhanded (suc zero) levels is =
+      let h : History = history_of setup levels in
+      ap (λ (g : History). g.drive) (history_next setup levels Recessive) ∙ drive_next h (beat_next setup h Recessive) is.rest is.drive
+  stands_unhanded (suc (suc m)) levels is =
+      let h : History = history_of setup levels in
+      one_more levels (suc m)
+      ∙ stands_unhanded (suc m) (levels ++ Recessive ∷ [])
+      (subst (λ next. IsUnhanded next (suc m)) (sym (history_next setup levels Recessive)) (unhanded_next h m (beat_next setup h Recessive) is))
+
+  -- both
+
+  some_stay : (h : History) (w : Option ℕ) (rest : ℕ) → way_at setup h ≡ w → 1 ≤ floor_and_silence (floor_by w true (place_of setup)) rest (place_of setup)
+  some_stay h (Some n) rest e = (let some = ways.some setup.segments h.seen n e in let l = longer_least n rest (place_of setup) in omega arith)
+  some_stay h None rest e = omega arith
+
+  pub stands_at : (levels : List Level) (m : ℕ) → m ≤ stay_at setup (history_of setup levels) → drive_after (levels ++ replicate m Recessive) ≡ drive_after levels
+  stands_at levels m few = by_drive (is_dominant h.drive) refl few
+    where
+      h : History
+      h = history_of setup levels
+
+      by_head : (rest : ℕ) → rest_in h ≡ Some rest → h.drive ≡ Recessive → rest_stay (Some rest) setup h < m → m ≤ until_frame (unsent_of setup h) (length h.seen)
+          → (o : Option Content) → head_of (stretch_of h.inputs).sort ≡ o → drive_after (levels ++ replicate m Recessive) ≡ Recessive
+      by_head rest e d more less None f =
+          stands_unhanded m levels (record { drive = d; rest = subst (RestsFor 0) (sym e) (let l : 0 ≤ rest = omega arith in l); headless = f; few = less })
+      by_head rest e d more less (Some frame) f =
+          absurd (let now = until_now (unsent_of setup h) (length h.seen) frame (ready_heads heads setup levels frame f) in
+          let some = some_stay h (way_at setup h) rest refl in
+          omega arith)
+
+      by_rest : (o : Option ℕ) → rest_in h ≡ o → h.drive ≡ Recessive → m ≤ stay_by o setup h → drive_after (levels ++ replicate m Recessive) ≡ Recessive
+      by_rest None e d less = stands_rest m levels d (omega arith)
+      by_rest (Some rest) e d less = elim (cases_lt (rest_stay (Some rest) setup h) m) [
+        | inl more ↦ by_head rest e d more (omega arith) (head_of (stretch_of h.inputs).sort) refl
+        | inr within ↦ stands_rest m levels d (subst (λ o. m ≤ rest_stay o setup h) (sym e) within)
+      ]
+
+      by_drive : (b : Bool) → is_dominant h.drive ≡ b → m ≤ cond b 0 (stay_by (rest_in h) setup h) → drive_after (levels ++ replicate m Recessive) ≡ drive_after levels
+      by_drive true e less =
+          let none : m ≡ 0 = omega arith in
+          ap (λ n. drive_after (levels ++ replicate n Recessive)) none ∙ ap drive_after (append-nil levels)
+      by_drive false e less = (let d = recessive_from h.drive e in by_rest (rest_in h) refl d less ∙ sym d)

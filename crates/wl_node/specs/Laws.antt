@@ -1,6 +1,7 @@
 -- What holds of every node.
-use Rattle.std.specs.Prelude.{◌≡◌, ℕ, suc, ◌+◌, ◌/◌, ◌≤◌, List, ◌++◌, length, Some}
+use Rattle.std.specs.Prelude.{◌≡◌, ℕ, suc, ◌+◌, ◌/◌, ◌≤◌, List, ◌++◌, length, replicate, Some}
 use Rattle.wl_level.specs.declared.Level.{Level}
+use Rattle.wl_level.specs.declared.Level.TheVariants.{Recessive}
 use Rattle.wl_segments.specs.Lengths.{AreLengths, least_way}
 use Rattle.wl_sync.specs.SampleLaws.{quanta_to_sample}
 use Rattle.wl_node.specs.declared.setup.NodeSetup.{NodeSetup}
@@ -9,6 +10,7 @@ use Rattle.wl_node.specs.History.{history_of}
 use Rattle.wl_node.specs.Limits.{most_quiet}
 use Rattle.wl_node.specs.Quiet.{pending_of, floor_at, quiet_of, changes_of}
 use Rattle.wl_node.specs.Reached.{IsNode, quanta_of}
+use Rattle.wl_node.specs.Stays.{stay_at}
 
 pub record NodeLaws : Type 0 where
   -- each node is where some levels put it
@@ -24,6 +26,9 @@ pub record DriveLaws : Type 0 where
   -- no list of at most so many levels as it is quiet for changes its drive
   pub quiet : (setup : NodeSetup) (levels more : List Level) → length more ≤ quiet_of setup levels
       → (history_of setup (levels ++ more)).drive ≡ (history_of setup levels).drive
+  -- and where it sees recessive only it keeps its drive for as long as it stays
+  pub stays : (setup : NodeSetup) (levels : List Level) (m : ℕ) → m ≤ stay_at setup (history_of setup levels)
+      → (history_of setup (levels ++ replicate m Recessive)).drive ≡ (history_of setup levels).drive
   -- it is quiet up to its next sample at least, and for no more than what a record can promise
   pub floor : (setup : NodeSetup) (levels : List Level) → AreLengths setup.segments → floor_at setup (history_of setup levels) ≤ quiet_of setup levels
   pub most : (setup : NodeSetup) (levels : List Level) → quiet_of setup levels ≤ most_quiet

@@ -42,7 +42,7 @@ impl Node {
     ghost use Rattle.wl_node.specs.Limits.{most_quiet, most_run_quanta};
     ghost use Rattle.wl_node.specs.Quiet.{quiet_of};
     ghost use Rattle.wl_node.specs.Reached.{node_setup, quanta_of, IsNode, HasRoom, Shows, HasSeen, IsSameNode, StandsFor};
-    ghost use Rattle.wl_node.specs.Stays.{free_stay};
+    ghost use Rattle.wl_node.specs.Stays.{free_stay, stay_at};
 
     /// A node of this setup that has run no quantum: it drives recessive. Refused only where memory
     /// runs out.
@@ -127,14 +127,16 @@ impl Node {
     }
 
     /// For how many quanta more the node is sure to keep its drive where it sees recessive at each of them: at most
-    /// [`MOST_RUN_QUANTA`](crate::MOST_RUN_QUANTA), and no fewer than [`Node::quiet`] tells.
+    /// [`MOST_RUN_QUANTA`](crate::MOST_RUN_QUANTA). It takes few instructions in the middle of a frame.
     ///
-    /// On a free bus (Bosch CAN 2.0 part B, section 3.2.5, bus idle) that is at least up to the quantum at which the
-    /// next frame is ready, that one too, and where no frame waits as many as a node may run.
+    /// 0 where it drives dominant or its machine isn't at rest ([`Machine::rest`](wl_machine::Machine::rest)). Otherwise at
+    /// least up to the quantum at which the next frame is ready, that one too, and as many as a node may run where no frame
+    /// waits; and at least up to the first sample behind which the machine may send a frame that is ready, by the least way of
+    /// each bit: behind an acknowledged frame, a flag, a delimiter, an intermission, a suspension, a bus off or an integration
+    /// (Bosch CAN 2.0 part B, sections 3.2 and 8, rule 12).
     pub fn stays(&self) -> u64
+        ensures value { Shows self.now (λ h. result ≡ stay_at (node_setup self.now) h) }
         ensures stands { (m : ℕ) → m ≤ result → StandsFor self.now Level.Recessive m }
-        ensures quiet { (levels : List Level) → IsNode levels self.now
-            → quiet_of (node_setup self.now) levels ≤ result }
         ensures free { Shows self.now (λ h. free_stay (node_setup self.now) h ≤ result) }
         ensures most { result ≤ most_run_quanta }
     {

@@ -60,7 +60,7 @@ fn until_ready(queue: &[Queued], sent: usize, quantum: u64) -> u64
 
 /// Up to the next sample, by the way to it, whether the node drives what its machine wants, and the
 /// least way from a bit's start to a sample.
-fn floor(way: Option<u8>, settled: bool, place: u32) -> u32
+pub fn floor(way: Option<u8>, settled: bool, place: u32) -> u32
     requires { place ≤ 17 }
     ensures value { result ≡ floor_by way settled place }
     ensures small { result ≤ 255 }
@@ -73,7 +73,7 @@ fn floor(way: Option<u8>, settled: bool, place: u32) -> u32
 }
 
 /// And by so many samples more as the machine is silent for, where the node drives what it wants.
-fn longer(least: u32, silence: u16, place: u32) -> u32
+pub fn longer(least: u32, silence: u16, place: u32) -> u32
     requires few { least ≤ 255 }
     requires small { place ≤ 17 }
     ensures { result ≡ floor_and_silence least silence place }

@@ -5,29 +5,36 @@ ghost use Rattle.wl_level.specs.declared.Level.{Level};
 ghost use Rattle.wl_node.specs.History.{history_of};
 ghost use Rattle.wl_node.specs.Kept.{IsProgress, KeepsDrive};
 ghost use Rattle.wl_node.specs.Limits.{most_run_quanta};
-ghost use Rattle.wl_node.specs.Quiet.{quiet_of};
-ghost use Rattle.wl_node.specs.Stays.{until_frame, free_stay};
+ghost use Rattle.wl_node.specs.Stays.{until_frame, free_stay, stay_at};
 
 use crate::limits::MOST_RUN_QUANTA;
 use crate::progress::Progress;
+use crate::quiet::{floor, longer};
 use crate::setup::{NodeSetup, Queued};
 use wl_level::Level;
 
 impl Progress {
     /// For how many quanta more the drive stands, in a node of this setup, where each of them is recessive.
     pub fn stays(&self, setup: &NodeSetup) -> u64
+        ensures value { (levels : List Level) → IsProgress setup.now self.now levels
+            → result ≡ stay_at setup.now (history_of setup.now levels) }
         ensures stands { KeepsDrive setup.now Level.Recessive (suc result) self.now }
-        ensures quiet { (levels : List Level) → IsProgress setup.now self.now levels → quiet_of setup.now levels ≤ result }
         ensures free { (levels : List Level) → IsProgress setup.now self.now levels
             → free_stay setup.now (history_of setup.now levels) ≤ result }
         ensures most { result ≤ most_run_quanta }
     {
         crate::laws::drive_laws();
-        let quiet = self.quiet(setup) as u64;
-        if self.drive.is_dominant() || !self.traffic.machine.is_free() {
-            return quiet;
+        wl_machine::laws::a_rest_is_kept();
+        if self.drive.is_dominant() {
+            return 0;
         }
-        quiet.max(until_frame(setup.queue.as_slice(), self.traffic.sent, self.quanta))
+        let Some(rest) = self.traffic.machine.rest() else {
+            return 0;
+        };
+        let place = setup.segments.least_way() as u32;
+        let least = floor(self.clock.before_sample(), true, place);
+        let samples = longer(least, rest, place) as u64;
+        samples.max(until_frame(setup.queue.as_slice(), self.traffic.sent, self.quanta))
     }
 }
 
