@@ -1,13 +1,8 @@
 //! The ways from a worker to all other workers.
 ghost use Rattle.std.specs.Prelude.{◌≡◌, ◌≢◌, ℕ, ◌-◌, ◌<◌, Err, IfOk, MatchBool, OnOk, OnErr, map, replicate, length};
 ghost use Rattle.wl_mail.specs.Truth.{AreTrueOfPlan};
-<<<<<<< HEAD
 ghost use Rattle.wl_mail.specs.Ways.{one_letter_more, one_letter_more_to};
-ghost use Rattle.wl_mail.specs.declared.fault.MailFault.TheVariants.{Foreign};
-=======
-ghost use Rattle.wl_mail.specs.Ways.{one_more, one_more_to};
 ghost use Rattle.wl_mail.specs.declared.fault.MailFault.TheVariants.{Foreign, Gone, Memory};
->>>>>>> c67590e81b4c5b908194e007d24005ba05cb507a
 
 use crate::fault::MailFault;
 use crate::letter::Letter;
