@@ -253,7 +253,7 @@ def random_tick(rng):
     return rng.choice(["1ns", "125ps", "3us", "999us", "007ns", f"{rng.randint(1, 999)}{rng.choice([*UNITS])}"])
 
 
-WRONG_TICKS = ["0ns", "1000ns", "000us", "1", "ns", "ps1", "1ms", "1s", "1 ns", "+1ns", "1.5ns", "1nS", "0x1ns", "1n", "9999ps", "1nss", "٣ns"]
+WRONG_TICKS = ["0ns", "1000ns", "1000ps", "1000us", "000us", "1", "ns", "ps1", "1ms", "1s", "1 ns", "+1ns", "1.5ns", "1nS", "0x1ns", "1n", "9999ps", "1nss", "٣ns"]
 
 
 def asked(program, command, word, text):
