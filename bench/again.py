@@ -4,12 +4,15 @@
 usage: again.py [--count N] [--seed N] [--jobs N] [--program PROGRAM] [SECTION..]      100,000 inputs of seed 1, one process, all sections
 
 Each section names the page from which it was written. It takes no rule from plain.py, only its answers and its tuples: ticks are fractions rounded
-down, a frame is a string of 0 and 1, the machine is a list of samples for each stretch, the line a set of ticks. The section `refusals` stands in
-refused.py: the first fault of a plan's text is compared with plain.py's, and what `explain` writes of it with a PROGRAM's where one is named.
+down, a frame is a string of 0 and 1, the machine is a list of samples for each stretch, the line a set of ticks. Sections that stand elsewhere are written
+from the definitions in crates/*/specs: `refusals` in refused.py (the first fault of a plan's text, and what `explain` writes of it), `check` and `explain` in
+again_plans.py, `candump` and `vcd` in again_views.py, `groups` in again_groups.py. What they write is compared with plain.py's and, where a PROGRAM is named, with that; plain.py has
+no candump, so without a PROGRAM that section compares nothing.
 Prints for each section how many inputs were compared and how many differ, with the first ones; the status is 1 where some differ.
 """
 import copy
 import functools
+import importlib
 import math
 import random
 import re
@@ -536,7 +539,7 @@ class Node:
     def __init__(self, setup):
         self.setup, self.times, self.machine = setup, BitTimes(setup.segments[:4], setup.segments.inside), Machine()
         self.counts, self.quantum, self.drive = (0, 0), 0, 1
-        self.changed, self.samples, self.frames, self.events, self.errors = [], [], [], [], 0
+        self.changed, self.starts, self.samples, self.frames, self.events, self.errors = [], [], [], [], [], 0
 
     def unsent(self):
         return self.setup.queue[sum(what == "sent" for what, _, _ in self.frames):]
@@ -544,6 +547,7 @@ class Node:
     def run(self, level):
         beat, sync = self.times.look(level, self.machine.is_idle(), self.drive == 0)
         if sync is not None: self.tell("sync", "hard" if sync == "Hard" else sync)
+        if beat == "Start": self.starts.append(self.quantum)
         if beat == "Start" and self.machine.drive() != self.drive:
             self.drive = 1 - self.drive
             self.changed.append(self.quantum)
@@ -750,14 +754,13 @@ def differ():
 
 
 SECTIONS = (clock, segments, bit_clock, frames, counters, machine, node, line, records)
+ELSEWHERE = {"refusals": "refused", "check": "again_plans", "explain": "again_plans", "candump": "again_views", "vcd": "again_views", "groups": "again_groups"}
 
 
 def compare(work):
     """How many inputs of a section differ, and the first of them."""
     section, seed, numbers, program = work
-    if section == "refusals":
-        import refused
-        test = functools.partial(refused.refusals, program)
+    if section in ELSEWHERE: test = functools.partial(getattr(importlib.import_module(ELSEWHERE[section]), section), program)
     else: test = next(one for one in SECTIONS if one.__name__ == section)
     found = [(number, said) for number in numbers if (said := test(random.Random(f"{section} {seed} {number}")))]
     return len(found), found[:1]
@@ -766,7 +769,7 @@ def compare(work):
 def main():
     options, words = {"--count": "100000", "--seed": "1", "--jobs": "1", "--program": None}, sys.argv[1:]
     while len(words) > 1 and words[0] in options: options[words[0]], words = words[1], words[2:]
-    known = [one.__name__ for one in SECTIONS] + ["refusals"]
+    known = [one.__name__ for one in SECTIONS] + [*ELSEWHERE]
     if any(word not in known for word in words): sys.exit(sys.stderr.write(__doc__) and 2)
     count, wrong = int(options["--count"]), 0
     with Pool(int(options["--jobs"])) as pool:
