@@ -329,7 +329,7 @@ pub(crate) fn watch_all(
     Ok(now)
 }
 
-/// Adds those signals of node `i` that change at tick `t`, and answers what is known of it from then on.
+/// Adds those signals of node `i` that change at tick `t`, notes what is known of it from then on, and answers how long that stays.
 fn push_node(
     text: &mut Lines,
     plan: &Plan,
@@ -339,9 +339,9 @@ fn push_node(
     states: &[NodeState],
     i: usize,
     t: u64,
-    was: Watched,
+    known: &mut Watched,
     come: &mut Come,
-) -> Watched
+) -> u64
     requires checked { IsChecked plan.now }
     requires outcome { outcome.now ≡ outcome_of plan.now }
     requires samples { samples.now ≡ sample_ticks plan.now i }
@@ -350,23 +350,27 @@ fn push_node(
     requires node { i < length plan.now.nodes }
     requires some { 0 < t }
     requires early { t ≤ latest_end }
-    requires was { Watches plan.now i (t - 1) was }
+    requires was { Watches plan.now i (t - 1) known.old }
     requires room { array_vec_len text.old + 256 ≤ 16384 }
     ensures lines { text.new.items ≡ text.old.items
         ++ node_changes i (node_signals plan.now (t - 1) i) (node_signals plan.now t i) }
     ensures grown { array_vec_len text.new ≤ array_vec_len text.old + 256 }
-    ensures watches { Watches plan.now i t result }
+    ensures watches { Watches plan.now i t known.new }
+    ensures until { result ≡ stays_until known.new }
 {
     wl_plan::checked_is_sound();
     wl_plan::simulation_laws();
     wl_record_core::table_laws();
     wl_trace::state_by_samples();
-    if t < was.until() {
-        return was;
+    let until = known.until();
+    if t < until {
+        return until;
     }
+    let was = *known;
     let now = watch(plan, outcome, samples, starts, states, i, t, was, come);
     push_node_changes(text, i, was.now(), now.now());
-    now
+    *known = now;
+    now.until()
 }
 
 /// Adds those signals of all nodes that change at tick `t`, and answers a later tick up to which none of them changes again.
@@ -406,8 +410,7 @@ pub(crate) fn push_changes(
         let ticks = samples[i].as_slice();
         let begun = starts[i].as_slice();
         let known = states[i].as_slice();
-        let was = watched[i];
-        let now = push_node(
+        let stays = push_node(
             text,
             plan,
             outcome,
@@ -416,11 +419,10 @@ pub(crate) fn push_changes(
             known,
             i,
             t,
-            was,
+            &mut watched[i],
             &mut come.nodes[i],
         );
-        watched[i] = now;
-        until = until.min(now.until());
+        until = until.min(stays);
     }
     until
 }

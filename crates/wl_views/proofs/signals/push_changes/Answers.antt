@@ -15,8 +15,8 @@ bounds-samples-i c =
     let n = length-map-range_with_len (sample_ticks c.args.plan.now) 0 (length c.args.plan.now.nodes) in
     omega arith
 
-pub push_node-now-requires-clause-samples : goal.push_node-now-requires-clause-samples
-push_node-now-requires-clause-samples c =
+pub push_node-stays-requires-clause-samples : goal.push_node-stays-requires-clause-samples
+push_node-stays-requires-clause-samples c =
     let b : c.loop-i.i < length c.args.plan.now.nodes = omega arith in
     c.as_slice-ticks.ensures ∙ c.index-samples-i.is ∙ samples_are c.args.plan.now c.args.samples.now c.loop-i.i c.index-samples-i.result c.requires.samples b
 
@@ -29,28 +29,28 @@ loop-i-preserved c =
     let few = c.requires.checked.few_nodes in
     let long = c.loop-i.invariant.long in
     let room : i < length c.loop-i.watched = omega arith in
-    let watches = c.push_node-now.ensures.watches in
+    let watches = c.push_node-stays.ensures.watches in
     let p = watches.drive.later in
     let q = watches.line.later in
     let r = watches.samples.later in
     let s = watches.starts.later in
     let inv = c.loop-i.invariant in
-    let until = c.until.ensures in
+    let until = c.push_node-stays.ensures.until in
     record {
       lines =
-          c.push_node-now.ensures.lines
+          c.push_node-stays.ensures.lines
           ∙ ap (λ ys. ys ++ node_changes i (node_signals plan (t - 1) i) (node_signals plan t i)) inv.lines
           ∙ append_assoc c.args.text.now.items (changes_from 0 (take i (signals plan (t - 1))) (take i (signals plan t))) (node_changes i (node_signals plan (t - 1) i) (node_signals plan t i))
           ∙ ap (λ ys. c.args.text.now.items ++ ys) (sym (node_more plan (t - 1) t i b));
-      room = let grown = c.push_node-now.ensures.grown in let was = inv.room in omega arith;
+      room = let grown = c.push_node-stays.ensures.grown in let was = inv.room in omega arith;
       later = omega arith;
       inside = omega arith;
-      long = omega (arith, length-set c.loop-i.watched i c.push_node-now.result);
-      known = known_more (λ k w. Watches plan k t w) c.loop-i.watched i c.push_node-now.result room inv.known watches;
+      long = omega (arith, length-set c.loop-i.watched i c.push_node-stays.new.known);
+      known = known_more (λ k w. Watches plan k t w) c.loop-i.watched i c.push_node-stays.new.known room inv.known watches;
       lasting =
-          known_more (λ k w. c.min-until.result ≤ stays_until w) c.loop-i.watched i c.push_node-now.result room
+          known_more (λ k w. c.min-until.result ≤ stays_until w) c.loop-i.watched i c.push_node-stays.new.known room
           (λ k h. let less = inv.lasting k h in omega arith) (omega arith);
-      others = others_stay (λ k w. Watches plan k (t - 1) w) c.loop-i.watched i (length plan.nodes) c.push_node-now.result inv.others;
+      others = others_stay (λ k w. Watches plan k (t - 1) w) c.loop-i.watched i (length plan.nodes) c.push_node-stays.new.known inv.others;
     }
 
 pub returns : goal.returns
@@ -88,8 +88,8 @@ bounds-states-i c =
     let n = length-map-range_with_len (states_at c.args.plan.now) 0 (length c.args.plan.now.nodes) in
     omega arith
 
-pub push_node-now-requires-clause-states : goal.push_node-now-requires-clause-states
-push_node-now-requires-clause-states c =
+pub push_node-stays-requires-clause-states : goal.push_node-stays-requires-clause-states
+push_node-stays-requires-clause-states c =
     let b : c.loop-i.i < length c.args.plan.now.nodes = omega arith in
     c.as_slice-known.ensures ∙ c.index-states-i.is ∙ states_are c.args.plan.now c.args.states.now c.loop-i.i c.index-states-i.result c.requires.states b
 
@@ -99,7 +99,7 @@ bounds-starts-i c =
     let n = length-map-range_with_len (start_ticks c.args.plan.now) 0 (length c.args.plan.now.nodes) in
     omega arith
 
-pub push_node-now-requires-clause-starts : goal.push_node-now-requires-clause-starts
-push_node-now-requires-clause-starts c =
+pub push_node-stays-requires-clause-starts : goal.push_node-stays-requires-clause-starts
+push_node-stays-requires-clause-starts c =
     let b : c.loop-i.i < length c.args.plan.now.nodes = omega arith in
     c.as_slice-begun.ensures ∙ c.index-starts-i.is ∙ starts_are c.args.plan.now c.args.starts.now c.loop-i.i c.index-starts-i.result c.requires.starts b
