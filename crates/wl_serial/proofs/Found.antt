@@ -25,7 +25,7 @@ in_order plan i r laws table run =
     subst IsIncreasing (sym run.1.changes) (table.front_increases (count_below ((line_of plan).instant i run.0) (table_of plan i)) (table_of plan i) (laws.changes_increase (line_of plan) i))
 
 -- below the tick up to which its drive is known, what a node has changed tells its level
-level_told : (plan : Plan) (i u : ℕ) (r : Running) → SimulationLaws → TableLaws → IsSound (line_of plan) → i < length plan.nodes → IsRunning plan i r
+pub level_told : (plan : Plan) (i u : ℕ) (r : Running) → SimulationLaws → TableLaws → IsSound (line_of plan) → i < length plan.nodes → IsRunning plan i r
     → u < r.known → odd (count_below (u + 1) r.changes) ≡ level (line_of plan) i u
 level_told plan i u r laws table sound b run before =
     let most : count_below (u + 1) (table_of plan i) ≤ count_below r.known (table_of plan i) = table.count_less (u + 1) r.known (table_of plan i) (omega arith) in

@@ -4,6 +4,7 @@ mod Found
 mod Hearing
 mod Kept
 mod Known
+mod Resting
 mod Rows
 mod Runners
 mod Steps

@@ -1,4 +1,5 @@
 pub mod Heard
 pub mod Outcome
 pub mod Records
+pub mod Rest
 pub mod Running

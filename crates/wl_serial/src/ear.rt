@@ -2,7 +2,9 @@
 ghost use Rattle.std.specs.Prelude.{◌≡◌, ℕ, ◌+◌, ◌<◌, ◌≤◌, ◌^◌, ◌||◌, List, length, set, slice_index_or};
 ghost use Rattle.wl_level.specs.Levels.{level_of};
 ghost use Rattle.wl_plan.specs.Checked.{IsChecked};
+ghost use Rattle.wl_plan.specs.declared.plan.Plan.{Plan as GivenPlan};
 ghost use Rattle.wl_serial.specs.Heard.{AreMade, AreDelays, AreOthers, AreSooner, IsEar, AreEars, IsFound, IsTold, IsHeard, AreHeard, HasChanged};
+ghost use Rattle.wl_serial.specs.Rest.{IsSilent};
 ghost use Rattle.wl_serial.specs.Running.{AreRunning, AreKnown, KnowsOthers, RunsBelow, AllKnown};
 
 use crate::pulse::{Pulse, SILENCE};
@@ -91,6 +93,19 @@ impl Ear {
             until: nodes.until.min(self.shaken.until),
             level: level_by(nodes.dominant, self.shaken.dominant),
         }
+    }
+
+    /// The tick below which nothing dominant comes to node `j` from its next quantum on, by the changes that the nodes have told and by the
+    /// disturbances.
+    pub(crate) fn silent_until(&self, running: &[Running], j: usize) -> u64
+        requires node { j < length running.now }
+        ensures { (plan : GivenPlan) (d : Running) → IsEar plan j self.now → IsHeard plan running.now j self.now
+            → IsSilent plan running.now j (slice_index_or running.now j d).next result }
+    {
+        if self.heard.dominant || self.shaken.dominant || running[j].next < self.shaken.from {
+            return 0;
+        }
+        self.heard.until.min(self.shaken.until)
     }
 
     /// Asks what comes from the nodes, where what was heard of them last doesn't tell it for tick `t`, at which node `j` has its next quantum.

@@ -8,6 +8,7 @@ ghost use Rattle.wl_serial.specs.Running.{AreRunning, AreKnown, AllKnown, NoneBe
 
 use crate::ear::Ear;
 use crate::outcome::{NodeOutcomes, Outcome};
+use crate::rest::rest;
 use crate::running_node::{Running, Ticks};
 use crate::turn::turn;
 use std::alloc::{AllocError, Global};
@@ -86,6 +87,7 @@ fn run(
     ensures ended { OnOk result (NoneBefore plan.now.end running.new) }
 {
     while let Some(j) = next_before(plan, running, known) {
+        rest(plan, running, ears, known, j);
         turn(plan, running, ears, known, j)?;
     }
     Ok(())

@@ -7,6 +7,7 @@ mod laws;
 mod outcome;
 mod pulse;
 mod records;
+mod rest;
 mod running_node;
 mod shaken;
 mod so_far;

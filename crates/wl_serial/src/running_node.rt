@@ -6,13 +6,14 @@ ghost use Rattle.wl_plan.specs.Checked.{IsChecked};
 ghost use Rattle.wl_plan.specs.declared.plan.Plan.{Plan as GivenPlan};
 ghost use Rattle.wl_serial.specs.Outcome.{node_outcome_of};
 ghost use Rattle.wl_serial.specs.Heard.{StaysWhile};
+ghost use Rattle.wl_serial.specs.Rest.{Stands, Stays};
 ghost use Rattle.wl_serial.specs.Running.{IsRunning, one_more};
 
 use crate::outcome::{Changes, NodeOutcome};
 use std::alloc::{AllocError, Global};
 use wl_clock::Clock;
 use wl_level::{Level, Listed};
-use wl_node::Node;
+use wl_node::{MOST_RUN_QUANTA, Node};
 use wl_plan::Plan;
 use wl_topology::MOST_NODES;
 
@@ -94,6 +95,35 @@ impl Running {
         wl_plan::simulation_laws();
         let last = self.node.quanta() + self.node.quiet() as u64;
         self.known = plan.nodes.as_slice()[i].clock.at(last);
+    }
+
+    /// Up to which tick the node is sure to drive recessive, if it sees recessive only; 0 where it drives dominant.
+    pub(crate) fn stands_until(&self, plan: &Plan, i: usize) -> u64
+        requires checked { IsChecked plan.now }
+        requires node { i < length plan.now.nodes }
+        requires running { IsRunning plan.now i self.now }
+        ensures { 0 < result → Stands plan.now result i self.now }
+    {
+        wl_plan::checked_is_sound();
+        wl_plan::simulation_laws();
+        let stays = self.node.stays();
+        if stays == 0 || self.node.drive().is_dominant() {
+            return 0;
+        }
+        let last = self.node.quanta() + stays;
+        plan.nodes.as_slice()[i].clock.at(last.min(MOST_RUN_QUANTA))
+    }
+
+    /// Notes that the drive is known below a tick, if it isn't known further.
+    pub(crate) fn lift(&mut self, plan: &Plan, i: usize, until: u64)
+        requires running { IsRunning plan.now i self.old }
+        requires stays { Stays plan.now until i self.old }
+        ensures running { IsRunning plan.now i self.new }
+        ensures next { self.new.next ≡ self.old.next }
+        ensures changes { self.new.changes ≡ self.old.changes }
+        ensures known { self.old.known ≤ self.new.known }
+    {
+        self.known = self.known.max(until);
     }
 
     /// What the node did, where it has run all its quanta before the end.

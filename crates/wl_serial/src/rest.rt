@@ -1,0 +1,98 @@
+//! A line at rest: all nodes go on at once.
+ghost use Rattle.std.specs.Prelude.{◌≡◌, ℕ, ◌<◌, ◌≤◌, length};
+ghost use Rattle.wl_plan.specs.Checked.{IsChecked};
+ghost use Rattle.wl_serial.specs.Heard.{AreEars, AreHeard};
+ghost use Rattle.wl_serial.specs.Rest.{AreLifted, AreSilent, AllStand, AllStay};
+ghost use Rattle.wl_serial.specs.Running.{AreRunning, AreKnown, IsNext};
+
+use crate::ear::Ear;
+use crate::running_node::{Running, Ticks};
+use wl_plan::Plan;
+
+/// Lifts the ticks below which the drives are known, where the line is at rest. Node `j` goes next.
+pub(crate) fn rest(plan: &Plan, running: &mut [Running], ears: &[Ear], known: &mut Ticks, j: usize)
+    requires checked { IsChecked plan.now }
+    requires running { AreRunning plan.now running.old }
+    requires ears { AreEars plan.now ears.now }
+    requires heard { AreHeard plan.now running.old ears.now }
+    requires known { AreKnown plan.now.end running.old known.old }
+    requires node { j < length running.old }
+    ensures running { AreRunning plan.now running.new }
+    ensures known { AreKnown plan.now.end running.new known.new }
+    ensures lifted { AreLifted plan.now running.old running.new }
+{
+    let until = rests_until(plan, running, ears, j);
+    if running[j].known < until {
+        lift(plan, running, known, until);
+    }
+}
+
+/// The tick below which no node changes its drive: the least at which something dominant could come to a place, or a node could drive dominant
+/// that saw recessive only. It is 0 where that is no later than the tick below which the drive of node `j` is known.
+fn rests_until(plan: &Plan, running: &[Running], ears: &[Ear], j: usize) -> u64
+    requires checked { IsChecked plan.now }
+    requires running { AreRunning plan.now running.now }
+    requires ears { AreEars plan.now ears.now }
+    requires heard { AreHeard plan.now running.now ears.now }
+    requires node { j < length running.now }
+    ensures { AllStay plan.now result running.now }
+{
+    wl_plan::checked_is_sound();
+    wl_plan::simulation_laws();
+    wl_plan::a_line_at_rest_stays();
+    wl_record_core::table_laws();
+    wl_topology::driven_laws();
+    let known = running[j].known;
+    if ears[j].silent_until(running, j) <= known || running[j].stands_until(plan, j) <= known {
+        return 0;
+    }
+    let silent = all_silent_until(plan, running, ears);
+    if silent <= known {
+        return 0;
+    }
+    all_stand_until(plan, running, silent)
+}
+
+/// The tick below which nothing dominant comes to a place from the next quantum of its node on, and no later than the end.
+fn all_silent_until(plan: &Plan, running: &[Running], ears: &[Ear]) -> u64
+    requires running { AreRunning plan.now running.now }
+    requires ears { AreEars plan.now ears.now }
+    requires heard { AreHeard plan.now running.now ears.now }
+    ensures silent { AreSilent plan.now running.now result }
+{
+    let mut until = plan.end;
+    for j in 0..ears.len() {
+        until = until.min(ears[j].silent_until(running, j));
+    }
+    until
+}
+
+/// The tick up to which each node drives recessive if it sees recessive only, and no later than tick `most`; 0 where one drives dominant.
+fn all_stand_until(plan: &Plan, running: &[Running], most: u64) -> u64
+    requires checked { IsChecked plan.now }
+    requires running { AreRunning plan.now running.now }
+    ensures stand { 0 < result → AllStand plan.now result running.now }
+    ensures few { result ≤ most }
+{
+    let mut until = most;
+    for i in 0..running.len() {
+        until = until.min(running[i].stands_until(plan, i));
+    }
+    until
+}
+
+/// The drives of all nodes are known up to tick `until`, and where they were known further, so far.
+fn lift(plan: &Plan, running: &mut [Running], known: &mut Ticks, until: u64)
+    requires checked { IsChecked plan.now }
+    requires running { AreRunning plan.now running.old }
+    requires known { AreKnown plan.now.end running.old known.old }
+    requires stay { AllStay plan.now until running.old }
+    ensures running { AreRunning plan.now running.new }
+    ensures known { AreKnown plan.now.end running.new known.new }
+    ensures lifted { AreLifted plan.now running.old running.new }
+{
+    for i in 0..running.len() {
+        running[i].lift(plan, i, until);
+        known[i] = running[i].known;
+    }
+}
