@@ -5,13 +5,15 @@
 //! so. At the end the first one tells. What is told is its canonical records, and of each node that they name the run length, the horizon and the
 //! wave: `H 0 1 21`, `D 0 20 21`.
 //!
-//! The row is written back, and behind it what both forms tell: a replica, which groups and worlds keep, and rows, into which texts are read. Where
-//! two differ, what each form tells stands on a line of its own. Lines that are empty or begin with `#` are written back as they are.
+//! The row is written back, and behind it what all forms tell: a replica, which groups and worlds keep, rows, into which texts are read, and
+//! ordered maps, the plain form. Where two differ, what each form tells stands on a line of its own. Lines that are empty or begin with `#` are written back as they are.
 #![tactic(auto)]
 
 mod form;
+mod maps;
 mod row;
 
+use maps::Maps;
 use row::{Stop, answers, steps};
 use std::alloc::Global;
 use std::io;
@@ -23,6 +25,7 @@ fn answer(alloc: Global, row: &str) -> Result<String, Stop> {
     let by_form = [
         answers::<Replica>(alloc, steps.as_slice())?,
         answers::<Rows>(alloc, steps.as_slice())?,
+        answers::<Maps>(alloc, steps.as_slice())?,
     ];
     let mut said = String::from_str(alloc, by_form[0].as_str())?;
     if by_form

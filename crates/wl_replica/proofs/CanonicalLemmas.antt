@@ -5,8 +5,9 @@ use Rattle.std.specs.List.Sorted.{IsStrictlySortedBy}
 use Rattle.std.specs.Map.{keys_of}
 use Rattle.std.specs.BTreeMap.{BTreeMap, IsOrdered}
 use Rattle.std.specs.FinMap.{entries-from_sorted}
-use Rattle.std.proofs.Common.{sym, ap, ◌∙◌, arith}
+use Rattle.std.proofs.Common.{sym, ap, ◌∙◌, arith, append_assoc}
 use Rattle.std.proofs.lemmas.List.{append-nil}
+use Rattle.std.proofs.lemmas.List.Elements.{filter_map-append}
 use Rattle.std.proofs.lemmas.Grind.{flat_map-append}
 use Prim.Native.Nat.{zero, suc}
 use Rattle.wl_lattice.specs.declared.FlatWord.{FlatWord}
@@ -32,6 +33,12 @@ module _ {W : Type 0} (holds : W → Bool) (told : Key × W → Option Record) (
   pub told_filtered : (node : ℕ) (es : List (Key × W)) → filter_map told (of_node node (filter (λ f. holds f.1) es)) ≡ filter_map told (of_node node es)
   told_filtered node [] = refl
   told_filtered node (e ∷ es) = one (holds e.1) (e.0.0 == node) e node es refl refl (told_filtered node es)
+
+-- the record of one entry more, and of those that are left
+pub one_entry_more : (all more : List Record) (e : Key × FlatWord) (es : List (Key × FlatWord)) → more ≡ all ++ filter_map edge_record (e ∷ []) → more ++ filter_map edge_record es ≡ all ++ filter_map edge_record (e ∷ es)
+one_entry_more all more e es is =
+    ap (λ rs. rs ++ filter_map edge_record es) is
+    ∙ (append_assoc all (filter_map edge_record (e ∷ [])) (filter_map edge_record es) ∙ ap (λ rs. all ++ rs) (sym (filter_map-append edge_record (e ∷ []) es)))
 
 pub no_edge : (e : Key × FlatWord) → holds_edge e.1 ≡ false → edge_record e ≡ None
 no_edge (k, flat.Nothing) h = refl

@@ -14,24 +14,24 @@ use Rattle.wl_replica.specs.Dense.{row_number, slot_number, row_entries, rows_en
 use Rattle.wl_replica.proofs.KeptLemmas.{found}
 use Rattle.wl_replica.proofs.WalkLemmas.{number_at_is, number_after}
 
-less_in_row : (i m n : ℕ) → m < n → key_cmp (i, m) (i, n) ≡ Less
+pub less_in_row : (i m n : ℕ) → m < n → key_cmp (i, m) (i, n) ≡ Less
 less_in_row i m n h = grind (arith, nat_tests)
 
-less_by_node : (x y : Key) → x.0 < y.0 → key_cmp x y ≡ Less
+pub less_by_node : (x y : Key) → x.0 < y.0 → key_cmp x y ≡ Less
 less_by_node x y h = grind (arith, nat_tests)
 
-other_node : (node n : ℕ) (k : Key) → ¬ (k.0 ≡ node) → is_at (key_cmp (node, n)) k ≡ false
+pub other_node : (node n : ℕ) (k : Key) → ¬ (k.0 ≡ node) → is_at (key_cmp (node, n)) k ≡ false
 other_node node n k h = grind (arith, nat_tests)
 
-is_node : (a b : ℕ) → a ≡ b → (a == b) ≡ true
+pub is_node : (a b : ℕ) → a ≡ b → (a == b) ≡ true
 is_node a b e = grind (arith, nat_tests)
 
 module _ {W : Type 0} (word : ℕ → W) where
   -- every key is of a node past this one
-  abbrev Past : ℕ → List (Key × W) → Type 0
+  abbrev pub Past : ℕ → List (Key × W) → Type 0
   Past i es = AllByRecursion (λ (y : Key). i < y.0) (keys_of es)
 
-  past_row : (i j n : ℕ) (row : List ℕ) (es : List (Key × W)) → i < j → Past i es → Past i (row_entries word j n row es)
+  pub past_row : (i j n : ℕ) (row : List ℕ) (es : List (Key × W)) → i < j → Past i es → Past i (row_entries word j n row es)
   past_row i j n [] es lt h = h
   past_row i j n (a ∷ row) es lt h = (lt, past_row i j (suc n) row es lt h)
 
@@ -39,7 +39,7 @@ module _ {W : Type 0} (word : ℕ → W) where
   past_rows i j [] lt = tt
   past_rows i j (row ∷ rows) lt = past_row i j 0 row (rows_entries word (suc j) rows) lt (past_rows i (suc j) rows (omega arith))
 
-  below_others : (x : Key) (es : List (Key × W)) → Past x.0 es → AllByRecursion (λ y. key_cmp x y ≡ Less) (keys_of es)
+  pub below_others : (x : Key) (es : List (Key × W)) → Past x.0 es → AllByRecursion (λ y. key_cmp x y ≡ Less) (keys_of es)
   below_others x [] h = tt
   below_others x (e ∷ es) h = (less_by_node x e.0 h.0, below_others x es h.1)
 
@@ -58,13 +58,13 @@ module _ {W : Type 0} (word : ℕ → W) where
   rows_sorted i (row ∷ rows) = row_sorted i 0 row (rows_entries word (suc i) rows) (past_rows i (suc i) rows (omega arith)) (rows_sorted (suc i) rows)
 
   -- ---- what is found at a key
-  found_past : (node n : ℕ) (es : List (Key × W)) → Past node es → found es (node, n) ≡ None
+  pub found_past : (node n : ℕ) (es : List (Key × W)) → Past node es → found es (node, n) ≡ None
   found_past node n [] h = refl
   found_past node n (e ∷ es) h =
       let apart : ¬ (e.0.0 ≡ node) = λ e'. omega (arith, h.0, e') in
       ap (λ b. cond b (Some e.1) (found es (node, n))) (other_node node n e.0 apart) ∙ found_past node n es h.1
 
-  found_other : (node n i m : ℕ) (row : List ℕ) (es : List (Key × W)) → ¬ (i ≡ node) → found (row_entries word i m row es) (node, n) ≡ found es (node, n)
+  pub found_other : (node n i m : ℕ) (row : List ℕ) (es : List (Key × W)) → ¬ (i ≡ node) → found (row_entries word i m row es) (node, n) ≡ found es (node, n)
   found_other node n i m [] es apart = refl
   found_other node n i m (a ∷ row) es apart =
       ap (λ b. cond b (Some (word a)) (found (row_entries word i (suc m) row es) (node, n))) (other_node node n (i, m) apart) ∙ found_other node n i (suc m) row es apart
@@ -105,7 +105,7 @@ module _ {W : Type 0} (word : ℕ → W) where
   rows_have rows q = let none : q.0 - 0 ≡ q.0 = omega arith in found_rows q.0 q.1 0 rows (omega arith) ∙ ap (λ k. word (row_number (slice_index_or rows k []) q.1)) none
 
   -- ---- the entries of a node
-  none_past : (node : ℕ) (es : List (Key × W)) → Past node es → of_node node es ≡ []
+  pub none_past : (node : ℕ) (es : List (Key × W)) → Past node es → of_node node es ≡ []
   none_past node [] h = refl
   none_past node (e ∷ es) h =
       let apart : ¬ (e.0.0 ≡ node) = λ e'. omega (arith, h.0, e') in
@@ -117,7 +117,7 @@ module _ {W : Type 0} (word : ℕ → W) where
       ap (λ b. cond b (((i, n), word a) ∷ of_node i (row_entries word i (suc n) row es)) (of_node i (row_entries word i (suc n) row es))) (is_node i i refl)
       ∙ ap (λ fs. ((i, n), word a) ∷ fs) (node_row i (suc n) row es h)
 
-  other_row : (node i n : ℕ) (row : List ℕ) (es : List (Key × W)) → ¬ (i ≡ node) → of_node node (row_entries word i n row es) ≡ of_node node es
+  pub other_row : (node i n : ℕ) (row : List ℕ) (es : List (Key × W)) → ¬ (i ≡ node) → of_node node (row_entries word i n row es) ≡ of_node node es
   other_row node i n [] es apart = refl
   other_row node i n (a ∷ row) es apart =
       ap (λ b. cond b (((i, n), word a) ∷ of_node node (row_entries word i (suc n) row es)) (of_node node (row_entries word i (suc n) row es))) (ne_eqb i node apart)

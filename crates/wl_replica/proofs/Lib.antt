@@ -33,3 +33,6 @@ mod DenseLemmas
 mod DenseShown
 mod DenseWalks
 pub mod Callers
+mod FirstsEntries
+mod EdgesSeen
+mod JoinedEdges

@@ -100,7 +100,7 @@ pub number_at_is : (node n : ℕ) (k : Key) → k.0 ≡ node → k.1 ≡ n → i
 number_at_is node n k p q = grind (arith, nat_tests)
 
 -- the range of a node has its entries
-same_test : {W : Type 0} (p q : Key → Bool) → ((k : Key) → p k ≡ q k) → (es : List (Key × W)) → filter (λ f. p f.0) es ≡ filter (λ f. q f.0) es
+pub same_test : {W : Type 0} (p q : Key → Bool) → ((k : Key) → p k ≡ q k) → (es : List (Key × W)) → filter (λ f. p f.0) es ≡ filter (λ f. q f.0) es
 same_test p q h [] = refl
 same_test p q h (e ∷ es) = λ i. cond (h e.0 i) (e ∷ same_test p q h es i) (same_test p q h es i)
 

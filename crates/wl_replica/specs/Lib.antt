@@ -12,3 +12,4 @@ pub mod KnownLaws
 pub mod Slots
 pub mod SlotsOf
 pub mod Dense
+pub mod Firsts

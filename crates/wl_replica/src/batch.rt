@@ -10,6 +10,7 @@ ghost use Rattle.wl_replica.specs.Kept.{SameWords, JoinsIn, HasSlot, HasSlots, H
 ghost use Rattle.wl_replica.specs.State.{edge_word, silence_word, Fits};
 ghost use Rattle.wl_replica.specs.Runs.{AreKeptWithRuns};
 
+use crate::edges::Edges;
 use crate::known_run::{KnownRun, edge_came, silence_came};
 use crate::words::{join_at, make_room_at};
 use std::alloc::AllocError;
@@ -19,7 +20,7 @@ use wl_record_core::{Record, Slot};
 
 /// Makes room in each slot. No word is seen to change.
 pub fn make_slots(
-    edges: &mut BTreeMap<(u8, u32), FlatWord>,
+    edges: &mut Edges,
     silences: &mut BTreeMap<(u8, u32), MaxWord>,
     slots: &[Slot],
 ) -> Result<(), AllocError>
@@ -32,13 +33,14 @@ pub fn make_slots(
     for slot in slots {
         make_slot(edges, silences, *slot)?;
     }
-    let _ = (edges.len(), silences.len());
+    edges.in_order();
+    let _ = silences.len();
     Ok(())
 }
 
 /// Makes room in a slot. No word is seen to change.
 fn make_slot(
-    edges: &mut BTreeMap<(u8, u32), FlatWord>,
+    edges: &mut Edges,
     silences: &mut BTreeMap<(u8, u32), MaxWord>,
     slot: Slot,
 ) -> Result<(), AllocError>
@@ -48,16 +50,17 @@ fn make_slot(
     ensures silences_same { SameWords (max_word 0) silences.old silences.new }
     ensures room { OnOk result (HasSlot edges.new silences.new slot) }
 {
-    let _ = (edges.len(), silences.len());
+    edges.in_order();
+    let _ = silences.len();
     match slot {
-        Slot::EdgeAt { node, seq } => make_room_at(edges, (node, seq)),
+        Slot::EdgeAt { node, seq } => edges.make_room_at((node, seq)),
         Slot::SilenceAt { node, count } => make_room_at(silences, (node, count)),
     }
 }
 
 /// Joins in what each record tells, where there is room.
 pub fn join_slots(
-    edges: &mut BTreeMap<(u8, u32), FlatWord>,
+    edges: &mut Edges,
     silences: &mut BTreeMap<(u8, u32), MaxWord>,
     runs: &mut Vec<KnownRun>,
     told: &[Record],
@@ -75,12 +78,13 @@ pub fn join_slots(
     for record in told {
         join_slot(edges, silences, runs, record);
     }
-    let _ = (edges.len(), silences.len());
+    edges.in_order();
+    let _ = silences.len();
 }
 
 /// Joins in what a record tells, where there is room.
 fn join_slot(
-    edges: &mut BTreeMap<(u8, u32), FlatWord>,
+    edges: &mut Edges,
     silences: &mut BTreeMap<(u8, u32), MaxWord>,
     runs: &mut Vec<KnownRun>,
     told: &Record,
@@ -96,14 +100,15 @@ fn join_slot(
     ensures silences_joined { JoinsIn (max_word 0) joined_max silences.old silences.new
         (filter_map silence_word (told.now ∷ [])) }
 {
-    let _ = (edges.len(), silences.len());
+    edges.in_order();
+    let _ = silences.len();
     match *told {
         Record::Edge { node, seq, tick } => {
-            join_at(edges, (node, seq), &FlatWord::Value(tick));
+            edges.join_at((node, seq), &FlatWord::Value(tick));
             edge_came(runs, edges, silences, node, seq);
         }
         Record::Clash { node, seq } => {
-            join_at(edges, (node, seq), &FlatWord::Clash);
+            edges.join_at((node, seq), &FlatWord::Clash);
             edge_came(runs, edges, silences, node, seq);
         }
         Record::Silence { node, count, until } => {

@@ -10,7 +10,7 @@ use wl_lattice::{FlatWord, Join, MaxWord, Slots};
 use wl_record_core::Record;
 
 /// So many empty rows.
-fn empty_rows(alloc: Global, nodes: u8) -> Result<Vec<Row>, AllocError>
+pub fn empty_rows(alloc: Global, nodes: u8) -> Result<Vec<Row>, AllocError>
     ensures { IfOk result (λ rows. rows.items ≡ replicate nodes []) }
 {
     let mut rows = Vec::with_capacity(alloc, nodes as usize)?;

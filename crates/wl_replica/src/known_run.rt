@@ -5,6 +5,7 @@ ghost use Rattle.wl_replica.specs.Kept.{edges_in, silences_in, TicksAreWithin};
 ghost use Rattle.wl_replica.specs.Known.{is_run, run_goes_on, after_edges};
 ghost use Rattle.wl_replica.specs.Runs.{IsRunOf, AreRunsOf, WasRunBeforeEdge, WasRunBeforeSilence, WereRunsBeforeEdge, WereRunsBeforeSilence};
 
+use crate::edges::Edges;
 use crate::walks::{Run, silence_at};
 use std::collections::BTreeMap;
 use wl_lattice::{FlatWord, MaxWord, Slots};
@@ -26,12 +27,7 @@ pub const NOTHING: KnownRun = KnownRun {
 };
 
 /// A run with the next change, where that carries it on.
-fn longer(
-    edges: &BTreeMap<(u8, u32), FlatWord>,
-    silences: &BTreeMap<(u8, u32), MaxWord>,
-    node: u8,
-    run: Run,
-) -> Option<Run>
+fn longer(edges: &Edges, silences: &BTreeMap<(u8, u32), MaxWord>, node: u8, run: Run) -> Option<Run>
     requires within { TicksAreWithin edges.now }
     requires end { run.end ≡ after_edges (edges_in edges.now node) run.length }
     ensures more { IfSome result (λ next. next.length ≡ run.length + 1) }
@@ -55,12 +51,7 @@ fn longer(
 }
 
 /// The longest run, where a shorter one is known.
-fn run_on(
-    edges: &BTreeMap<(u8, u32), FlatWord>,
-    silences: &BTreeMap<(u8, u32), MaxWord>,
-    node: u8,
-    from: Run,
-) -> Run
+fn run_on(edges: &Edges, silences: &BTreeMap<(u8, u32), MaxWord>, node: u8, from: Run) -> Run
     requires within { TicksAreWithin edges.now }
     requires run { is_run (edges_in edges.now node) (silences_in silences.now node) from.length ≡ true }
     requires end { from.end ≡ after_edges (edges_in edges.now node) from.length }
@@ -81,7 +72,7 @@ fn run_on(
 }
 
 /// A run of so many changes, which are known.
-fn first_of(edges: &BTreeMap<(u8, u32), FlatWord>, node: u8, count: u32) -> Run
+fn first_of(edges: &Edges, node: u8, count: u32) -> Run
     requires { TicksAreWithin edges.now }
     ensures length { result.length ≡ count }
     ensures end { result.end ≡ after_edges (edges_in edges.now node) count }
@@ -108,11 +99,7 @@ fn known_at(silences: &BTreeMap<(u8, u32), MaxWord>, node: u8, run: Run) -> Know
 }
 
 /// What is known of a node, by a walk over all its changes.
-fn known_of(
-    edges: &BTreeMap<(u8, u32), FlatWord>,
-    silences: &BTreeMap<(u8, u32), MaxWord>,
-    node: u8,
-) -> KnownRun
+fn known_of(edges: &Edges, silences: &BTreeMap<(u8, u32), MaxWord>, node: u8) -> KnownRun
     requires { TicksAreWithin edges.now }
     ensures { IsRunOf (edges_in edges.now node) (silences_in silences.now node) result }
 {
@@ -122,7 +109,7 @@ fn known_of(
 /// What is known of a node after a word was joined in at one of its changes. A change of the run is then the
 /// same, or clashes and ends the run.
 fn after_edge(
-    edges: &BTreeMap<(u8, u32), FlatWord>,
+    edges: &Edges,
     silences: &BTreeMap<(u8, u32), MaxWord>,
     node: u8,
     seq: u32,
@@ -144,7 +131,7 @@ fn after_edge(
 /// What is known of a node after the end of a silence was joined in. Where it is past a change of the run, that
 /// change ends the run.
 fn after_silence(
-    edges: &BTreeMap<(u8, u32), FlatWord>,
+    edges: &Edges,
     silences: &BTreeMap<(u8, u32), MaxWord>,
     node: u8,
     count: u32,
@@ -173,7 +160,7 @@ fn after_silence(
 /// Brings the runs up to date after a word was joined in at a change.
 pub fn edge_came(
     runs: &mut Vec<KnownRun>,
-    edges: &BTreeMap<(u8, u32), FlatWord>,
+    edges: &Edges,
     silences: &BTreeMap<(u8, u32), MaxWord>,
     node: u8,
     seq: u32,
@@ -191,7 +178,7 @@ pub fn edge_came(
 /// Brings the runs up to date after the end of a silence was joined in.
 pub fn silence_came(
     runs: &mut Vec<KnownRun>,
-    edges: &BTreeMap<(u8, u32), FlatWord>,
+    edges: &Edges,
     silences: &BTreeMap<(u8, u32), MaxWord>,
     node: u8,
     count: u32,
@@ -210,7 +197,7 @@ pub fn silence_came(
 /// Works the runs of as many nodes out anew.
 pub fn all_came(
     runs: &mut Vec<KnownRun>,
-    edges: &BTreeMap<(u8, u32), FlatWord>,
+    edges: &Edges,
     silences: &BTreeMap<(u8, u32), MaxWord>,
     nodes: u8,
 )

@@ -1,6 +1,6 @@
 // The words of one node as a row of numbers, by the number of the slot.
-ghost use Rattle.std.specs.Prelude.{◌≡◌, ◌<◌, ◌≤◌, [], ℕ, length, max, OnOk, OnErr};
-ghost use Rattle.wl_replica.specs.Dense.{row_number, joined_edge_numbers, IsRowRaised, most_row_places, edge_of_number};
+ghost use Rattle.std.specs.Prelude.{◌≡◌, ◌<◌, ◌≤◌, ◌∷◌, ◌++◌, [], ℕ, length, max, OnOk, OnErr};
+ghost use Rattle.wl_replica.specs.Dense.{row_number, joined_edge_numbers, IsRowRaised, most_row_places, edge_of_number, HasNumber};
 
 use std::alloc::{AllocError, Global};
 use std::marker::Model;
@@ -19,6 +19,18 @@ pub fn edge_of_number(number: u64) -> FlatWord
         FlatWord::Clash
     } else {
         FlatWord::Value(number - 1)
+    }
+}
+
+/// The number of an edge's word, whose tick has to be below 2^64 - 2.
+pub fn number_of_edge(word: &FlatWord) -> u64
+    requires { HasNumber word.now }
+    ensures { edge_of_number result ≡ word.now }
+{
+    match *word {
+        FlatWord::Nothing => 0,
+        FlatWord::Value(tick) => tick + 1,
+        FlatWord::Clash => CLASH,
     }
 }
 
@@ -70,6 +82,37 @@ impl Row {
         }
     }
 
+    /// How many places it has.
+    pub fn len(&self) -> usize
+        ensures value { result ≡ length self.now }
+        ensures few { result ≤ most_row_places }
+    {
+        self.numbers.len()
+    }
+
+    /// Adds a place with a number. Refused when out of memory; the row is then as it was.
+    pub fn push(&mut self, number: u64) -> Result<(), AllocError>
+        requires { length self.old < most_row_places }
+        ensures ok { OnOk result (self.new ≡ self.old ++ number ∷ []) }
+        ensures err { OnErr result (self.new ≡ self.old) }
+    {
+        self.numbers.push(number)?;
+        Ok(())
+    }
+
+    /// Joins the number of an edge's word in at a place that there is.
+    #[inline(always)]
+    pub fn join_edge(&mut self, place: u32, number: u64)
+        requires { place < length self.old }
+        ensures value { IsRowRaised joined_edge_numbers self.old place number self.new }
+        ensures same { length self.new ≡ length self.old }
+    {
+        let at = place as usize;
+        let old = self.numbers[at];
+        let differs = (old != 0) & (old != number);
+        self.numbers[at] = if differs { CLASH } else { number };
+    }
+
     /// The numbers up to the end.
     pub fn as_slice(&self) -> &[u64]
         ensures value { result.now ≡ self.now }
@@ -98,9 +141,7 @@ impl Row {
         if at >= self.numbers.len() {
             grow(&mut self.numbers, at)?;
         }
-        let old = self.numbers[at];
-        let differs = (old != 0) & (old != number);
-        self.numbers[at] = if differs { CLASH } else { number };
+        self.join_edge(place, number);
         Ok(())
     }
 

@@ -3,6 +3,7 @@ ghost use Rattle.std.specs.Prelude.{◌≡◌, ◌↔◌, ℕ, IsTrue, IfOk, IfE
 
 use crate::batch::{join_slots, make_slots};
 use crate::canonical::{push_edges, push_silences};
+use crate::edges::Edges;
 use crate::known_run::{KnownRun, NOTHING, all_came, edge_came, silence_came};
 use crate::laws::known_laws;
 use crate::waves::{is_dominant_at, wave_after_of, wave_of};
@@ -11,7 +12,7 @@ use std::alloc::{AllocError, Global};
 use std::collections::BTreeMap;
 use std::marker::Model;
 use wl_intervals::Intervals;
-use wl_lattice::{FlatWord, MaxWord};
+use wl_lattice::{FlatWord, MaxWord, Slots};
 use wl_level::Level;
 use wl_record_core::{Record, Slot};
 use wl_topology::Topology;
@@ -33,7 +34,7 @@ pub enum Word {
 #[derive(Drop)]
 pub struct Replica {
     nodes: u8,
-    edges: BTreeMap<(u8, u32), FlatWord>,
+    edges: Edges,
     silences: BTreeMap<(u8, u32), MaxWord>,
     runs: Vec<KnownRun>,
 }
@@ -73,7 +74,7 @@ impl Replica {
         runs.resize(nodes as usize, NOTHING)?;
         Ok(Replica {
             nodes,
-            edges: BTreeMap::new(alloc),
+            edges: Edges::new(alloc, nodes)?,
             silences: BTreeMap::new(alloc),
             runs,
         })
@@ -111,11 +112,11 @@ impl Replica {
         known_laws();
         match told {
             Record::Edge { node, seq, tick } => {
-                raise(&mut self.edges, (node, seq), &FlatWord::Value(tick))?;
+                self.edges.raise_at((node, seq), &FlatWord::Value(tick))?;
                 edge_came(&mut self.runs, &self.edges, &self.silences, node, seq);
             }
             Record::Clash { node, seq } => {
-                raise(&mut self.edges, (node, seq), &FlatWord::Clash)?;
+                self.edges.raise_at((node, seq), &FlatWord::Clash)?;
                 edge_came(&mut self.runs, &self.edges, &self.silences, node, seq);
             }
             Record::Silence { node, count, until } => {
@@ -166,9 +167,9 @@ impl Replica {
             → HoldsTrue self.old.nodes table (slots_of self.old) → HoldsTrue self.old.nodes table (slots_of other.now) → NoHorizonFalls self.old self.new) }
     {
         known_laws();
-        make_room(&mut self.edges, &other.edges)?;
+        self.edges.make_room(&other.edges)?;
         make_room(&mut self.silences, &other.silences)?;
-        join_in(&mut self.edges, &other.edges);
+        self.edges.join_in(&other.edges);
         join_in(&mut self.silences, &other.silences);
         all_came(&mut self.runs, &self.edges, &self.silences, self.nodes);
         Ok(())
@@ -179,12 +180,7 @@ impl Replica {
         ensures { result ≡ word_at self.now slot }
     {
         match slot {
-            Slot::EdgeAt { node, seq } => Word::Edge(
-                self.edges
-                    .get(&(node, seq))
-                    .copied()
-                    .unwrap_or(FlatWord::Nothing),
-            ),
+            Slot::EdgeAt { node, seq } => Word::Edge(self.edges.word(&(node, seq))),
             Slot::SilenceAt { node, count } => Word::Silence(
                 self.silences
                     .get(&(node, count))
@@ -341,7 +337,7 @@ pub const PREPARED_SLOTS: usize = 3;
 #[derive(Drop)]
 pub struct Prepared {
     nodes: u8,
-    edges: BTreeMap<(u8, u32), FlatWord>,
+    edges: Edges,
     silences: BTreeMap<(u8, u32), MaxWord>,
     runs: Vec<KnownRun>,
     slots: [Slot; PREPARED_SLOTS],

@@ -5,9 +5,9 @@ ghost use Rattle.wl_replica.specs.Kept.{edges_in};
 ghost use Rattle.wl_replica.specs.Known.{tick_in, ticks, ticks_from, intervals};
 ghost use Rattle.wl_replica.specs.Runs.{IsRunOfEdges};
 
+use crate::edges::Edges;
 use crate::known_run::KnownRun;
 use std::alloc::{AllocError, Global};
-use std::collections::BTreeMap;
 use wl_intervals::{Intervals, IntervalsFault};
 use wl_lattice::{FlatWord, Slots};
 
@@ -43,7 +43,7 @@ pub fn flip(set: &mut Intervals, since: Option<u64>, tick: u64) -> Result<Option
 }
 
 /// The tick of a change, 0 where there is none.
-fn tick_at(edges: &BTreeMap<(u8, u32), FlatWord>, node: u8, seq: u32) -> u64
+fn tick_at(edges: &Edges, node: u8, seq: u32) -> u64
     ensures { result ≡ tick_in (edges_in edges.now node seq) }
 {
     match edges.word(&(node, seq)) {
@@ -53,7 +53,7 @@ fn tick_at(edges: &BTreeMap<(u8, u32), FlatWord>, node: u8, seq: u32) -> u64
 }
 
 /// How many of the changes of a node's run come at a tick or before it, by halving.
-fn changes_up_to(edges: &BTreeMap<(u8, u32), FlatWord>, node: u8, known: KnownRun, tick: u64) -> u32
+fn changes_up_to(edges: &Edges, node: u8, known: KnownRun, tick: u64) -> u32
     requires { IsRunOfEdges (edges_in edges.now node) known }
     ensures few { result ≤ known.run.length }
     ensures before { (n : ℕ) → n < result → tick_in (edges_in edges.now node n) ≤ tick }
@@ -75,7 +75,7 @@ fn changes_up_to(edges: &BTreeMap<(u8, u32), FlatWord>, node: u8, known: KnownRu
 /// The intervals in which a node drives dominant, by the changes of its run from an even number on.
 pub fn wave_of(
     alloc: Global,
-    edges: &BTreeMap<(u8, u32), FlatWord>,
+    edges: &Edges,
     node: u8,
     known: KnownRun,
     first: u32,
@@ -99,7 +99,7 @@ pub fn wave_of(
 /// The intervals that end after a tick: from the change before it on, if that is to dominant.
 pub fn wave_after_of(
     alloc: Global,
-    edges: &BTreeMap<(u8, u32), FlatWord>,
+    edges: &Edges,
     node: u8,
     known: KnownRun,
     tick: u64,
@@ -117,12 +117,7 @@ pub fn wave_after_of(
 
 /// Whether a node drives dominant at a tick below its horizon: after an odd number of the changes
 /// of its run.
-pub fn is_dominant_at(
-    edges: &BTreeMap<(u8, u32), FlatWord>,
-    node: u8,
-    known: KnownRun,
-    tick: u64,
-) -> bool
+pub fn is_dominant_at(edges: &Edges, node: u8, known: KnownRun, tick: u64) -> bool
     requires run { IsRunOfEdges (edges_in edges.now node) known }
     requires known { tick < known.horizon }
     ensures { result ≡ covers (intervals (ticks (edges_in edges.now node) known.run.length) known.horizon) tick }

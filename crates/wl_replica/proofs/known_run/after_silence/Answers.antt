@@ -1,4 +1,4 @@
-use Rattle.std.proofs.Common.{◌≡◌, ◌<◌, ◌≤◌, false, refl, ap, sym, ◌∙◌, arith}
+use Rattle.std.proofs.Common.{◌≡◌, ◌<◌, false, refl, ap, sym, ◌∙◌, arith}
 use Rattle.wl_replica.specs.Kept.{edges_in, silences_in}
 use Rattle.wl_replica.specs.Known.{is_tick, run_goes_on}
 use Rattle.wl_replica.proofs.WalkLemmas.{no_value, no_more, inside}
