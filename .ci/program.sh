@@ -5,6 +5,7 @@
 #   and by 2, 3 and 8 workers over either link
 # - the explanation and the trace of each of them as bench/plain.py gives them, and the explanation of a plan with every doubt
 # - the log of one plan, as ticks of three lengths have it, and the waveform of one, as ticks of two have it
+# - two nodes with full queues, as bench/plain.py reports them
 # - each row of .ci/refused.txt: the status, the one line on standard error, and nothing on standard output but what explain says of it
 # - command lines that name no task, or are no text: status 2, and nothing on standard output
 # - a run that doesn't end in 300 seconds, as one whose workers wait for each other for ever, has failed
@@ -52,6 +53,12 @@ for report in examples/*.report; do
   is "candump of $name" [ $? = 0 -a ! -s "$room/err" ]
   is "lines of candump of $name" [ "$(grep -c '^frame [0-9]* sent ' "$report")" = "$(wc -l < "$room/out")" ]
 done
+
+# Full queues: each of two nodes sends 64 frames and receives the other's 64, more than in any example.
+python3 -Bc 'import sys; sys.path.insert(0, "bench"); import worst; print(worst.plan(nodes=2, quanta=200_000))' > "$room/full.toml"
+python3 bench/plain.py run < "$room/full.toml" > "$room/full"
+is "frames of full queues" [ "$(grep -c '^frame 0' "$room/full")" = 128 ]
+runs "run of full queues" "$room/full.toml" 0 "$room/full" "$room/none" run
 
 runs "explain of doubts" .ci/doubts.toml 0 .ci/doubts.explained "$room/none" explain
 
