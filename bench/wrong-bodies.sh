@@ -1,5 +1,5 @@
 #!/usr/bin/env bash
-# Tries the wrong bodies of bench/wrong-bodies, which the merge gate leaves out: each breaks a clause that an edit of its crate's must-fail
+# Tries the wrong bodies of bench/wrong-bodies, which the merge gate leaves out: nearly each breaks a clause that an edit of its crate's must-fail
 # folder breaks too. For a release: some 20 seconds each. It works on a copy, over what earlier checks kept in out/.
 # usage: bench/wrong-bodies.sh [CRATE..]      every crate of bench/wrong-bodies where none is named; the last line tells how many were refused;
 #                                             status 1 where one was not
