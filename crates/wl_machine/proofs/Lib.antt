@@ -4,6 +4,7 @@ mod Between
 mod FlagSteps
 mod Framed
 mod Free
+mod Busy
 mod FrameSteps
 mod Keeping
 mod Kept

@@ -10,3 +10,4 @@ pub mod Reached
 pub mod Rest
 pub mod Roles
 pub mod Laws
+pub mod Doing

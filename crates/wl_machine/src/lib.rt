@@ -11,6 +11,7 @@ use wl_confine::{Happened, Mode};
 use wl_frame::frame::{Frame, FrameBits};
 use wl_level::Level;
 
+mod doing;
 mod flags;
 mod framing;
 pub mod laws;
@@ -20,6 +21,7 @@ mod rest;
 mod silence;
 mod state;
 
+pub use doing::Doing;
 use progress::Progress;
 use state::State;
 
