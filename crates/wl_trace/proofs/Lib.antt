@@ -9,3 +9,4 @@ mod InTime
 mod Syncing
 mod Starting
 pub mod Callers
+mod Passing

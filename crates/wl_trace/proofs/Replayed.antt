@@ -13,7 +13,6 @@ use Rattle.wl_trace.specs.Events.{noted, beat_events, events_at, traced_after, e
 use Rattle.wl_trace.specs.Replay.{IsReplay, SampledPast, no_past, past_after, past_of, then_events}
 use Rattle.wl_trace.specs.declared.noting.Notes.{Notes}
 use Rattle.wl_trace.specs.declared.replay.Replay.{Replay}
-use Rattle.wl_trace.specs.States.{state_after, state_of, state_then}
 use Rattle.wl_trace.specs.Notes.{Adds}
 
 abbrev pub past_events : NodeSetup → SampledPast → ℕ × Level → List Noted
@@ -80,34 +79,3 @@ module _ (setup : NodeSetup) (samples : List (ℕ × Level)) (bit : ℕ) (d : �
 
   pub count_more : length front.0.samples ≡ bit → length (replay_of setup (take (bit + 1) samples)).0.samples ≡ bit + 1
   count_more n = ap (λ (r : SampledPast × List Noted). length r.0.samples) (ap (replay_of setup) (take_more samples bit d below)) ∙ samples_counted setup (take bit samples) (get_or samples bit d) bit n
-
--- the past alone
-module _ (setup : NodeSetup) where
-  fold_past : (samples : List (ℕ × Level)) (p : SampledPast) (es : List Noted)
-      → (fold (replayed_after setup) (p, es) samples).0 ≡ fold (past_after setup) p samples
-  fold_past [] p es = refl
-  fold_past (s ∷ samples) p es = fold_past samples (past_after setup p s) (es ++ past_events setup p s)
-
-  past_is : (samples : List (ℕ × Level)) → (replay_of setup samples).0 ≡ fold (past_after setup) no_past samples
-  unfolding replay_of
-  past_is samples = fold_past samples no_past []
-
-  history_is : (levels : List Level) → fold (past_after setup) no_past (history_of setup levels).samples ≡ past_of (history_of setup levels)
-  unfolding history_of
-  history_is levels =
-      sym (past_is (fold (history_after setup) no_history levels).samples)
-      ∙ ap (λ (r : SampledPast × List Noted). r.0) (fold_replayed setup levels no_history [] (replay_first setup))
-
-  pub by_samples : (levels : List Level)
-      → state_of (history_of setup levels) ≡ state_after setup (history_of setup levels).samples (length (history_of setup levels).samples)
-  by_samples levels =
-      ap state_then (sym (history_is levels))
-      ∙ ap (λ (xs : List (ℕ × Level)). state_then (fold (past_after setup) no_past xs))
-      (sym (take_all (length (history_of setup levels).samples) (history_of setup levels).samples (omega arith)))
-
-  -- one sample more of a list
-  pub past_next : (samples : List (ℕ × Level)) (k : ℕ) (d : ℕ × Level) → k < length samples
-      → fold (past_after setup) no_past (take (k + 1) samples) ≡ past_after setup (fold (past_after setup) no_past (take k samples)) (get_or samples k d)
-  past_next samples k d below =
-      ap (fold (past_after setup) no_past) (take_more samples k d below)
-      ∙ fold-append (past_after setup) no_past (take k samples) (get_or samples k d ∷ [])

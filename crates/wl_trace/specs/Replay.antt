@@ -1,5 +1,5 @@
 -- The same from a node's samples alone: what reached its machine and what came of it, sample by sample.
-use Rattle.std.specs.Prelude.{◌≡◌, ℕ, List, [], ◌∷◌, ◌++◌, drop, count_by}
+use Rattle.std.specs.Prelude.{◌≡◌, ℕ, Option, List, [], ◌∷◌, ◌++◌, drop, count_by}
 use Rattle.wl_level.specs.declared.Level.{Level}
 use Rattle.wl_confine.specs.declared.Happened.{Happened}
 use Rattle.wl_confine.specs.Counts.{counts_of, mode_of}
@@ -7,10 +7,12 @@ use Rattle.wl_machine.specs.Stretch.{Sampled, Input, Judgement}
 use Rattle.wl_machine.specs.Stretch.Input.{Sample}
 use Rattle.wl_machine.specs.Judged.{drive_of, judged, stretch_of}
 use Rattle.wl_machine.specs.Reached.{IsMachine}
+use Rattle.wl_frame.specs.Grammar.{Content}
 use Rattle.wl_node.specs.declared.setup.NodeSetup.{NodeSetup}
 use Rattle.wl_node.specs.declared.setup.Passed.{Passed}
 use Rattle.wl_node.specs.History.{History, ready_head, passed_frames, is_sent, switched_off}
 use Rattle.wl_trace.specs.declared.event.Event.{Event}
+use Rattle.wl_trace.specs.declared.controller.Controller.{Controller}
 use Rattle.wl_trace.specs.declared.replay.Replay.{Replay}
 use Rattle.wl_trace.specs.Events.{judged_events}
 use Rattle.wl_trace.specs.Running.{KeepsStretch}
@@ -29,11 +31,15 @@ no_past = record { inputs = []; happened = []; frames = []; samples = [] }
 abbrev pub past_of : History → SampledPast
 past_of h = record { inputs = h.inputs; happened = h.happened; frames = h.frames; samples = h.samples }
 
+-- the first unsent frame, if it is ready at this quantum
+abbrev pub head_then : NodeSetup → SampledPast → ℕ → Option Content
+head_then setup p quantum = ready_head (drop (count_by is_sent p.frames) setup.queue) quantum
+
 -- what the machine is given with a sample at this quantum
 abbrev pub sampled_then : NodeSetup → SampledPast → ℕ → Level → Sampled
 sampled_then setup p quantum level = record {
   level = level;
-  head = ready_head (drop (count_by is_sent p.frames) setup.queue) quantum;
+  head = head_then setup p quantum;
   mode = mode_of (counts_of p.happened);
 }
 
@@ -56,10 +62,14 @@ past_after setup p (quantum, level) = past_judged p quantum (sampled_then setup 
 abbrev pub then_events : NodeSetup → SampledPast → ℕ → Level → List Event
 then_events setup p quantum level = judged_events (stretch_of p.inputs) level (counts_of p.happened) (judged_then setup p quantum level)
 
--- what is kept is that of this past
-pub record IsReplay (kept : Replay) (p : SampledPast) : Type 0 where
+-- machine, counters and queue are those of this past
+pub record IsController (kept : Controller) (p : SampledPast) : Type 0 where
   pub machine : IsMachine kept.machine p.inputs
   pub counters : kept.counters ≡ counts_of p.happened
   pub pending : kept.pending ≡ drive_of (stretch_of p.inputs)
   pub sent : kept.sent ≡ count_by is_sent p.frames
+
+-- and so is the running stretch
+pub record IsReplay (kept : Replay) (p : SampledPast) : Type 0 where
+  pub controller : IsController kept.controller p
   pub stretch : KeepsStretch kept.stretch (stretch_of p.inputs)

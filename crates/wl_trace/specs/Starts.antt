@@ -1,15 +1,12 @@
 -- Where the bits of a node begin, as a function of its setup and of the levels that it saw (Bosch CAN 2.0 part B, section 10): the quanta whose beat is a
 -- bit's start. Where an edge lies in the quantum before the one that finds it, that is the one that finds it (this project's profile).
-use Rattle.std.specs.Prelude.{◌≡◌, ℕ, Bool, true, false, List, [], ◌∷◌, ◌++◌, length, fold, if◌then◌else◌}
+use Rattle.std.specs.Prelude.{ℕ, Bool, true, false, List, [], ◌∷◌, ◌++◌, length, fold, if◌then◌else◌}
 use Rattle.wl_level.specs.declared.Level.{Level}
 use Rattle.wl_sync.specs.declared.Beat.{Beat}
 use Rattle.wl_sync.specs.declared.Beat.TheVariants as beats
 use Rattle.wl_sync.specs.Bits.{beat_of}
-use Rattle.wl_sync.specs.Running.{clock_after}
 use Rattle.wl_node.specs.declared.setup.NodeSetup.{NodeSetup}
 use Rattle.wl_node.specs.History.{History, no_history, history_after, seen_next}
-use Rattle.wl_trace.specs.declared.starts.Rerun.{Rerun}
-use Rattle.wl_trace.specs.Replay.{IsReplay, past_of}
 
 abbrev pub is_start : Beat → Bool
 is_start beats.Start = true
@@ -31,9 +28,3 @@ started_after setup (h, before) level = (history_after setup h level, with_start
 -- the quanta that begin a bit, of a node that saw these levels, the first one first
 unfoldable pub starts_of : NodeSetup → List Level → List ℕ
 starts_of setup levels = (fold (started_after setup) (no_history, []) levels).1
-
--- what is kept of a node that runs again is that of this history
-pub record RunsAs (setup : NodeSetup) (kept : Rerun) (h : History) : Type 0 where
-  pub clock : kept.clock ≡ clock_after setup.segments h.seen
-  pub replay : IsReplay kept.replay (past_of h)
-  pub drive : kept.drive ≡ h.drive

@@ -1,14 +1,8 @@
 //! Laws of traces, as contracts of functions with an empty body.
 ghost use Rattle.wl_trace.specs.Laws.{TraceLaws};
-ghost use Rattle.wl_trace.specs.States.{StateBySamples};
 
 /// Law: the events of a node have as many errors as its report counts, and the frames of its report in their order; its synchronisations
 /// have as many hard ones as the report counts, and its phase errors in their order; each is at a quantum that the node saw.
 pub fn trace_laws()
     ensures { TraceLaws }
-{}
-
-/// Law: what a node is at after the levels that it saw is what its samples say.
-pub fn state_by_samples()
-    ensures { StateBySamples }
 {}

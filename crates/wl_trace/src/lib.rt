@@ -1,19 +1,20 @@
 //! A trace of a run: what happened to each node, and where in a frame.
 #![tactic(auto)]
 
+mod controller;
 mod event;
 mod fields;
 mod laws;
 mod noting;
 mod replay;
-mod starts;
-mod state;
+mod rerun;
+mod shown;
 mod stretch;
 mod syncs;
 
 pub use event::{Event, FlagForm, FrameField, Noted, Place};
-pub use laws::{state_by_samples, trace_laws};
+pub use laws::trace_laws;
 pub use replay::node_events;
-pub use starts::node_starts;
-pub use state::{Doing, NodeState, node_states};
+pub use rerun::Rerun;
+pub use shown::{NodeState, Shown};
 pub use syncs::node_syncs;

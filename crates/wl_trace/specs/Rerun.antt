@@ -1,0 +1,31 @@
+-- What is kept of a node that runs again over the levels that it saw.
+use Rattle.std.specs.Prelude.{◌≡◌, ◌≤◌, ℕ, suc, List, length}
+use Rattle.wl_level.specs.declared.Level.{Level}
+use Rattle.wl_sync.specs.declared.Beat.{Beat}
+use Rattle.wl_sync.specs.declared.Beat.TheVariants as beats
+use Rattle.wl_sync.specs.Running.{clock_after}
+use Rattle.wl_node.specs.declared.setup.NodeSetup.{NodeSetup}
+use Rattle.wl_node.specs.History.{History, history_of}
+use Rattle.wl_trace.specs.declared.rerun.Rerun.{Rerun}
+use Rattle.wl_trace.specs.Replay.{IsController, past_of}
+use Rattle.wl_trace.specs.Shown.{mark}
+use Rattle.wl_trace.specs.Starts.{starts_of}
+
+-- how many bits have begun, with a quantum of this beat
+abbrev pub starts_with : Beat → ℕ → ℕ
+starts_with beats.Start n = suc n
+starts_with beats.Plain n = n
+starts_with (beats.Sample _) n = n
+
+-- all but the bit clock is that of this history, in which so many bits have begun
+pub record HasRun (kept : Rerun) (h : History) (starts : ℕ) : Type 0 where
+  pub controller : IsController kept.controller (past_of h)
+  pub drive : kept.drive ≡ h.drive
+  pub sampled : kept.sampled ≡ mark (length h.samples)
+  pub started : kept.started ≡ mark starts
+
+-- what is kept is that of a node of this setup that saw these levels; it sent no more frames than it saw quanta
+pub record IsRerun (setup : NodeSetup) (levels : List Level) (kept : Rerun) : Type 0 where
+  pub clock : kept.clock ≡ clock_after setup.segments (history_of setup levels).seen
+  pub run : HasRun kept (history_of setup levels) (length (starts_of setup levels))
+  pub few : kept.controller.sent ≤ length levels

@@ -1,0 +1,113 @@
+//! The machine of a node, its error counters and its queue, sample by sample.
+ghost use Rattle.std.specs.Prelude.{◌≡◌, ℕ, [], ◌∷◌, count_by, if◌then◌else◌, ◌+◌, ◌<◌, ◌≤◌, ◌^◌, ◌-◌, ◌++◌, drop, List};
+ghost use Rattle.std.specs.Option.{option_copied};
+ghost use Rattle.wl_machine.specs.Stretch.{Ended, Input};
+ghost use Rattle.wl_machine.specs.Stretch.Input.{SwitchedOff};
+ghost use Rattle.wl_machine.specs.States.{done_of};
+ghost use Rattle.wl_machine.specs.Judged.{drive_of, stretch_of};
+ghost use Rattle.wl_machine.specs.Reached.{IsMachine};
+ghost use Rattle.wl_node.specs.declared.setup.NodeSetup.{NodeSetup};
+ghost use Rattle.wl_node.specs.History.{is_sent, passed_frames, ready_head, switched_off};
+ghost use Rattle.wl_trace.specs.Replay.{IsController, SampledPast, head_then, judged_then, no_past, past_after};
+ghost use Rattle.wl_confine.specs.Counts.{counts_after};
+
+use wl_confine::{Counters, Mode};
+use wl_frame::frame::Frame;
+use wl_level::Level;
+use wl_machine::{Done, Machine, Turn};
+use wl_node::Queued;
+
+/// What is kept of a node's samples so far.
+#[derive(Drop)]
+pub(crate) struct Controller {
+    pub(crate) machine: Machine,
+    pub(crate) counters: Counters,
+    /// What the node drives from its next bit start on.
+    pub(crate) pending: Level,
+    /// How many frames of the queue were sent.
+    pub(crate) sent: usize,
+}
+
+/// The first unsent frame, if it is ready.
+pub(crate) fn ready_head(queue: &[Queued], sent: usize, quantum: u64) -> Option<&Frame>
+    ensures { option_copied result ≡ ready_head (drop sent queue.now) quantum }
+{
+    match queue.get(sent) {
+        Some(first) if first.ready <= quantum => Some(&first.frame),
+        _ => None,
+    }
+}
+
+/// How many frames are sent with a sample that completed this.
+fn sent_with(done: Done) -> usize
+    ensures count { (quantum : ℕ) (ended : Ended) → done ≡ done_of ended
+        → result ≡ count_by is_sent (passed_frames quantum ended) }
+    ensures most { result ≤ 1 }
+{
+    match done {
+        Done::Sent => 1,
+        _ => 0,
+    }
+}
+
+/// Whether a node goes off the bus, of which the mode was one and is another.
+pub(crate) fn goes_off(before: Mode, after: Mode) -> bool
+    ensures { switched_off before after ≡ (if result then SwitchedOff ∷ [] else []) }
+{
+    match (before, after) {
+        (Mode::Off, _) => false,
+        (_, Mode::Off) => true,
+        _ => false,
+    }
+}
+
+impl Controller {
+    /// Before the first sample.
+    pub(crate) fn new() -> Controller
+        ensures past { IsController result no_past }
+        ensures sent { result.sent ≡ 0 }
+    {
+        Controller {
+            machine: Machine::new(),
+            counters: Counters::new(),
+            pending: Level::Recessive,
+            sent: 0,
+        }
+    }
+
+    /// A sample of this level, where this frame is to be sent next: what it did.
+    pub(crate) fn sample(&mut self, level: Level, head: Option<&Frame>) -> Turn
+        ensures past { (setup : NodeSetup) (p : SampledPast) (quantum : ℕ) → option_copied head.entry ≡ head_then setup p quantum
+            → self.old.sent < 2 ^ 64 - 1 → IsController self.old p → IsController self.new (past_after setup p (quantum, level)) }
+        ensures happened { (setup : NodeSetup) (p : SampledPast) (quantum : ℕ) → option_copied head.entry ≡ head_then setup p quantum
+            → IsController self.old p → result.happened ≡ (judged_then setup p quantum level).happened }
+        ensures done { (setup : NodeSetup) (p : SampledPast) (quantum : ℕ) → option_copied head.entry ≡ head_then setup p quantum
+            → IsController self.old p → result.done ≡ done_of (judged_then setup p quantum level).ended }
+        ensures counters { self.new.counters ≡ counts_after self.old.counters result.happened }
+        ensures sent { self.new.sent ≤ self.old.sent + 1 }
+    {
+        let mode = self.counters.mode();
+        let turn = self.machine.bit(level, head, mode);
+        self.pending = turn.drive;
+        self.counters.apply(turn.happened);
+        self.sent = self.sent.saturating_add(sent_with(turn.done));
+        let after = self.counters.mode();
+        self.switch_off(mode, after);
+        turn
+    }
+
+    /// Takes the machine off the bus where a sample made the mode bus off.
+    fn switch_off(&mut self, before: Mode, after: Mode)
+        ensures machine { (past : List Input) → IsMachine self.old.machine past
+            → IsMachine self.new.machine (past ++ switched_off before after) }
+        ensures pending { (past : List Input) → self.old.pending ≡ drive_of (stretch_of past)
+            → self.new.pending ≡ drive_of (stretch_of (past ++ switched_off before after)) }
+        ensures counters { self.new.counters ≡ self.old.counters }
+        ensures sent { self.new.sent ≡ self.old.sent }
+    {
+        if goes_off(before, after) {
+            self.machine.bus_off();
+            self.pending = Level::Recessive;
+        }
+    }
+}

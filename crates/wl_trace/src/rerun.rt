@@ -1,0 +1,110 @@
+//! A node that runs again over the levels that it saw, quantum by quantum and without memory.
+ghost use Rattle.std.specs.Prelude.{◌≡◌, ℕ, ◌+◌, ◌-◌, ◌<◌, ◌≤◌, ◌^◌, ◌++◌, [], ◌∷◌, List, length, min, replicate};
+ghost use Rattle.wl_level.specs.declared.Level.{Level};
+ghost use Rattle.wl_node.specs.declared.setup.NodeSetup.{NodeSetup};
+ghost use Rattle.wl_node.specs.History.{History, by_beat};
+ghost use Rattle.wl_trace.specs.Rerun.{HasRun, IsRerun, starts_with};
+ghost use Rattle.wl_trace.specs.Shown.{plain_quanta, shown_of};
+
+use crate::controller::{Controller, ready_head};
+use crate::shown::{NodeState, Shown};
+use wl_level::Level;
+use wl_node::Queued;
+use wl_segments::Segments;
+use wl_sync::{Beat, BitClock};
+
+/// A node that runs again over the levels that it saw: its bit clock, its machine, counters and queue, and what it drives. A call takes no memory.
+#[derive(Drop)]
+pub struct Rerun {
+    pub(crate) clock: BitClock,
+    pub(crate) controller: Controller,
+    pub(crate) drive: Level,
+    /// Turns at each sample.
+    pub(crate) sampled: bool,
+    /// Turns at each start of a bit.
+    pub(crate) started: bool,
+}
+
+impl Rerun {
+    /// A node of these segments before its first quantum: it drives recessive.
+    pub fn new(segments: Segments) -> Rerun
+        ensures { (setup : NodeSetup) → setup.segments ≡ segments → IsRerun setup [] result }
+    {
+        Rerun {
+            clock: BitClock::new(segments),
+            controller: Controller::new(),
+            drive: Level::Recessive,
+            sampled: false,
+            started: false,
+        }
+    }
+
+    /// What a waveform shows of it.
+    pub fn shown(&self) -> Shown
+        ensures { (setup : NodeSetup) (levels : List Level) → IsRerun setup levels self.now
+            → result ≡ shown_of setup levels }
+    {
+        let kept = &self.controller;
+        Shown {
+            drive: self.drive,
+            sampled: self.sampled,
+            started: self.started,
+            state: NodeState {
+                tec: kept.counters.tec(),
+                rec: kept.counters.rec(),
+                mode: kept.counters.mode(),
+                doing: kept.machine.doing(),
+            },
+        }
+    }
+
+    /// Its next quantum, which has this number, counted from 0, and at which it sees this level; `queue` is that of its setup.
+    pub fn quantum(&mut self, queue: &[Queued], quantum: u64, level: Level)
+        requires few { quantum < 2 ^ 64 - 1 }
+        ensures { (setup : NodeSetup) (levels : List Level) → setup.queue ≡ queue.now → length levels ≡ quantum
+            → IsRerun setup levels self.old → IsRerun setup (levels ++ level ∷ []) self.new }
+    {
+        let idle = self.controller.machine.idle();
+        let (beat, _) = self.clock.step(level, idle, self.drive.is_dominant());
+        self.obey(queue, quantum, level, beat);
+    }
+
+    /// What the quantum of this number does by its beat, where it is of this level.
+    fn obey(&mut self, queue: &[Queued], quantum: u64, level: Level, beat: Beat)
+        ensures run { (setup : NodeSetup) (h : History) (starts : ℕ) → setup.queue ≡ queue.now → quantum ≡ length h.seen
+            → self.old.controller.sent < 2 ^ 64 - 1 → HasRun self.old h starts
+            → HasRun self.new (by_beat setup h level beat) (starts_with beat starts) }
+        ensures clock { self.new.clock ≡ self.old.clock }
+        ensures sent { self.new.controller.sent ≤ self.old.controller.sent + 1 }
+    {
+        match beat {
+            Beat::Plain => {}
+            Beat::Start => {
+                self.drive = self.controller.pending;
+                self.started = !self.started;
+            }
+            Beat::Sample(_) => {
+                let head = ready_head(queue, self.controller.sent, quantum);
+                let _ = self.controller.sample(level, head);
+                self.sampled = !self.sampled;
+            }
+        }
+    }
+
+    /// Quanta of this level that neither sample nor begin a bit, so that nothing shown changes: as many as come, and at most this number. How many they were.
+    pub fn pass(&mut self, level: Level, most: u64) -> u64
+        ensures quanta { (setup : NodeSetup) (levels : List Level) → IsRerun setup levels self.old
+            → result ≡ min most (plain_quanta setup levels level) }
+        ensures run { (setup : NodeSetup) (levels : List Level) → IsRerun setup levels self.old
+            → IsRerun setup (levels ++ replicate result level) self.new }
+        ensures same { (setup : NodeSetup) (levels : List Level) → IsRerun setup levels self.old
+            → (m : ℕ) → m ≤ result → shown_of setup (levels ++ replicate m level) ≡ shown_of setup levels }
+    {
+        let free = self.clock.free_quanta(level, false);
+        let quanta = most.min(free as u64);
+        if 0 < quanta {
+            self.clock.skip(level, quanta as u8);
+        }
+        quanta
+    }
+}
