@@ -2,8 +2,6 @@ mod ByTick
 mod InTime
 mod Lists
 mod Pieces
-mod SampleOrder
-mod StartOrder
 mod Seeing
 mod SignalProofs
 mod Turns
@@ -13,4 +11,4 @@ mod Rows
 mod Telling
 mod WaveRows
 mod Watching
-mod StateAt
+mod Going

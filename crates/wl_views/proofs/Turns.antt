@@ -6,7 +6,7 @@ use Rattle.wl_record_core.specs.Truth.{count_below, odd, IsIncreasing}
 use Rattle.wl_record_core.specs.TableLaws.{TableLaws}
 use Rattle.wl_record_core.proofs.Callers.{reached, not_reached, odd_is}
 use Rattle.wl_views.specs.declared.held.Held.{Held}
-use Rattle.wl_views.specs.Held.{CountHolds, Holds, IsBeforeTurn, turned_at}
+use Rattle.wl_views.specs.Held.{Holds, IsBeforeTurn, turned_at}
 
 -- as many have come until the next one comes
 stays : TableLaws → (ticks : List ℕ) (delay t u until count : ℕ) → IsIncreasing ticks → delay ≤ t → t ≤ u → u < until
@@ -50,14 +50,3 @@ holds_as f g t held same h = record { later = h.later; same = λ u from below. s
 
 pub never : (t until : ℕ) → t < until → Holds (λ u. false) t (record { value = false; until = until })
 never t until h = record { later = h; same = λ u from below. refl }
-
--- as many ticks have come, up to the next one
-pub counts_on : TableLaws → (ticks : List ℕ) (t until count : ℕ) → IsIncreasing ticks → count ≡ count_below (t + 1) ticks
-    → (IsBeforeTurn ticks count 0 t → t < until) → (count < length ticks → until ≤ get_or ticks count 0 + 0)
-    → CountHolds ticks t (record { count = count; until = until })
-counts_on laws ticks t until count inc is later next = record {
-  later = later (λ inside. comes_later laws ticks 0 t count inc (omega arith) (is ∙ ap (λ (n : ℕ). count_below n ticks) {x = t + 1} {y = t - 0 + 1} (omega arith)) inside);
-  same = λ u from below.
-      ap (λ (n : ℕ). count_below n ticks) {x = suc u} {y = u - 0 + 1} (omega arith)
-      ∙ stays laws ticks 0 t u until count inc (omega arith) from below (is ∙ ap (λ (n : ℕ). count_below n ticks) {x = t + 1} {y = t - 0 + 1} (omega arith)) next;
-}

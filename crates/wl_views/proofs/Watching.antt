@@ -1,26 +1,32 @@
 -- What is known of nodes from a tick on, at later ticks.
-use Rattle.std.proofs.Common.{◌≡◌, ◌∙◌, refl, sym, subst, ap, ap₂, arith, zero-add, below_more, get_or-set_other, get_or-set_same, ℕ, zero, suc, ◌+◌, ◌<◌, ◌≤◌, ◌≢◌, false, Bool, List, ◌∷◌, ◌++◌, length, get_or, set, take, map}
+use Rattle.std.proofs.Common.{◌≡◌, ◌∙◌, refl, sym, subst, ap, ap₂, arith, zero-add, below_more, get_or-set_other, get_or-set_same, ℕ, zero, suc, ◌+◌, ◌-◌, inl, inr, ◌<◌, ◌≤◌, ◌≢◌, not, false, Bool, List, [], ◌∷◌, ◌++◌, length, get_or, set, take, map}
 use Rattle.std.specs.List.{range_with_len}
+use Rattle.std.proofs.lemmas.Bool.{cases_lt}
+use Rattle.std.proofs.Math.ListN.{get_or-append}
+use Rattle.std.proofs.Math.Seq.{get_or-append_seam}
 use Rattle.std.proofs.lemmas.List.FromFn.{get_or-map-range_with_len, length-map-range_with_len}
-use Rattle.wl_plan.specs.declared.plan.Plan.{Plan}
+use Rattle.wl_level.specs.declared.Level.{Level}
+use Rattle.wl_level.specs.Levels.{is_dominant}
 use Rattle.wl_confine.specs.declared.Mode.TheVariants.{Active}
-use Rattle.wl_record_core.specs.Truth.{count_below}
-use Rattle.wl_record_core.specs.TableLaws.{TableLaws}
-use Rattle.wl_plan.specs.PlanLine.{setup_at}
+use Rattle.wl_machine.specs.declared.doing.Doing.TheVariants.{Integrating}
+use Rattle.wl_node.specs.declared.setup.NodeSetup.{NodeSetup}
+use Rattle.wl_plan.specs.declared.plan.Plan.{Plan}
+use Rattle.wl_plan.specs.PlanLine.{line_of, setup_at}
+use Rattle.wl_plan.specs.Simulation.{seen}
 use Rattle.wl_plan.specs.SimulationLaws.{SimulationLaws}
 use Rattle.wl_plan.specs.Checked.{IsChecked, CheckedIsSound}
-use Rattle.wl_serial.specs.Outcome.{history_at_end}
-use Rattle.wl_trace.specs.declared.state.Doing.TheVariants.{Integrating}
-use Rattle.wl_trace.specs.States.{StateBySamples, state_after}
-use Rattle.wl_views.specs.declared.held.Counted.{Counted}
+use Rattle.wl_trace.specs.declared.shown.Shown.{Shown}
+use Rattle.wl_trace.specs.Rerun.{IsRerun}
+use Rattle.wl_trace.specs.Shown.{shown_of}
 use Rattle.wl_views.specs.declared.held.Held.{Held}
 use Rattle.wl_views.specs.declared.signals.NodeSignals.{NodeSignals}
-use Rattle.wl_views.specs.declared.signals.Watched.{Watched}
-use Rattle.wl_views.specs.Held.{CountHolds, Holds, Remembers, Watches, signals_by, stays_until, unwatched}
-use Rattle.wl_views.specs.Signals.{node_signals, sample_ticks, signals}
+use Rattle.wl_views.specs.declared.watched.Watched.{Watched}
+use Rattle.wl_views.specs.Held.{Awaits, Holds, Watches, signals_by, stays_until}
+use Rattle.wl_views.specs.Signals.{node_signals, shown_then, signals}
 use Rattle.wl_views.specs.Vcd.{changes_from, node_changes}
-use Rattle.wl_views.proofs.SignalProofs.{signals_are}
-use Rattle.wl_views.proofs.StateAt.{state_now}
+use Rattle.wl_clock.specs.Timing.{tick_of}
+use Rattle.wl_views.proofs.Going.{begun_earlier}
+use Rattle.wl_views.proofs.SignalProofs.{driven_then}
 use Rattle.wl_views.proofs.Walk.{changed_more}
 
 abbrev pub low : NodeSignals
@@ -29,50 +35,65 @@ low = record { tx = false; rx = false; sample = false; start = false; state = re
 narrow : (f : ℕ → Bool) (t u : ℕ) (held : Held) → Holds f t held → t ≤ u → u < held.until → Holds f u held
 narrow f t u held h from below = record { later = below; same = λ v more less. h.same v (omega arith) less }
 
-narrow_count : (ticks : List ℕ) (t u : ℕ) (counted : Counted) → CountHolds ticks t counted → t ≤ u → u < counted.until → CountHolds ticks u counted
-narrow_count ticks t u counted h from below = record { later = below; same = λ v more less. h.same v (omega arith) less }
-
 -- what is known goes on as long as it stays
 pub on : (plan : Plan) (i t u : ℕ) (w : Watched) → Watches plan i t w → t ≤ u → u < stays_until w → Watches plan i u w
 on plan i t u w h from below = record {
-  drive = narrow _ t u w.drive h.drive from (omega arith);
+  runs = h.runs;
   line = narrow _ t u w.line h.line from (omega arith);
-  starts = narrow _ t u w.starts h.starts from (omega arith);
-  samples = narrow_count _ t u w.samples h.samples from (omega arith);
-  state = h.state;
+  next = h.next;
+  before = h.before;
+  later = omega arith;
+  same = λ v more less. h.same v (omega arith) less;
 }
 
-pub remembered : (plan : Plan) (i t u : ℕ) (w : Watched) → Watches plan i t w → t ≤ u → Remembers plan i u w
-remembered plan i t u w h from = record {
-  drive = λ below. narrow _ t u w.drive h.drive from below;
-  line = λ below. narrow _ t u w.line h.line from below;
-  starts = λ below. narrow _ t u w.starts h.starts from below;
-  samples = λ below. narrow_count _ t u w.samples h.samples from below;
-}
-
-pub nothing_remembered : (plan : Plan) (i t : ℕ) → Remembers plan i t unwatched
-nothing_remembered plan i t = record {
-  drive = λ below. absurd (omega arith);
-  line = λ below. absurd (omega arith);
-  starts = λ below. absurd (omega arith);
-  samples = λ below. absurd (omega arith);
-}
-
-module _ (sounds : CheckedIsSound) (laws : SimulationLaws) (tables : TableLaws) (states : StateBySamples) (plan : Plan) (checked : IsChecked plan) (i : ℕ) (b : i < length plan.nodes) where
-  pub stays : (t u : ℕ) (w : Watched) → Watches plan i t w → t ≤ u → u < stays_until w → node_signals plan u i ≡ signals_by w
+module _ (sounds : CheckedIsSound) (laws : SimulationLaws) (plan : Plan) (checked : IsChecked plan) (i : ℕ) (b : i < length plan.nodes) where
+  pub stays : (t u : ℕ) (w : Watched) → Watches plan i t w → t ≤ u → u < stays_until w
+      → node_signals plan u i ≡ signals_by (shown_of (setup_at plan i) (seen (line_of plan) i w.quanta)) w.line.value
+  unfolding node_signals
   stays t u w h from below =
-      let had : count_below (suc u) (sample_ticks plan i) ≡ w.samples.count = h.samples.same u from (omega arith) in
-      signals_are laws plan (sounds plan checked) i b u w.samples.count w.drive.value w.line.value w.starts.value w.state
-      (h.drive.same u from (omega arith)) (h.line.same u from (omega arith)) (h.starts.same u from (omega arith)) had
-      (state_now sounds laws tables states plan checked i b u ∙ ap (state_after (setup_at plan i) (history_at_end plan i).samples) had ∙ sym h.state)
+      let same : shown_then plan i u ≡ shown_of (setup_at plan i) (seen (line_of plan) i w.quanta) = h.same u from below in
+      λ x. record {
+        tx = ap not (driven_then sounds laws plan checked i b u ∙ ap (λ (s : Shown). is_dominant s.drive) same) x;
+        rx = ap not (h.line.same u from (omega arith)) x;
+        sample = ap (λ (s : Shown). s.sampled) same x;
+        start = ap (λ (s : Shown). s.started) same x;
+        state = ap (λ (s : Shown). s.state) same x;
+      }
 
-  pub now : (t : ℕ) (w : Watched) → Watches plan i t w → node_signals plan t i ≡ signals_by w
+  pub now : (t : ℕ) (w : Watched) → Watches plan i t w
+      → node_signals plan t i ≡ signals_by (shown_of (setup_at plan i) (seen (line_of plan) i w.quanta)) w.line.value
   now t w h =
-      let p = h.drive.later in
-      let q = h.line.later in
-      let r = h.samples.later in
-      let s = h.starts.later in
+      let p = h.line.later in
+      let q = h.later in
       stays t t w h (omega arith) (omega arith)
+
+  -- what a watched node says is its signals
+  pub said : (t : ℕ) (w : Watched) (s : NodeSignals) → Watches plan i t w
+      → ((setup : NodeSetup) (levels : List Level) → IsRerun setup levels w.node → s ≡ signals_by (shown_of setup levels) w.line.value) → s ≡ node_signals plan t i
+  said t w s h is = is (setup_at plan i) (seen (line_of plan) i w.quanta) h.runs.node ∙ sym (now t w h)
+
+  -- what it has seen began before the line changes, and before its next quantum
+  begun_before : (t : ℕ) (w : Watched) → 0 < t → Watches plan i (t - 1) w → stays_until w ≤ t → (k : ℕ) → k < w.quanta → tick_of (setup_at plan i).clock k < t
+  begun_before t w some h past k less = elim (cases_lt w.line.until (t + 1)) [
+    | inl run_out ↦ (let m = h.before k less in omega arith)
+    | inr stays ↦
+        (let e : w.next ≡ t = (let q = h.later in omega arith) in
+        let m = begun_earlier sounds laws plan checked i b k w.quanta less (h.runs.inside k less) in
+        let n = h.next in omega arith)
+  ]
+
+  -- where what is known runs out, it is for the line or for the next quantum: all that began before was seen
+  pub awaited : (t : ℕ) (w : Watched) → 0 < t → Watches plan i (t - 1) w → stays_until w ≤ t → Awaits plan i t w
+  awaited t w some h past =
+      let p = h.line.later in
+      let q = h.later in
+      record {
+        runs = h.runs;
+        line = λ below. narrow _ (t - 1) t w.line h.line (omega arith) below;
+        next = h.next;
+        before = λ k less. begun_before t w some h past k less;
+        here = omega arith;
+      }
 
 -- a range of equal values
 same_range : {X : Type 0} (f g : ℕ → X) (a n : ℕ) → ((k : ℕ) → a ≤ k → k < a + n → f k ≡ g k) → map f (range_with_len a n) ≡ map g (range_with_len a n)
@@ -98,16 +119,31 @@ node_more plan s t k b =
     changed_more k (signals plan s) (signals plan t) low (omega arith) (omega arith)
     ∙ ap₂ (λ x y. changes_from 0 (take k (signals plan s)) (take k (signals plan t)) ++ node_changes k x y) was now
 
+-- one of them
+pub some_of : (all : List Watched) → 0 < length all → Watched
+some_of [] some = absurd (omega arith)
+some_of (w ∷ all) some = w
+
 -- what is known of the nodes up to one, of which it is put in place
 pub known_more : (P : ℕ → Watched → Type 0) (all : List Watched) (i : ℕ) (w : Watched) → i < length all
-    → ((k : ℕ) → k < i → P k (get_or all k unwatched)) → P i w → (k : ℕ) → k < i + 1 → P k (get_or (set all i w) k unwatched)
-known_more P all i w room below here =
-    below_more (λ k. P k (get_or (set all i w) k unwatched)) i
-    (λ k h. let ne : k ≢ i = omega arith in subst (P k) (sym (get_or-set_other all i k w unwatched ne)) (below k h))
-    (subst (P i) (sym (get_or-set_same all i w unwatched room)) here)
+    → ((k : ℕ) (d : Watched) → k < i → P k (get_or all k d)) → P i w → (k : ℕ) (d : Watched) → k < i + 1 → P k (get_or (set all i w) k d)
+known_more P all i w room below here k d =
+    below_more (λ m. P m (get_or (set all i w) m d)) i
+    (λ m h. let ne : m ≢ i = omega arith in subst (P m) (sym (get_or-set_other all i m w d ne)) (below m d h))
+    (subst (P i) (sym (get_or-set_same all i w d room)) here)
+    k
 
 -- and of the others, which stay as they are
 pub others_stay : (P : ℕ → Watched → Type 0) (all : List Watched) (i n : ℕ) (w : Watched)
-    → ((k : ℕ) → i ≤ k → k < n → P k (get_or all k unwatched)) → (k : ℕ) → i + 1 ≤ k → k < n → P k (get_or (set all i w) k unwatched)
-others_stay P all i n w others k from inside =
-    let ne : k ≢ i = omega arith in subst (P k) (sym (get_or-set_other all i k w unwatched ne)) (others k (omega arith) inside)
+    → ((k : ℕ) (d : Watched) → i ≤ k → k < n → P k (get_or all k d)) → (k : ℕ) (d : Watched) → i + 1 ≤ k → k < n → P k (get_or (set all i w) k d)
+others_stay P all i n w others k d from inside =
+    let ne : k ≢ i = omega arith in subst (P k) (sym (get_or-set_other all i k w d ne)) (others k d (omega arith) inside)
+
+-- and of one more behind them
+pub known_behind : (P : ℕ → Watched → Type 0) (all : List Watched) (i : ℕ) (w : Watched) → length all ≡ i
+    → ((k : ℕ) (d : Watched) → k < i → P k (get_or all k d)) → P i w → (k : ℕ) (d : Watched) → k < i + 1 → P k (get_or (all ++ w ∷ []) k d)
+known_behind P all i w long below here k d =
+    below_more (λ m. P m (get_or (all ++ w ∷ []) m d)) i
+    (λ m h. let inside : m < length all = omega arith in subst (P m) (sym (get_or-append all (w ∷ []) d m inside)) (below m d h))
+    (subst (λ (x : Watched). P i x) (sym (ap (λ (n : ℕ). get_or (all ++ w ∷ []) n d) (sym long) ∙ get_or-append_seam all w [] d)) here)
+    k

@@ -2,8 +2,8 @@
 use Rattle.std.specs.Prelude.{◌≡◌, ℕ, nat_lt, if◌then◌else◌, true, false, List, [], ◌∷◌, map, codes, refl}
 use Rattle.std.specs.Fmt.{digits}
 use Rattle.wl_confine.specs.declared.Mode.TheVariants.{Active, Passive}
-use Rattle.wl_trace.specs.declared.state.Doing.TheVariants.{Idle, PassiveFlag}
-use Rattle.wl_trace.specs.declared.state.NodeState.{NodeState}
+use Rattle.wl_machine.specs.declared.doing.Doing.TheVariants.{Idle, PassiveFlag}
+use Rattle.wl_trace.specs.declared.shown.NodeState.{NodeState}
 use Rattle.wl_views.specs.declared.tick.Tick.{Tick}
 use Rattle.wl_views.specs.declared.tick.TimeUnit.TheVariants.{Picosecond, Microsecond}
 use Rattle.wl_views.specs.declared.signals.NodeSignals.{NodeSignals}

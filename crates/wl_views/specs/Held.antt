@@ -1,21 +1,21 @@
 -- Values that stay from one tick up to another, so that the ticks in between needn't be asked for (this project's profile).
-use Rattle.std.specs.Prelude.{◌≡◌, ℕ, suc, ◌+◌, ◌-◌, ◌<◌, ◌≤◌, ◌&&◌, nat_le, min, not, Bool, false, List, length, slice_index, slice_index_or}
+use Rattle.std.specs.Prelude.{◌≡◌, ℕ, ◌+◌, ◌-◌, ◌<◌, ◌≤◌, ◌&&◌, nat_le, nat_lt, min, not, Bool, List, length, slice_index, slice_index_or, if◌then◌else◌}
+use Rattle.wl_level.specs.Levels.{is_dominant}
+use Rattle.wl_clock.specs.Timing.{Timing, tick_of}
 use Rattle.wl_topology.specs.Delays.{delay_of}
 use Rattle.wl_topology.specs.Driven.{driven}
 use Rattle.wl_record_core.specs.Truth.{count_below, odd}
 use Rattle.wl_plan.specs.declared.plan.Plan.{Plan}
 use Rattle.wl_plan.specs.Line.{found}
-use Rattle.wl_plan.specs.PlanLine.{line_of, setup_at, table_of}
-use Rattle.wl_plan.specs.Simulation.{level}
-use Rattle.wl_confine.specs.declared.Mode.TheVariants.{Active}
-use Rattle.wl_serial.specs.Outcome.{history_at_end}
-use Rattle.wl_trace.specs.declared.state.Doing.TheVariants.{Integrating}
-use Rattle.wl_trace.specs.States.{state_after}
-use Rattle.wl_views.specs.declared.held.Counted.{Counted}
+use Rattle.wl_plan.specs.PlanLine.{line_of, setup_at}
+use Rattle.wl_plan.specs.Simulation.{AreInside, level, seen}
+use Rattle.wl_trace.specs.declared.shown.Shown.{Shown}
+use Rattle.wl_trace.specs.Rerun.{IsRerun}
+use Rattle.wl_trace.specs.Shown.{shown_of}
 use Rattle.wl_views.specs.declared.held.Held.{Held}
 use Rattle.wl_views.specs.declared.signals.NodeSignals.{NodeSignals}
-use Rattle.wl_views.specs.declared.signals.Watched.{Watched}
-use Rattle.wl_views.specs.Signals.{sample_ticks, start_ticks}
+use Rattle.wl_views.specs.declared.watched.Watched.{Watched}
+use Rattle.wl_views.specs.Signals.{shown_then}
 
 -- from tick t up to another one a value is this one
 pub record Holds (f : ℕ → Bool) (t : ℕ) (held : Held) : Type 0 where
@@ -38,44 +38,57 @@ turn_after ticks count delay = slice_index ticks count + delay
 abbrev pub IsBeforeTurn : List ℕ → ℕ → ℕ → ℕ → Type 0
 IsBeforeTurn ticks count delay t = count < length ticks → t < turn_after ticks count delay
 
--- from tick t up to another one so many of these ticks have come
-pub record CountHolds (ticks : List ℕ) (t : ℕ) (counted : Counted) : Type 0 where
-  pub later : t < counted.until
-  pub same : (u : ℕ) → t ≤ u → u < counted.until → count_below (suc u) ticks ≡ counted.count
+-- later than any tick
+abbrev pub no_tick : ℕ
+no_tick = 18446744073709551615
 
--- before anything is known: values that have run out, of a node that saw nothing
-abbrev pub unwatched : Watched
-unwatched = record {
-  drive = record { value = false; until = 0 };
-  line = record { value = false; until = 0 };
-  starts = record { value = false; until = 0 };
-  samples = record { count = 0; until = 0 };
-  state = record { tec = 0; rec = 0; mode = Active; doing = Integrating };
+-- the tick of this quantum where it is before the end
+abbrev pub next_of : Timing → ℕ → ℕ → ℕ
+next_of clock end k = if nat_lt (tick_of clock k) end then tick_of clock k else no_tick
+
+-- the signals of a node that shows this, and finds the line dominant or not
+abbrev pub signals_by : Shown → Bool → NodeSignals
+signals_by shown dominant = record {
+  tx = not (is_dominant shown.drive);
+  rx = not dominant;
+  sample = shown.sampled;
+  start = shown.started;
+  state = shown.state;
 }
 
--- the signals that such values are
-abbrev pub signals_by : Watched → NodeSignals
-signals_by w = record { tx = not w.drive.value; rx = not w.line.value; sample = odd w.samples.count; start = w.starts.value; state = w.state }
-
--- up to when all of them stay
+-- up to when the line stays as it is found, and no quantum comes that isn't seen
 abbrev pub stays_until : Watched → ℕ
-stays_until w = min (min (min w.drive.until w.line.until) w.starts.until) w.samples.until
+stays_until w = min w.line.until w.next
 
--- from tick t on what node i drives, what it finds, its bit starts and samples and what it is at after them are these
-pub record Watches (plan : Plan) (i t : ℕ) (w : Watched) : Type 0 where
-  pub drive : Holds (turned_at 0 (table_of plan i)) t w.drive
-  pub line : Holds (found (line_of plan) (level (line_of plan)) i) t w.line
-  pub starts : Holds (turned_at 0 (start_ticks plan i)) t w.starts
-  pub samples : CountHolds (sample_ticks plan i) t w.samples
-  pub state : w.state ≡ state_after (setup_at plan i) (history_at_end plan i).samples w.samples.count
+-- a node runs again, and has seen so many of its quanta before the end
+pub record Runs (plan : Plan) (i : ℕ) (w : Watched) : Type 0 where
+  pub node : IsRerun (setup_at plan i) (seen (line_of plan) i w.quanta) w.node
+  pub inside : AreInside (line_of plan) i w.quanta
 
--- and so are those of them that haven't run out at tick t
-pub record Remembers (plan : Plan) (i t : ℕ) (w : Watched) : Type 0 where
-  pub drive : t < w.drive.until → Holds (turned_at 0 (table_of plan i)) t w.drive
+-- those that begin before tick t; what was known of the line may have run out
+pub record Awaits (plan : Plan) (i t : ℕ) (w : Watched) : Type 0 where
+  pub runs : Runs plan i w
   pub line : t < w.line.until → Holds (found (line_of plan) (level (line_of plan)) i) t w.line
-  pub starts : t < w.starts.until → Holds (turned_at 0 (start_ticks plan i)) t w.starts
-  pub samples : t < w.samples.until → CountHolds (sample_ticks plan i) t w.samples
+  pub next : w.next ≡ next_of (setup_at plan i).clock plan.end w.quanta
+  pub before : (q : ℕ) → q < w.quanta → tick_of (setup_at plan i).clock q < t
+  pub here : t ≤ w.next
+
+-- those that begin up to tick t
+pub record HasSeen (plan : Plan) (i t : ℕ) (w : Watched) : Type 0 where
+  pub runs : Runs plan i w
+  pub before : (q : ℕ) → q < w.quanta → tick_of (setup_at plan i).clock q ≤ t
+  pub later : t < next_of (setup_at plan i).clock plan.end w.quanta
+
+-- From tick t on the line is found so, and the node shows what it does now: it has seen those that begin before the next, at which alone that may change.
+pub record Watches (plan : Plan) (i t : ℕ) (w : Watched) : Type 0 where
+  pub runs : Runs plan i w
+  pub line : Holds (found (line_of plan) (level (line_of plan)) i) t w.line
+  pub next : w.next ≡ next_of (setup_at plan i).clock plan.end w.quanta
+  pub before : (q : ℕ) → q < w.quanta → tick_of (setup_at plan i).clock q < w.line.until
+  pub later : t < w.next
+  pub same : (u : ℕ) → t ≤ u → u < stays_until w → shown_then plan i u ≡ shown_of (setup_at plan i) (seen (line_of plan) i w.quanta)
 
 -- that of all nodes
-abbrev pub AllWatched : Plan → ℕ → List Watched → Type 0
-AllWatched plan t all = (i : ℕ) → i < length plan.nodes → Watches plan i t (slice_index_or all i unwatched)
+pub record AllWatched (plan : Plan) (t : ℕ) (all : List Watched) : Type 0 where
+  pub nodes : length all ≡ length plan.nodes
+  pub each : (i : ℕ) (d : Watched) → i < length plan.nodes → Watches plan i t (slice_index_or all i d)

@@ -11,15 +11,6 @@ pub(crate) struct Held {
     pub(crate) until: u64,
 }
 
-/// How many ticks of a list have come, and up to when no other comes.
-#[derive(Clone, Copy)]
-pub(crate) struct Counted {
-    /// How many have come.
-    pub(crate) count: usize,
-    /// The first tick at which there may be more.
-    pub(crate) until: u64,
-}
-
 impl Held {
     /// Whether this or another value is true, for as long as both stay.
     pub(crate) fn or(self, other: Held) -> Held

@@ -8,14 +8,13 @@ mod held;
 mod laws;
 mod lines;
 mod log;
-mod samples;
 mod seen;
 mod sent;
 mod signals;
-mod starts;
 mod tick;
 mod told;
 mod turned;
+mod watched;
 mod wave;
 mod words;
 

@@ -18,7 +18,7 @@ use wl_serial::Outcome;
 use wl_topology::MOST_NODES;
 
 /// The level of a line that is dominant, or isn't.
-fn level_of(dominant: bool) -> Level
+pub(crate) fn level_of(dominant: bool) -> Level
     ensures { result ≡ level_of dominant }
 {
     if dominant {

@@ -1,7 +1,6 @@
 //! The signals of a simulation's nodes at a tick, and how long they stay.
-ghost use Rattle.std.specs.Prelude.{◌≡◌, ℕ, ◌+◌, ◌-◌, ◌<◌, ◌≤◌, ◌&&◌, ◌++◌, nat_le, nat_lt, IfOk, OnOk, length, slice_index_or};
+ghost use Rattle.std.specs.Prelude.{◌≡◌, ℕ, ◌+◌, ◌-◌, ◌<◌, ◌≤◌, ◌&&◌, ◌++◌, nat_le, nat_lt, IfOk, length};
 ghost use Rattle.arrayvec.specs.ArrayVec.{array_vec_len};
-ghost use Rattle.wl_record_core.specs.Truth.{IsIncreasing};
 ghost use Rattle.wl_topology.specs.Limits.{longest_delay};
 ghost use Rattle.wl_topology.specs.Delays.{delay_of, disturbance_delay};
 ghost use Rattle.wl_topology.specs.Driven.{driven};
@@ -11,21 +10,19 @@ ghost use Rattle.wl_plan.specs.Line.{found};
 ghost use Rattle.wl_plan.specs.PlanLine.{disturbed, is_at, line_of};
 ghost use Rattle.wl_plan.specs.Simulation.{level};
 ghost use Rattle.wl_serial.specs.Outcome.{outcome_of};
-ghost use Rattle.wl_views.specs.Held.{AllWatched, Holds, Remembers, Watches, driven_at, signals_by, stays_until, turned_at, unwatched};
-ghost use Rattle.wl_views.specs.Signals.{all_sample_ticks, all_start_ticks, all_states, node_signals, sample_ticks, signals, start_ticks, states_at};
+ghost use Rattle.wl_views.specs.Held.{AllWatched, Holds, Watches, driven_at, stays_until};
+ghost use Rattle.wl_views.specs.Signals.{node_signals, signals};
 ghost use Rattle.wl_views.specs.Vcd.{changes_from, node_changes};
 
-use crate::held::{Counted, Held};
+use crate::held::Held;
 use crate::lines::{Lines, push_node_changes};
-use crate::seen::found_at;
-use crate::turned::{counted, turned};
+use crate::turned::turned;
+use crate::watched::Watched;
 use std::alloc::{AllocError, Global};
-use wl_confine::Mode;
-use wl_level::Listed;
 use wl_plan::{Disturbance, Plan};
 use wl_serial::Outcome;
 use wl_topology::MOST_NODES;
-use wl_trace::{Doing, NodeState};
+use wl_trace::NodeState;
 
 /// The signals of a node at a tick, as logic levels: true is high.
 #[derive(Clone, Copy, Debug, PartialEq, Eq)]
@@ -40,97 +37,6 @@ pub struct NodeSignals {
     pub start: bool,
     /// What it is at: its error counters, and what it does.
     pub state: NodeState,
-}
-
-/// What is known of a node's signals from a tick on, each with how long it stays.
-#[derive(Clone, Copy)]
-pub(crate) struct Watched {
-    /// Whether it drives dominant.
-    pub(crate) drive: Held,
-    /// Whether it finds the line dominant.
-    pub(crate) line: Held,
-    /// Whether its mark of bit starts is high.
-    pub(crate) starts: Held,
-    /// How many samples it has had.
-    pub(crate) samples: Counted,
-    /// What it is at after them.
-    pub(crate) state: NodeState,
-}
-
-impl Watched {
-    /// Nothing is known yet.
-    pub(crate) fn new() -> Watched
-        ensures { result ≡ unwatched }
-    {
-        let none = Held {
-            value: false,
-            until: 0,
-        };
-        Watched {
-            drive: none,
-            line: none,
-            starts: none,
-            samples: Counted { count: 0, until: 0 },
-            state: NodeState {
-                tec: 0,
-                rec: 0,
-                mode: Mode::Active,
-                doing: Doing::Integrating,
-            },
-        }
-    }
-
-    /// The signals.
-    pub(crate) fn now(self) -> NodeSignals
-        ensures { result ≡ signals_by self }
-    {
-        NodeSignals {
-            tx: !self.drive.value,
-            rx: !self.line.value,
-            sample: self.samples.count % 2 == 1,
-            start: self.starts.value,
-            state: self.state,
-        }
-    }
-
-    /// How long all of them stay.
-    pub(crate) fn until(self) -> u64
-        ensures { result ≡ stays_until self }
-    {
-        self.drive
-            .until
-            .min(self.line.until)
-            .min(self.starts.until)
-            .min(self.samples.until)
-    }
-}
-
-/// For a node, how many changes of each node had come to it, and of its own drive and bit starts, when they were last asked for. It speeds up the next time, and decides nothing.
-#[derive(Clone, Copy)]
-pub(crate) struct Come {
-    line: [usize; MOST_NODES],
-    drive: usize,
-    starts: usize,
-}
-
-/// That of all nodes.
-#[derive(Drop)]
-pub(crate) struct AllCome {
-    nodes: [Come; MOST_NODES],
-}
-
-impl AllCome {
-    /// None has come yet.
-    pub(crate) fn new() -> AllCome {
-        let none = Come {
-            line: [0; MOST_NODES],
-            drive: 0,
-            starts: 0,
-        };
-        AllCome {
-            nodes: [none; MOST_NODES],
-        }
-    }
 }
 
 /// Whether some node's drive is dominant at node `j` at tick `t`.
@@ -222,109 +128,40 @@ pub(crate) fn line_at(
     others.or(disturbed(plan, j, t))
 }
 
-/// What turns at each of these ticks, at tick `t`, by what it was before and for how long that stays.
-fn turned_on(ticks: &[u64], t: u64, held: Held, come: &mut usize) -> Held
-    requires increasing { IsIncreasing ticks.now }
-    requires early { t ≤ latest_end }
-    requires held { t < held.until → Holds (turned_at 0 ticks.now) t held }
-    ensures { Holds (turned_at 0 ticks.now) t result }
-{
-    if t < held.until {
-        held
-    } else {
-        turned(ticks, 0, t, come)
-    }
-}
-
-/// Of these states the one after so many samples, and where there is none this one.
-fn state_after(states: &[NodeState], count: usize, none: NodeState) -> NodeState
-    ensures { result ≡ slice_index_or states.now count none }
-{
-    states.get(count).copied().unwrap_or(none)
-}
-
-/// What is known of node `i` from tick `t` on, by the ticks of its samples and bit starts and by what was known of it before.
-pub(crate) fn watch(
-    plan: &Plan,
-    outcome: &Outcome,
-    samples: &[u64],
-    starts: &[u64],
-    states: &[NodeState],
-    i: usize,
-    t: u64,
-    was: Watched,
-    come: &mut Come,
-) -> Watched
-    requires checked { IsChecked plan.now }
-    requires outcome { outcome.now ≡ outcome_of plan.now }
-    requires samples { samples.now ≡ sample_ticks plan.now i }
-    requires starts { starts.now ≡ start_ticks plan.now i }
-    requires states { states.now ≡ states_at plan.now i }
-    requires node { i < length plan.now.nodes }
-    requires early { t ≤ latest_end }
-    requires was { Remembers plan.now i t was }
-    ensures { Watches plan.now i t result }
-{
-    wl_plan::checked_is_sound();
-    wl_plan::simulation_laws();
-    let nodes = outcome.nodes.as_slice();
-    let changes = nodes[i].changes.as_slice();
-    let drive = turned_on(changes, t, was.drive, &mut come.drive);
-    let line = found_at(plan, outcome, i, t, was.line, &mut come.line);
-    let starts = turned_on(starts, t, was.starts, &mut come.starts);
-    let samples = counted(samples, t, was.samples);
-    let state = state_after(states, samples.count, was.state);
-    Watched {
-        drive,
-        line,
-        starts,
-        samples,
-        state,
-    }
-}
-
-/// Makes known all nodes' signals from tick 0 on, and answers the signals at tick 0.
+/// What is known of each node's signals from tick 0 on. Refused only where memory runs out.
 pub(crate) fn watch_all(
     alloc: Global,
     plan: &Plan,
     outcome: &Outcome,
-    samples: &[Listed<u64>],
-    starts: &[Listed<u64>],
-    states: &[Listed<NodeState>],
-    come: &mut AllCome,
-    watched: &mut [Watched; MOST_NODES],
-) -> Result<Vec<NodeSignals>, AllocError>
+) -> Result<Vec<Watched>, AllocError>
     requires checked { IsChecked plan.now }
     requires outcome { outcome.now ≡ outcome_of plan.now }
-    requires samples { samples.now ≡ all_sample_ticks plan.now }
-    requires starts { starts.now ≡ all_start_ticks plan.now }
-    requires states { states.now ≡ all_states plan.now }
-    ensures now { IfOk result (λ now. now.items ≡ signals plan.now 0) }
-    ensures watched { OnOk result (AllWatched plan.now 0 watched.new) }
+    ensures { IfOk result (λ watched. AllWatched plan.now 0 watched.items) }
+{
+    let mut watched = Vec::with_capacity(alloc, plan.nodes.len())?;
+    for i in 0..plan.nodes.len() {
+        let mut node = Watched::new(plan, i);
+        node.go(plan, outcome, i, 0);
+        watched.push(node)?;
+    }
+    Ok(watched)
+}
+
+/// The signals of all nodes at tick 0, of which this is known. Refused only where memory runs out.
+pub(crate) fn first_signals(
+    alloc: Global,
+    plan: &Plan,
+    watched: &[Watched],
+) -> Result<Vec<NodeSignals>, AllocError>
+    requires checked { IsChecked plan.now }
+    requires watched { AllWatched plan.now 0 watched.now }
+    ensures { IfOk result (λ now. now.items ≡ signals plan.now 0) }
 {
     wl_plan::checked_is_sound();
     wl_plan::simulation_laws();
-    wl_record_core::table_laws();
-    wl_trace::state_by_samples();
-    let mut now = Vec::new(alloc);
-    for i in 0..plan.nodes.len() {
-        let ticks = samples[i].as_slice();
-        let begun = starts[i].as_slice();
-        let known = states[i].as_slice();
-        let none = Watched::new();
-        let first = watch(
-            plan,
-            outcome,
-            ticks,
-            begun,
-            known,
-            i,
-            0,
-            none,
-            &mut come.nodes[i],
-        );
-        watched[i] = first;
-        now.push(first.now())?;
+    let mut now = Vec::with_capacity(alloc, watched.len())?;
+    for i in 0..watched.len() {
+        now.push(watched[i].signals())?;
     }
     Ok(now)
 }
@@ -334,19 +171,12 @@ fn push_node(
     text: &mut Lines,
     plan: &Plan,
     outcome: &Outcome,
-    samples: &[u64],
-    starts: &[u64],
-    states: &[NodeState],
     i: usize,
     t: u64,
     known: &mut Watched,
-    come: &mut Come,
 ) -> u64
     requires checked { IsChecked plan.now }
     requires outcome { outcome.now ≡ outcome_of plan.now }
-    requires samples { samples.now ≡ sample_ticks plan.now i }
-    requires starts { starts.now ≡ start_ticks plan.now i }
-    requires states { states.now ≡ states_at plan.now i }
     requires node { i < length plan.now.nodes }
     requires some { 0 < t }
     requires early { t ≤ latest_end }
@@ -360,17 +190,14 @@ fn push_node(
 {
     wl_plan::checked_is_sound();
     wl_plan::simulation_laws();
-    wl_record_core::table_laws();
-    wl_trace::state_by_samples();
     let until = known.until();
     if t < until {
         return until;
     }
-    let was = *known;
-    let now = watch(plan, outcome, samples, starts, states, i, t, was, come);
-    push_node_changes(text, i, was.now(), now.now());
-    *known = now;
-    now.until()
+    let was = known.signals();
+    known.go(plan, outcome, i, t);
+    push_node_changes(text, i, was, known.signals());
+    known.until()
 }
 
 /// Adds those signals of all nodes that change at tick `t`, and answers a later tick up to which none of them changes again.
@@ -378,18 +205,11 @@ pub(crate) fn push_changes(
     text: &mut Lines,
     plan: &Plan,
     outcome: &Outcome,
-    samples: &[Listed<u64>],
-    starts: &[Listed<u64>],
-    states: &[Listed<NodeState>],
     t: u64,
-    come: &mut AllCome,
-    watched: &mut [Watched; MOST_NODES],
+    watched: &mut [Watched],
 ) -> u64
     requires checked { IsChecked plan.now }
     requires outcome { outcome.now ≡ outcome_of plan.now }
-    requires samples { samples.now ≡ all_sample_ticks plan.now }
-    requires starts { starts.now ≡ all_start_ticks plan.now }
-    requires states { states.now ≡ all_states plan.now }
     requires some { 0 < t }
     requires early { t < plan.now.end }
     requires watched { AllWatched plan.now (t - 1) watched.old }
@@ -403,25 +223,9 @@ pub(crate) fn push_changes(
 {
     wl_plan::checked_is_sound();
     wl_plan::simulation_laws();
-    wl_record_core::table_laws();
-    wl_trace::state_by_samples();
     let mut until = plan.end;
-    for i in 0..plan.nodes.len() {
-        let ticks = samples[i].as_slice();
-        let begun = starts[i].as_slice();
-        let known = states[i].as_slice();
-        let stays = push_node(
-            text,
-            plan,
-            outcome,
-            ticks,
-            begun,
-            known,
-            i,
-            t,
-            &mut watched[i],
-            &mut come.nodes[i],
-        );
+    for i in 0..watched.len() {
+        let stays = push_node(text, plan, outcome, i, t, &mut watched[i]);
         until = until.min(stays);
     }
     until

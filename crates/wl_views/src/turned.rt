@@ -2,9 +2,9 @@
 ghost use Rattle.std.specs.Prelude.{◌≡◌, ℕ, ◌+◌, ◌<◌, ◌≤◌, length, slice_index};
 ghost use Rattle.wl_record_core.specs.Truth.{count_below, IsIncreasing};
 ghost use Rattle.wl_plan.specs.Limits.{latest_end};
-ghost use Rattle.wl_views.specs.Held.{CountHolds, Holds, IsBeforeTurn, turn_after, turned_at};
+ghost use Rattle.wl_views.specs.Held.{Holds, IsBeforeTurn, turn_after, turned_at};
 
-use crate::held::{Counted, Held};
+use crate::held::Held;
 
 /// What is false at first and turns a delay after each of these ticks, at tick `t`. `come` of them had come when it was last asked
 /// for: that speeds up the answer, and decides nothing.
@@ -27,22 +27,6 @@ pub(crate) fn turned(ticks: &[u64], delay: u64, t: u64, come: &mut usize) -> Hel
         value: count % 2 == 1,
         until,
     }
-}
-
-/// How many of these ticks have come at tick `t`, by what was known before.
-pub(crate) fn counted(ticks: &[u64], t: u64, was: Counted) -> Counted
-    requires increasing { IsIncreasing ticks.now }
-    requires early { t ≤ latest_end }
-    requires was { t < was.until → CountHolds ticks.now t was }
-    ensures { CountHolds ticks.now t result }
-{
-    wl_record_core::table_laws();
-    if t < was.until {
-        return was;
-    }
-    let count = count_until(ticks, t, was.count);
-    let until = next_turn(ticks, count, 0);
-    Counted { count, until }
 }
 
 /// The tick of this number and a delay, and the last of all ticks where there is none.

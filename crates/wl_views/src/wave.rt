@@ -6,26 +6,22 @@ ghost use Rattle.wl_device.specs.Devices.{Writes};
 ghost use Rattle.wl_plan.specs.Checked.{IsChecked};
 ghost use Rattle.wl_serial.specs.Outcome.{outcome_of};
 ghost use Rattle.wl_views.specs.Held.{AllWatched};
-ghost use Rattle.wl_views.specs.Signals.{all_sample_ticks, all_start_ticks, all_states, signals};
+ghost use Rattle.wl_views.specs.Signals.{signals};
 ghost use Rattle.wl_views.specs.Streams.{Streams};
 ghost use Rattle.wl_views.specs.Vcd.{tick_lines, time_line, vcd_text};
 
 use crate::dump::front;
 use crate::fault::ViewFault;
 use crate::lines::{Lines, push_time};
-use crate::samples::{all_sample_ticks, all_states};
-use crate::signals::{AllCome, Watched, push_changes, watch_all};
-use crate::starts::all_start_ticks;
+use crate::signals::{first_signals, push_changes, watch_all};
 use crate::tick::Tick;
+use crate::watched::Watched;
 use arrayvec::ArrayVec;
 use std::alloc::Global;
 use wl_device::{Sink, WriteFault, send};
-use wl_level::Listed;
 use wl_plan::Plan;
 use wl_serial::Outcome;
 use wl_setup::Names;
-use wl_topology::MOST_NODES;
-use wl_trace::NodeState;
 
 /// From how many bytes on a piece goes out.
 const PIECE: usize = 8_192;
@@ -36,18 +32,11 @@ fn push_tick(
     tick: Tick,
     plan: &Plan,
     outcome: &Outcome,
-    samples: &[Listed<u64>],
-    starts: &[Listed<u64>],
-    states: &[Listed<NodeState>],
     t: u64,
-    come: &mut AllCome,
-    watched: &mut [Watched; MOST_NODES],
+    watched: &mut [Watched],
 ) -> u64
     requires checked { IsChecked plan.now }
     requires outcome { outcome.now ≡ outcome_of plan.now }
-    requires samples { samples.now ≡ all_sample_ticks plan.now }
-    requires starts { starts.now ≡ all_start_ticks plan.now }
-    requires states { states.now ≡ all_states plan.now }
     requires some { 0 < t }
     requires early { t < plan.now.end }
     requires watched { AllWatched plan.now (t - 1) watched.old }
@@ -63,9 +52,7 @@ fn push_tick(
     let before = text.len();
     push_time(text, tick, t);
     let timed = text.len();
-    let until = push_changes(
-        text, plan, outcome, samples, starts, states, t, come, watched,
-    );
+    let until = push_changes(text, plan, outcome, t, watched);
     if text.len() == timed {
         text.truncate(before);
     }
@@ -78,18 +65,11 @@ fn write_from<W: Sink>(
     tick: Tick,
     plan: &Plan,
     outcome: &Outcome,
-    samples: &[Listed<u64>],
-    starts: &[Listed<u64>],
-    states: &[Listed<NodeState>],
-    come: &mut AllCome,
-    watched: &mut [Watched; MOST_NODES],
+    watched: &mut [Watched],
     writer: &mut W,
 ) -> Result<(), WriteFault>
     requires checked { IsChecked plan.now }
     requires outcome { outcome.now ≡ outcome_of plan.now }
-    requires samples { samples.now ≡ all_sample_ticks plan.now }
-    requires starts { starts.now ≡ all_start_ticks plan.now }
-    requires states { states.now ≡ all_states plan.now }
     requires watched { AllWatched plan.now 0 watched.old }
     ensures { Writes W.takes writer.old
         (front.now ++ (flat_map (tick_lines tick (signals plan.now)) (range_with_len 1 (plan.now.end - 1)) ++ time_line tick plan.now.end))
@@ -110,9 +90,7 @@ fn write_from<W: Sink>(
             };
             text.clear();
         }
-        t = push_tick(
-            &mut text, tick, plan, outcome, samples, starts, states, t, come, watched,
-        );
+        t = push_tick(&mut text, tick, plan, outcome, t, watched);
     }
     push_time(&mut text, tick, plan.end);
     match send(text.as_slice(), writer, calls) {
@@ -137,34 +115,10 @@ pub fn vcd<W: Sink>(
     requires outcome { outcome.now ≡ outcome_of plan.now }
     ensures { Streams W.takes writer.old (vcd_text tick plan.now names.now) writer.new result }
 {
-    let samples = all_sample_ticks(alloc, plan, outcome)?;
-    let starts = all_start_ticks(alloc, plan, outcome)?;
-    let states = all_states(alloc, plan, outcome)?;
-    let mut come = AllCome::new();
-    let mut watched = [Watched::new(); MOST_NODES];
-    let now = watch_all(
-        alloc,
-        plan,
-        outcome,
-        &samples,
-        &starts,
-        &states,
-        &mut come,
-        &mut watched,
-    )?;
+    let mut watched = watch_all(alloc, plan, outcome)?;
+    let now = first_signals(alloc, plan, &watched)?;
     let front = front(alloc, tick, names, &now)?;
-    let written = write_from(
-        front.as_bytes(),
-        tick,
-        plan,
-        outcome,
-        &samples,
-        &starts,
-        &states,
-        &mut come,
-        &mut watched,
-        writer,
-    );
+    let written = write_from(front.as_bytes(), tick, plan, outcome, &mut watched, writer);
     match written {
         Ok(()) => Ok(()),
         Err(fault) => Err(ViewFault::from(fault)),

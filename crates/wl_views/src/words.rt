@@ -4,8 +4,8 @@ ghost use Rattle.wl_report.specs.Lines.{mode_word};
 ghost use Rattle.wl_views.specs.Vcd.{doing_word};
 
 use wl_confine::Mode;
+use wl_machine::Doing;
 use wl_report::mode_word;
-use wl_trace::Doing;
 
 /// A mode.
 pub(crate) fn mode(mode: Mode) -> &'static str

@@ -1,7 +1,7 @@
 -- The lines of one node more after those of the nodes before it.
 use Rattle.std.proofs.Common.{◌∙◌, false, string_bytes}
 use Rattle.wl_confine.specs.declared.Mode.TheVariants.{Active}
-use Rattle.wl_trace.specs.declared.state.Doing.TheVariants.{Integrating}
+use Rattle.wl_machine.specs.declared.doing.Doing.TheVariants.{Integrating}
 use Rattle.wl_views.specs.declared.signals.NodeSignals.{NodeSignals}
 use Rattle.wl_views.specs.Vcd.{node_values}
 use Rattle.wl_report.proofs.Callers.{piece_more}

@@ -1,6 +1,7 @@
 use Rattle.std.proofs.Common.{◌≡◌, ℕ, ◌+◌, ◌-◌, ◌*◌, ◌<◌, ◌≤◌, ◌++◌, length, get_or, take}
 use Rattle.arrayvec.specs.ArrayVec.{array_vec_len}
-use Rattle.wl_views.specs.Held.{Watches, stays_until, unwatched}
+use Rattle.wl_views.specs.declared.watched.Watched.{Watched}
+use Rattle.wl_views.specs.Held.{Watches, stays_until}
 use Rattle.wl_views.specs.Signals.{signals}
 use Rattle.wl_views.specs.Vcd.{changes_from}
 use Rattle.wl_views.proofs.signals.push_changes.Given as goal
@@ -12,8 +13,8 @@ invariant-loop-i l = record {
   room : array_vec_len l.text ≤ array_vec_len l.fn.text + l.i * 256;
   later : l.t < l.until;
   inside : l.until ≤ l.plan.end;
-  long : length l.watched ≡ 16;
-  known : (k : ℕ) → k < l.i → Watches l.plan k l.t (get_or l.watched k unwatched);
-  lasting : (k : ℕ) → k < l.i → l.until ≤ stays_until (get_or l.watched k unwatched);
-  others : (k : ℕ) → l.i ≤ k → k < length l.plan.nodes → Watches l.plan k (l.t - 1) (get_or l.watched k unwatched);
+  long : length l.watched ≡ length l.plan.nodes;
+  known : (k : ℕ) (d : Watched) → k < l.i → Watches l.plan k l.t (get_or l.watched k d);
+  lasting : (k : ℕ) (d : Watched) → k < l.i → l.until ≤ stays_until (get_or l.watched k d);
+  others : (k : ℕ) (d : Watched) → l.i ≤ k → k < length l.plan.nodes → Watches l.plan k (l.t - 1) (get_or l.watched k d);
 }

@@ -25,7 +25,7 @@ whole tick plan names front is =
 pub returns-in-Ok : goal.returns-in-Ok
 returns-in-Ok g c =
     let front : c.as_bytes.result.now ≡ header c.args.tick c.args.names.now ++ first_lines c.args.tick (signals c.args.plan.now 0) =
-    c.as_bytes.ensures.value ∙ c.in_ok-front.ensures ∙ ap (λ now. header c.args.tick c.args.names.now ++ first_lines c.args.tick now) (c.deref-4.ensures.value ∙ c.in_ok-now.ensures.now)
+    c.as_bytes.ensures.value ∙ c.in_ok-front.ensures ∙ ap (λ now. header c.args.tick c.args.names.now ++ first_lines c.args.tick now) (c.deref-2.ensures.value ∙ c.in_ok-now.ensures)
     in
     let wrote = c.in-Ok.ensures in (
       wrote.0,
@@ -37,7 +37,7 @@ returns-in-Ok g c =
 pub returns : goal.returns
 returns g c =
     let front : c.as_bytes.result.now ≡ header c.args.tick c.args.names.now ++ first_lines c.args.tick (signals c.args.plan.now 0) =
-    c.as_bytes.ensures.value ∙ c.in_ok-front.ensures ∙ ap (λ now. header c.args.tick c.args.names.now ++ first_lines c.args.tick now) (c.deref-4.ensures.value ∙ c.in_ok-now.ensures.now)
+    c.as_bytes.ensures.value ∙ c.in_ok-front.ensures ∙ ap (λ now. header c.args.tick c.args.names.now ++ first_lines c.args.tick now) (c.deref-2.ensures.value ∙ c.in_ok-now.ensures)
     in
     let takes = g.W.Sink.takes in
     let wrote = c.in-Err.ensures in

@@ -1,0 +1,82 @@
+-- Up to where the line changes quanta see the same, and the first of them neither sample nor begin a bit.
+use Rattle.std.proofs.Common.{◌≡◌, ◌∙◌, ap, sym, subst, arith, inl, inr, ℕ, ◌+◌, ◌<◌, ◌≤◌, List, [], ◌∷◌, ◌++◌, replicate}
+use Rattle.std.proofs.lemmas.Bool.{cases_lt}
+use Rattle.wl_level.specs.declared.Level.{Level}
+use Rattle.wl_level.specs.Levels.{level_of}
+use Rattle.wl_clock.specs.Timing.{tick_of}
+use Rattle.wl_node.specs.declared.setup.NodeSetup.{NodeSetup}
+use Rattle.wl_plan.specs.declared.plan.Plan.{Plan}
+use Rattle.wl_plan.specs.PlanLine.{line_of, setup_at}
+use Rattle.wl_plan.specs.Simulation.{AreInside, seen}
+use Rattle.wl_trace.specs.Rerun.{IsRerun}
+use Rattle.wl_trace.specs.Shown.{plain_quanta, shown_of}
+use Rattle.wl_views.specs.declared.held.Held.{Held}
+use Rattle.wl_views.specs.Held.{next_of, stays_until}
+use Rattle.wl_views.proofs.Going.{all_inside, few_inside, in_time, next_on, same_seen, setup_is, shown_stays}
+use Rattle.wl_views.proofs.watched.Watched.pass.Goals as goal
+
+-- those that are passed begin before the end
+pub next_tick-self-requires : goal.next_tick-self-requires
+next_tick-self-requires c =
+    let plan : Plan = c.args.plan.now in
+    let i : ℕ = c.args.i in
+    let k : ℕ = c.args.self.now.quanta in
+    let n : ℕ = c.pass.result in
+    let b = c.requires.node in
+    let h = c.requires.seen in
+    let setup = setup_is plan c.as_slice.result.now i c.index-as_slice-i.result c.as_slice.ensures b in
+    let few : n ≤ c.saturating_sub-most.result = omega (arith, c.pass.ensures.quanta (setup_at plan i) (seen (line_of plan) i k) h.runs.node) in
+    let inside : AreInside (line_of plan) i (k + n) =
+    λ q below. elim (cases_lt q k) [
+      | inl low ↦ h.runs.inside q low
+      | inr high ↦
+          (let less : q < c.first_not_before.result = omega (arith, c.saturating_sub-most.ensures, few) in
+          let early : tick_of (setup_at plan i).clock q < c.min-until.result = subst (λ (s : NodeSetup). tick_of s.clock q < c.min-until.result) setup (c.first_not_before.ensures.least q less) in
+          omega (arith, c.min-until.ensures))
+    ] in
+    few_inside c.checked_is_sound.ensures c.simulation_laws.ensures plan c.requires.checked i b (k + n) inside
+
+pub returns : goal.returns
+returns c =
+    let plan : Plan = c.args.plan.now in
+    let i : ℕ = c.args.i in
+    let k : ℕ = c.args.self.now.quanta in
+    let t : ℕ = c.args.t in
+    let n : ℕ = c.pass.result in
+    let b = c.requires.node in
+    let h = c.requires.seen in
+    let held : Held = c.args.self.now.line in
+    let sounds = c.checked_is_sound.ensures in
+    let laws = c.simulation_laws.ensures in
+    let checked = c.requires.checked in
+    let setup = setup_is plan c.as_slice.result.now i c.index-as_slice-i.result c.as_slice.ensures b in
+    let few : n ≤ c.saturating_sub-most.result = omega (arith, c.pass.ensures.quanta (setup_at plan i) (seen (line_of plan) i k) h.runs.node) in
+    let during : (q : ℕ) → k ≤ q → q < k + n → (tick_of (setup_at plan i).clock q < held.until) × (tick_of (setup_at plan i).clock q < plan.end) =
+    λ q from below.
+    (let less : q < c.first_not_before.result = omega (arith, c.saturating_sub-most.ensures, few) in
+    let early : tick_of (setup_at plan i).clock q < c.min-until.result = subst (λ (s : NodeSetup). tick_of s.clock q < c.min-until.result) setup (c.first_not_before.ensures.least q less) in
+    (omega (arith, c.min-until.ensures), omega (arith, c.min-until.ensures)))
+    in
+    let plain : (m : ℕ) → m ≤ n → shown_of (setup_at plan i) (seen (line_of plan) i k ++ replicate m (level_of held.value)) ≡ shown_of (setup_at plan i) (seen (line_of plan) i k) =
+    λ m less. ap (λ (l : Level). shown_of (setup_at plan i) (seen (line_of plan) i k ++ replicate m l)) (sym c.level_of-level.ensures) ∙ c.pass.ensures.same (setup_at plan i) (seen (line_of plan) i k) h.runs.node m less
+    in
+    let timely = in_time sounds laws plan checked i b t held c.requires.line k n h.runs.inside h.before h.later during plain in
+    let next : c.next_tick-self.result ≡ next_of (setup_at plan i).clock plan.end (k + n) = c.next_tick-self.ensures ∙ ap (λ (s : NodeSetup). next_of s.clock plan.end (k + n)) setup in
+    record {
+      runs = record {
+        node =
+            subst (λ (ls : List Level). IsRerun (setup_at plan i) ls c.pass.new.self)
+            (ap (λ (l : Level). seen (line_of plan) i k ++ replicate n l) c.level_of-level.ensures
+            ∙ sym (same_seen sounds laws plan checked i b t held c.requires.line k n timely))
+            (c.pass.ensures.run (setup_at plan i) (seen (line_of plan) i k) h.runs.node);
+        inside = all_inside sounds laws plan checked i b t held c.requires.line k n h.runs.inside h.before h.later during plain;
+      };
+      line = c.requires.line;
+      next = next;
+      before = λ q below. elim (cases_lt q k) [
+        | inl low ↦ (let m = h.before q low in let l = c.requires.line.later in omega arith)
+        | inr high ↦ (during q high below).0
+      ];
+      later = (let m = next_on sounds laws plan checked i b k n t c.requires.early h.later in omega arith);
+      same = λ u from below. shown_stays sounds laws plan checked i b t held c.requires.line k n h.runs.inside h.before h.later during plain u from (omega arith);
+    }

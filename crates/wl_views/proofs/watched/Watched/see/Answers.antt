@@ -1,0 +1,67 @@
+-- The quantum that begins now is the next one, and sees what the line is.
+use Rattle.std.proofs.Common.{◌≡◌, ◌∙◌, ap, sym, subst, arith, inl, inr, ℕ, ◌+◌, ◌<◌, ◌≤◌, Bool, List, [], ◌∷◌, ◌++◌}
+use Rattle.std.proofs.lemmas.Bool.{cases_lt}
+use Rattle.wl_level.specs.declared.Level.{Level}
+use Rattle.wl_level.specs.Levels.{level_of}
+use Rattle.wl_clock.specs.Timing.{tick_of}
+use Rattle.wl_node.specs.declared.setup.NodeSetup.{NodeSetup}
+use Rattle.wl_plan.specs.declared.plan.Plan.{Plan}
+use Rattle.wl_plan.specs.Line.{found}
+use Rattle.wl_plan.specs.PlanLine.{line_of, setup_at}
+use Rattle.wl_plan.specs.Simulation.{level, seen}
+use Rattle.wl_trace.specs.Rerun.{IsRerun}
+use Rattle.wl_views.proofs.Going.{next_after, next_now, setup_is}
+use Rattle.wl_views.proofs.Seeing.{few_more, inside_more, seen_more}
+use Rattle.wl_views.proofs.watched.Watched.see.Goals as goal
+
+pub quantum-requires : goal.quantum-requires
+quantum-requires c =
+    let plan : Plan = c.args.plan.now in
+    let i : ℕ = c.args.i in
+    let k : ℕ = c.args.self.now.quanta in
+    let now = next_now c.checked_is_sound.ensures c.simulation_laws.ensures plan c.requires.checked i c.requires.node k c.args.t c.requires.early (sym c.requires.awaits.next ∙ c.if-self-t.true) in
+    let few = few_more c.checked_is_sound.ensures c.simulation_laws.ensures plan c.requires.checked i c.requires.node k (omega (arith, now.0, now.1)) in
+    record { few = omega arith }
+
+pub overflow_add-self : goal.overflow_add-self
+overflow_add-self c =
+    let plan : Plan = c.args.plan.now in
+    let i : ℕ = c.args.i in
+    let k : ℕ = c.args.self.now.quanta in
+    let now = next_now c.checked_is_sound.ensures c.simulation_laws.ensures plan c.requires.checked i c.requires.node k c.args.t c.requires.early (sym c.requires.awaits.next ∙ c.if-self-t.true) in
+    let few = few_more c.checked_is_sound.ensures c.simulation_laws.ensures plan c.requires.checked i c.requires.node k (omega (arith, now.0, now.1)) in
+    omega arith
+
+pub returns-then-self-t-clause-seen : goal.returns-then-self-t-clause-seen
+returns-then-self-t-clause-seen c =
+    let plan : Plan = c.args.plan.now in
+    let i : ℕ = c.args.i in
+    let k : ℕ = c.args.self.now.quanta in
+    let t : ℕ = c.args.t in
+    let b = c.requires.node in
+    let old = c.requires.awaits in
+    let setup = setup_is plan c.as_slice.result.now i c.index-as_slice-i.result c.as_slice.ensures b in
+    let now = next_now c.checked_is_sound.ensures c.simulation_laws.ensures plan c.requires.checked i b k t c.requires.early (sym old.next ∙ c.if-self-t.true) in
+    let begins : tick_of (setup_at plan i).clock k ≡ t = now.0 in
+    let early : tick_of (setup_at plan i).clock k < plan.end = omega (arith, now.0, now.1) in
+    let is : found (line_of plan) (level (line_of plan)) i (tick_of (setup_at plan i).clock k) ≡ c.args.self.now.line.value =
+    ap (found (line_of plan) (level (line_of plan)) i) begins ∙ c.requires.line.same t (omega arith) c.requires.line.later
+    in
+    let sees : seen (line_of plan) i k ++ c.level_of-level.result ∷ [] ≡ seen (line_of plan) i (k + 1) =
+    ap (λ (l : Level). seen (line_of plan) i k ++ l ∷ []) (c.level_of-level.ensures ∙ ap level_of (sym is))
+    ∙ sym (seen_more c.checked_is_sound.ensures c.simulation_laws.ensures plan c.requires.checked i b k)
+    in
+    record {
+      runs = record {
+        node =
+            subst (λ (ls : List Level). IsRerun (setup_at plan i) ls c.quantum.new.self) sees
+            (c.quantum.ensures (setup_at plan i) (seen (line_of plan) i k) (sym (c.as_slice-queue.ensures ∙ ap (λ (s : NodeSetup). s.queue) setup))
+            (c.simulation_laws.ensures.length_seen (line_of plan) i k) old.runs.node);
+        inside = inside_more c.checked_is_sound.ensures c.simulation_laws.ensures plan c.requires.checked i b k old.runs.inside early;
+      };
+      before = λ q less. elim (cases_lt q k) [
+        | inl low ↦ (let m = old.before q low in omega arith)
+        | inr high ↦ (let e : q ≡ k = omega arith in let m = ap (tick_of (setup_at plan i).clock) e in omega arith)
+      ];
+      later = next_after c.checked_is_sound.ensures c.simulation_laws.ensures plan c.requires.checked i b k t c.requires.early begins;
+    }

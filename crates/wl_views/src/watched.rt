@@ -1,0 +1,142 @@
+//! What is known of a node's signals from a tick on: the node runs again beside the line, and takes no memory.
+ghost use Rattle.std.specs.Prelude.{◌≡◌, ◌+◌, ◌-◌, ◌<◌, ◌≤◌, ◌^◌, List, length};
+ghost use Rattle.wl_level.specs.declared.Level.{Level};
+ghost use Rattle.wl_topology.specs.Limits.{longest_delay};
+ghost use Rattle.wl_node.specs.declared.setup.NodeSetup.{NodeSetup};
+ghost use Rattle.wl_plan.specs.Checked.{IsChecked};
+ghost use Rattle.wl_plan.specs.Limits.{latest_end};
+ghost use Rattle.wl_plan.specs.Line.{found};
+ghost use Rattle.wl_plan.specs.PlanLine.{line_of};
+ghost use Rattle.wl_plan.specs.Simulation.{level};
+ghost use Rattle.wl_serial.specs.Outcome.{outcome_of};
+ghost use Rattle.wl_trace.specs.Rerun.{IsRerun};
+ghost use Rattle.wl_trace.specs.Shown.{shown_of};
+ghost use Rattle.wl_views.specs.Held.{Awaits, HasSeen, Holds, Watches, next_of, signals_by, stays_until};
+
+use crate::held::Held;
+use crate::seen::{found_at, level_of};
+use crate::signals::NodeSignals;
+use wl_clock::Clock;
+use wl_plan::Plan;
+use wl_serial::Outcome;
+use wl_topology::MOST_NODES;
+use wl_trace::Rerun;
+
+/// What is known of a node's signals from a tick on.
+#[derive(Drop)]
+pub(crate) struct Watched {
+    /// Whether it finds the line dominant.
+    pub(crate) line: Held,
+    /// How many changes of each node had come to it when the line was last asked for: that speeds up the next time, and decides nothing.
+    come: [usize; MOST_NODES],
+    /// The node after the quanta that it has seen.
+    pub(crate) node: Rerun,
+    /// How many they are.
+    pub(crate) quanta: u64,
+    /// The tick of its next quantum before the end, and the last of all ticks where there is none.
+    pub(crate) next: u64,
+}
+
+/// The tick of this quantum where it is before the end, and else the last of all ticks.
+fn next_tick(clock: &Clock, end: u64, quantum: u64) -> u64
+    requires { quantum ≤ 2 ^ 21 }
+    ensures { result ≡ next_of clock.now end quantum }
+{
+    let next = clock.at(quantum);
+    if next < end { next } else { u64::MAX }
+}
+
+impl Watched {
+    /// Node `i` before its first quantum.
+    pub(crate) fn new(plan: &Plan, i: usize) -> Watched
+        requires node { i < length plan.now.nodes }
+        ensures { Awaits plan.now i 0 result }
+    {
+        let setup = &plan.nodes.as_slice()[i];
+        Watched {
+            line: Held {
+                value: false,
+                until: 0,
+            },
+            come: [0; MOST_NODES],
+            node: Rerun::new(setup.segments),
+            quanta: 0,
+            next: next_tick(&setup.clock, plan.end, 0),
+        }
+    }
+
+    /// The signals.
+    pub(crate) fn signals(&self) -> NodeSignals
+        ensures { (setup : NodeSetup) (levels : List Level) → IsRerun setup levels self.now.node
+            → result ≡ signals_by (shown_of setup levels) self.now.line.value }
+    {
+        let shown = self.node.shown();
+        NodeSignals {
+            tx: !shown.drive.is_dominant(),
+            rx: !self.line.value,
+            sample: shown.sampled,
+            start: shown.started,
+            state: shown.state,
+        }
+    }
+
+    /// How long all of them stay.
+    pub(crate) fn until(&self) -> u64
+        ensures { result ≡ stays_until self.now }
+    {
+        self.line.until.min(self.next)
+    }
+
+    /// Goes on to tick `t`.
+    pub(crate) fn go(&mut self, plan: &Plan, outcome: &Outcome, i: usize, t: u64)
+        requires checked { IsChecked plan.now }
+        requires outcome { outcome.now ≡ outcome_of plan.now }
+        requires node { i < length plan.now.nodes }
+        requires early { t ≤ latest_end }
+        requires awaits { Awaits plan.now i t self.old }
+        ensures { Watches plan.now i t self.new }
+    {
+        self.line = found_at(plan, outcome, i, t, self.line, &mut self.come);
+        self.see(plan, i, t);
+        self.pass(plan, i, t);
+    }
+
+    /// Sees the quantum of tick `t`, if one begins then.
+    fn see(&mut self, plan: &Plan, i: usize, t: u64)
+        requires checked { IsChecked plan.now }
+        requires node { i < length plan.now.nodes }
+        requires early { t ≤ latest_end }
+        requires line { Holds (found (line_of plan.now) (level (line_of plan.now)) i) t self.old.line }
+        requires awaits { Awaits plan.now i t self.old }
+        ensures seen { HasSeen plan.now i t self.new }
+        ensures line { self.new.line ≡ self.old.line }
+    {
+        wl_plan::checked_is_sound();
+        wl_plan::simulation_laws();
+        if self.next == t {
+            let queue = plan.nodes.as_slice()[i].queue.as_slice();
+            let level = level_of(self.line.value);
+            self.node.quantum(queue, self.quanta, level);
+            self.quanta += 1;
+        }
+    }
+
+    /// Sees those after tick `t` that neither sample nor begin a bit, as long as the line stays.
+    fn pass(&mut self, plan: &Plan, i: usize, t: u64)
+        requires checked { IsChecked plan.now }
+        requires node { i < length plan.now.nodes }
+        requires early { t ≤ latest_end }
+        requires line { Holds (found (line_of plan.now) (level (line_of plan.now)) i) t self.old.line }
+        requires seen { HasSeen plan.now i t self.old }
+        ensures { Watches plan.now i t self.new }
+    {
+        wl_plan::checked_is_sound();
+        wl_plan::simulation_laws();
+        let clock = &plan.nodes.as_slice()[i].clock;
+        let until = self.line.until.min(plan.end);
+        let most = clock.first_not_before(until).saturating_sub(self.quanta);
+        let level = level_of(self.line.value);
+        self.quanta += self.node.pass(level, most);
+        self.next = next_tick(clock, plan.end, self.quanta);
+    }
+}
