@@ -1,7 +1,7 @@
 -- A text that grew piece by piece has grown by all of them.
 use Rattle.std.proofs.Common.{◌≡◌, ◌∙◌, ap, ℕ, List, ◌++◌, append_assoc}
 
-two : (a b t₀ t₁ t₂ : List ℕ) → t₁ ≡ t₀ ++ a → t₂ ≡ t₁ ++ b → t₂ ≡ t₀ ++ (a ++ b)
+pub two : (a b t₀ t₁ t₂ : List ℕ) → t₁ ≡ t₀ ++ a → t₂ ≡ t₁ ++ b → t₂ ≡ t₀ ++ (a ++ b)
 two a b t₀ t₁ t₂ e f = f ∙ ap (λ t. t ++ b) e ∙ append_assoc t₀ a b
 
 pub three : (a b c t₀ t₁ t₂ t₃ : List ℕ) → t₁ ≡ t₀ ++ a → t₂ ≡ t₁ ++ b → t₃ ≡ t₂ ++ c → t₃ ≡ t₀ ++ (a ++ b ++ c)

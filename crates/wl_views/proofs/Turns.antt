@@ -1,12 +1,12 @@
 -- Between two ticks of a list nothing that turns at them turns, a delay later as little.
-use Rattle.std.proofs.Common.{◌≡◌, ◌∙◌, refl, sym, ap, ap₂, arith, ℕ, suc, ◌+◌, ◌-◌, ◌%◌, ◌<◌, ◌≤◌, ◌==◌, inl, inr, Bool, false, ◌&&◌, List, length, get_or, nat_lt}
+use Rattle.std.proofs.Common.{◌≡◌, ◌∙◌, refl, sym, ap, ap₂, arith, ℕ, ◌+◌, ◌-◌, ◌%◌, ◌<◌, ◌≤◌, ◌==◌, inl, inr, Bool, false, ◌&&◌, List, length, get_or, nat_lt}
 use Rattle.std.proofs.lemmas.Bool.{cases_lt, lt-leb, le-leb}
 use Rattle.std.proofs.lemmas.List.Sums.{count_by-le-length}
 use Rattle.wl_record_core.specs.Truth.{count_below, odd, IsIncreasing}
 use Rattle.wl_record_core.specs.TableLaws.{TableLaws}
 use Rattle.wl_record_core.proofs.Callers.{reached, not_reached, odd_is}
 use Rattle.wl_views.specs.declared.held.Held.{Held}
-use Rattle.wl_views.specs.Held.{Holds, IsBeforeTurn, turned_at}
+use Rattle.wl_views.specs.Held.{Holds, turned_at}
 
 -- as many have come until the next one comes
 stays : TableLaws → (ticks : List ℕ) (delay t u until count : ℕ) → IsIncreasing ticks → delay ≤ t → t ≤ u → u < until

@@ -7,7 +7,7 @@ use Rattle.wl_views.specs.declared.tick.Tick.{Tick}
 use Rattle.wl_views.specs.declared.signals.NodeSignals.{NodeSignals}
 use Rattle.wl_report.specs.Lines.{mode_word}
 use Rattle.wl_trace.specs.declared.shown.NodeState.{NodeState}
-use Rattle.wl_views.specs.Vcd.{change_line, changes_from, doing_word, level_changes, node_changes, number_change, number_line, state_changes, tick_lines, time_line, under, word_change, word_line}
+use Rattle.wl_views.specs.Vcd.{change_line, changes_from, doing_word, level_changes, line_changes, node_changes, number_change, number_line, state_changes, tick_lines, time_line, under, word_change, word_line}
 
 pub no_change : (letter : List ℕ) (i : ℕ) (b : Bool) → change_line letter i b b ≡ []
 no_change letter i true = refl
@@ -19,9 +19,12 @@ same_number letter i n = ap (λ b. cond b [] (number_line letter i n)) (eq-eqb n
 same_word : (letter : List ℕ) (i : ℕ) (word : List ℕ) → word_change letter i word word ≡ []
 same_word letter i word = ap (λ b. cond b [] (word_line letter i word)) ((bytes_eq-Decides word word).1 refl)
 
+same_line : (i : ℕ) (n : NodeSignals) → line_changes i n n ≡ []
+same_line i n =
+    ap₂ (λ a b. a ++ b) (ap₂ (λ a b. a ++ b) (ap₂ (λ a b. a ++ b) (no_change _ i n.tx) (no_change _ i n.rx)) (no_change _ i n.cable)) (no_change _ i n.disturbance)
+
 same_levels : (i : ℕ) (n : NodeSignals) → level_changes i n n ≡ []
-same_levels i n =
-    ap₂ (λ a b. a ++ b) (ap₂ (λ a b. a ++ b) (ap₂ (λ a b. a ++ b) (no_change _ i n.tx) (no_change _ i n.rx)) (no_change _ i n.sample)) (no_change _ i n.start)
+same_levels i n = ap₂ (λ a b. a ++ b) (same_line i n) (ap₂ (λ a b. a ++ b) (no_change _ i n.sample) (no_change _ i n.start))
 
 same_state : (i : ℕ) (n : NodeState) → state_changes i n n ≡ []
 same_state i n =

@@ -1,5 +1,5 @@
 -- What is known of nodes from a tick on, at later ticks.
-use Rattle.std.proofs.Common.{◌≡◌, ◌∙◌, refl, sym, subst, ap, ap₂, arith, zero-add, below_more, get_or-set_other, get_or-set_same, ℕ, zero, suc, ◌+◌, ◌-◌, inl, inr, ◌<◌, ◌≤◌, ◌≢◌, not, false, Bool, List, [], ◌∷◌, ◌++◌, length, get_or, set, take, map}
+use Rattle.std.proofs.Common.{◌≡◌, ◌∙◌, refl, sym, subst, ap, ap₂, arith, zero-add, below_more, get_or-set_other, get_or-set_same, ℕ, zero, suc, ◌+◌, ◌-◌, inl, inr, ◌<◌, ◌≤◌, ◌≢◌, not, ◌||◌, false, Bool, List, [], ◌∷◌, ◌++◌, length, get_or, set, take, map}
 use Rattle.std.specs.List.{range_with_len}
 use Rattle.std.proofs.lemmas.Bool.{cases_lt}
 use Rattle.std.proofs.Math.ListN.{get_or-append}
@@ -21,7 +21,7 @@ use Rattle.wl_trace.specs.Shown.{shown_of}
 use Rattle.wl_views.specs.declared.held.Held.{Held}
 use Rattle.wl_views.specs.declared.signals.NodeSignals.{NodeSignals}
 use Rattle.wl_views.specs.declared.watched.Watched.{Watched}
-use Rattle.wl_views.specs.Held.{Awaits, Holds, Watches, signals_by, stays_until}
+use Rattle.wl_views.specs.Held.{Awaits, Hears, Holds, Remembers, Watches, heard_until, signals_by, stays_until}
 use Rattle.wl_views.specs.Signals.{node_signals, shown_then, signals}
 use Rattle.wl_views.specs.Vcd.{changes_from, node_changes}
 use Rattle.wl_clock.specs.Timing.{tick_of}
@@ -30,16 +30,22 @@ use Rattle.wl_views.proofs.SignalProofs.{driven_then}
 use Rattle.wl_views.proofs.Walk.{changed_more}
 
 abbrev pub low : NodeSignals
-low = record { tx = false; rx = false; sample = false; start = false; state = record { tec = 0; rec = 0; mode = Active; doing = Integrating } }
+low = record { tx = false; rx = false; cable = false; disturbance = false; sample = false; start = false; state = record { tec = 0; rec = 0; mode = Active; doing = Integrating } }
 
 narrow : (f : ℕ → Bool) (t u : ℕ) (held : Held) → Holds f t held → t ≤ u → u < held.until → Holds f u held
 narrow f t u held h from below = record { later = below; same = λ v more less. h.same v (omega arith) less }
+
+hears_on : (plan : Plan) (i t u : ℕ) (w : Watched) → Hears plan i t w → t ≤ u → u < heard_until w → Hears plan i u w
+hears_on plan i t u w h from below = record {
+  cable = narrow _ t u w.cable h.cable from (omega arith);
+  disturbance = narrow _ t u w.disturbance h.disturbance from (omega arith);
+}
 
 -- what is known goes on as long as it stays
 pub on : (plan : Plan) (i t u : ℕ) (w : Watched) → Watches plan i t w → t ≤ u → u < stays_until w → Watches plan i u w
 on plan i t u w h from below = record {
   runs = h.runs;
-  line = narrow _ t u w.line h.line from (omega arith);
+  hears = hears_on plan i t u w h.hears from (omega arith);
   next = h.next;
   before = h.before;
   later = omega arith;
@@ -48,33 +54,36 @@ on plan i t u w h from below = record {
 
 module _ (sounds : CheckedIsSound) (laws : SimulationLaws) (plan : Plan) (checked : IsChecked plan) (i : ℕ) (b : i < length plan.nodes) where
   pub stays : (t u : ℕ) (w : Watched) → Watches plan i t w → t ≤ u → u < stays_until w
-      → node_signals plan u i ≡ signals_by (shown_of (setup_at plan i) (seen (line_of plan) i w.quanta)) w.line.value
+      → node_signals plan u i ≡ signals_by (shown_of (setup_at plan i) (seen (line_of plan) i w.quanta)) w.cable.value w.disturbance.value
   unfolding node_signals
   stays t u w h from below =
       let same : shown_then plan i u ≡ shown_of (setup_at plan i) (seen (line_of plan) i w.quanta) = h.same u from below in
       λ x. record {
         tx = ap not (driven_then sounds laws plan checked i b u ∙ ap (λ (s : Shown). is_dominant s.drive) same) x;
-        rx = ap not (h.line.same u from (omega arith)) x;
+        rx = ap₂ (λ d e. not (d || e)) (h.hears.cable.same u from (omega arith)) (h.hears.disturbance.same u from (omega arith)) x;
+        cable = ap not (h.hears.cable.same u from (omega arith)) x;
+        disturbance = h.hears.disturbance.same u from (omega arith) x;
         sample = ap (λ (s : Shown). s.sampled) same x;
         start = ap (λ (s : Shown). s.started) same x;
         state = ap (λ (s : Shown). s.state) same x;
       }
 
   pub now : (t : ℕ) (w : Watched) → Watches plan i t w
-      → node_signals plan t i ≡ signals_by (shown_of (setup_at plan i) (seen (line_of plan) i w.quanta)) w.line.value
+      → node_signals plan t i ≡ signals_by (shown_of (setup_at plan i) (seen (line_of plan) i w.quanta)) w.cable.value w.disturbance.value
   now t w h =
-      let p = h.line.later in
+      let p = h.hears.cable.later in
+      let r = h.hears.disturbance.later in
       let q = h.later in
       stays t t w h (omega arith) (omega arith)
 
   -- what a watched node says is its signals
   pub said : (t : ℕ) (w : Watched) (s : NodeSignals) → Watches plan i t w
-      → ((setup : NodeSetup) (levels : List Level) → IsRerun setup levels w.node → s ≡ signals_by (shown_of setup levels) w.line.value) → s ≡ node_signals plan t i
+      → ((setup : NodeSetup) (levels : List Level) → IsRerun setup levels w.node → s ≡ signals_by (shown_of setup levels) w.cable.value w.disturbance.value) → s ≡ node_signals plan t i
   said t w s h is = is (setup_at plan i) (seen (line_of plan) i w.quanta) h.runs.node ∙ sym (now t w h)
 
   -- what it has seen began before the line changes, and before its next quantum
   begun_before : (t : ℕ) (w : Watched) → 0 < t → Watches plan i (t - 1) w → stays_until w ≤ t → (k : ℕ) → k < w.quanta → tick_of (setup_at plan i).clock k < t
-  begun_before t w some h past k less = elim (cases_lt w.line.until (t + 1)) [
+  begun_before t w some h past k less = elim (cases_lt (heard_until w) (t + 1)) [
     | inl run_out ↦ (let m = h.before k less in omega arith)
     | inr stays ↦
         (let e : w.next ≡ t = (let q = h.later in omega arith) in
@@ -82,14 +91,18 @@ module _ (sounds : CheckedIsSound) (laws : SimulationLaws) (plan : Plan) (checke
         let n = h.next in omega arith)
   ]
 
+  pub remembered : (t : ℕ) (w : Watched) → Watches plan i (t - 1) w → Remembers plan i t w
+  remembered t w h = record {
+    cable = λ below. narrow _ (t - 1) t w.cable h.hears.cable (omega arith) below;
+    disturbance = λ below. narrow _ (t - 1) t w.disturbance h.hears.disturbance (omega arith) below;
+  }
+
   -- where what is known runs out, it is for the line or for the next quantum: all that began before was seen
   pub awaited : (t : ℕ) (w : Watched) → 0 < t → Watches plan i (t - 1) w → stays_until w ≤ t → Awaits plan i t w
   awaited t w some h past =
-      let p = h.line.later in
       let q = h.later in
       record {
         runs = h.runs;
-        line = λ below. narrow _ (t - 1) t w.line h.line (omega arith) below;
         next = h.next;
         before = λ k less. begun_before t w some h past k less;
         here = omega arith;

@@ -1,21 +1,18 @@
 -- Values that stay from one tick up to another, so that the ticks in between needn't be asked for (this project's profile).
-use Rattle.std.specs.Prelude.{◌≡◌, ℕ, ◌+◌, ◌-◌, ◌<◌, ◌≤◌, ◌&&◌, nat_le, nat_lt, min, not, Bool, List, length, slice_index, slice_index_or, if◌then◌else◌}
+use Rattle.std.specs.Prelude.{◌≡◌, ℕ, ◌+◌, ◌-◌, ◌<◌, ◌≤◌, ◌&&◌, ◌||◌, nat_le, nat_lt, min, not, Bool, List, length, slice_index, slice_index_or, if◌then◌else◌}
 use Rattle.wl_level.specs.Levels.{is_dominant}
 use Rattle.wl_clock.specs.Timing.{Timing, tick_of}
-use Rattle.wl_topology.specs.Delays.{delay_of}
-use Rattle.wl_topology.specs.Driven.{driven}
 use Rattle.wl_record_core.specs.Truth.{count_below, odd}
 use Rattle.wl_plan.specs.declared.plan.Plan.{Plan}
-use Rattle.wl_plan.specs.Line.{found}
-use Rattle.wl_plan.specs.PlanLine.{line_of, setup_at}
-use Rattle.wl_plan.specs.Simulation.{AreInside, level, seen}
+use Rattle.wl_plan.specs.PlanLine.{disturbed, line_of, setup_at}
+use Rattle.wl_plan.specs.Simulation.{AreInside, seen}
 use Rattle.wl_trace.specs.declared.shown.Shown.{Shown}
 use Rattle.wl_trace.specs.Rerun.{IsRerun}
 use Rattle.wl_trace.specs.Shown.{shown_of}
 use Rattle.wl_views.specs.declared.held.Held.{Held}
 use Rattle.wl_views.specs.declared.signals.NodeSignals.{NodeSignals}
 use Rattle.wl_views.specs.declared.watched.Watched.{Watched}
-use Rattle.wl_views.specs.Signals.{shown_then}
+use Rattle.wl_views.specs.Signals.{driven_at, shown_then}
 
 -- from tick t up to another one a value is this one
 pub record Holds (f : ℕ → Bool) (t : ℕ) (held : Held) : Type 0 where
@@ -25,10 +22,6 @@ pub record Holds (f : ℕ → Bool) (t : ℕ) (held : Held) : Type 0 where
 -- what is false at first and turns a delay after each of these ticks
 abbrev pub turned_at : ℕ → List ℕ → ℕ → Bool
 turned_at delay ticks u = nat_le delay u && odd (count_below (u - delay + 1) ticks)
-
--- whether some node's drive is dominant at node j's place
-abbrev pub driven_at : Plan → ℕ → ℕ → Bool
-driven_at plan j = driven (length plan.nodes) (delay_of plan.topology) (level (line_of plan)) j
 
 -- the tick of this number and a delay
 abbrev pub turn_after : List ℕ → ℕ → ℕ → ℕ
@@ -46,29 +39,44 @@ no_tick = 18446744073709551615
 abbrev pub next_of : Timing → ℕ → ℕ → ℕ
 next_of clock end k = if nat_lt (tick_of clock k) end then tick_of clock k else no_tick
 
--- the signals of a node that shows this, and finds the line dominant or not
-abbrev pub signals_by : Shown → Bool → NodeSignals
-signals_by shown dominant = record {
+-- the signals of a node that shows this, where the cable is dominant or not, and there is a disturbance or none
+abbrev pub signals_by : Shown → Bool → Bool → NodeSignals
+signals_by shown driven disturbed = record {
   tx = not (is_dominant shown.drive);
-  rx = not dominant;
+  rx = not (driven || disturbed);
+  cable = not driven;
+  disturbance = disturbed;
   sample = shown.sampled;
   start = shown.started;
   state = shown.state;
 }
 
--- up to when the line stays as it is found, and no quantum comes that isn't seen
+-- up to when cable and disturbances stay
+abbrev pub heard_until : Watched → ℕ
+heard_until w = min w.cable.until w.disturbance.until
+
+-- and no quantum comes that isn't seen
 abbrev pub stays_until : Watched → ℕ
-stays_until w = min w.line.until w.next
+stays_until w = min (heard_until w) w.next
+
+-- from tick t on cable and disturbances are these
+pub record Hears (plan : Plan) (i t : ℕ) (w : Watched) : Type 0 where
+  pub cable : Holds (driven_at plan i) t w.cable
+  pub disturbance : Holds (disturbed plan i) t w.disturbance
+
+-- and so is that of them which hasn't run out at tick t
+pub record Remembers (plan : Plan) (i t : ℕ) (w : Watched) : Type 0 where
+  pub cable : t < w.cable.until → Holds (driven_at plan i) t w.cable
+  pub disturbance : t < w.disturbance.until → Holds (disturbed plan i) t w.disturbance
 
 -- a node runs again, and has seen so many of its quanta before the end
 pub record Runs (plan : Plan) (i : ℕ) (w : Watched) : Type 0 where
   pub node : IsRerun (setup_at plan i) (seen (line_of plan) i w.quanta) w.node
   pub inside : AreInside (line_of plan) i w.quanta
 
--- those that begin before tick t; what was known of the line may have run out
+-- those that begin before tick t
 pub record Awaits (plan : Plan) (i t : ℕ) (w : Watched) : Type 0 where
   pub runs : Runs plan i w
-  pub line : t < w.line.until → Holds (found (line_of plan) (level (line_of plan)) i) t w.line
   pub next : w.next ≡ next_of (setup_at plan i).clock plan.end w.quanta
   pub before : (q : ℕ) → q < w.quanta → tick_of (setup_at plan i).clock q < t
   pub here : t ≤ w.next
@@ -79,12 +87,12 @@ pub record HasSeen (plan : Plan) (i t : ℕ) (w : Watched) : Type 0 where
   pub before : (q : ℕ) → q < w.quanta → tick_of (setup_at plan i).clock q ≤ t
   pub later : t < next_of (setup_at plan i).clock plan.end w.quanta
 
--- From tick t on the line is found so, and the node shows what it does now: it has seen those that begin before the next, at which alone that may change.
+-- From tick t on it hears this, and shows what it does now: it has seen those that begin before the next, at which alone that may change.
 pub record Watches (plan : Plan) (i t : ℕ) (w : Watched) : Type 0 where
   pub runs : Runs plan i w
-  pub line : Holds (found (line_of plan) (level (line_of plan)) i) t w.line
+  pub hears : Hears plan i t w
   pub next : w.next ≡ next_of (setup_at plan i).clock plan.end w.quanta
-  pub before : (q : ℕ) → q < w.quanta → tick_of (setup_at plan i).clock q < w.line.until
+  pub before : (q : ℕ) → q < w.quanta → tick_of (setup_at plan i).clock q < heard_until w
   pub later : t < w.next
   pub same : (u : ℕ) → t ≤ u → u < stays_until w → shown_then plan i u ≡ shown_of (setup_at plan i) (seen (line_of plan) i w.quanta)
 

@@ -33,11 +33,18 @@ abbrev pub var_line : List ℕ → List ℕ → ℕ → List ℕ → List ℕ �
 var_line kind letter i name word =
     codes "$var " ++ kind ++ codes " " ++ signal_id letter i ++ codes " " ++ shown_name name word ++ codes " $end\n"
 
--- the levels of node i, its error counters as real numbers, and words
-abbrev pub level_vars : ℕ → List ℕ → List ℕ
-level_vars i name =
+-- what node i drives, and the line at its place; two marks; its error counters as real numbers, and words
+abbrev pub line_vars : ℕ → List ℕ → List ℕ
+line_vars i name =
     var_line (codes "wire 1") (codes "t") i name (codes "tx") ++ var_line (codes "wire 1") (codes "r") i name (codes "rx")
-    ++ var_line (codes "wire 1") (codes "s") i name (codes "sample") ++ var_line (codes "wire 1") (codes "b") i name (codes "start")
+    ++ var_line (codes "wire 1") (codes "w") i name (codes "cable") ++ var_line (codes "wire 1") (codes "n") i name (codes "disturbance")
+
+abbrev pub mark_vars : ℕ → List ℕ → List ℕ
+mark_vars i name =
+    var_line (codes "wire 1") (codes "s") i name (codes "sample") ++ var_line (codes "wire 1") (codes "b") i name (codes "start")
+
+abbrev pub level_vars : ℕ → List ℕ → List ℕ
+level_vars i name = line_vars i name ++ mark_vars i name
 
 abbrev pub state_vars : ℕ → List ℕ → List ℕ
 state_vars i name =
@@ -89,9 +96,15 @@ doing_word Suspended = codes "suspended"
 doing_word OffBus = codes "bus_off"
 
 -- the levels of node i, and what it is at
+abbrev pub line_values : ℕ → NodeSignals → List ℕ
+line_values i now =
+    value_line (codes "t") i now.tx ++ value_line (codes "r") i now.rx ++ value_line (codes "w") i now.cable ++ value_line (codes "n") i now.disturbance
+
+abbrev pub mark_values : ℕ → NodeSignals → List ℕ
+mark_values i now = value_line (codes "s") i now.sample ++ value_line (codes "b") i now.start
+
 abbrev pub level_values : ℕ → NodeSignals → List ℕ
-level_values i now =
-    value_line (codes "t") i now.tx ++ value_line (codes "r") i now.rx ++ value_line (codes "s") i now.sample ++ value_line (codes "b") i now.start
+level_values i now = line_values i now ++ mark_values i now
 
 abbrev pub state_values : ℕ → NodeState → List ℕ
 state_values i now =
@@ -114,10 +127,16 @@ abbrev pub word_change : List ℕ → ℕ → List ℕ → List ℕ → List ℕ
 word_change letter i was now = if bytes_eq was now then [] else word_line letter i now
 
 -- those of node i
+abbrev pub line_changes : ℕ → NodeSignals → NodeSignals → List ℕ
+line_changes i was now =
+    change_line (codes "t") i was.tx now.tx ++ change_line (codes "r") i was.rx now.rx ++ change_line (codes "w") i was.cable now.cable
+    ++ change_line (codes "n") i was.disturbance now.disturbance
+
+abbrev pub mark_changes : ℕ → NodeSignals → NodeSignals → List ℕ
+mark_changes i was now = change_line (codes "s") i was.sample now.sample ++ change_line (codes "b") i was.start now.start
+
 abbrev pub level_changes : ℕ → NodeSignals → NodeSignals → List ℕ
-level_changes i was now =
-    change_line (codes "t") i was.tx now.tx ++ change_line (codes "r") i was.rx now.rx ++ change_line (codes "s") i was.sample now.sample
-    ++ change_line (codes "b") i was.start now.start
+level_changes i was now = line_changes i was now ++ mark_changes i was now
 
 abbrev pub state_changes : ℕ → NodeState → NodeState → List ℕ
 state_changes i was now =

@@ -4,7 +4,7 @@ ghost use Rattle.std.specs.List.{enumerate_from, flat_map};
 ghost use Rattle.wl_report.specs.Lines.{GrowsBy};
 ghost use Rattle.wl_plan.specs.Limits.{latest_end};
 ghost use Rattle.wl_setup.specs.Check.{name_of};
-ghost use Rattle.wl_views.specs.Vcd.{first_lines, header, level_values, level_vars, node_values, number_line, scope_lines, shown_name, signal_id, state_values, state_vars, time_line, unit_word, value_line, var_line, var_lines, word_line};
+ghost use Rattle.wl_views.specs.Vcd.{first_lines, header, level_values, level_vars, line_values, line_vars, mark_values, mark_vars, node_values, number_line, scope_lines, shown_name, signal_id, state_values, state_vars, time_line, unit_word, value_line, var_line, var_lines, word_line};
 
 use crate::signals::NodeSignals;
 use crate::tick::{Tick, TimeUnit};
@@ -59,15 +59,32 @@ fn push_var(
     Ok(())
 }
 
+/// Adds the lines that declare what node `i` drives, and the line at its place.
+fn push_line_vars(text: &mut String, i: usize, name: &str) -> Result<(), AllocError>
+    ensures { OnOk result (GrowsBy text.old text.new (line_vars i name.now)) }
+{
+    push_var(text, "wire 1", "t", i, name, "tx")?;
+    push_var(text, "wire 1", "r", i, name, "rx")?;
+    push_var(text, "wire 1", "w", i, name, "cable")?;
+    push_var(text, "wire 1", "n", i, name, "disturbance")?;
+    Ok(())
+}
+
+/// Adds the lines that declare the marks of node `i`.
+fn push_mark_vars(text: &mut String, i: usize, name: &str) -> Result<(), AllocError>
+    ensures { OnOk result (GrowsBy text.old text.new (mark_vars i name.now)) }
+{
+    push_var(text, "wire 1", "s", i, name, "sample")?;
+    push_var(text, "wire 1", "b", i, name, "start")?;
+    Ok(())
+}
+
 /// Adds the lines that declare the levels of node `i`.
 fn push_level_vars(text: &mut String, i: usize, name: &str) -> Result<(), AllocError>
     ensures { OnOk result (GrowsBy text.old text.new (level_vars i name.now)) }
 {
-    push_var(text, "wire 1", "t", i, name, "tx")?;
-    push_var(text, "wire 1", "r", i, name, "rx")?;
-    push_var(text, "wire 1", "s", i, name, "sample")?;
-    push_var(text, "wire 1", "b", i, name, "start")?;
-    Ok(())
+    push_line_vars(text, i, name)?;
+    push_mark_vars(text, i, name)
 }
 
 /// Adds the lines that declare what node `i` is at.
@@ -161,14 +178,30 @@ fn push_word(text: &mut String, letter: &str, i: usize, word: &str) -> Result<()
     writeln!(text, "s{word} {letter}{i}")
 }
 
+/// Adds what node `i` drives, and the line at its place.
+fn push_line_values(text: &mut String, i: usize, now: NodeSignals) -> Result<(), AllocError>
+    ensures { OnOk result (GrowsBy text.old text.new (line_values i now)) }
+{
+    push_value(text, "t", i, now.tx)?;
+    push_value(text, "r", i, now.rx)?;
+    push_value(text, "w", i, now.cable)?;
+    push_value(text, "n", i, now.disturbance)
+}
+
+/// Adds the marks of node `i`.
+fn push_mark_values(text: &mut String, i: usize, now: NodeSignals) -> Result<(), AllocError>
+    ensures { OnOk result (GrowsBy text.old text.new (mark_values i now)) }
+{
+    push_value(text, "s", i, now.sample)?;
+    push_value(text, "b", i, now.start)
+}
+
 /// Adds the levels of node `i`.
 fn push_levels(text: &mut String, i: usize, now: NodeSignals) -> Result<(), AllocError>
     ensures { OnOk result (GrowsBy text.old text.new (level_values i now)) }
 {
-    push_value(text, "t", i, now.tx)?;
-    push_value(text, "r", i, now.rx)?;
-    push_value(text, "s", i, now.sample)?;
-    push_value(text, "b", i, now.start)
+    push_line_values(text, i, now)?;
+    push_mark_values(text, i, now)
 }
 
 /// Adds what node `i` is at.

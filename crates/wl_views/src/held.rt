@@ -1,5 +1,5 @@
 //! Values that stay for some ticks.
-ghost use Rattle.std.specs.Prelude.{◌≡◌, ℕ, ◌||◌, false, Bool};
+ghost use Rattle.std.specs.Prelude.{◌≡◌, ℕ, ◌||◌, false, min, Bool};
 ghost use Rattle.wl_views.specs.Held.{Holds};
 
 /// A value at a tick, and a later tick up to which it stays.
@@ -14,7 +14,9 @@ pub(crate) struct Held {
 impl Held {
     /// Whether this or another value is true, for as long as both stay.
     pub(crate) fn or(self, other: Held) -> Held
-        ensures { (f g : ℕ → Bool) (t : ℕ) → Holds f t self → Holds g t other → Holds (λ u. f u || g u) t result }
+        ensures both { (f g : ℕ → Bool) (t : ℕ) → Holds f t self → Holds g t other → Holds (λ u. f u || g u) t result }
+        ensures value { result.value ≡ (self.value || other.value) }
+        ensures until { result.until ≡ min self.until other.until }
     {
         let until = self.until.min(other.until);
         if self.value {

@@ -3,7 +3,7 @@ ghost use Rattle.std.specs.Prelude.{◌≡◌, ◌+◌, ◌≤◌, ◌++◌, len
 ghost use Rattle.std.specs.Fmt.{decimal};
 ghost use Rattle.arrayvec.specs.ArrayVec.{array_vec_len};
 ghost use Rattle.wl_plan.specs.Limits.{latest_end};
-ghost use Rattle.wl_views.specs.Vcd.{change_line, level_changes, node_changes, number_change, state_changes, time_line, value_line, word_change};
+ghost use Rattle.wl_views.specs.Vcd.{change_line, level_changes, line_changes, mark_changes, node_changes, number_change, state_changes, time_line, value_line, word_change};
 
 use crate::signals::NodeSignals;
 use crate::tick::Tick;
@@ -113,16 +113,36 @@ fn push_word_change(text: &mut Lines, letter: &str, i: usize, was: &str, now: &s
     text.push(b'\n');
 }
 
-/// Adds the levels of node `i` that changed.
-fn push_level_changes(text: &mut Lines, i: usize, was: NodeSignals, now: NodeSignals)
+/// Adds what changed of that which node `i` drives, and of the line at its place.
+fn push_line_changes(text: &mut Lines, i: usize, was: NodeSignals, now: NodeSignals)
     requires { array_vec_len text.old + 92 ≤ 16384 }
-    ensures lines { text.new.items ≡ text.old.items ++ level_changes i was now }
+    ensures lines { text.new.items ≡ text.old.items ++ line_changes i was now }
     ensures grown { array_vec_len text.new ≤ array_vec_len text.old + 92 }
 {
     push_change(text, "t", i, was.tx, now.tx);
     push_change(text, "r", i, was.rx, now.rx);
+    push_change(text, "w", i, was.cable, now.cable);
+    push_change(text, "n", i, was.disturbance, now.disturbance);
+}
+
+/// Adds the marks of node `i` that changed.
+fn push_mark_changes(text: &mut Lines, i: usize, was: NodeSignals, now: NodeSignals)
+    requires { array_vec_len text.old + 46 ≤ 16384 }
+    ensures lines { text.new.items ≡ text.old.items ++ mark_changes i was now }
+    ensures grown { array_vec_len text.new ≤ array_vec_len text.old + 46 }
+{
     push_change(text, "s", i, was.sample, now.sample);
     push_change(text, "b", i, was.start, now.start);
+}
+
+/// Adds the levels of node `i` that changed.
+fn push_level_changes(text: &mut Lines, i: usize, was: NodeSignals, now: NodeSignals)
+    requires { array_vec_len text.old + 138 ≤ 16384 }
+    ensures lines { text.new.items ≡ text.old.items ++ level_changes i was now }
+    ensures grown { array_vec_len text.new ≤ array_vec_len text.old + 138 }
+{
+    push_line_changes(text, i, was, now);
+    push_mark_changes(text, i, was, now);
 }
 
 /// Adds what changed of that which node `i` is at.
@@ -139,9 +159,9 @@ fn push_state_changes(text: &mut Lines, i: usize, was: NodeState, now: NodeState
 
 /// Adds those signals of node `i` that changed.
 pub(crate) fn push_node_changes(text: &mut Lines, i: usize, was: NodeSignals, now: NodeSignals)
-    requires { array_vec_len text.old + 256 ≤ 16384 }
+    requires { array_vec_len text.old + 300 ≤ 16384 }
     ensures lines { text.new.items ≡ text.old.items ++ node_changes i was now }
-    ensures grown { array_vec_len text.new ≤ array_vec_len text.old + 256 }
+    ensures grown { array_vec_len text.new ≤ array_vec_len text.old + 300 }
 {
     push_level_changes(text, i, was, now);
     push_state_changes(text, i, was.state, now.state);

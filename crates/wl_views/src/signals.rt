@@ -10,8 +10,8 @@ ghost use Rattle.wl_plan.specs.Line.{found};
 ghost use Rattle.wl_plan.specs.PlanLine.{disturbed, is_at, line_of};
 ghost use Rattle.wl_plan.specs.Simulation.{level};
 ghost use Rattle.wl_serial.specs.Outcome.{outcome_of};
-ghost use Rattle.wl_views.specs.Held.{AllWatched, Holds, Watches, driven_at, stays_until};
-ghost use Rattle.wl_views.specs.Signals.{node_signals, signals};
+ghost use Rattle.wl_views.specs.Held.{AllWatched, Holds, Remembers, Watches, stays_until};
+ghost use Rattle.wl_views.specs.Signals.{driven_at, node_signals, signals};
 ghost use Rattle.wl_views.specs.Vcd.{changes_from, node_changes};
 
 use crate::held::Held;
@@ -31,6 +31,10 @@ pub struct NodeSignals {
     pub tx: bool,
     /// What it finds on the line at its place, disturbances too: low is dominant.
     pub rx: bool,
+    /// What the nodes' drives make of the cable at its place: low is dominant.
+    pub cable: bool,
+    /// High where a disturbance is at its place.
+    pub disturbance: bool,
     /// Low at first, and turned at each of its samples.
     pub sample: bool,
     /// Low at first, and turned at each start of a bit.
@@ -40,7 +44,13 @@ pub struct NodeSignals {
 }
 
 /// Whether some node's drive is dominant at node `j` at tick `t`.
-fn driven(plan: &Plan, outcome: &Outcome, j: usize, t: u64, come: &mut [usize; MOST_NODES]) -> Held
+pub(crate) fn driven(
+    plan: &Plan,
+    outcome: &Outcome,
+    j: usize,
+    t: u64,
+    come: &mut [usize; MOST_NODES],
+) -> Held
     requires checked { IsChecked plan.now }
     requires outcome { outcome.now ≡ outcome_of plan.now }
     requires node { j < length plan.now.nodes }
@@ -92,7 +102,7 @@ fn disturbed_by(from: u64, to: u64, delay: u64, t: u64) -> Held
 }
 
 /// Whether some disturbance is at node `j` at tick `t`.
-fn disturbed(plan: &Plan, j: usize, t: u64) -> Held
+pub(crate) fn disturbed(plan: &Plan, j: usize, t: u64) -> Held
     requires checked { IsChecked plan.now }
     requires node { j < length plan.now.nodes }
     requires early { t ≤ latest_end }
@@ -181,10 +191,10 @@ fn push_node(
     requires some { 0 < t }
     requires early { t ≤ latest_end }
     requires was { Watches plan.now i (t - 1) known.old }
-    requires room { array_vec_len text.old + 256 ≤ 16384 }
+    requires room { array_vec_len text.old + 300 ≤ 16384 }
     ensures lines { text.new.items ≡ text.old.items
         ++ node_changes i (node_signals plan.now (t - 1) i) (node_signals plan.now t i) }
-    ensures grown { array_vec_len text.new ≤ array_vec_len text.old + 256 }
+    ensures grown { array_vec_len text.new ≤ array_vec_len text.old + 300 }
     ensures watches { Watches plan.now i t known.new }
     ensures until { result ≡ stays_until known.new }
 {
@@ -213,9 +223,9 @@ pub(crate) fn push_changes(
     requires some { 0 < t }
     requires early { t < plan.now.end }
     requires watched { AllWatched plan.now (t - 1) watched.old }
-    requires room { array_vec_len text.old + 4096 ≤ 16384 }
+    requires room { array_vec_len text.old + 4800 ≤ 16384 }
     ensures lines { text.new.items ≡ text.old.items ++ changes_from 0 (signals plan.now (t - 1)) (signals plan.now t) }
-    ensures grown { array_vec_len text.new ≤ array_vec_len text.old + 4096 }
+    ensures grown { array_vec_len text.new ≤ array_vec_len text.old + 4800 }
     ensures later { t < result }
     ensures inside { result ≤ plan.now.end }
     ensures stays { (u : ℕ) → t ≤ u → u < result → signals plan.now u ≡ signals plan.now t }

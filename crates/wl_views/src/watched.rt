@@ -1,8 +1,9 @@
 //! What is known of a node's signals from a tick on: the node runs again beside the line, and takes no memory.
-ghost use Rattle.std.specs.Prelude.{◌≡◌, ◌+◌, ◌-◌, ◌<◌, ◌≤◌, ◌^◌, List, length};
+ghost use Rattle.std.specs.Prelude.{◌≡◌, ℕ, ◌||◌, ◌+◌, ◌-◌, ◌<◌, ◌≤◌, ◌^◌, List, length};
 ghost use Rattle.wl_level.specs.declared.Level.{Level};
 ghost use Rattle.wl_topology.specs.Limits.{longest_delay};
 ghost use Rattle.wl_node.specs.declared.setup.NodeSetup.{NodeSetup};
+ghost use Rattle.wl_plan.specs.declared.plan.Plan.{Plan};
 ghost use Rattle.wl_plan.specs.Checked.{IsChecked};
 ghost use Rattle.wl_plan.specs.Limits.{latest_end};
 ghost use Rattle.wl_plan.specs.Line.{found};
@@ -11,11 +12,11 @@ ghost use Rattle.wl_plan.specs.Simulation.{level};
 ghost use Rattle.wl_serial.specs.Outcome.{outcome_of};
 ghost use Rattle.wl_trace.specs.Rerun.{IsRerun};
 ghost use Rattle.wl_trace.specs.Shown.{shown_of};
-ghost use Rattle.wl_views.specs.Held.{Awaits, HasSeen, Holds, Watches, next_of, signals_by, stays_until};
+ghost use Rattle.wl_views.specs.Held.{Awaits, HasSeen, Hears, Holds, Remembers, Watches, heard_until, next_of, signals_by, stays_until};
 
 use crate::held::Held;
-use crate::seen::{found_at, level_of};
-use crate::signals::NodeSignals;
+use crate::seen::level_of;
+use crate::signals::{NodeSignals, disturbed, driven};
 use wl_clock::Clock;
 use wl_plan::Plan;
 use wl_serial::Outcome;
@@ -25,9 +26,11 @@ use wl_trace::Rerun;
 /// What is known of a node's signals from a tick on.
 #[derive(Drop)]
 pub(crate) struct Watched {
-    /// Whether it finds the line dominant.
-    pub(crate) line: Held,
-    /// How many changes of each node had come to it when the line was last asked for: that speeds up the next time, and decides nothing.
+    /// Whether the cable is dominant at its place.
+    pub(crate) cable: Held,
+    /// Whether a disturbance is there.
+    pub(crate) disturbance: Held,
+    /// How many changes of each node had come to it when the cable was last asked for: that speeds up the next time, and decides nothing.
     come: [usize; MOST_NODES],
     /// The node after the quanta that it has seen.
     pub(crate) node: Rerun,
@@ -50,14 +53,17 @@ impl Watched {
     /// Node `i` before its first quantum.
     pub(crate) fn new(plan: &Plan, i: usize) -> Watched
         requires node { i < length plan.now.nodes }
-        ensures { Awaits plan.now i 0 result }
+        ensures remembers { Remembers plan.now i 0 result }
+        ensures awaits { Awaits plan.now i 0 result }
     {
+        let none = Held {
+            value: false,
+            until: 0,
+        };
         let setup = &plan.nodes.as_slice()[i];
         Watched {
-            line: Held {
-                value: false,
-                until: 0,
-            },
+            cable: none,
+            disturbance: none,
             come: [0; MOST_NODES],
             node: Rerun::new(setup.segments),
             quanta: 0,
@@ -68,23 +74,35 @@ impl Watched {
     /// The signals.
     pub(crate) fn signals(&self) -> NodeSignals
         ensures { (setup : NodeSetup) (levels : List Level) → IsRerun setup levels self.now.node
-            → result ≡ signals_by (shown_of setup levels) self.now.line.value }
+            → result ≡ signals_by (shown_of setup levels) self.now.cable.value self.now.disturbance.value }
     {
         let shown = self.node.shown();
         NodeSignals {
             tx: !shown.drive.is_dominant(),
-            rx: !self.line.value,
+            rx: !self.line().value,
+            cable: !self.cable.value,
+            disturbance: self.disturbance.value,
             sample: shown.sampled,
             start: shown.started,
             state: shown.state,
         }
     }
 
+    /// Whether it finds the line dominant, for as long as cable and disturbances stay.
+    fn line(&self) -> Held
+        ensures holds { (plan : Plan) (i t : ℕ) → Hears plan i t self.now
+            → Holds (found (line_of plan) (level (line_of plan)) i) t result }
+        ensures value { result.value ≡ (self.now.cable.value || self.now.disturbance.value) }
+        ensures until { result.until ≡ heard_until self.now }
+    {
+        self.cable.or(self.disturbance)
+    }
+
     /// How long all of them stay.
     pub(crate) fn until(&self) -> u64
         ensures { result ≡ stays_until self.now }
     {
-        self.line.until.min(self.next)
+        self.line().until.min(self.next)
     }
 
     /// Goes on to tick `t`.
@@ -93,12 +111,33 @@ impl Watched {
         requires outcome { outcome.now ≡ outcome_of plan.now }
         requires node { i < length plan.now.nodes }
         requires early { t ≤ latest_end }
+        requires remembers { Remembers plan.now i t self.old }
         requires awaits { Awaits plan.now i t self.old }
         ensures { Watches plan.now i t self.new }
     {
-        self.line = found_at(plan, outcome, i, t, self.line, &mut self.come);
+        self.hear(plan, outcome, i, t);
         self.see(plan, i, t);
         self.pass(plan, i, t);
+    }
+
+    /// Asks anew for cable and disturbances where what was known of them has run out.
+    fn hear(&mut self, plan: &Plan, outcome: &Outcome, i: usize, t: u64)
+        requires checked { IsChecked plan.now }
+        requires outcome { outcome.now ≡ outcome_of plan.now }
+        requires node { i < length plan.now.nodes }
+        requires early { t ≤ latest_end }
+        requires remembers { Remembers plan.now i t self.old }
+        ensures hears { Hears plan.now i t self.new }
+        ensures node { self.new.node ≡ self.old.node }
+        ensures quanta { self.new.quanta ≡ self.old.quanta }
+        ensures next { self.new.next ≡ self.old.next }
+    {
+        if self.cable.until <= t {
+            self.cable = driven(plan, outcome, i, t, &mut self.come);
+        }
+        if self.disturbance.until <= t {
+            self.disturbance = disturbed(plan, i, t);
+        }
     }
 
     /// Sees the quantum of tick `t`, if one begins then.
@@ -106,16 +145,16 @@ impl Watched {
         requires checked { IsChecked plan.now }
         requires node { i < length plan.now.nodes }
         requires early { t ≤ latest_end }
-        requires line { Holds (found (line_of plan.now) (level (line_of plan.now)) i) t self.old.line }
+        requires hears { Hears plan.now i t self.old }
         requires awaits { Awaits plan.now i t self.old }
         ensures seen { HasSeen plan.now i t self.new }
-        ensures line { self.new.line ≡ self.old.line }
+        ensures hears { Hears plan.now i t self.new }
     {
         wl_plan::checked_is_sound();
         wl_plan::simulation_laws();
         if self.next == t {
             let queue = plan.nodes.as_slice()[i].queue.as_slice();
-            let level = level_of(self.line.value);
+            let level = level_of(self.line().value);
             self.node.quantum(queue, self.quanta, level);
             self.quanta += 1;
         }
@@ -126,17 +165,17 @@ impl Watched {
         requires checked { IsChecked plan.now }
         requires node { i < length plan.now.nodes }
         requires early { t ≤ latest_end }
-        requires line { Holds (found (line_of plan.now) (level (line_of plan.now)) i) t self.old.line }
+        requires hears { Hears plan.now i t self.old }
         requires seen { HasSeen plan.now i t self.old }
         ensures { Watches plan.now i t self.new }
     {
         wl_plan::checked_is_sound();
         wl_plan::simulation_laws();
+        let line = self.line();
         let clock = &plan.nodes.as_slice()[i].clock;
-        let until = self.line.until.min(plan.end);
+        let until = line.until.min(plan.end);
         let most = clock.first_not_before(until).saturating_sub(self.quanta);
-        let level = level_of(self.line.value);
-        self.quanta += self.node.pass(level, most);
+        self.quanta += self.node.pass(level_of(line.value), most);
         self.next = next_tick(clock, plan.end, self.quanta);
     }
 }

@@ -8,7 +8,7 @@ use Rattle.wl_report.proofs.Callers.{piece_more}
 use Rattle.wl_views.proofs.dump.push_all_values.Goals as goal
 
 abbrev low : NodeSignals
-low = record { tx = false; rx = false; sample = false; start = false; state = record { tec = 0; rec = 0; mode = Active; doing = Integrating } }
+low = record { tx = false; rx = false; cable = false; disturbance = false; sample = false; start = false; state = record { tec = 0; rec = 0; mode = Active; doing = Integrating } }
 
 pub loop-i-preserved : goal.loop-i-preserved
 loop-i-preserved c =

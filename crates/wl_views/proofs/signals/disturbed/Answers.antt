@@ -28,5 +28,5 @@ loop-d-preserved c =
     holds_as (λ u. list_any (is_at c.args.plan.now c.args.j u) (take k ds) || is_at c.args.plan.now c.args.j u (get_or ds k none))
     (λ u. list_any (is_at c.args.plan.now c.args.j u) (take (k + 1) ds)) c.args.t c.or-held.result
     (λ u. sym (list_any_more (is_at c.args.plan.now c.args.j u) ds k none b))
-    (c.or-held.ensures (λ u. list_any (is_at c.args.plan.now c.args.j u) (take k ds)) (λ u. is_at c.args.plan.now c.args.j u (get_or ds k none)) c.args.t c.loop-d.invariant
+    (c.or-held.ensures.both (λ u. list_any (is_at c.args.plan.now c.args.j u) (take k ds)) (λ u. is_at c.args.plan.now c.args.j u (get_or ds k none)) c.args.t c.loop-d.invariant
     (subst (λ (e : Disturbance). Holds (λ u. is_at c.args.plan.now c.args.j u e) c.args.t c.disturbed_by-from.result) same placed))

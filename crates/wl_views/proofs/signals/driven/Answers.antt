@@ -39,7 +39,7 @@ loop-i-preserved c =
     (ap (λ (xs : List NodeOutcome). get_or xs c.loop-i.i c.index-nodes-i.result) c.as_slice-nodes.ensures ∙ node_is c.args.plan.now c.args.outcome.now c.loop-i.i c.index-nodes-i.result c.requires.outcome b)
     in
     subst (λ n. Holds (driven n (delay_of c.args.plan.now.topology) (level (line_of c.args.plan.now)) c.args.j) c.args.t c.or-held.result) (sym (add-one c.loop-i.i))
-    (c.or-held.ensures (driven c.loop-i.i (delay_of c.args.plan.now.topology) (level (line_of c.args.plan.now)) c.args.j)
+    (c.or-held.ensures.both (driven c.loop-i.i (delay_of c.args.plan.now.topology) (level (line_of c.args.plan.now)) c.args.j)
     (λ u. nat_le (delay_of c.args.plan.now.topology c.loop-i.i c.args.j) u && level (line_of c.args.plan.now) c.loop-i.i (u - delay_of c.args.plan.now.topology c.loop-i.i c.args.j))
     c.args.t c.loop-i.invariant
     (driven_more c.simulation_laws.ensures c.args.plan.now (c.checked_is_sound.ensures c.args.plan.now c.requires.checked) c.loop-i.i b c.args.j c.args.t c.delay-delay.result

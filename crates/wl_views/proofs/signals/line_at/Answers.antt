@@ -8,5 +8,5 @@ use Rattle.wl_views.proofs.signals.line_at.Goals as goal
 
 pub returns : goal.returns
 returns c =
-    c.or.ensures (driven (length c.args.plan.now.nodes) (delay_of c.args.plan.now.topology) (level (line_of c.args.plan.now)) c.args.j) (disturbed c.args.plan.now c.args.j)
+    c.or.ensures.both (driven (length c.args.plan.now.nodes) (delay_of c.args.plan.now.topology) (level (line_of c.args.plan.now)) c.args.j) (disturbed c.args.plan.now c.args.j)
     c.args.t c.driven-others.ensures c.disturbed.ensures

@@ -1,5 +1,5 @@
 -- One node's changes after those of the nodes before it.
-use Rattle.std.proofs.Common.{◌∙◌, ℕ, ◌+◌, ◌-◌, ◌<◌, ◌≤◌, ◌++◌, length, take, get_or, ap, ap₂, sym, arith, append_assoc, length-set}
+use Rattle.std.proofs.Common.{◌∙◌, ℕ, ◌-◌, ◌<◌, ◌≤◌, ◌++◌, length, take, get_or, ap, ap₂, sym, arith, append_assoc, length-set}
 use Rattle.std.proofs.lemmas.List.{take_all}
 use Rattle.wl_views.specs.declared.watched.Watched.{Watched}
 use Rattle.wl_views.specs.Held.{Watches, stays_until}
@@ -19,7 +19,8 @@ loop-i-preserved c =
     let b : i < length c.args.plan.now.nodes = omega arith in
     let few = c.requires.checked.few_nodes in
     let watches = c.push_node-stays.ensures.watches in
-    let p = watches.line.later in
+    let p = watches.hears.cable.later in
+    let r = watches.hears.disturbance.later in
     let q = watches.later in
     let inv = c.loop-i.invariant in
     let until = c.push_node-stays.ensures.until in

@@ -10,7 +10,7 @@ use Rattle.wl_views.proofs.signals.push_changes.Given as goal
 abbrev pub invariant-loop-i : goal.invariant-loop-i
 invariant-loop-i l = record {
   lines : l.text.items ≡ l.fn.text.items ++ changes_from 0 (take l.i (signals l.plan (l.t - 1))) (take l.i (signals l.plan l.t));
-  room : array_vec_len l.text ≤ array_vec_len l.fn.text + l.i * 256;
+  room : array_vec_len l.text ≤ array_vec_len l.fn.text + l.i * 300;
   later : l.t < l.until;
   inside : l.until ≤ l.plan.end;
   long : length l.watched ≡ length l.plan.nodes;

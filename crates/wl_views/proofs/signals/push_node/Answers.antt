@@ -1,12 +1,11 @@
 -- Nothing changes before what is known runs out; and then the signals of the tick before are those that were known.
 use Rattle.std.proofs.Common.{◌≡◌, ◌∙◌, ◌-◌, ◌<◌, ◌≤◌, ◌++◌, ℕ, ap, ap₂, sym, arith, append-nil}
-use Rattle.wl_clock.specs.Timing.{tick_of}
 use Rattle.wl_plan.specs.declared.plan.Plan.{Plan}
 use Rattle.wl_views.specs.Held.{stays_until}
 use Rattle.wl_views.specs.Signals.{node_signals}
 use Rattle.wl_views.specs.Vcd.{node_changes}
 use Rattle.wl_views.proofs.Walk.{same_node}
-use Rattle.wl_views.proofs.Watching.{awaited, now, on, said, stays}
+use Rattle.wl_views.proofs.Watching.{awaited, now, on, remembered, said, stays}
 use Rattle.wl_views.proofs.signals.push_node.Goals as goal
 
 pub returns-then-t-until-clause-lines : goal.returns-then-t-until-clause-lines
@@ -45,3 +44,7 @@ returns-clause-lines c =
     said c.checked_is_sound.ensures c.simulation_laws.ensures plan c.requires.checked i c.requires.node t c.go.new.self c.signals.result c.go.ensures c.signals.ensures
     in
     c.push_node_changes.ensures.lines ∙ ap₂ (λ x y. c.args.text.now.items ++ node_changes i x y) was is
+
+pub go-requires-clause-remembers : goal.go-requires-clause-remembers
+go-requires-clause-remembers c =
+    remembered c.checked_is_sound.ensures c.simulation_laws.ensures c.args.plan.now c.requires.checked c.args.i c.requires.node c.args.t c.args.known.now c.requires.was

@@ -2,8 +2,8 @@
 use Rattle.std.proofs.Common.{◌∙◌, ◌||◌, ap₂, arith}
 use Rattle.wl_views.proofs.held.Held.or.Goals as goal
 
-pub returns-then-self : goal.returns-then-self
-returns-then-self c = λ f g t h k.
+pub returns-then-self-clause-both : goal.returns-then-self-clause-both
+returns-then-self-clause-both c = λ f g t h k.
     let p = h.later in
     let q = k.later in
     record {
@@ -11,8 +11,8 @@ returns-then-self c = λ f g t h k.
       same = λ u from below. ap₂ (λ x y. x || y) (h.same u from (omega arith) ∙ c.if-self.true) (k.same u from (omega arith));
     }
 
-pub returns : goal.returns
-returns c = λ f g t h k.
+pub returns-clause-both : goal.returns-clause-both
+returns-clause-both c = λ f g t h k.
     let p = h.later in
     let q = k.later in
     record {

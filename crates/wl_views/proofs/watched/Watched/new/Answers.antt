@@ -1,4 +1,4 @@
-use Rattle.std.proofs.Common.{◌≡◌, ◌∙◌, ap, sym, arith, ℕ, ◌<◌, ◌≤◌}
+use Rattle.std.proofs.Common.{◌≡◌, ◌∙◌, ap, sym, arith}
 use Rattle.wl_node.specs.declared.setup.NodeSetup.{NodeSetup}
 use Rattle.wl_plan.specs.PlanLine.{setup_at}
 use Rattle.wl_plan.specs.Simulation.{seen}
@@ -6,9 +6,9 @@ use Rattle.wl_views.specs.Held.{next_of}
 use Rattle.wl_views.proofs.Going.{setup_is}
 use Rattle.wl_views.proofs.watched.Watched.new.Goals as goal
 
-pub returns : goal.returns
+pub returns-clause-awaits : goal.returns-clause-awaits
 unfolding seen
-returns c =
+returns-clause-awaits c =
     let setup : c.index-as_slice-i.result ≡ setup_at c.args.plan.now c.args.i =
     c.index-as_slice-i.is ∙ setup_is c.args.plan.now c.as_slice.result.now c.args.i c.index-as_slice-i.result c.as_slice.ensures c.requires.node
     in
@@ -17,7 +17,6 @@ returns c =
         node = c.new.ensures (setup_at c.args.plan.now c.args.i) (ap (λ (s : NodeSetup). s.segments) (sym setup));
         inside = λ m below. absurd (omega arith);
       };
-      line = λ below. absurd (omega arith);
       next = c.next_tick.ensures ∙ ap (λ (s : NodeSetup). next_of s.clock c.args.plan.now.end 0) setup;
       before = λ q below. absurd (omega arith);
       here = omega arith;

@@ -1,5 +1,5 @@
 -- Up to where the line changes quanta see the same, and the first of them neither sample nor begin a bit.
-use Rattle.std.proofs.Common.{◌≡◌, ◌∙◌, ap, sym, subst, arith, inl, inr, ℕ, ◌+◌, ◌<◌, ◌≤◌, List, [], ◌∷◌, ◌++◌, replicate}
+use Rattle.std.proofs.Common.{◌≡◌, ◌∙◌, ap, sym, subst, arith, inl, inr, ℕ, ◌+◌, ◌<◌, ◌≤◌, List, ◌++◌, replicate}
 use Rattle.std.proofs.lemmas.Bool.{cases_lt}
 use Rattle.wl_level.specs.declared.Level.{Level}
 use Rattle.wl_level.specs.Levels.{level_of}
@@ -9,9 +9,9 @@ use Rattle.wl_plan.specs.declared.plan.Plan.{Plan}
 use Rattle.wl_plan.specs.PlanLine.{line_of, setup_at}
 use Rattle.wl_plan.specs.Simulation.{AreInside, seen}
 use Rattle.wl_trace.specs.Rerun.{IsRerun}
-use Rattle.wl_trace.specs.Shown.{plain_quanta, shown_of}
+use Rattle.wl_trace.specs.Shown.{shown_of}
 use Rattle.wl_views.specs.declared.held.Held.{Held}
-use Rattle.wl_views.specs.Held.{next_of, stays_until}
+use Rattle.wl_views.specs.Held.{next_of}
 use Rattle.wl_views.proofs.Going.{all_inside, few_inside, in_time, next_on, same_seen, setup_is, shown_stays}
 use Rattle.wl_views.proofs.watched.Watched.pass.Goals as goal
 
@@ -45,7 +45,9 @@ returns c =
     let n : ℕ = c.pass.result in
     let b = c.requires.node in
     let h = c.requires.seen in
-    let held : Held = c.args.self.now.line in
+    let held : Held = c.line-line.result in
+    let line = c.line-line.ensures.holds plan i t c.requires.hears in
+    let whole = c.line-line.ensures.until in
     let sounds = c.checked_is_sound.ensures in
     let laws = c.simulation_laws.ensures in
     let checked = c.requires.checked in
@@ -58,25 +60,25 @@ returns c =
     (omega (arith, c.min-until.ensures), omega (arith, c.min-until.ensures)))
     in
     let plain : (m : ℕ) → m ≤ n → shown_of (setup_at plan i) (seen (line_of plan) i k ++ replicate m (level_of held.value)) ≡ shown_of (setup_at plan i) (seen (line_of plan) i k) =
-    λ m less. ap (λ (l : Level). shown_of (setup_at plan i) (seen (line_of plan) i k ++ replicate m l)) (sym c.level_of-level.ensures) ∙ c.pass.ensures.same (setup_at plan i) (seen (line_of plan) i k) h.runs.node m less
+    λ m less. ap (λ (l : Level). shown_of (setup_at plan i) (seen (line_of plan) i k ++ replicate m l)) (sym c.level_of.ensures) ∙ c.pass.ensures.same (setup_at plan i) (seen (line_of plan) i k) h.runs.node m less
     in
-    let timely = in_time sounds laws plan checked i b t held c.requires.line k n h.runs.inside h.before h.later during plain in
+    let timely = in_time sounds laws plan checked i b t held line k n h.runs.inside h.before h.later during plain in
     let next : c.next_tick-self.result ≡ next_of (setup_at plan i).clock plan.end (k + n) = c.next_tick-self.ensures ∙ ap (λ (s : NodeSetup). next_of s.clock plan.end (k + n)) setup in
     record {
       runs = record {
         node =
             subst (λ (ls : List Level). IsRerun (setup_at plan i) ls c.pass.new.self)
-            (ap (λ (l : Level). seen (line_of plan) i k ++ replicate n l) c.level_of-level.ensures
-            ∙ sym (same_seen sounds laws plan checked i b t held c.requires.line k n timely))
+            (ap (λ (l : Level). seen (line_of plan) i k ++ replicate n l) c.level_of.ensures
+            ∙ sym (same_seen sounds laws plan checked i b t held line k n timely))
             (c.pass.ensures.run (setup_at plan i) (seen (line_of plan) i k) h.runs.node);
-        inside = all_inside sounds laws plan checked i b t held c.requires.line k n h.runs.inside h.before h.later during plain;
+        inside = all_inside sounds laws plan checked i b t held line k n h.runs.inside h.before h.later during plain;
       };
-      line = c.requires.line;
+      hears = record { cable = c.requires.hears.cable; disturbance = c.requires.hears.disturbance };
       next = next;
       before = λ q below. elim (cases_lt q k) [
-        | inl low ↦ (let m = h.before q low in let l = c.requires.line.later in omega arith)
-        | inr high ↦ (during q high below).0
+        | inl low ↦ (let m = h.before q low in let l = line.later in omega arith)
+        | inr high ↦ (let m = (during q high below).0 in omega arith)
       ];
       later = (let m = next_on sounds laws plan checked i b k n t c.requires.early h.later in omega arith);
-      same = λ u from below. shown_stays sounds laws plan checked i b t held c.requires.line k n h.runs.inside h.before h.later during plain u from (omega arith);
+      same = λ u from below. shown_stays sounds laws plan checked i b t held line k n h.runs.inside h.before h.later during plain u from (omega arith);
     }

@@ -1,5 +1,5 @@
 -- The quantum that begins now is the next one, and sees what the line is.
-use Rattle.std.proofs.Common.{◌≡◌, ◌∙◌, ap, sym, subst, arith, inl, inr, ℕ, ◌+◌, ◌<◌, ◌≤◌, Bool, List, [], ◌∷◌, ◌++◌}
+use Rattle.std.proofs.Common.{◌≡◌, ◌∙◌, ap, sym, subst, arith, inl, inr, ℕ, ◌+◌, ◌<◌, List, [], ◌∷◌, ◌++◌}
 use Rattle.std.proofs.lemmas.Bool.{cases_lt}
 use Rattle.wl_level.specs.declared.Level.{Level}
 use Rattle.wl_level.specs.Levels.{level_of}
@@ -44,8 +44,9 @@ returns-then-self-t-clause-seen c =
     let now = next_now c.checked_is_sound.ensures c.simulation_laws.ensures plan c.requires.checked i b k t c.requires.early (sym old.next ∙ c.if-self-t.true) in
     let begins : tick_of (setup_at plan i).clock k ≡ t = now.0 in
     let early : tick_of (setup_at plan i).clock k < plan.end = omega (arith, now.0, now.1) in
-    let is : found (line_of plan) (level (line_of plan)) i (tick_of (setup_at plan i).clock k) ≡ c.args.self.now.line.value =
-    ap (found (line_of plan) (level (line_of plan)) i) begins ∙ c.requires.line.same t (omega arith) c.requires.line.later
+    let line = c.line.ensures.holds plan i t c.requires.hears in
+    let is : found (line_of plan) (level (line_of plan)) i (tick_of (setup_at plan i).clock k) ≡ c.line.result.value =
+    ap (found (line_of plan) (level (line_of plan)) i) begins ∙ line.same t (omega arith) line.later
     in
     let sees : seen (line_of plan) i k ++ c.level_of-level.result ∷ [] ≡ seen (line_of plan) i (k + 1) =
     ap (λ (l : Level). seen (line_of plan) i k ++ l ∷ []) (c.level_of-level.ensures ∙ ap level_of (sym is))
