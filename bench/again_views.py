@@ -87,10 +87,16 @@ class Simulation:
             if node.quantum < len(self.ticks[i]): heapq.heappush(coming, (self.ticks[i][node.quantum], i))
         return self
 
+    def cabled(self, j, tick):
+        """Whether the cable is dominant at node j: after an odd number of some node's changes, as many as a delay earlier had come."""
+        return any(bisect.bisect_right(changes, tick - delay) % 2 for changes, delay in zip(self.changes, self.delays[j]))
+
+    def shocked(self, j, tick):
+        return any(start <= tick < end for start, end in self.shocks[j])
+
     def found(self, j, tick):
-        """Whether node j finds dominant: after an odd number of some node's changes, as many as a delay earlier had come, or amid a disturbance."""
-        return (any(bisect.bisect_right(changes, tick - delay) % 2 for changes, delay in zip(self.changes, self.delays[j]))
-                or any(start <= tick < end for start, end in self.shocks[j]))
+        """Whether node j finds dominant: by the cable, or amid a disturbance."""
+        return self.cabled(j, tick) or self.shocked(j, tick)
 
     def found_turns(self, j):
         """The ticks below the end at which what node j finds may be another than before."""
@@ -138,6 +144,8 @@ def signals_of(simulation, i):
     at = [0, *samples]
     yield "t", "wire 1", "tx", [(0, "1")] + [(tick, str(n % 2)) for n, tick in enumerate(simulation.changes[i])]
     yield "r", "wire 1", "rx", [(tick, str(int(not simulation.found(i, tick)))) for tick in [0, *simulation.found_turns(i)]]
+    yield "w", "wire 1", "cable", [(tick, str(int(not simulation.cabled(i, tick)))) for tick in [0, *simulation.found_turns(i)]]
+    yield "n", "wire 1", "disturbance", [(tick, str(int(simulation.shocked(i, tick)))) for tick in [0, *simulation.found_turns(i)]]
     yield "s", "wire 1", "sample", turning(samples)
     yield "b", "wire 1", "start", turning([ticks[quantum] for quantum in node.starts])
     for letter, kind, name, form, part in (("e", "real 64", "tec", "r{} ", 0), ("c", "real 64", "rec", "r{} ", 1), ("m", "string 1", "mode", "s{} ", 2),

@@ -558,11 +558,16 @@ class Line:
         self.disturbed = [[(start + plan.place_delay(x, j), end + plan.place_delay(x, j)) for x, start, end in plan.disturbances]
                           for j in every]
 
-    def found(self, j, tick):
+    def driven(self, j, tick):
         for node, delay in zip(self.nodes, self.delays[j]):
-            if bisect_right(node.changes, tick - delay) % 2 == 1: return DOMINANT
-        if any(start <= tick < end for start, end in self.disturbed[j]): return DOMINANT
-        return RECESSIVE
+            if bisect_right(node.changes, tick - delay) % 2 == 1: return True
+        return False
+
+    def is_disturbed(self, j, tick):
+        return any(start <= tick < end for start, end in self.disturbed[j])
+
+    def found(self, j, tick):
+        return DOMINANT if self.driven(j, tick) or self.is_disturbed(j, tick) else RECESSIVE
 
 
 # ---- Simulation: from quantum to quantum, in the order of their ticks
@@ -818,7 +823,7 @@ def trace_text(plan):
     return [line for _, line in sorted(lines, key=lambda line: line[0])]
 
 
-SIGNALS = (("wire 1", "t", "tx"), ("wire 1", "r", "rx"), ("wire 1", "s", "sample"), ("wire 1", "b", "start"),
+SIGNALS = (("wire 1", "t", "tx"), ("wire 1", "r", "rx"), ("wire 1", "w", "cable"), ("wire 1", "n", "disturbance"), ("wire 1", "s", "sample"), ("wire 1", "b", "start"),
            ("real 64", "e", "tec"), ("real 64", "c", "rec"), ("string 1", "m", "mode"), ("string 1", "d", "state"))
 
 
@@ -826,13 +831,15 @@ def waves(line, i, node):
     """The signals of a node, each as a list of ticks from which on it has a value; tick -1 is before all."""
     def turning(ticks, first): return [(-1, str(first))] + [(tick, str((first + turns) % 2)) for turns, tick in enumerate(ticks, 1)]
 
-    edges = [tick + delay for other, delay in zip(line.nodes, line.delays[i]) for tick in other.changes]
-    edges += [tick for disturbance in line.disturbed[i] for tick in disturbance]
-    found = [(-1, "1")] + [(tick, str(line.found(i, tick))) for tick in sorted(set(edges))]
+    edges = {tick + delay for other, delay in zip(line.nodes, line.delays[i]) for tick in other.changes}
+    turns = {tick for disturbance in line.disturbed[i] for tick in disturbance}
+    found = [(-1, "1")] + [(tick, str(line.found(i, tick))) for tick in sorted(edges | turns)]
+    cable = [(-1, "1")] + [(tick, str(int(not line.driven(i, tick)))) for tick in sorted(edges)]
+    disturbed = [(-1, "0")] + [(tick, str(int(line.is_disturbed(i, tick)))) for tick in sorted(turns)]
     states = [[(tick, at[part]) for tick, at in node.states] for part in range(4)]
     tec, rec = ([(tick, f"r{count} ") for tick, count in counts] for counts in states[:2])
     mode, state = ([(tick, f"s{word} ") for tick, word in words] for words in states[2:])
-    return turning(node.changes, RECESSIVE), found, turning(node.sampled, 0), turning(node.starts, 0), tec, rec, mode, state
+    return turning(node.changes, RECESSIVE), found, cable, disturbed, turning(node.sampled, 0), turning(node.starts, 0), tec, rec, mode, state
 
 
 def vcd_text(plan):

@@ -60,13 +60,19 @@ def edges_of(records, nodes):
     return changes
 
 
-def line_at(plan, changes, j):
-    """The intervals in which node j finds the line dominant, by a sum of what comes and goes."""
+def cable_at(plan, changes, j):
+    """The intervals in which the cable is dominant at node j, by a sum of what comes and goes."""
     to = plan["node"][j]
     turns = []
     for node, ticks in zip(plan["node"], changes):
         delay = node["out"] + abs(node["x"] - to["x"]) * plan["per"] + to["in"]
         turns += [(tick + delay, 1 if n % 2 == 0 else -1) for n, tick in enumerate(ticks)]
+    return turns
+
+
+def disturbed_at(plan, j):
+    """The intervals in which a disturbance is at node j."""
+    to, turns = plan["node"][j], []
     for d in plan.get("disturbance", []):
         delay = abs(d["x"] - to["x"]) * plan["per"] + to["in"]
         turns += [(d["from"] + delay, 1), (d["to"] + delay, -1)]
@@ -95,7 +101,10 @@ def compare(path, plan, text, program, tick, room):
     wanted = {}
     for j, node in enumerate(plan["node"]):
         wanted[node["name"] + "_tx"] = levels_of([(tick, 1 if n % 2 == 0 else -1) for n, tick in enumerate(changes[j])], plan["end"])
-        wanted[node["name"] + "_rx"] = levels_of(line_at(plan, changes, j), plan["end"])
+        cable, shocks = cable_at(plan, changes, j), disturbed_at(plan, j)
+        wanted[node["name"] + "_rx"] = levels_of(cable + shocks, plan["end"])
+        wanted[node["name"] + "_cable"] = levels_of(cable, plan["end"])
+        wanted[node["name"] + "_disturbance"] = [(tick, 1 - level) for tick, level in levels_of(shocks, plan["end"])]
     for name, wave_levels in wanted.items():
         if levels[name] != [(tick * units, level) for tick, level in wave_levels]: sys.exit(f"{path}: {name} is {levels[name]}, wanted {wave_levels}")
     for name, values in by_plain(text, units).items():

@@ -151,6 +151,9 @@ fn push_state_changes(text: &mut Lines, i: usize, was: NodeState, now: NodeState
     ensures lines { text.new.items ≡ text.old.items ++ state_changes i was now }
     ensures grown { array_vec_len text.new ≤ array_vec_len text.old + 162 }
 {
+    if was == now {
+        return;
+    }
     push_number_change(text, "e", i, was.tec, now.tec);
     push_number_change(text, "c", i, was.rec, now.rec);
     push_word_change(text, "m", i, mode(was.mode), mode(now.mode));
