@@ -1,15 +1,19 @@
 -- Quanta that neither sample nor begin a bit leave what a waveform shows as it is.
-use Rattle.std.proofs.Common.{◌≡◌, ◌∙◌, refl, sym, ap, arith, ℕ, zero, suc, ◌+◌, ◌<◌, ◌≤◌, List, [], ◌∷◌, ◌++◌, length, replicate, append-nil, append_assoc, add-one}
+use Rattle.std.proofs.Common.{◌≡◌, ◌∙◌, sym, ap, ap₂, arith, Option, None, ℕ, zero, suc, ◌<◌, ◌≤◌, List, [], ◌∷◌, ◌++◌, length, replicate, append-nil, append_assoc, add-one}
 use Rattle.std.proofs.lemmas.List.{replicate_more}
 use Rattle.wl_level.specs.declared.Level.{Level}
 use Rattle.wl_level.specs.Levels.{is_dominant}
 use Rattle.wl_sync.specs.declared.Beat.{Beat}
 use Rattle.wl_sync.specs.declared.Beat.TheVariants.{Plain}
-use Rattle.wl_sync.specs.Bits.{Seen, beat_of}
-use Rattle.wl_sync.specs.Skips.{IsPlain}
+use Rattle.std.specs.Prelude.{option_map}
+use Rattle.wl_sync.specs.declared.Sync.{Sync}
+use Rattle.wl_sync.specs.Bits.{Seen, beat_of, sync_of}
+use Rattle.wl_sync.specs.Skips.{IsPlain, IsUnmoved}
 use Rattle.wl_machine.specs.Judged.{is_idle_sort, stretch_of}
 use Rattle.wl_node.specs.declared.setup.NodeSetup.{NodeSetup}
 use Rattle.wl_node.specs.History.{History, history_of, history_after, by_beat, seen_next}
+use Rattle.wl_trace.specs.Events.{noted}
+use Rattle.wl_trace.specs.Synced.{sync_event, syncs_of, with_next}
 use Rattle.wl_trace.specs.Replay.{SampledPast, past_of}
 use Rattle.wl_trace.specs.Shown.{mark, shown_of}
 use Rattle.wl_trace.specs.Starts.{is_start, starts_of, with_start}
@@ -17,7 +21,7 @@ use Rattle.wl_confine.specs.Counts.{counts_of}
 use Rattle.wl_trace.specs.declared.shown.NodeState.{NodeState}
 use Rattle.wl_trace.specs.States.{state_by}
 use Rattle.wl_trace.proofs.Starting.{starts_more}
-use Rattle.wl_trace.proofs.Syncing.{history_more}
+use Rattle.wl_trace.proofs.Syncing.{history_more, syncs_more}
 
 pub snoc : {A : Type 0} (xs : List A) (x : A) (n : ℕ) → xs ++ replicate (suc n) x ≡ (xs ++ replicate n x) ++ x ∷ []
 snoc xs x n =
@@ -84,6 +88,23 @@ module _ (setup : NodeSetup) (levels : List Level) (level : Level) where
   pub all_passed : (n m : ℕ) → n ≤ m → IsPlain setup.segments (history_of setup levels).seen (seen_next (history_of setup levels) level) m → IsPassed setup levels level n
   all_passed zero m less plain = none_passed
   all_passed (suc n) m less plain = passed n (all_passed n m (omega arith) plain) m plain (omega arith)
+
+  -- nor does an edge synchronise it
+  pub all_unmoved : (n m : ℕ) → n ≤ m → IsPlain setup.segments (history_of setup levels).seen (seen_next (history_of setup levels) level) m
+      → IsUnmoved setup.segments (history_of setup levels).seen (seen_next (history_of setup levels) level) m
+      → syncs_of setup (levels ++ replicate n level) ≡ syncs_of setup levels
+  all_unmoved zero m less plain unmoved = ap (syncs_of setup) (append-nil levels)
+  all_unmoved (suc n) m less plain unmoved =
+      let is = all_passed n m (omega arith) plain in
+      let more : List Level = levels ++ replicate n level in
+      let g : History = history_of setup more in
+      let x : Seen = seen_next (history_of setup levels) level in
+      let same : seen_next g level ≡ x = seen_same g (history_of setup levels) level is.past is.drive in
+      let none : sync_of setup.segments g.seen (seen_next g level) ≡ None =
+      ap₂ (λ (s : List Seen) (y : Seen). sync_of setup.segments s y) is.seen same ∙ unmoved n (omega arith) in
+      ap (syncs_of setup) (snoc levels level n) ∙ syncs_more setup more level
+      ∙ ap (λ (o : Option Sync). with_next (syncs_of setup more) (option_map (λ sync. noted (length g.seen) (length g.samples) (sync_event sync)) o)) none
+      ∙ all_unmoved n m (omega arith) plain unmoved
 
 -- what a node is at, by its past
 abbrev state_past : SampledPast → NodeState

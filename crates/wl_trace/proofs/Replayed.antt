@@ -1,6 +1,6 @@
 -- A history's events are those of its samples.
-use Rattle.std.proofs.Common.{◌≡◌, ◌∙◌, refl, ap, sym, arith, ℕ, List, [], ◌∷◌, ◌++◌, length, map, fold, append-nil, length-append, ◌+◌, ◌<◌, take, get_or, subst, ap₂}
-use Rattle.std.proofs.lemmas.List.{take_all, take_more}
+use Rattle.std.proofs.Common.{◌≡◌, ◌∙◌, refl, ap, sym, ℕ, List, [], ◌∷◌, ◌++◌, length, map, fold, append-nil, length-append, ◌+◌, ◌<◌, take, get_or, subst, ap₂}
+use Rattle.std.proofs.lemmas.List.{take_more}
 use Rattle.std.proofs.lemmas.List.Sums.{fold-append}
 use Rattle.wl_level.specs.declared.Level.{Level}
 use Rattle.wl_sync.specs.declared.Beat.{Beat}

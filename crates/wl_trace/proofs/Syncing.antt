@@ -1,12 +1,11 @@
 -- What the synchronisations of a history say of it, and how the counts of a node tell them.
-use Rattle.std.proofs.Common.{◌≡◌, ◌∙◌, refl, sym, ap, subst, arith, ℕ, ℤ, suc, ◌+◌, ◌<◌, ◌≤◌, cond, List, [], ◌∷◌, ◌++◌, length, fold, append-nil, Option, Some, None, option_map, get_or, zero-add, add-zero}
+use Rattle.std.proofs.Common.{◌≡◌, ◌∙◌, refl, sym, ap, subst, arith, ℕ, ℤ, suc, ◌+◌, ◌<◌, cond, List, [], ◌∷◌, ◌++◌, length, fold, append-nil, Option, Some, None, option_map, zero-add, add-zero}
 use Rattle.std.specs.Prelude.{count_by}
 use Rattle.std.specs.List.{All, flat_map}
 use Rattle.std.proofs.lemmas.List.{length-append}
 use Rattle.std.proofs.lemmas.List.Elements.{All-append, All-cons, All-nil}
 use Rattle.std.proofs.lemmas.List.Sums.{fold-append, sum_by-append}
 use Rattle.std.proofs.lemmas.List.Concat.{flat_map-append}
-use Rattle.std.proofs.Math.Seq.{get_or-append_seam}
 use Rattle.wl_level.specs.declared.Level.{Level}
 use Rattle.wl_sync.specs.declared.Sync.{Sync}
 use Rattle.wl_sync.specs.declared.Sync.TheVariants.{Hard, Error}
@@ -124,64 +123,3 @@ phases_told setup levels = (synced setup levels).phases
 
 pub sync_quanta_in_time : (setup : NodeSetup) (levels : List Level) → All (λ n. n.quantum < length levels) (syncs_of setup levels)
 sync_quanta_in_time setup levels = subst (λ n. All (λ (e : Noted). e.quantum < n) (syncs_of setup levels)) (all_seen setup levels) (synced setup levels).quanta
-
--- what the count of hard synchronisations and the list of phase errors tell of the last quantum, where they were so before it
-module _ (quantum : ℕ) (hards : ℕ) (phases : List (ℕ × ℤ)) where
-  pub hard_if_more : (o : Option Sync) → hards < hards + count_by is_hard (syncs_at quantum o) → o ≡ Some Hard
-  hard_if_more None h = absurd (omega arith)
-  hard_if_more (Some Hard) h = refl
-  hard_if_more (Some (Error e)) h = absurd (omega arith)
-
-  none_longer : length (phases ++ []) ≡ length phases
-  none_longer = ap (λ (ps : List (ℕ × ℤ)). length ps) (append-nil phases)
-
-  pub error_if_longer : (o : Option Sync) (d : ℕ × ℤ) → length phases < length (phases ++ flat_map phase_of (syncs_at quantum o))
-      → o ≡ Some (Error (get_or (phases ++ flat_map phase_of (syncs_at quantum o)) (length phases) d).1)
-  error_if_longer None d h = let e = none_longer in absurd (omega arith)
-  error_if_longer (Some Hard) d h = let e = none_longer in absurd (omega arith)
-  error_if_longer (Some (Error x)) d h = ap (λ (p : ℕ × ℤ). Some (Error p.1)) (sym (get_or-append_seam phases (quantum, x) [] d))
-
-  pub none_if_same : (o : Option Sync) → hards + count_by is_hard (syncs_at quantum o) ≤ hards
-      → length (phases ++ flat_map phase_of (syncs_at quantum o)) ≤ length phases → o ≡ None
-  none_if_same None h e = refl
-  none_if_same (Some Hard) h e = absurd (omega arith)
-  none_if_same (Some (Error x)) h e = let more = length-append phases ((quantum, x) ∷ []) in absurd (omega arith)
-
--- the same of a node that sees one level more
-module _ (setup : NodeSetup) (levels : List Level) (level : Level) where
-  abbrev before : History
-  before = history_of setup levels
-
-  abbrev found : Option Sync
-  found = sync_then setup before level
-
-  hards_then : hards_of (history_of setup (levels ++ level ∷ [])) ≡ hards_of before + count_by is_hard (syncs_at (length before.seen) found)
-  hards_then = ap hards_of (history_more setup levels level) ∙ hards_after setup before level
-
-  phases_then : phases_of (history_of setup (levels ++ level ∷ [])) ≡ phases_of before ++ flat_map phase_of (syncs_at (length before.seen) found)
-  phases_then = ap phases_of (history_more setup levels level) ∙ phases_after setup before level
-
-  as_noted : (sync : Sync) → found ≡ Some sync → sync_next setup before level ≡ Some (noted (length levels) (length before.samples) (sync_event sync))
-  as_noted sync e =
-      ap (option_map (λ s. noted (length before.seen) (length before.samples) (sync_event s))) e
-      ∙ ap (λ (n : ℕ). Some (noted n (length before.samples) (sync_event sync))) (all_seen setup levels)
-
-  pub found_hard : hards_of before < hards_of (history_of setup (levels ++ level ∷ []))
-      → sync_next setup before level ≡ Some (noted (length levels) (length before.samples) events.HardSynchronised)
-  found_hard more =
-      as_noted Hard (hard_if_more (length before.seen) (hards_of before) (phases_of before) found (subst (λ n. hards_of before < n) hards_then more))
-
-  pub found_error : (d : ℕ × ℤ) → length (phases_of before) < length (phases_of (history_of setup (levels ++ level ∷ [])))
-      → sync_next setup before level
-      ≡ Some (noted (length levels) (length before.samples) (events.Resynchronised (get_or (phases_of (history_of setup (levels ++ level ∷ []))) (length (phases_of before)) d).1))
-  found_error d more =
-      as_noted _ (error_if_longer (length before.seen) (hards_of before) (phases_of before) found d
-      (subst (λ (ps : List (ℕ × ℤ)). length (phases_of before) < length ps) phases_then more))
-      ∙ ap (λ (ps : List (ℕ × ℤ)). Some (noted (length levels) (length before.samples) (events.Resynchronised (get_or ps (length (phases_of before)) d).1))) (sym phases_then)
-
-  pub found_none : hards_of (history_of setup (levels ++ level ∷ [])) ≤ hards_of before
-      → length (phases_of (history_of setup (levels ++ level ∷ []))) ≤ length (phases_of before) → sync_next setup before level ≡ None
-  found_none same short =
-      ap (option_map (λ s. noted (length before.seen) (length before.samples) (sync_event s)))
-      (none_if_same (length before.seen) (hards_of before) (phases_of before) found (subst (λ n. n ≤ hards_of before) hards_then same)
-      (subst (λ (ps : List (ℕ × ℤ)). length ps ≤ length (phases_of before)) phases_then short))

@@ -10,11 +10,9 @@ mod replay;
 mod rerun;
 mod shown;
 mod stretch;
-mod syncs;
 
 pub use event::{Event, FlagForm, FrameField, Noted, Place};
 pub use laws::trace_laws;
 pub use replay::node_events;
 pub use rerun::Rerun;
 pub use shown::{NodeState, Shown};
-pub use syncs::node_syncs;

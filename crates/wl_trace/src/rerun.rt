@@ -1,17 +1,20 @@
 //! A node that runs again over the levels that it saw, quantum by quantum and without memory.
-ghost use Rattle.std.specs.Prelude.{◌≡◌, ℕ, ◌+◌, ◌-◌, ◌<◌, ◌≤◌, ◌^◌, ◌++◌, [], ◌∷◌, List, length, min, replicate};
+ghost use Rattle.std.specs.Prelude.{◌≡◌, ℕ, ◌+◌, ◌-◌, ◌<◌, ◌≤◌, ◌^◌, ◌++◌, [], ◌∷◌, List, length, min, option_map, replicate};
 ghost use Rattle.wl_level.specs.declared.Level.{Level};
 ghost use Rattle.wl_node.specs.declared.setup.NodeSetup.{NodeSetup};
-ghost use Rattle.wl_node.specs.History.{History, by_beat};
+ghost use Rattle.wl_node.specs.History.{History, by_beat, history_of};
+ghost use Rattle.wl_trace.specs.Events.{noted};
 ghost use Rattle.wl_trace.specs.Rerun.{HasRun, IsRerun, starts_with};
 ghost use Rattle.wl_trace.specs.Shown.{plain_quanta, shown_of};
+ghost use Rattle.wl_trace.specs.Synced.{sync_event, sync_next, syncs_of};
 
 use crate::controller::{Controller, ready_head};
+use crate::event::{Event, Noted};
 use crate::shown::{NodeState, Shown};
 use wl_level::Level;
 use wl_node::Queued;
 use wl_segments::Segments;
-use wl_sync::{Beat, BitClock};
+use wl_sync::{Beat, BitClock, Sync};
 
 /// A node that runs again over the levels that it saw: its bit clock, its machine, counters and queue, and what it drives. A call takes no memory.
 #[derive(Drop)]
@@ -19,10 +22,36 @@ pub struct Rerun {
     pub(crate) clock: BitClock,
     pub(crate) controller: Controller,
     pub(crate) drive: Level,
+    /// How many samples it has had.
+    pub(crate) bits: u64,
     /// Turns at each sample.
     pub(crate) sampled: bool,
     /// Turns at each start of a bit.
     pub(crate) started: bool,
+}
+
+/// The event of an edge.
+fn sync_event(sync: Sync) -> Event
+    ensures { result ≡ sync_event sync }
+{
+    match sync {
+        Sync::Hard => Event::HardSynchronised,
+        Sync::Error(error) => Event::Resynchronised(error),
+    }
+}
+
+/// How an edge that this quantum finds synchronises the node, after so many samples.
+fn noted_sync(quantum: u64, bit: u64, sync: Option<Sync>) -> Option<Noted>
+    ensures { result ≡ option_map (λ s. noted quantum bit (sync_event s)) sync }
+{
+    match sync {
+        Some(sync) => Some(Noted {
+            quantum,
+            bit,
+            event: sync_event(sync),
+        }),
+        None => None,
+    }
 }
 
 impl Rerun {
@@ -34,6 +63,7 @@ impl Rerun {
             clock: BitClock::new(segments),
             controller: Controller::new(),
             drive: Level::Recessive,
+            bits: 0,
             sampled: false,
             started: false,
         }
@@ -58,24 +88,30 @@ impl Rerun {
         }
     }
 
-    /// Its next quantum, which has this number, counted from 0, and at which it sees this level; `queue` is that of its setup.
-    pub fn quantum(&mut self, queue: &[Queued], quantum: u64, level: Level)
+    /// Its next quantum, which has this number, counted from 0, and at which it sees this level; `queue` is that of its setup. How an edge
+    /// synchronises it then, if one does.
+    pub fn quantum(&mut self, queue: &[Queued], quantum: u64, level: Level) -> Option<Noted>
         requires few { quantum < 2 ^ 64 - 1 }
-        ensures { (setup : NodeSetup) (levels : List Level) → setup.queue ≡ queue.now → length levels ≡ quantum
+        ensures sync { (setup : NodeSetup) (levels : List Level) → length levels ≡ quantum → IsRerun setup levels self.old
+            → result ≡ sync_next setup (history_of setup levels) level }
+        ensures run { (setup : NodeSetup) (levels : List Level) → setup.queue ≡ queue.now → length levels ≡ quantum
             → IsRerun setup levels self.old → IsRerun setup (levels ++ level ∷ []) self.new }
     {
+        let bit = self.bits;
         let idle = self.controller.machine.idle();
-        let (beat, _) = self.clock.step(level, idle, self.drive.is_dominant());
+        let (beat, sync) = self.clock.step(level, idle, self.drive.is_dominant());
         self.obey(queue, quantum, level, beat);
+        noted_sync(quantum, bit, sync)
     }
 
     /// What the quantum of this number does by its beat, where it is of this level.
     fn obey(&mut self, queue: &[Queued], quantum: u64, level: Level, beat: Beat)
         ensures run { (setup : NodeSetup) (h : History) (starts : ℕ) → setup.queue ≡ queue.now → quantum ≡ length h.seen
-            → self.old.controller.sent < 2 ^ 64 - 1 → HasRun self.old h starts
+            → self.old.controller.sent < 2 ^ 64 - 1 → self.old.bits < 2 ^ 64 - 1 → HasRun self.old h starts
             → HasRun self.new (by_beat setup h level beat) (starts_with beat starts) }
         ensures clock { self.new.clock ≡ self.old.clock }
         ensures sent { self.new.controller.sent ≤ self.old.controller.sent + 1 }
+        ensures bits { self.new.bits ≤ self.old.bits + 1 }
     {
         match beat {
             Beat::Plain => {}
@@ -86,6 +122,7 @@ impl Rerun {
             Beat::Sample(_) => {
                 let head = ready_head(queue, self.controller.sent, quantum);
                 let _ = self.controller.sample(level, head);
+                self.bits = self.bits.saturating_add(1);
                 self.sampled = !self.sampled;
             }
         }
@@ -99,6 +136,8 @@ impl Rerun {
             → IsRerun setup (levels ++ replicate result level) self.new }
         ensures same { (setup : NodeSetup) (levels : List Level) → IsRerun setup levels self.old
             → (m : ℕ) → m ≤ result → shown_of setup (levels ++ replicate m level) ≡ shown_of setup levels }
+        ensures syncs { (setup : NodeSetup) (levels : List Level) → IsRerun setup levels self.old
+            → syncs_of setup (levels ++ replicate result level) ≡ syncs_of setup levels }
     {
         let free = self.clock.free_quanta(level, false);
         let quanta = most.min(free as u64);

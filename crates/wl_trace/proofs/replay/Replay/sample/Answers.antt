@@ -2,10 +2,9 @@
 use Rattle.std.proofs.Common.{◌≡◌, ◌∙◌, ◌++◌, [], ◌∷◌, ℕ, List, Option, drop, refl, sym, ap, subst}
 use Rattle.std.specs.Prelude.{count_by}
 use Rattle.std.specs.Option.{option_copied}
-use Rattle.wl_confine.specs.declared.Happened.{Happened}
 use Rattle.wl_confine.specs.declared.Mode.{Mode}
 use Rattle.wl_confine.specs.Counts.{Counts, counts_of, mode_of}
-use Rattle.wl_machine.specs.Stretch.{Input, Sampled, Judgement, Stretch}
+use Rattle.wl_machine.specs.Stretch.{Sampled, Stretch}
 use Rattle.wl_machine.specs.Stretch.Input.{Sample}
 use Rattle.wl_machine.specs.Judged.{judged, stretch_of, head_of}
 use Rattle.wl_machine.specs.Laws.{HeadLaws}

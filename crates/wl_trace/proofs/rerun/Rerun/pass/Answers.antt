@@ -1,15 +1,15 @@
 -- Quanta passed over are plain ones.
-use Rattle.std.proofs.Common.{◌≡◌, ◌∙◌, ◌≤◌, ◌+◌, ◌++◌, refl, sym, ap, subst, arith, ℕ, false, List, [], length, replicate, append-nil, length-append}
-use Rattle.std.specs.Prelude.{min}
+use Rattle.std.proofs.Common.{◌≡◌, ◌∙◌, ◌≤◌, ◌++◌, refl, sym, ap, subst, arith, ℕ, false, List, length, replicate, append-nil, length-append}
 use Rattle.wl_level.specs.declared.Level.{Level}
 use Rattle.wl_sync.specs.Bits.{Seen}
-use Rattle.wl_sync.specs.Running.{clock_after, Running}
+use Rattle.wl_sync.specs.Running.{clock_after}
 use Rattle.wl_sync.specs.Skips.{IsPlain, free_quanta}
 use Rattle.wl_node.specs.History.{History, history_of, seen_next}
 use Rattle.wl_trace.specs.Replay.{IsController, SampledPast}
-use Rattle.wl_trace.specs.Rerun.{HasRun, IsRerun}
+use Rattle.wl_trace.specs.Rerun.{IsRerun}
 use Rattle.wl_trace.specs.Shown.{mark, shown_of}
-use Rattle.wl_trace.proofs.Passing.{all_passed, shown_same}
+use Rattle.wl_trace.specs.Synced.{syncs_of}
+use Rattle.wl_trace.proofs.Passing.{all_passed, all_unmoved, shown_same}
 use Rattle.wl_trace.proofs.rerun.Rerun.pass.Goals as goal
 
 pub returns-then-quanta-gt0-clause-run : goal.returns-then-quanta-gt0-clause-run
@@ -23,15 +23,18 @@ returns-then-quanta-gt0-clause-run c setup levels r =
     let is = all_passed setup levels level n n (omega arith) plain in
     let long = length-append levels (replicate n level) in
     let sent = r.few in
+    let bits = r.fewer in
     record {
       clock = c.skip.ensures.clock setup.segments h.seen r.clock x refl ∙ ap (clock_after setup.segments) (sym is.seen);
       run = record {
         controller = subst (IsController c.args.self.now.controller) (sym is.past) r.run.controller;
         drive = r.run.drive ∙ sym is.drive;
+        bits = r.run.bits ∙ ap (λ (p : SampledPast). length p.samples) (sym is.past);
         sampled = r.run.sampled ∙ ap (λ (p : SampledPast). mark (length p.samples)) (sym is.past);
         started = r.run.started ∙ ap (λ (qs : List ℕ). mark (length qs)) (sym is.starts);
       };
       few = omega arith;
+      fewer = omega arith;
     }
 
 pub returns-then-quanta-gt0-clause-same : goal.returns-then-quanta-gt0-clause-same
@@ -53,3 +56,17 @@ pub returns-else-quanta-gt0-clause-same : goal.returns-else-quanta-gt0-clause-sa
 returns-else-quanta-gt0-clause-same c setup levels r m less =
     let none : m ≡ 0 = omega (arith, c.if-quanta-gt0.false, less) in
     ap (λ (k : ℕ). shown_of setup (levels ++ replicate k c.args.level)) none ∙ ap (shown_of setup) (append-nil levels)
+
+pub returns-then-quanta-gt0-clause-syncs : goal.returns-then-quanta-gt0-clause-syncs
+returns-then-quanta-gt0-clause-syncs c setup levels r =
+    let level : Level = c.args.level in
+    let n : ℕ = c.min-quanta.result in
+    let h : History = history_of setup levels in
+    let few : n ≤ free_quanta false c.args.self.now.clock level = omega (arith, c.min-quanta.ensures, c.free_quanta-free.ensures) in
+    let plain : IsPlain setup.segments h.seen (seen_next h level) n = c.skip.ensures.plain few setup.segments h.seen r.clock (seen_next h level) refl in
+    all_unmoved setup levels level n n (omega arith) plain (c.skip.ensures.unmoved setup.segments h.seen r.clock (seen_next h level) refl)
+
+pub returns-else-quanta-gt0-clause-syncs : goal.returns-else-quanta-gt0-clause-syncs
+returns-else-quanta-gt0-clause-syncs c setup levels r =
+    let none : c.min-quanta.result ≡ 0 = omega (arith, c.if-quanta-gt0.false) in
+    ap (λ (k : ℕ). syncs_of setup (levels ++ replicate k c.args.level)) none ∙ ap (syncs_of setup) (append-nil levels)
