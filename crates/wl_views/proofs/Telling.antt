@@ -68,14 +68,3 @@ module _ (sounds : CheckedIsSound) (laws : SimulationLaws) (tells : TraceLaws) (
 
   pub told_below : All Below (all_told plan)
   told_below = all_numbers Below (told_at_end plan) 0 (length plan.nodes) (λ i b. node_below i (let c : i < length plan.nodes = omega arith in c))
-
-  -- no node runs more quanta than can be run
-  pub few_ran : (i : ℕ) → i < length plan.nodes → ran (line_of plan) i plan.end ≤ most_run_quanta
-  few_ran i b = at_most (ran (line_of plan) i plan.end) (laws.ran_inside (line_of plan) i plan.end (sound sounds laws plan checked).causal b)
-    where
-      at_most : (k : ℕ) → AreInside (line_of plan) i k → k ≤ most_run_quanta
-      at_most zero h = omega arith
-      at_most (suc k) h =
-          let less : k < most_quanta = (sound sounds laws plan checked).few_quanta i k b (h k (omega arith)) in
-          let all : most_quanta ≤ 2 ^ 21 = few in
-          omega arith

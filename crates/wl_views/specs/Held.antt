@@ -7,8 +7,10 @@ use Rattle.wl_plan.specs.declared.plan.Plan.{Plan}
 use Rattle.wl_plan.specs.PlanLine.{disturbed, line_of, setup_at}
 use Rattle.wl_plan.specs.Simulation.{AreInside, seen}
 use Rattle.wl_trace.specs.declared.shown.Shown.{Shown}
+use Rattle.wl_trace.specs.declared.event.Noted.{Noted}
 use Rattle.wl_trace.specs.Rerun.{IsRerun}
 use Rattle.wl_trace.specs.Shown.{shown_of}
+use Rattle.wl_trace.specs.Synced.{syncs_of}
 use Rattle.wl_views.specs.declared.held.Held.{Held}
 use Rattle.wl_views.specs.declared.signals.NodeSignals.{NodeSignals}
 use Rattle.wl_views.specs.declared.watched.Watched.{Watched}
@@ -68,6 +70,10 @@ pub record Hears (plan : Plan) (i t : ℕ) (w : Watched) : Type 0 where
 pub record Remembers (plan : Plan) (i t : ℕ) (w : Watched) : Type 0 where
   pub cable : t < w.cable.until → Holds (driven_at plan i) t w.cable
   pub disturbance : t < w.disturbance.until → Holds (disturbed plan i) t w.disturbance
+
+-- how edges synchronised node i in its first k quanta
+abbrev pub syncs_then : Plan → ℕ → ℕ → List Noted
+syncs_then plan i k = syncs_of (setup_at plan i) (seen (line_of plan) i k)
 
 -- a node runs again, and has seen so many of its quanta before the end
 pub record Runs (plan : Plan) (i : ℕ) (w : Watched) : Type 0 where

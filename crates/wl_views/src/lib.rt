@@ -8,7 +8,6 @@ mod held;
 mod laws;
 mod lines;
 mod log;
-mod seen;
 mod sent;
 mod signals;
 mod tick;

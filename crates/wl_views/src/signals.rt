@@ -120,24 +120,6 @@ pub(crate) fn disturbed(plan: &Plan, j: usize, t: u64) -> Held
     held
 }
 
-/// Whether node `j` finds the line dominant at tick `t`, by what was driven and by the disturbances.
-pub(crate) fn line_at(
-    plan: &Plan,
-    outcome: &Outcome,
-    j: usize,
-    t: u64,
-    come: &mut [usize; MOST_NODES],
-) -> Held
-    requires checked { IsChecked plan.now }
-    requires outcome { outcome.now ≡ outcome_of plan.now }
-    requires node { j < length plan.now.nodes }
-    requires early { t ≤ latest_end }
-    ensures { Holds (found (line_of plan.now) (level (line_of plan.now)) j) t result }
-{
-    let others = driven(plan, outcome, j, t, come);
-    others.or(disturbed(plan, j, t))
-}
-
 /// What is known of each node's signals from tick 0 on. Refused only where memory runs out.
 pub(crate) fn watch_all(
     alloc: Global,
@@ -151,7 +133,7 @@ pub(crate) fn watch_all(
     let mut watched = Vec::with_capacity(alloc, plan.nodes.len())?;
     for i in 0..plan.nodes.len() {
         let mut node = Watched::new(plan, i);
-        node.go(plan, outcome, i, 0);
+        let _ = node.go(plan, outcome, i, 0);
         watched.push(node)?;
     }
     Ok(watched)
@@ -205,7 +187,7 @@ fn push_node(
         return until;
     }
     let was = known.signals();
-    known.go(plan, outcome, i, t);
+    let _ = known.go(plan, outcome, i, t);
     push_node_changes(text, i, was, known.signals());
     known.until()
 }

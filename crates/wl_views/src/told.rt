@@ -1,14 +1,16 @@
 //! The trace of a run: what happened to each node, a line for each event.
-ghost use Rattle.std.specs.Prelude.{◌≡◌, ◌<◌, ◌≤◌, ◌^◌, ◌++◌, OnOk, IfOk, length};
+ghost use Rattle.std.specs.Prelude.{◌≡◌, ◌<◌, ◌≤◌, ◌^◌, ◌++◌, [], ◌∷◌, OnOk, IfOk, length};
 ghost use Rattle.std.specs.List.{All};
 ghost use Rattle.wl_plan.specs.Checked.{IsChecked};
 ghost use Rattle.wl_report.specs.Lines.{GrowsBy};
 ghost use Rattle.wl_serial.specs.Outcome.{outcome_of};
+ghost use Rattle.wl_trace.specs.Events.{noted};
+ghost use Rattle.wl_trace.specs.Synced.{with_next};
 ghost use Rattle.wl_views.specs.Sent.{by_tick};
 ghost use Rattle.wl_views.specs.Trace.{all_told, error_kind_word, event_text, events_at_end, field_word, flag_word, line_start, place_text, sample_words, syncs_at_end, told_at_end, told_by, trace_line, trace_text};
 
 use crate::dump::name_of;
-use crate::seen::levels_seen;
+use crate::watched::Watched;
 use std::alloc::{AllocError, Global};
 use wl_clock::Clock;
 use wl_confine::{Counters, ErrorKind};
@@ -16,7 +18,7 @@ use wl_plan::Plan;
 use wl_report::{mode_word, push_content};
 use wl_serial::Outcome;
 use wl_setup::Names;
-use wl_trace::{Event, FlagForm, FrameField, Noted, Place, node_events, node_syncs};
+use wl_trace::{Event, FlagForm, FrameField, Noted, Place, node_events};
 
 /// The word of a field.
 fn field_word(field: FrameField) -> &'static str
@@ -183,7 +185,29 @@ fn push_told(
     Ok(())
 }
 
-/// How node `i` was synchronised.
+/// Adds an event at this quantum.
+fn push_noted(events: &mut Vec<Noted>, quantum: u64, bit: u64, event: Event) -> Result<(), AllocError>
+    ensures { OnOk result (events.new.items ≡ events.old.items ++ noted quantum bit event ∷ []) }
+{
+    events.push(Noted {
+        quantum,
+        bit,
+        event,
+    })?;
+    Ok(())
+}
+
+/// Adds a synchronisation, if there is one.
+fn push_sync(syncs: &mut Vec<Noted>, sync: Option<Noted>) -> Result<(), AllocError>
+    ensures { OnOk result (syncs.new.items ≡ with_next syncs.old.items sync) }
+{
+    match sync {
+        Some(one) => push_noted(syncs, one.quantum, one.bit, one.event),
+        None => Ok(()),
+    }
+}
+
+/// How node `i` was synchronised: it runs again up to the end.
 fn syncs_at_end(
     alloc: Global,
     plan: &Plan,
@@ -197,9 +221,15 @@ fn syncs_at_end(
 {
     wl_plan::checked_is_sound();
     wl_plan::simulation_laws();
-    wl_trace::trace_laws();
-    let levels = levels_seen(alloc, plan, outcome, i)?;
-    node_syncs(alloc, &plan.nodes.as_slice()[i], &levels)
+    let mut node = Watched::new(plan, i);
+    let mut syncs = Vec::new(alloc);
+    let mut t = 0;
+    while t < plan.end {
+        let sync = node.go(plan, outcome, i, t);
+        push_sync(&mut syncs, sync)?;
+        t = node.until();
+    }
+    Ok(syncs)
 }
 
 /// What the samples of node `i` did.

@@ -1,6 +1,7 @@
 //! What is known of a node's signals from a tick on: the node runs again beside the line, and takes no memory.
 ghost use Rattle.std.specs.Prelude.{◌≡◌, ℕ, ◌||◌, ◌+◌, ◌-◌, ◌<◌, ◌≤◌, ◌^◌, List, length};
 ghost use Rattle.wl_level.specs.declared.Level.{Level};
+ghost use Rattle.wl_level.specs.Levels.{level_of};
 ghost use Rattle.wl_topology.specs.Limits.{longest_delay};
 ghost use Rattle.wl_node.specs.declared.setup.NodeSetup.{NodeSetup};
 ghost use Rattle.wl_plan.specs.declared.plan.Plan.{Plan};
@@ -12,16 +13,17 @@ ghost use Rattle.wl_plan.specs.Simulation.{level};
 ghost use Rattle.wl_serial.specs.Outcome.{outcome_of};
 ghost use Rattle.wl_trace.specs.Rerun.{IsRerun};
 ghost use Rattle.wl_trace.specs.Shown.{shown_of};
-ghost use Rattle.wl_views.specs.Held.{Awaits, HasSeen, Hears, Holds, Remembers, Watches, heard_until, next_of, signals_by, stays_until};
+ghost use Rattle.wl_trace.specs.Synced.{with_next};
+ghost use Rattle.wl_views.specs.Held.{Awaits, HasSeen, Hears, Holds, Remembers, Watches, heard_until, next_of, signals_by, stays_until, syncs_then};
 
 use crate::held::Held;
-use crate::seen::level_of;
 use crate::signals::{NodeSignals, disturbed, driven};
 use wl_clock::Clock;
+use wl_level::Level;
 use wl_plan::Plan;
 use wl_serial::Outcome;
 use wl_topology::MOST_NODES;
-use wl_trace::Rerun;
+use wl_trace::{Noted, Rerun};
 
 /// What is known of a node's signals from a tick on.
 #[derive(Drop)]
@@ -40,6 +42,17 @@ pub(crate) struct Watched {
     pub(crate) next: u64,
 }
 
+/// The level of a line that is dominant, or isn't.
+fn level_of(dominant: bool) -> Level
+    ensures { result ≡ level_of dominant }
+{
+    if dominant {
+        Level::Dominant
+    } else {
+        Level::Recessive
+    }
+}
+
 /// The tick of this quantum where it is before the end, and else the last of all ticks.
 fn next_tick(clock: &Clock, end: u64, quantum: u64) -> u64
     requires { quantum ≤ 2 ^ 21 }
@@ -55,6 +68,7 @@ impl Watched {
         requires node { i < length plan.now.nodes }
         ensures remembers { Remembers plan.now i 0 result }
         ensures awaits { Awaits plan.now i 0 result }
+        ensures quanta { result.quanta ≡ 0 }
     {
         let none = Held {
             value: false,
@@ -105,19 +119,21 @@ impl Watched {
         self.line().until.min(self.next)
     }
 
-    /// Goes on to tick `t`.
-    pub(crate) fn go(&mut self, plan: &Plan, outcome: &Outcome, i: usize, t: u64)
+    /// Goes on to tick `t`. How an edge synchronises the node from the tick at which it was up to this one, if one does.
+    pub(crate) fn go(&mut self, plan: &Plan, outcome: &Outcome, i: usize, t: u64) -> Option<Noted>
         requires checked { IsChecked plan.now }
         requires outcome { outcome.now ≡ outcome_of plan.now }
         requires node { i < length plan.now.nodes }
         requires early { t ≤ latest_end }
         requires remembers { Remembers plan.now i t self.old }
         requires awaits { Awaits plan.now i t self.old }
-        ensures { Watches plan.now i t self.new }
+        ensures watches { Watches plan.now i t self.new }
+        ensures syncs { syncs_then plan.now i self.new.quanta ≡ with_next (syncs_then plan.now i self.old.quanta) result }
     {
         self.hear(plan, outcome, i, t);
-        self.see(plan, i, t);
+        let sync = self.see(plan, i, t);
         self.pass(plan, i, t);
+        sync
     }
 
     /// Asks anew for cable and disturbances where what was known of them has run out.
@@ -140,8 +156,8 @@ impl Watched {
         }
     }
 
-    /// Sees the quantum of tick `t`, if one begins then.
-    fn see(&mut self, plan: &Plan, i: usize, t: u64)
+    /// Sees the quantum of tick `t`, if one begins then. How an edge synchronises the node there, if one does.
+    fn see(&mut self, plan: &Plan, i: usize, t: u64) -> Option<Noted>
         requires checked { IsChecked plan.now }
         requires node { i < length plan.now.nodes }
         requires early { t ≤ latest_end }
@@ -149,15 +165,18 @@ impl Watched {
         requires awaits { Awaits plan.now i t self.old }
         ensures seen { HasSeen plan.now i t self.new }
         ensures hears { Hears plan.now i t self.new }
+        ensures syncs { syncs_then plan.now i self.new.quanta ≡ with_next (syncs_then plan.now i self.old.quanta) result }
     {
         wl_plan::checked_is_sound();
         wl_plan::simulation_laws();
-        if self.next == t {
-            let queue = plan.nodes.as_slice()[i].queue.as_slice();
-            let level = level_of(self.line().value);
-            self.node.quantum(queue, self.quanta, level);
-            self.quanta += 1;
+        if self.next != t {
+            return None;
         }
+        let queue = plan.nodes.as_slice()[i].queue.as_slice();
+        let level = level_of(self.line().value);
+        let sync = self.node.quantum(queue, self.quanta, level);
+        self.quanta += 1;
+        sync
     }
 
     /// Sees those after tick `t` that neither sample nor begin a bit, as long as the line stays.
@@ -167,7 +186,8 @@ impl Watched {
         requires early { t ≤ latest_end }
         requires hears { Hears plan.now i t self.old }
         requires seen { HasSeen plan.now i t self.old }
-        ensures { Watches plan.now i t self.new }
+        ensures watches { Watches plan.now i t self.new }
+        ensures syncs { syncs_then plan.now i self.new.quanta ≡ syncs_then plan.now i self.old.quanta }
     {
         wl_plan::checked_is_sound();
         wl_plan::simulation_laws();

@@ -41,7 +41,7 @@ returns-clause-lines c =
     said c.checked_is_sound.ensures c.simulation_laws.ensures plan c.requires.checked i c.requires.node (t - 1) c.args.known.now c.signals-was.result c.requires.was c.signals-was.ensures
     in
     let is : c.signals.result ≡ node_signals plan t i =
-    said c.checked_is_sound.ensures c.simulation_laws.ensures plan c.requires.checked i c.requires.node t c.go.new.self c.signals.result c.go.ensures c.signals.ensures
+    said c.checked_is_sound.ensures c.simulation_laws.ensures plan c.requires.checked i c.requires.node t c.go.new.self c.signals.result c.go.ensures.watches c.signals.ensures
     in
     c.push_node_changes.ensures.lines ∙ ap₂ (λ x y. c.args.text.now.items ++ node_changes i x y) was is
 

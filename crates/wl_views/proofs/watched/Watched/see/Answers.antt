@@ -10,16 +10,18 @@ use Rattle.wl_plan.specs.Line.{found}
 use Rattle.wl_plan.specs.PlanLine.{line_of, setup_at}
 use Rattle.wl_plan.specs.Simulation.{level, seen}
 use Rattle.wl_trace.specs.Rerun.{IsRerun}
+use Rattle.wl_trace.specs.Synced.{syncs_of, with_next}
+use Rattle.wl_trace.proofs.Callers.{syncs_more}
 use Rattle.wl_views.proofs.Going.{next_after, next_now, setup_is}
 use Rattle.wl_views.proofs.Seeing.{few_more, inside_more, seen_more}
 use Rattle.wl_views.proofs.watched.Watched.see.Goals as goal
 
-pub quantum-requires : goal.quantum-requires
-quantum-requires c =
+pub quantum-sync-requires : goal.quantum-sync-requires
+quantum-sync-requires c =
     let plan : Plan = c.args.plan.now in
     let i : ℕ = c.args.i in
     let k : ℕ = c.args.self.now.quanta in
-    let now = next_now c.checked_is_sound.ensures c.simulation_laws.ensures plan c.requires.checked i c.requires.node k c.args.t c.requires.early (sym c.requires.awaits.next ∙ c.if-self-t.true) in
+    let now = next_now c.checked_is_sound.ensures c.simulation_laws.ensures plan c.requires.checked i c.requires.node k c.args.t c.requires.early (sym c.requires.awaits.next ∙ c.if-self-t.false) in
     let few = few_more c.checked_is_sound.ensures c.simulation_laws.ensures plan c.requires.checked i c.requires.node k (omega (arith, now.0, now.1)) in
     record { few = omega arith }
 
@@ -28,12 +30,12 @@ overflow_add-self c =
     let plan : Plan = c.args.plan.now in
     let i : ℕ = c.args.i in
     let k : ℕ = c.args.self.now.quanta in
-    let now = next_now c.checked_is_sound.ensures c.simulation_laws.ensures plan c.requires.checked i c.requires.node k c.args.t c.requires.early (sym c.requires.awaits.next ∙ c.if-self-t.true) in
+    let now = next_now c.checked_is_sound.ensures c.simulation_laws.ensures plan c.requires.checked i c.requires.node k c.args.t c.requires.early (sym c.requires.awaits.next ∙ c.if-self-t.false) in
     let few = few_more c.checked_is_sound.ensures c.simulation_laws.ensures plan c.requires.checked i c.requires.node k (omega (arith, now.0, now.1)) in
     omega arith
 
-pub returns-then-self-t-clause-seen : goal.returns-then-self-t-clause-seen
-returns-then-self-t-clause-seen c =
+pub returns-clause-seen : goal.returns-clause-seen
+returns-clause-seen c =
     let plan : Plan = c.args.plan.now in
     let i : ℕ = c.args.i in
     let k : ℕ = c.args.self.now.quanta in
@@ -41,7 +43,7 @@ returns-then-self-t-clause-seen c =
     let b = c.requires.node in
     let old = c.requires.awaits in
     let setup = setup_is plan c.as_slice.result.now i c.index-as_slice-i.result c.as_slice.ensures b in
-    let now = next_now c.checked_is_sound.ensures c.simulation_laws.ensures plan c.requires.checked i b k t c.requires.early (sym old.next ∙ c.if-self-t.true) in
+    let now = next_now c.checked_is_sound.ensures c.simulation_laws.ensures plan c.requires.checked i b k t c.requires.early (sym old.next ∙ c.if-self-t.false) in
     let begins : tick_of (setup_at plan i).clock k ≡ t = now.0 in
     let early : tick_of (setup_at plan i).clock k < plan.end = omega (arith, now.0, now.1) in
     let line = c.line.ensures.holds plan i t c.requires.hears in
@@ -55,8 +57,8 @@ returns-then-self-t-clause-seen c =
     record {
       runs = record {
         node =
-            subst (λ (ls : List Level). IsRerun (setup_at plan i) ls c.quantum.new.self) sees
-            (c.quantum.ensures (setup_at plan i) (seen (line_of plan) i k) (sym (c.as_slice-queue.ensures ∙ ap (λ (s : NodeSetup). s.queue) setup))
+            subst (λ (ls : List Level). IsRerun (setup_at plan i) ls c.quantum-sync.new.self) sees
+            (c.quantum-sync.ensures.run (setup_at plan i) (seen (line_of plan) i k) (sym (c.as_slice-queue.ensures ∙ ap (λ (s : NodeSetup). s.queue) setup))
             (c.simulation_laws.ensures.length_seen (line_of plan) i k) old.runs.node);
         inside = inside_more c.checked_is_sound.ensures c.simulation_laws.ensures plan c.requires.checked i b k old.runs.inside early;
       };
@@ -66,3 +68,25 @@ returns-then-self-t-clause-seen c =
       ];
       later = next_after c.checked_is_sound.ensures c.simulation_laws.ensures plan c.requires.checked i b k t c.requires.early begins;
     }
+
+pub returns-clause-syncs : goal.returns-clause-syncs
+returns-clause-syncs c =
+    let plan : Plan = c.args.plan.now in
+    let i : ℕ = c.args.i in
+    let k : ℕ = c.args.self.now.quanta in
+    let t : ℕ = c.args.t in
+    let b = c.requires.node in
+    let old = c.requires.awaits in
+    let now = next_now c.checked_is_sound.ensures c.simulation_laws.ensures plan c.requires.checked i b k t c.requires.early (sym old.next ∙ c.if-self-t.false) in
+    let begins : tick_of (setup_at plan i).clock k ≡ t = now.0 in
+    let line = c.line.ensures.holds plan i t c.requires.hears in
+    let is : found (line_of plan) (level (line_of plan)) i (tick_of (setup_at plan i).clock k) ≡ c.line.result.value =
+    ap (found (line_of plan) (level (line_of plan)) i) begins ∙ line.same t (omega arith) line.later
+    in
+    let l : Level = c.level_of-level.result in
+    let levels : List Level = seen (line_of plan) i k in
+    ap (syncs_of (setup_at plan i)) (seen_more c.checked_is_sound.ensures c.simulation_laws.ensures plan c.requires.checked i b k
+    ∙ ap (λ (x : Level). levels ++ x ∷ []) (ap level_of is ∙ sym c.level_of-level.ensures))
+    ∙ syncs_more (setup_at plan i) levels l
+    ∙ ap (with_next (syncs_of (setup_at plan i) levels))
+    (sym (c.quantum-sync.ensures.sync (setup_at plan i) levels (c.simulation_laws.ensures.length_seen (line_of plan) i k) old.runs.node))
