@@ -18,7 +18,7 @@ starts_with beats.Plain n = n
 starts_with (beats.Sample _) n = n
 
 -- all but the bit clock is that of this history, in which so many bits have begun
-pub record HasRun (kept : Rerun) (h : History) (starts : ℕ) : Type 0 where
+pub record RunsTo (kept : Rerun) (h : History) (starts : ℕ) : Type 0 where
   pub controller : IsController kept.controller (past_of h)
   pub drive : kept.drive ≡ h.drive
   pub bits : kept.bits ≡ length h.samples
@@ -28,6 +28,6 @@ pub record HasRun (kept : Rerun) (h : History) (starts : ℕ) : Type 0 where
 -- what is kept is that of a node of this setup that saw these levels; it sent no more frames, and had no more samples, than it saw quanta
 pub record IsRerun (setup : NodeSetup) (levels : List Level) (kept : Rerun) : Type 0 where
   pub clock : kept.clock ≡ clock_after setup.segments (history_of setup levels).seen
-  pub run : HasRun kept (history_of setup levels) (length (starts_of setup levels))
+  pub run : RunsTo kept (history_of setup levels) (length (starts_of setup levels))
   pub few : kept.controller.sent ≤ length levels
   pub fewer : kept.bits ≤ length levels

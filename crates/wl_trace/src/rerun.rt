@@ -4,7 +4,7 @@ ghost use Rattle.wl_level.specs.declared.Level.{Level};
 ghost use Rattle.wl_node.specs.declared.setup.NodeSetup.{NodeSetup};
 ghost use Rattle.wl_node.specs.History.{History, by_beat, history_of};
 ghost use Rattle.wl_trace.specs.Events.{noted};
-ghost use Rattle.wl_trace.specs.Rerun.{HasRun, IsRerun, starts_with};
+ghost use Rattle.wl_trace.specs.Rerun.{RunsTo, IsRerun, starts_with};
 ghost use Rattle.wl_trace.specs.Shown.{plain_quanta, shown_of};
 ghost use Rattle.wl_trace.specs.Synced.{sync_event, sync_next, syncs_of};
 
@@ -107,8 +107,8 @@ impl Rerun {
     /// What the quantum of this number does by its beat, where it is of this level.
     fn obey(&mut self, queue: &[Queued], quantum: u64, level: Level, beat: Beat)
         ensures run { (setup : NodeSetup) (h : History) (starts : ℕ) → setup.queue ≡ queue.now → quantum ≡ length h.seen
-            → self.old.controller.sent < 2 ^ 64 - 1 → self.old.bits < 2 ^ 64 - 1 → HasRun self.old h starts
-            → HasRun self.new (by_beat setup h level beat) (starts_with beat starts) }
+            → self.old.controller.sent < 2 ^ 64 - 1 → self.old.bits < 2 ^ 64 - 1 → RunsTo self.old h starts
+            → RunsTo self.new (by_beat setup h level beat) (starts_with beat starts) }
         ensures clock { self.new.clock ≡ self.old.clock }
         ensures sent { self.new.controller.sent ≤ self.old.controller.sent + 1 }
         ensures bits { self.new.bits ≤ self.old.bits + 1 }

@@ -15,7 +15,7 @@ use Rattle.wl_plan.specs.SimulationLaws.{SimulationLaws}
 use Rattle.wl_plan.specs.Checked.{IsChecked, CheckedIsSound}
 use Rattle.wl_trace.specs.Shown.{shown_of}
 use Rattle.wl_views.specs.declared.held.Held.{Held}
-use Rattle.wl_views.specs.Held.{Holds, next_of, no_tick}
+use Rattle.wl_views.specs.Held.{Lasts, next_of, no_tick}
 use Rattle.wl_views.specs.Signals.{shown_then}
 use Rattle.wl_views.proofs.InTime.{sound}
 use Rattle.wl_views.proofs.Seeing.{few_more, later, seen_more}
@@ -118,7 +118,7 @@ module _ (sounds : CheckedIsSound) (laws : SimulationLaws) (plan : Plan) (checke
   shown_ran u = ap (shown_of (setup_at plan i)) (laws.history_seen (line_of plan) i (suc u) (sound sounds laws plan checked).causal b)
 
   -- on a line that stays all quanta see the same
-  module _ (t : ℕ) (held : Held) (line : Holds (found (line_of plan) (level (line_of plan)) i) t held) (k : ℕ) where
+  module _ (t : ℕ) (held : Held) (line : Lasts (found (line_of plan) (level (line_of plan)) i) t held) (k : ℕ) where
     pub same_seen : (n : ℕ) → ((q : ℕ) → k ≤ q → q < k + n → (t ≤ at q) × (at q < held.until))
         → seen (line_of plan) i (k + n) ≡ seen (line_of plan) i k ++ replicate n (level_of held.value)
     same_seen zero during = ap (seen (line_of plan) i) {x = k + 0} {y = k} (omega arith) ∙ sym (append-nil (seen (line_of plan) i k))

@@ -13,7 +13,7 @@ use Rattle.wl_serial.specs.declared.outcome.NodeOutcome.{NodeOutcome}
 use Rattle.wl_serial.specs.declared.outcome.Outcome.{Outcome}
 use Rattle.wl_serial.specs.Outcome.{node_outcome_of, outcome_of}
 use Rattle.wl_views.specs.declared.held.Held.{Held}
-use Rattle.wl_views.specs.Held.{Holds, turned_at}
+use Rattle.wl_views.specs.Held.{Lasts, turned_at}
 use Rattle.wl_views.specs.Signals.{shown_then}
 use Rattle.wl_level.specs.declared.Level.{Level}
 use Rattle.wl_level.specs.Levels.{is_dominant}
@@ -38,8 +38,8 @@ module _ (laws : SimulationLaws) (plan : Plan) (sound : IsSound (line_of plan)) 
       (ap (λ n. odd (count_below n (table_of plan i))) (add-one (u - delay)) ∙ sym (laws.level_odd (line_of plan) i (u - delay) sound.causal b))
 
   -- one node more
-  pub driven_more : (j t delay : ℕ) (ticks : List ℕ) (from : Held) → delay ≡ delay_of plan.topology i j → ticks ≡ table_of plan i → Holds (turned_at delay ticks) t from
-      → Holds (λ u. nat_le (delay_of plan.topology i j) u && level (line_of plan) i (u - delay_of plan.topology i j)) t from
+  pub driven_more : (j t delay : ℕ) (ticks : List ℕ) (from : Held) → delay ≡ delay_of plan.topology i j → ticks ≡ table_of plan i → Lasts (turned_at delay ticks) t from
+      → Lasts (λ u. nat_le (delay_of plan.topology i j) u && level (line_of plan) i (u - delay_of plan.topology i j)) t from
   driven_more j t delay ticks from is are h =
       holds_as (turned_at delay ticks) (λ u. nat_le (delay_of plan.topology i j) u && level (line_of plan) i (u - delay_of plan.topology i j)) t from
       (λ u. ap₂ (λ d xs. turned_at d xs u) is are ∙ came (delay_of plan.topology i j) u) h

@@ -7,8 +7,7 @@ use Rattle.wl_clock.specs.Timing.{tick_of}
 use Rattle.wl_plan.specs.declared.plan.Plan.{Plan}
 use Rattle.wl_plan.specs.PlanLine.{line_of, setup_at}
 use Rattle.wl_plan.specs.Limits.{most_quanta}
-use Rattle.wl_plan.specs.Simulation.{AreInside, history, ran}
-use Rattle.wl_node.specs.Limits.{most_run_quanta}
+use Rattle.wl_plan.specs.Simulation.{history}
 use Rattle.wl_plan.specs.SimulationLaws.{SimulationLaws}
 use Rattle.wl_plan.specs.Checked.{IsChecked, CheckedIsSound}
 use Rattle.wl_trace.specs.declared.event.Noted.{Noted}

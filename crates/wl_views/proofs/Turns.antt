@@ -6,7 +6,7 @@ use Rattle.wl_record_core.specs.Truth.{count_below, odd, IsIncreasing}
 use Rattle.wl_record_core.specs.TableLaws.{TableLaws}
 use Rattle.wl_record_core.proofs.Callers.{reached, not_reached, odd_is}
 use Rattle.wl_views.specs.declared.held.Held.{Held}
-use Rattle.wl_views.specs.Held.{Holds, turned_at}
+use Rattle.wl_views.specs.Held.{Lasts, turned_at}
 
 -- as many have come until the next one comes
 stays : TableLaws → (ticks : List ℕ) (delay t u until count : ℕ) → IsIncreasing ticks → delay ≤ t → t ≤ u → u < until
@@ -19,7 +19,7 @@ stays laws ticks delay t u until count inc low later before is next =
       | inr outside ↦ (let m = count_by-le-length (λ v. nat_lt v (u - delay + 1)) ticks in omega arith)
     ]
 
-pub before_all : (ticks : List ℕ) (delay t : ℕ) → t < delay → Holds (turned_at delay ticks) t (record { value = false; until = delay })
+pub before_all : (ticks : List ℕ) (delay t : ℕ) → t < delay → Lasts (turned_at delay ticks) t (record { value = false; until = delay })
 before_all ticks delay t early = record {
   later = early;
   same = λ u from below. ap (λ v. v && odd (count_below (u - delay + 1) ticks)) (lt-leb delay u below);
@@ -27,7 +27,7 @@ before_all ticks delay t early = record {
 
 pub from_here : TableLaws → (ticks : List ℕ) (delay t until count : ℕ) → IsIncreasing ticks → delay ≤ t → t < until
     → count ≡ count_below (t - delay + 1) ticks → (count < length ticks → until ≤ get_or ticks count 0 + delay)
-    → Holds (turned_at delay ticks) t (record { value = count % 2 == 1; until = until })
+    → Lasts (turned_at delay ticks) t (record { value = count % 2 == 1; until = until })
 from_here laws ticks delay t until count inc low later is next = record {
   later = later;
   same = λ u from below.
@@ -45,8 +45,8 @@ comes_later laws ticks delay t count inc low is inside =
     ]
 
 -- values that are always the same
-pub holds_as : (f g : ℕ → Bool) (t : ℕ) (held : Held) → ((u : ℕ) → f u ≡ g u) → Holds f t held → Holds g t held
+pub holds_as : (f g : ℕ → Bool) (t : ℕ) (held : Held) → ((u : ℕ) → f u ≡ g u) → Lasts f t held → Lasts g t held
 holds_as f g t held same h = record { later = h.later; same = λ u from below. sym (same u) ∙ h.same u from below }
 
-pub never : (t until : ℕ) → t < until → Holds (λ u. false) t (record { value = false; until = until })
+pub never : (t until : ℕ) → t < until → Lasts (λ u. false) t (record { value = false; until = until })
 never t until h = record { later = h; same = λ u from below. refl }

@@ -21,7 +21,7 @@ use Rattle.wl_trace.specs.Shown.{shown_of}
 use Rattle.wl_views.specs.declared.held.Held.{Held}
 use Rattle.wl_views.specs.declared.signals.NodeSignals.{NodeSignals}
 use Rattle.wl_views.specs.declared.watched.Watched.{Watched}
-use Rattle.wl_views.specs.Held.{Awaits, Hears, Holds, Remembers, Watches, heard_until, signals_by, stays_until}
+use Rattle.wl_views.specs.Held.{Awaits, Hears, Lasts, Remembers, Watches, heard_until, signals_by}
 use Rattle.wl_views.specs.Signals.{node_signals, shown_then, signals}
 use Rattle.wl_views.specs.Vcd.{changes_from, node_changes}
 use Rattle.wl_clock.specs.Timing.{tick_of}
@@ -32,7 +32,7 @@ use Rattle.wl_views.proofs.Walk.{changed_more}
 abbrev pub low : NodeSignals
 low = record { tx = false; rx = false; cable = false; disturbance = false; sample = false; start = false; state = record { tec = 0; rec = 0; mode = Active; doing = Integrating } }
 
-narrow : (f : ℕ → Bool) (t u : ℕ) (held : Held) → Holds f t held → t ≤ u → u < held.until → Holds f u held
+narrow : (f : ℕ → Bool) (t u : ℕ) (held : Held) → Lasts f t held → t ≤ u → u < held.until → Lasts f u held
 narrow f t u held h from below = record { later = below; same = λ v more less. h.same v (omega arith) less }
 
 hears_on : (plan : Plan) (i t u : ℕ) (w : Watched) → Hears plan i t w → t ≤ u → u < heard_until w → Hears plan i u w
@@ -42,22 +42,24 @@ hears_on plan i t u w h from below = record {
 }
 
 -- what is known goes on as long as it stays
-pub on : (plan : Plan) (i t u : ℕ) (w : Watched) → Watches plan i t w → t ≤ u → u < stays_until w → Watches plan i u w
+pub on : (plan : Plan) (i t u : ℕ) (w : Watched) → Watches plan i t w → t ≤ u → u < w.until → Watches plan i u w
 on plan i t u w h from below = record {
   runs = h.runs;
-  hears = hears_on plan i t u w h.hears from (omega arith);
+  hears = hears_on plan i t u w h.hears from (omega (arith, h.until));
   next = h.next;
   before = h.before;
-  later = omega arith;
+  later = omega (arith, h.until);
+  until = h.until;
   same = λ v more less. h.same v (omega arith) less;
 }
 
 module _ (sounds : CheckedIsSound) (laws : SimulationLaws) (plan : Plan) (checked : IsChecked plan) (i : ℕ) (b : i < length plan.nodes) where
-  pub stays : (t u : ℕ) (w : Watched) → Watches plan i t w → t ≤ u → u < stays_until w
+  pub stays : (t u : ℕ) (w : Watched) → Watches plan i t w → t ≤ u → u < w.until
       → node_signals plan u i ≡ signals_by (shown_of (setup_at plan i) (seen (line_of plan) i w.quanta)) w.cable.value w.disturbance.value
   unfolding node_signals
   stays t u w h from below =
       let same : shown_then plan i u ≡ shown_of (setup_at plan i) (seen (line_of plan) i w.quanta) = h.same u from below in
+      let e = h.until in
       λ x. record {
         tx = ap not (driven_then sounds laws plan checked i b u ∙ ap (λ (s : Shown). is_dominant s.drive) same) x;
         rx = ap₂ (λ d e. not (d || e)) (h.hears.cable.same u from (omega arith)) (h.hears.disturbance.same u from (omega arith)) x;
@@ -74,6 +76,7 @@ module _ (sounds : CheckedIsSound) (laws : SimulationLaws) (plan : Plan) (checke
       let p = h.hears.cable.later in
       let r = h.hears.disturbance.later in
       let q = h.later in
+      let e = h.until in
       stays t t w h (omega arith) (omega arith)
 
   -- what a watched node says is its signals
@@ -82,11 +85,11 @@ module _ (sounds : CheckedIsSound) (laws : SimulationLaws) (plan : Plan) (checke
   said t w s h is = is (setup_at plan i) (seen (line_of plan) i w.quanta) h.runs.node ∙ sym (now t w h)
 
   -- what it has seen began before the line changes, and before its next quantum
-  begun_before : (t : ℕ) (w : Watched) → 0 < t → Watches plan i (t - 1) w → stays_until w ≤ t → (k : ℕ) → k < w.quanta → tick_of (setup_at plan i).clock k < t
+  begun_before : (t : ℕ) (w : Watched) → 0 < t → Watches plan i (t - 1) w → w.until ≤ t → (k : ℕ) → k < w.quanta → tick_of (setup_at plan i).clock k < t
   begun_before t w some h past k less = elim (cases_lt (heard_until w) (t + 1)) [
     | inl run_out ↦ (let m = h.before k less in omega arith)
     | inr stays ↦
-        (let e : w.next ≡ t = (let q = h.later in omega arith) in
+        (let e : w.next ≡ t = (let q = h.later in let m = h.until in omega arith) in
         let m = begun_earlier sounds laws plan checked i b k w.quanta less (h.runs.inside k less) in
         let n = h.next in omega arith)
   ]
@@ -98,9 +101,10 @@ module _ (sounds : CheckedIsSound) (laws : SimulationLaws) (plan : Plan) (checke
   }
 
   -- where what is known runs out, it is for the line or for the next quantum: all that began before was seen
-  pub awaited : (t : ℕ) (w : Watched) → 0 < t → Watches plan i (t - 1) w → stays_until w ≤ t → Awaits plan i t w
+  pub awaited : (t : ℕ) (w : Watched) → 0 < t → Watches plan i (t - 1) w → w.until ≤ t → Awaits plan i t w
   awaited t w some h past =
       let q = h.later in
+      let e = h.until in
       record {
         runs = h.runs;
         next = h.next;

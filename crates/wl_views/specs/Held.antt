@@ -17,7 +17,7 @@ use Rattle.wl_views.specs.declared.watched.Watched.{Watched}
 use Rattle.wl_views.specs.Signals.{driven_at, shown_then}
 
 -- from tick t up to another one a value is this one
-pub record Holds (f : ℕ → Bool) (t : ℕ) (held : Held) : Type 0 where
+pub record Lasts (f : ℕ → Bool) (t : ℕ) (held : Held) : Type 0 where
   pub later : t < held.until
   pub same : (u : ℕ) → t ≤ u → u < held.until → f u ≡ held.value
 
@@ -57,19 +57,15 @@ signals_by shown driven disturbed = record {
 abbrev pub heard_until : Watched → ℕ
 heard_until w = min w.cable.until w.disturbance.until
 
--- and no quantum comes that isn't seen
-abbrev pub stays_until : Watched → ℕ
-stays_until w = min (heard_until w) w.next
-
 -- from tick t on cable and disturbances are these
 pub record Hears (plan : Plan) (i t : ℕ) (w : Watched) : Type 0 where
-  pub cable : Holds (driven_at plan i) t w.cable
-  pub disturbance : Holds (disturbed plan i) t w.disturbance
+  pub cable : Lasts (driven_at plan i) t w.cable
+  pub disturbance : Lasts (disturbed plan i) t w.disturbance
 
 -- and so is that of them which hasn't run out at tick t
 pub record Remembers (plan : Plan) (i t : ℕ) (w : Watched) : Type 0 where
-  pub cable : t < w.cable.until → Holds (driven_at plan i) t w.cable
-  pub disturbance : t < w.disturbance.until → Holds (disturbed plan i) t w.disturbance
+  pub cable : t < w.cable.until → Lasts (driven_at plan i) t w.cable
+  pub disturbance : t < w.disturbance.until → Lasts (disturbed plan i) t w.disturbance
 
 -- how edges synchronised node i in its first k quanta
 abbrev pub syncs_then : Plan → ℕ → ℕ → List Noted
@@ -88,7 +84,7 @@ pub record Awaits (plan : Plan) (i t : ℕ) (w : Watched) : Type 0 where
   pub here : t ≤ w.next
 
 -- those that begin up to tick t
-pub record HasSeen (plan : Plan) (i t : ℕ) (w : Watched) : Type 0 where
+pub record SawUpTo (plan : Plan) (i t : ℕ) (w : Watched) : Type 0 where
   pub runs : Runs plan i w
   pub before : (q : ℕ) → q < w.quanta → tick_of (setup_at plan i).clock q ≤ t
   pub later : t < next_of (setup_at plan i).clock plan.end w.quanta
@@ -100,7 +96,8 @@ pub record Watches (plan : Plan) (i t : ℕ) (w : Watched) : Type 0 where
   pub next : w.next ≡ next_of (setup_at plan i).clock plan.end w.quanta
   pub before : (q : ℕ) → q < w.quanta → tick_of (setup_at plan i).clock q < heard_until w
   pub later : t < w.next
-  pub same : (u : ℕ) → t ≤ u → u < stays_until w → shown_then plan i u ≡ shown_of (setup_at plan i) (seen (line_of plan) i w.quanta)
+  pub until : w.until ≡ min (heard_until w) w.next
+  pub same : (u : ℕ) → t ≤ u → u < w.until → shown_then plan i u ≡ shown_of (setup_at plan i) (seen (line_of plan) i w.quanta)
 
 -- that of all nodes
 pub record AllWatched (plan : Plan) (t : ℕ) (all : List Watched) : Type 0 where

@@ -1,6 +1,6 @@
 //! Values that stay for some ticks.
 ghost use Rattle.std.specs.Prelude.{◌≡◌, ℕ, ◌||◌, false, min, Bool};
-ghost use Rattle.wl_views.specs.Held.{Holds};
+ghost use Rattle.wl_views.specs.Held.{Lasts};
 
 /// A value at a tick, and a later tick up to which it stays.
 #[derive(Clone, Copy)]
@@ -14,7 +14,8 @@ pub(crate) struct Held {
 impl Held {
     /// Whether this or another value is true, for as long as both stay.
     pub(crate) fn or(self, other: Held) -> Held
-        ensures both { (f g : ℕ → Bool) (t : ℕ) → Holds f t self → Holds g t other → Holds (λ u. f u || g u) t result }
+        ensures both { (f g : ℕ → Bool) (t : ℕ) → Lasts f t self → Lasts g t other
+            → Lasts (λ u. f u || g u) t result }
         ensures value { result.value ≡ (self.value || other.value) }
         ensures until { result.until ≡ min self.until other.until }
     {

@@ -10,7 +10,7 @@ ghost use Rattle.wl_plan.specs.Line.{found};
 ghost use Rattle.wl_plan.specs.PlanLine.{disturbed, is_at, line_of};
 ghost use Rattle.wl_plan.specs.Simulation.{level};
 ghost use Rattle.wl_serial.specs.Outcome.{outcome_of};
-ghost use Rattle.wl_views.specs.Held.{AllWatched, Holds, Remembers, Watches, stays_until};
+ghost use Rattle.wl_views.specs.Held.{AllWatched, Lasts, Watches};
 ghost use Rattle.wl_views.specs.Signals.{driven_at, node_signals, signals};
 ghost use Rattle.wl_views.specs.Vcd.{changes_from, node_changes};
 
@@ -55,7 +55,7 @@ pub(crate) fn driven(
     requires outcome { outcome.now ≡ outcome_of plan.now }
     requires node { j < length plan.now.nodes }
     requires early { t ≤ latest_end }
-    ensures { Holds (driven_at plan.now j) t result }
+    ensures { Lasts (driven_at plan.now j) t result }
 {
     wl_plan::checked_is_sound();
     wl_plan::simulation_laws();
@@ -79,7 +79,7 @@ fn disturbed_by(from: u64, to: u64, delay: u64, t: u64) -> Held
     requires early { t ≤ latest_end }
     requires ends { to ≤ latest_end }
     requires near { delay ≤ longest_delay }
-    ensures { Holds (λ u. nat_le (from + delay) u && nat_lt u (to + delay)) t result }
+    ensures { Lasts (λ u. nat_le (from + delay) u && nat_lt u (to + delay)) t result }
 {
     let come = from + delay;
     let gone = to + delay;
@@ -106,7 +106,7 @@ pub(crate) fn disturbed(plan: &Plan, j: usize, t: u64) -> Held
     requires checked { IsChecked plan.now }
     requires node { j < length plan.now.nodes }
     requires early { t ≤ latest_end }
-    ensures { Holds (disturbed plan.now j) t result }
+    ensures { Lasts (disturbed plan.now j) t result }
 {
     let mut held = Held {
         value: false,
@@ -178,18 +178,17 @@ fn push_node(
         ++ node_changes i (node_signals plan.now (t - 1) i) (node_signals plan.now t i) }
     ensures grown { array_vec_len text.new ≤ array_vec_len text.old + 300 }
     ensures watches { Watches plan.now i t known.new }
-    ensures until { result ≡ stays_until known.new }
+    ensures until { result ≡ known.new.until }
 {
     wl_plan::checked_is_sound();
     wl_plan::simulation_laws();
-    let until = known.until();
-    if t < until {
-        return until;
+    if t < known.until {
+        return known.until;
     }
     let was = known.signals();
     let _ = known.go(plan, outcome, i, t);
     push_node_changes(text, i, was, known.signals());
-    known.until()
+    known.until
 }
 
 /// Adds those signals of all nodes that change at tick `t`, and answers a later tick up to which none of them changes again.

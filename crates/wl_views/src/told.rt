@@ -186,7 +186,12 @@ fn push_told(
 }
 
 /// Adds an event at this quantum.
-fn push_noted(events: &mut Vec<Noted>, quantum: u64, bit: u64, event: Event) -> Result<(), AllocError>
+fn push_noted(
+    events: &mut Vec<Noted>,
+    quantum: u64,
+    bit: u64,
+    event: Event,
+) -> Result<(), AllocError>
     ensures { OnOk result (events.new.items ≡ events.old.items ++ noted quantum bit event ∷ []) }
 {
     events.push(Noted {
@@ -227,7 +232,7 @@ fn syncs_at_end(
     while t < plan.end {
         let sync = node.go(plan, outcome, i, t);
         push_sync(&mut syncs, sync)?;
-        t = node.until();
+        t = node.until;
     }
     Ok(syncs)
 }

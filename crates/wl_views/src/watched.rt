@@ -14,7 +14,7 @@ ghost use Rattle.wl_serial.specs.Outcome.{outcome_of};
 ghost use Rattle.wl_trace.specs.Rerun.{IsRerun};
 ghost use Rattle.wl_trace.specs.Shown.{shown_of};
 ghost use Rattle.wl_trace.specs.Synced.{with_next};
-ghost use Rattle.wl_views.specs.Held.{Awaits, HasSeen, Hears, Holds, Remembers, Watches, heard_until, next_of, signals_by, stays_until, syncs_then};
+ghost use Rattle.wl_views.specs.Held.{Awaits, SawUpTo, Hears, Lasts, Remembers, Watches, heard_until, next_of, signals_by, syncs_then};
 
 use crate::held::Held;
 use crate::signals::{NodeSignals, disturbed, driven};
@@ -40,6 +40,8 @@ pub(crate) struct Watched {
     pub(crate) quanta: u64,
     /// The tick of its next quantum before the end, and the last of all ticks where there is none.
     pub(crate) next: u64,
+    /// Up to which tick the signals stay.
+    pub(crate) until: u64,
 }
 
 /// The level of a line that is dominant, or isn't.
@@ -82,6 +84,7 @@ impl Watched {
             node: Rerun::new(setup.segments),
             quanta: 0,
             next: next_tick(&setup.clock, plan.end, 0),
+            until: 0,
         }
     }
 
@@ -105,18 +108,11 @@ impl Watched {
     /// Whether it finds the line dominant, for as long as cable and disturbances stay.
     fn line(&self) -> Held
         ensures holds { (plan : Plan) (i t : ℕ) → Hears plan i t self.now
-            → Holds (found (line_of plan) (level (line_of plan)) i) t result }
+            → Lasts (found (line_of plan) (level (line_of plan)) i) t result }
         ensures value { result.value ≡ (self.now.cable.value || self.now.disturbance.value) }
         ensures until { result.until ≡ heard_until self.now }
     {
         self.cable.or(self.disturbance)
-    }
-
-    /// How long all of them stay.
-    pub(crate) fn until(&self) -> u64
-        ensures { result ≡ stays_until self.now }
-    {
-        self.line().until.min(self.next)
     }
 
     /// Goes on to tick `t`. How an edge synchronises the node from the tick at which it was up to this one, if one does.
@@ -163,7 +159,7 @@ impl Watched {
         requires early { t ≤ latest_end }
         requires hears { Hears plan.now i t self.old }
         requires awaits { Awaits plan.now i t self.old }
-        ensures seen { HasSeen plan.now i t self.new }
+        ensures seen { SawUpTo plan.now i t self.new }
         ensures hears { Hears plan.now i t self.new }
         ensures syncs { syncs_then plan.now i self.new.quanta ≡ with_next (syncs_then plan.now i self.old.quanta) result }
     {
@@ -185,7 +181,7 @@ impl Watched {
         requires node { i < length plan.now.nodes }
         requires early { t ≤ latest_end }
         requires hears { Hears plan.now i t self.old }
-        requires seen { HasSeen plan.now i t self.old }
+        requires seen { SawUpTo plan.now i t self.old }
         ensures watches { Watches plan.now i t self.new }
         ensures syncs { syncs_then plan.now i self.new.quanta ≡ syncs_then plan.now i self.old.quanta }
     {
@@ -197,5 +193,6 @@ impl Watched {
         let most = clock.first_not_before(until).saturating_sub(self.quanta);
         self.quanta += self.node.pass(level_of(line.value), most);
         self.next = next_tick(clock, plan.end, self.quanta);
+        self.until = line.until.min(self.next);
     }
 }

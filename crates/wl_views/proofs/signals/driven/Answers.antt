@@ -6,7 +6,7 @@ use Rattle.wl_record_core.specs.Truth.{IsIncreasing}
 use Rattle.wl_plan.specs.PlanLine.{line_of, table_of}
 use Rattle.wl_plan.specs.Simulation.{level}
 use Rattle.wl_serial.specs.declared.outcome.NodeOutcome.{NodeOutcome}
-use Rattle.wl_views.specs.Held.{Holds}
+use Rattle.wl_views.specs.Held.{Lasts}
 use Rattle.wl_views.proofs.SignalProofs.{driven_more, node_is, nodes_all}
 use Rattle.wl_views.proofs.Turns.{never}
 use Rattle.wl_views.proofs.signals.driven.Goals as goal
@@ -38,7 +38,7 @@ loop-i-preserved c =
     ∙ ap (λ (n : NodeOutcome). n.changes)
     (ap (λ (xs : List NodeOutcome). get_or xs c.loop-i.i c.index-nodes-i.result) c.as_slice-nodes.ensures ∙ node_is c.args.plan.now c.args.outcome.now c.loop-i.i c.index-nodes-i.result c.requires.outcome b)
     in
-    subst (λ n. Holds (driven n (delay_of c.args.plan.now.topology) (level (line_of c.args.plan.now)) c.args.j) c.args.t c.or-held.result) (sym (add-one c.loop-i.i))
+    subst (λ n. Lasts (driven n (delay_of c.args.plan.now.topology) (level (line_of c.args.plan.now)) c.args.j) c.args.t c.or-held.result) (sym (add-one c.loop-i.i))
     (c.or-held.ensures.both (driven c.loop-i.i (delay_of c.args.plan.now.topology) (level (line_of c.args.plan.now)) c.args.j)
     (λ u. nat_le (delay_of c.args.plan.now.topology c.loop-i.i c.args.j) u && level (line_of c.args.plan.now) c.loop-i.i (u - delay_of c.args.plan.now.topology c.loop-i.i c.args.j))
     c.args.t c.loop-i.invariant

@@ -2,7 +2,7 @@
 use Rattle.std.proofs.Common.{◌∙◌, ℕ, ◌-◌, ◌<◌, ◌≤◌, ◌++◌, length, take, get_or, ap, ap₂, sym, arith, append_assoc, length-set}
 use Rattle.std.proofs.lemmas.List.{take_all}
 use Rattle.wl_views.specs.declared.watched.Watched.{Watched}
-use Rattle.wl_views.specs.Held.{Watches, stays_until}
+use Rattle.wl_views.specs.Held.{Watches}
 use Rattle.wl_views.specs.Signals.{node_signals, signals}
 use Rattle.wl_views.specs.Vcd.{changes_from, node_changes}
 use Rattle.wl_views.proofs.Watching.{all_nodes, all_same, known_more, node_more, now, on, others_stay, some_of, stays}
@@ -22,6 +22,7 @@ loop-i-preserved c =
     let p = watches.hears.cable.later in
     let r = watches.hears.disturbance.later in
     let q = watches.later in
+    let e = watches.until in
     let inv = c.loop-i.invariant in
     let until = c.push_node-stays.ensures.until in
     record {
@@ -36,7 +37,7 @@ loop-i-preserved c =
       long = omega (arith, length-set c.loop-i.watched i c.push_node-stays.new.known);
       known = known_more (λ k w. Watches plan k t w) c.loop-i.watched i c.push_node-stays.new.known room inv.known watches;
       lasting =
-          known_more (λ k w. c.min-until.result ≤ stays_until w) c.loop-i.watched i c.push_node-stays.new.known room
+          known_more (λ k w. c.min-until.result ≤ w.until) c.loop-i.watched i c.push_node-stays.new.known room
           (λ k d h. let less = inv.lasting k d h in omega arith) (omega arith);
       others = others_stay (λ k w. Watches plan k (t - 1) w) c.loop-i.watched i (length plan.nodes) c.push_node-stays.new.known inv.others;
     }

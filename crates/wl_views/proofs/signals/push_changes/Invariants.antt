@@ -1,7 +1,7 @@
 use Rattle.std.proofs.Common.{◌≡◌, ℕ, ◌+◌, ◌-◌, ◌*◌, ◌<◌, ◌≤◌, ◌++◌, length, get_or, take}
 use Rattle.arrayvec.specs.ArrayVec.{array_vec_len}
 use Rattle.wl_views.specs.declared.watched.Watched.{Watched}
-use Rattle.wl_views.specs.Held.{Watches, stays_until}
+use Rattle.wl_views.specs.Held.{Watches}
 use Rattle.wl_views.specs.Signals.{signals}
 use Rattle.wl_views.specs.Vcd.{changes_from}
 use Rattle.wl_views.proofs.signals.push_changes.Given as goal
@@ -15,6 +15,6 @@ invariant-loop-i l = record {
   inside : l.until ≤ l.plan.end;
   long : length l.watched ≡ length l.plan.nodes;
   known : (k : ℕ) (d : Watched) → k < l.i → Watches l.plan k l.t (get_or l.watched k d);
-  lasting : (k : ℕ) (d : Watched) → k < l.i → l.until ≤ stays_until (get_or l.watched k d);
+  lasting : (k : ℕ) (d : Watched) → k < l.i → l.until ≤ (get_or l.watched k d).until;
   others : (k : ℕ) (d : Watched) → l.i ≤ k → k < length l.plan.nodes → Watches l.plan k (l.t - 1) (get_or l.watched k d);
 }

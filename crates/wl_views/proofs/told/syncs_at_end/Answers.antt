@@ -1,16 +1,15 @@
 -- Tick by tick of those at which something may change, up to the end.
-use Rattle.std.proofs.Common.{◌≡◌, ◌∙◌, ◌+◌, ◌-◌, ◌<◌, ◌≤◌, ap, sym, arith, inl, inr, cond, ℕ, Bool, List, []}
+use Rattle.std.proofs.Common.{◌≡◌, ◌∙◌, ◌-◌, ◌≤◌, ap, sym, arith, inl, inr, cond, ℕ, Bool, List, []}
 use Rattle.std.proofs.lemmas.Bool.{cases_lt, lt-ltb}
-use Rattle.wl_level.specs.declared.Level.{Level}
 use Rattle.wl_clock.specs.Timing.{tick_of}
 use Rattle.wl_plan.specs.declared.plan.Plan.{Plan}
-use Rattle.wl_plan.specs.PlanLine.{line_of, setup_at}
+use Rattle.wl_plan.specs.PlanLine.{setup_at}
 use Rattle.wl_plan.specs.Simulation.{seen}
 use Rattle.wl_trace.specs.declared.event.Noted.{Noted}
 use Rattle.wl_trace.specs.Synced.{syncs_of, with_next}
 use Rattle.wl_trace.proofs.Callers.{syncs_first}
 use Rattle.wl_views.specs.declared.watched.Watched.{Watched}
-use Rattle.wl_views.specs.Held.{Watches, no_tick, stays_until, syncs_then}
+use Rattle.wl_views.specs.Held.{Watches, no_tick, syncs_then}
 use Rattle.wl_views.proofs.Seeing.{all_seen}
 use Rattle.wl_views.proofs.Watching.{awaited, on, remembered}
 use Rattle.wl_views.proofs.told.syncs_at_end.Goals as goal
@@ -37,11 +36,11 @@ loop-t-preserved c =
     let p = watches.hears.cable.later in
     let q = watches.hears.disturbance.later in
     let r = watches.later in
-    let until = c.until-t.ensures in
-    let last : Watches plan i (c.until-t.result - 1) w = on plan i t (c.until-t.result - 1) w watches (omega arith) (omega arith) in
+    let until = watches.until in
+    let last : Watches plan i (w.until - 1) w = on plan i t (w.until - 1) w watches (omega arith) (omega arith) in
     record {
-      remembers = remembered c.checked_is_sound.ensures c.simulation_laws.ensures plan c.requires.checked i c.requires.node c.until-t.result w last;
-      awaits = awaited c.checked_is_sound.ensures c.simulation_laws.ensures plan c.requires.checked i c.requires.node c.until-t.result w (omega arith) last (omega arith);
+      remembers = remembered c.checked_is_sound.ensures c.simulation_laws.ensures plan c.requires.checked i c.requires.node w.until w last;
+      awaits = awaited c.checked_is_sound.ensures c.simulation_laws.ensures plan c.requires.checked i c.requires.node w.until w (omega arith) last (omega arith);
       syncs =
           c.in_ok-push_sync.ensures
           ∙ ap (λ (es : List Noted). with_next es c.go-sync.result) c.loop-t.invariant.syncs

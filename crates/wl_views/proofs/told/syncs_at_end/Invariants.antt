@@ -1,4 +1,4 @@
-use Rattle.std.proofs.Common.{◌≡◌, ◌-◌, ◌<◌}
+use Rattle.std.proofs.Common.{◌≡◌, ◌-◌}
 use Rattle.wl_views.specs.Held.{Awaits, Remembers, syncs_then}
 use Rattle.wl_views.proofs.told.syncs_at_end.Given as goal
 

@@ -8,7 +8,7 @@ use Rattle.wl_node.specs.History.{by_beat, is_sent, ready_head}
 use Rattle.wl_sync.specs.declared.Beat.{Beat}
 use Rattle.wl_trace.specs.Replay.{IsController, head_then, past_after, past_of}
 use Rattle.wl_trace.specs.declared.rerun.Rerun.{Rerun}
-use Rattle.wl_trace.specs.Rerun.{HasRun, starts_with}
+use Rattle.wl_trace.specs.Rerun.{RunsTo, starts_with}
 use Rattle.wl_trace.specs.Shown.{mark}
 use Rattle.wl_trace.proofs.rerun.Rerun.obey.Goals as goal
 
@@ -22,7 +22,7 @@ returns-in-Sample-clause-run c setup h starts q n few fewer r =
     let next : IsController c.sample.new.self (past_after setup (past_of h) (c.args.quantum, level)) = c.sample.ensures.past setup (past_of h) c.args.quantum ready few r.controller in
     let one : length (h.samples ++ (length h.seen, level) ∷ []) ≡ suc (length h.samples) = (let e = length-append h.samples ((length h.seen, level) ∷ []) in omega arith) in
     let kept : Rerun = record c.args.self.now { controller = c.sample.new.self; bits = c.saturating_add-self.result; sampled = not c.args.self.now.sampled } in
-    subst (λ (b : Beat). HasRun kept (by_beat setup h level b) (starts_with b starts)) (sym c.in-Sample.is)
+    subst (λ (b : Beat). RunsTo kept (by_beat setup h level b) (starts_with b starts)) (sym c.in-Sample.is)
     (record {
       controller = subst (λ (k : ℕ). IsController c.sample.new.self (past_after setup (past_of h) (k, level))) n next;
       drive = r.drive;

@@ -10,7 +10,7 @@ use Rattle.wl_sync.specs.Running.{clock_after}
 use Rattle.wl_node.specs.History.{History, by_beat, history_after, history_of, seen_next}
 use Rattle.wl_trace.specs.Events.{noted}
 use Rattle.wl_trace.specs.Synced.{sync_event}
-use Rattle.wl_trace.specs.Rerun.{HasRun, starts_with}
+use Rattle.wl_trace.specs.Rerun.{RunsTo, starts_with}
 use Rattle.wl_trace.specs.Starts.{is_start, starts_of, with_start}
 use Rattle.wl_trace.proofs.Starting.{seen_is, starts_more}
 use Rattle.wl_trace.proofs.Syncing.{all_seen, history_more}
@@ -37,10 +37,10 @@ returns-clause-run c setup levels q n r =
     let size = length-append levels (level ∷ []) in
     let begun : starts_with (beat_of setup.segments h.seen x) (length (starts_of setup levels)) ≡ length (starts_of setup (levels ++ level ∷ [])) =
     sym (counted (starts_of setup levels) (length h.seen) (beat_of setup.segments h.seen x)) ∙ ap (λ (qs : List ℕ). length qs) (sym (starts_more setup levels level)) in
-    let ran : HasRun c.obey.new.self (by_beat setup h level c.step-beat.result.0) (starts_with c.step-beat.result.0 (length (starts_of setup levels))) =
+    let ran : RunsTo c.obey.new.self (by_beat setup h level c.step-beat.result.0) (starts_with c.step-beat.result.0 (length (starts_of setup levels))) =
     c.obey.ensures.run setup h (length (starts_of setup levels)) q (sym n ∙ long) (omega arith) (omega arith) (record { controller = r.run.controller; drive = r.run.drive; bits = r.run.bits; sampled = r.run.sampled; started = r.run.started }) in
-    let so = subst (λ (b : Beat). HasRun c.obey.new.self (by_beat setup h level b) (starts_with b (length (starts_of setup levels)))) beat ran in
-    let after : HasRun c.obey.new.self (history_after setup h level) (starts_with (beat_of setup.segments h.seen x) (length (starts_of setup levels))) =
+    let so = subst (λ (b : Beat). RunsTo c.obey.new.self (by_beat setup h level b) (starts_with b (length (starts_of setup levels)))) beat ran in
+    let after : RunsTo c.obey.new.self (history_after setup h level) (starts_with (beat_of setup.segments h.seen x) (length (starts_of setup levels))) =
     record { controller = so.controller; drive = so.drive; bits = so.bits; sampled = so.sampled; started = so.started } in
     record {
       clock =
@@ -48,8 +48,8 @@ returns-clause-run c setup levels q n r =
           ∙ ap (λ (y : Seen). clock_after setup.segments (h.seen ++ y ∷ [])) e
           ∙ ap (λ (g : History). clock_after setup.segments g.seen) (sym (history_more setup levels level));
       run =
-          subst (λ (k : ℕ). HasRun c.obey.new.self (history_of setup (levels ++ level ∷ [])) k) begun
-          (subst (λ (g : History). HasRun c.obey.new.self g (starts_with (beat_of setup.segments h.seen x) (length (starts_of setup levels)))) (sym (history_more setup levels level)) after);
+          subst (λ (k : ℕ). RunsTo c.obey.new.self (history_of setup (levels ++ level ∷ [])) k) begun
+          (subst (λ (g : History). RunsTo c.obey.new.self g (starts_with (beat_of setup.segments h.seen x) (length (starts_of setup levels)))) (sym (history_more setup levels level)) after);
       few = omega (arith, c.obey.ensures.sent);
       fewer = omega (arith, c.obey.ensures.bits);
     }

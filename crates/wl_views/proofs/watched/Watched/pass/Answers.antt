@@ -1,5 +1,6 @@
 -- Up to where the line changes quanta see the same, and the first of them neither sample nor begin a bit.
 use Rattle.std.proofs.Common.{◌≡◌, ◌∙◌, ap, sym, subst, arith, inl, inr, ℕ, ◌+◌, ◌<◌, ◌≤◌, List, ◌++◌, replicate}
+use Rattle.std.specs.Prelude.{min}
 use Rattle.std.proofs.lemmas.Bool.{cases_lt}
 use Rattle.wl_level.specs.declared.Level.{Level}
 use Rattle.wl_level.specs.Levels.{level_of}
@@ -81,7 +82,8 @@ returns-clause-watches c =
         | inr high ↦ (let m = (during q high below).0 in omega arith)
       ];
       later = (let m = next_on sounds laws plan checked i b k n t c.requires.early h.later in omega arith);
-      same = λ u from below. shown_stays sounds laws plan checked i b t held line k n h.runs.inside h.before h.later during plain u from (omega arith);
+      until = c.min-self.ensures ∙ ap (λ (n : ℕ). min n c.next_tick-self.result) whole;
+      same = λ u from below. shown_stays sounds laws plan checked i b t held line k n h.runs.inside h.before h.later during plain u from (omega (arith, c.min-self.ensures));
     }
 
 pub returns-clause-syncs : goal.returns-clause-syncs
