@@ -77,11 +77,14 @@ impl Controller {
 
     /// A sample of this level, where this frame is to be sent next: what it did.
     pub(crate) fn sample(&mut self, level: Level, head: Option<&Frame>) -> Turn
-        ensures past { (setup : NodeSetup) (p : SampledPast) (quantum : ℕ) → option_copied head.entry ≡ head_then setup p quantum
-            → self.old.sent < 2 ^ 64 - 1 → IsController self.old p → IsController self.new (past_after setup p (quantum, level)) }
-        ensures happened { (setup : NodeSetup) (p : SampledPast) (quantum : ℕ) → option_copied head.entry ≡ head_then setup p quantum
+        ensures past { (setup : NodeSetup) (p : SampledPast) (quantum : ℕ)
+            → option_copied head.entry ≡ head_then setup p quantum → self.old.sent < 2 ^ 64 - 1
+            → IsController self.old p → IsController self.new (past_after setup p (quantum, level)) }
+        ensures happened { (setup : NodeSetup) (p : SampledPast) (quantum : ℕ)
+            → option_copied head.entry ≡ head_then setup p quantum
             → IsController self.old p → result.happened ≡ (judged_then setup p quantum level).happened }
-        ensures done { (setup : NodeSetup) (p : SampledPast) (quantum : ℕ) → option_copied head.entry ≡ head_then setup p quantum
+        ensures done { (setup : NodeSetup) (p : SampledPast) (quantum : ℕ)
+            → option_copied head.entry ≡ head_then setup p quantum
             → IsController self.old p → result.done ≡ done_of (judged_then setup p quantum level).ended }
         ensures counters { self.new.counters ≡ counts_after self.old.counters result.happened }
         ensures sent { self.new.sent ≤ self.old.sent + 1 }

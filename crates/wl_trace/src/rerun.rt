@@ -92,8 +92,8 @@ impl Rerun {
     /// synchronises it then, if one does.
     pub fn quantum(&mut self, queue: &[Queued], quantum: u64, level: Level) -> Option<Noted>
         requires few { quantum < 2 ^ 64 - 1 }
-        ensures sync { (setup : NodeSetup) (levels : List Level) → length levels ≡ quantum → IsRerun setup levels self.old
-            → result ≡ sync_next setup (history_of setup levels) level }
+        ensures sync { (setup : NodeSetup) (levels : List Level) → length levels ≡ quantum
+            → IsRerun setup levels self.old → result ≡ sync_next setup (history_of setup levels) level }
         ensures run { (setup : NodeSetup) (levels : List Level) → setup.queue ≡ queue.now → length levels ≡ quantum
             → IsRerun setup levels self.old → IsRerun setup (levels ++ level ∷ []) self.new }
     {

@@ -124,7 +124,8 @@ impl Watched {
         requires remembers { Remembers plan.now i t self.old }
         requires awaits { Awaits plan.now i t self.old }
         ensures watches { Watches plan.now i t self.new }
-        ensures syncs { syncs_then plan.now i self.new.quanta ≡ with_next (syncs_then plan.now i self.old.quanta) result }
+        ensures syncs { syncs_then plan.now i self.new.quanta
+            ≡ with_next (syncs_then plan.now i self.old.quanta) result }
     {
         self.hear(plan, outcome, i, t);
         let sync = self.see(plan, i, t);
@@ -161,7 +162,8 @@ impl Watched {
         requires awaits { Awaits plan.now i t self.old }
         ensures seen { SawUpTo plan.now i t self.new }
         ensures hears { Hears plan.now i t self.new }
-        ensures syncs { syncs_then plan.now i self.new.quanta ≡ with_next (syncs_then plan.now i self.old.quanta) result }
+        ensures syncs { syncs_then plan.now i self.new.quanta
+            ≡ with_next (syncs_then plan.now i self.old.quanta) result }
     {
         wl_plan::checked_is_sound();
         wl_plan::simulation_laws();

@@ -72,7 +72,8 @@ fn write_from<W: Sink>(
     requires outcome { outcome.now ≡ outcome_of plan.now }
     requires watched { AllWatched plan.now 0 watched.old }
     ensures { Writes W.takes writer.old
-        (front.now ++ (flat_map (tick_lines tick (signals plan.now)) (range_with_len 1 (plan.now.end - 1)) ++ time_line tick plan.now.end))
+        (front.now ++ (flat_map (tick_lines tick (signals plan.now)) (range_with_len 1 (plan.now.end - 1))
+        ++ time_line tick plan.now.end))
         result writer.new }
 {
     wl_plan::checked_is_sound();
