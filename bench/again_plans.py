@@ -110,14 +110,27 @@ def node_doubts(node, idle, end):
     if early: yield f"frame {early[0]} of {node.name} becomes ready before tick {idle}, from which on all nodes can be idle"
 
 
-def bits_wanted(node):
-    """Eight bits, and of each frame three recessive ones before it, its own, and the ten behind them."""
-    return 8 + sum(len(frame_bits(frame)) + 13 for _, frame in node.queue)
+def bits_wanted(node, frames=None):
+    """Eight bits, and of each of its first frames three recessive ones before it, its own, and the ten behind them; of all, where no number is given."""
+    return 8 + sum(len(frame_bits(frame)) + 13 for _, frame in node.queue[:frames])
 
 
-def last_wanted(node):
+def last_wanted(node, frames=None):
     """The quantum of the sample of the last of these bits, where each begins right after the sample before it."""
-    return sum(1 + node.way for _ in range(bits_wanted(node))) - 1
+    return sum(1 + node.way for _ in range(bits_wanted(node, frames))) - 1
+
+
+def sent_too_soon(rng):
+    """A frame that plain.py sends before that quantum, in a plan with disturbances."""
+    top = {"version": 1} | differ().random_plan(rng) | rng.choice([{}, {"sync": "inside"}])
+    try:
+        plan = plain.read_plan(differ().toml_text(top, False).encode() + b"\n")
+    except plain.Fault:
+        return None
+    for node, done in zip(nodes_of(top), plain.simulate(plan)):
+        sent = [quantum for what, quantum, _ in done.frames if what == "sent"]
+        for frames, quantum in enumerate(sent, 1):
+            if quantum < last_wanted(node, frames): return f"{frames} frames of {node.name} are sent at quantum {quantum}: {top}"
 
 
 def idle_from(nodes):
@@ -248,4 +261,4 @@ def check(program, rng):
 
 
 def explain(program, rng):
-    return compared("explain", explain_text, program, rng)
+    return compared("explain", explain_text, program, rng) or (sent_too_soon(rng) if rng.random() < 0.05 else None)
