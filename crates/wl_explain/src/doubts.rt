@@ -178,11 +178,12 @@ pub fn first_late(t: u64, node: &NodeSetup) -> Option<usize>
         .position(|waiting| !begins_before(node, waiting.ready as u128, t))
 }
 
-/// Whether the frames of a node's queue can't all be sent before tick `end`, which is below 2^48: the least quanta of its least bits, by its own
+/// Whether some frames wait at a node and can't all be sent before tick `end`, which is below 2^48: the least quanta of its least bits, by its own
 /// clock, last beyond it.
 ///
-/// So is every plan of which this is said: a node sends its frames one after another, each bit of them takes a sample, and between two samples
-/// are a start and the least way. Of the frames of several nodes nothing is said: equal ones may go out at once.
+/// What is said is always so: a node sends its frames one after another, each of their bits takes a sample, and from one sample to the next
+/// there are the start of a bit and the least way after it. It may be so and not be said: stuff bits are not counted, nor what other nodes send,
+/// since equal frames may go out at once.
 pub fn has_no_room(end: u64, node: &NodeSetup) -> bool
     requires { end < 2 ^ 48 }
     ensures { result ≡ has_no_room end node.now }
