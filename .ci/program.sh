@@ -3,7 +3,8 @@
 # usage: program.sh PROGRAM
 # - each plan of examples/ with the report beside it, and each of those plans through check, records and candump, which must accept it;
 #   and by 2, 3 and 8 workers over either link
-# - the explanation and the trace of each of them as bench/plain.py gives them, and the explanation of a plan with every doubt
+# - the explanation and the trace of each of them as bench/plain.py gives them, and the explanation of a plan with every doubt, and of one whose clocks
+#   change their rates
 # - the log of one plan, as ticks of three lengths have it, and the waveform of one, as ticks of two have it
 # - two nodes with full queues, as bench/plain.py reports them
 # - each row of .ci/refused.txt: the status, the one line on standard error, and nothing on standard output but what explain says of it
@@ -61,6 +62,7 @@ is "frames of full queues" [ "$(grep -c '^frame 0' "$room/full")" = 128 ]
 runs "run of full queues" "$room/full.toml" 0 "$room/full" "$room/none" run
 
 runs "explain of doubts" .ci/doubts.toml 0 .ci/doubts.explained "$room/none" explain
+runs "explain of rates" .ci/rates.toml 0 .ci/rates.explained "$room/none" explain
 
 for report in examples/*.report; do
   name=$(basename "$report" .report)

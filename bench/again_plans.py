@@ -17,17 +17,24 @@ from refused import Refused, delay_of, lengths_of, rates_of, read
 class Settings:
     """What is read off one node of a plan's document."""
 
-    def __init__(self, node, version):
+    def __init__(self, node, top):
         self.name, self.lengths, self.offset = node["name"], lengths_of(node), node["offset"]
-        self.rates = [rate[:3] for rate in rates_of(node, version)]
+        self.rates = [rate[:3] for rate in rates_of(node, top["version"])]
         prop, ps1, self.ps2, self.sjw = self.lengths
         self.quanta, self.sample = bit_of(prop, ps1, self.ps2), 1 + prop + ps1
-        self.quantum = Fraction(self.tick(10**6) - self.tick(0), 10**6)
+        self.way = self.sample - (top.get("sync") == "inside")
+        self.quantum = Fraction(self.millionths(max(1, min(first_not_before(self.offset, self.rates, top["end"]), 2**20))), 10**6)
         self.bit, self.ppm = self.quanta * self.quantum, greatest_ppm(*self.lengths)
         self.queue = [(frame.get("ready", 0), content_of(frame)) for frame in node.get("frame", [])]
 
     def tick(self, quantum):
         return tick_of(self.offset, self.rates, quantum)
+
+    def millionths(self, begun):
+        """The mean of so many quanta: of those that their ticks leave room for that of a million quanta, or else the least."""
+        ticks, million = self.tick(begun) - self.offset, self.tick(10**6) - self.offset
+        least, most = 10**6 * ticks // begun, greatest(lambda mean: begun * mean < 10**6 * (ticks + 1))
+        return million if least <= million <= most else least
 
 
 def content_of(table):
@@ -35,7 +42,7 @@ def content_of(table):
 
 
 def nodes_of(top):
-    return [Settings(node, top["version"]) for node in top["node"]]
+    return [Settings(node, top) for node in top["node"]]
 
 
 def greatest(holds):
@@ -103,9 +110,27 @@ def node_doubts(node, idle, end):
     if early: yield f"frame {early[0]} of {node.name} becomes ready before tick {idle}, from which on all nodes can be idle"
 
 
-def bits_wanted(nodes):
-    """11 bits, and of each frame its own, the ten behind them and three of intermission."""
-    return 11 + sum(len(frame_bits(frame)) + 13 for node in nodes for _, frame in node.queue)
+def bits_wanted(node, frames=None):
+    """Eight bits, and of each of its first frames three recessive ones before it, its own, and the ten behind them; of all, where no number is given."""
+    return 8 + sum(len(frame_bits(frame)) + 13 for _, frame in node.queue[:frames])
+
+
+def last_wanted(node, frames=None):
+    """The quantum of the sample of the last of these bits, where each begins right after the sample before it."""
+    return sum(1 + node.way for _ in range(bits_wanted(node, frames))) - 1
+
+
+def sent_too_soon(rng):
+    """A frame that plain.py sends before that quantum, in a plan with disturbances."""
+    top = {"version": 1} | differ().random_plan(rng) | rng.choice([{}, {"sync": "inside"}])
+    try:
+        plan = plain.read_plan(differ().toml_text(top, False).encode() + b"\n")
+    except plain.Fault:
+        return None
+    for node, done in zip(nodes_of(top), plain.simulate(plan)):
+        sent = [quantum for what, quantum, _ in done.frames if what == "sent"]
+        for frames, quantum in enumerate(sent, 1):
+            if quantum < last_wanted(node, frames): return f"{frames} frames of {node.name} are sent at quantum {quantum}: {top}"
 
 
 def idle_from(nodes):
@@ -127,8 +152,8 @@ def explain_text(top):
         trip = delay_of(tables[i], tables[j], top["per"]) + delay_of(tables[j], tables[i], top["per"])
         doubts += pair_doubts(nodes[i], nodes[j], trip)
     for node in nodes: doubts += node_doubts(node, idle_from(nodes), top["end"])
-    bits = bits_wanted(nodes)
-    if nodes[0].tick(bits * nodes[0].quanta) > top["end"]: doubts.append(f"11 bits and the frames of all nodes take {bits} bits of {nodes[0].name}, beyond the end")
+    for node in nodes:
+        if node.queue and top["end"] <= node.tick(last_wanted(node)): doubts.append(f"11 bits and the frames of {node.name} take at least {bits_wanted(node)} bits, beyond the end")
     return ["doubt: " + said for said in doubts] + [figures(nodes, node, delay_of(table, table, top["per"])) for node, table in zip(nodes, tables)]
 
 
@@ -175,9 +200,21 @@ def near_ready(rng, top, i, j):
 
 
 def near_end(rng, top, i, j):
-    """An end about at the tick by which all frames have gone out."""
+    """An end about at the tick by which all frames of a node can have gone out."""
     nodes = nodes_of(top)
-    top["end"] = max(0, nodes[0].tick(bits_wanted(nodes) * nodes[0].quanta) + rng.choice([-1, 0, 1]))
+    top["end"] = max(0, nodes[i].tick(last_wanted(nodes[i])) + rng.choice([-1, 0, 1]))
+
+
+def near_rate(rng, top, i, j):
+    """A rate that sets in about at the end, or long before or after it."""
+    node = nodes_of(top)[i]
+    if top["version"] == 1:
+        for table in top["node"]: table["rates"] = [{"from": 0} | {key: table.pop(key) for key in ("num", "den", "quantum", "ppm") if key in table}]
+        top["version"] = 2
+    begun = first_not_before(node.offset, node.rates, top["end"])
+    start = max(0, rng.choice([begun, begun, begun // 2, begun * 3 // 4, 2 * begun, rng.randrange(2**20)]) + rng.choice([-1, 0, 1]))
+    num, den = rng.choice([(125, 1), (126, 1), (4, 3), (999_999, 7_000), (2**20, 1), (125_012_500, 10**6)])
+    if node.rates[-1][0] < start: top["node"][i]["rates"].append({"from": start, "num": num, "den": den})
 
 
 def wide_jump(rng, top, i, j):
@@ -189,7 +226,7 @@ def other_lengths(rng, top, i, j):
     top["node"][i].update(zip(("prop", "ps1", "ps2", "sjw"), random_lengths(rng)))
 
 
-BORDERS = near_clocks, near_clocks, near_trip, near_cable, near_ready, near_end, wide_jump, other_lengths
+BORDERS = near_clocks, near_clocks, near_trip, near_cable, near_ready, near_end, near_rate, near_rate, wide_jump, other_lengths
 
 
 def bordered_plan(rng):
@@ -197,6 +234,7 @@ def bordered_plan(rng):
     while True:
         top = {"version": 1} | differ().random_plan(rng)
         top.pop("disturbance", None)
+        top |= rng.choice([{}, {"sync": "after"}, {"sync": "inside"}])
         if rng.random() < 0.05: top["node"] = [dict(top["node"][n % len(top["node"])], name=f"m{n}", x=rng.randrange(50)) for n in range(rng.choice([10, 11, 16]))]
         for border in rng.sample(BORDERS, rng.choice([0, 1, 2, 3])):
             i = rng.randrange(len(top["node"]))
@@ -223,4 +261,4 @@ def check(program, rng):
 
 
 def explain(program, rng):
-    return compared("explain", explain_text, program, rng)
+    return compared("explain", explain_text, program, rng) or (sent_too_soon(rng) if rng.random() < 0.05 else None)

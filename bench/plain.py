@@ -876,6 +876,20 @@ def report_text(plan):
     return lines + [f"verdict faulty errors {errors} unsent {unsent}" if errors or unsent else "verdict clean"]
 
 
+def mean_quantum(clock, end):
+    """The mean of the quanta that begin before the end, in whole millionths of a tick, as a fraction of ticks.
+
+    Whole ticks leave a range for the mean of n quanta. Where it meets that of the first million quanta, the million tells the mean.
+    """
+    def taken(quanta): return clock.at(quanta) - clock.at(0)
+
+    def span(quanta): return Fraction(taken(quanta), quanta), Fraction(taken(quanta) + 1, quanta)
+
+    run, million = max(1, clock.quanta_before(end)), 1_000_000
+    (low, high), (least, most) = span(run), span(million)
+    return Fraction(int((least if low < most and least < high else low) * million), million)
+
+
 def pair_doubts(plan, i, j, quanta):
     """What is doubtful of nodes i < j, whose mean quanta are known."""
     one, other = plan.nodes[i], plan.nodes[j]
@@ -901,6 +915,14 @@ def node_doubts(plan, node, idle):
         yield f"doubt: frame {number} of {node.name} becomes ready before tick {idle}, from which on all nodes can be idle"
 
 
+def room_doubts(plan, node):
+    """A node sends its frames one after another, and takes a sample for each of their bits: 11 before, and three between two frames."""
+    frames = [(64 if waiting.frame.extended else 44) + 8 * len(waiting.frame.data) for waiting in node.queue]
+    bits, way = 11 + sum(frames) + 3 * (len(frames) - 1), node.segments.sample_at() - node.segments.inside
+    if frames and node.clock.at(bits * (1 + way) - 1) >= plan.end:
+        yield f"doubt: 11 bits and the frames of {node.name} take at least {bits} bits, beyond the end"
+
+
 def thousandths(number):
     whole, part = divmod(int(number), 1000)
     return f"{whole}.{part:03}"
@@ -924,14 +946,11 @@ def figures(plan, i, quanta):
 
 def explain_text(plan):
     nodes = range(len(plan.nodes))
-    quanta = [Fraction(node.clock.at(1_000_000) - node.clock.at(0), 1_000_000) for node in plan.nodes]
+    quanta = [mean_quantum(node.clock, plan.end) for node in plan.nodes]
     lines = [line for j in nodes for i in range(j) for line in pair_doubts(plan, i, j, quanta)]
     idle = max(node.clock.at(11 * node.segments.bit_quanta()) for node in plan.nodes)
     lines += [line for node in plan.nodes for line in node_doubts(plan, node, idle)]
-    bits = 11 + sum((67 if waiting.frame.extended else 47) + 8 * len(waiting.frame.data) for node in plan.nodes for waiting in node.queue)
-    first = plan.nodes[0]
-    if first.clock.at(bits * first.segments.bit_quanta()) > plan.end:
-        lines.append(f"doubt: 11 bits and the frames of all nodes take {bits} bits of {first.name}, beyond the end")
+    lines += [line for node in plan.nodes for line in room_doubts(plan, node)]
     return lines + [figures(plan, i, quanta) for i in nodes]
 
 

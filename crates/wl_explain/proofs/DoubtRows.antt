@@ -4,7 +4,8 @@ use Rattle.wl_clock.specs.Timing.{tick_of}
 use Rattle.wl_segments.specs.declared.SyncSeg.TheVariants.{After}
 use Rattle.wl_frame.specs.Grammar.{Content}
 use Rattle.wl_node.specs.declared.setup.NodeSetup.{NodeSetup}
-use Rattle.wl_explain.specs.Doubts.{frame_bits, difference, borne, longest_round, idle_at, begins_before}
+use Rattle.wl_plan.specs.Limits.{most_quanta}
+use Rattle.wl_explain.specs.Doubts.{frame_bits, difference, borne, longest_round, idle_at, begins_before, wanted_bits, has_no_room}
 
 abbrev pub node : ℕ → ℕ → NodeSetup
 node offset num = record {
@@ -23,19 +24,19 @@ base = refl
 extended : frame_bits (content true []) ≡ 67
 extended = refl
 
-slow : difference (node 0 125000) (node 700 127500) ≡ 20000
-unfolding tick_of
+slow : difference 1000 (node 0 125000) (node 700 127500) ≡ 20000
+unfolding tick_of most_quanta
 slow = refl
 
-alike : difference (node 0 125000) (node 700 125000) ≡ 0
-unfolding tick_of
+alike : difference 1000 (node 0 125000) (node 700 125000) ≡ 0
+unfolding tick_of most_quanta
 alike = refl
 
 bear : borne (node 0 125000) (node 0 127500) ≡ 12500
 bear = refl
 
-round : longest_round (node 0 125000) (node 0 127500) ≡ 1500
-unfolding tick_of
+round : longest_round 1000 (node 0 125000) (node 0 127500) ≡ 1500
+unfolding tick_of most_quanta
 round = refl
 
 idle : idle_at (node 777 125000) ≡ 22777
@@ -49,3 +50,25 @@ before = refl
 at_it : begins_before (node 777 125000) 176 22777 ≡ false
 unfolding tick_of
 at_it = refl
+
+-- a node with these frames: 11 bits, and 52 and 60 of the frames with intermission between them; from sample to sample there are 14 quanta at least
+abbrev pub sender : NodeSetup
+sender = record (node 0 125000) {
+  queue = record { frame = content false (1 ∷ []); ready = 0 } ∷ record { frame = content false (1 ∷ 2 ∷ []); ready = 5 } ∷ [];
+}
+
+wanted : wanted_bits sender ≡ 126
+wanted = refl
+
+-- the last of 1764 quanta begins at tick 1763 * 125
+no_room : has_no_room 220375 sender ≡ true
+unfolding tick_of
+no_room = refl
+
+room : has_no_room 220376 sender ≡ false
+unfolding tick_of
+room = refl
+
+no_frames : has_no_room 0 (node 0 125000) ≡ false
+unfolding tick_of
+no_frames = refl

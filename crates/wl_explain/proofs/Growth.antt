@@ -1,10 +1,10 @@
 -- A text that grows by one piece of what is said after another.
-use Rattle.std.proofs.Common.{◌≡◌, ◌∙◌, ap, refl, ℕ, suc, ◌+◌, ◌<◌, List, ◌++◌, append_assoc, arith, Result, OnOk}
-use Rattle.std.proofs.lemmas.Bool.{lt-ltb}
+use Rattle.std.proofs.Common.{◌≡◌, ◌∙◌, ap, refl, ℕ, suc, ◌+◌, ◌<◌, ◌≤◌, List, ◌++◌, append_assoc, arith, Result, OnOk}
+use Rattle.std.proofs.lemmas.Bool.{le-ltb, lt-ltb}
 use Rattle.std.proofs.lemmas.Result.{on_ok_weaker}
 use Rattle.wl_node.specs.declared.setup.NodeSetup.{NodeSetup}
-use Rattle.wl_explain.specs.Doubts.{difference, greatest_difference}
-use Rattle.wl_explain.specs.Words.{bit_rate, clocks_line, each_below, unlike_words}
+use Rattle.wl_explain.specs.Doubts.{borne, difference, greatest_difference}
+use Rattle.wl_explain.specs.Words.{apart_words, bit_rate, clocks_line, each_below, unlike_words}
 
 -- by one piece and then by another
 grown : (old mid new p q : List ℕ) → mid ≡ old ++ p → new ≡ mid ++ q → new ≡ old ++ (p ++ q)
@@ -25,6 +25,14 @@ each_more said i old mid new e f =
     grown old mid new (each_below said i) (said i) e f ∙ ap (λ k. old ++ each_below said k) {x = suc i} {y = i + 1} (omega arith)
 
 -- the words of bit rates that are unlike
-pub unlike_chosen : (a b : List ℕ) (s u : NodeSetup) → greatest_difference < difference s u
-    → unlike_words a b (bit_rate s) (bit_rate u) ≡ clocks_line a b s u
-unlike_chosen a b s u h = let t = lt-ltb greatest_difference (difference s u) h in rw t refl
+pub unlike_chosen : (end : ℕ) (a b : List ℕ) (s u : NodeSetup) → greatest_difference < difference end s u
+    → unlike_words a b (bit_rate end s) (bit_rate end u) ≡ clocks_line end a b s u
+unlike_chosen end a b s u h = let t = lt-ltb greatest_difference (difference end s u) h in rw t refl
+
+-- and of clocks that are too far apart
+pub apart_chosen : (end : ℕ) (a b : List ℕ) (s u : NodeSetup) → difference end s u ≤ greatest_difference → borne s u < difference end s u
+    → apart_words a b (difference end s u) (borne s u) ≡ clocks_line end a b s u
+apart_chosen end a b s u k h =
+    let none = le-ltb greatest_difference (difference end s u) k in
+    let t = lt-ltb (borne s u) (difference end s u) h in
+    rw (none, t) refl

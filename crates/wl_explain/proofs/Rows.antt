@@ -1,8 +1,11 @@
 -- Worked settings: 500 kbit/s and 1 Mbit/s as can-utils' can-calc-bit-timing proposes them, and the figures that it prints.
-use Rattle.std.proofs.Common.{◌≡◌, ℕ, Some, None, refl, arith}
+use Rattle.std.proofs.Common.{◌≡◌, ℕ, List, [], ◌∷◌, Some, None, refl, arith}
+use Rattle.wl_clock.specs.declared.Rate.{Rate}
+use Rattle.wl_clock.specs.Timing.{Timing, tick_of}
+use Rattle.wl_plan.specs.Limits.{most_quanta}
 use Rattle.wl_segments.specs.declared.SyncSeg.TheVariants.{After}
 use Rattle.wl_segments.specs.Lengths.{Lengths}
-use Rattle.wl_explain.specs.Figures.{Ratio, ComesBack, quantum_of, picoseconds, bits_per_second, sample_point, furthest_way, longest_cable, longest_trip, tolerance}
+use Rattle.wl_explain.specs.Figures.{Ratio, ComesBack, quantum_of, picoseconds, bits_per_second, sample_point, furthest_way, longest_cable, longest_trip, mean_quantum, quanta_begun, tolerance}
 
 abbrev half : Lengths
 half = record { prop = 6; ps1 = 7; ps2 = 2; sjw = 1; sync = After }
@@ -62,3 +65,50 @@ resonators = refl
 
 megabit_trip : longest_trip (ratio 50 1) whole ≡ 700
 megabit_trip = refl
+
+-- ---- Clocks whose rate changes
+
+abbrev clock : List Rate → Timing
+clock rates = record { offset = 7; rates = rates }
+
+-- quanta of 125 ticks, and from quantum 8, at tick 1007, of 250
+abbrev late : Timing
+late = clock (record { from = 0; num = 125; den = 1 } ∷ record { from = 8; num = 250; den = 1 } ∷ [])
+
+eight : quanta_begun 1007 late ≡ 8
+unfolding tick_of most_quanta
+eight = refl
+
+nine : quanta_begun 1008 late ≡ 9
+unfolding tick_of most_quanta
+nine = refl
+
+none : quanta_begun 7 late ≡ 1
+unfolding tick_of most_quanta
+none = refl
+
+before_the_change : mean_quantum 1007 late ≡ ratio 125000000 1000000
+unfolding tick_of most_quanta
+before_the_change = refl
+
+-- eight of 125 and four of 250
+over_the_change : mean_quantum 2007 late ≡ ratio 166666666 1000000
+unfolding tick_of most_quanta
+over_the_change = refl
+
+no_quantum : mean_quantum 0 late ≡ ratio 125000000 1000000
+unfolding tick_of most_quanta
+no_quantum = refl
+
+-- whole ticks: three quanta of 4/3 that take four ticks may be of any mean up to 5/3
+thirds : mean_quantum 11 (clock (record { from = 0; num = 4; den = 3 } ∷ [])) ≡ ratio 1333333 1000000
+unfolding tick_of most_quanta
+thirds = refl
+
+halves : mean_quantum 11 (clock (record { from = 0; num = 3; den = 2 } ∷ [])) ≡ ratio 1500000 1000000
+unfolding tick_of most_quanta
+halves = refl
+
+halves_and_more : mean_quantum 11 (clock (record { from = 0; num = 3; den = 2 } ∷ record { from = 100; num = 9; den = 1 } ∷ [])) ≡ ratio 1333333 1000000
+unfolding tick_of most_quanta
+halves_and_more = refl

@@ -2,9 +2,10 @@
 use Rattle.std.proofs.Common.{◌≡◌, [], Some, None, codes, refl}
 use Rattle.std.specs.Fmt.{digits}
 use Rattle.wl_clock.specs.Timing.{tick_of}
+use Rattle.wl_plan.specs.Limits.{most_quanta}
 use Rattle.wl_segments.specs.declared.SyncSeg.TheVariants.{After}
 use Rattle.wl_segments.specs.Lengths.{Lengths}
-use Rattle.wl_explain.specs.Words.{thousandths, hundredths, clocks_line, trip_line, jump_line, late_line, early_line, cable_words, margin_words, timing_words}
+use Rattle.wl_explain.specs.Words.{thousandths, hundredths, clocks_line, trip_line, jump_line, late_line, early_line, room_words, cable_words, margin_words, timing_words}
 use Rattle.wl_explain.proofs.DoubtRows.{node}
 
 short : Lengths
@@ -18,19 +19,19 @@ per_cent : hundredths 8750 ≡ codes "87.50"
 unfolding digits
 per_cent = refl
 
-apart : clocks_line (codes "a") (codes "b") (node 0 125000) (node 700 127500)
+apart : clocks_line 1000 (codes "a") (codes "b") (node 0 125000) (node 700 127500)
     ≡ codes "doubt: the clocks of a and b are 20000 ppm apart, and their segments bear 12500\n"
-unfolding tick_of digits
+unfolding tick_of most_quanta digits
 apart = refl
 
 -- 400 and 500 kbit/s: a quarter of the shorter bit is more than clocks of one rate differ by
-unlike : clocks_line (codes "a") (codes "b") (node 0 156250) (node 0 125000)
+unlike : clocks_line 1000 (codes "a") (codes "b") (node 0 156250) (node 0 125000)
     ≡ codes "doubt: a and b have unlike bit rates, 400.000 and 500.000 kbit/s\n"
-unfolding tick_of digits
+unfolding tick_of most_quanta digits
 unlike = refl
 
-alike : clocks_line (codes "a") (codes "b") (node 0 125000) (node 0 125000) ≡ []
-unfolding tick_of
+alike : clocks_line 1000 (codes "a") (codes "b") (node 0 125000) (node 0 125000) ≡ []
+unfolding tick_of most_quanta
 alike = refl
 
 too_long : trip_line (codes "a") (codes "b") 701 700 ≡ codes "doubt: a to b and back takes 701 ticks, and the earlier sample leaves 700\n"
@@ -52,6 +53,10 @@ early : early_line (codes "a") 22000 (Some 0)
     ≡ codes "doubt: frame 0 of a becomes ready before tick 22000, from which on all nodes can be idle\n"
 unfolding digits
 early = refl
+
+room : room_words (codes "a") 126 ≡ codes "doubt: 11 bits and the frames of a take at least 126 bits, beyond the end\n"
+unfolding digits
+room = refl
 
 timing : timing_words (codes "a") 500000 8125 125625 ≡ codes "node a: 500.000 kbit/s, sample point 81.25 %, quantum 125.625 ns"
 unfolding digits

@@ -1,9 +1,9 @@
 -- What is doubtful of a plan that can be run: arithmetic on its settings (this project's profile).
-use Rattle.std.specs.Prelude.{ℕ, zero, suc, ◌+◌, ◌-◌, ◌*◌, ◌/◌, nat_lt, not, min, max, Bool, if◌then◌else◌, length, Option}
+use Rattle.std.specs.Prelude.{ℕ, zero, suc, ◌+◌, ◌-◌, ◌*◌, ◌/◌, ◌&&◌, nat_lt, not, min, max, Bool, if◌then◌else◌, length, Option}
 use Rattle.std.specs.Int.{abs_diff}
 use Rattle.std.specs.List.{position, sum_by}
 use Rattle.wl_clock.specs.Timing.{tick_of}
-use Rattle.wl_segments.specs.Lengths.{bit_quanta}
+use Rattle.wl_segments.specs.Lengths.{Lengths, bit_quanta, least_way}
 use Rattle.wl_topology.specs.Delays.{delay_of}
 use Rattle.wl_frame.specs.Grammar.{Content}
 use Rattle.wl_node.specs.declared.setup.NodeSetup.{NodeSetup}
@@ -11,13 +11,13 @@ use Rattle.wl_plan.specs.declared.plan.Plan.{Plan}
 use Rattle.wl_plan.specs.PlanLine.{setup_at}
 use Rattle.wl_explain.specs.Figures.{mean_quantum, longest_trip, tolerance}
 
--- the length of a node's bit, in millionths of a tick
-abbrev pub bit_length : NodeSetup → ℕ
-bit_length s = bit_quanta s.segments * (mean_quantum s.clock).num
+-- the mean length of a node's bit up to the end of a plan, in millionths of a tick
+abbrev pub bit_length : ℕ → NodeSetup → ℕ
+bit_length end s = bit_quanta s.segments * (mean_quantum end s.clock).num
 
 -- by how many millionths of the shorter of two bits the longer one is longer, rounded down
-abbrev pub difference : NodeSetup → NodeSetup → ℕ
-difference s u = 1000000 * abs_diff (bit_length s) (bit_length u) / min (bit_length s) (bit_length u)
+abbrev pub difference : ℕ → NodeSetup → NodeSetup → ℕ
+difference end s u = 1000000 * abs_diff (bit_length end s) (bit_length end u) / min (bit_length end s) (bit_length end u)
 
 -- by how many they may differ: each of the two by what the segments of both bear
 abbrev pub borne : NodeSetup → NodeSetup → ℕ
@@ -31,7 +31,7 @@ greatest_difference = 222222
 abbrev pub margin_below : Plan → ℕ → ℕ → ℕ
 margin_below plan i zero = 2 * tolerance (setup_at plan i).segments
 margin_below plan i (suc j) =
-    min (margin_below plan i j) (borne (setup_at plan i) (setup_at plan j) - difference (setup_at plan i) (setup_at plan j))
+    min (margin_below plan i j) (borne (setup_at plan i) (setup_at plan j) - difference plan.end (setup_at plan i) (setup_at plan j))
 
 abbrev pub left : Plan → ℕ → ℕ
 left plan i = margin_below plan i (length plan.topology.places)
@@ -41,8 +41,8 @@ abbrev pub round_trip : Plan → ℕ → ℕ → ℕ
 round_trip plan i j = delay_of plan.topology i j + delay_of plan.topology j i
 
 -- the longest that is back, with a quantum, at the earlier of the two samples
-abbrev pub longest_round : NodeSetup → NodeSetup → ℕ
-longest_round s u = min (longest_trip (mean_quantum s.clock) s.segments) (longest_trip (mean_quantum u.clock) u.segments)
+abbrev pub longest_round : ℕ → NodeSetup → NodeSetup → ℕ
+longest_round end s u = min (longest_trip (mean_quantum end s.clock) s.segments) (longest_trip (mean_quantum end u.clock) u.segments)
 
 -- the bits of a frame without stuff bits, and three of intermission (Bosch CAN 2.0 part B, section 3.1)
 abbrev pub frame_bits : Content → ℕ
@@ -51,14 +51,6 @@ frame_bits c = (if c.extended then 67 else 47) + 8 * length c.bytes
 -- those of all frames that wait at a node
 abbrev pub queue_bits : NodeSetup → ℕ
 queue_bits s = sum_by (λ w. frame_bits w.frame) s.queue
-
--- and at the nodes below a number
-abbrev pub bits_below : Plan → ℕ → ℕ
-bits_below plan zero = 0
-bits_below plan (suc j) = bits_below plan j + queue_bits (setup_at plan j)
-
-abbrev pub queued_bits : Plan → ℕ
-queued_bits plan = bits_below plan (length plan.topology.places)
 
 -- the tick at which a node has counted the 11 bits that it waits for (Bosch CAN 2.0 part B, section 9)
 abbrev pub idle_at : NodeSetup → ℕ
@@ -83,11 +75,16 @@ first_early t s = position (λ w. begins_before s w.ready t) s.queue
 abbrev pub first_late : ℕ → NodeSetup → Option ℕ
 first_late t s = position (λ w. not (begins_before s w.ready t)) s.queue
 
--- the bits that the frames of all nodes take at least, with the 11 in front of them
-abbrev pub wanted_bits : Plan → ℕ
-wanted_bits plan = 11 + queued_bits plan
+-- The least bits that a node takes until the last frame of its queue is out: the 11 that it waits for, and the frames, with intermission between two
+-- and none after the last.
+abbrev pub wanted_bits : NodeSetup → ℕ
+wanted_bits s = 11 + queue_bits s - 3
 
--- these bits of node 0 last beyond the end
-abbrev pub has_no_room : Plan → Bool
-has_no_room plan =
-    not (begins_before (setup_at plan 0) (wanted_bits plan * bit_quanta (setup_at plan 0).segments) (plan.end + 1))
+-- The quanta of so many bits at least: from one sample to the next there are the start of a bit and the least way after it, however early edges come
+-- (Bosch CAN 2.0 part B, section 10).
+abbrev pub least_quanta : Lengths → ℕ → ℕ
+least_quanta l bits = bits * (1 + least_way l)
+
+-- some frames wait at a node, and the last of these quanta begins at the end or later
+abbrev pub has_no_room : ℕ → NodeSetup → Bool
+has_no_room end s = nat_lt 0 (length s.queue) && not (begins_before s (least_quanta s.segments (wanted_bits s) - 1) end)

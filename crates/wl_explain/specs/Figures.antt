@@ -1,7 +1,10 @@
 -- What is read off a node's settings, in whole numbers. A tick is taken for a nanosecond.
-use Rattle.std.specs.Prelude.{ℕ, ◌+◌, ◌*◌, ◌-◌, ◌/◌, ◌<◌, ◌≤◌, ◌||◌, ◌==◌, nat_lt, min, Option, Some, None, if◌then◌else◌}
+use Rattle.std.specs.Prelude.{ℕ, ◌+◌, ◌*◌, ◌-◌, ◌/◌, ◌<◌, ◌≤◌, ◌||◌, ◌&&◌, ◌==◌, nat_lt, min, max, Bool, Option, Some, None, if◌then◌else◌}
+use Rattle.wl_level.specs.Places.{count_places}
+use Rattle.wl_clock.specs.declared.Rate.{Rate}
 use Rattle.wl_clock.specs.Timing.{Timing, tick_of}
 use Rattle.wl_segments.specs.Lengths.{Lengths, sample_at, bit_quanta}
+use Rattle.wl_plan.specs.Limits.{most_quanta}
 
 -- the most ticks that a quantum may take, and the largest denominator (this project's profile, as for a clock)
 abbrev pub longest_quantum : ℕ
@@ -28,9 +31,31 @@ quantum_of num den =
     if den == 0 || nat_lt largest_den den || nat_lt num den || nat_lt (longest_quantum * den) num then None
     else Some (record { num = num; den = den })
 
--- the mean of the first 1,000,000 quanta of a clock, in millionths of a tick: that of a clock with one rate in these units is its rate
-abbrev pub mean_quantum : Timing → Ratio
-mean_quantum t = record { num = tick_of t 1000000 - tick_of t 0; den = 1000000 }
+-- The quanta of a clock that a plan is about: those that begin before its end, one at least. Quantum k begins at tick k or later, and a plan that can
+-- be run has no more quanta than these.
+abbrev pub quanta_begun : ℕ → Timing → ℕ
+quanta_begun end t = max (count_places (λ k. nat_lt (tick_of t k) end) (min end most_quanta)) 1
+
+-- the ticks that the first n quanta of a clock take
+abbrev pub ticks_of : Timing → ℕ → ℕ
+ticks_of t n = tick_of t n - tick_of t 0
+
+-- n quanta of this mean, in millionths of a tick, may take so many ticks: both are rounded down
+abbrev pub may_take : ℕ → ℕ → ℕ → Bool
+may_take n mean ticks = nat_lt (n * mean) (1000000 * (ticks + 1)) && nat_lt (1000000 * ticks) (n * (mean + 1))
+
+-- The mean of the first n quanta, in millionths of a tick. Their ticks are whole, so they tell it to less than a tick in n quanta: it is that of the
+-- first 1,000,000 quanta where these n may have it, which in a clock of one rate they have, and else what the ticks of the n say, rounded down.
+abbrev pub mean_of : Timing → ℕ → ℕ
+mean_of t n = if may_take n (ticks_of t 1000000) (ticks_of t n) then ticks_of t 1000000 else 1000000 * ticks_of t n / n
+
+-- the mean quantum of a clock up to the end of a plan (this project's profile)
+abbrev pub mean_quantum : ℕ → Timing → Ratio
+mean_quantum end t = record { num = mean_of t (quanta_begun end t); den = 1000000 }
+
+-- the quantum of a rate, in millionths of a tick, rounded down
+abbrev pub rate_quantum : Rate → Ratio
+rate_quantum r = record { num = 1000000 * r.num / r.den; den = 1000000 }
 
 -- the length of a quantum in picoseconds, rounded down
 abbrev pub picoseconds : Ratio → ℕ

@@ -28,8 +28,8 @@ abbrev pub hundredths : ℕ → List ℕ
 hundredths n = decimal (n / 100) ++ codes "." ++ decimal (n / 10 % 10) ++ decimal (n % 10)
 
 -- the bit rate of a node in bit/s
-abbrev pub bit_rate : NodeSetup → ℕ
-bit_rate s = bits_per_second (mean_quantum s.clock) s.segments
+abbrev pub bit_rate : ℕ → NodeSetup → ℕ
+bit_rate end s = bits_per_second (mean_quantum end s.clock) s.segments
 
 -- two nodes of unlike bit rates, in kbit/s, and two whose clocks are further apart than their segments bear, in parts per million
 abbrev pub unlike_words : List ℕ → List ℕ → ℕ → ℕ → List ℕ
@@ -42,10 +42,10 @@ apart_words a b apart most =
     joined (codes "doubt: the clocks of " ∷ a ∷ codes " and " ∷ b ∷ codes " are " ∷ decimal apart
     ∷ codes " ppm apart, and their segments bear " ∷ decimal most ∷ codes "\n" ∷ [])
 
-abbrev pub clocks_line : List ℕ → List ℕ → NodeSetup → NodeSetup → List ℕ
-clocks_line a b s u =
-    if nat_lt greatest_difference (difference s u) then unlike_words a b (bit_rate s) (bit_rate u)
-    else (if nat_lt (borne s u) (difference s u) then apart_words a b (difference s u) (borne s u) else [])
+abbrev pub clocks_line : ℕ → List ℕ → List ℕ → NodeSetup → NodeSetup → List ℕ
+clocks_line end a b s u =
+    if nat_lt greatest_difference (difference end s u) then unlike_words a b (bit_rate end s) (bit_rate end u)
+    else (if nat_lt (borne s u) (difference end s u) then apart_words a b (difference end s u) (borne s u) else [])
 
 -- two nodes from one of which a level isn't back at the earlier sample, in ticks
 abbrev pub trip_words : List ℕ → List ℕ → ℕ → ℕ → List ℕ
@@ -59,8 +59,8 @@ trip_line a b trip most = if nat_lt most trip then trip_words a b trip most else
 -- what is doubtful of nodes i and j
 abbrev pub pair_doubts : Plan → List (List ℕ) → ℕ → ℕ → List ℕ
 pair_doubts plan names i j =
-    clocks_line (name_of names i) (name_of names j) (setup_at plan i) (setup_at plan j)
-    ++ trip_line (name_of names i) (name_of names j) (round_trip plan i j) (longest_round (setup_at plan i) (setup_at plan j))
+    clocks_line plan.end (name_of names i) (name_of names j) (setup_at plan i) (setup_at plan j)
+    ++ trip_line (name_of names i) (name_of names j) (round_trip plan i j) (longest_round plan.end (setup_at plan i) (setup_at plan j))
 
 -- of the nodes before node j and node j
 abbrev pub doubts_with : Plan → List (List ℕ) → ℕ → List ℕ
@@ -93,13 +93,16 @@ node_doubts plan names i =
     ++ late_line (name_of names i) (first_late plan.end (setup_at plan i))
     ++ early_line (name_of names i) (idle_from plan) (first_early (idle_from plan) (setup_at plan i))
 
--- an end that leaves no room for the frames of all nodes
+-- an end that leaves no room for the frames of a node
 abbrev pub room_words : List ℕ → ℕ → List ℕ
-room_words a bits =
-    joined (codes "doubt: 11 bits and the frames of all nodes take " ∷ decimal bits ∷ codes " bits of " ∷ a ∷ codes ", beyond the end\n" ∷ [])
+room_words a bits = joined (codes "doubt: 11 bits and the frames of " ∷ a ∷ codes " take at least " ∷ decimal bits ∷ codes " bits, beyond the end\n" ∷ [])
 
-abbrev pub room_line : Plan → List (List ℕ) → List ℕ
-room_line plan names = if has_no_room plan then room_words (name_of names 0) (wanted_bits plan) else []
+abbrev pub room_line : ℕ → List ℕ → NodeSetup → List ℕ
+room_line end a s = if has_no_room end s then room_words a (wanted_bits s) else []
+
+-- of node i
+abbrev pub room_doubts : Plan → List (List ℕ) → ℕ → List ℕ
+room_doubts plan names i = room_line plan.end (name_of names i) (setup_at plan i)
 
 -- the figures of node i: bit rate, sample point and quantum, as its clock goes
 abbrev pub timing_words : List ℕ → ℕ → ℕ → ℕ → List ℕ
@@ -109,8 +112,8 @@ timing_words a rate point quantum =
 
 abbrev pub timing_figures : Plan → List (List ℕ) → ℕ → List ℕ
 timing_figures plan names i =
-    timing_words (name_of names i) (bit_rate (setup_at plan i)) (sample_point (setup_at plan i).segments)
-    (picoseconds (mean_quantum (setup_at plan i).clock))
+    timing_words (name_of names i) (bit_rate plan.end (setup_at plan i)) (sample_point (setup_at plan i).segments)
+    (picoseconds (mean_quantum plan.end (setup_at plan i).clock))
 
 -- the tolerance of its oscillator, and how much of it the other clocks leave to both of a pair
 abbrev pub margin_words : ℕ → ℕ → List ℕ
@@ -127,15 +130,15 @@ cable_words (Some time) =
 
 abbrev pub cable_figure : Plan → ℕ → List ℕ
 cable_figure plan i =
-    cable_words (longest_cable (furthest_way (mean_quantum (setup_at plan i).clock) (setup_at plan i).segments) (delay_of plan.topology i i) 1)
+    cable_words (longest_cable (furthest_way (mean_quantum plan.end (setup_at plan i).clock) (setup_at plan i).segments) (delay_of plan.topology i i) 1)
 
 abbrev pub figures_line : Plan → List (List ℕ) → ℕ → List ℕ
 figures_line plan names i = timing_figures plan names i ++ margin_figures plan i ++ cable_figure plan i
 
--- the whole text: of each pair, by its later node and then by its earlier one, of each node, of the end, and then the figures
+-- the whole text: of each pair, by its later node and then by its earlier one, of each node, of the end by node, and then the figures
 abbrev pub explain_text : Plan → List (List ℕ) → List ℕ
 explain_text plan names =
     each_below (doubts_with plan names) (length plan.topology.places)
     ++ each_below (node_doubts plan names) (length plan.topology.places)
-    ++ room_line plan names
+    ++ each_below (room_doubts plan names) (length plan.topology.places)
     ++ each_below (figures_line plan names) (length plan.topology.places)

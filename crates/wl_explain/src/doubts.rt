@@ -3,12 +3,13 @@ ghost use Rattle.std.specs.Prelude.{◌≡◌, ◌+◌, ◌*◌, ◌^◌, ◌<�
 ghost use Rattle.wl_clock.specs.Timing.{tick_of};
 ghost use Rattle.wl_plan.specs.Checked.{IsChecked};
 ghost use Rattle.wl_plan.specs.PlanLine.{setup_at};
-ghost use Rattle.wl_explain.specs.Doubts.{begins_before, bit_length, borne, difference, first_early, first_late, frame_bits, has_no_room, idle_at, idle_from, left, longest_round, queue_bits, queued_bits, round_trip, wanted_bits};
+ghost use Rattle.wl_explain.specs.Doubts.{begins_before, bit_length, borne, difference, first_early, first_late, frame_bits, has_no_room, idle_at, idle_from, least_quanta, left, longest_round, queue_bits, round_trip, wanted_bits};
 
 use crate::{Quantum, tolerance};
 use wl_frame::frame::Frame;
 use wl_node::NodeSetup;
 use wl_plan::Plan;
+use wl_segments::Segments;
 
 /// Node `i` of a plan.
 pub(crate) fn setup(plan: &Plan, i: u8) -> &NodeSetup
@@ -20,22 +21,25 @@ pub(crate) fn setup(plan: &Plan, i: u8) -> &NodeSetup
     &nodes[place]
 }
 
-/// The length of a node's bit, in millionths of a tick.
-fn bit_length(node: &NodeSetup) -> u128
-    ensures value { result ≡ bit_length node.now }
+/// The mean length of a node's bit up to tick `end`, in millionths of a tick.
+fn bit_length(end: u64, node: &NodeSetup) -> u128
+    requires { end < 2 ^ 48 }
+    ensures value { result ≡ bit_length end node.now }
     ensures some { 0 < result }
     ensures most { result < 2 ^ 60 }
 {
     let quanta = node.segments.bit_quanta();
-    quanta as u128 * Quantum::of_clock(&node.clock).num() as u128
+    quanta as u128 * Quantum::of_clock(&node.clock, end).num() as u128
 }
 
-/// By how many millionths of the shorter of two nodes' bits the longer one is longer, rounded down.
-pub fn difference(one: &NodeSetup, other: &NodeSetup) -> u128
-    ensures { result ≡ difference one.now other.now }
+/// By how many millionths of the shorter of two nodes' bits the longer one is longer, rounded down. A bit is the mean of those up to tick `end`,
+/// which is below 2^48.
+pub fn difference(end: u64, one: &NodeSetup, other: &NodeSetup) -> u128
+    requires { end < 2 ^ 48 }
+    ensures { result ≡ difference end one.now other.now }
 {
-    let first = bit_length(one);
-    let second = bit_length(other);
+    let first = bit_length(end, one);
+    let second = bit_length(end, other);
     1_000_000 * first.abs_diff(second) / first.min(second)
 }
 
@@ -56,7 +60,7 @@ pub fn left(plan: &Plan, i: u8) -> u128
     let mut left = 2 * tolerance(&node.segments) as u128;
     for j in 0..plan.topology.nodes() {
         let other = setup(plan, j);
-        left = left.min(borne(node, other).saturating_sub(difference(node, other)));
+        left = left.min(borne(node, other).saturating_sub(difference(plan.end, node, other)));
     }
     left
 }
@@ -70,12 +74,14 @@ pub fn round_trip(plan: &Plan, i: u8, j: u8) -> u64
     plan.topology.delay(i, j) + plan.topology.delay(j, i)
 }
 
-/// The most ticks there and back with which a level is there at the earlier sample of two nodes.
-pub fn longest_round(one: &NodeSetup, other: &NodeSetup) -> u64
-    ensures { result ≡ longest_round one.now other.now }
+/// The most ticks there and back with which a level is there at the earlier sample of two nodes, by their mean quanta up to tick `end`, which is
+/// below 2^48.
+pub fn longest_round(end: u64, one: &NodeSetup, other: &NodeSetup) -> u64
+    requires { end < 2 ^ 48 }
+    ensures { result ≡ longest_round end one.now other.now }
 {
-    let first = Quantum::of_clock(&one.clock).longest_trip(&one.segments);
-    let second = Quantum::of_clock(&other.clock).longest_trip(&other.segments);
+    let first = Quantum::of_clock(&one.clock, end).longest_trip(&one.segments);
+    let second = Quantum::of_clock(&other.clock, end).longest_trip(&other.segments);
     first.min(second)
 }
 
@@ -102,26 +108,22 @@ fn queue_bits(node: &NodeSetup) -> u128
     bits
 }
 
-/// The least bits of the frames of all nodes, with three of intermission after each.
-pub fn queued_bits(plan: &Plan) -> u128
-    requires { IsChecked plan.now }
-    ensures value { result ≡ queued_bits plan.now }
-    ensures few { result < 2 ^ 90 }
+/// The least bits that a node takes until the last frame of its queue is out: the 11 that it waits for, and the frames, with intermission
+/// between two. Stuff bits, and bits in which it doesn't send, are more.
+pub fn wanted_bits(node: &NodeSetup) -> u128
+    ensures value { result ≡ wanted_bits node.now }
+    ensures some { 0 < result }
+    ensures few { result < 2 ^ 81 }
 {
-    let mut bits = 0;
-    for j in 0..plan.topology.nodes() {
-        bits += queue_bits(setup(plan, j));
-    }
-    bits
+    11 + queue_bits(node) - 3
 }
 
-/// The least bits that the frames of all nodes take, with the 11 in front of them.
-pub fn wanted_bits(plan: &Plan) -> u128
-    requires { IsChecked plan.now }
-    ensures value { result ≡ wanted_bits plan.now }
-    ensures few { result < 2 ^ 91 }
+/// The quanta of so many bits at least, however early edges come.
+fn least_quanta(segments: &Segments, bits: u128) -> u128
+    requires few { bits < 2 ^ 81 }
+    ensures { result ≡ least_quanta segments.now bits }
 {
-    11 + queued_bits(plan)
+    bits * (1 + segments.least_way()) as u128
 }
 
 /// The tick at which a node has counted the 11 bits that it waits for (Bosch CAN 2.0 part B, section 9).
@@ -176,12 +178,16 @@ pub fn first_late(t: u64, node: &NodeSetup) -> Option<usize>
         .position(|waiting| !begins_before(node, waiting.ready as u128, t))
 }
 
-/// Whether the bits that the frames of all nodes take at least, and 11 in front of them, last beyond the end by the clock of node 0.
-pub fn has_no_room(plan: &Plan) -> bool
-    requires { IsChecked plan.now }
-    ensures { result ≡ has_no_room plan.now }
+/// Whether some frames wait at a node and can't all be sent before tick `end`, which is below 2^48: the least quanta of its least bits, by its own
+/// clock, last beyond it.
+///
+/// What is said is always so: a node sends its frames one after another, each of their bits takes a sample, and from one sample to the next
+/// there are the start of a bit and the least way after it. It may be so and not be said: stuff bits are not counted, nor what other nodes send,
+/// since equal frames may go out at once.
+pub fn has_no_room(end: u64, node: &NodeSetup) -> bool
+    requires { end < 2 ^ 48 }
+    ensures { result ≡ has_no_room end node.now }
 {
-    let node = setup(plan, 0);
-    let quanta = wanted_bits(plan) * node.segments.bit_quanta() as u128;
-    !begins_before(node, quanta, plan.end + 1)
+    let last = least_quanta(&node.segments, wanted_bits(node)) - 1;
+    !node.queue.is_empty() && !begins_before(node, last, end)
 }

@@ -6,21 +6,26 @@
 //! after it came is this project's profile. The tolerance of an oscillator is `Segments::greatest_ppm`.
 #![tactic(auto)]
 
-ghost use Rattle.std.specs.Prelude.{◌≡◌, ℕ, ◌+◌, ◌*◌, ◌<◌, ◌≤◌, ◌↔◌, IfSome, None};
-ghost use Rattle.wl_explain.specs.Figures.{Ratio, IsQuantum, quantum_of, picoseconds, bits_per_second, sample_point, ComesBack, furthest_way, longest_cable, longest_trip, mean_quantum, metres, tolerance};
+ghost use Rattle.std.specs.Prelude.{◌≡◌, ℕ, ◌+◌, ◌*◌, ◌^◌, ◌<◌, ◌≤◌, ◌↔◌, IsTrue, [], ◌∷◌, IfSome, None};
+ghost use Rattle.wl_clock.specs.declared.Rate.{Rate};
+ghost use Rattle.wl_plan.specs.Limits.{most_quanta};
+ghost use Rattle.wl_explain.specs.Figures.{Ratio, IsQuantum, quantum_of, picoseconds, bits_per_second, sample_point, ComesBack, furthest_way, longest_cable, longest_trip, may_take, mean_quantum, metres, quanta_begun, rate_quantum, ticks_of, tolerance};
 
 mod doubts;
+mod laws;
 mod refusal;
 mod remedies;
 mod words;
 
 pub use doubts::{
     borne, difference, first_early, first_late, has_no_room, idle_from, left, longest_round,
-    queued_bits, round_trip, wanted_bits,
+    round_trip, wanted_bits,
 };
+pub use laws::figures_of_the_run;
 pub use refusal::{explain_fault, explain_size};
 use std::marker::Model;
 use wl_clock::Clock;
+use wl_plan::MOST_QUANTA;
 use wl_segments::Segments;
 pub use words::explain_plan;
 
@@ -64,12 +69,29 @@ impl Quantum {
         Some(Quantum { num, den })
     }
 
-    /// The mean of a clock's first 1,000,000 quanta, in millionths of a tick.
-    pub fn of_clock(clock: &Clock) -> Quantum
-        ensures { result ≡ mean_quantum clock.now }
+    /// The mean quantum of a clock up to the end of a plan, in millionths of a tick, rounded down: of the quanta that begin before tick `end`, of
+    /// quantum 0 where none does, and of the first 1,048,576 where there are more, as in no plan that can be run.
+    ///
+    /// Ticks are whole, so those of n quanta tell their mean to less than a tick in n. Where that leaves room for the mean of the clock's first
+    /// 1,000,000 quanta, the answer is that one, which of a clock with one rate is the rate, whatever the end; else it is the ticks of the n
+    /// quanta by n. `end` is below 2^48.
+    pub fn of_clock(clock: &Clock, end: u64) -> Quantum
+        requires { end < 2 ^ 48 }
+        ensures mean { result ≡ mean_quantum end clock.now }
+        ensures near { IsTrue (may_take (quanta_begun end clock.now) (mean_quantum end clock.now).num
+            (ticks_of clock.now (quanta_begun end clock.now))) }
+        ensures rate { (r : Rate) → clock.now.rates ≡ r ∷ [] → mean_quantum end clock.now ≡ rate_quantum r }
     {
         wl_clock::ticks_increase();
-        let num = clock.at(MILLION) - clock.at(0);
+        let quanta = quanta_begun(clock, end);
+        let start = clock.at(0);
+        let ticks = clock.at(quanta) - start;
+        let million = clock.at(MILLION) - start;
+        let num = if may_take(quanta, million, ticks) {
+            million
+        } else {
+            MILLION * ticks / quanta
+        };
         Quantum { num, den: MILLION }
     }
 
@@ -120,6 +142,27 @@ impl Quantum {
     {
         (segments.sample_at() - 1) * self.num() / self.den()
     }
+}
+
+/// How many quanta of a clock begin before tick `end`: 1 to 1,048,576.
+fn quanta_begun(clock: &Clock, end: u64) -> u64
+    requires { end < 2 ^ 48 }
+    ensures quanta { result ≡ quanta_begun end clock.now }
+    ensures some { 0 < result }
+    ensures few { result ≤ 2 ^ 20 }
+{
+    wl_clock::ticks_increase();
+    clock.first_not_before(end).min(MOST_QUANTA).max(1)
+}
+
+/// Whether so many quanta of this mean, in millionths of a tick, may take so many ticks, where both are rounded down.
+fn may_take(quanta: u64, mean: u64, ticks: u64) -> bool
+    requires few { quanta ≤ 2 ^ 20 }
+    requires short { mean < 2 ^ 42 }
+    requires soon { ticks < 2 ^ 42 }
+    ensures { result ≡ may_take quanta mean ticks }
+{
+    quanta * mean < MILLION * (ticks + 1) && MILLION * ticks < quanta * (mean + 1)
 }
 
 /// The sample point in hundredths of a per cent of the bit, rounded down.

@@ -1,8 +1,8 @@
 //! The text of an explanation.
-ghost use Rattle.std.specs.Prelude.{◌≡◌, ◌<◌, ◌++◌, string_bytes, length, OnOk, IfOk};
+ghost use Rattle.std.specs.Prelude.{◌≡◌, ◌^◌, ◌<◌, ◌++◌, string_bytes, length, OnOk, IfOk};
 ghost use Rattle.wl_plan.specs.Checked.{IsChecked};
 ghost use Rattle.wl_setup.specs.Check.{name_of};
-ghost use Rattle.wl_explain.specs.Words.{apart_words, bit_rate, cable_figure, cable_words, clocks_line, doubts_with, each_below, early_line, explain_text, figures_line, jump_line, jump_words, late_line, margin_figures, margin_words, node_doubts, pair_doubts, room_line, room_words, timing_figures, timing_words, trip_line, trip_words, unlike_words};
+ghost use Rattle.wl_explain.specs.Words.{apart_words, bit_rate, cable_figure, cable_words, clocks_line, doubts_with, each_below, early_line, explain_text, figures_line, jump_line, jump_words, late_line, margin_figures, margin_words, node_doubts, pair_doubts, room_doubts, room_line, room_words, timing_figures, timing_words, trip_line, trip_words, unlike_words};
 
 use crate::doubts::{
     borne, difference, first_early, first_late, has_no_room, idle_from, left, longest_round,
@@ -65,11 +65,12 @@ impl fmt::Display for Hundredths {
     }
 }
 
-/// The bit rate of a node in bit/s.
-fn bit_rate(node: &NodeSetup) -> u64
-    ensures { result ≡ bit_rate node.now }
+/// The mean bit rate of a node up to tick `end`, in bit/s.
+fn bit_rate(end: u64, node: &NodeSetup) -> u64
+    requires { end < 2 ^ 48 }
+    ensures { result ≡ bit_rate end node.now }
 {
-    Quantum::of_clock(&node.clock).bits_per_second(&node.segments)
+    Quantum::of_clock(&node.clock, end).bits_per_second(&node.segments)
 }
 
 /// Adds the line of two nodes with unlike bit rates.
@@ -103,17 +104,20 @@ fn push_apart(
 /// Adds what is doubtful of the clocks of two nodes.
 fn push_clocks(
     text: &mut String,
+    end: u64,
     a: &str,
     b: &str,
     one: &NodeSetup,
     other: &NodeSetup,
 ) -> Result<(), AllocError>
-    ensures { OnOk result (string_bytes text.new ≡ string_bytes text.old ++ clocks_line a.now b.now one.now other.now) }
+    requires { end < 2 ^ 48 }
+    ensures { OnOk result (string_bytes text.new ≡ string_bytes text.old
+        ++ clocks_line end a.now b.now one.now other.now) }
 {
-    let apart = difference(one, other);
+    let apart = difference(end, one, other);
     let most = borne(one, other);
     if apart > GREATEST_DIFFERENCE {
-        push_unlike(text, a, b, bit_rate(one), bit_rate(other))
+        push_unlike(text, a, b, bit_rate(end, one), bit_rate(end, other))
     } else if apart > most {
         push_apart(text, a, b, apart, most)
     } else {
@@ -157,13 +161,13 @@ fn push_pair(text: &mut String, plan: &Plan, names: &Names, i: u8, j: u8) -> Res
 {
     let (one, other) = (setup(plan, i), setup(plan, j));
     let (a, b) = (name_of(names, i), name_of(names, j));
-    push_clocks(text, a, b, one, other)?;
+    push_clocks(text, plan.end, a, b, one, other)?;
     push_trip(
         text,
         a,
         b,
         round_trip(plan, i, j),
-        longest_round(one, other),
+        longest_round(plan.end, one, other),
     )
 }
 
@@ -271,20 +275,32 @@ fn push_room_words(text: &mut String, a: &str, bits: u128) -> Result<(), AllocEr
 {
     writeln!(
         text,
-        "doubt: 11 bits and the frames of all nodes take {bits} bits of {a}, beyond the end"
+        "doubt: 11 bits and the frames of {a} take at least {bits} bits, beyond the end"
     )
 }
 
-/// Adds what is doubtful of the end.
-fn push_room(text: &mut String, plan: &Plan, names: &Names) -> Result<(), AllocError>
-    requires { IsChecked plan.now }
-    ensures { OnOk result (string_bytes text.new ≡ string_bytes text.old ++ room_line plan.now names.now) }
+/// Adds what is doubtful of the end for a node.
+fn push_room_of(text: &mut String, end: u64, a: &str, node: &NodeSetup) -> Result<(), AllocError>
+    requires { end < 2 ^ 48 }
+    ensures { OnOk result (string_bytes text.new ≡ string_bytes text.old ++ room_line end a.now node.now) }
 {
-    if has_no_room(plan) {
-        push_room_words(text, name_of(names, 0), wanted_bits(plan))
+    if has_no_room(end, node) {
+        push_room_words(text, a, wanted_bits(node))
     } else {
         Ok(())
     }
+}
+
+/// Adds what is doubtful of the end for each node.
+fn push_room(text: &mut String, plan: &Plan, names: &Names) -> Result<(), AllocError>
+    requires { IsChecked plan.now }
+    ensures { OnOk result (string_bytes text.new ≡ string_bytes text.old
+        ++ each_below (room_doubts plan.now names.now) (length plan.now.topology.places)) }
+{
+    for i in 0..plan.topology.nodes() {
+        push_room_of(text, plan.end, name_of(names, i), setup(plan, i))?;
+    }
+    Ok(())
 }
 
 /// Adds the words of a node's bit rate in bit/s, of its sample point in hundredths of a per cent and of its quantum in picoseconds.
@@ -308,13 +324,15 @@ fn push_timing_words(
 
 /// Adds bit rate, sample point and quantum of node `i`.
 fn push_timing(text: &mut String, plan: &Plan, names: &Names, i: u8) -> Result<(), AllocError>
-    requires { i < length plan.now.nodes }
+    requires checked { IsChecked plan.now }
+    requires node { i < length plan.now.nodes }
     ensures { OnOk result (string_bytes text.new ≡ string_bytes text.old ++ timing_figures plan.now names.now i) }
 {
     let node = setup(plan, i);
+    let rate = bit_rate(plan.end, node);
     let point = sample_point(&node.segments);
-    let quantum = Quantum::of_clock(&node.clock).picoseconds();
-    push_timing_words(text, name_of(names, i), bit_rate(node), point, quantum)
+    let quantum = Quantum::of_clock(&node.clock, plan.end).picoseconds();
+    push_timing_words(text, name_of(names, i), rate, point, quantum)
 }
 
 /// Adds the words of a tolerance and of what is left of it, in parts per million.
@@ -354,7 +372,7 @@ fn push_cable(text: &mut String, plan: &Plan, i: u8) -> Result<(), AllocError>
     ensures { OnOk result (string_bytes text.new ≡ string_bytes text.old ++ cable_figure plan.now i) }
 {
     let node = setup(plan, i);
-    let way = Quantum::of_clock(&node.clock).furthest_way(&node.segments);
+    let way = Quantum::of_clock(&node.clock, plan.end).furthest_way(&node.segments);
     push_cable_words(text, longest_cable(way, plan.topology.delay(i, i), 1))
 }
 
@@ -386,10 +404,10 @@ fn push_all_figures(text: &mut String, plan: &Plan, names: &Names) -> Result<(),
 /// Doubtful is, in this order: of each pair of nodes, by the later and then by the earlier, bit rates that no clocks of one nominal
 /// rate can have, clocks further apart than the segments of both bear, and a way there and back for which the earlier sample is too
 /// early; of each node a jump width above PHASE_SEG2, its first frame that becomes ready at the end or later, and its first that
-/// becomes ready before all nodes have counted 11 bits; and an end that leaves no room for the frames of all nodes. The figures are
+/// becomes ready before all nodes have counted 11 bits; and of each node an end that leaves no room for its frames. The figures are
 /// bit rate in kbit/s, sample point in per cent, quantum in nanoseconds, tolerance in parts per million, how much of it the other
-/// clocks leave to both nodes of a pair, and the longest cable in nanoseconds along it and in metres at 5 ns each. A tick is taken for a nanosecond. Refused out
-/// of memory alone.
+/// clocks leave to both nodes of a pair, and the longest cable in nanoseconds along it and in metres at 5 ns each. A quantum is the mean
+/// of those that the node runs before the end. A tick is taken for a nanosecond. Refused out of memory alone.
 pub fn explain_plan(alloc: Global, plan: &Plan, names: &Names) -> Result<String, AllocError>
     requires { IsChecked plan.now }
     ensures { IfOk result (λ text. string_bytes text ≡ explain_text plan.now names.now) }

@@ -11,5 +11,5 @@ loop-j-preserved c =
     c.min-left.ensures
     ∙ ap₂ min c.loop-j.invariant (c.saturating_sub.ensures
     ∙ ap₂ (λ (a b : ℕ). a - b) (c.borne.ensures ∙ ap₂ borne c.setup-node.ensures c.setup-other.ensures)
-    (c.difference.ensures ∙ ap₂ difference c.setup-node.ensures c.setup-other.ensures))
+    (c.difference.ensures ∙ ap₂ (difference plan.end) c.setup-node.ensures c.setup-other.ensures))
     ∙ ap (margin_below plan i) {x = suc j} {y = j + 1} (omega arith)

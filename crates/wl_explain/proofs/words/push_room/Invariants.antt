@@ -1,0 +1,7 @@
+use Rattle.std.proofs.Common.{◌≡◌, ◌++◌, string_bytes}
+use Rattle.wl_explain.specs.Words.{each_below, room_doubts}
+use Rattle.wl_explain.proofs.words.push_room.Given as goal
+
+-- the doubts so far come after the text
+abbrev pub invariant-loop-i : goal.invariant-loop-i
+invariant-loop-i l = string_bytes l.text ≡ string_bytes l.initial.text ++ each_below (room_doubts l.plan l.names) l.i
