@@ -150,7 +150,7 @@ module _ (sounds : CheckedIsSound) (laws : SimulationLaws) (plan : Plan) (checke
         | inr high ↦ (during q high below).1
       ]
 
-      shown_upto : (m : ℕ) → m ≤ n → shown_of (setup_at plan i) (seen (line_of plan) i (k + m)) ≡ shown_of (setup_at plan i) (seen (line_of plan) i k)
+      pub shown_upto : (m : ℕ) → m ≤ n → shown_of (setup_at plan i) (seen (line_of plan) i (k + m)) ≡ shown_of (setup_at plan i) (seen (line_of plan) i k)
       shown_upto m less =
           ap (shown_of (setup_at plan i)) (same_seen m (λ q from below. in_time q from (omega arith))) ∙ plain m less
 

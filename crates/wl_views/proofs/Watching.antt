@@ -55,10 +55,10 @@ on plan i t u w h from below = record {
 
 module _ (sounds : CheckedIsSound) (laws : SimulationLaws) (plan : Plan) (checked : IsChecked plan) (i : ℕ) (b : i < length plan.nodes) where
   pub stays : (t u : ℕ) (w : Watched) → Watches plan i t w → t ≤ u → u < w.until
-      → node_signals plan u i ≡ signals_by (shown_of (setup_at plan i) (seen (line_of plan) i w.quanta)) w.cable.value w.disturbance.value
+      → node_signals plan u i ≡ signals_by w.shown w.cable.value w.disturbance.value
   unfolding node_signals
   stays t u w h from below =
-      let same : shown_then plan i u ≡ shown_of (setup_at plan i) (seen (line_of plan) i w.quanta) = h.same u from below in
+      let same : shown_then plan i u ≡ w.shown = h.same u from below in
       let e = h.until in
       λ x. record {
         tx = ap not (driven_then sounds laws plan checked i b u ∙ ap (λ (s : Shown). is_dominant s.drive) same) x;
@@ -71,18 +71,13 @@ module _ (sounds : CheckedIsSound) (laws : SimulationLaws) (plan : Plan) (checke
       }
 
   pub now : (t : ℕ) (w : Watched) → Watches plan i t w
-      → node_signals plan t i ≡ signals_by (shown_of (setup_at plan i) (seen (line_of plan) i w.quanta)) w.cable.value w.disturbance.value
+      → node_signals plan t i ≡ signals_by w.shown w.cable.value w.disturbance.value
   now t w h =
       let p = h.hears.cable.later in
       let r = h.hears.disturbance.later in
       let q = h.later in
       let e = h.until in
       stays t t w h (omega arith) (omega arith)
-
-  -- what a watched node says is its signals
-  pub said : (t : ℕ) (w : Watched) (s : NodeSignals) → Watches plan i t w
-      → ((setup : NodeSetup) (levels : List Level) → IsRerun setup levels w.node → s ≡ signals_by (shown_of setup levels) w.cable.value w.disturbance.value) → s ≡ node_signals plan t i
-  said t w s h is = is (setup_at plan i) (seen (line_of plan) i w.quanta) h.runs.node ∙ sym (now t w h)
 
   -- what it has seen began before the line changes, and before its next quantum
   begun_before : (t : ℕ) (w : Watched) → 0 < t → Watches plan i (t - 1) w → w.until ≤ t → (k : ℕ) → k < w.quanta → tick_of (setup_at plan i).clock k < t

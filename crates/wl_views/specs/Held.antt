@@ -74,6 +74,7 @@ syncs_then plan i k = syncs_of (setup_at plan i) (seen (line_of plan) i k)
 -- a node runs again, and has seen so many of its quanta before the end
 pub record Runs (plan : Plan) (i : ℕ) (w : Watched) : Type 0 where
   pub node : IsRerun (setup_at plan i) (seen (line_of plan) i w.quanta) w.node
+  pub shown : w.shown ≡ shown_of (setup_at plan i) (seen (line_of plan) i w.quanta)
   pub inside : AreInside (line_of plan) i w.quanta
 
 -- those that begin before tick t
@@ -97,7 +98,7 @@ pub record Watches (plan : Plan) (i t : ℕ) (w : Watched) : Type 0 where
   pub before : (q : ℕ) → q < w.quanta → tick_of (setup_at plan i).clock q < heard_until w
   pub later : t < w.next
   pub until : w.until ≡ min (heard_until w) w.next
-  pub same : (u : ℕ) → t ≤ u → u < w.until → shown_then plan i u ≡ shown_of (setup_at plan i) (seen (line_of plan) i w.quanta)
+  pub same : (u : ℕ) → t ≤ u → u < w.until → shown_then plan i u ≡ w.shown
 
 -- that of all nodes
 pub record AllWatched (plan : Plan) (t : ℕ) (all : List Watched) : Type 0 where

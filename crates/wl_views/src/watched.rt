@@ -23,7 +23,7 @@ use wl_level::Level;
 use wl_plan::Plan;
 use wl_serial::Outcome;
 use wl_topology::MOST_NODES;
-use wl_trace::{Noted, Rerun};
+use wl_trace::{Noted, Rerun, Shown};
 
 /// What is known of a node's signals from a tick on.
 #[derive(Drop)]
@@ -36,6 +36,8 @@ pub(crate) struct Watched {
     come: [usize; MOST_NODES],
     /// The node after the quanta that it has seen.
     pub(crate) node: Rerun,
+    /// What a waveform shows of it.
+    pub(crate) shown: Shown,
     /// How many they are.
     pub(crate) quanta: u64,
     /// The tick of its next quantum before the end, and the last of all ticks where there is none.
@@ -77,11 +79,14 @@ impl Watched {
             until: 0,
         };
         let setup = &plan.nodes.as_slice()[i];
+        let node = Rerun::new(setup.segments);
+        let shown = node.shown();
         Watched {
             cable: none,
             disturbance: none,
             come: [0; MOST_NODES],
-            node: Rerun::new(setup.segments),
+            node,
+            shown,
             quanta: 0,
             next: next_tick(&setup.clock, plan.end, 0),
             until: 0,
@@ -90,10 +95,9 @@ impl Watched {
 
     /// The signals.
     pub(crate) fn signals(&self) -> NodeSignals
-        ensures { (setup : NodeSetup) (levels : List Level) → IsRerun setup levels self.now.node
-            → result ≡ signals_by (shown_of setup levels) self.now.cable.value self.now.disturbance.value }
+        ensures { result ≡ signals_by self.now.shown self.now.cable.value self.now.disturbance.value }
     {
-        let shown = self.node.shown();
+        let shown = self.shown;
         NodeSignals {
             tx: !shown.drive.is_dominant(),
             rx: !self.line().value,
@@ -142,6 +146,7 @@ impl Watched {
         requires remembers { Remembers plan.now i t self.old }
         ensures hears { Hears plan.now i t self.new }
         ensures node { self.new.node ≡ self.old.node }
+        ensures shown { self.new.shown ≡ self.old.shown }
         ensures quanta { self.new.quanta ≡ self.old.quanta }
         ensures next { self.new.next ≡ self.old.next }
     {
@@ -173,6 +178,7 @@ impl Watched {
         let queue = plan.nodes.as_slice()[i].queue.as_slice();
         let level = level_of(self.line().value);
         let sync = self.node.quantum(queue, self.quanta, level);
+        self.shown = self.node.shown();
         self.quanta += 1;
         sync
     }

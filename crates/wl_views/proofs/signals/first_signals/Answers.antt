@@ -4,7 +4,7 @@ use Rattle.wl_views.specs.declared.signals.NodeSignals.{NodeSignals}
 use Rattle.wl_views.specs.declared.watched.Watched.{Watched}
 use Rattle.wl_views.specs.Held.{Watches}
 use Rattle.wl_views.specs.Signals.{node_signals}
-use Rattle.wl_views.proofs.Watching.{said}
+use Rattle.wl_views.proofs.Watching.{now}
 use Rattle.wl_views.proofs.signals.first_signals.Goals as goal
 
 pub loop-i-preserved : goal.loop-i-preserved
@@ -19,6 +19,6 @@ loop-i-preserved c =
       now =
           c.in_ok-push.ensures.items
           ∙ ap₂ (λ (xs : List NodeSignals) x. xs ++ x ∷ []) c.loop-i.invariant.now
-          (said c.checked_is_sound.ensures c.simulation_laws.ensures plan c.requires.checked i b 0 w c.signals.result watches c.signals.ensures)
+          (c.signals.ensures ∙ sym (now c.checked_is_sound.ensures c.simulation_laws.ensures plan c.requires.checked i b 0 w watches))
           ∙ sym (map-range_with_len_more (node_signals plan 0) 0 i i (zero-add i));
     }

@@ -4,7 +4,7 @@ use Rattle.wl_plan.specs.declared.plan.Plan.{Plan}
 use Rattle.wl_views.specs.Signals.{node_signals}
 use Rattle.wl_views.specs.Vcd.{node_changes}
 use Rattle.wl_views.proofs.Walk.{same_node}
-use Rattle.wl_views.proofs.Watching.{awaited, now, on, remembered, said, stays}
+use Rattle.wl_views.proofs.Watching.{awaited, now, on, remembered, stays}
 use Rattle.wl_views.proofs.signals.push_node.Goals as goal
 
 pub returns-then-t-known-clause-lines : goal.returns-then-t-known-clause-lines
@@ -37,10 +37,10 @@ returns-clause-lines c =
     let i : ℕ = c.args.i in
     let t : ℕ = c.args.t in
     let was : c.signals-was.result ≡ node_signals plan (t - 1) i =
-    said c.checked_is_sound.ensures c.simulation_laws.ensures plan c.requires.checked i c.requires.node (t - 1) c.args.known.now c.signals-was.result c.requires.was c.signals-was.ensures
+    c.signals-was.ensures ∙ sym (now c.checked_is_sound.ensures c.simulation_laws.ensures plan c.requires.checked i c.requires.node (t - 1) c.args.known.now c.requires.was)
     in
     let is : c.signals.result ≡ node_signals plan t i =
-    said c.checked_is_sound.ensures c.simulation_laws.ensures plan c.requires.checked i c.requires.node t c.go.new.self c.signals.result c.go.ensures.watches c.signals.ensures
+    c.signals.ensures ∙ sym (now c.checked_is_sound.ensures c.simulation_laws.ensures plan c.requires.checked i c.requires.node t c.go.new.self c.go.ensures.watches)
     in
     c.push_node_changes.ensures.lines ∙ ap₂ (λ x y. c.args.text.now.items ++ node_changes i x y) was is
 

@@ -14,7 +14,8 @@ returns-clause-awaits c =
     in
     record {
       runs = record {
-        node = c.new.ensures (setup_at c.args.plan.now c.args.i) (ap (λ (s : NodeSetup). s.segments) (sym setup));
+        node = c.new-node.ensures (setup_at c.args.plan.now c.args.i) (ap (λ (s : NodeSetup). s.segments) (sym setup));
+        shown = c.shown-shown.ensures (setup_at c.args.plan.now c.args.i) [] (c.new-node.ensures (setup_at c.args.plan.now c.args.i) (ap (λ (s : NodeSetup). s.segments) (sym setup)));
         inside = λ m below. absurd (omega arith);
       };
       next = c.next_tick.ensures ∙ ap (λ (s : NodeSetup). next_of s.clock c.args.plan.now.end 0) setup;

@@ -14,7 +14,7 @@ use Rattle.wl_trace.specs.Synced.{syncs_of}
 use Rattle.wl_trace.specs.Shown.{shown_of}
 use Rattle.wl_views.specs.declared.held.Held.{Held}
 use Rattle.wl_views.specs.Held.{next_of}
-use Rattle.wl_views.proofs.Going.{all_inside, few_inside, in_time, next_on, same_seen, setup_is, shown_stays}
+use Rattle.wl_views.proofs.Going.{all_inside, few_inside, in_time, next_on, same_seen, setup_is, shown_stays, shown_upto}
 use Rattle.wl_views.proofs.watched.Watched.pass.Goals as goal
 
 -- those that are passed begin before the end
@@ -66,6 +66,8 @@ returns-clause-watches c =
     in
     let timely = in_time sounds laws plan checked i b t held line k n h.runs.inside h.before h.later during plain in
     let next : c.next_tick-self.result ≡ next_of (setup_at plan i).clock plan.end (k + n) = c.next_tick-self.ensures ∙ ap (λ (s : NodeSetup). next_of s.clock plan.end (k + n)) setup in
+    let shown : c.args.self.now.shown ≡ shown_of (setup_at plan i) (seen (line_of plan) i (k + n)) =
+    h.runs.shown ∙ sym (shown_upto sounds laws plan checked i b t held line k n h.runs.inside h.before h.later during plain n (omega arith)) in
     record {
       runs = record {
         node =
@@ -73,6 +75,7 @@ returns-clause-watches c =
             (ap (λ (l : Level). seen (line_of plan) i k ++ replicate n l) c.level_of.ensures
             ∙ sym (same_seen sounds laws plan checked i b t held line k n timely))
             (c.pass.ensures.run (setup_at plan i) (seen (line_of plan) i k) h.runs.node);
+        shown = shown;
         inside = all_inside sounds laws plan checked i b t held line k n h.runs.inside h.before h.later during plain;
       };
       hears = record { cable = c.requires.hears.cable; disturbance = c.requires.hears.disturbance };
@@ -83,7 +86,8 @@ returns-clause-watches c =
       ];
       later = (let m = next_on sounds laws plan checked i b k n t c.requires.early h.later in omega arith);
       until = c.min-self.ensures ∙ ap (λ (n : ℕ). min n c.next_tick-self.result) whole;
-      same = λ u from below. shown_stays sounds laws plan checked i b t held line k n h.runs.inside h.before h.later during plain u from (omega (arith, c.min-self.ensures));
+      same = λ u from below.
+          shown_stays sounds laws plan checked i b t held line k n h.runs.inside h.before h.later during plain u from (omega (arith, c.min-self.ensures)) ∙ sym shown;
     }
 
 pub returns-clause-syncs : goal.returns-clause-syncs

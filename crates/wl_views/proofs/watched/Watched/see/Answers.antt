@@ -54,12 +54,15 @@ returns-clause-seen c =
     ap (λ (l : Level). seen (line_of plan) i k ++ l ∷ []) (c.level_of-level.ensures ∙ ap level_of (sym is))
     ∙ sym (seen_more c.checked_is_sound.ensures c.simulation_laws.ensures plan c.requires.checked i b k)
     in
+    let node : IsRerun (setup_at plan i) (seen (line_of plan) i (k + 1)) c.quantum-sync.new.self =
+    subst (λ (ls : List Level). IsRerun (setup_at plan i) ls c.quantum-sync.new.self) sees
+    (c.quantum-sync.ensures.run (setup_at plan i) (seen (line_of plan) i k) (sym (c.as_slice-queue.ensures ∙ ap (λ (s : NodeSetup). s.queue) setup))
+    (c.simulation_laws.ensures.length_seen (line_of plan) i k) old.runs.node)
+    in
     record {
       runs = record {
-        node =
-            subst (λ (ls : List Level). IsRerun (setup_at plan i) ls c.quantum-sync.new.self) sees
-            (c.quantum-sync.ensures.run (setup_at plan i) (seen (line_of plan) i k) (sym (c.as_slice-queue.ensures ∙ ap (λ (s : NodeSetup). s.queue) setup))
-            (c.simulation_laws.ensures.length_seen (line_of plan) i k) old.runs.node);
+        node = node;
+        shown = c.shown-self.ensures (setup_at plan i) (seen (line_of plan) i (k + 1)) node;
         inside = inside_more c.checked_is_sound.ensures c.simulation_laws.ensures plan c.requires.checked i b k old.runs.inside early;
       };
       before = λ q less. elim (cases_lt q k) [
