@@ -5,23 +5,18 @@ use Rattle.std.proofs.lemmas.Bool.{cases_lt}
 use Rattle.std.proofs.Math.ListN.{get_or-append}
 use Rattle.std.proofs.Math.Seq.{get_or-append_seam}
 use Rattle.std.proofs.lemmas.List.FromFn.{get_or-map-range_with_len, length-map-range_with_len}
-use Rattle.wl_level.specs.declared.Level.{Level}
 use Rattle.wl_level.specs.Levels.{is_dominant}
 use Rattle.wl_confine.specs.declared.Mode.TheVariants.{Active}
 use Rattle.wl_machine.specs.declared.doing.Doing.TheVariants.{Integrating}
-use Rattle.wl_node.specs.declared.setup.NodeSetup.{NodeSetup}
 use Rattle.wl_plan.specs.declared.plan.Plan.{Plan}
-use Rattle.wl_plan.specs.PlanLine.{line_of, setup_at}
-use Rattle.wl_plan.specs.Simulation.{seen}
+use Rattle.wl_plan.specs.PlanLine.{setup_at}
 use Rattle.wl_plan.specs.SimulationLaws.{SimulationLaws}
 use Rattle.wl_plan.specs.Checked.{IsChecked, CheckedIsSound}
 use Rattle.wl_trace.specs.declared.shown.Shown.{Shown}
-use Rattle.wl_trace.specs.Rerun.{IsRerun}
-use Rattle.wl_trace.specs.Shown.{shown_of}
 use Rattle.wl_views.specs.declared.held.Held.{Held}
 use Rattle.wl_views.specs.declared.signals.NodeSignals.{NodeSignals}
 use Rattle.wl_views.specs.declared.watched.Watched.{Watched}
-use Rattle.wl_views.specs.Held.{Awaits, Hears, Lasts, Remembers, Watches, heard_until, signals_by}
+use Rattle.wl_views.specs.Held.{Awaits, Comes, Hears, Lasts, Remembers, Watches, heard_until, not_held, signals_by}
 use Rattle.wl_views.specs.Signals.{node_signals, shown_then, signals}
 use Rattle.wl_views.specs.Vcd.{changes_from, node_changes}
 use Rattle.wl_clock.specs.Timing.{tick_of}
@@ -35,10 +30,14 @@ low = record { tx = false; rx = false; cable = false; disturbance = false; sampl
 narrow : (f : ℕ → Bool) (t u : ℕ) (held : Held) → Lasts f t held → t ≤ u → u < held.until → Lasts f u held
 narrow f t u held h from below = record { later = below; same = λ v more less. h.same v (omega arith) less }
 
+comes_on : (plan : Plan) (j t u : ℕ) (all : List Held) → Comes plan j t all → t ≤ u → Comes plan j u all
+comes_on plan j t u all h from i b below = narrow _ t u (get_or all i not_held) (h i b (omega arith)) from below
+
 hears_on : (plan : Plan) (i t u : ℕ) (w : Watched) → Hears plan i t w → t ≤ u → u < heard_until w → Hears plan i u w
 hears_on plan i t u w h from below = record {
   cable = narrow _ t u w.cable h.cable from (omega arith);
   disturbance = narrow _ t u w.disturbance h.disturbance from (omega arith);
+  sources = comes_on plan i t u w.sources h.sources from;
 }
 
 -- what is known goes on as long as it stays
@@ -93,6 +92,7 @@ module _ (sounds : CheckedIsSound) (laws : SimulationLaws) (plan : Plan) (checke
   remembered t w h = record {
     cable = λ below. narrow _ (t - 1) t w.cable h.hears.cable (omega arith) below;
     disturbance = λ below. narrow _ (t - 1) t w.disturbance h.hears.disturbance (omega arith) below;
+    sources = comes_on plan i (t - 1) t w.sources h.hears.sources (omega arith);
   }
 
   -- where what is known runs out, it is for the line or for the next quantum: all that began before was seen

@@ -1,11 +1,12 @@
 -- Values that stay from one tick up to another, so that the ticks in between needn't be asked for (this project's profile).
-use Rattle.std.specs.Prelude.{◌≡◌, ℕ, ◌+◌, ◌-◌, ◌<◌, ◌≤◌, ◌&&◌, ◌||◌, nat_le, nat_lt, min, not, Bool, List, length, slice_index, slice_index_or, if◌then◌else◌}
+use Rattle.std.specs.Prelude.{◌≡◌, ℕ, ◌+◌, ◌-◌, ◌<◌, ◌≤◌, ◌&&◌, ◌||◌, nat_le, nat_lt, min, not, Bool, false, List, length, slice_index, slice_index_or, if◌then◌else◌}
 use Rattle.wl_level.specs.Levels.{is_dominant}
 use Rattle.wl_clock.specs.Timing.{Timing, tick_of}
+use Rattle.wl_topology.specs.Delays.{delay_of}
 use Rattle.wl_record_core.specs.Truth.{count_below, odd}
 use Rattle.wl_plan.specs.declared.plan.Plan.{Plan}
 use Rattle.wl_plan.specs.PlanLine.{disturbed, line_of, setup_at}
-use Rattle.wl_plan.specs.Simulation.{AreInside, seen}
+use Rattle.wl_plan.specs.Simulation.{AreInside, level, seen}
 use Rattle.wl_trace.specs.declared.shown.Shown.{Shown}
 use Rattle.wl_trace.specs.declared.event.Noted.{Noted}
 use Rattle.wl_trace.specs.Rerun.{IsRerun}
@@ -57,15 +58,28 @@ signals_by shown driven disturbed = record {
 abbrev pub heard_until : Watched → ℕ
 heard_until w = min w.cable.until w.disturbance.until
 
+-- node i's drive as it comes to node j
+abbrev pub comes : Plan → ℕ → ℕ → ℕ → Bool
+comes plan i j u = nat_le (delay_of plan.topology i j) u && level (line_of plan) i (u - delay_of plan.topology i j)
+
+abbrev pub not_held : Held
+not_held = record { value = false; until = 0 }
+
+-- of each node what is known of that, where it hasn't run out at tick t
+abbrev pub Comes : Plan → ℕ → ℕ → List Held → Type 0
+Comes plan j t all = (i : ℕ) → i < length plan.nodes → t < (slice_index_or all i not_held).until → Lasts (comes plan i j) t (slice_index_or all i not_held)
+
 -- from tick t on cable and disturbances are these
 pub record Hears (plan : Plan) (i t : ℕ) (w : Watched) : Type 0 where
   pub cable : Lasts (driven_at plan i) t w.cable
   pub disturbance : Lasts (disturbed plan i) t w.disturbance
+  pub sources : Comes plan i t w.sources
 
 -- and so is that of them which hasn't run out at tick t
 pub record Remembers (plan : Plan) (i t : ℕ) (w : Watched) : Type 0 where
   pub cable : t < w.cable.until → Lasts (driven_at plan i) t w.cable
   pub disturbance : t < w.disturbance.until → Lasts (disturbed plan i) t w.disturbance
+  pub sources : Comes plan i t w.sources
 
 -- how edges synchronised node i in its first k quanta
 abbrev pub syncs_then : Plan → ℕ → ℕ → List Noted

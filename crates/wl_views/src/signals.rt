@@ -10,7 +10,7 @@ ghost use Rattle.wl_plan.specs.Line.{found};
 ghost use Rattle.wl_plan.specs.PlanLine.{disturbed, is_at, line_of};
 ghost use Rattle.wl_plan.specs.Simulation.{level};
 ghost use Rattle.wl_serial.specs.Outcome.{outcome_of};
-ghost use Rattle.wl_views.specs.Held.{AllWatched, Lasts, Watches};
+ghost use Rattle.wl_views.specs.Held.{AllWatched, Comes, Lasts, Watches, comes};
 ghost use Rattle.wl_views.specs.Signals.{driven_at, node_signals, signals};
 ghost use Rattle.wl_views.specs.Vcd.{changes_from, node_changes};
 
@@ -43,34 +43,62 @@ pub struct NodeSignals {
     pub state: NodeState,
 }
 
-/// Whether some node's drive is dominant at node `j` at tick `t`.
+/// Whether the drive of node `i` is dominant as it comes to node `j` at tick `t`: asked anew where what was known of it has run out.
+fn come_from(
+    plan: &Plan,
+    outcome: &Outcome,
+    i: usize,
+    j: usize,
+    t: u64,
+    come: &mut usize,
+    held: Held,
+) -> Held
+    requires checked { IsChecked plan.now }
+    requires outcome { outcome.now ≡ outcome_of plan.now }
+    requires from { i < length plan.now.nodes }
+    requires node { j < length plan.now.nodes }
+    requires early { t ≤ latest_end }
+    requires was { t < held.until → Lasts (comes plan.now i j) t held }
+    ensures { Lasts (comes plan.now i j) t result }
+{
+    wl_plan::checked_is_sound();
+    wl_plan::simulation_laws();
+    if t < held.until {
+        return held;
+    }
+    let delay = plan.topology.delay(i as u8, j as u8);
+    let nodes = outcome.nodes.as_slice();
+    let changes = nodes[i].changes.as_slice();
+    turned(changes, delay, t, come)
+}
+
+/// Whether some node's drive is dominant at node `j` at tick `t`. `come` and `sources` are what was known of each node's.
 pub(crate) fn driven(
     plan: &Plan,
     outcome: &Outcome,
     j: usize,
     t: u64,
     come: &mut [usize; MOST_NODES],
+    sources: &mut [Held; MOST_NODES],
 ) -> Held
     requires checked { IsChecked plan.now }
     requires outcome { outcome.now ≡ outcome_of plan.now }
     requires node { j < length plan.now.nodes }
     requires early { t ≤ latest_end }
-    ensures { Lasts (driven_at plan.now j) t result }
+    requires was { Comes plan.now j t sources.old }
+    ensures drives { Lasts (driven_at plan.now j) t result }
+    ensures sources { Comes plan.now j t sources.new }
 {
-    wl_plan::checked_is_sound();
-    wl_plan::simulation_laws();
-    let mut held = Held {
+    let mut all = Held {
         value: false,
         until: u64::MAX,
     };
-    let nodes = outcome.nodes.as_slice();
     for i in 0..plan.nodes.len() {
-        let delay = plan.topology.delay(i as u8, j as u8);
-        let changes = nodes[i].changes.as_slice();
-        let from = turned(changes, delay, t, &mut come[i]);
-        held = held.or(from);
+        let from = come_from(plan, outcome, i, j, t, &mut come[i], sources[i]);
+        sources[i] = from;
+        all = all.or(from);
     }
-    held
+    all
 }
 
 /// Whether a disturbance that takes so long to a node is there at tick `t`.

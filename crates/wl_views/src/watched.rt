@@ -32,7 +32,9 @@ pub(crate) struct Watched {
     pub(crate) cable: Held,
     /// Whether a disturbance is there.
     pub(crate) disturbance: Held,
-    /// How many changes of each node had come to it when the cable was last asked for: that speeds up the next time, and decides nothing.
+    /// Of each node, whether its drive is dominant as it comes there.
+    pub(crate) sources: [Held; MOST_NODES],
+    /// How many changes of each node had come there when its drive was last asked for: that speeds up the next time, and decides nothing.
     come: [usize; MOST_NODES],
     /// The node after the quanta that it has seen.
     pub(crate) node: Rerun,
@@ -84,6 +86,7 @@ impl Watched {
         Watched {
             cable: none,
             disturbance: none,
+            sources: [none; MOST_NODES],
             come: [0; MOST_NODES],
             node,
             shown,
@@ -151,7 +154,7 @@ impl Watched {
         ensures next { self.new.next ≡ self.old.next }
     {
         if self.cable.until <= t {
-            self.cable = driven(plan, outcome, i, t, &mut self.come);
+            self.cable = driven(plan, outcome, i, t, &mut self.come, &mut self.sources);
         }
         if self.disturbance.until <= t {
             self.disturbance = disturbed(plan, i, t);

@@ -1,46 +1,43 @@
 -- One node more, each by its changes.
-use Rattle.std.proofs.Common.{◌≡◌, ◌∙◌, ◌<◌, ◌-◌, ◌&&◌, List, length, get_or, nat_le, ap, sym, subst, arith, add-one}
+use Rattle.std.proofs.Common.{◌∙◌, ◌<◌, ℕ, inl, inr, length, length-set, get_or, set, sym, subst, arith, add-one, get_or-set_other, get_or-set_same}
+use Rattle.std.proofs.lemmas.Bool.{cases_eq}
 use Rattle.wl_topology.specs.Delays.{delay_of}
 use Rattle.wl_topology.specs.Driven.{driven}
-use Rattle.wl_record_core.specs.Truth.{IsIncreasing}
-use Rattle.wl_plan.specs.PlanLine.{line_of, table_of}
+use Rattle.wl_plan.specs.declared.plan.Plan.{Plan}
+use Rattle.wl_plan.specs.PlanLine.{line_of}
 use Rattle.wl_plan.specs.Simulation.{level}
-use Rattle.wl_serial.specs.declared.outcome.NodeOutcome.{NodeOutcome}
-use Rattle.wl_views.specs.Held.{Lasts}
-use Rattle.wl_views.proofs.SignalProofs.{driven_more, node_is, nodes_all}
+use Rattle.wl_views.specs.declared.held.Held.{Held}
+use Rattle.wl_views.specs.Held.{Lasts, comes, not_held}
 use Rattle.wl_views.proofs.Turns.{never}
 use Rattle.wl_views.proofs.signals.driven.Goals as goal
 
 pub loop-i-init : goal.loop-i-init
-loop-i-init c = never c.args.t 18446744073709551615 (let e = c.requires.early in omega arith)
-
-pub bounds-nodes-i : goal.bounds-nodes-i
-bounds-nodes-i c =
-    let e = ap length c.as_slice-nodes.ensures in
-    let n = nodes_all c.args.plan.now c.args.outcome.now c.requires.outcome in
-    omega arith
-
-pub turned-from-requires-clause-increasing : goal.turned-from-requires-clause-increasing
-turned-from-requires-clause-increasing c =
-    let b : c.loop-i.i < length c.args.plan.now.nodes = omega arith in
-    let are : c.as_slice-changes.result.now ≡ table_of c.args.plan.now c.loop-i.i =
-    c.as_slice-changes.ensures
-    ∙ ap (λ (n : NodeOutcome). n.changes)
-    (ap (λ (xs : List NodeOutcome). get_or xs c.loop-i.i c.index-nodes-i.result) c.as_slice-nodes.ensures ∙ node_is c.args.plan.now c.args.outcome.now c.loop-i.i c.index-nodes-i.result c.requires.outcome b)
-    in
-    subst IsIncreasing (sym are) (c.simulation_laws.ensures.changes_increase (line_of c.args.plan.now) c.loop-i.i)
+loop-i-init c = record {
+  drives = never c.args.t 18446744073709551615 (let e = c.requires.early in omega arith);
+  sources = c.requires.was;
+  room = c.told-sources;
+}
 
 pub loop-i-preserved : goal.loop-i-preserved
 loop-i-preserved c =
-    let b : c.loop-i.i < length c.args.plan.now.nodes = omega arith in
-    let are : c.as_slice-changes.result.now ≡ table_of c.args.plan.now c.loop-i.i =
-    c.as_slice-changes.ensures
-    ∙ ap (λ (n : NodeOutcome). n.changes)
-    (ap (λ (xs : List NodeOutcome). get_or xs c.loop-i.i c.index-nodes-i.result) c.as_slice-nodes.ensures ∙ node_is c.args.plan.now c.args.outcome.now c.loop-i.i c.index-nodes-i.result c.requires.outcome b)
-    in
-    subst (λ n. Lasts (driven n (delay_of c.args.plan.now.topology) (level (line_of c.args.plan.now)) c.args.j) c.args.t c.or-held.result) (sym (add-one c.loop-i.i))
-    (c.or-held.ensures.both (driven c.loop-i.i (delay_of c.args.plan.now.topology) (level (line_of c.args.plan.now)) c.args.j)
-    (λ u. nat_le (delay_of c.args.plan.now.topology c.loop-i.i c.args.j) u && level (line_of c.args.plan.now) c.loop-i.i (u - delay_of c.args.plan.now.topology c.loop-i.i c.args.j))
-    c.args.t c.loop-i.invariant
-    (driven_more c.simulation_laws.ensures c.args.plan.now (c.checked_is_sound.ensures c.args.plan.now c.requires.checked) c.loop-i.i b c.args.j c.args.t c.delay-delay.result
-    c.as_slice-changes.result.now c.turned-from.result c.delay-delay.ensures.ticks are c.turned-from.ensures))
+    let plan : Plan = c.args.plan.now in
+    let i : ℕ = c.loop-i.i in
+    let t : ℕ = c.args.t in
+    let j : ℕ = c.args.j in
+    let inv = c.loop-i.invariant in
+    let new : Held = c.come_from-from.result in
+    let few = c.requires.checked.few_nodes in
+    let below : i < length plan.nodes = omega arith in
+    let long = inv.room in
+    let inside : i < length c.loop-i.sources = omega arith in
+    record {
+      drives =
+          subst (λ n. Lasts (driven n (delay_of plan.topology) (level (line_of plan)) j) t c.or-all.result) (sym (add-one i))
+          (c.or-all.ensures.both (driven i (delay_of plan.topology) (level (line_of plan)) j) (comes plan i j) t inv.drives c.come_from-from.ensures);
+      sources = λ k b. elim (cases_eq k i) [
+        | inl same ↦ subst (λ (m : ℕ). t < (get_or (set c.loop-i.sources i new) m not_held).until → Lasts (comes plan m j) t (get_or (set c.loop-i.sources i new) m not_held)) (sym same)
+            (λ later. subst (Lasts (comes plan i j) t) (sym (get_or-set_same c.loop-i.sources i new not_held inside)) c.come_from-from.ensures)
+        | inr other ↦ subst (λ (h : Held). t < h.until → Lasts (comes plan k j) t h) (sym (get_or-set_other c.loop-i.sources i k new not_held other)) (inv.sources k b)
+      ];
+      room = length-set c.loop-i.sources i new ∙ inv.room;
+    }

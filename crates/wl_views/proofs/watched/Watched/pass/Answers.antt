@@ -78,7 +78,7 @@ returns-clause-watches c =
         shown = shown;
         inside = all_inside sounds laws plan checked i b t held line k n h.runs.inside h.before h.later during plain;
       };
-      hears = record { cable = c.requires.hears.cable; disturbance = c.requires.hears.disturbance };
+      hears = record { cable = c.requires.hears.cable; disturbance = c.requires.hears.disturbance; sources = c.requires.hears.sources };
       next = next;
       before = λ q below. elim (cases_lt q k) [
         | inl low ↦ (let m = h.before q low in let l = line.later in omega arith)
