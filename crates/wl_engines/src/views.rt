@@ -43,7 +43,8 @@ pub fn candump_run<R: Source, W: Sink>(
 }
 
 /// Reads a plan's text, simulates the plan, and writes the waveform as a Value Change Dump (IEEE 1364-2005, clause 18.2): for each
-/// node its drive, what it finds on the line and its samples; a tick of the plan takes as long as `tick` says.
+/// node its drive, what it finds on the line, the cable and the disturbances at its place, its samples and bit starts, and what it is at; a
+/// tick of the plan takes as long as `tick` says.
 ///
 /// The output goes out by pieces, as it is found; memory is asked for before the first of them. Where the input is refused, or memory
 /// runs out, the writer isn't called; where the writer fails, a prefix of the output has been written.
