@@ -16,7 +16,8 @@ use wl_node::Queued;
 use wl_segments::Segments;
 use wl_sync::{Beat, BitClock, Sync};
 
-/// A node that runs again over the levels that it saw: its bit clock, its machine, counters and queue, and what it drives. A call takes no memory.
+/// A node that runs again over the levels that it saw, one for each quantum: its bit clock, its machine, counters and queue, and what it drives
+/// (Bosch CAN 2.0 part B, sections 3, 8 and 10). It knows no ticks. No call takes memory or is refused.
 #[derive(Drop)]
 pub struct Rerun {
     pub(crate) clock: BitClock,
@@ -69,7 +70,7 @@ impl Rerun {
         }
     }
 
-    /// What a waveform shows of it.
+    /// What a waveform shows of it after the quanta that it has seen.
     pub fn shown(&self) -> Shown
         ensures { (setup : NodeSetup) (levels : List Level) → IsRerun setup levels self.now
             → result ≡ shown_of setup levels }
@@ -89,7 +90,7 @@ impl Rerun {
     }
 
     /// Its next quantum, which has this number, counted from 0, and at which it sees this level; `queue` is that of its setup. How an edge
-    /// synchronises it then, if one does.
+    /// synchronises it then, if one does: hard, or with a phase error in quanta (Bosch CAN 2.0 part B, section 10).
     pub fn quantum(&mut self, queue: &[Queued], quantum: u64, level: Level) -> Option<Noted>
         requires few { quantum < 2 ^ 64 - 1 }
         ensures sync { (setup : NodeSetup) (levels : List Level) → length levels ≡ quantum
@@ -128,7 +129,8 @@ impl Rerun {
         }
     }
 
-    /// Quanta of this level that neither sample nor begin a bit, so that nothing shown changes: as many as come, and at most this number. How many they were.
+    /// Goes over quanta of this level that neither sample nor begin a bit, so that nothing shown changes and no edge synchronises: as many as come, 24
+    /// at the most, and no more than `most`. Answers how many they were; 0 where the next one samples or begins a bit, or finds an edge.
     pub fn pass(&mut self, level: Level, most: u64) -> u64
         ensures quanta { (setup : NodeSetup) (levels : List Level) → IsRerun setup levels self.old
             → result ≡ min most (plain_quanta setup levels level) }

@@ -6,9 +6,9 @@ use wl_machine::Doing;
 /// What a node is at.
 #[derive(Clone, Copy, Debug, PartialEq, Eq)]
 pub struct NodeState {
-    /// The transmit error counter (TEC).
+    /// The transmit error counter (TEC), 0 to 256 (Bosch CAN 2.0 part B, section 8).
     pub tec: u64,
-    /// The receive error counter (REC).
+    /// The receive error counter (REC), 0 to 255.
     pub rec: u64,
     /// The mode that they give.
     pub mode: Mode,
