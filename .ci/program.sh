@@ -172,9 +172,9 @@ for word in merge horizon check records run explain trace candump vcd; do
   printf 'fault: Read\n' > "$room/fault"
   runs "$word of a reader that fails" / 3 "$room/none" "$room/fault" "$word"
 done
-for word in merge check explain trace; do
+for word in merge horizon check records run explain trace candump vcd; do
   input=examples/clean_500k.toml
-  [ "$word" = merge ] && input=examples/records.txt
+  case "$word" in merge | horizon) input=examples/records.txt ;; esac
   printf 'fault: Write\n' > "$room/fault"
   ended=0
   "$program" "$word" < "$input" > /dev/full 2> "$room/err" || ended=$?
