@@ -1,9 +1,14 @@
-//! Up to which tick a node's level is known, and the level below that tick.
+//! Up to which tick a node's level is known, the level below that tick, and what is found on the line.
+
+ghost use Rattle.std.specs.Prelude.{◌≡◌};
 
 use crate::merging::replica_of;
-use anyhow::Result;
+use anyhow::{Context, Result, bail};
 use std::alloc::Global;
+use wl_level::Level;
 use wl_record_core::Record;
+use wl_replica::Replica;
+use wl_topology::{Place, Topology};
 
 /// What a replica knows of node 0.
 #[derive(Drop)]
@@ -14,6 +19,26 @@ pub struct KnownNode {
     pub horizon: u64,
     /// The level at tick 15, which is below the horizon.
     pub is_dominant_at_15: bool,
+    /// How many intervals of its wave end after tick 15.
+    pub intervals_after_15: usize,
+    /// What it finds at tick 16 on a line of its own, on which a level takes a tick.
+    pub found_at_16: Level,
+}
+
+/// What node 0 finds at tick 16, if that is known.
+fn found_at_16(replica: &Replica) -> Result<Level>
+    requires { replica.now.nodes ≡ 1 }
+{
+    let place = Place {
+        x: 0,
+        out_delay: 0,
+        in_delay: 1,
+    };
+    let topology = Topology::new(&[place], 1).context("a place")?;
+    if topology.nodes() != 1 || replica.place_horizon(&topology, 0) <= 16 {
+        bail!("a line that is known up to tick 16");
+    }
+    Ok(replica.seen(&topology, 0, 16))
 }
 
 /// Asks a replica that knows a change at tick 10, the next at tick 20, and silence after these two up to tick 50.
@@ -41,5 +66,7 @@ pub fn known(alloc: Global) -> Result<KnownNode> {
         run_length: replica.run_length(0),
         horizon: replica.horizon(0),
         is_dominant_at_15: wave.at(15).is_dominant(),
+        intervals_after_15: replica.wave_after(alloc, 0, 15)?.as_slice().len(),
+        found_at_16: found_at_16(&replica)?,
     })
 }

@@ -14,6 +14,10 @@ fn main(rt: HostRuntime) -> Result<()> {
     let simulated = simulating::two_nodes(alloc)?;
     println!(rt; "{}", simulated.report.as_str())?;
     println!(rt; "records of it: {}", simulated.records)?;
+    println!(rt;
+        "with one place for its two nodes: {}",
+        simulating::one_place(alloc)?.as_str()
+    )?;
     let merged = merging::merged(alloc)?;
     for record in merged.as_slice() {
         println!(rt; "{record}")?;
@@ -26,6 +30,14 @@ fn main(rt: HostRuntime) -> Result<()> {
     println!(rt;
         "at tick 15 it drives dominant: {}",
         known.is_dominant_at_15
+    )?;
+    println!(rt;
+        "intervals of its wave that end after tick 15: {}",
+        known.intervals_after_15
+    )?;
+    println!(rt;
+        "at tick 16 it finds the line dominant: {}",
+        known.found_at_16.is_dominant()
     )?;
     Ok(())
 }

@@ -48,6 +48,16 @@ fn plan(alloc: Global) -> Result<Plan> {
     })
 }
 
+/// What refuses that plan with one place, which no plan text can ask for.
+pub fn one_place(alloc: Global) -> Result<String> {
+    let mut plan = plan(alloc)?;
+    plan.topology = Topology::new(&[place(0)], 1).context("a place")?;
+    match plan.check() {
+        Ok(()) => bail!("two nodes at one place"),
+        Err(fault) => Ok(fault.to_string(alloc)?),
+    }
+}
+
 /// What is made of a simulation.
 #[derive(Drop)]
 pub struct Simulated {

@@ -17,8 +17,6 @@ mod laws;
 mod merge;
 mod plan;
 mod records;
-#[cfg(test)]
-mod tests;
 mod views;
 mod workers;
 

@@ -1,4 +1,4 @@
-// The row of one node with two edge words and three silence words, by one thread and by two; words at
+// The row of one node with two edge words and three silence words, by one thread and by two; a hub of no node; words at
 // their largest values; a clash that is given, and steps after a pass was spent; passes that were split and taken in.
 ghost use Rattle.std.specs.Prelude.{◌≡◌, List};
 ghost use Rattle.wl_hub.specs.Passes.{IsPassOf, shape_of};
@@ -69,6 +69,16 @@ fn two_ticks_clash_and_the_longer_silence_stays(rt: HostRuntime) -> Result<(), F
     assert!(rt; read(&hub, &mut b, SILENT) == Some(150));
     let words = hub.close(rt.alloc(), a)?;
     assert!(rt; words.as_slice() == [CLASHED, 0, 0, 150, 0].as_slice());
+    Ok(())
+}
+
+#[test]
+fn a_hub_of_no_node_starts_and_has_no_word(rt: HostRuntime) -> Result<(), Fail> {
+    let (hub, mut a) = Hub::start(rt.alloc(), &[], &Anything)?;
+    assert!(rt; read(&hub, &mut a, FIRST) == None && read(&hub, &mut a, SILENT) == None);
+    assert!(rt; !give(&hub, &mut a, edge(0, 100)) && !give(&hub, &mut a, silence(1, 150)));
+    let words = hub.close(rt.alloc(), a)?;
+    assert!(rt; words.len() == 0);
     Ok(())
 }
 

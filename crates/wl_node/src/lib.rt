@@ -11,8 +11,6 @@ mod rest;
 pub mod setup;
 mod stays;
 mod syncs;
-#[cfg(test)]
-mod tests;
 mod traffic;
 
 pub use laws::{drive_laws, node_laws};

@@ -15,6 +15,3 @@ pub use laws::{
 };
 pub use limits::{LATEST_END, MOST_DISTURBANCES, MOST_QUANTA, MOST_QUEUED, MOST_SHORT_QUANTA};
 pub use plan::{Disturbance, Disturbances, Nodes, Plan};
-
-#[cfg(test)]
-mod tests;

@@ -25,6 +25,3 @@ pub use laws::{
 };
 pub use node_row::edge_of_number;
 pub use replica::{PREPARED_SLOTS, Prepared, Replica, Word};
-
-#[cfg(test)]
-mod tests;

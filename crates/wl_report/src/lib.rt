@@ -5,8 +5,6 @@ mod extremes;
 mod frames;
 mod laws;
 mod nodes;
-#[cfg(test)]
-mod tests;
 mod text;
 mod verdict;
 

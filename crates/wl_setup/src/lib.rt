@@ -13,8 +13,6 @@ mod plan_text;
 mod read;
 mod spot;
 mod tables;
-#[cfg(test)]
-mod tests;
 mod text;
 mod values;
 
