@@ -4,7 +4,7 @@ use Rattle.std.proofs.Common.{◌≡◌, ◌∙◌, ap, sym, refl, arith, ℕ, z
 use Rattle.std.specs.Prelude.{slice_index_or, if◌then◌else◌}
 use Rattle.std.specs.List.{filter_map, flat_map, list_any, cons_option, range_with_len}
 use Rattle.std.specs.FinMap.{entries}
-use Rattle.std.proofs.lemmas.Bool.{cases_eq, ne_eqb}
+use Rattle.std.proofs.lemmas.Bool.{cases_eq, ne_eqb, eq-eqb, eqb-true}
 use Rattle.std.proofs.lemmas.Bool.Decides.{nat_tests}
 use Rattle.std.proofs.lemmas.List.{append_assoc}
 use Rattle.std.proofs.lemmas.List.Concat.{flat_map-append}
@@ -91,18 +91,12 @@ any-append p (x ∷ xs) ys = elim (p x) as (λ b. (b || list_any p (xs ++ ys)) �
 abbrev speaks_of : ℕ → Record → Bool
 speaks_of node r = node_of r == node
 
-itself : (n : ℕ) → (n == n) ≡ true
-itself n = grind (arith, nat_tests)
-
-tied : (a b : ℕ) → (a == b) ≡ true → a ≡ b
-tied a b e = grind (arith, nat_tests)
-
 some_number : (t : ℕ) → (suc t == 0) ≡ false
 some_number t = grind (arith, nat_tests)
 
 named_word : (node n t : ℕ) (b : Bool) (rs : List Record) → list_any (speaks_of node) (cons_option (edge_record ((node, n), if b then flat.Clash else flat.Value t)) rs) ≡ true
-named_word node n t true rs = ap (λ b. b || list_any (speaks_of node) rs) (itself node)
-named_word node n t false rs = ap (λ b. b || list_any (speaks_of node) rs) (itself node)
+named_word node n t true rs = ap (λ b. b || list_any (speaks_of node) rs) (eq-eqb node node refl)
+named_word node n t false rs = ap (λ b. b || list_any (speaks_of node) rs) (eq-eqb node node refl)
 
 own_edges : (node n : ℕ) (row : List ℕ) → list_any (speaks_of node) (filter_map edge_record (row_entries edge_of_number node n row [])) ≡ says_something row
 own_edges node n [] = refl
@@ -117,7 +111,7 @@ own_silences node n (zero ∷ row) = own_silences node (suc n) row
 own_silences node n (suc t ∷ row) =
     let rest = filter_map silence_record (row_entries max_word node (suc n) row []) in
     ap (λ b. list_any (speaks_of node) (cons_option (if b then None else Some (Silence node n (suc t))) rest)) (some_number t)
-    ∙ (ap (λ b. b || list_any (speaks_of node) rest) (itself node) ∙ sym (ap (λ b. not b || says_something row) (some_number t)))
+    ∙ (ap (λ b. b || list_any (speaks_of node) rest) (eq-eqb node node refl) ∙ sym (ap (λ b. not b || says_something row) (some_number t)))
 
 edge_node : (e : Key × FlatWord) (node : ℕ) (rs : List Record) → ¬ (e.0.0 ≡ node) → list_any (speaks_of node) (cons_option (edge_record e) rs) ≡ list_any (speaks_of node) rs
 edge_node (k, flat.Nothing) node rs h = refl
@@ -137,7 +131,7 @@ module _ {W : Type 0} (told : Key × W → Option Record) (node : ℕ)
   of_another j (e ∷ es) h =
       let rest = of_another j es h in
       elim (e.0.0 == j) as (λ b. (e.0.0 == j) ≡ b → list_any (speaks_of node) (filter_map told (cond b (e ∷ of_node j es) (of_node j es))) ≡ false) [
-        | true ↦ λ is. own e (filter_map told (of_node j es)) (λ same. h (sym (tied e.0.0 j is) ∙ same)) ∙ rest
+        | true ↦ λ is. own e (filter_map told (of_node j es)) (λ same. h (sym (eqb-true e.0.0 j is) ∙ same)) ∙ rest
         | false ↦ λ is. rest
       ] refl
 

@@ -6,7 +6,7 @@ use Rattle.wl_segments.specs.Lengths.{Lengths}
 use Rattle.wl_node.specs.declared.setup.NodeSetup.{NodeSetup}
 use Rattle.wl_plan.specs.declared.plan.Plan.{Plan}
 use Rattle.wl_plan.specs.PlanLine.{setup_at}
-use Rattle.wl_setup.specs.Check.{name_of}
+use Rattle.wl_setup.specs.Names.{name_of}
 use Rattle.wl_explain.specs.Figures.{mean_quantum, picoseconds, bits_per_second, sample_point, furthest_way, longest_cable, metres, tolerance}
 use Rattle.wl_explain.specs.Doubts.{difference, borne, greatest_difference, left, round_trip, longest_round, wanted_bits, idle_from, first_early, first_late, has_no_room}
 

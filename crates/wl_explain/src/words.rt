@@ -1,7 +1,7 @@
 //! The text of an explanation.
 ghost use Rattle.std.specs.Prelude.{◌≡◌, ◌^◌, ◌<◌, ◌++◌, string_bytes, length, OnOk, IfOk};
 ghost use Rattle.wl_plan.specs.Checked.{IsChecked};
-ghost use Rattle.wl_setup.specs.Check.{name_of};
+ghost use Rattle.wl_setup.specs.Names.{name_of};
 ghost use Rattle.wl_explain.specs.Words.{apart_words, bit_rate, cable_figure, cable_words, clocks_line, doubts_with, each_below, early_line, explain_text, figures_line, jump_line, jump_words, late_line, margin_figures, margin_words, node_doubts, pair_doubts, room_doubts, room_line, room_words, timing_figures, timing_words, trip_line, trip_words, unlike_words};
 
 use crate::doubts::{
@@ -18,13 +18,6 @@ use wl_setup::Names;
 
 /// By how many parts per million clocks of one nominal bit rate can differ: each deviates by a tenth at most.
 const GREATEST_DIFFERENCE: u128 = 222_222;
-
-/// The name of node `i`, empty where it has none.
-fn name_of(names: &Names, i: u8) -> &str
-    ensures { result.now ≡ name_of names.now i }
-{
-    names.name(i as usize).unwrap_or("")
-}
 
 /// A number of thousandths, shown with a point.
 #[derive(Clone, Copy)]
@@ -160,7 +153,7 @@ fn push_pair(text: &mut String, plan: &Plan, names: &Names, i: u8, j: u8) -> Res
     ensures { OnOk result (string_bytes text.new ≡ string_bytes text.old ++ pair_doubts plan.now names.now i j) }
 {
     let (one, other) = (setup(plan, i), setup(plan, j));
-    let (a, b) = (name_of(names, i), name_of(names, j));
+    let (a, b) = (names.name_of(i as usize), names.name_of(j as usize));
     push_clocks(text, plan.end, a, b, one, other)?;
     push_trip(
         text,
@@ -250,7 +243,7 @@ fn push_node(text: &mut String, plan: &Plan, names: &Names, i: u8) -> Result<(),
     requires node { i < length plan.now.nodes }
     ensures { OnOk result (string_bytes text.new ≡ string_bytes text.old ++ node_doubts plan.now names.now i) }
 {
-    let (node, name) = (setup(plan, i), name_of(names, i));
+    let (node, name) = (setup(plan, i), names.name_of(i as usize));
     let idle = idle_from(plan);
     push_jump(text, name, &node.segments)?;
     push_late(text, name, first_late(plan.end, node))?;
@@ -298,7 +291,7 @@ fn push_room(text: &mut String, plan: &Plan, names: &Names) -> Result<(), AllocE
         ++ each_below (room_doubts plan.now names.now) (length plan.now.topology.places)) }
 {
     for i in 0..plan.topology.nodes() {
-        push_room_of(text, plan.end, name_of(names, i), setup(plan, i))?;
+        push_room_of(text, plan.end, names.name_of(i as usize), setup(plan, i))?;
     }
     Ok(())
 }
@@ -332,7 +325,7 @@ fn push_timing(text: &mut String, plan: &Plan, names: &Names, i: u8) -> Result<(
     let rate = bit_rate(plan.end, node);
     let point = sample_point(&node.segments);
     let quantum = Quantum::of_clock(&node.clock, plan.end).picoseconds();
-    push_timing_words(text, name_of(names, i), rate, point, quantum)
+    push_timing_words(text, names.name_of(i as usize), rate, point, quantum)
 }
 
 /// Adds the words of a tolerance and of what is left of it, in parts per million.

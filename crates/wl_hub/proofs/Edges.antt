@@ -15,7 +15,7 @@ use Rattle.wl_lattice.specs.Words.{joined_flat}
 use Rattle.wl_lattice.specs.WordLaws.{flat_laws}
 use Rattle.atomic_table.specs.Table.{State, Me, Act, step, keeps, stepped, Allows, Valid, carried_after}
 use Rattle.wl_hub.specs.declared.view.View.{View}
-use Rattle.wl_hub.specs.Rule.{Kind, Holds, kind, joined, gifts, seen_at, Learns, is_settled, claimed, gave}
+use Rattle.wl_hub.specs.Rule.{Kind, Holds, kind, joined, gifts, greatest_seen, Learns, is_settled, claimed, gave}
 use Rattle.wl_hub.specs.Places.{flat_number, edge_value, is_edge_at, edge_apart}
 use Rattle.wl_hub.proofs.Joined.{IsJoin, laws_of}
 use Rattle.wl_hub.proofs.Kept.{looks_at, learns, knows_true, gives_at, then_, gives}
@@ -64,11 +64,11 @@ module _ {T : Type 0} (tr : T → Record → Type 0) (name : T) (shape : List (�
 
   -- after another tick was seen, the word becomes a clash
   pub clashes : (slots id : ℕ) (me : Me (Unit {0}) (View T)) (i : ℕ) (mine : T) (r : Record) (t : ℕ) → me.0.name ≡ Some mine → i < count → tr mine r → is_edge_at me.0.shape i r ≡ true → edge_value r ≡ Value t
-      → is_settled (flat_number (seen_at (edge_kind me.0.shape) i me.0)) (suc t) ≡ false
+      → is_settled (flat_number (greatest_seen (edge_kind me.0.shape) i me.0)) (suc t) ≡ false
       → Allows All_ok slots id me i (λ n. max n 18446744073709551615) (gave edge_kind tr r (step slots i 18446744073709551615 0 none) me)
   clashes slots id me i mine r t called inside r_true here value open_ =
       gives edge_kind edge_laws tr name shape count (λ n. max n 18446744073709551615) slots id me i 18446744073709551615 0 mine r called inside r_true edge_apart here
-      (λ x below small. rw value (clash_above (seen_at (edge_kind me.0.shape) i me.0) x t open_ below small))
+      (λ x below small. rw value (clash_above (greatest_seen (edge_kind me.0.shape) i me.0) x t open_ below small))
 
   module _ (slots id : ℕ) (me : Me (Unit {0}) (View T)) (i : ℕ) (mine : T) (r : Record) (t : ℕ) (called : me.0.name ≡ Some mine) (inside : i < count) (r_true : tr mine r) (here : is_edge_at me.0.shape i r ≡ true) (value : edge_value r ≡ Value t)
       (s : State (Unit {0}) (View T)) (h : All_ok s) (at : get_elem? s.views id ≡ some me.0) where
@@ -125,13 +125,13 @@ module _ {T : Type 0} (is_at : ℕ → Record → Bool) (i : ℕ) (extra : List 
 module _ {T : Type 0} (tr : T → Record → Type 0) (name : T) (shape : List (ℕ × ℕ)) (count : ℕ) where
   -- the second step, after a first that saw another tick
   pub clashes_after : (slots id : ℕ) (me me' : Me (Unit {0}) (View T)) (i n : ℕ) (mine : T) (r : Record) (t : ℕ) → me.0.name ≡ Some mine → i < count → tr mine r → is_edge_at me.0.shape i r ≡ true → edge_value r ≡ Value t
-      → Learns (is_edge_at me.0.shape) i [] me.0 me'.0 → n ≡ flat_number (seen_at (edge_kind me.0.shape) i me'.0) → is_settled n (t + 1) ≡ false
+      → Learns (is_edge_at me.0.shape) i [] me.0 me'.0 → n ≡ flat_number (greatest_seen (edge_kind me.0.shape) i me'.0) → is_settled n (t + 1) ≡ false
       → Allows (λ s. Holds (edge_kind shape) (tr name) name shape count s) slots id me' i (λ n. max n 18446744073709551615) (gave edge_kind tr r (step slots i 18446744073709551615 0 none) me')
   clashes_after slots id me me' i n mine r t called inside r_true here value learnt seen other =
       let same_name : me'.0.name ≡ me.0.name = ap (λ (v : View T). v.name) learnt.2 in
       let same_shape : me'.0.shape ≡ me.0.shape = ap (λ (v : View T). v.shape) learnt.2 in
       clashes tr name shape count slots id me' i mine r t (same_name ∙ called) inside r_true (subst (λ (sh : List (ℕ × ℕ)). is_edge_at sh i r ≡ true) (sym same_shape) here) value
-      (subst (λ (sh : List (ℕ × ℕ)). is_settled (flat_number (seen_at (edge_kind sh) i me'.0)) (suc t) ≡ false) (sym same_shape) (rw (add-one, seen) at other))
+      (subst (λ (sh : List (ℕ × ℕ)). is_settled (flat_number (greatest_seen (edge_kind sh) i me'.0)) (suc t) ≡ false) (sym same_shape) (rw (add-one, seen) at other))
 
 -- the greatest word is a clash's, and joining a clash makes one
 pub clash_top : (x : FlatWord) → flat_number x < 18446744073709551616 → max (flat_number x) 18446744073709551615 ≡ flat_number (joined_flat x Clash)

@@ -10,7 +10,7 @@ use Rattle.wl_record_core.specs.declared.record.Record.{Record}
 use Rattle.wl_hub.specs.declared.view.View.{View}
 use Rattle.atomic_table.specs.Table.{State, Me, step, keeps, stepped, Allows, Splits, Joins, opening, Final, Seen}
 use Rattle.atomic_table.proofs.Lists.{at_set, set_here, set_else, set_again, at_snoc}
-use Rattle.wl_hub.specs.Rule.{Kind, joined, Below, gifts, Fits, Holds, learned, Learns, AllTrue, seen_at, looked, gave, newcomer, both, spent, fresh, Closes}
+use Rattle.wl_hub.specs.Rule.{Kind, joined, Below, gifts, ViewHolds, Holds, learned, Learns, AllTrue, greatest_seen, looked, gave, newcomer, both, spent, fresh, Closes}
 use Rattle.wl_hub.proofs.Joined.{IsJoin, neutral_right, joined-append, below_trans, below_left, below_right, below_join, filter_below, filter_here, joined_one, joined_none, swap_last, gifts_more, own_below}
 
 -- each pass's gifts are true, so all are
@@ -27,7 +27,7 @@ module _ {T J : Type 0} (k : Kind J) (laws : IsJoin k) (tr : T → Record → Ty
 
   -- what a pass has seen after a step on word i
   pub seen_after : (s : St) → Ok s → (i id : ℕ) (v : View T) → get_elem? s.views id ≡ some v → (extra : List Record)
-      → seen_at k i (learned k.at i extra (gifts s.views) v) ≡ k.join (joined k i (gifts s.views)) (joined k i extra)
+      → greatest_seen k i (learned k.at i extra (gifts s.views) v) ≡ k.join (joined k i (gifts s.views)) (joined k i extra)
   seen_after s h i id v at extra = let all : J = joined k i (gifts s.views) in let fits = h.fits id v at in
       joined-append k laws i (v.given ++ extra) (v.told ++ filter (k.at i) (gifts s.views))
       ∙ ap (k.join (joined k i (v.given ++ extra))) (joined-append k laws i v.told (filter (k.at i) (gifts s.views)) ∙ ap (k.join (joined k i v.told)) (filter_here k laws i (gifts s.views)) ∙ fits.below i)
@@ -48,7 +48,7 @@ module _ {T J : Type 0} (k : Kind J) (laws : IsJoin k) (tr : T → Record → Ty
     grow : (j : ℕ) → Below k (joined k j (gifts s.views)) (joined k j after)
     grow j = rw (more j) (below_left k laws (joined k j (gifts s.views)) (joined k j extra))
 
-    fits_here : Fits k (tr name) name shape after w
+    fits_here : ViewHolds k (tr name) name shape after w
     fits_here = let f = h.fits id v at in record {
       named = f.named;
       given_true = All-append (tr name) v.given extra f.given_true extra_true;
@@ -60,7 +60,7 @@ module _ {T J : Type 0} (k : Kind J) (laws : IsJoin k) (tr : T → Record → Ty
           (below_trans k laws (joined k j (filter (k.at i) (gifts s.views))) (joined k j (gifts s.views)) (joined k j after) (filter_below k laws i j (gifts s.views)) (grow j)));
     }
 
-    fits_else : (u : View T) → Fits k (tr name) name shape (gifts s.views) u → Fits k (tr name) name shape after u
+    fits_else : (u : View T) → ViewHolds k (tr name) name shape (gifts s.views) u → ViewHolds k (tr name) name shape after u
     fits_else u f = record {
       named = f.named;
       given_true = f.given_true;
@@ -77,10 +77,10 @@ module _ {T J : Type 0} (k : Kind J) (laws : IsJoin k) (tr : T → Record → Ty
           let wide = h.counts in
           subst P (sym e) (get_or-set_same s.words i n 0 (omega arith) ∙ is ∙ ap k.word (sym (more i))))
           (λ ne. get_or-set_other s.words i j n 0 ne ∙ h.words j lt ∙ ap k.word (sym (more j ∙ ap (k.join (joined k j (gifts s.views))) (apart j ne) ∙ neutral_right k laws (joined k j (gifts s.views)))));
-      fits = λ id' v' at'. ⊎_elim (λ t. subst (λ (u : View T). Fits k (tr name) name shape after u) t.1 fits_here) (λ t. fits_else v' (h.fits id' v' t.1)) (at_set s.views id id' w v' at');
+      fits = λ id' v' at'. ⊎_elim (λ t. subst (λ (u : View T). ViewHolds k (tr name) name shape after u) t.1 fits_here) (λ t. fits_else v' (h.fits id' v' t.1)) (at_set s.views id id' w v' at');
     }
 
-  pub seen_below : (s : St) → Ok s → (i id : ℕ) (v : View T) → get_elem? s.views id ≡ some v → Below k (seen_at k i v) (joined k i (gifts s.views))
+  pub seen_below : (s : St) → Ok s → (i id : ℕ) (v : View T) → get_elem? s.views id ≡ some v → Below k (greatest_seen k i v) (joined k i (gifts s.views))
   seen_below s h i id v at = rw (joined-append k laws i v.given v.told) (below_join k laws (joined k i v.given) (joined k i v.told) (joined k i (gifts s.views)) (own_below k laws i s.views id v at) ((h.fits id v at).below i))
 
 module _ {T J : Type 0} (kind_of : List (ℕ × ℕ) → Kind J) (laws : (shape : List (ℕ × ℕ)) → IsJoin (kind_of shape)) (tr : T → Record → Type 0) (name : T) (shape : List (ℕ × ℕ)) (count : ℕ) where
@@ -108,11 +108,11 @@ module _ {T J : Type 0} (kind_of : List (ℕ × ℕ) → Kind J) (laws : (shape 
     pub knows_true : (extra : List Record) → All (tr name) extra → AllTrue tr (then_ extra)
     knows_true extra extra_true = let f = fits_here (kind_of shape) (laws shape) tr name shape count s h i id me.0 at extra extra_true in all_true (then_ extra) f.named f.given_true f.told_true
 
-    pub looks_at : (get_or s.words i 0 ≡ (kind_of me.0.shape).word (seen_at (kind_of me.0.shape) i (then_ []))) × Rule (stepped s i (get_or s.words i 0) id [] (then_ []) keeps)
+    pub looks_at : (get_or s.words i 0 ≡ (kind_of me.0.shape).word (greatest_seen (kind_of me.0.shape) i (then_ []))) × Rule (stepped s i (get_or s.words i 0) id [] (then_ []) keeps)
     looks_at =
         let same : joined (kind_of shape) i every ≡ (kind_of shape).join (joined (kind_of shape) i every) (kind_of shape).bottom = sym (neutral_right (kind_of shape) (laws shape) (joined (kind_of shape) i every)) in
         let is : get_or s.words i 0 ≡ (kind_of shape).word ((kind_of shape).join (joined (kind_of shape) i every) (kind_of shape).bottom) = h.words i inside ∙ ap (kind_of shape).word same in (
-          subst (λ (sh : List (ℕ × ℕ)). get_or s.words i 0 ≡ (kind_of sh).word (seen_at (kind_of sh) i (then_ []))) (sym same_shape)
+          subst (λ (sh : List (ℕ × ℕ)). get_or s.words i 0 ≡ (kind_of sh).word (greatest_seen (kind_of sh) i (then_ []))) (sym same_shape)
               (is ∙ ap (kind_of shape).word (sym (seen_after (kind_of shape) (laws shape) tr name shape count s h i id me.0 at []))),
           steps (kind_of shape) (laws shape) tr name shape count s h i id me.0 at [] (All-nil (tr name)) inside (λ j ne. refl) (get_or s.words i 0) is,
         )
@@ -146,7 +146,7 @@ module _ {T J : Type 0} (kind_of : List (ℕ × ℕ) → Kind J) (laws : (shape 
   pub gives : (f : ℕ → ℕ) (slots id : ℕ) (me : Me (Unit {0}) (View T)) (i a b : ℕ) (mine : T) (r : Record) → me.0.name ≡ Some mine → i < count → tr mine r
       → ((sh : List (ℕ × ℕ)) (i j : ℕ) (r : Record) → (kind_of sh).at i r ≡ true → (kind_of sh).at j r ≡ true → i ≡ j)
       → (kind_of me.0.shape).at i r ≡ true
-      → ((x : J) → Below (kind_of me.0.shape) (seen_at (kind_of me.0.shape) i me.0) x → (kind_of me.0.shape).word x < 18446744073709551616
+      → ((x : J) → Below (kind_of me.0.shape) (greatest_seen (kind_of me.0.shape) i me.0) x → (kind_of me.0.shape).word x < 18446744073709551616
       → f ((kind_of me.0.shape).word x) ≡ (kind_of me.0.shape).word ((kind_of me.0.shape).join x ((kind_of me.0.shape).value r)))
       → Allows Rule slots id me i f (gave kind_of tr r (step slots i a b none) me)
   gives f slots id me i a b mine r called inside r_true apart here becomes s h wide at small =
@@ -158,7 +158,7 @@ module _ {T J : Type 0} (kind_of : List (ℕ × ℕ) → Kind J) (laws : (shape 
       let value : joined (kind_of shape) i (r ∷ []) ≡ (kind_of shape).value r = joined_one (kind_of shape) (laws shape) i r here' in
       let is : f (get_or s.words i 0) ≡ (kind_of shape).word ((kind_of shape).join total (joined (kind_of shape) i (r ∷ []))) =
       ap f (h.words i inside)
-      ∙ subst (λ (u : List (ℕ × ℕ)). (x : J) → Below (kind_of u) (seen_at (kind_of u) i me.0) x → (kind_of u).word x < 18446744073709551616 → f ((kind_of u).word x) ≡ (kind_of u).word ((kind_of u).join x ((kind_of u).value r))) sh becomes
+      ∙ subst (λ (u : List (ℕ × ℕ)). (x : J) → Below (kind_of u) (greatest_seen (kind_of u) i me.0) x → (kind_of u).word x < 18446744073709551616 → f ((kind_of u).word x) ≡ (kind_of u).word ((kind_of u).join x ((kind_of u).value r))) sh becomes
       total (seen_below (kind_of shape) (laws shape) tr name shape count s h i id me.0 at) (subst (λ (m : ℕ). m < 18446744073709551616) (h.words i inside) small)
       ∙ ap (λ (x : J). (kind_of shape).word ((kind_of shape).join total x)) (sym value) in (
         then_ i id me mine called inside s h at (r ∷ []),
@@ -194,7 +194,7 @@ module _ {T J : Type 0} (k : Kind J) (laws : IsJoin k) (tr : T → Record → Ty
   no_name n e = cc
 
   -- the rule of a pass asks for no more than the join of all that was given
-  fits_same : (old new : List Record) → ((j : ℕ) → joined k j old ≡ joined k j new) → (u : View T) → Fits k (tr name) name shape old u → Fits k (tr name) name shape new u
+  fits_same : (old new : List Record) → ((j : ℕ) → joined k j old ≡ joined k j new) → (u : View T) → ViewHolds k (tr name) name shape old u → ViewHolds k (tr name) name shape new u
   fits_same old new same u f = record { named = f.named; given_true = f.given_true; told_true = f.told_true; below = λ j. subst (λ (x : J). Below k (joined k j u.told) x) (same j) (f.below j) }
 
   pub splits : (id : ℕ) (v : View T) → Splits (λ s. Holds k (tr name) name shape count s) id v v (newcomer v)
@@ -207,7 +207,7 @@ module _ {T J : Type 0} (k : Kind J) (laws : IsJoin k) (tr : T → Record → Ty
         words = λ i lt. h.words i lt ∙ ap (λ (l : List Record). k.word (joined k i l)) (sym same);
         fits = λ id' v' at'. ⊎_elim
             (λ old. fits_same (gifts s.views) (gifts (s.views ++ newcomer v ∷ [])) (λ j. ap (joined k j) (sym same)) v' (h.fits id' v' old))
-            (λ new. subst (λ (u : View T). Fits k (tr name) name shape (gifts (s.views ++ newcomer v ∷ [])) u) new
+            (λ new. subst (λ (u : View T). ViewHolds k (tr name) name shape (gifts (s.views ++ newcomer v ∷ [])) u) new
             record { named = (h.fits id v at).named; given_true = All-nil (tr name); told_true = All-nil (tr name); below = λ j. laws.neutral (joined k j (gifts (s.views ++ newcomer v ∷ []))) })
             (at_snoc s.views (newcomer v) v' id' at');
       }
@@ -243,13 +243,13 @@ module _ {T J : Type 0} (k : Kind J) (laws : IsJoin k) (tr : T → Record → Ty
         (own_below k laws j two id (both v w) here_two) in
         sym (laws.commutative (joined k j (gifts two)) (joined k j w.given) ∙ mine) ∙ sym put ∙ ap (λ (l : List (View T)). joined k j (gifts l)) back ∙ total_one j
 
-    kept : (u : View T) → Fits k (tr name) name shape (gifts s.views) u → Fits k (tr name) name shape (gifts two) u
+    kept : (u : View T) → ViewHolds k (tr name) name shape (gifts s.views) u → ViewHolds k (tr name) name shape (gifts two) u
     kept = fits_same (gifts s.views) (gifts two) (λ j. sym (total_two j))
 
-    fits_spent : Fits k (tr name) name shape (gifts two) spent
+    fits_spent : ViewHolds k (tr name) name shape (gifts two) spent
     fits_spent = record { named = λ n e. absurd (no_name n e); given_true = All-nil (tr name); told_true = All-nil (tr name); below = λ j. laws.neutral (joined k j (gifts two)) }
 
-    fits_both : Fits k (tr name) name shape (gifts two) (both v w)
+    fits_both : ViewHolds k (tr name) name shape (gifts two) (both v w)
     fits_both = let f = h.fits id v at in let g = h.fits other w there_before in kept (both v w) record {
       named = f.named;
       given_true = All-append (tr name) v.given w.given f.given_true g.given_true;
@@ -261,8 +261,8 @@ module _ {T J : Type 0} (k : Kind J) (laws : IsJoin k) (tr : T → Record → Ty
     joins_here = record {
       counts = h.counts;
       words = λ i lt. h.words i lt ∙ ap k.word (sym (total_two i));
-      fits = λ id' v' at'. ⊎_elim (λ t. subst (λ (u : View T). Fits k (tr name) name shape (gifts two) u) t.1 fits_spent)
-          (λ t. ⊎_elim (λ u. subst (λ (x : View T). Fits k (tr name) name shape (gifts two) x) u.1 fits_both) (λ u. kept v' (h.fits id' v' u.1)) (at_set s.views id id' (both v w) v' t.1))
+      fits = λ id' v' at'. ⊎_elim (λ t. subst (λ (u : View T). ViewHolds k (tr name) name shape (gifts two) u) t.1 fits_spent)
+          (λ t. ⊎_elim (λ u. subst (λ (x : View T). ViewHolds k (tr name) name shape (gifts two) x) u.1 fits_both) (λ u. kept v' (h.fits id' v' u.1)) (at_set s.views id id' (both v w) v' t.1))
           (at_set one other id' spent v' at');
     }
 
@@ -278,7 +278,7 @@ module _ {T J : Type 0} (k : Kind J) (laws : IsJoin k) (tr : T → Record → Ty
     counts = wide;
     words = λ i lt. zeros i ∙ sym starts;
     fits = λ id v at. ⊎_elim (λ none_there. absurd (some-ne-none v (sym none_there)))
-        (λ is. subst (λ (u : View T). Fits k (tr name) name shape [] u) is
+        (λ is. subst (λ (u : View T). ViewHolds k (tr name) name shape [] u) is
         record { named = λ n e. (named_once n e, refl); given_true = All-nil (tr name); told_true = All-nil (tr name); below = λ j. laws.neutral k.bottom })
         (at_snoc [] (fresh name shape) v id at);
   }

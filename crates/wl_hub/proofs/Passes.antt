@@ -13,7 +13,7 @@ use Rattle.wl_hub.specs.Rule.{Closes as ClosesTable}
 use Rattle.wl_record_core.specs.Slots.{slot_of}
 use Rattle.wl_hub.specs.Places.{is_edge_at, is_silence_at, place, flat_number, max_number}
 use Rattle.wl_hub.specs.Words.{word_of, IsAtMostAt, joined_words, edge_widths, silence_widths, answer_place}
-use Rattle.wl_hub.specs.Passes.{name_of, given_for, seen, TookIn, ClosesWord, Closes}
+use Rattle.wl_hub.specs.Passes.{pass_name, given_for, seen, TookIn, ClosesWord, Closes}
 use Rattle.wl_hub.proofs.Words.{word_else, edges_here, silences_here, word_within, word_grows, word_both, word-append, word_filter, passes_slot, speaks_of, edge_table, silence_table}
 use Rattle.wl_hub.proofs.Edges.{edge_kind}
 use Rattle.wl_hub.proofs.Silences.{silence_kind}
@@ -103,7 +103,7 @@ module _ {T : Type 0} where
   module _ (tr : T → Record → Type 0) (shape : List (ℕ × ℕ)) (p : Pass T) (few many : ℕ) (ws vs all : List ℕ) (same : p.edges.seat.me.0.shape ≡ shape) (count : length ws ≡ few) (rest : length vs ≡ many)
       (few_is : few ≡ sum (edge_widths shape)) (many_is : many ≡ sum (silence_widths shape)) (is : all ≡ ([] ++ ws) ++ vs)
       (edges : ClosesTable edge_kind tr (λ _. few) ws p.edges.seat.me.0) (silences : ClosesTable silence_kind tr (λ _. many) vs p.silences.seat.me.0) where
-    closes_slot : (name : T) → name_of p ≡ Some name → (slot : Slot) (i : ℕ) → answer_place shape slot ≡ Some i → ClosesWord (tr name) slot p (slice_index all i)
+    closes_slot : (name : T) → pass_name p ≡ Some name → (slot : Slot) (i : ℕ) → answer_place shape slot ≡ Some i → ClosesWord (tr name) slot p (slice_index all i)
     closes_slot name called (EdgeAt n s) i at =
         let low : i < few = subst (λ (m : ℕ). i < m) (sym few_is) (place_below (edge_widths shape) n s i at) in
         let c = edges name called i low in

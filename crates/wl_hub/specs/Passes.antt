@@ -23,8 +23,8 @@ with_silence rs (Silence n c u) = rs ++ Silence n c u ∷ []
 
 module _ {T : Type 0} where
   -- the name of a pass; a pass that was given up has none
-  abbrev pub name_of : Pass T → Option T
-  name_of p = p.edges.seat.me.0.name
+  abbrev pub pass_name : Pass T → Option T
+  pass_name p = p.edges.seat.me.0.name
 
   -- what its holder gave: edges and clashes, and silences, each in its order
   abbrev pub given_edges : Pass T → List Record
@@ -65,7 +65,7 @@ module _ {T : Type 0} where
 
   -- the list of a pass grew by exactly this record
   pub record Gave (r : Record) (before after : Pass T) : Type 0 where
-    pub name : name_of after ≡ name_of before
+    pub name : pass_name after ≡ pass_name before
     pub edges : given_edges after ≡ with_edge (given_edges before) r
     pub silences : given_silences after ≡ with_silence (given_silences before) r
 
@@ -85,13 +85,13 @@ module _ {T : Type 0} where
 
   -- it gave nothing more
   pub record GaveNothing (before after : Pass T) : Type 0 where
-    pub name : name_of after ≡ name_of before
+    pub name : pass_name after ≡ pass_name before
     pub edges : given_edges after ≡ given_edges before
     pub silences : given_silences after ≡ given_silences before
 
   -- a pass took in another: both lists, and what was seen is joined slot by slot
   pub record TookIn (other before after : Pass T) : Type 0 where
-    pub name : name_of after ≡ name_of before
+    pub name : pass_name after ≡ pass_name before
     pub edges : given_edges after ≡ given_edges before ++ given_edges other
     pub silences : given_silences after ≡ given_silences before ++ given_silences other
     pub joined : (slot : Slot) → seen after slot ≡ joined_words slot (seen before slot) (seen other slot)
@@ -106,5 +106,5 @@ module _ {T : Type 0} where
 
   -- all words at the end, for each name of the pass
   abbrev pub Closes : (T → Record → Type 0) → List (ℕ × ℕ) → Pass T → List ℕ → Type 0
-  Closes is_true shape p words = (name : T) → name_of p ≡ Some name → (slot : Slot) (i : ℕ)
+  Closes is_true shape p words = (name : T) → pass_name p ≡ Some name → (slot : Slot) (i : ℕ)
       → answer_place shape slot ≡ Some i → ClosesWord (is_true name) slot p (slice_index words i)

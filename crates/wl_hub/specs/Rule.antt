@@ -55,11 +55,11 @@ module _ {T : Type 0} where
   gifts (v ∷ vs) = v.given ++ gifts vs
 
   -- the greatest value that a pass has seen of word i, with its own gifts
-  abbrev pub seen_at : {J : Type 0} → Kind J → ℕ → View T → J
-  seen_at k i v = joined k i (v.given ++ v.told)
+  abbrev pub greatest_seen : {J : Type 0} → Kind J → ℕ → View T → J
+  greatest_seen k i v = joined k i (v.given ++ v.told)
 
   -- what a pass knows is true of the table's name, and its word has it
-  pub record Fits {J : Type 0} (k : Kind J) (is_true : Record → Type 0) (name : T) (shape : List (ℕ × ℕ))
+  pub record ViewHolds {J : Type 0} (k : Kind J) (is_true : Record → Type 0) (name : T) (shape : List (ℕ × ℕ))
       (all : List Record) (v : View T) : Type 0 where
     pub named : (n : T) → v.name ≡ Some n → (n ≡ name) × (v.shape ≡ shape)
     pub given_true : All is_true v.given
@@ -71,7 +71,7 @@ module _ {T : Type 0} where
       (count : ℕ) (s : State (Unit {0}) (View T)) : Type 0 where
     pub counts : length s.words ≡ count
     pub words : (i : ℕ) → i < count → slice_index s.words i ≡ k.word (joined k i (gifts s.views))
-    pub fits : (id : ℕ) (v : View T) → get_elem? s.views id ≡ some v → Fits k is_true name shape (gifts s.views) v
+    pub fits : (id : ℕ) (v : View T) → get_elem? s.views id ≡ some v → ViewHolds k is_true name shape (gifts s.views) v
 
   -- the view after a step on word i that gave these records
   abbrev pub learned : (ℕ → Record → Bool) → ℕ → List Record → List Record → View T → View T
@@ -90,7 +90,7 @@ module _ {T : Type 0} where
   abbrev pub looked : {J : Type 0} → (List (ℕ × ℕ) → Kind J) → (T → Record → Type 0) → Step (Unit {0})
       → Me (Unit {0}) (View T) → ℕ → Me (Unit {0}) (View T) → Type 0
   looked kind_of is_true st m n m' = let k = kind_of m.0.shape in
-      (n ≡ k.word (seen_at k st.word m'.0)) × Learns k.at st.word [] m.0 m'.0 × AllTrue is_true m'.0 × (m'.1 ≡ m.1)
+      (n ≡ k.word (greatest_seen k st.word m'.0)) × Learns k.at st.word [] m.0 m'.0 × AllTrue is_true m'.0 × (m'.1 ≡ m.1)
 
   -- a gift: the record is the last of those given
   abbrev pub gave : {J : Type 0} → (List (ℕ × ℕ) → Kind J) → (T → Record → Type 0) → Record → Step (Unit {0})

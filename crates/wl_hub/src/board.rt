@@ -116,7 +116,7 @@ fn copied(mut words: Vec<u64>, closed: &Closed<(), Global>, count: usize) -> Vec
 
 impl<T: Truth, J: Cell> Board<T, J> {
     ghost use Rattle.std.specs.Prelude.{◌≡◌, ℕ, List, ◌<◌, ◌≤◌, ◌+◌, ◌^◌, ◌++◌, [], None, Some, IfOk, length, vec_len, vec_capacity};
-    ghost use Rattle.wl_hub.specs.Rule.{kind, seen_at, joined, newcomer, both, fresh, Learns, AllTrue, Closes};
+    ghost use Rattle.wl_hub.specs.Rule.{kind, greatest_seen, joined, newcomer, both, fresh, Learns, AllTrue, Closes};
 
     /// A table whose words are all 0, for a name.
     pub fn open(
@@ -165,7 +165,7 @@ impl<T: Truth, J: Cell> Board<T, J> {
         requires inside { i < self.now.table.shared.key.words }
         ensures same { (part.new.seat.table_id ≡ part.old.seat.table_id) × (part.new.seat.id ≡ part.old.seat.id) }
         ensures word { result ≡ J.word
-            (seen_at (kind J.least J.joined J.word J.value (J.at part.old.seat.me.0.shape)) i part.new.seat.me.0) }
+            (greatest_seen (kind J.least J.joined J.word J.value (J.at part.old.seat.me.0.shape)) i part.new.seat.me.0) }
         ensures learns { Learns (J.at part.old.seat.me.0.shape) i [] part.old.seat.me.0 part.new.seat.me.0 }
         ensures told { AllTrue T.is_true part.new.seat.me.0 }
     {

@@ -62,7 +62,7 @@ impl<T: Truth> Hub<T> {
     ghost use Rattle.wl_record_core.specs.declared.record.Slot.TheVariants.{EdgeAt, SilenceAt};
     ghost use Rattle.wl_hub.specs.Places.{place};
     ghost use Rattle.wl_hub.specs.Words.{edge_widths, silence_widths, HasWord, IsInShape, IsJoinOfTrue, answer_place};
-    ghost use Rattle.wl_hub.specs.Passes.{name_of, shape_of, seen, IsPassOf, IsNew, Gave, SawGift, Saw, GaveNothing, TookIn, Closes};
+    ghost use Rattle.wl_hub.specs.Passes.{pass_name, shape_of, seen, IsPassOf, IsNew, Gave, SawGift, Saw, GaveNothing, TookIn, Closes};
 
     /// A hub whose words are all 0, and its first pass. `shape` has for each node its number of edge
     /// words and of silence words. Out of memory nothing is left.
@@ -73,7 +73,7 @@ impl<T: Truth> Hub<T> {
     ) -> Result<(Hub<T>, Pass<T>), AllocError>
         ensures here { IfOk result (λ r. IsPassOf r.0 r.1) }
         ensures shape { IfOk result (λ r. shape_of r.0 ≡ shape.now) }
-        ensures pass { IfOk result (λ r. (name_of r.1 ≡ Some name.now) × IsNew r.1) }
+        ensures pass { IfOk result (λ r. (pass_name r.1 ≡ Some name.now) × IsNew r.1) }
     {
         let (edge_count, silence_count) = totals(shape);
         let shape = Vec::from_slice(alloc, shape)?;
@@ -138,7 +138,7 @@ impl<T: Truth> Hub<T> {
         requires here { IsPassOf self.now pass.old }
         requires in_shape { HasWord (shape_of self.now) (EdgeAt node seq) }
         requires small { tick < 2 ^ 64 - 1 }
-        requires told { (n : _) → name_of pass.old ≡ Some n → T.is_true n (Edge node seq tick) }
+        requires told { (n : _) → pass_name pass.old ≡ Some n → T.is_true n (Edge node seq tick) }
         ensures here { IsPassOf self.now pass.new }
         ensures gave { Gave (Edge node seq tick) pass.old pass.new }
         ensures seen { SawGift (Edge node seq tick) pass.old pass.new }
@@ -151,7 +151,7 @@ impl<T: Truth> Hub<T> {
     fn take_clash(&self, pass: &mut Pass<T>, node: u8, seq: u32)
         requires here { IsPassOf self.now pass.old }
         requires in_shape { HasWord (shape_of self.now) (EdgeAt node seq) }
-        requires told { (n : _) → name_of pass.old ≡ Some n → T.is_true n (Clash node seq) }
+        requires told { (n : _) → pass_name pass.old ≡ Some n → T.is_true n (Clash node seq) }
         ensures here { IsPassOf self.now pass.new }
         ensures gave { Gave (Clash node seq) pass.old pass.new }
         ensures seen { SawGift (Clash node seq) pass.old pass.new }
@@ -164,7 +164,7 @@ impl<T: Truth> Hub<T> {
     fn take_silence(&self, pass: &mut Pass<T>, node: u8, count: u32, until: u64)
         requires here { IsPassOf self.now pass.old }
         requires in_shape { HasWord (shape_of self.now) (SilenceAt node count) }
-        requires told { (n : _) → name_of pass.old ≡ Some n → T.is_true n (Silence node count until) }
+        requires told { (n : _) → pass_name pass.old ≡ Some n → T.is_true n (Silence node count until) }
         ensures here { IsPassOf self.now pass.new }
         ensures gave { Gave (Silence node count until) pass.old pass.new }
         ensures seen { SawGift (Silence node count until) pass.old pass.new }
@@ -182,7 +182,7 @@ impl<T: Truth> Hub<T> {
     pub fn take(&self, pass: &mut Pass<T>, gift: Record)
         requires here { IsPassOf self.now pass.old }
         requires in_shape { IsInShape (shape_of self.now) gift }
-        requires told { (n : _) → name_of pass.old ≡ Some n → T.is_true n gift }
+        requires told { (n : _) → pass_name pass.old ≡ Some n → T.is_true n gift }
         ensures here { IsPassOf self.now pass.new }
         ensures gave { Gave gift pass.old pass.new }
         ensures seen { SawGift gift pass.old pass.new }
@@ -200,7 +200,7 @@ impl<T: Truth> Hub<T> {
         ensures here { IsPassOf self.now pass.new }
         ensures given { GaveNothing pass.old pass.new }
         ensures saw { Saw (EdgeAt node seq) result pass.old pass.new }
-        ensures told { (n : _) → name_of pass.old ≡ Some n → IsJoinOfTrue (T.is_true n) (EdgeAt node seq) result }
+        ensures told { (n : _) → pass_name pass.old ≡ Some n → IsJoinOfTrue (T.is_true n) (EdgeAt node seq) result }
     {
         let i = self.edge_index(node, seq);
         self.edges.look(&mut pass.edges, i)
@@ -212,7 +212,7 @@ impl<T: Truth> Hub<T> {
         ensures here { IsPassOf self.now pass.new }
         ensures given { GaveNothing pass.old pass.new }
         ensures saw { Saw (SilenceAt node count) result pass.old pass.new }
-        ensures told { (n : _) → name_of pass.old ≡ Some n
+        ensures told { (n : _) → pass_name pass.old ≡ Some n
             → IsJoinOfTrue (T.is_true n) (SilenceAt node count) result }
     {
         let i = self.silence_index(node, count);
@@ -227,7 +227,7 @@ impl<T: Truth> Hub<T> {
         ensures here { IsPassOf self.now pass.new }
         ensures given { GaveNothing pass.old pass.new }
         ensures saw { Saw slot result pass.old pass.new }
-        ensures told { (n : _) → name_of pass.old ≡ Some n → IsJoinOfTrue (T.is_true n) slot result }
+        ensures told { (n : _) → pass_name pass.old ≡ Some n → IsJoinOfTrue (T.is_true n) slot result }
     {
         match slot {
             Slot::EdgeAt { node, seq } => self.look_edge(pass, node, seq),
@@ -240,7 +240,7 @@ impl<T: Truth> Hub<T> {
         requires here { IsPassOf self.now pass.old }
         ensures here { IsPassOf self.now pass.new × IsPassOf self.now result }
         ensures same { GaveNothing pass.old pass.new × ((slot : Place) → seen pass.new slot ≡ seen pass.old slot) }
-        ensures new { (name_of result ≡ name_of pass.old) × IsNew result }
+        ensures new { (pass_name result ≡ pass_name pass.old) × IsNew result }
     {
         let edges = self.edges.split(&mut pass.edges);
         let silences = self.silences.split(&mut pass.silences);

@@ -13,7 +13,7 @@ use Prim.Native.Nat.{zero, suc}
 use Rattle.wl_lattice.specs.Laws.{JoinLaws}
 use Rattle.wl_lattice.specs.Maps.{joined_options, raised, raised_all, joined_maps, map_of, words_at, SameMembers, MapLaws}
 
-tied_by : (r : Ordering) → is_eq r ≡ true → r ≡ Equal
+pub tied_by : (r : Ordering) → is_eq r ≡ true → r ≡ Equal
 tied_by Less e = cc
 tied_by Equal e = refl
 tied_by Greater e = cc

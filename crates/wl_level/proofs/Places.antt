@@ -1,5 +1,6 @@
 -- What is at a place does not change when the list grows after it.
-use Rattle.std.proofs.Common.{◌≡◌, ℕ, zero, suc, ◌+◌, ◌<◌, ◌≤◌, ◌∙◌, List, [], ◌∷◌, ◌++◌, length, Bool, true, false, cond, refl, ap, arith, length-append, add-one}
+use Rattle.std.proofs.Common.{◌≡◌, ℕ, zero, suc, ◌+◌, ◌<◌, ◌≤◌, ◌∙◌, List, [], ◌∷◌, ◌++◌, length, Bool, true, false, cond, refl, ap, sym, arith, length-append, add-one, append_assoc, replicate}
+use Rattle.std.proofs.lemmas.List.{replicate_more}
 use Rattle.std.proofs.Math.ListN.{get_or-append}
 use Rattle.std.proofs.Math.Seq.{get_or-append_seam}
 use Rattle.wl_level.specs.declared.Level.{Level}
@@ -9,6 +10,12 @@ use Rattle.wl_level.specs.Places.{at, before, count_places, run_before, run_at_e
 
 pub length_more : {X : Type 0} (levels : List X) (x : X) → length (levels ++ x ∷ []) ≡ length levels + 1
 length_more levels x = length-append levels (x ∷ [])
+
+-- one of a repeated value more
+pub snoc : {X : Type 0} (xs : List X) (x : X) (n : ℕ) → xs ++ replicate (suc n) x ≡ (xs ++ replicate n x) ++ x ∷ []
+snoc xs x n =
+    ap (λ k. xs ++ replicate k x) (sym (add-one n))
+    ∙ ap (λ more. xs ++ more) (sym (replicate_more n x)) ∙ sym (append_assoc xs (replicate n x) (x ∷ []))
 
 -- the new level is at the old end
 pub at_new : (levels : List Level) (x : Level) → at (levels ++ x ∷ []) (length levels) ≡ x

@@ -4,6 +4,7 @@ use Rattle.std.proofs.lemmas.Bool.{cases_lt}
 use Rattle.std.proofs.lemmas.List.{length-replicate}
 use Rattle.wl_level.specs.declared.Level.{Level}
 use Rattle.wl_level.specs.declared.Level.TheVariants.{Recessive}
+use Rattle.wl_level.proofs.Callers.{snoc}
 use Rattle.wl_sync.specs.declared.Beat.{Beat}
 use Rattle.wl_sync.specs.Bits.{Seen, sync_of}
 use Rattle.wl_node.specs.declared.setup.NodeSetup.{NodeSetup}
@@ -13,7 +14,7 @@ use Rattle.wl_node.specs.History.{History, history_of, history_after, history_af
 use Rattle.wl_node.specs.Kept.{IsTraffic, IsProgress, FitsHistory}
 use Rattle.wl_node.specs.Rest.{IsRest}
 use Rattle.wl_node.proofs.Turns.{history_next}
-use Rattle.wl_node.proofs.Skipped.{seen_more, snoc, same_history, IsIdleFor, history_skipped}
+use Rattle.wl_node.proofs.Skipped.{seen_more, same_history, IsIdleFor, history_skipped}
 use Rattle.wl_node.proofs.Rested.{rests}
 
 module _ (setup : NodeSetup) (levels : List Level) (kept : Progress) (old : IsProgress setup kept levels) (n : ℕ) (rest : IsRest setup kept (history_of setup levels) n) where

@@ -1,7 +1,7 @@
 -- A node's history, so many quanta of one level longer, in which no bit is sampled, no edge synchronises one and no start changes the drive.
-use Rattle.std.proofs.Common.{◌≡◌, ◌≢◌, ◌∙◌, ℕ, zero, suc, ◌<◌, ◌≤◌, Bool, true, false, List, [], ◌∷◌, ◌++◌, Option, None, length, replicate, refl, ap, sym, arith, append_assoc, append-nil, add-one}
-use Rattle.std.proofs.lemmas.List.{replicate_more}
+use Rattle.std.proofs.Common.{◌≡◌, ◌≢◌, ◌∙◌, ℕ, zero, suc, ◌<◌, ◌≤◌, Bool, true, false, List, [], ◌∷◌, ◌++◌, Option, None, length, replicate, refl, ap, sym, arith, append-nil}
 use Rattle.wl_level.specs.declared.Level.{Level}
+use Rattle.wl_level.proofs.Callers.{snoc}
 use Rattle.wl_sync.specs.declared.Beat.{Beat}
 use Rattle.wl_sync.specs.declared.Beat.TheVariants.{Plain, Sample, Start}
 use Rattle.wl_sync.specs.declared.Sync.{Sync}
@@ -15,11 +15,6 @@ use Rattle.wl_node.proofs.Turns.{history_next}
 -- the history that has seen more, and nothing happened
 abbrev pub seen_more : History → List Seen → History
 seen_more h more = record h { seen = h.seen ++ more }
-
-pub snoc : {A : Type 0} (xs : List A) (x : A) (n : ℕ) → xs ++ replicate (suc n) x ≡ (xs ++ replicate n x) ++ x ∷ []
-snoc xs x n =
-    ap (λ k. xs ++ replicate k x) (sym (add-one n))
-    ∙ ap (λ more. xs ++ more) (sym (replicate_more n x)) ∙ sym (append_assoc xs (replicate n x) (x ∷ []))
 
 pub same_history : (h : History) {seen seen' : List Seen} {syncs syncs' : List (ℕ × Sync)} → seen ≡ seen' → syncs ≡ syncs'
     → ◌≡◌ {A = History} (record h { seen = seen; syncs = syncs }) (record h { seen = seen'; syncs = syncs' })

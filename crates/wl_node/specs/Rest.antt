@@ -24,5 +24,5 @@ pub record IsRest (setup : NodeSetup) (kept : Progress) (h : History) (n : ℕ) 
   pub stays : (past : List Input) (mode : Mode) → IsMachine kept.traffic.machine past → IsMachine kept.traffic.machine (past ++ Sample (sample_of Recessive None mode) ∷ [])
 
 -- whatever put the node where it is
-abbrev pub RestsFor : NodeSetup → Progress → ℕ → Type 0
-RestsFor setup kept n = (levels : List Level) → IsProgress setup kept levels → IsRest setup kept (history_of setup levels) n
+abbrev pub AlwaysRests : NodeSetup → Progress → ℕ → Type 0
+AlwaysRests setup kept n = (levels : List Level) → IsProgress setup kept levels → IsRest setup kept (history_of setup levels) n

@@ -4,7 +4,7 @@ ghost use Rattle.std.specs.Prelude.{◌≡◌, ℕ, suc, ◌+◌, ◌<◌, ◌�
 ghost use Rattle.wl_level.specs.declared.Level.{Level};
 ghost use Rattle.wl_node.specs.Kept.{HasProgressedBy, KeepsDrive};
 ghost use Rattle.wl_node.specs.Limits.{most_run_quanta};
-ghost use Rattle.wl_node.specs.Rest.{RestsFor};
+ghost use Rattle.wl_node.specs.Rest.{AlwaysRests};
 
 use crate::progress::Progress;
 use crate::setup::NodeSetup;
@@ -38,7 +38,7 @@ impl Progress {
     /// The quanta of such a bit, where it can run.
     fn next_rest(&self, setup: &NodeSetup, most: u64) -> Option<u64>
         requires short { self.now.quanta + most ≤ most_run_quanta }
-        ensures rests { (n : ℕ) → result ≡ Some n → RestsFor setup.now self.now n }
+        ensures rests { (n : ℕ) → result ≡ Some n → AlwaysRests setup.now self.now n }
         ensures some { (n : ℕ) → result ≡ Some n → 0 < n }
         ensures few { (n : ℕ) → result ≡ Some n → n ≤ most }
         ensures room { (n : ℕ) → result ≡ Some n

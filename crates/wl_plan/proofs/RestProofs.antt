@@ -1,10 +1,9 @@
 -- On a line at rest each node sees recessive, and so drives recessive, tick by tick.
-use Rattle.std.proofs.Common.{◌≡◌, ℕ, zero, suc, ◌+◌, ◌-◌, ◌<◌, ◌≤◌, false, ◌||◌, inl, inr, List, [], ◌∷◌, ◌++◌, length, replicate, sym, ◌∙◌, ap, arith, add-zero, add-suc, add-one, append-nil, append_assoc}
+use Rattle.std.proofs.Common.{◌≡◌, ℕ, zero, suc, ◌+◌, ◌-◌, ◌<◌, ◌≤◌, false, ◌||◌, inl, inr, [], ◌∷◌, ◌++◌, length, replicate, sym, ◌∙◌, ap, arith, add-zero, add-suc, append-nil}
 use Rattle.std.proofs.lemmas.Bool.{cases_lt, false_from_ne_true, true≢false}
-use Rattle.std.proofs.lemmas.List.{replicate_more}
-use Rattle.wl_level.specs.declared.Level.{Level}
 use Rattle.wl_level.specs.declared.Level.TheVariants.{Recessive}
 use Rattle.wl_level.specs.Levels.{level_of}
+use Rattle.wl_level.proofs.Callers.{snoc}
 use Rattle.wl_topology.specs.Driven.{DrivenLaws, driven}
 use Rattle.wl_record_core.specs.Truth.{count_below}
 use Rattle.wl_record_core.specs.TableLaws.{TableLaws}
@@ -14,12 +13,6 @@ use Rattle.wl_plan.specs.Simulation.{level, level_before, seen, differs, changes
 use Rattle.wl_plan.specs.Sound.{IsCausal}
 use Rattle.wl_plan.proofs.LineProofs.{IsRan, clock_later, ran_is, level_is, level_before_is}
 use Rattle.wl_plan.proofs.ChangeProofs.{count, count_is, change_no}
-
--- one level more, behind
-snoc : (xs : List Level) (x : Level) (n : ℕ) → xs ++ replicate (suc n) x ≡ (xs ++ replicate n x) ++ x ∷ []
-snoc xs x n =
-    ap (λ k. xs ++ replicate k x) (sym (add-one n))
-    ∙ ap (λ more. xs ++ more) (sym (replicate_more n x)) ∙ sym (append_assoc xs (replicate n x) (x ∷ []))
 
 -- a node has run no fewer quanta before a later tick
 least : (l : Line) (i k t n : ℕ) → IsCausal l → i < l.nodes → AreInside l i k → IsRan l i t n → l.instant i k ≤ t → k ≤ n

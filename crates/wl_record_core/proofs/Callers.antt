@@ -1,9 +1,10 @@
--- How many ticks of a list are not after a tick, and whether a count is odd.
+-- What the proofs of upper crates may use: how many ticks of a list are not after a tick, whether a count is odd, and the one tick of a slot.
 use Rattle.std.proofs.Common.{◌≡◌, ℕ, zero, suc, ◌+◌, ◌%◌, ◌<◌, ◌≤◌, ◌==◌, ◌⊎◌, not, inl, inr, List, length, get_or, refl, sym, ◌∙◌, ap, arith}
 use Rattle.std.proofs.lemmas.Bool.{cases_lt}
 use Rattle.std.proofs.lemmas.Option.{slice_get-get_or}
 use Rattle.wl_record_core.specs.Truth.{count_below, odd, IsIncreasing}
 use Rattle.wl_record_core.specs.TableLaws.{TableLaws}
+pub use Rattle.wl_record_core.proofs.TruthProofs.{one_tick_a_slot}
 
 -- a tick that is not after this one counts, with those before it
 pub reached : TableLaws → (xs : List ℕ) (g tick : ℕ) → IsIncreasing xs → g < length xs → get_or xs g 0 ≤ tick → suc g ≤ count_below (tick + 1) xs

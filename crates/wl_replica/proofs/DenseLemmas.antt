@@ -1,12 +1,12 @@
 -- The entries of rows: they are in order, they have the words of the rows, and those of a node are its row's.
-use Rattle.std.proofs.Common.{◌≡◌, ℕ, zero, suc, ◌-◌, ◌<◌, ◌≤◌, ◌==◌, true, false, cond, inl, inr, List, [], ◌∷◌, None, Some, unwrap_or, refl, sym, ◌∙◌, ap, subst, arith, length}
+use Rattle.std.proofs.Common.{◌≡◌, ℕ, zero, suc, ◌-◌, ◌<◌, ◌≤◌, false, cond, inl, inr, List, [], ◌∷◌, None, Some, unwrap_or, refl, sym, ◌∙◌, ap, subst, arith, length}
 use Rattle.std.specs.Prelude.{slice_index_or}
 use Rattle.std.specs.List.{AllByRecursion}
 use Rattle.std.specs.List.Sorted.{IsStrictlySortedBy}
 use Rattle.std.specs.Map.{keys_of}
 use Rattle.std.specs.declared.cmp.Ordering.TheVariants.{Less}
 use Rattle.std.specs.BTreeMap.{is_at}
-use Rattle.std.proofs.lemmas.Bool.{cases_eq, ne_eqb}
+use Rattle.std.proofs.lemmas.Bool.{cases_eq, ne_eqb, eq-eqb}
 use Rattle.std.proofs.lemmas.Bool.Decides.{nat_tests}
 use Rattle.wl_replica.specs.Keys.{Key, key_cmp}
 use Rattle.wl_replica.specs.Canonical.{of_node}
@@ -22,9 +22,6 @@ less_by_node x y h = grind (arith, nat_tests)
 
 pub other_node : (node n : ℕ) (k : Key) → ¬ (k.0 ≡ node) → is_at (key_cmp (node, n)) k ≡ false
 other_node node n k h = grind (arith, nat_tests)
-
-pub is_node : (a b : ℕ) → a ≡ b → (a == b) ≡ true
-is_node a b e = grind (arith, nat_tests)
 
 module _ {W : Type 0} (word : ℕ → W) where
   -- every key is of a node past this one
@@ -114,7 +111,7 @@ module _ {W : Type 0} (word : ℕ → W) where
   node_row : (i n : ℕ) (row : List ℕ) (es : List (Key × W)) → Past i es → of_node i (row_entries word i n row es) ≡ row_entries word i n row []
   node_row i n [] es h = none_past i es h
   node_row i n (a ∷ row) es h =
-      ap (λ b. cond b (((i, n), word a) ∷ of_node i (row_entries word i (suc n) row es)) (of_node i (row_entries word i (suc n) row es))) (is_node i i refl)
+      ap (λ b. cond b (((i, n), word a) ∷ of_node i (row_entries word i (suc n) row es)) (of_node i (row_entries word i (suc n) row es))) (eq-eqb i i refl)
       ∙ ap (λ fs. ((i, n), word a) ∷ fs) (node_row i (suc n) row es h)
 
   pub other_row : (node i n : ℕ) (row : List ℕ) (es : List (Key × W)) → ¬ (i ≡ node) → of_node node (row_entries word i n row es) ≡ of_node node es

@@ -7,7 +7,7 @@ use Rattle.std.specs.declared.result.Result.{Result}
 use Rattle.std.specs.declared.result.Result.TheVariants.{Ok, Err}
 use Rattle.std.specs.Cmp.{eq_by_cmp_equiv}
 use Rattle.std.specs.BTreeMap.{BTreeMap, get, is_at, IsOrdered}
-use Rattle.std.proofs.lemmas.Bool.{cases_eq, cases_lt}
+use Rattle.std.proofs.lemmas.Bool.{cases_eq, cases_lt, ltb-true, lt-ltb, ltb-false, le-ltb}
 use Rattle.std.proofs.lemmas.Bool.Decides.{nat_tests}
 use Rattle.std.proofs.lemmas.List.{get_or-set_same, get_or-set_other}
 use Rattle.wl_lattice.specs.declared.FlatWord.{FlatWord}
@@ -122,28 +122,19 @@ module _ (rows : List (List ℕ)) (node : ℕ) (row : List ℕ) (r s : BTreeMap 
   row_else : (i : ℕ) → ¬ (i ≡ node) → row_of (slice_set rows node row) i ≡ row_of rows i
   row_else i apart = get_or-set_other rows node i row [] apart
 
-  below : (a b : ℕ) → nat_lt a b ≡ true → a < b
-  below a b e = grind (arith, nat_tests, e)
-
-  is_below : (a b : ℕ) → a < b → nat_lt a b ≡ true
-  is_below a b e = grind (arith, nat_tests, e)
-
-  not_below : (a b : ℕ) → nat_lt a b ≡ false → b ≤ a
-  not_below a b e = grind (arith, nat_tests, e)
-
   -- how a row's places and numbers are after it, at each node
   longer_firsts : (q : Key) → is_first rows q ≡ true → is_first (slice_set rows node row) q ≡ true
   longer_firsts q is = elim (cases_eq q.0 node) [
     | inl e ↦
-        let was : q.1 < length (row_of rows node) = subst (λ i. q.1 < length (row_of rows i)) e (below q.1 (length (row_of rows q.0)) is) in
-        is_below q.1 (length (row_of (slice_set rows node row) q.0)) (subst (λ (l : List ℕ). q.1 < length l) (sym (ap (row_of (slice_set rows node row)) e ∙ row_here)) (omega (arith, was, d.longer)))
+        let was : q.1 < length (row_of rows node) = subst (λ i. q.1 < length (row_of rows i)) e (ltb-true q.1 (length (row_of rows q.0)) is) in
+        lt-ltb q.1 (length (row_of (slice_set rows node row) q.0)) (subst (λ (l : List ℕ). q.1 < length l) (sym (ap (row_of (slice_set rows node row)) e ∙ row_here)) (omega (arith, was, d.longer)))
     | inr e ↦ ap (λ (l : List ℕ). nat_lt q.1 (length l)) (row_else q.0 e) ∙ is
   ]
 
   longer_stay : (q : Key) → is_first rows q ≡ true → edge_of_number (slot_number (slice_set rows node row) q) ≡ edge_of_number (slot_number rows q)
   longer_stay q is = elim (cases_eq q.0 node) [
     | inl e ↦
-        let was : q.1 < length (row_of rows node) = subst (λ i. q.1 < length (row_of rows i)) e (below q.1 (length (row_of rows q.0)) is) in
+        let was : q.1 < length (row_of rows node) = subst (λ i. q.1 < length (row_of rows i)) e (ltb-true q.1 (length (row_of rows q.0)) is) in
         ap edge_of_number (ap (λ (l : List ℕ). row_number l q.1) (ap (row_of (slice_set rows node row)) e ∙ row_here) ∙ (d.stays q.1 was ∙ ap (λ i. row_number (row_of rows i) q.1) (sym e)))
     | inr e ↦ ap (λ (l : List ℕ). edge_of_number (row_number l q.1)) (row_else q.0 e)
   ]
@@ -152,8 +143,8 @@ module _ (rows : List (List ℕ)) (node : ℕ) (row : List ℕ) (r s : BTreeMap 
   longer_drawn q was is = elim (cases_eq q.0 node) [
     | inl e ↦
         let row_is : row_of (slice_set rows node row) q.0 ≡ row = ap (row_of (slice_set rows node row)) e ∙ row_here in
-        let past : length (row_of rows node) ≤ q.1 = subst (λ i. length (row_of rows i) ≤ q.1) e (not_below q.1 (length (row_of rows q.0)) was) in
-        let in_new : q.1 < length row = subst (λ (l : List ℕ). q.1 < length l) row_is (below q.1 (length (row_of (slice_set rows node row) q.0)) is) in
+        let past : length (row_of rows node) ≤ q.1 = subst (λ i. length (row_of rows i) ≤ q.1) e (ltb-false q.1 (length (row_of rows q.0)) was) in
+        let in_new : q.1 < length row = subst (λ (l : List ℕ). q.1 < length l) row_is (ltb-true q.1 (length (row_of (slice_set rows node row) q.0)) is) in
         ap (λ (l : List ℕ). edge_of_number (row_number l q.1)) row_is ∙ (d.drawn q.1 past in_new ∙ ap (λ i. word_in flat.Nothing r (i, q.1)) (sym e))
     | inr e ↦ let t : true ≡ false = sym is ∙ (ap (λ (l : List ℕ). nat_lt q.1 (length l)) (row_else q.0 e) ∙ was) in cc
   ]
@@ -161,7 +152,7 @@ module _ (rows : List (List ℕ)) (node : ℕ) (row : List ℕ) (r s : BTreeMap 
   others_stay : (q : Key) → is_first (slice_set rows node row) q ≡ false → get key_cmp s q ≡ get key_cmp r q
   others_stay q is = d.others q (λ h.
       let row_is : row_of (slice_set rows node row) q.0 ≡ row = ap (row_of (slice_set rows node row)) h.0 ∙ row_here in
-      let t : true ≡ false = sym (is_below q.1 (length (row_of (slice_set rows node row) q.0)) (subst (λ (l : List ℕ). q.1 < length l) (sym row_is) h.1)) ∙ is in cc)
+      let t : true ≡ false = sym (lt-ltb q.1 (length (row_of (slice_set rows node row) q.0)) (subst (λ (l : List ℕ). q.1 < length l) (sym row_is) h.1)) ∙ is in cc)
 
   pub drawn_same : (q : Key) → word_in flat.Nothing (edges_shown (slice_set rows node row) s) q ≡ word_in flat.Nothing (edges_shown rows r) q
   drawn_same = same_shown rows (slice_set rows node row) r s longer_firsts longer_stay longer_drawn (λ q is. ap (λ o. unwrap_or o flat.Nothing) (others_stay q is))
@@ -171,7 +162,7 @@ module _ (rows : List (List ℕ)) (node : ℕ) (row : List ℕ) (r s : BTreeMap 
 
   pub drawn_there : length (row_of rows node) < length row → IsSome (get key_cmp (edges_shown (slice_set rows node row) s) (node, length (row_of rows node)))
   drawn_there more = first_there (slice_set rows node row) s (node, length (row_of rows node))
-      (is_below (length (row_of rows node)) (length (row_of (slice_set rows node row) node)) (subst (λ (l : List ℕ). length (row_of rows node) < length l) (sym row_here) more))
+      (lt-ltb (length (row_of rows node)) (length (row_of (slice_set rows node row) node)) (subst (λ (l : List ℕ). length (row_of rows node) < length l) (sym row_here) more))
 
 -- ---- steps of a row that gets longer
 -- no step
@@ -196,17 +187,11 @@ drawn_more node a b c r s t d e = record {
 }
 
 -- ---- the test of a next key
-is_less : (i j : ℕ) → i < j → nat_lt i j ≡ true
-is_less i j h = grind (arith, nat_tests)
-
-is_not_less : (i j : ℕ) → j ≤ i → nat_lt i j ≡ false
-is_not_less i j h = grind (arith, nat_tests)
-
 pub next_by_place : (rows : List (List ℕ)) (q : Key) → true ≡ nat_lt q.0 (length rows) → q.1 < most_edges → (q.1 == length (row_of rows q.0)) ≡ is_next rows q
-next_by_place rows q has lt i = has i && sym (is_less q.1 most_edges lt) i && (q.1 == length (row_of rows q.0))
+next_by_place rows q has lt i = has i && sym (lt-ltb q.1 most_edges lt) i && (q.1 == length (row_of rows q.0))
 
 pub no_next : (rows : List (List ℕ)) (q : Key) → true ≡ nat_lt q.0 (length rows) → most_edges ≤ q.1 → nat_lt q.1 most_edges ≡ is_next rows q
-no_next rows q has le = is_not_less q.1 most_edges le ∙ (λ i. has i && sym (is_not_less q.1 most_edges le) i && (q.1 == length (row_of rows q.0)))
+no_next rows q has le = le-ltb q.1 most_edges le ∙ (λ i. has i && sym (le-ltb q.1 most_edges le) i && (q.1 == length (row_of rows q.0)))
 
 -- ---- order, and places that stay
 pub shown_ordered : (rows : List (List ℕ)) (rest : BTreeMap Key FlatWord) → IsOrdered key_cmp rest → IsOrdered key_cmp (edges_shown rows rest)

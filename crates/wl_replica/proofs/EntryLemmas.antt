@@ -11,7 +11,7 @@ use Rattle.std.specs.FinMap.Entries.{find, put, by_order, is_sorted, below_all}
 use Rattle.std.proofs.Common.{sym, ap, subst, ◌∙◌, arith}
 use Rattle.std.proofs.lemmas.List.{nil_from_length}
 use Rattle.wl_lattice.specs.Maps.{map_of}
-use Rattle.wl_replica.proofs.KeptLemmas.{tied_by}
+use Rattle.wl_lattice.specs.KeyByKey.{tied_by}
 
 -- a word with what was found joined in before it
 abbrev pub grown : {W : Type 0} → (W → W → W) → Option W → W → W

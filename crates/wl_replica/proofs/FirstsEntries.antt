@@ -6,7 +6,7 @@ use Rattle.std.specs.List.Sorted.{IsStrictlySortedBy}
 use Rattle.std.specs.Map.{keys_of}
 use Rattle.std.specs.declared.cmp.Ordering.TheVariants.{Less}
 use Rattle.std.specs.BTreeMap.{BTreeMap, get, is_at}
-use Rattle.std.proofs.lemmas.Bool.{cases_eq}
+use Rattle.std.proofs.lemmas.Bool.{cases_eq, le-leb, eq-eqb}
 use Rattle.std.proofs.lemmas.Bool.Decides.{nat_tests}
 use Rattle.wl_lattice.specs.declared.FlatWord.{FlatWord}
 use Rattle.wl_replica.specs.Keys.{Key, key_cmp}
@@ -14,7 +14,7 @@ use Rattle.wl_replica.specs.Canonical.{of_node}
 use Rattle.wl_replica.specs.Dense.{row_number, row_entries, edge_of_number, slot_number}
 use Rattle.wl_replica.specs.Firsts.{from_number, edge_entries, edges_shown, row_of, is_first}
 use Rattle.wl_replica.proofs.KeptLemmas.{found, same_key}
-use Rattle.wl_replica.proofs.DenseLemmas.{Past, past_row, below_others, found_past, found_other, none_past, other_row, is_node, less_in_row}
+use Rattle.wl_replica.proofs.DenseLemmas.{Past, past_row, below_others, found_past, found_other, none_past, other_row, less_in_row}
 use Rattle.wl_replica.proofs.WalkLemmas.{number_at_is, number_after}
 
 abbrev IsSorted : {W : Type 0} → List (Key × W) → Type 0
@@ -151,7 +151,7 @@ module _ {W : Type 0} (word : ℕ → W) where
   of_node_row : (i n : ℕ) (row : List ℕ) (es : List (Key × W)) → of_node i (row_entries word i n row es) ≡ row_entries word i n row [] ++ of_node i es
   of_node_row i n [] es = refl
   of_node_row i n (a ∷ row) es =
-      ap (λ b. cond b (((i, n), word a) ∷ of_node i (row_entries word i (suc n) row es)) (of_node i (row_entries word i (suc n) row es))) (is_node i i refl)
+      ap (λ b. cond b (((i, n), word a) ∷ of_node i (row_entries word i (suc n) row es)) (of_node i (row_entries word i (suc n) row es))) (eq-eqb i i refl)
       ∙ ap (λ fs. ((i, n), word a) ∷ fs) (of_node_row i (suc n) row es)
 
 -- ---- tests of keys
@@ -166,9 +166,6 @@ node_from i n m h = grind (arith, nat_tests)
 
 other_from : (i n : ℕ) (k : Key) → ¬ (i ≡ k.0) → (k.0 == i && nat_le n k.1) ≡ false
 other_from i n k h = grind (arith, nat_tests)
-
-le_is : (i j : ℕ) → i ≤ j → nat_le i j ≡ true
-le_is i j h = grind (arith, nat_tests)
 
 lt_is_not : (i j : ℕ) → ¬ (i < j) → nat_lt i j ≡ false
 lt_is_not i j h = grind (arith, nat_tests)
@@ -221,7 +218,7 @@ found_edges : (node n i : ℕ) (rows : List (List ℕ)) (rest : List (Key × Fla
     → found (edge_entries i rows rest) (node, n)
     ≡ cond (nat_lt n (length (slice_index_or rows (node - i) []))) (Some (edge_of_number (row_number (slice_index_or rows (node - i) []) n))) (found rest (node, n))
 found_edges node n i [] rest le =
-    found_passing (λ k. nat_le i k.0) (node, n) (le_is i node le) rest
+    found_passing (λ k. nat_le i k.0) (node, n) (le-leb i node le) rest
     ∙ ap (λ b. cond b (Some (edge_of_number (row_number [] n))) (found rest (node, n))) (sym (none_below n))
 found_edges node n i (row ∷ rows) rest le = elim (cases_eq i node) [
   | inl same ↦

@@ -1,10 +1,12 @@
 -- The changes of a run up to a tick, and the level that they leave.
-use Rattle.std.proofs.Common.{◌≡◌, ℕ, zero, suc, ◌+◌, ◌-◌, ◌/◌, ◌%◌, ◌<◌, ◌≤◌, ◌==◌, Bool, true, false, not, cond, inl, inr, refl, sym, ◌∙◌, ap, subst, arith}
+use Rattle.std.proofs.Common.{◌≡◌, ℕ, zero, suc, ◌+◌, ◌-◌, ◌/◌, ◌%◌, ◌<◌, ◌≤◌, ◌==◌, true, false, not, cond, inl, inr, refl, sym, ◌∙◌, ap, subst, arith}
 use Rattle.std.proofs.lemmas.Bool.{cases_eq, lt-leb, le-leb, and_parts}
-use Rattle.std.proofs.lemmas.Bool.Decides.{nat_tests}
 use Rattle.wl_lattice.specs.declared.FlatWord.{FlatWord}
+use Rattle.wl_record_core.specs.Truth.{odd}
+use Rattle.wl_record_core.proofs.Callers.{odd_is}
 use Rattle.wl_replica.specs.Known.{tick_in, is_run, after_edges, ticks, ticks_from}
 use Rattle.wl_replica.proofs.SmallFacts.{run_part}
+use Rattle.wl_replica.proofs.RunLemmas.{run_shorter}
 use Rattle.wl_replica.proofs.WaveLemmas.{goes_above, flips, ticks_from_first}
 
 -- the ticks of a run climb
@@ -16,33 +18,14 @@ module _ (e : ℕ → FlatWord) (s : ℕ → ℕ) where
     | inr other ↦ omega (arith, before_end m n (and_parts _ _ run).0 (omega arith), goes_above e s m (and_parts _ _ run).1)
   ]
 
-  run_shortened : (m n : ℕ) → is_run e s m ≡ true → n ≤ m → is_run e s n ≡ true
-  run_shortened zero n run le = subst (λ k. is_run e s k ≡ true) (let same : 0 ≡ n = omega arith in same) refl
-  run_shortened (suc m) n run le = elim (cases_eq n (suc m)) [
-    | inl same ↦ subst (λ k. is_run e s k ≡ true) (sym same) run
-    | inr other ↦ run_shortened m n (and_parts _ _ run).0 (omega arith)
-  ]
-
   pub run_climbs : (length m n : ℕ) → is_run e s length ≡ true → m < length → n ≤ m → tick_in (e n) ≤ tick_in (e m)
   run_climbs length m n run lt le = elim (cases_eq n m) [
     | inl same ↦ subst (λ k. tick_in (e k) ≤ tick_in (e m)) (sym same) (omega arith)
     | inr other ↦
-        (let low = before_end m n (run_shortened length m run (omega arith)) (omega arith) in
+        (let low = before_end m n (run_shorter e s length m run (omega arith)) (omega arith) in
         let high = goes_above e s m (run_part e s length m run lt) in
         omega arith)
   ]
-
--- whether a number is odd, by steps
-abbrev pub odd : ℕ → Bool
-odd zero = false
-odd (suc n) = not (odd n)
-
-turned : (n : ℕ) → (suc n % 2 == 1) ≡ not (n % 2 == 1)
-turned n = grind (arith, nat_tests)
-
-pub odd_is : (n : ℕ) → (n % 2 == 1) ≡ odd n
-odd_is zero = refl
-odd_is (suc n) = turned n ∙ ap not (odd_is n)
 
 -- the level after so many of the ticks that are left
 pub flips_are : (e : ℕ → FlatWord) (m d c t : ℕ) → c ≤ d → ((n : ℕ) → m ≤ n → n < m + c → tick_in (e n) ≤ t) → (c < d → t < tick_in (e (m + c))) → flips (ticks_from e m d) t ≡ odd c

@@ -1,5 +1,6 @@
 -- The words of rows and of the rest behind them, one after another, are those of the one map that they stand for.
-use Rattle.std.proofs.Common.{◌≡◌, ℕ, zero, suc, ◌+◌, ◌<◌, ◌≤◌, ◌==◌, ◌&&◌, Bool, true, false, not, cond, List, [], ◌∷◌, ◌++◌, Some, unwrap_or, refl, sym, ◌∙◌, ap, subst, arith, length, drop, append_assoc, nat_lt, nat_le}
+use Rattle.std.proofs.Common.{◌≡◌, ℕ, zero, suc, ◌+◌, ◌<◌, ◌==◌, ◌&&◌, Bool, true, false, not, cond, List, [], ◌∷◌, ◌++◌, Some, unwrap_or, refl, sym, ◌∙◌, ap, subst, arith, length, drop, append_assoc, nat_le}
+use Rattle.std.proofs.lemmas.Bool.{ltb-true, ltb-false}
 use Rattle.std.specs.Prelude.{IsSome}
 use Rattle.std.specs.List.{filter_map}
 use Rattle.std.specs.declared.ops.Bound.TheVariants.{Included, Excluded}
@@ -76,9 +77,6 @@ pub entry_seen : (rows : List (List ℕ)) (e : Key × FlatWord) (es : List (Key 
 entry_seen rows e es is = ap (λ b. cond (not b) (e ∷ behind_rows rows es) (behind_rows rows es)) is
 
 -- ---- both parts joined in
-pub not_below : (m n : ℕ) → nat_lt m n ≡ false → n ≤ m
-not_below m n is = grind (arith, nat_tests)
-
 nothing_right : (w : FlatWord) → joined_flat w flat.Nothing ≡ w
 nothing_right w = tells_edge.right w
 
@@ -101,7 +99,7 @@ parts_joined rows rest ordered v q =
           ap (λ o. joined_flat (joined_flat v (edge_of_number number)) (unwrap_or o flat.Nothing)) (none_passing test q (ap not is) rest.entries)
           ∙ nothing_right (joined_flat v (edge_of_number number))
       | false ↦ λ is.
-          let none : number ≡ 0 = get_or_past (row_of rows q.0) q.1 0 (not_below q.1 (length (row_of rows q.0)) is) in
+          let none : number ≡ 0 = get_or_past (row_of rows q.0) q.1 0 (ltb-false q.1 (length (row_of rows q.0)) is) in
           ap (λ n. joined_flat (joined_flat v (edge_of_number n)) (unwrap_or (found (behind_rows rows rest.entries) q) flat.Nothing)) none
           ∙ (ap (λ w. joined_flat w (unwrap_or (found (behind_rows rows rest.entries) q) flat.Nothing)) (nothing_right v)
           ∙ ap (λ o. joined_flat v (unwrap_or o flat.Nothing)) (found_passing test q (ap not is) rest.entries))
@@ -131,9 +129,6 @@ module _ (m : BTreeMap Key FlatWord) (rows : List (List ℕ)) (rest : BTreeMap K
   below_is : (i n : ℕ) → n < length (row_of rows i) → is_first rows (i, n) ≡ true
   below_is i n lt = grind (arith, nat_tests, lt)
 
-  is_below : (a b : ℕ) → nat_lt a b ≡ true → a < b
-  is_below a b is = grind (arith, nat_tests)
-
   -- there is room for each part
   pub room_in_rows : HasKeys m (edges_shown rows rest).entries → (i n : ℕ) → n < length (row_of rows i) → IsSome (get key_cmp m (i, n))
   room_in_rows h i n lt = shown_at (i, n) (subst (λ b. IsSome (cond b (Some (edge_of_number (slot_number rows (i, n)))) (get key_cmp rest (i, n)))) (sym (below_is i n lt)) refl) h
@@ -148,7 +143,7 @@ module _ (m : BTreeMap Key FlatWord) (rows : List (List ℕ)) (rest : BTreeMap K
   pub room_for_both : ((i n : ℕ) → n < length (row_of rows i) → IsSome (get key_cmp m (i, n))) → HasKeys m rest.entries → HasKeys m (edges_shown rows rest).entries
   room_for_both f h = keys_among m (edges_shown rows rest) (edges_sorted 0 rows rest.entries ordered) (λ q s. either q (is_first rows q) refl (subst IsSome (get_first rows rest q) s)) where
     either : (q : Key) (b : Bool) → is_first rows q ≡ b → IsSome (cond b (Some (edge_of_number (slot_number rows q))) (get key_cmp rest q)) → IsSome (get key_cmp m q)
-    either q true is s = f q.0 q.1 (is_below q.1 (length (row_of rows q.0)) is)
+    either q true is s = f q.0 q.1 (ltb-true q.1 (length (row_of rows q.0)) is)
     either q false is s = key_among m rest.entries h q s
 
 -- a place of a row is one of rows that there are

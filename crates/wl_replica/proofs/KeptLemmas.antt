@@ -1,20 +1,14 @@
 -- One more word in a map that is kept.
 use Rattle.std.specs.Prelude.{◌≡◌, Bool, true, false, cond, Option, List, [], ◌∷◌, Some, None, unwrap_or, IsSome, is_some, refl}
-use Rattle.std.specs.declared.cmp.Ordering.{Ordering}
-use Rattle.std.specs.declared.cmp.Ordering.TheVariants.{Less, Equal, Greater}
-use Rattle.std.specs.Ordering.{eq_by_cmp, is_eq}
+use Rattle.std.specs.Ordering.{eq_by_cmp}
 use Rattle.std.specs.Cmp.{eq_by_cmp_equiv}
 use Rattle.std.specs.BTreeMap.{BTreeMap, get, is_at}
 use Rattle.std.specs.Map.{lookup}
 use Rattle.std.proofs.Common.{sym, ap, ◌∙◌, subst}
+use Rattle.wl_lattice.specs.KeyByKey.{tied_by}
 use Rattle.wl_replica.specs.Keys.{Key, key_cmp}
 use Rattle.wl_replica.proofs.KeyLaws.{key_cmp_total, exact_keys}
 use Rattle.wl_replica.specs.Kept.{word_in, joined_all, HasKeys}
-
-pub tied_by : (r : Ordering) → is_eq r ≡ true → r ≡ Equal
-tied_by Less e = cc
-tied_by Equal e = refl
-tied_by Greater e = cc
 
 -- keys that compare alike are one
 pub same_key : (q k : Key) → eq_by_cmp key_cmp q k ≡ true → q ≡ k

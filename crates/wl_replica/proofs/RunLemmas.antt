@@ -1,7 +1,6 @@
 -- A run that is kept: what it tells, and what stands of it after a word came in.
 use Rattle.std.proofs.Common.{◌≡◌, ℕ, zero, suc, ◌+◌, ◌<◌, ◌≤◌, max, Bool, true, false, cond, ◌==◌, ◌&&◌, inl, inr, List, [], ◌∷◌, length, slice_index_or, slice_set, refl, sym, ◌∙◌, ap, subst, arith, nat_lt, nat_le}
-use Rattle.std.proofs.lemmas.Bool.{cases_eq, and_parts, and_from, false≢true}
-use Rattle.std.proofs.lemmas.Bool.Decides.{nat_tests}
+use Rattle.std.proofs.lemmas.Bool.{cases_eq, and_parts, and_from, false≢true, leb-true, le-leb}
 use Rattle.std.proofs.lemmas.List.{get_or-set_same, get_or-set_other}
 use Rattle.std.specs.Ordering.{eq_by_cmp}
 use Rattle.std.specs.Cmp.{eq_by_cmp_equiv}
@@ -31,12 +30,8 @@ promised_least s (suc m) top h = omega (arith, promised_least s m top (λ n le. 
 
 module _ (e : ℕ → FlatWord) (s : ℕ → ℕ) where
   goes_outside : (n : ℕ) → run_goes_on e s n ≡ true → s n ≤ tick_in (e n)
-  goes_outside zero h = under (s 0) (tick_in (e 0)) (and_parts _ _ h).1 where
-    under : (a b : ℕ) → nat_le a b ≡ true → a ≤ b
-    under a b h = grind (arith, nat_tests)
-  goes_outside (suc n) h = under (s (suc n)) (tick_in (e (suc n))) (and_parts _ _ (and_parts _ _ h).0).1 where
-    under : (a b : ℕ) → nat_le a b ≡ true → a ≤ b
-    under a b h = grind (arith, nat_tests)
+  goes_outside zero h = leb-true (s 0) (tick_in (e 0)) (and_parts _ _ h).1
+  goes_outside (suc n) h = leb-true (s (suc n)) (tick_in (e (suc n))) (and_parts _ _ (and_parts _ _ h).0).1
 
   -- the silences after fewer changes end below the last of a run
   below_end : (m n : ℕ) → is_run e s m ≡ true → n < m → s n < after_edges e m
@@ -98,14 +93,10 @@ module _ (e f : ℕ → FlatWord) (s t : ℕ → ℕ) where
 -- ---- silences that reach further
 module _ (e : ℕ → FlatWord) (s t : ℕ → ℕ) where
   goes_under : (n : ℕ) → run_goes_on e s n ≡ true → t n ≤ tick_in (e n) → run_goes_on e t n ≡ true
-  goes_under zero h le = and_from _ _ (and_parts _ _ h).0 (over (t 0) (tick_in (e 0)) le) where
-    over : (a b : ℕ) → a ≤ b → nat_le a b ≡ true
-    over a b h = grind (arith, nat_tests)
+  goes_under zero h le = and_from _ _ (and_parts _ _ h).0 (le-leb (t 0) (tick_in (e 0)) le)
   goes_under (suc n) h le =
       let parts = and_parts _ _ h in
-      and_from _ _ (and_from _ _ (and_parts _ _ parts.0).0 (over (t (suc n)) (tick_in (e (suc n))) le)) parts.1 where
-        over : (a b : ℕ) → a ≤ b → nat_le a b ≡ true
-        over a b h = grind (arith, nat_tests)
+      and_from _ _ (and_from _ _ (and_parts _ _ parts.0).0 (le-leb (t (suc n)) (tick_in (e (suc n))) le)) parts.1
 
   pub stays_stopped : (n : ℕ) → run_goes_on e s n ≡ false → s n ≤ t n → run_goes_on e t n ≡ false
   stays_stopped n h le = elim (run_goes_on e t n) as (λ b. run_goes_on e t n ≡ b → b ≡ false) [
@@ -114,14 +105,10 @@ module _ (e : ℕ → FlatWord) (s t : ℕ → ℕ) where
   ] refl
     where
       back : (n : ℕ) → run_goes_on e t n ≡ true → s n ≤ tick_in (e n) → run_goes_on e s n ≡ true
-      back zero g le = and_from _ _ (and_parts _ _ g).0 (over (s 0) (tick_in (e 0)) le) where
-        over : (a b : ℕ) → a ≤ b → nat_le a b ≡ true
-        over a b h = grind (arith, nat_tests)
+      back zero g le = and_from _ _ (and_parts _ _ g).0 (le-leb (s 0) (tick_in (e 0)) le)
       back (suc n) g le =
           let parts = and_parts _ _ g in
-          and_from _ _ (and_from _ _ (and_parts _ _ parts.0).0 (over (s (suc n)) (tick_in (e (suc n))) le)) parts.1 where
-            over : (a b : ℕ) → a ≤ b → nat_le a b ≡ true
-            over a b h = grind (arith, nat_tests)
+          and_from _ _ (and_from _ _ (and_parts _ _ parts.0).0 (le-leb (s (suc n)) (tick_in (e (suc n))) le)) parts.1
 
 -- a tick to which a word came is the same tick, or no tick is left
 same_value : (a w : FlatWord) (t : ℕ) → is_tick a ≡ true → joined_flat a w ≡ flat.Value t → joined_flat a w ≡ a

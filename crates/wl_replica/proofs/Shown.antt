@@ -17,7 +17,8 @@ use Rattle.wl_replica.proofs.SmallFacts.{nothing_more}
 use Rattle.wl_replica.specs.Keys.{Key, key_cmp}
 use Rattle.wl_replica.proofs.KeyLaws.{key_cmp_total, exact_keys}
 use Rattle.wl_replica.specs.Kept.{word_in, joined_all, words_shown}
-use Rattle.wl_replica.proofs.KeptLemmas.{tied_by, found}
+use Rattle.wl_lattice.specs.KeyByKey.{tied_by}
+use Rattle.wl_replica.proofs.KeptLemmas.{found}
 
 both : (a b : Bool) → T a → T b → T (a && b)
 both true b p q = q

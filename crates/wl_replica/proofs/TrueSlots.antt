@@ -1,5 +1,5 @@
 -- Records that are true of a table make slots that hold what is true of it, and so do joined ones.
-use Rattle.std.proofs.Common.{◌≡◌, ℕ, ◌<◌, ◌≤◌, Bool, true, false, ◌&&◌, ◌⊎◌, inl, inr, List, [], ◌∷◌, refl, sym, ◌∙◌, subst, arith, ◌==◌, if◌then◌else◌}
+use Rattle.std.proofs.Common.{◌≡◌, ℕ, ◌<◌, ◌≤◌, Bool, true, false, ◌&&◌, ◌⊎◌, inl, inr, List, [], ◌∷◌, refl, sym, subst, arith, ◌==◌, if◌then◌else◌}
 use Rattle.std.proofs.lemmas.Bool.{cases_Bool, eqb-true, eq-eqb, and_parts, and_from, cond-true, cond-false}
 use Rattle.wl_lattice.specs.declared.FlatWord.{FlatWord}
 use Rattle.wl_lattice.specs.declared.FlatWord.TheVariants as flat
@@ -9,14 +9,11 @@ use Rattle.wl_record_core.specs.declared.record.Record.{Record}
 use Rattle.wl_record_core.specs.declared.record.Record.TheVariants.{Edge, Clash, Silence}
 use Rattle.wl_record_core.specs.Truth.{IsTrueOf, AreTrueOf}
 use Rattle.wl_record_core.specs.TableLaws.{TableLaws}
-use Rattle.wl_replica.proofs.SmallFacts.{max_cases, some_is}
+use Rattle.wl_record_core.proofs.Callers.{one_tick_a_slot}
+use Rattle.wl_replica.proofs.SmallFacts.{max_cases}
 use Rattle.wl_replica.specs.Slots.{Contents, no_slots, slots_joined, silence_in, slots_only, slots_of_records, HoldsTrue, IsBelow}
 use Rattle.wl_replica.specs.KnownLaws.{KnownLaws}
 use Rattle.wl_replica.proofs.KnownProofs.{tick_stays, place_known, place_above, wave_agrees, horizon_keeps, horizon_reached, changes_held}
-
--- two true ticks of one slot are one
-ticks_same : (nodes : ℕ) (table : ℕ → List ℕ) (i s x y : ℕ) → IsTrueOf nodes table (Edge i s x) → IsTrueOf nodes table (Edge i s y) → x ≡ y
-ticks_same nodes table i s x y p q = some_is x y (sym p.1 ∙ q.1)
 
 true_joined : (nodes : ℕ) (table : ℕ → List ℕ) (a b : Contents) → HoldsTrue nodes table a → HoldsTrue nodes table b → HoldsTrue nodes table (slots_joined a b)
 true_joined nodes table a b p q = record {
@@ -25,7 +22,7 @@ true_joined nodes table a b p q = record {
     | inl x ↦ p.no_clash i s x
     | inr o ↦ elim o [
       | inl y ↦ q.no_clash i s y
-      | inr two ↦ two.4 (ticks_same nodes table i s two.0 two.1 (p.edges i s two.0 two.2) (q.edges i s two.1 two.3))
+      | inr two ↦ two.4 (one_tick_a_slot nodes table i s two.0 two.1 (p.edges i s two.0 two.2) (q.edges i s two.1 two.3))
     ]
   ];
   silences = λ i n h. elim (max_cases (a.silence i n) (b.silence i n)) [

@@ -2,8 +2,7 @@
 use Rattle.std.proofs.Common.{◌≡◌, ℕ, zero, suc, ◌+◌, ◌<◌, ◌≤◌, Bool, true, false, not, ◌&&◌, ◌||◌, cond, inl, inr, List, [], ◌∷◌, ◌++◌, Option, None, Some, refl, sym, ◌∙◌, ap, subst, arith, nat_lt, nat_le, append_assoc}
 use Rattle.std.specs.Prelude.{IfSome, IfNone}
 use Rattle.std.specs.Option.{option_to_list}
-use Rattle.std.proofs.lemmas.Bool.{cases_lt, and_parts, and_right, le-leb, lt-leb, lt-ltb, le-ltb}
-use Rattle.std.proofs.lemmas.Bool.Decides.{nat_tests}
+use Rattle.std.proofs.lemmas.Bool.{cases_lt, and_parts, and_right, le-leb, lt-leb, lt-ltb, le-ltb, ltb-true}
 use Rattle.std.proofs.Math.Bool.{not-not}
 use Rattle.std.proofs.lemmas.List.{append-nil}
 use Rattle.wl_intervals.specs.Pairs.{covers, last_end}
@@ -32,9 +31,7 @@ goes_tick e s (suc n) h = (and_parts _ _ (and_parts _ _ h).0).0
 
 pub goes_above : (e : ℕ → FlatWord) (s : ℕ → ℕ) (n : ℕ) → run_goes_on e s n ≡ true → after_edges e n ≤ tick_in (e n)
 goes_above e s zero h = omega arith
-goes_above e s (suc n) h = above (tick_in (e n)) (tick_in (e (suc n))) (and_parts _ _ h).1 where
-  above : (a b : ℕ) → nat_lt a b ≡ true → suc a ≤ b
-  above a b h = grind (arith, nat_tests)
+goes_above e s (suc n) h = ltb-true (tick_in (e n)) (tick_in (e (suc n))) (and_parts _ _ h).1
 
 pub run_ticks : (e : ℕ → FlatWord) (s : ℕ → ℕ) (m : ℕ) → is_run e s m ≡ true → (n : ℕ) → n < m → is_tick (e n) ≡ true
 run_ticks e s m h n lt = goes_tick e s n (run_part e s m n h lt)

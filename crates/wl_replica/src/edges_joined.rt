@@ -64,7 +64,8 @@ fn make_room_for_rows(edges: &mut Edges, rows: &Vec<Row>) -> Result<(), AllocErr
     requires { length rows.now.items < 256 }
     ensures ordered { IsOrdered key_cmp edges.new }
     ensures same { SameWords flat.Nothing edges.old edges.new }
-    ensures room { OnOk result ((i n : ℕ) → n < length (row_of rows.now.items i) → IsSome (get key_cmp edges.new (i, n))) }
+    ensures room { OnOk result ((i n : ℕ) → n < length (row_of rows.now.items i)
+        → IsSome (get key_cmp edges.new (i, n))) }
 {
     for node in 0..rows.len() {
         make_room_for_row(edges, node as u8, &rows[node])?;

@@ -1,10 +1,10 @@
 -- What the changes of the nodes tell of the line at a place, while one of them tells more.
-use Rattle.std.proofs.Common.{◌≡◌, ℕ, zero, suc, ◌+◌, ◌-◌, ◌<◌, ◌≤◌, ◌≢◌, Bool, false, ◌&&◌, ◌||◌, inl, inr, List, [], ◌∷◌, ◌++◌, length, get_or, refl, sym, ◌∙◌, ap, subst, arith, nat_le}
+use Rattle.std.proofs.Common.{◌≡◌, ℕ, ◌+◌, ◌-◌, ◌<◌, ◌≤◌, ◌≢◌, false, ◌&&◌, inl, inr, List, [], ◌∷◌, ◌++◌, length, get_or, sym, ◌∙◌, ap, subst, arith, nat_le}
 use Rattle.std.proofs.Math.ListN.{set, length-set}
 use Rattle.std.proofs.lemmas.Bool.{cases_lt, cases_eq, lt-leb}
 use Rattle.std.proofs.lemmas.List.{get_or-set_same, get_or-set_other}
 use Rattle.wl_topology.specs.Delays.{delay_of}
-use Rattle.wl_topology.specs.Driven.{any_below}
+use Rattle.wl_topology.proofs.Callers.{any_same}
 use Rattle.wl_record_core.specs.Truth.{count_below, odd}
 use Rattle.wl_record_core.specs.TableLaws.{TableLaws}
 use Rattle.wl_plan.specs.declared.plan.Plan.{Plan}
@@ -14,18 +14,13 @@ use Rattle.wl_plan.specs.Sound.{IsSound}
 use Rattle.wl_serial.specs.declared.ear.Ear.{Ear}
 use Rattle.wl_serial.specs.declared.pulse.Pulse.{Pulse}
 use Rattle.wl_serial.specs.declared.running_node.Running.{Running}
-use Rattle.wl_serial.specs.Heard.{comes, drove, IsTold, IsHeard, AreHeard, AreSooner, AreSources, HasChanged, AreMade}
+use Rattle.wl_serial.specs.Heard.{comes, drove, IsPulseTold, IsHeard, AreHeard, AreSooner, AreSources, HasChanged, AreMade}
 use Rattle.wl_serial.specs.Running.{AreRunning, KnowsOthers}
 use Rattle.wl_serial.proofs.Found.{makes}
 
--- two tests that agree on each number
-pub any_same : (n : ℕ) (p q : ℕ → Bool) → ((i : ℕ) → i < n → p i ≡ q i) → any_below n p ≡ any_below n q
-any_same zero p q same = refl
-any_same (suc n) p q same = ap (λ v. v || p n) (any_same n p q (λ i b. same i (omega (arith, b)))) ∙ ap (λ v. any_below n q || v) (same n (omega arith))
-
 -- below the horizon that is what the nodes make
 pub made : (plan : Plan) (rs : List Running) (j horizon : ℕ) (heard p : Pulse) → SimulationLaws → TableLaws → IsSound (line_of plan) → AreRunning plan rs
-    → KnowsOthers plan j horizon rs → IsTold plan rs j heard → heard.from ≤ p.from → p.until ≤ heard.until → p.until ≤ horizon → p.dominant ≡ heard.dominant → AreMade plan rs j p
+    → KnowsOthers plan j horizon rs → IsPulseTold plan rs j heard → heard.from ≤ p.from → p.until ≤ heard.until → p.until ≤ horizon → p.dominant ≡ heard.dominant → AreMade plan rs j p
 made plan rs j horizon heard p laws table sound running known is from until below same d t after before told =
     let all = running.all in
     any_same (length plan.nodes) (λ i. comes plan i j t) (λ i. drove (get_or rs i d).changes (delay_of plan.topology i j) t)
@@ -66,7 +61,7 @@ pub heard_before : (plan : Plan) (rs : List Running) (i tick m : ℕ) (r : Runni
     → AreSooner i (tick + delay_of plan.topology i m) p.sources q.sources → IsHeard plan (set rs i r) m q
 heard_before plan rs i tick m r p q table b changed is from until comes_then same sooner = record { told = told; sources = sources; begun = begun }
   where
-    told : IsTold plan (set rs i r) m q.heard
+    told : IsPulseTold plan (set rs i r) m q.heard
     told d t after before =
         any_same (length plan.nodes) (λ k. drove (get_or (set rs i r) k d).changes (delay_of plan.topology k m) t) (λ k. drove (get_or rs k d).changes (delay_of plan.topology k m) t)
         (λ k c. before_it plan rs i tick m k t r d table b changed (λ own. omega (arith, before, comes_then)))

@@ -11,8 +11,8 @@ use Rattle.wl_plan.specs.declared.plan.Plan.{Plan}
 use Rattle.wl_serial.specs.declared.running_node.Running.{Running}
 use Rattle.wl_serial.specs.declared.sources.Sources.{Sources}
 use Rattle.wl_serial.specs.declared.pulse.Pulse.{Pulse}
-use Rattle.wl_serial.specs.Heard.{drove, passing, AreKept, AreSooner, AreSources, IsTold}
-use Rattle.wl_serial.proofs.Hearing.{any_same}
+use Rattle.wl_serial.specs.Heard.{drove, passing, AreTallied, AreSooner, AreSources, IsPulseTold}
+use Rattle.wl_topology.proofs.Callers.{any_same}
 
 -- some number passes where there is one at least that does
 or_one : (a : ℕ) (b : Bool) → (nat_lt 0 a || b) ≡ nat_lt 0 (a + from_bool b)
@@ -57,7 +57,7 @@ passing_few p zero = omega arith
 passing_few p (suc n) = (let f = passing_few p n in let e = few_of_one (p n) in omega (arith, f, e))
 
 -- of node i something else is kept
-pub one_anew : (n i v : ℕ) (b : Bool) (s : Sources) → i < n → n ≤ most_places → AreKept n s
+pub one_anew : (n i v : ℕ) (b : Bool) (s : Sources) → i < n → n ≤ most_places → AreTallied n s
     → passing (λ k. get_or (set s.drives i b) k false) n + from_bool (get_or s.drives i false) ≡ s.driving + from_bool b
 one_anew n i v b s inside few kept =
     let c = passing_change (λ k. get_or s.drives k false) (λ k. get_or (set s.drives i b) k false) i n inside (λ k other. get_or-set_other s.drives i k b false other) in
@@ -65,8 +65,8 @@ one_anew n i v b s inside few kept =
     let f = kept.driving in
     omega (arith, c, e, f)
 
-pub kept_anew : (n i v : ℕ) (b : Bool) (s t : Sources) → i < n → n ≤ most_places → AreKept n s → t.nexts ≡ set s.nexts i v → t.drives ≡ set s.drives i b
-    → t.driving + from_bool (get_or s.drives i false) ≡ s.driving + from_bool b → AreKept n t
+pub kept_anew : (n i v : ℕ) (b : Bool) (s t : Sources) → i < n → n ≤ most_places → AreTallied n s → t.nexts ≡ set s.nexts i v → t.drives ≡ set s.drives i b
+    → t.driving + from_bool (get_or s.drives i false) ≡ s.driving + from_bool b → AreTallied n t
 kept_anew n i v b s t inside few kept nexts drives driving = record {
   nexts = ap length nexts ∙ (length-set s.nexts i v ∙ kept.nexts);
   drives = ap length drives ∙ (length-set s.drives i b ∙ kept.drives);
@@ -82,7 +82,7 @@ kept_anew n i v b s t inside few kept nexts drives driving = record {
 }
 
 -- a change that comes sooner
-pub kept_sooner : (n i comes : ℕ) (old new : Sources) → i < n → AreSooner i comes old new → AreKept n old → AreKept n new
+pub kept_sooner : (n i comes : ℕ) (old new : Sources) → i < n → AreSooner i comes old new → AreTallied n old → AreTallied n new
 kept_sooner n i comes old new inside sooner kept = record {
   nexts = sooner.all ∙ kept.nexts;
   drives = ap length sooner.drives ∙ kept.drives;
@@ -107,8 +107,8 @@ sources_taken plan rs j t i old new were nexts drives is k u d b after before = 
 ]
 
 -- up to the first change that comes, the nodes make what is kept
-pub told_by : (plan : Plan) (rs : List Running) (j n : ℕ) (s : Sources) (p : Pulse) → length plan.nodes ≤ n → AreKept (length plan.nodes) s → AreSources plan rs j p.from s
-    → ((k : ℕ) → k < n → p.until ≤ get_or s.nexts k 0) → p.dominant ≡ nat_lt 0 s.driving → IsTold plan rs j p
+pub told_by : (plan : Plan) (rs : List Running) (j n : ℕ) (s : Sources) (p : Pulse) → length plan.nodes ≤ n → AreTallied (length plan.nodes) s → AreSources plan rs j p.from s
+    → ((k : ℕ) → k < n → p.until ≤ get_or s.nexts k 0) → p.dominant ≡ nat_lt 0 s.driving → IsPulseTold plan rs j p
 told_by plan rs j n s p few kept sources until dominant d t after before =
     any_same (length plan.nodes) (λ i. drove (get_or rs i d).changes (delay_of plan.topology i j) t) (λ i. get_or s.drives i false)
     (λ i b. sources i t d b after (let u = until i (omega (arith, b, few)) in omega (arith, u, before)))
@@ -128,7 +128,7 @@ pub none_drives : (n : ℕ) → 0 ≡ passing (λ i. get_or (replicate most_plac
 none_drives n = sym (none_passing (λ i. get_or (replicate most_places false) i false) n (silent most_places))
 
 -- only from a node a change comes
-pub is_node : (n i t : ℕ) (s : Sources) → AreKept n s → i < most_places → t < 2 ^ 63 → get_or s.nexts i 0 ≤ t → i < n
+pub is_node : (n i t : ℕ) (s : Sources) → AreTallied n s → i < most_places → t < 2 ^ 63 → get_or s.nexts i 0 ≤ t → i < n
 is_node n i t s kept inside early comes = elim (cases_lt i n) [
   | inl node ↦ node
   | inr past ↦ (let f = kept.beyond i past inside in absurd (omega (arith, f, early, comes)))

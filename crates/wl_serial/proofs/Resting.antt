@@ -20,7 +20,7 @@ use Rattle.wl_plan.specs.SimulationLaws.{SimulationLaws}
 use Rattle.wl_plan.specs.Sound.{IsSound}
 use Rattle.wl_serial.specs.declared.running_node.Running.{Running}
 use Rattle.wl_serial.specs.Heard.{tells}
-use Rattle.wl_serial.specs.Rest.{AreLifted, AreSilent, IsSilent, AllStand, AllStay, Stands}
+use Rattle.wl_serial.specs.Rest.{AreLifted, AreSilent, IsSilent, AllStand, AllStay, NodeStands}
 use Rattle.wl_serial.specs.Running.{HasRun, AreRunning, IsNext}
 use Rattle.wl_serial.proofs.Found.{level_told}
 use Rattle.wl_serial.proofs.Hearing.{heard_same}
@@ -43,7 +43,7 @@ stands plan i k n t r drive run is recessive stays reach = (
 pub silent_less : (plan : Plan) (rs : List Running) (j from t u : ℕ) → t ≤ u → IsSilent plan rs j from u → IsSilent plan rs j from t
 silent_less plan rs j from t u less is = record { told = λ d v after before. is.told d v after (omega (arith, less, before)); calm = λ v after before. is.calm v after (omega (arith, less, before)) }
 
-pub stands_less : (plan : Plan) (t u i : ℕ) (r : Running) → t ≤ u → Stands plan u i r → Stands plan t i r
+pub stands_less : (plan : Plan) (t u i : ℕ) (r : Running) → t ≤ u → NodeStands plan u i r → NodeStands plan t i r
 stands_less plan t u i r less is k run = (let s = is k run in (s.0, (let e = s.1 in omega (arith, less, e)), s.2))
 
 -- below tick 0 nothing changes

@@ -45,7 +45,7 @@ passing test zero = 0
 passing test (suc n) = passing test n + from_bool (test n)
 
 -- what is kept of n nodes: no change comes from beyond them, and so many of them drive dominant
-pub record AreKept (n : ℕ) (s : Sources) : Type 0 where
+pub record AreTallied (n : ℕ) (s : Sources) : Type 0 where
   pub nexts : length s.nexts ≡ most_places
   pub drives : length s.drives ≡ most_places
   pub beyond : (i : ℕ) → n ≤ i → i < most_places → 2 ^ 63 ≤ slice_index_or s.nexts i 0
@@ -54,7 +54,7 @@ pub record AreKept (n : ℕ) (s : Sources) : Type 0 where
 -- what a place keeps
 pub record IsEar (plan : Plan) (j : ℕ) (ear : Ear) : Type 0 where
   pub delays : AreDelays plan j ear.delays
-  pub sources : AreKept (length plan.nodes) ear.sources
+  pub sources : AreTallied (length plan.nodes) ear.sources
   pub others : AreOthers plan j ear.others
   pub shaken : IsPulse (disturbed plan j) ear.shaken
 
@@ -76,8 +76,8 @@ abbrev pub tells : List Running → Running → ℕ → ℕ → Bool
 tells rs d i u = odd (count_below (u + 1) (slice_index_or rs i d).changes)
 
 -- At each tick of the pulse, the changes that the nodes have told make it at place j as the pulse says.
-abbrev pub IsTold : Plan → List Running → ℕ → Pulse → Type 0
-IsTold plan rs j p = (d : Running) (t : ℕ) → p.from ≤ t → t < p.until → driven (length plan.nodes) (delay_of plan.topology) (tells rs d) j t ≡ p.dominant
+abbrev pub IsPulseTold : Plan → List Running → ℕ → Pulse → Type 0
+IsPulseTold plan rs j p = (d : Running) (t : ℕ) → p.from ≤ t → t < p.until → driven (length plan.nodes) (delay_of plan.topology) (tells rs d) j t ≡ p.dominant
 
 -- From tick t on and until the next change of a node comes to place j, its changes make there what is kept.
 abbrev pub AreSources : Plan → List Running → ℕ → ℕ → Sources → Type 0
@@ -96,7 +96,7 @@ pub record AreSooner (i comes : ℕ) (old new : Sources) : Type 0 where
 
 -- What place j has heard, from a tick on that is no later than its next quantum.
 pub record IsHeard (plan : Plan) (rs : List Running) (j : ℕ) (ear : Ear) : Type 0 where
-  pub told : IsTold plan rs j ear.heard
+  pub told : IsPulseTold plan rs j ear.heard
   pub sources : AreSources plan rs j ear.heard.from ear.sources
   pub begun : (d : Running) → ear.heard.from ≤ (slice_index_or rs j d).next
 

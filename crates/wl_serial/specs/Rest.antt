@@ -21,12 +21,12 @@ abbrev pub AreSilent : Plan → List Running → ℕ → Type 0
 AreSilent plan rs until = (j : ℕ) (d : Running) → j < length rs → IsSilent plan rs j (slice_index_or rs j d).next until
 
 -- node i, as far as it has run, drives recessive up to tick t if it sees recessive only
-abbrev pub Stands : Plan → ℕ → ℕ → Running → Type 0
-Stands plan t i r = (k : ℕ) → HasRun plan i r k → StandsUpTo (line_of plan) i k t
+abbrev pub NodeStands : Plan → ℕ → ℕ → Running → Type 0
+NodeStands plan t i r = (k : ℕ) → HasRun plan i r k → StandsUpTo (line_of plan) i k t
 
 -- each node
 abbrev pub AllStand : Plan → ℕ → List Running → Type 0
-AllStand plan t rs = (i : ℕ) (d : Running) → i < length rs → Stands plan t i (slice_index_or rs i d)
+AllStand plan t rs = (i : ℕ) (d : Running) → i < length rs → NodeStands plan t i (slice_index_or rs i d)
 
 -- node i doesn't change its drive from its next quantum on and below tick t
 abbrev pub Stays : Plan → ℕ → ℕ → Running → Type 0

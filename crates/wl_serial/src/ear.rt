@@ -3,7 +3,7 @@ ghost use Rattle.std.specs.Prelude.{◌≡◌, ℕ, ◌+◌, ◌<◌, ◌≤◌,
 ghost use Rattle.wl_level.specs.Levels.{level_of};
 ghost use Rattle.wl_plan.specs.Checked.{IsChecked};
 ghost use Rattle.wl_plan.specs.declared.plan.Plan.{Plan as GivenPlan};
-ghost use Rattle.wl_serial.specs.Heard.{AreMade, AreDelays, AreOthers, AreSooner, IsEar, AreEars, IsFound, IsTold, IsHeard, AreHeard, HasChanged};
+ghost use Rattle.wl_serial.specs.Heard.{AreMade, AreDelays, AreOthers, AreSooner, IsEar, AreEars, IsFound, IsPulseTold, IsHeard, AreHeard, HasChanged};
 ghost use Rattle.wl_serial.specs.Rest.{IsSilent};
 ghost use Rattle.wl_serial.specs.Running.{AreRunning, AreKnown, KnowsOthers, RunsBelow, AllKnown};
 
@@ -181,8 +181,8 @@ pub(crate) fn tell(plan: &Plan, ears: &mut [Ear], i: usize, tick: u64)
     requires ears { AreEars plan.now ears.old }
     requires node { i < length plan.now.nodes }
     ensures ears { AreEars plan.now ears.new }
-    ensures heard { (rs : List Running) (r : Running) → i < length rs → AreHeard plan.now rs ears.old → HasChanged i tick rs r
-        → AreHeard plan.now (set rs i r) ears.new }
+    ensures heard { (rs : List Running) (r : Running) → i < length rs → AreHeard plan.now rs ears.old
+        → HasChanged i tick rs r → AreHeard plan.now (set rs i r) ears.new }
 {
     wl_record_core::table_laws();
     for m in 0..ears.len() {
@@ -214,7 +214,7 @@ fn below_horizon(
     requires running { AreRunning plan.now running.now }
     requires known { KnowsOthers plan.now j horizon running.now }
     requires below { t < horizon }
-    requires heard { IsTold plan.now running.now j heard.now }
+    requires heard { IsPulseTold plan.now running.now j heard.now }
     requires from { heard.now.from ≤ t }
     requires until { t < heard.now.until }
     ensures from { result.from ≡ t }

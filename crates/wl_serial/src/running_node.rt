@@ -6,7 +6,7 @@ ghost use Rattle.wl_plan.specs.Checked.{IsChecked};
 ghost use Rattle.wl_plan.specs.declared.plan.Plan.{Plan as GivenPlan};
 ghost use Rattle.wl_serial.specs.Outcome.{node_outcome_of};
 ghost use Rattle.wl_serial.specs.Heard.{StaysWhile};
-ghost use Rattle.wl_serial.specs.Rest.{Stands, Stays};
+ghost use Rattle.wl_serial.specs.Rest.{NodeStands, Stays};
 ghost use Rattle.wl_serial.specs.Running.{IsRunning, one_more};
 
 use crate::outcome::{Changes, NodeOutcome};
@@ -102,7 +102,7 @@ impl Running {
         requires checked { IsChecked plan.now }
         requires node { i < length plan.now.nodes }
         requires running { IsRunning plan.now i self.now }
-        ensures { 0 < result → Stands plan.now result i self.now }
+        ensures { 0 < result → NodeStands plan.now result i self.now }
     {
         wl_plan::checked_is_sound();
         wl_plan::simulation_laws();

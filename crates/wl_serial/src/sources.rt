@@ -2,7 +2,7 @@
 ghost use Rattle.std.specs.Prelude.{◌≡◌, ◌≢◌, ℕ, ◌<◌, ◌≤◌, ◌^◌, false, length, slice_index_or};
 ghost use Rattle.wl_plan.specs.Checked.{IsChecked};
 ghost use Rattle.wl_record_core.specs.Truth.{IsIncreasing};
-ghost use Rattle.wl_serial.specs.Heard.{AreDelays, AreKept, AreSooner, AreSources, IsTold, drove};
+ghost use Rattle.wl_serial.specs.Heard.{AreDelays, AreTallied, AreSooner, AreSources, IsPulseTold, drove};
 ghost use Rattle.wl_serial.specs.Running.{AreRunning};
 
 use crate::pulse::{Pulse, pulse_of};
@@ -25,7 +25,7 @@ impl Sources {
     /// The nodes of a plan, of which nothing has been asked yet.
     pub(crate) fn new(plan: &Plan) -> Sources
         requires { IsChecked plan.now }
-        ensures kept { AreKept (length plan.now.nodes) result }
+        ensures kept { AreTallied (length plan.now.nodes) result }
         ensures nothing { (i : ℕ) → i < length plan.now.nodes → slice_index_or result.nexts i 0 ≡ 0 }
     {
         let mut nexts = [u64::MAX; MOST_NODES];
@@ -54,13 +54,13 @@ impl Sources {
         requires running { AreRunning plan.now running.now }
         requires delays { AreDelays plan.now j delays.now }
         requires early { t < 2 ^ 63 }
-        requires kept { AreKept (length plan.now.nodes) self.old }
+        requires kept { AreTallied (length plan.now.nodes) self.old }
         requires sources { AreSources plan.now running.now j t self.old }
-        ensures kept { AreKept (length plan.now.nodes) self.new }
+        ensures kept { AreTallied (length plan.now.nodes) self.new }
         ensures sources { AreSources plan.now running.now j t self.new }
         ensures from { result.from ≡ t }
         ensures until { t < result.until }
-        ensures told { IsTold plan.now running.now j result }
+        ensures told { IsPulseTold plan.now running.now j result }
     {
         wl_plan::checked_is_sound();
         wl_plan::simulation_laws();
@@ -85,10 +85,11 @@ impl Sources {
         requires node { i < length plan.now.nodes }
         requires order { IsIncreasing changes.now }
         requires early { t < 2 ^ 63 }
-        requires kept { AreKept (length plan.now.nodes) self.old }
-        ensures kept { AreKept (length plan.now.nodes) self.new }
+        requires kept { AreTallied (length plan.now.nodes) self.old }
+        ensures kept { AreTallied (length plan.now.nodes) self.new }
         ensures nexts { (k : ℕ) → k ≢ i → slice_index_or self.new.nexts k 0 ≡ slice_index_or self.old.nexts k 0 }
-        ensures drives { (k : ℕ) → k ≢ i → slice_index_or self.new.drives k false ≡ slice_index_or self.old.drives k false }
+        ensures drives { (k : ℕ) → k ≢ i
+            → slice_index_or self.new.drives k false ≡ slice_index_or self.old.drives k false }
         ensures later { t < slice_index_or self.new.nexts i 0 }
         ensures drove { (u : ℕ) → t ≤ u → u < slice_index_or self.new.nexts i 0
             → drove changes.now delay u ≡ slice_index_or self.new.drives i false }

@@ -1,5 +1,5 @@
 -- What a check of a plan prints (this project's profile).
-use Rattle.std.specs.Prelude.{◌≡◌, ℕ, ◌≤◌, nat_lt, Bool, List, [], ◌∷◌, ◌++◌, length, codes, slice_index_or}
+use Rattle.std.specs.Prelude.{◌≡◌, ℕ, ◌≤◌, nat_lt, Bool, List, [], ◌∷◌, ◌++◌, length, codes}
 use Rattle.std.specs.List.{enumerate_from, filter, flat_map}
 use Rattle.std.specs.Fmt.{decimal}
 use Rattle.wl_segments.specs.Lengths.{Lengths, bit_quanta, sample_at, IsTolerated}
@@ -8,15 +8,12 @@ use Rattle.wl_node.specs.declared.setup.NodeSetup.{NodeSetup}
 use Rattle.wl_plan.specs.declared.plan.Plan.{Plan}
 use Rattle.wl_setup.specs.declared.check.NodeLine.{NodeLine}
 use Rattle.wl_setup.specs.declared.check.PairLine.{PairLine}
+use Rattle.wl_setup.specs.Names.{name_of}
 
 -- the greatest deviation of both oscillators, in parts per million, that the segments bear
 pub record IsGreatestPpm (segments : Lengths) (ppm : ℕ) : Type 0 where
   pub borne : IsTolerated segments ppm
   pub greatest : (more : ℕ) → IsTolerated segments more → more ≤ ppm
-
--- the name of a node, empty where it has none
-abbrev pub name_of : List (List ℕ) → ℕ → List ℕ
-name_of names i = slice_index_or names i []
 
 -- the line of a node without its newline: its number and name, the quanta of a bit, the place of the sample, the
 -- resynchronisation jump width and the deviation

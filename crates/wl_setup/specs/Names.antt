@@ -1,5 +1,5 @@
 -- The names of a plan's nodes (this project's profile).
-use Rattle.std.specs.Prelude.{ℕ, Bool, false, ◌||◌, if◌then◌else◌, List, [], ◌∷◌, map, Option, Some, None}
+use Rattle.std.specs.Prelude.{ℕ, Bool, false, ◌||◌, if◌then◌else◌, List, [], ◌∷◌, map, slice_index_or, Option, Some, None}
 use Rattle.std.specs.List.{list_any}
 use Rattle.std.specs.Str.{bytes_eq}
 use Rattle.wl_setup.specs.declared.fault.SetupFault.{SetupFault}
@@ -9,6 +9,10 @@ use Rattle.wl_setup.specs.declared.plan_text.PlanText.{PlanText}
 -- the names of the nodes, in the nodes' order
 abbrev pub names_of : PlanText → List (List ℕ)
 names_of plan = map (λ node. node.name) plan.node
+
+-- the name of a node, empty where it has none
+abbrev pub name_of : List (List ℕ) → ℕ → List ℕ
+name_of names i = slice_index_or names i []
 
 -- some text stands twice
 abbrev pub has_repeat : List (List ℕ) → Bool

@@ -2,7 +2,7 @@
 ghost use Rattle.std.specs.Prelude.{◌≡◌, ◌<◌, ◌++◌, ◌∷◌, [], length, string_bytes, IfOk, IfErr};
 ghost use Rattle.std.specs.List.{enumerate_from};
 ghost use Rattle.wl_plan.specs.Checked.{IsChecked};
-ghost use Rattle.wl_setup.specs.Check.{name_of, node_words, pair_words, pair_line, pair_lines_of, pair_lines, IsNodeLine, AreNodeLines, IsPlanCheck};
+ghost use Rattle.wl_setup.specs.Check.{node_words, pair_words, pair_line, pair_lines_of, pair_lines, IsNodeLine, AreNodeLines, IsPlanCheck};
 
 use crate::names::Names;
 use std::alloc::{AllocError, Global};
@@ -78,13 +78,6 @@ fn spelled_pair(alloc: Global, line: &PairLine) -> Result<String, AllocError>
     format!(in alloc; "{line}\n")
 }
 
-/// The name of node `i`, empty where it has none.
-fn name_of(names: &Names, i: usize) -> &str
-    ensures { result.now ≡ name_of names.now i }
-{
-    names.name(i).unwrap_or("")
-}
-
 /// The line of node `i`.
 fn node_line(alloc: Global, names: &Names, i: usize, node: &NodeSetup) -> Result<String, AllocError>
     ensures { IfOk result (λ line. IsNodeLine names.now (i, node.now) (string_bytes line)) }
@@ -92,7 +85,7 @@ fn node_line(alloc: Global, names: &Names, i: usize, node: &NodeSetup) -> Result
     let segments = &node.segments;
     let line = NodeLine {
         number: i as u64,
-        name: name_of(names, i),
+        name: names.name_of(i),
         quanta: segments.bit_quanta(),
         sample: segments.sample_at(),
         jump: segments.sjw(),

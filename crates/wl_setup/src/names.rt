@@ -2,7 +2,7 @@
 ghost use Rattle.std.specs.Prelude.{◌≡◌, ◌<◌, ◌↔◌, [], ◌∷◌, ◌++◌, not, false, if◌then◌else◌, length, IsSome, IfOk, OnErr, option_map, slice_get};
 ghost use Rattle.std.specs.List.{list_any};
 ghost use Rattle.std.specs.Str.{bytes_eq};
-ghost use Rattle.wl_setup.specs.Names.{has_repeat, names_of, same_name_fault};
+ghost use Rattle.wl_setup.specs.Names.{has_repeat, name_of, names_of, same_name_fault};
 ghost use Rattle.wl_setup.specs.Document.{Answers};
 
 use crate::fault::SetupFault;
@@ -61,6 +61,13 @@ impl Names {
             Some(name) => Some(name.as_str()),
             None => None,
         }
+    }
+
+    /// The name of a node, counted from 0; empty where there is no such node.
+    pub fn name_of(&self, node: usize) -> &str
+        ensures { result.now ≡ name_of self.now node }
+    {
+        self.name(node).unwrap_or("")
     }
 }
 

@@ -1,5 +1,5 @@
 -- What a bit clock keeps, one quantum later.
-use Rattle.std.proofs.Common.{◌≡◌, ℕ, zero, suc, ◌+◌, ◌-◌, ◌<◌, ◌≤◌, ◌∙◌, inl, inr, List, [], ◌∷◌, ◌++◌, length, Bool, true, false, cond, not, ◌&&◌, Option, Some, None, is_some, refl, sym, ap, subst, arith, length-append, add-zero, add-one, min}
+use Rattle.std.proofs.Common.{◌≡◌, ℕ, suc, ◌+◌, ◌-◌, ◌<◌, ◌≤◌, ◌∙◌, inl, inr, List, [], ◌∷◌, ◌++◌, length, Bool, true, false, cond, not, ◌&&◌, Option, Some, None, is_some, refl, sym, ap, subst, arith, length-append, add-zero, add-one, min}
 use Rattle.std.specs.Prelude.{◌==◌, nat_lt, ◌||◌}
 use Rattle.std.proofs.Math.ListN.{get_or-append}
 use Rattle.std.proofs.Math.Seq.{get_or-append_seam}
@@ -8,7 +8,7 @@ use Rattle.std.proofs.lemmas.Bool.{ltb-true, eqb-false, lt-ltb, le-ltb, eq-eqb, 
 use Rattle.wl_level.specs.declared.Level.{Level}
 use Rattle.wl_level.specs.declared.Level.TheVariants.{Recessive}
 use Rattle.wl_level.specs.Places.{or_at, first_place, is_found_at}
-use Rattle.wl_level.proofs.Callers.{first_cong, first_not, or_at_here, or_at_cond}
+use Rattle.wl_level.proofs.Callers.{first_cong, first_not, none_first, or_at_here, or_at_cond}
 use Rattle.wl_segments.specs.declared.SyncSeg.{SyncSeg}
 use Rattle.wl_segments.specs.declared.SyncSeg.TheVariants.{After, Inside}
 use Rattle.wl_segments.specs.Lengths.{Lengths, sample_at, bit_quanta, found_at}
@@ -61,11 +61,6 @@ looks_first Inside idle place e = refl
 
 never_and : (a d e : Bool) → d ≡ false → ((a && d) && e) ≡ false
 never_and a d e h = ap (λ c. c && e) (and_right a d h)
-
-first_never : (test : ℕ → Bool) (n : ℕ) → ((k : ℕ) → k < n → test k ≡ false) → first_place test n ≡ None
-first_never test zero h = refl
-first_never test (suc n) h =
-    ap (λ o. or_at o (test n) n) (first_never test n (λ k b. h k (omega arith))) ∙ ap (λ b. or_at None b n) (h n (omega arith))
 
 none_from : (o : Option ℕ) → not (is_some o) ≡ true → o ≡ None
 none_from None h = refl
@@ -250,7 +245,7 @@ module _ (l : Lengths) (bit : Bit) (x : Seen) where
   -- the first quantum of a bit that no edge begins, where an edge lies in the quantum before
   first_none : l.sync ≡ Inside → sync_place l (longer (opened l bit false) x) ≡ None
   first_none e =
-      first_never (is_edge l (longer (opened l bit false) x)) 1 (λ k b. let first : k ≡ 0 = omega arith in
+      none_first (is_edge l (longer (opened l bit false) x)) 1 (λ k b. let first : k ≡ 0 = omega arith in
       ap (is_edge l (longer (opened l bit false) x)) first ∙ never_and _ _ _ (looks_first l.sync x.idle (sample_at l) e))
 
   first_kept : l.sync ≡ Inside → running l (longer (opened l bit false) x) ≡ running_first (running l bit) x.level
@@ -343,7 +338,7 @@ module _ (l : Lengths) where
 
   silent_none : sync_place l (silent Inside) ≡ None
   silent_none =
-      first_never (is_edge l (silent Inside)) (length (silent Inside).seen) (λ k b.
+      none_first (is_edge l (silent Inside)) (length (silent Inside).seen) (λ k b.
       ap (λ s. edge_counts l s (previous_level (silent Inside) k) (sample_before l (silent Inside) k) k) (silent_at k (let g = silent_length in omega arith)))
 
   first_by : (s : SyncSeg) → running l (silent s) ≡ running_at_first s l

@@ -2,6 +2,7 @@
 use Rattle.std.proofs.Common.{◌≡◌, ℕ, suc, ◌+◌, ◌-◌, ◌∙◌, inl, inr, List, ◌++◌, true, false, cond, None, refl, sym, ap, subst, arith, replicate}
 use Rattle.std.proofs.lemmas.Bool.{cases_lt, eq-eqb}
 use Rattle.wl_level.specs.declared.Level.TheVariants.{Recessive}
+use Rattle.wl_level.proofs.Callers.{snoc}
 use Rattle.wl_segments.specs.Lengths.{Lengths, AreLengths, sample_at}
 use Rattle.wl_sync.specs.declared.Beat.TheVariants.{Plain, Sample}
 use Rattle.wl_sync.specs.Edges.{Seen}
@@ -10,7 +11,7 @@ use Rattle.wl_sync.specs.Running.{Running, clock_after}
 use Rattle.wl_sync.specs.Steps.{end_of, is_sampled, running_after, running_answer, running_beat, running_edge, running_on}
 use Rattle.wl_sync.specs.Skips.{steady_clock, IsRestingBit, IsUnmoved}
 use Rattle.wl_sync.proofs.Cuts.{clock_next, beat_next, sync_next}
-use Rattle.wl_sync.proofs.Skips.{running_new, running_skipped, skipped_new, skipped, unmoved, not_sampled, snoc, AreFree, GoesOn, goes_after, goes_answer, goes_beat}
+use Rattle.wl_sync.proofs.Skips.{running_new, running_skipped, skipped_new, skipped, unmoved, not_sampled, AreFree, GoesOn, goes_after, goes_answer, goes_beat}
 
 module _ (l : Lengths) (are : AreLengths l) (past : List Seen) (x : Seen) (level : x.level ≡ Recessive) (steady : clock_after l past ≡ steady_clock l) (last : ℕ) (bit : suc last ≡ sample_at l + l.ps2) where
   free : AreFree (clock_after l past) x.level last

@@ -1,10 +1,10 @@
 -- Quanta of one level in which no bit is sampled and no edge synchronises one, one after another.
-use Rattle.std.proofs.Common.{◌≡◌, ◌≢◌, ℕ, zero, suc, ◌+◌, ◌-◌, ◌<◌, ◌≤◌, ◌∙◌, ◌⊎◌, inl, inr, List, [], ◌∷◌, ◌++◌, Bool, true, false, cond, not, ◌&&◌, None, refl, sym, ap, subst, arith, append_assoc, append-nil, add-one, replicate}
+use Rattle.std.proofs.Common.{◌≡◌, ◌≢◌, ℕ, zero, suc, ◌+◌, ◌-◌, ◌<◌, ◌≤◌, ◌∙◌, ◌⊎◌, inl, inr, List, ◌++◌, Bool, true, false, cond, not, ◌&&◌, None, refl, sym, ap, subst, arith, append-nil, replicate}
 use Rattle.std.specs.Prelude.{◌==◌, nat_lt, nat_le}
 use Rattle.std.proofs.lemmas.Bool.{eqb-true, eqb-false, ne_eqb, lt-ltb, le-ltb, leb-true, leb-false, cases_lt}
-use Rattle.std.proofs.lemmas.List.{replicate_more}
 use Rattle.wl_level.specs.declared.Level.{Level}
 use Rattle.wl_level.specs.Levels.{is_dominant}
+use Rattle.wl_level.proofs.Callers.{snoc}
 use Rattle.wl_segments.specs.declared.SyncSeg.{SyncSeg}
 use Rattle.wl_segments.specs.declared.SyncSeg.TheVariants.{After, Inside}
 use Rattle.wl_segments.specs.Lengths.{Lengths, AreLengths, sample_at}
@@ -249,11 +249,6 @@ module _ (r : Running) (x : Seen) (m : ℕ) (are : AreFree r x.level (suc m)) wh
           ∙ sym (skipped_on r x.level (suc m) still))
     ]
   ]
-
-pub snoc : (past : List Seen) (x : Seen) (n : ℕ) → past ++ replicate (suc n) x ≡ (past ++ replicate n x) ++ x ∷ []
-snoc past x n =
-    ap (λ k. past ++ replicate k x) (sym (add-one n))
-    ∙ ap (λ more. past ++ more) (sym (replicate_more n x)) ∙ sym (append_assoc past (replicate n x) (x ∷ []))
 
 module _ (l : Lengths) (past : List Seen) (x : Seen) where
   abbrev r : Running

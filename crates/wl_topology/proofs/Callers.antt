@@ -21,6 +21,14 @@ any_one (suc n) p h =
       | inr here ↦ (n, omega arith, here)
     ]
 
+-- two tests that agree on each number
+pub any_same : (n : ℕ) (p q : ℕ → Bool) → ((i : ℕ) → i < n → p i ≡ q i) → any_below n p ≡ any_below n q
+any_same zero p q h = refl
+any_same (suc n) p q h =
+    let e = any_same n p q (λ i b. h i (omega arith)) in
+    let e2 = h n (omega arith) in
+    cc
+
 -- none passes where each fails
 pub any_none : (n : ℕ) (p : ℕ → Bool) → ((i : ℕ) → i < n → p i ≡ false) → any_below n p ≡ false
 any_none zero p h = refl

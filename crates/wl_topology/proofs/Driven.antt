@@ -1,15 +1,8 @@
 -- What nodes make of the line rests on what they drove a delay earlier, and on nothing else.
-use Rattle.std.proofs.Common.{◌≡◌, ℕ, zero, suc, ◌-◌, ◌<◌, ◌≤◌, Bool, true, ◌&&◌, ◌⊎◌, inl, inr, refl, ap, arith, nat_le}
+use Rattle.std.proofs.Common.{◌≡◌, ℕ, ◌-◌, ◌<◌, ◌≤◌, Bool, true, ◌&&◌, ◌⊎◌, inl, inr, ap, nat_le}
 use Rattle.std.proofs.lemmas.Bool.{cases_lt, lt-leb, le-leb, leb-true, and_parts, and_from}
-use Rattle.wl_topology.specs.Driven.{any_below, driven}
-use Rattle.wl_topology.proofs.Callers.{any_from, any_one}
-
-pub any_same : (n : ℕ) (p q : ℕ → Bool) → ((i : ℕ) → i < n → p i ≡ q i) → any_below n p ≡ any_below n q
-any_same zero p q h = refl
-any_same (suc n) p q h =
-    let e = any_same n p q (λ i b. h i (omega arith)) in
-    let e2 = h n (omega arith) in
-    cc
+use Rattle.wl_topology.specs.Driven.{driven}
+use Rattle.wl_topology.proofs.Callers.{any_from, any_one, any_same}
 
 -- two histories that agree a delay earlier give one level
 pub driven_same : (nodes : ℕ) (delay : ℕ → ℕ → ℕ) (f g : ℕ → ℕ → Bool) (j t : ℕ)

@@ -1,8 +1,8 @@
 -- Quanta that neither sample nor begin a bit leave what a waveform shows as it is.
-use Rattle.std.proofs.Common.{◌≡◌, ◌∙◌, sym, ap, ap₂, arith, Option, None, ℕ, zero, suc, ◌<◌, ◌≤◌, List, [], ◌∷◌, ◌++◌, length, replicate, append-nil, append_assoc, add-one}
-use Rattle.std.proofs.lemmas.List.{replicate_more}
+use Rattle.std.proofs.Common.{◌≡◌, ◌∙◌, sym, ap, ap₂, arith, Option, None, ℕ, zero, suc, ◌<◌, ◌≤◌, List, [], ◌∷◌, ◌++◌, length, replicate, append-nil}
 use Rattle.wl_level.specs.declared.Level.{Level}
 use Rattle.wl_level.specs.Levels.{is_dominant}
+use Rattle.wl_level.proofs.Callers.{snoc}
 use Rattle.wl_sync.specs.declared.Beat.{Beat}
 use Rattle.wl_sync.specs.declared.Beat.TheVariants.{Plain}
 use Rattle.std.specs.Prelude.{option_map}
@@ -22,11 +22,6 @@ use Rattle.wl_trace.specs.declared.shown.NodeState.{NodeState}
 use Rattle.wl_trace.specs.States.{state_by}
 use Rattle.wl_trace.proofs.Starting.{starts_more}
 use Rattle.wl_trace.proofs.Syncing.{history_more, syncs_more}
-
-pub snoc : {A : Type 0} (xs : List A) (x : A) (n : ℕ) → xs ++ replicate (suc n) x ≡ (xs ++ replicate n x) ++ x ∷ []
-snoc xs x n =
-    ap (λ k. xs ++ replicate k x) (sym (add-one n))
-    ∙ ap (λ more. xs ++ more) (sym (replicate_more n x)) ∙ sym (append_assoc xs (replicate n x) (x ∷ []))
 
 -- the history of more levels is this one, that has seen more
 pub record IsPassed (setup : NodeSetup) (levels : List Level) (level : Level) (m : ℕ) : Type 0 where

@@ -1,18 +1,10 @@
 -- The quanta that begin a bit, one level more at a time.
-use Rattle.std.proofs.Common.{◌≡◌, ◌∙◌, refl, ap, ℕ, Bool, List, [], ◌∷◌, ◌++◌, fold, length}
+use Rattle.std.proofs.Common.{◌≡◌, ◌∙◌, refl, ap, ℕ, List, [], ◌∷◌, ◌++◌, fold, length}
 use Rattle.std.proofs.lemmas.List.Sums.{fold-append}
 use Rattle.wl_level.specs.declared.Level.{Level}
-use Rattle.wl_level.specs.Levels.{is_dominant}
-use Rattle.wl_sync.specs.Bits.{Seen}
-use Rattle.wl_machine.specs.Judged.{is_idle_sort, stretch_of}
 use Rattle.wl_node.specs.declared.setup.NodeSetup.{NodeSetup}
-use Rattle.wl_node.specs.History.{History, no_history, history_of, history_after, seen_next}
+use Rattle.wl_node.specs.History.{History, no_history, history_of, history_after}
 use Rattle.wl_trace.specs.Starts.{starts_next, starts_of, started_after, with_start}
-
--- what the bit clock is given is what it sees
-pub seen_is : (h : History) (level drive : Level) (idle driving : Bool) → idle ≡ is_idle_sort (stretch_of h.inputs).sort
-    → driving ≡ is_dominant drive → drive ≡ h.drive → ◌≡◌ {A = Seen} (record { level = level; idle = idle; driving = driving }) (seen_next h level)
-seen_is h level drive idle driving e f g i = record { level = level; idle = e i; driving = (f ∙ ap is_dominant g) i }
 
 module _ (setup : NodeSetup) where
   fold_first : (levels : List Level) (h : History) (qs : List ℕ) → (fold (started_after setup) (h, qs) levels).0 ≡ fold (history_after setup) h levels

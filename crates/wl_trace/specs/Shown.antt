@@ -8,7 +8,7 @@ use Rattle.wl_node.specs.declared.setup.NodeSetup.{NodeSetup}
 use Rattle.wl_node.specs.History.{history_of}
 use Rattle.wl_trace.specs.declared.shown.Shown.{Shown}
 use Rattle.wl_trace.specs.Starts.{starts_of}
-use Rattle.wl_trace.specs.States.{state_of}
+use Rattle.wl_trace.specs.States.{node_state_of}
 
 -- what is low at first, and has turned so often
 abbrev pub mark : ℕ → Bool
@@ -20,7 +20,7 @@ shown_of setup levels = record {
   drive = (history_of setup levels).drive;
   sampled = mark (length (history_of setup levels).samples);
   started = mark (length (starts_of setup levels));
-  state = state_of (history_of setup levels);
+  state = node_state_of (history_of setup levels);
 }
 
 -- how many quanta of this level come before the next that samples or begins a bit, for a node that saw these levels

@@ -11,5 +11,5 @@ abbrev pub state_by : Counts → Stretch → NodeState
 state_by counts s = record { tec = counts.tec; rec = counts.rec; mode = mode_of counts; doing = doing_of s }
 
 -- what a node of this history is at
-abbrev pub state_of : History → NodeState
-state_of h = state_by (counts_of h.happened) (stretch_of h.inputs)
+abbrev pub node_state_of : History → NodeState
+node_state_of h = state_by (counts_of h.happened) (stretch_of h.inputs)

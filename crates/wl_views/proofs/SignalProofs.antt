@@ -11,9 +11,10 @@ use Rattle.wl_plan.specs.SimulationLaws.{SimulationLaws}
 use Rattle.wl_plan.specs.Sound.{IsSound}
 use Rattle.wl_serial.specs.declared.outcome.NodeOutcome.{NodeOutcome}
 use Rattle.wl_serial.specs.declared.outcome.Outcome.{Outcome}
+use Rattle.wl_serial.specs.Heard.{drove}
 use Rattle.wl_serial.specs.Outcome.{node_outcome_of, outcome_of}
 use Rattle.wl_views.specs.declared.held.Held.{Held}
-use Rattle.wl_views.specs.Held.{Lasts, turned_at}
+use Rattle.wl_views.specs.Held.{Lasts}
 use Rattle.wl_views.specs.Signals.{shown_then}
 use Rattle.wl_level.specs.declared.Level.{Level}
 use Rattle.wl_level.specs.Levels.{is_dominant}
@@ -32,17 +33,17 @@ nodes_all plan outcome is = ap (λ (o : Outcome). length o.nodes) is ∙ length-
 
 module _ (laws : SimulationLaws) (plan : Plan) (sound : IsSound (line_of plan)) (i : ℕ) (b : i < length plan.nodes) where
   -- what comes from a node
-  came : (delay u : ℕ) → turned_at delay (table_of plan i) u ≡ (nat_le delay u && level (line_of plan) i (u - delay))
+  came : (delay u : ℕ) → drove (table_of plan i) delay u ≡ (nat_le delay u && level (line_of plan) i (u - delay))
   came delay u =
       ap (λ v. nat_le delay u && v)
       (ap (λ n. odd (count_below n (table_of plan i))) (add-one (u - delay)) ∙ sym (laws.level_odd (line_of plan) i (u - delay) sound.causal b))
 
   -- one node more
-  pub driven_more : (j t delay : ℕ) (ticks : List ℕ) (from : Held) → delay ≡ delay_of plan.topology i j → ticks ≡ table_of plan i → Lasts (turned_at delay ticks) t from
+  pub driven_more : (j t delay : ℕ) (ticks : List ℕ) (from : Held) → delay ≡ delay_of plan.topology i j → ticks ≡ table_of plan i → Lasts (drove ticks delay) t from
       → Lasts (λ u. nat_le (delay_of plan.topology i j) u && level (line_of plan) i (u - delay_of plan.topology i j)) t from
   driven_more j t delay ticks from is are h =
-      holds_as (turned_at delay ticks) (λ u. nat_le (delay_of plan.topology i j) u && level (line_of plan) i (u - delay_of plan.topology i j)) t from
-      (λ u. ap₂ (λ d xs. turned_at d xs u) is are ∙ came (delay_of plan.topology i j) u) h
+      holds_as (drove ticks delay) (λ u. nat_le (delay_of plan.topology i j) u && level (line_of plan) i (u - delay_of plan.topology i j)) t from
+      (λ u. ap₂ (λ d xs. drove xs d u) is are ∙ came (delay_of plan.topology i j) u) h
 
 -- what a node drives at a tick, by what it has seen up to it
 pub driven_then : CheckedIsSound → SimulationLaws → (plan : Plan) → IsChecked plan → (i : ℕ) → i < length plan.nodes → (t : ℕ)

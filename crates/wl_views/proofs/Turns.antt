@@ -6,7 +6,8 @@ use Rattle.wl_record_core.specs.Truth.{count_below, odd, IsIncreasing}
 use Rattle.wl_record_core.specs.TableLaws.{TableLaws}
 use Rattle.wl_record_core.proofs.Callers.{reached, not_reached, odd_is}
 use Rattle.wl_views.specs.declared.held.Held.{Held}
-use Rattle.wl_views.specs.Held.{Lasts, turned_at}
+use Rattle.wl_views.specs.Held.{Lasts}
+use Rattle.wl_serial.specs.Heard.{drove}
 
 -- as many have come until the next one comes
 stays : TableLaws → (ticks : List ℕ) (delay t u until count : ℕ) → IsIncreasing ticks → delay ≤ t → t ≤ u → u < until
@@ -19,7 +20,7 @@ stays laws ticks delay t u until count inc low later before is next =
       | inr outside ↦ (let m = count_by-le-length (λ v. nat_lt v (u - delay + 1)) ticks in omega arith)
     ]
 
-pub before_all : (ticks : List ℕ) (delay t : ℕ) → t < delay → Lasts (turned_at delay ticks) t (record { value = false; until = delay })
+pub before_all : (ticks : List ℕ) (delay t : ℕ) → t < delay → Lasts (drove ticks delay) t (record { value = false; until = delay })
 before_all ticks delay t early = record {
   later = early;
   same = λ u from below. ap (λ v. v && odd (count_below (u - delay + 1) ticks)) (lt-leb delay u below);
@@ -27,7 +28,7 @@ before_all ticks delay t early = record {
 
 pub from_here : TableLaws → (ticks : List ℕ) (delay t until count : ℕ) → IsIncreasing ticks → delay ≤ t → t < until
     → count ≡ count_below (t - delay + 1) ticks → (count < length ticks → until ≤ get_or ticks count 0 + delay)
-    → Lasts (turned_at delay ticks) t (record { value = count % 2 == 1; until = until })
+    → Lasts (drove ticks delay) t (record { value = count % 2 == 1; until = until })
 from_here laws ticks delay t until count inc low later is next = record {
   later = later;
   same = λ u from below.

@@ -7,7 +7,7 @@ use Rattle.wl_trace.specs.declared.shown.NodeState.{NodeState}
 use Rattle.wl_views.specs.declared.tick.Tick.{Tick}
 use Rattle.wl_views.specs.declared.tick.TimeUnit.TheVariants.{Picosecond, Microsecond}
 use Rattle.wl_views.specs.declared.signals.NodeSignals.{NodeSignals}
-use Rattle.wl_views.specs.Held.{turned_at}
+use Rattle.wl_serial.specs.Heard.{drove}
 use Rattle.wl_views.specs.Vcd.{dump_lines, header, tick_lines}
 
 picoseconds : Tick
@@ -44,5 +44,5 @@ unfolding digits
 two_names = refl
 
 -- dominant from tick 3 up to tick 5, two ticks later
-two_later : map (turned_at 2 (3 ∷ 5 ∷ [])) (0 ∷ 3 ∷ 4 ∷ 5 ∷ 6 ∷ 7 ∷ 8 ∷ []) ≡ false ∷ false ∷ false ∷ true ∷ true ∷ false ∷ false ∷ []
+two_later : map (drove (3 ∷ 5 ∷ []) 2) (0 ∷ 3 ∷ 4 ∷ 5 ∷ 6 ∷ 7 ∷ 8 ∷ []) ≡ false ∷ false ∷ false ∷ true ∷ true ∷ false ∷ false ∷ []
 two_later = refl

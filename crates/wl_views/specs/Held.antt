@@ -1,12 +1,11 @@
 -- Values that stay from one tick up to another, so that the ticks in between needn't be asked for (this project's profile).
-use Rattle.std.specs.Prelude.{◌≡◌, ℕ, ◌+◌, ◌-◌, ◌<◌, ◌≤◌, ◌&&◌, ◌||◌, nat_le, nat_lt, min, not, Bool, false, List, length, slice_index, slice_index_or, if◌then◌else◌}
+use Rattle.std.specs.Prelude.{◌≡◌, ℕ, ◌+◌, ◌<◌, ◌≤◌, ◌||◌, nat_lt, min, not, Bool, false, List, length, slice_index, slice_index_or, if◌then◌else◌}
 use Rattle.wl_level.specs.Levels.{is_dominant}
 use Rattle.wl_clock.specs.Timing.{Timing, tick_of}
-use Rattle.wl_topology.specs.Delays.{delay_of}
-use Rattle.wl_record_core.specs.Truth.{count_below, odd}
 use Rattle.wl_plan.specs.declared.plan.Plan.{Plan}
 use Rattle.wl_plan.specs.PlanLine.{disturbed, line_of, setup_at}
-use Rattle.wl_plan.specs.Simulation.{AreInside, level, seen}
+use Rattle.wl_plan.specs.Simulation.{AreInside, seen}
+use Rattle.wl_serial.specs.Heard.{comes}
 use Rattle.wl_trace.specs.declared.shown.Shown.{Shown}
 use Rattle.wl_trace.specs.declared.event.Noted.{Noted}
 use Rattle.wl_trace.specs.Rerun.{IsRerun}
@@ -21,10 +20,6 @@ use Rattle.wl_views.specs.Signals.{driven_at, shown_then}
 pub record Lasts (f : ℕ → Bool) (t : ℕ) (held : Held) : Type 0 where
   pub later : t < held.until
   pub same : (u : ℕ) → t ≤ u → u < held.until → f u ≡ held.value
-
--- what is false at first and turns a delay after each of these ticks
-abbrev pub turned_at : ℕ → List ℕ → ℕ → Bool
-turned_at delay ticks u = nat_le delay u && odd (count_below (u - delay + 1) ticks)
 
 -- the tick of this number and a delay
 abbrev pub turn_after : List ℕ → ℕ → ℕ → ℕ
@@ -57,10 +52,6 @@ signals_by shown driven disturbed = record {
 -- up to when cable and disturbances stay
 abbrev pub heard_until : Watched → ℕ
 heard_until w = min w.cable.until w.disturbance.until
-
--- node i's drive as it comes to node j
-abbrev pub comes : Plan → ℕ → ℕ → ℕ → Bool
-comes plan i j u = nat_le (delay_of plan.topology i j) u && level (line_of plan) i (u - delay_of plan.topology i j)
 
 abbrev pub not_held : Held
 not_held = record { value = false; until = 0 }

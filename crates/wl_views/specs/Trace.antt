@@ -11,7 +11,7 @@ use Rattle.wl_plan.specs.PlanLine.{setup_at, line_of}
 use Rattle.wl_plan.specs.Simulation.{history}
 use Rattle.wl_report.specs.Lines.{mode_word}
 use Rattle.wl_report.specs.Report.{content_text}
-use Rattle.wl_setup.specs.Check.{name_of}
+use Rattle.wl_setup.specs.Names.{name_of}
 use Rattle.wl_trace.specs.declared.event.Event.{Event}
 use Rattle.wl_trace.specs.declared.event.Event.TheVariants as events
 use Rattle.wl_trace.specs.declared.event.FlagForm.{FlagForm}

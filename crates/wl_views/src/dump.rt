@@ -3,7 +3,6 @@ ghost use Rattle.std.specs.Prelude.{◌≡◌, ◌≤◌, ◌++◌, OnOk, IfOk, 
 ghost use Rattle.std.specs.List.{enumerate_from, flat_map};
 ghost use Rattle.wl_report.specs.Lines.{GrowsBy};
 ghost use Rattle.wl_plan.specs.Limits.{latest_end};
-ghost use Rattle.wl_setup.specs.Check.{name_of};
 ghost use Rattle.wl_views.specs.Vcd.{first_lines, header, level_values, level_vars, line_values, line_vars, mark_values, mark_vars, node_values, number_line, scope_lines, shown_name, signal_id, state_values, state_vars, time_line, unit_word, value_line, var_line, var_lines, word_line};
 
 use crate::signals::NodeSignals;
@@ -118,19 +117,12 @@ fn push_scope(text: &mut String, i: usize, name: &str) -> Result<(), AllocError>
     Ok(())
 }
 
-/// The name of node `i`.
-pub(crate) fn name_of(names: &Names, i: usize) -> &str
-    ensures { result.now ≡ name_of names.now i }
-{
-    names.name(i).unwrap_or("")
-}
-
 /// Adds the lines that declare the signals of all nodes.
 fn push_scopes(text: &mut String, names: &Names) -> Result<(), AllocError>
     ensures { OnOk result (GrowsBy text.old text.new (flat_map scope_lines (enumerate_from 0 names.now))) }
 {
     for i in 0..names.len() {
-        push_scope(text, i, name_of(names, i))?;
+        push_scope(text, i, names.name_of(i))?;
     }
     Ok(())
 }

@@ -9,8 +9,9 @@ ghost use Rattle.wl_plan.specs.Limits.{latest_end};
 ghost use Rattle.wl_plan.specs.Line.{found};
 ghost use Rattle.wl_plan.specs.PlanLine.{disturbed, is_at, line_of};
 ghost use Rattle.wl_plan.specs.Simulation.{level};
+ghost use Rattle.wl_serial.specs.Heard.{comes};
 ghost use Rattle.wl_serial.specs.Outcome.{outcome_of};
-ghost use Rattle.wl_views.specs.Held.{AllWatched, Comes, Lasts, Watches, comes};
+ghost use Rattle.wl_views.specs.Held.{AllWatched, Comes, Lasts, Watches};
 ghost use Rattle.wl_views.specs.Signals.{driven_at, node_signals, signals};
 ghost use Rattle.wl_views.specs.Vcd.{changes_from, node_changes};
 

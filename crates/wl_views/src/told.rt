@@ -9,7 +9,6 @@ ghost use Rattle.wl_trace.specs.Synced.{with_next};
 ghost use Rattle.wl_views.specs.Sent.{by_tick};
 ghost use Rattle.wl_views.specs.Trace.{all_told, error_kind_word, event_text, events_at_end, field_word, flag_word, line_start, place_text, sample_words, syncs_at_end, told_at_end, told_by, trace_line, trace_text};
 
-use crate::dump::name_of;
 use crate::watched::Watched;
 use std::alloc::{AllocError, Global};
 use wl_clock::Clock;
@@ -162,7 +161,7 @@ fn push_line(
     ensures { OnOk result (GrowsBy text.old text.new (trace_line names.now (tick, (i, noted)))) }
 {
     push_start(text, tick, i)?;
-    text.push_str(name_of(names, i))?;
+    text.push_str(names.name_of(i))?;
     push_sample_words(text, noted.quantum, noted.bit)?;
     push_event(text, noted.event)?;
     text.push_str("\n")?;

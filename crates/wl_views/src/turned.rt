@@ -2,7 +2,8 @@
 ghost use Rattle.std.specs.Prelude.{◌≡◌, ℕ, ◌+◌, ◌<◌, ◌≤◌, length, slice_index};
 ghost use Rattle.wl_record_core.specs.Truth.{count_below, IsIncreasing};
 ghost use Rattle.wl_plan.specs.Limits.{latest_end};
-ghost use Rattle.wl_views.specs.Held.{Lasts, IsBeforeTurn, turn_after, turned_at};
+ghost use Rattle.wl_serial.specs.Heard.{drove};
+ghost use Rattle.wl_views.specs.Held.{Lasts, IsBeforeTurn, turn_after};
 
 use crate::held::Held;
 
@@ -11,7 +12,7 @@ use crate::held::Held;
 pub(crate) fn turned(ticks: &[u64], delay: u64, t: u64, come: &mut usize) -> Held
     requires increasing { IsIncreasing ticks.now }
     requires early { t ≤ latest_end }
-    ensures { Lasts (turned_at delay ticks.now) t result }
+    ensures { Lasts (drove ticks.now delay) t result }
 {
     wl_record_core::table_laws();
     if t < delay {

@@ -7,7 +7,7 @@ use Rattle.wl_plan.specs.PlanLine.{setup_at, IsTrueOfPlan}
 use Rattle.wl_plan.specs.Checked.{IsChecked}
 use Rattle.wl_hub.specs.declared.hub.Hub.{Hub}
 use Rattle.wl_hub.specs.declared.hub.Pass.{Pass}
-use Rattle.wl_hub.specs.Passes.{with_edge, with_silence, name_of, shape_of}
+use Rattle.wl_hub.specs.Passes.{with_edge, with_silence, pass_name, shape_of}
 use Rattle.wl_worker.specs.declared.shared.PlanName.{PlanName}
 
 abbrev pub name_of_plan : Plan → PlanName
@@ -43,6 +43,6 @@ with_silences gs (r ∷ rs) = with_silences (with_silence gs r) rs
 
 -- a pass of a hub is of a plan: that is its name, the plan can be run, and the hub has its words
 pub record IsOfPlan (hub : Hub PlanName) (pass : Pass PlanName) (plan : Plan) : Type 0 where
-  pub name : name_of pass ≡ Some (name_of_plan plan)
+  pub name : pass_name pass ≡ Some (name_of_plan plan)
   pub checked : IsChecked plan
   pub words : IsShapeOf plan (shape_of hub)

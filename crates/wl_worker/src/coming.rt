@@ -2,7 +2,7 @@
 ghost use Rattle.std.specs.Prelude.{◌≡◌, ◌<◌, ◌||◌, ℕ, Some, IfOk, IfSome, length};
 ghost use Rattle.wl_record_core.specs.declared.record.Record.TheVariants.{Edge, Silence};
 ghost use Rattle.wl_plan.specs.PlanLine.{IsTrueOfPlan};
-ghost use Rattle.wl_hub.specs.Passes.{IsPassOf, name_of};
+ghost use Rattle.wl_hub.specs.Passes.{IsPassOf, pass_name};
 ghost use Rattle.wl_worker.specs.Handed.{Took, TellsNews};
 ghost use Rattle.wl_worker.specs.Shared.{name_of_plan, IsTrueOfName};
 
@@ -64,8 +64,8 @@ fn either(one: bool, other: bool) -> bool
 fn edge_seen(hub: &Hub<PlanName>, pass: &mut Pass<PlanName>, node: u8, seq: u32) -> Option<u64>
     requires here { IsPassOf hub.now pass.old }
     ensures here { IsPassOf hub.now pass.new }
-    ensures name { name_of pass.new ≡ name_of pass.old }
-    ensures truth { IfSome result (λ tick. IsTrueOfName (name_of pass.old) (Edge node seq tick)) }
+    ensures name { pass_name pass.new ≡ pass_name pass.old }
+    ensures truth { IfSome result (λ tick. IsTrueOfName (pass_name pass.old) (Edge node seq tick)) }
 {
     words_tell_records::<PlanName>();
     let slot = Slot::EdgeAt { node, seq };
@@ -83,8 +83,8 @@ fn edge_seen(hub: &Hub<PlanName>, pass: &mut Pass<PlanName>, node: u8, seq: u32)
 fn silence_seen(hub: &Hub<PlanName>, pass: &mut Pass<PlanName>, node: u8, count: u32) -> Option<u64>
     requires here { IsPassOf hub.now pass.old }
     ensures here { IsPassOf hub.now pass.new }
-    ensures name { name_of pass.new ≡ name_of pass.old }
-    ensures truth { IfSome result (λ until. IsTrueOfName (name_of pass.old) (Silence node count until)) }
+    ensures name { pass_name pass.new ≡ pass_name pass.old }
+    ensures truth { IfSome result (λ until. IsTrueOfName (pass_name pass.old) (Silence node count until)) }
 {
     words_tell_records::<PlanName>();
     let slot = Slot::SilenceAt { node, count };
@@ -145,9 +145,9 @@ fn learn_edges(
     first: u32,
 ) -> Result<(bool, u32), AllocError>
     requires here { IsPassOf hub.now pass.old }
-    requires name { name_of pass.old ≡ Some (name_of_plan group.old.plan) }
+    requires name { pass_name pass.old ≡ Some (name_of_plan group.old.plan) }
     ensures here { IsPassOf hub.now pass.new }
-    ensures name { name_of pass.new ≡ name_of pass.old }
+    ensures name { pass_name pass.new ≡ pass_name pass.old }
     ensures took { Took group.old group.new }
     ensures changed { IfOk result (λ r. TellsNews group.old group.new r.0) }
 {
@@ -190,9 +190,9 @@ fn learn_node(
     handed: &mut u32,
 ) -> Result<bool, AllocError>
     requires here { IsPassOf hub.now pass.old }
-    requires name { name_of pass.old ≡ Some (name_of_plan group.old.plan) }
+    requires name { pass_name pass.old ≡ Some (name_of_plan group.old.plan) }
     ensures here { IsPassOf hub.now pass.new }
-    ensures name { name_of pass.new ≡ name_of pass.old }
+    ensures name { pass_name pass.new ≡ pass_name pass.old }
     ensures took { Took group.old group.new }
     ensures changed { IfOk result (λ b. TellsNews group.old group.new b) }
 {
@@ -225,9 +225,9 @@ pub(crate) fn learn_all(
     rings: u64,
 ) -> Result<(bool, Heard), AllocError>
     requires here { IsPassOf hub.now pass.old }
-    requires name { name_of pass.old ≡ Some (name_of_plan group.old.plan) }
+    requires name { pass_name pass.old ≡ Some (name_of_plan group.old.plan) }
     ensures here { IsPassOf hub.now pass.new }
-    ensures name { name_of pass.new ≡ name_of pass.old }
+    ensures name { pass_name pass.new ≡ pass_name pass.old }
     ensures took { Took group.old group.new }
     ensures changed { IfOk result (λ r. TellsNews group.old group.new r.0) }
     ensures heard { IfOk result (λ r. r.1.rings ≡ rings) }

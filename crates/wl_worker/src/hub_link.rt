@@ -1,7 +1,7 @@
 //! The link over a hub.
 ghost use Rattle.std.specs.Prelude.{◌≡◌, IfOk, OnOk};
 ghost use Rattle.wl_plan.specs.declared.plan.Plan.{Plan as GivenPlan};
-ghost use Rattle.wl_hub.specs.Passes.{IsPassOf, name_of, given_edges, given_silences};
+ghost use Rattle.wl_hub.specs.Passes.{IsPassOf, pass_name, given_edges, given_silences};
 ghost use Rattle.wl_worker.specs.Handed.{AreTrueOfPlan};
 ghost use Rattle.wl_worker.specs.Shared.{IsOfPlan, with_edges, with_silences};
 
@@ -65,7 +65,7 @@ fn give_all(hub: &Hub<PlanName>, pass: &mut Pass<PlanName>, records: &[Record])
     requires here { IsPassOf hub.now pass.old }
     requires truth { (plan : GivenPlan) × IsOfPlan hub.now pass.old plan × AreTrueOfPlan plan records.now }
     ensures here { IsPassOf hub.now pass.new }
-    ensures name { name_of pass.new ≡ name_of pass.old }
+    ensures name { pass_name pass.new ≡ pass_name pass.old }
     ensures edges { given_edges pass.new ≡ with_edges (given_edges pass.old) records.now }
     ensures silences { given_silences pass.new ≡ with_silences (given_silences pass.old) records.now }
 {

@@ -27,7 +27,7 @@ use Rattle.wl_world.specs.declared.events.Answer.{Answer}
 use Rattle.wl_world.specs.declared.events.Stopped.{Stopped}
 use Rattle.wl_world.specs.Scene.{Cast, Scene, is_of_group, start, run}
 use Rattle.wl_world.specs.Headline.{IsFaithful, Headline}
-use Rattle.wl_world.specs.Steps.{HasRun, HasStopped, HasSettled, HasMoved}
+use Rattle.wl_world.specs.Steps.{HasRun, HasRunSome, HasSettled, HasMoved}
 use Rattle.wl_world.specs.WorldValue.{WorldValue, IsWorldAt, IsStaffed, cast_of}
 use Rattle.wl_world.specs.Faithful.{IsFaithfulValue, HasGrown, WorldsAreFaithful, KnowEmitted, WorldsDoNotStall}
 use Rattle.std.proofs.lemmas.List.Elements.{Contains-append_right}
@@ -100,7 +100,7 @@ grown_from l c old new before es was at =
 
 -- by a list of events, all of them or some
 pub run_grown : {A : Type 0} (l : Line) (c : Cast) (events : List Event) (old new : WorldValue) (items : A → List Answer) (r : Result A Stopped)
-    → IfOk r (λ x. HasRun IsWorldAt l c events old new (items x)) → IfErr r (λ s. HasStopped IsWorldAt l c events old new s.done)
+    → IfOk r (λ x. HasRun IsWorldAt l c events old new (items x)) → IfErr r (λ s. HasRunSome IsWorldAt l c events old new s.done)
     → (before : List Event) → IsWorldAt (run l c before (start l c)) old → HasGrown old new
 run_grown l c events old new items (Ok x) ok err before was = grown_from l c old new before events was (ok before was).1
 run_grown l c events old new items (Err s) ok err before was = grown_from l c old new before (take s.done events) was (err.1 before was)

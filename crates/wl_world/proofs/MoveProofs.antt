@@ -15,7 +15,7 @@ use Rattle.wl_world.specs.Headline.{AllAtEnd}
 use Rattle.wl_world.specs.Settling.{IsMove, IsDelivery, IsAdvance, Rounds, settled, round}
 use Rattle.wl_world.specs.Steps.{HasStepped}
 use Rattle.wl_world.specs.WorldValue.{WorldValue, IsWorldAt}
-use Rattle.wl_world.specs.Moves.{IsAdvanceOf, HasTaken, KnowsBelow, IsStuckAt, HasGone, HasHanded, HasHandedAll, HasExhausted, HasExhaustedAll, HasRounded}
+use Rattle.wl_world.specs.Moves.{IsAdvanceOf, HasTaken, KnowsBelow, IsStuckAt, MovesLed, HasHanded, HasHandedAll, HasExhausted, HasExhaustedAll, HasRounded}
 use Rattle.wl_group.proofs.Callers.{put_at}
 use Rattle.wl_world.proofs.WorldProofs.{run_grows}
 use Rattle.wl_world.proofs.SettlingProofs.{delivered, moves_keep}
@@ -92,22 +92,22 @@ module _ (l : Line) (c : Cast) where
 
   -- ---- moves, one after another
 
-  pub gone_none : (v : WorldValue) → HasGone l c v v
+  pub gone_none : (v : WorldValue) → MovesLed l c v v
   gone_none v w at = ([], tt, at)
 
-  pub gone_on : (old mid new : WorldValue) → HasGone l c old mid → HasGone l c mid new → HasGone l c old new
+  pub gone_on : (old mid new : WorldValue) → MovesLed l c old mid → MovesLed l c mid new → MovesLed l c old new
   gone_on old mid new p q w at =
       let a = p w at in
       let b = q (run l c a.0 w) a.2 in
       (a.0 ++ b.0, all_append IsMove a.0 b.0 a.1 b.1, subst (λ x. IsWorldAt x new) (sym (run_append l c a.0 b.0 w)) b.2)
 
-  pub handed_gone : (h a b : ℕ) (old new : WorldValue) → HasHanded l c h a b old new → HasGone l c old new
+  pub handed_gone : (h a b : ℕ) (old new : WorldValue) → HasHanded l c h a b old new → MovesLed l c old new
   handed_gone h a b old new p w at = let d = p w at in (d.0, all_as IsDelivery IsMove delivery_is_move d.0 d.1, d.2)
 
-  pub handed_all_gone : (n a b : ℕ) (old new : WorldValue) → HasHandedAll l c n a b old new → HasGone l c old new
+  pub handed_all_gone : (n a b : ℕ) (old new : WorldValue) → HasHandedAll l c n a b old new → MovesLed l c old new
   handed_all_gone n a b old new p w at = let d = p w at in (d.0, all_as IsDelivery IsMove delivery_is_move d.0 d.1, d.2)
 
-  pub exhausted_all_gone : (n : ℕ) (old new : WorldValue) → HasExhaustedAll l c n old new → HasGone l c old new
+  pub exhausted_all_gone : (n : ℕ) (old new : WorldValue) → HasExhaustedAll l c n old new → MovesLed l c old new
   exhausted_all_gone n old new p w at = let q = p w at in (q.0, all_as IsAdvance IsMove advance_is_move q.0 q.1, q.2)
 
   -- ---- deliveries
@@ -171,7 +171,7 @@ module _ (l : Line) (c : Cast) where
         subst (λ z. IsWorldAt z new) (sym (run_append l c q.0 (Advance h i ∷ []) w)) (s (run l c q.0 w) q.2).1,
       )
 
-  pub advanced_gone : (h : ℕ) (old new : WorldValue) → HasAdvanced h old new → HasGone l c old new
+  pub advanced_gone : (h : ℕ) (old new : WorldValue) → HasAdvanced h old new → MovesLed l c old new
   advanced_gone h old new p w at = let q = p w at in (q.0, all_as (IsAdvanceOf h) IsMove (λ e a. advance_is_move e (advance_of_is h e a)) q.0 q.1, q.2)
 
   pub exhausted : (h : ℕ) (old new : WorldValue) → HasAdvanced h old new → ((w : Scene) → IsWorldAt w new → IsStuckAt l c h w) → HasExhausted l c h old new
@@ -279,7 +279,7 @@ module _ (l : Line) (c : Cast) where
             subst (λ k. Rounds l c w k ((moves ++ (ds ++ qs)) ++ rest)) counted (subst (λ es. Rounds l c w (n + suc m) es) listed (s.4 (suc m) (ds ++ (qs ++ rest)) now)),
       )
 
-  pub made_gone : (n told : ℕ) (old new : WorldValue) → HasMade n told old new → HasGone l c old new
+  pub made_gone : (n told : ℕ) (old new : WorldValue) → HasMade n told old new → MovesLed l c old new
   made_gone n told old new p w at = let s = p w at in (s.0, s.1, s.2)
 
   pub made_ended : (n told : ℕ) (old new : WorldValue) → HasMade n told old new → ((x : Scene) → IsWorldAt x new → AllAtEnd l c x) → (w : Scene) → IsWorldAt w old

@@ -30,8 +30,8 @@ module _ (l : Line) (c : Cast) where
   IsStuckAt h w = (i : ℕ) → possible l c w (Advance h i) ≡ false
 
   -- moves led from one world to the other
-  abbrev pub HasGone : WorldValue → WorldValue → Type 0
-  HasGone old new = (w : Scene) → IsWorldAt w old → (es : List Event) × AllByRecursion IsMove es × IsWorldAt (run l c es w) new
+  abbrev pub MovesLed : WorldValue → WorldValue → Type 0
+  MovesLed old new = (w : Scene) → IsWorldAt w old → (es : List Event) × AllByRecursion IsMove es × IsWorldAt (run l c es w) new
 
   -- deliveries handed the records from number a up to number b to group h, or to each group below n
   abbrev pub HasHanded : ℕ → ℕ → ℕ → WorldValue → WorldValue → Type 0

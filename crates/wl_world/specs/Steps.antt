@@ -24,8 +24,8 @@ module _ {W : Type 0} (at : Scene → W → Type 0) (l : Line) (c : Cast) where
       → (said ≡ answers l c events (run l c before (start l c))) × at (run l c (before ++ events) (start l c)) new
 
   -- a list of events that stopped after some of them, before the next one, because memory ran out
-  abbrev pub HasStopped : List Event → W → W → ℕ → Type 0
-  HasStopped events old new count =
+  abbrev pub HasRunSome : List Event → W → W → ℕ → Type 0
+  HasRunSome events old new count =
       (count < length events)
       × ((before : List Event) → at (run l c before (start l c)) old → at (run l c (before ++ take count events) (start l c)) new)
 

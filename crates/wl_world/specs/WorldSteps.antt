@@ -6,7 +6,7 @@ use Rattle.wl_world.specs.declared.events.Event.{Event}
 use Rattle.wl_world.specs.declared.events.Event.TheVariants.{Advance}
 use Rattle.wl_world.specs.declared.events.Answer.{Answer}
 use Rattle.wl_world.specs.Scene.{Scene, possible}
-use Rattle.wl_world.specs.Steps.{HasStepped, HasRun, HasStopped, HasSettled, HasMoved}
+use Rattle.wl_world.specs.Steps.{HasStepped, HasRun, HasRunSome, HasSettled, HasMoved}
 use Rattle.wl_world.specs.Moves.{IsStuckAt, HasHanded, HasHandedAll, HasExhausted, HasExhaustedAll, HasRounded}
 use Rattle.wl_world.specs.WorldValue.{WorldValue, IsWorldAt, cast_of}
 
@@ -19,7 +19,7 @@ abbrev pub RunsEvents : List Event → WorldValue → WorldValue → List Answer
 RunsEvents events old new said = HasRun IsWorldAt (line_of old.plan) (cast_of old.numbers) events old new said
 
 abbrev pub StopsAfter : List Event → WorldValue → WorldValue → ℕ → Type 0
-StopsAfter events old new count = HasStopped IsWorldAt (line_of old.plan) (cast_of old.numbers) events old new count
+StopsAfter events old new count = HasRunSome IsWorldAt (line_of old.plan) (cast_of old.numbers) events old new count
 
 -- ---- settling
 

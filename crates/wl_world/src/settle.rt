@@ -44,7 +44,7 @@ impl World {
     ghost use Rattle.wl_plan.specs.Groupings.{groups_of};
     ghost use Rattle.wl_world.specs.Ended.{AreAtEnd, quanta_left_of};
     ghost use Rattle.wl_world.specs.Faithful.{IsFaithfulValue, HasGrown};
-    ghost use Rattle.wl_world.specs.Moves.{HasGone};
+    ghost use Rattle.wl_world.specs.Moves.{MovesLed};
     ghost use Rattle.wl_world.specs.WorldSteps.{SettlesIn, MovesOn, RoundsOn, HandsTo, HandsToAll, Exhausts, ExhaustsAll, MayAdvance, IsStuckIn};
     ghost use Rattle.wl_world.specs.WorldValue.{cast_of};
 
@@ -108,7 +108,7 @@ impl World {
     /// One round, where each group has taken the first `from` records. Answers how many each has taken then.
     fn round(&mut self, from: u64) -> Result<u64, AllocError>
         ensures rounded { IfOk result (λ to. RoundsOn from to self.old self.new) }
-        ensures moved { OnErr result (HasGone (line_of self.old.plan) (cast_of self.old.numbers) self.old self.new) }
+        ensures moved { OnErr result (MovesLed (line_of self.old.plan) (cast_of self.old.numbers) self.old self.new) }
         ensures plan { self.new.plan ≡ self.old.plan }
         ensures grouping { self.new.numbers ≡ self.old.numbers }
     {
@@ -121,7 +121,7 @@ impl World {
     /// Each group takes the emitted records from number `from` up to number `to`.
     fn deliver_to_all(&mut self, from: u64, to: u64) -> Result<(), AllocError>
         ensures handed { OnOk result (HandsToAll from to self.old self.new) }
-        ensures moved { OnErr result (HasGone (line_of self.old.plan) (cast_of self.old.numbers) self.old self.new) }
+        ensures moved { OnErr result (MovesLed (line_of self.old.plan) (cast_of self.old.numbers) self.old self.new) }
         ensures plan { self.new.plan ≡ self.old.plan }
         ensures grouping { self.new.numbers ≡ self.old.numbers }
     {
@@ -135,7 +135,7 @@ impl World {
     fn deliver_to(&mut self, group: u8, from: u64, to: u64) -> Result<(), AllocError>
         requires { group < groups_of self.old.numbers }
         ensures handed { OnOk result (HandsTo group from to self.old self.new) }
-        ensures moved { OnErr result (HasGone (line_of self.old.plan) (cast_of self.old.numbers) self.old self.new) }
+        ensures moved { OnErr result (MovesLed (line_of self.old.plan) (cast_of self.old.numbers) self.old self.new) }
         ensures plan { self.new.plan ≡ self.old.plan }
         ensures grouping { self.new.numbers ≡ self.old.numbers }
     {
@@ -148,7 +148,7 @@ impl World {
     /// Each group advances until no node of it can.
     fn advance_all(&mut self) -> Result<(), AllocError>
         ensures stuck { OnOk result (ExhaustsAll self.old self.new) }
-        ensures moved { OnErr result (HasGone (line_of self.old.plan) (cast_of self.old.numbers) self.old self.new) }
+        ensures moved { OnErr result (MovesLed (line_of self.old.plan) (cast_of self.old.numbers) self.old self.new) }
         ensures plan { self.new.plan ≡ self.old.plan }
         ensures grouping { self.new.numbers ≡ self.old.numbers }
     {
@@ -161,7 +161,7 @@ impl World {
     /// A group advances until no node of it can.
     fn advance_group(&mut self, group: u8) -> Result<(), AllocError>
         ensures stuck { OnOk result (Exhausts group self.old self.new) }
-        ensures moved { OnErr result (HasGone (line_of self.old.plan) (cast_of self.old.numbers) self.old self.new) }
+        ensures moved { OnErr result (MovesLed (line_of self.old.plan) (cast_of self.old.numbers) self.old self.new) }
         ensures plan { self.new.plan ≡ self.old.plan }
         ensures grouping { self.new.numbers ≡ self.old.numbers }
     {

@@ -1,4 +1,5 @@
 use Rattle.std.proofs.Common.{◌≡◌, ◌≤◌, ◌++◌, List, ℕ, [], length, ap, sym, ◌∙◌, subst, arith}
+use Rattle.std.proofs.lemmas.Bool.{ltb-false}
 use Rattle.std.specs.List.{filter_map}
 use Rattle.std.proofs.lemmas.List.{append-nil, get_or_past}
 use Rattle.std.proofs.lemmas.Result.{on_ok_weaker}
@@ -9,7 +10,7 @@ use Rattle.wl_replica.specs.Keys.{Key}
 use Rattle.wl_replica.specs.Canonical.{edge_record, of_node}
 use Rattle.wl_replica.specs.Dense.{edge_of_number, row_entries}
 use Rattle.wl_replica.specs.Firsts.{row_of, from_number}
-use Rattle.wl_replica.proofs.JoinedEdges.{row_and_rest, not_below}
+use Rattle.wl_replica.proofs.JoinedEdges.{row_and_rest}
 use Rattle.wl_replica.proofs.canonical.push_edges.Goals as goal
 use Rattle.wl_replica.proofs.canonical.push_edges.Goals.{in-Some+in_ok-push_row-in-Some, in-None}
 
@@ -34,7 +35,7 @@ returns c =
           row_and_rest rows rest node c.match-get.from before c.match-get.all.items (w.from-is ∙ (w.len.ensures.value ∙ ap (λ (r : List ℕ). length r) row))
           (ap (λ v. v.items) w.all-is ∙ (w.in_ok-push_row-in-Some.ensures ∙ ap (λ (r : List ℕ). before ++ filter_map edge_record (row_entries edge_of_number node 0 r [])) row))
       | in-None w ↦
-          let past : length rows ≤ node = subst (λ (rs : List (List ℕ)). length rs ≤ node) c.deref.ensures.value (not_below node (length c.deref.result.now) (sym w.in-None.ensures.lookup.0)) in
+          let past : length rows ≤ node = subst (λ (rs : List (List ℕ)). length rs ≤ node) c.deref.ensures.value (ltb-false node (length c.deref.result.now) (sym w.in-None.ensures.lookup.0)) in
           let none : row_of rows node ≡ [] = get_or_past rows node [] past in
           row_and_rest rows rest node c.match-get.from before c.match-get.all.items (w.from-is ∙ sym (ap (λ (r : List ℕ). length r) none))
           (ap (λ v. v.items) w.all-is ∙ (sym (append-nil before) ∙ sym (ap (λ (r : List ℕ). before ++ filter_map edge_record (row_entries edge_of_number node 0 r [])) none)))

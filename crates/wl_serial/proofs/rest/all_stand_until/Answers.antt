@@ -2,7 +2,7 @@
 use Rattle.std.proofs.Common.{◌<◌, ◌∙◌, inl, inr, length, get_or, sym, subst, arith}
 use Rattle.std.proofs.lemmas.Bool.{cases_eq}
 use Rattle.std.proofs.lemmas.List.{get_or_default}
-use Rattle.wl_serial.specs.Rest.{Stands}
+use Rattle.wl_serial.specs.Rest.{NodeStands}
 use Rattle.wl_serial.proofs.Resting.{stands_less}
 use Rattle.wl_serial.proofs.Runners.{stands_at}
 use Rattle.wl_serial.proofs.rest.all_stand_until.Goals as goal
@@ -20,9 +20,9 @@ loop-i-preserved c =
     let min = c.min-until.ensures in (
       λ some k d b. elim (cases_eq k i) [
         | inl own ↦
-            subst (λ n. Stands plan c.min-until.result n (get_or rs n d)) (sym own)
+            subst (λ n. NodeStands plan c.min-until.result n (get_or rs n d)) (sym own)
             (stands_less plan c.min-until.result c.stands_until.result i (get_or rs i d) (omega (arith, min))
-            (subst (Stands plan c.stands_until.result i) (c.index-running-i.is ∙ get_or_default rs i c.index-running-i.result d here) (c.stands_until.ensures (omega (arith, some, min)))))
+            (subst (NodeStands plan c.stands_until.result i) (c.index-running-i.is ∙ get_or_default rs i c.index-running-i.result d here) (c.stands_until.ensures (omega (arith, some, min)))))
         | inr other ↦
             stands_less plan c.min-until.result c.loop-i.until k (get_or rs k d) (omega (arith, min)) (c.loop-i.invariant.0 (omega (arith, some, min)) k d (omega (arith, b, other)))
       ],

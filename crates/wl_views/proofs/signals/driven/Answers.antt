@@ -7,7 +7,8 @@ use Rattle.wl_plan.specs.declared.plan.Plan.{Plan}
 use Rattle.wl_plan.specs.PlanLine.{line_of}
 use Rattle.wl_plan.specs.Simulation.{level}
 use Rattle.wl_views.specs.declared.held.Held.{Held}
-use Rattle.wl_views.specs.Held.{Lasts, comes, not_held}
+use Rattle.wl_serial.specs.Heard.{comes}
+use Rattle.wl_views.specs.Held.{Lasts, not_held}
 use Rattle.wl_views.proofs.Turns.{never}
 use Rattle.wl_views.proofs.signals.driven.Goals as goal
 

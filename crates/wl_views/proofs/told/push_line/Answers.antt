@@ -1,5 +1,5 @@
 use Rattle.std.proofs.Common.{◌∙◌, ◌++◌, ap, codes, string_bytes}
-use Rattle.wl_setup.specs.Check.{name_of}
+use Rattle.wl_setup.specs.Names.{name_of}
 use Rattle.wl_views.specs.Trace.{event_text, line_start, sample_words}
 use Rattle.wl_views.proofs.Pieces.{five}
 use Rattle.wl_views.proofs.told.push_line.Goals as goal

@@ -1,10 +1,10 @@
 use Rattle.std.proofs.Common.{◌≡◌, Some}
-use Rattle.wl_hub.specs.Passes.{IsPassOf, name_of}
+use Rattle.wl_hub.specs.Passes.{IsPassOf, pass_name}
 use Rattle.wl_worker.specs.Handed.{Took, TellsNews}
 use Rattle.wl_worker.specs.Shared.{name_of_plan}
 use Rattle.wl_worker.proofs.coming.learn_edges.Given as goal
 
 abbrev pub invariant-loop-seq : goal.invariant-loop-seq
 invariant-loop-seq l =
-    IsPassOf l.hub l.pass × (name_of l.pass ≡ name_of l.fn.pass) × (name_of l.pass ≡ Some (name_of_plan l.group.plan))
+    IsPassOf l.hub l.pass × (pass_name l.pass ≡ pass_name l.fn.pass) × (pass_name l.pass ≡ Some (name_of_plan l.group.plan))
     × Took l.fn.group l.group × TellsNews l.fn.group l.group l.came

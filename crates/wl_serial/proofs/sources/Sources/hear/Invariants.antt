@@ -1,11 +1,11 @@
 use Rattle.std.proofs.Common.{ℕ, ◌<◌, ◌≤◌, length, get_or}
-use Rattle.wl_serial.specs.Heard.{AreKept, AreSources}
+use Rattle.wl_serial.specs.Heard.{AreTallied, AreSources}
 use Rattle.wl_serial.proofs.sources.Sources.hear.Given as goal
 
 -- from the nodes so far nothing more comes before then
 abbrev pub invariant-loop-i : goal.invariant-loop-i
 invariant-loop-i l =
-    AreKept (length l.plan.nodes) l.self
+    AreTallied (length l.plan.nodes) l.self
     × AreSources l.plan l.running l.j l.t l.self
     × (l.t < l.until)
     × ((k : ℕ) → k < l.i → l.until ≤ get_or l.self.nexts k 0)

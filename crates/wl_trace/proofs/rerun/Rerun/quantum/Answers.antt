@@ -12,9 +12,10 @@ use Rattle.wl_trace.specs.Events.{noted}
 use Rattle.wl_trace.specs.Synced.{sync_event}
 use Rattle.wl_trace.specs.Rerun.{RunsTo, starts_with}
 use Rattle.wl_trace.specs.Starts.{is_start, starts_of, with_start}
-use Rattle.wl_trace.proofs.Starting.{seen_is, starts_more}
+use Rattle.wl_trace.proofs.Starting.{starts_more}
 use Rattle.wl_trace.proofs.Syncing.{all_seen, history_more}
 use Rattle.wl_trace.proofs.rerun.Rerun.quantum.Goals as goal
+use Rattle.wl_node.proofs.Callers.{seen_is}
 
 -- one start more, or none
 counted : (before : List ℕ) (quantum : ℕ) (beat : Beat) → length (with_start before quantum (is_start beat)) ≡ starts_with beat (length before)

@@ -3,7 +3,7 @@ use Rattle.std.proofs.Common.{◌≡◌, ◌∙◌, ap, arith}
 use Rattle.wl_plan.specs.PlanLine.{line_of}
 use Rattle.wl_plan.specs.Groupings.{groups_of}
 use Rattle.wl_group.proofs.Callers.{on_err}
-use Rattle.wl_world.specs.Moves.{HasGone, HasExhausted}
+use Rattle.wl_world.specs.Moves.{MovesLed, HasExhausted}
 use Rattle.wl_world.specs.WorldValue.{WorldValue, cast_of}
 use Rattle.wl_world.proofs.MoveProofs.{set_on, gone_on, exhausted_all_gone, exhausted_all_more, exhausted_all_enough}
 use Rattle.wl_world.proofs.world.World.advance_all.Goals as goal
@@ -16,7 +16,7 @@ returns-in_err-advance_group-clause-moved c =
     let new = c.advance_group.new.self in
     on_err c.from_residual.result (gone_on line cast c.args.self.now mid new
     (exhausted_all_gone line cast c.loop-group.group c.args.self.now mid c.loop-group.invariant.exhausted)
-    (set_on (λ l d. HasGone l d mid new) line (line_of mid.plan) cast (cast_of mid.numbers)
+    (set_on (λ l d. MovesLed l d mid new) line (line_of mid.plan) cast (cast_of mid.numbers)
     (ap line_of c.loop-group.invariant.same_plan) (ap cast_of c.loop-group.invariant.same_numbers) c.in_err-advance_group.ensures.moved))
 
 pub loop-group-preserved : goal.loop-group-preserved

@@ -4,7 +4,7 @@ use Rattle.wl_plan.specs.PlanLine.{line_of}
 use Rattle.wl_group.proofs.Callers.{on_err}
 use Rattle.wl_world.specs.declared.events.Event.TheVariants.{Advance}
 use Rattle.wl_world.specs.Scene.{Scene}
-use Rattle.wl_world.specs.Moves.{IsStuckAt, HasGone}
+use Rattle.wl_world.specs.Moves.{IsStuckAt, MovesLed}
 use Rattle.wl_world.specs.WorldValue.{IsWorldAt, IsWorldValue, cast_of}
 use Rattle.wl_world.proofs.RunProofs.{stepped_on}
 use Rattle.wl_world.proofs.MoveProofs.{advanced_none, advanced_more, advanced_gone, exhausted, set_on}
@@ -23,7 +23,7 @@ pub returns-in_err-advance-clause-moved : goal.returns-in_err-advance-clause-mov
 returns-in_err-advance-clause-moved c =
     let line = line_of c.args.self.now.plan in
     let cast = cast_of c.args.self.now.numbers in
-    on_err c.from_residual.result (subst (HasGone line cast c.args.self.now) (sym c.in_err-advance.ensures.err)
+    on_err c.from_residual.result (subst (MovesLed line cast c.args.self.now) (sym c.in_err-advance.ensures.err)
     (advanced_gone line cast c.args.group c.args.self.now c.loop-node.self c.loop-node.invariant.advanced))
 
 pub loop-node-smaller : goal.loop-node-smaller

@@ -3,7 +3,7 @@ use Rattle.std.proofs.Common.{sym, ◌∙◌, ap, subst, arith}
 use Rattle.wl_plan.specs.PlanLine.{line_of}
 use Rattle.wl_group.proofs.Callers.{on_err}
 use Rattle.wl_world.specs.declared.events.Event.TheVariants.{Deliver}
-use Rattle.wl_world.specs.Moves.{HasGone}
+use Rattle.wl_world.specs.Moves.{MovesLed}
 use Rattle.wl_world.specs.WorldValue.{IsWorldAt, cast_of}
 use Rattle.wl_world.proofs.RunProofs.{stepped_on}
 use Rattle.wl_world.proofs.MoveProofs.{handed_gone, handed_more, handed_enough}
@@ -13,7 +13,7 @@ pub returns-in_err-deliver-clause-moved : goal.returns-in_err-deliver-clause-mov
 returns-in_err-deliver-clause-moved c =
     let line = line_of c.args.self.now.plan in
     let cast = cast_of c.args.self.now.numbers in
-    on_err c.from_residual.result (subst (HasGone line cast c.args.self.now) (sym c.in_err-deliver.ensures.err)
+    on_err c.from_residual.result (subst (MovesLed line cast c.args.self.now) (sym c.in_err-deliver.ensures.err)
     (handed_gone line cast c.args.group c.args.from c.loop-number.number c.args.self.now c.loop-number.self c.loop-number.invariant.handed))
 
 pub loop-number-preserved : goal.loop-number-preserved

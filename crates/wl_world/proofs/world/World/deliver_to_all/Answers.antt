@@ -3,7 +3,7 @@ use Rattle.std.proofs.Common.{◌≡◌, ◌∙◌, ap, arith}
 use Rattle.wl_plan.specs.PlanLine.{line_of}
 use Rattle.wl_plan.specs.Groupings.{groups_of}
 use Rattle.wl_group.proofs.Callers.{on_err}
-use Rattle.wl_world.specs.Moves.{HasGone, HasHanded}
+use Rattle.wl_world.specs.Moves.{MovesLed, HasHanded}
 use Rattle.wl_world.specs.WorldValue.{WorldValue, cast_of}
 use Rattle.wl_world.proofs.MoveProofs.{set_on, gone_on, handed_all_gone, handed_all_more, handed_all_enough}
 use Rattle.wl_world.proofs.world.World.deliver_to_all.Goals as goal
@@ -16,7 +16,7 @@ returns-in_err-deliver_to-clause-moved c =
     let new = c.deliver_to.new.self in
     on_err c.from_residual.result (gone_on line cast c.args.self.now mid new
     (handed_all_gone line cast c.loop-group.group c.args.from c.args.to c.args.self.now mid c.loop-group.invariant.handed)
-    (set_on (λ l d. HasGone l d mid new) line (line_of mid.plan) cast (cast_of mid.numbers)
+    (set_on (λ l d. MovesLed l d mid new) line (line_of mid.plan) cast (cast_of mid.numbers)
     (ap line_of c.loop-group.invariant.same_plan) (ap cast_of c.loop-group.invariant.same_numbers) c.in_err-deliver_to.ensures.moved))
 
 pub loop-group-preserved : goal.loop-group-preserved

@@ -5,7 +5,7 @@ use Rattle.wl_plan.specs.PlanLine.{line_of}
 use Rattle.wl_group.proofs.Callers.{on_err}
 use Rattle.wl_world.specs.Scene.{run, start}
 use Rattle.wl_world.specs.Ended.{AreAtEnd, quanta_left_of}
-use Rattle.wl_world.specs.Moves.{HasGone, HasRounded}
+use Rattle.wl_world.specs.Moves.{MovesLed, HasRounded}
 use Rattle.wl_world.specs.WorldValue.{IsWorldAt, IsWorldValue, cast_of}
 use Rattle.wl_world.proofs.RunProofs.{at_start}
 use Rattle.wl_world.proofs.MoveProofs.{set_on, gone_on, made_none, made_more, made_gone, made_ended}
@@ -31,7 +31,7 @@ returns-in_err-known-clause-moved c =
     let new = c.round.new.self in
     on_err c.from_residual.result (λ before h.
     let all = gone_on line cast c.args.self.now mid new (made_gone line cast c.loop-self.rounds c.loop-self.known c.args.self.now mid c.loop-self.invariant.made)
-    (set_on (λ l d. HasGone l d mid new) line (line_of mid.plan) cast (cast_of mid.numbers)
+    (set_on (λ l d. MovesLed l d mid new) line (line_of mid.plan) cast (cast_of mid.numbers)
     (ap line_of c.loop-self.invariant.same_plan) (ap cast_of c.loop-self.invariant.same_numbers) c.in_err-known.ensures.moved) in
     let s = all (run line cast before (start line cast)) h in
     (s.0, s.1, at_start IsWorldAt line cast before s.0 new s.2))

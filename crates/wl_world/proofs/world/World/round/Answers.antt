@@ -3,7 +3,7 @@ use Rattle.std.proofs.Common.{◌≡◌, ◌∙◌, ap, subst, length, arith}
 use Rattle.wl_plan.specs.PlanLine.{line_of}
 use Rattle.wl_plan.specs.Groupings.{groups_of}
 use Rattle.wl_group.proofs.Callers.{on_err}
-use Rattle.wl_world.specs.Moves.{HasGone, HasExhaustedAll}
+use Rattle.wl_world.specs.Moves.{MovesLed, HasExhaustedAll}
 use Rattle.wl_world.specs.WorldValue.{WorldValue, cast_of}
 use Rattle.wl_world.proofs.MoveProofs.{set_on, gone_on, handed_all_gone, rounded}
 use Rattle.wl_world.proofs.world.World.round.Goals as goal
@@ -16,7 +16,7 @@ returns-in_err-advance_all-clause-moved c =
     let new = c.advance_all.new.self in
     on_err c.from_residual-in_err-advance_all.result (gone_on line cast c.args.self.now mid new
     (handed_all_gone line cast (groups_of c.args.self.now.numbers) c.args.from c.len-to.result c.args.self.now mid c.in_ok-deliver_to_all.ensures.handed)
-    (set_on (λ l d. HasGone l d mid new) line (line_of mid.plan) cast (cast_of mid.numbers)
+    (set_on (λ l d. MovesLed l d mid new) line (line_of mid.plan) cast (cast_of mid.numbers)
     (ap line_of c.in_ok-deliver_to_all.ensures.plan) (ap cast_of c.in_ok-deliver_to_all.ensures.grouping) c.in_err-advance_all.ensures.moved))
 
 pub returns-clause-rounded : goal.returns-clause-rounded

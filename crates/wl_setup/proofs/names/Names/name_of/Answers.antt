@@ -1,7 +1,7 @@
 use Rattle.std.proofs.Common.{◌≡◌, ◌∙◌, ap, refl, List, [], ℕ, Bor, Option, Some, None}
 use Rattle.std.specs.Option.{option_map, unwrap_or}
 use Rattle.std.proofs.lemmas.Option.{unwrap_or-slice_get}
-use Rattle.wl_explain.proofs.words.name_of.Goals as goal
+use Rattle.wl_setup.proofs.names.Names.name_of.Goals as goal
 
 abbrev bytes_of : Bor (List ℕ) → List ℕ
 bytes_of text = text.now
@@ -13,4 +13,4 @@ unwrapped (Some text) d = refl
 pub returns : goal.returns
 returns c =
     ap bytes_of c.unwrap_or.ensures ∙ unwrapped c.name.result _ ∙ ap (λ o. unwrap_or o []) c.name.ensures
-    ∙ unwrap_or-slice_get c.args.names.now c.args.i []
+    ∙ unwrap_or-slice_get c.args.self.now c.args.node []
