@@ -1,23 +1,25 @@
 #!/usr/bin/env bash
-# Refuses each allocation of mail_rows in turn:
-#   bench/mail.sh PROGRAM      the built mail_rows
-# Every run must end with a fault and nothing on standard output, with the rows of crates/mail_rows/stdout, or with rows of which one answer more is
+# Refuses each allocation of the letters of worker_rows in turn:
+#   bench/mail.sh PROGRAM      the built worker_rows
+# Every run must end with a fault and nothing on standard output, with the rows of crates/worker_rows/stdout, or with rows of which one answer more is
 # Memory. Where memory was refused while a group took the letter of many records, that is a line of its own, which says how many records the group
 # kept; and the letter comes again.
 set -euo pipefail
 program=$1
-rows=$(dirname "$0")/../crates/mail_rows
+rows=$(dirname "$0")/../crates/worker_rows
 scratch=$(mktemp -d)
 trap 'rm -rf "$scratch"' EXIT
+sed -n '/^letters$/,/^---$/p' "$rows/stdin" | sed '/^---$/d' > "$scratch/stdin"
+sed -n '/^letters:$/,$p' "$rows/stdout" > "$scratch/stdout"
 gcc -O2 -shared -fPIC -o "$scratch/refuse.so" "$(dirname "$0")/refuse.c" -ldl
 
 attempt() { # N: runs with the Nth allocation refused
   status=0
-  REFUSE=$1 LD_PRELOAD=$scratch/refuse.so timeout 60 "$program" < "$rows/stdin" > "$scratch/out" 2> "$scratch/err" || status=$?
+  REFUSE=$1 LD_PRELOAD=$scratch/refuse.so timeout 60 "$program" < "$scratch/stdin" > "$scratch/out" 2> "$scratch/err" || status=$?
 }
 
 attempt 0
-cmp -s "$scratch/out" "$rows/stdout" || { echo "the rows differ"; exit 1; }
+cmp -s "$scratch/out" "$scratch/stdout" || { echo "the rows differ"; exit 1; }
 calls=$(sed -n 's/^calls //p' "$scratch/err")
 [ "${calls:-0}" -gt 0 ] || { echo "the number of allocations did not come: $(head -c 200 "$scratch/err")"; exit 1; }
 fault=0 right=0 told=0 kept='' wrong=0
@@ -26,10 +28,10 @@ for n in $(seq 1 "$calls"); do
   known=$(sed -n 's/^a letter of many records: Memory, \([0-9]*\) known$/\1/p' "$scratch/out")
   if [ "$status" != 0 ] && [ ! -s "$scratch/out" ]; then
     fault=$((fault + 1))
-  elif [ "$status" = 0 ] && grep -v '^a letter of many records: Memory, ' "$scratch/out" | cmp -s - "$rows/stdout"; then
+  elif [ "$status" = 0 ] && grep -v '^a letter of many records: Memory, ' "$scratch/out" | cmp -s - "$scratch/stdout"; then
     right=$((right + 1))
     kept="$kept $known"
-  elif [ "$status" = 0 ] && [ "$(grep -o Memory "$scratch/out" | wc -l)" = 1 ] && tail -n 1 "$scratch/out" | cmp -s - <(tail -n 1 "$rows/stdout"); then
+  elif [ "$status" = 0 ] && [ "$(grep -o Memory "$scratch/out" | wc -l)" = 1 ] && tail -n 1 "$scratch/out" | cmp -s - <(tail -n 1 "$scratch/stdout"); then
     told=$((told + 1))
   else
     wrong=$((wrong + 1))

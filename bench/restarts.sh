@@ -1,19 +1,20 @@
 #!/usr/bin/env bash
-# Restarts random workers before random turns, and counts the runs that come to what one thread comes to: the plan of crates/restart_rows/stdin
-# RUNS times over each kind of link, by 2 and by 3 workers.
-# usage: bench/restarts.sh [PROGRAM]      PROGRAM is the built restart_rows; RUNS is 200 by default; status 1 where a run differs
+# Restarts random workers before random turns, and counts the runs that come to what one thread comes to: the plan of those
+# steps in crates/worker_rows/stdin RUNS times over each kind of link, by 2 and by 3 workers.
+# usage: bench/restarts.sh [PROGRAM]      PROGRAM is the built worker_rows; RUNS is 200 by default; status 1 where a run differs
 set -euo pipefail
 here=$(cd "$(dirname "$0")" && pwd)
-program=${1:-$here/../crates/restart_rows/out/restart_rows}
+program=${1:-$here/../crates/worker_rows/out/worker_rows}
 runs=${RUNS:-200}
-[ -x "$program" ] || { echo "no program at $program: 'rt run' in crates/restart_rows builds it"; exit 1; }
+[ -x "$program" ] || { echo "no program at $program: 'rt run' in crates/worker_rows builds it"; exit 1; }
 differs=0
-for link in hub mail; do
+plan=$(sed -n '/^random /,/^---$/p' "$here/../crates/worker_rows/stdin" | sed -n '/^---$/d; /^plan$/,$p')
+for mail in '' 'mail '; do
   for workers in 2 3; do
     begun=$(date +%s%N)
-    said=$({ echo "random $link $workers $((workers * 1000)) $runs"; sed -n '/^plan$/,$p' "$here/../crates/restart_rows/stdin"; } | "$program")
+    said=$({ echo "${mail}random $workers $runs $((workers * 1000))"; echo "$plan"; } | "$program")
     echo "$workers workers: $said, $((($(date +%s%N) - begun) / 1000000)) ms"
-    [ "$said" = "$link, $runs of $runs runs with restarts: as one thread" ] || differs=1
+    [[ $said = "$runs of $runs runs with restarts"*": as one thread" ]] || differs=1
   done
 done
 sed -n 's/^model name.*: //p' /proc/cpuinfo | head -1

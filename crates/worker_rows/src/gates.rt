@@ -11,6 +11,9 @@ pub struct OneRefusal {
     pub refused: Option<(u8, u64)>,
 }
 
+/// A gate that lets each turn begin.
+pub const ANY_TURN: OneRefusal = OneRefusal { refused: None };
+
 impl Gate for OneRefusal {
     fn turn(&self, worker: u8, turn: u64) -> bool {
         self.refused != Some((worker, turn))

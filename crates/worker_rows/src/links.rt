@@ -1,9 +1,10 @@
 //! Runs over links that are made here.
-ghost use Rattle.std.specs.Prelude.{◌≤◌, All, IfOk, IsTrue, length};
+ghost use Rattle.std.specs.Prelude.{◌≤◌, All, IfOk, IfSome, IsTrue, length};
 ghost use Rattle.wl_plan.specs.Checked.{IsChecked};
 ghost use Rattle.wl_plan.specs.PlanLine.{IsTrueOfPlan};
 
 use crate::gates::TurnCounts;
+use crate::handed::{horizon_of, tell_handed};
 use crate::watched::{Counts, watch_all};
 use anyhow::{Result, bail};
 use std::alloc::{AllocError, Global};
@@ -83,7 +84,7 @@ fn is_true(alloc: Global, plan: &Plan, entry: Record) -> Result<bool, AllocError
 
 /// Of two links of this kind one gives the silence of a node after so many changes up to tick `until`, and the other one brings what there
 /// is to a group of node 1, twice. Says what came, and up to when the group knows the node then.
-pub fn tell_links<R: Wait>(
+pub fn tell_silence<R: Wait>(
     rt: &R,
     alloc: Global,
     plan: &Plan,
@@ -94,8 +95,26 @@ pub fn tell_links<R: Wait>(
 {
     let (node, count, until) = silence;
     let entry = Record::Silence { node, count, until };
-    if plan.nodes.len() < 2 || !is_true(alloc, plan, entry)? {
-        bail!("a record that is not true, or one node alone");
+    if !is_true(alloc, plan, entry)? {
+        bail!("a record that is not true");
+    }
+    tell_links(rt, alloc, plan, kind, Some(entry))
+}
+
+/// Of two links of this kind one gives a record, or what node 0 alone emits where none is named, and the other one brings what there is to a
+/// group of node 1. Says what came.
+pub fn tell_links<R: Wait>(
+    rt: &R,
+    alloc: Global,
+    plan: &Plan,
+    kind: LinkKind,
+    given: Option<Record>,
+) -> Result<String>
+    requires checked { IsChecked plan.now }
+    requires truth { IfSome given (λ entry. IsTrueOfPlan plan.now entry) }
+{
+    if plan.nodes.len() < 2 {
+        bail!("one node alone");
     }
     let bell = Bell::new(alloc, 2)?;
     match kind {
@@ -109,7 +128,7 @@ pub fn tell_links<R: Wait>(
             let own = hub.split(&mut pass);
             let giving = HubLink::new(rt, alloc, &hub, own, &bell, 0)?;
             let bringing = HubLink::new(rt, alloc, &hub, pass, &bell, 1)?;
-            tell_two(alloc, plan, giving, bringing, entry)
+            tell_two(alloc, plan, giving, bringing, given)
         }
         LinkKind::Mail => {
             let (mut posts, _hold) = posts(alloc, 2)?;
@@ -118,13 +137,33 @@ pub fn tell_links<R: Wait>(
             };
             let giving = MailLink::new(rt, alloc, first, plan, &bell, 0)?;
             let bringing = MailLink::new(rt, alloc, second, plan, &bell, 1)?;
-            tell_two(alloc, plan, giving, bringing, entry)
+            tell_two(alloc, plan, giving, bringing, given)
         }
     }
 }
 
-/// One link gives a record, and another one brings what there is to a group of node 1, twice.
+/// What `tell_links` says, by these two links.
 fn tell_two<L: Link + Drop>(
+    alloc: Global,
+    plan: &Plan,
+    giving: L,
+    bringing: L,
+    given: Option<Record>,
+) -> Result<String>
+    requires checked { IsChecked plan.now }
+    requires nodes { 2 ≤ length plan.now.nodes }
+    requires giving { L.is_of giving plan.now }
+    requires bringing { L.is_of bringing plan.now }
+    requires truth { IfSome given (λ entry. IsTrueOfPlan plan.now entry) }
+{
+    match given {
+        Some(entry) => tell_one(alloc, plan, giving, bringing, entry),
+        None => tell_handed(alloc, plan, giving, bringing),
+    }
+}
+
+/// One link gives a record, and another one brings what there is to a group of node 1, twice.
+fn tell_one<L: Link + Drop>(
     alloc: Global,
     plan: &Plan,
     giving: L,
@@ -143,11 +182,6 @@ fn tell_two<L: Link + Drop>(
     giving.give(alloc, &[entry])?;
     let came = bringing.fetch(alloc, &mut group)?;
     let again = bringing.fetch(alloc, &mut group)?;
-    let node = entry.node();
-    let mut said = String::new(alloc);
-    if node < group.replica().nodes() {
-        let horizon = group.replica().horizon(node);
-        write!(said, "came {came}, then {again}, horizon {horizon}")?;
-    }
-    Ok(said)
+    let horizon = horizon_of(&group, entry.node());
+    Ok(format!(in alloc; "came {came}, then {again}, horizon {horizon}")?)
 }

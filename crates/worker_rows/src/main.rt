@@ -6,6 +6,9 @@
 //! - `workers N`: one run by N workers.
 //! - `stop W T N`: one run by N workers, of which a gate refuses worker W its turn T; turns count from 0.
 //! - `again N K`: K runs by N workers, one after another; how many came to what one thread comes to.
+//! - `restart W T U N`: one run by N workers, of which worker W restarts before its turns T and U; whether both restarts were asked.
+//! - `random N K S`: K runs by N workers, random ones of which restart before random turns; the number S seeds what is random. A run counts
+//!   where at least one restart was asked.
 //! - `turns N K`: one run by N workers; whether each of them had at least K turns.
 //! - `overlap N P`: one run by N workers, of which workers 0 and 1 are each held in their first turn until the other one is in its first
 //!   turn too, for at most P polls; then the turn is refused.
@@ -14,15 +17,27 @@
 //!   were, the fetches that brought something, and the waits.
 //! - `links I C U`: of two links one gives the silence of node I after C changes up to tick U, where that is true of the plan; what the
 //!   other one brings to a group of node 1, twice, and how far that group knows node I then.
+//! - `handed`: node 0 alone gives what it emits by one link; what another one brings to a group of node 1, twice, and once more after a
+//!   restart and a rewind.
 //! - `silent N T`: one run by N workers over links that bring nothing, with a gate that refuses each worker its turn T.
 //! - `alone T`: the same of one worker, with node 0 alone.
+//! - `gone W`: ten runs by 2 workers, over links that bring nothing; the nth time that worker W gives or fetches its link answers `Gone`, for n
+//!   from 1 to 10.
+//! - `letters`: what the posts of three workers answer about the nodes of the plan, on several lines: to a letter of one silence, to the same once
+//!   more and to one of no records; where ends are given up; and to a letter of all that node 0 emits, which has to run to the plan's end without a
+//!   word of the others.
+//! - `foreign`: a letter of the plan with its end one tick later, to a group of the plan.
 //!
 //! Links are over a hub; after the word `mail` before a step they are by letters. A run comes to what one thread comes to where its report is
 //! the one-thread simulation's, byte for byte.
 #![tactic(auto)]
 
+mod failing;
 mod gates;
+mod handed;
+mod letters;
 mod links;
+mod restarts;
 mod runs;
 mod silent;
 mod steps;

@@ -1,8 +1,12 @@
 //! Runs of a plan by workers, and what is answered to them.
 ghost use Rattle.wl_plan.specs.Checked.{IsChecked};
 
-use crate::gates::{LastTurn, OneRefusal, Overlap, TurnCounts};
-use crate::links::{run_over, tell_links};
+use crate::failing::runs_gone;
+use crate::gates::{ANY_TURN, LastTurn, OneRefusal, Overlap, TurnCounts};
+use crate::handed::tell_foreign;
+use crate::letters::tell_posts;
+use crate::links::{run_over, tell_links, tell_silence};
+use crate::restarts::{Restarts, When};
 use crate::silent::{Silent, silent_links};
 use crate::steps::{Kind, Step, by};
 use crate::watched::Counts;
@@ -16,10 +20,7 @@ use wl_group::Group;
 use wl_plan::Plan;
 use wl_report::report;
 use wl_serial::Outcome;
-use wl_worker::{Fault, Gate, LinkKind, simulate_by, simulate_over, work};
-
-/// A gate that lets each turn begin.
-const ANY_TURN: OneRefusal = OneRefusal { refused: None };
+use wl_worker::{Fault, Gate, LinkKind, simulate, simulate_by, simulate_over, work};
 
 /// What a run came to.
 #[derive(Clone, Copy, PartialEq, Eq)]
@@ -28,7 +29,7 @@ enum End {
     AsOneThread,
     /// Another outcome.
     Differs,
-    /// A worker had fewer turns than were wanted.
+    /// A worker had fewer turns, or restarts, than were wanted.
     FewTurns,
     /// A fault.
     Fault(Fault),
@@ -70,7 +71,10 @@ fn run_by<R: Threads + Wait + Sync, G: Gate + Sync>(
 ) -> Result<End, AllocError>
     requires { IsChecked plan.now }
 {
-    let ran = simulate_by(rt, alloc, plan.clone_in(alloc)?, workers, link, gate);
+    let ran = match link {
+        LinkKind::Hub => simulate(rt, alloc, plan.clone_in(alloc)?, workers, gate),
+        LinkKind::Mail => simulate_by(rt, alloc, plan.clone_in(alloc)?, workers, link, gate),
+    };
     end_of(alloc, alone, ran)
 }
 
@@ -93,6 +97,15 @@ fn run<R: Threads + Wait + Sync>(
                 refused: Some((worker, turn)),
             };
             run_by(rt, alloc, plan, alone, workers, link, &gate)?
+        }
+        Kind::Restart(worker, first, second) => {
+            let gate = Restarts::new(When::Twice(worker, first, second));
+            let end = run_by(rt, alloc, plan, alone, workers, link, &gate)?;
+            if gate.asked() == 2 {
+                end
+            } else {
+                End::FewTurns
+            }
         }
         Kind::Turns(least) => {
             let gate = TurnCounts::new(alloc)?;
@@ -138,16 +151,32 @@ pub fn answer<R: Threads + Wait + Sync>(
             let named = by(link);
             Ok(format!(in alloc; "{same} of {runs} runs{named}: as one thread")?)
         }
+        Step::Random(workers, link, runs, seed) => {
+            let same = restarts_as_one(rt, alloc, plan, alone, workers, link, (runs, seed))?;
+            let named = by(link);
+            Ok(format!(in alloc; "{same} of {runs} runs with restarts{named}: as one thread")?)
+        }
         Step::Count(workers, link) => counts(rt, alloc, plan, alone, workers, link),
         Step::Links(link, node, count, until) => {
-            let said = tell_links(rt, alloc, plan, link, (node, count, until))?;
+            let said = tell_silence(rt, alloc, plan, link, (node, count, until))?;
             let named = by(link);
             Ok(format!(in alloc; "links{named}: {said}")?)
+        }
+        Step::Handed(link) => {
+            let said = tell_links(rt, alloc, plan, link, None)?;
+            let named = by(link);
+            Ok(format!(in alloc; "handed{named}: {said}")?)
         }
         Step::Alone(turn) => {
             let fault = work_alone(rt, alloc, plan, turn)?;
             Ok(format!(in alloc; "node 0 alone over a silent link: {fault}")?)
         }
+        Step::Gone(worker) => {
+            let stopped = runs_gone(rt, alloc, plan, worker)?;
+            Ok(format!(in alloc; "{stopped} of 10 runs: fault: Worker({worker})")?)
+        }
+        Step::Letters => tell_posts(rt, alloc, plan),
+        Step::Foreign => tell_foreign(rt, alloc, plan),
     }
 }
 
@@ -167,6 +196,31 @@ fn runs_as_one<R: Threads + Wait + Sync>(
     for _ in 0..runs {
         let end = run_by(rt, alloc, plan, alone, workers, link, &ANY_TURN)?;
         if end == End::AsOneThread {
+            same = same.saturating_add(1);
+        }
+    }
+    Ok(same)
+}
+
+/// How many of so many runs, one after another, had a restart and come to what one thread comes to. `restarts` is how many, and the
+/// number that seeds what is random.
+fn restarts_as_one<R: Threads + Wait + Sync>(
+    rt: &R,
+    alloc: Global,
+    plan: &Plan,
+    alone: &[u8],
+    workers: u8,
+    link: LinkKind,
+    restarts: (u32, u64),
+) -> Result<u32, AllocError>
+    requires { IsChecked plan.now }
+{
+    let (runs, seed) = restarts;
+    let mut same = 0u32;
+    for number in 0..runs {
+        let gate = Restarts::new(When::Random(seed.wrapping_add(u64::from(number))));
+        let end = run_by(rt, alloc, plan, alone, workers, link, &gate)?;
+        if end == End::AsOneThread && gate.asked() > 0 {
             same = same.saturating_add(1);
         }
     }

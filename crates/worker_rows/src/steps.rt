@@ -13,12 +13,22 @@ pub enum Step {
     Run(u8, LinkKind, Kind),
     /// `.2` runs by `.0` workers.
     Again(u8, LinkKind, u32),
+    /// `.2` runs by `.0` workers, of which restarts are seeded by `.3`.
+    Random(u8, LinkKind, u32, u64),
     /// One run by so many workers, and what they did.
     Count(u8, LinkKind),
     /// What of a silence, by its node, count and end, comes by a link.
     Links(LinkKind, u8, u32, u64),
+    /// What a link brings again.
+    Handed(LinkKind),
     /// One worker alone, which is refused this turn.
     Alone(u64),
+    /// Ten runs, of which the link of this worker fails.
+    Gone(u8),
+    /// What posts answer.
+    Letters,
+    /// A letter of another plan.
+    Foreign,
 }
 
 /// How workers run.
@@ -28,6 +38,8 @@ pub enum Kind {
     Free,
     /// Worker `.0` is refused turn `.1`.
     Stop(u8, u64),
+    /// Worker `.0` restarts before turns `.1` and `.2`.
+    Restart(u8, u64, u64),
     /// Each has at least so many turns.
     Turns(u64),
     /// The first turns are held for each other, for so many polls.
@@ -43,6 +55,7 @@ impl Display for Kind {
         match self {
             Kind::Free => Ok(()),
             Kind::Stop(..) => f.write_str(", a turn refused"),
+            Kind::Restart(worker, ..) => write!(f, ", worker {worker} restarted twice"),
             Kind::Turns(least) => write!(f, ", each with {least} turns"),
             Kind::Overlap(_) => f.write_str(", first turns at once"),
             Kind::Over => f.write_str(" over watched links"),
@@ -78,30 +91,61 @@ pub fn read(alloc: Global, block: &str) -> Result<(Vec<Step>, &str)> {
     Ok((steps, text))
 }
 
-/// The step of a line, over this kind of link: a word and up to three numbers.
+/// The step of a line, over this kind of link: a word and up to four numbers.
 fn step_of(line: &str, kind: LinkKind) -> Option<Step> {
     let mut words = line.split_whitespace();
     let verb = words.next()?;
-    let first: u64 = words.next()?.parse().ok()?;
+    let first = number(words.next())?;
     let second = number(words.next())?;
     let third = number(words.next())?;
-    let many = u8::try_from(first).unwrap_or(u8::MAX);
-    match (verb, second, third) {
-        ("workers", None, None) => Some(Step::Run(many, kind, Kind::Free)),
-        ("stop", Some(turn), Some(workers)) => {
+    let fourth = number(words.next())?;
+    match (first, second, third, fourth) {
+        (Some(turn), None, None, None) if verb == "alone" => Some(Step::Alone(turn)),
+        (Some(many), second, third, fourth) => {
+            let many = u8::try_from(many).unwrap_or(u8::MAX);
+            step_of_many(verb, kind, many, (second, third, fourth))
+        }
+        _ => match verb {
+            "handed" => Some(Step::Handed(kind)),
+            "letters" => Some(Step::Letters),
+            "foreign" => Some(Step::Foreign),
+            _ => None,
+        },
+    }
+}
+
+/// The step of a word that a number of workers, a worker or a node follows, and then up to three numbers.
+fn step_of_many(
+    verb: &str,
+    kind: LinkKind,
+    many: u8,
+    then: (Option<u64>, Option<u64>, Option<u64>),
+) -> Option<Step> {
+    match (verb, then) {
+        ("workers", (None, ..)) => Some(Step::Run(many, kind, Kind::Free)),
+        ("stop", (Some(turn), Some(workers), None)) => {
             let workers = u8::try_from(workers).ok()?;
             Some(Step::Run(workers, kind, Kind::Stop(many, turn)))
         }
-        ("turns", Some(least), None) => Some(Step::Run(many, kind, Kind::Turns(least))),
-        ("overlap", Some(polls), None) => Some(Step::Run(many, kind, Kind::Overlap(polls))),
-        ("over", None, None) => Some(Step::Run(many, kind, Kind::Over)),
-        ("silent", Some(turn), None) => Some(Step::Run(many, kind, Kind::Silent(turn))),
-        ("again", Some(runs), None) => Some(Step::Again(many, kind, u32::try_from(runs).ok()?)),
-        ("count", None, None) => Some(Step::Count(many, kind)),
-        ("links", Some(count), Some(until)) => {
+        ("restart", (Some(first), Some(second), Some(workers))) => {
+            let workers = u8::try_from(workers).ok()?;
+            Some(Step::Run(workers, kind, Kind::Restart(many, first, second)))
+        }
+        ("turns", (Some(least), None, _)) => Some(Step::Run(many, kind, Kind::Turns(least))),
+        ("overlap", (Some(polls), None, _)) => Some(Step::Run(many, kind, Kind::Overlap(polls))),
+        ("over", (None, ..)) => Some(Step::Run(many, kind, Kind::Over)),
+        ("silent", (Some(turn), None, _)) => Some(Step::Run(many, kind, Kind::Silent(turn))),
+        ("again", (Some(runs), None, _)) => {
+            Some(Step::Again(many, kind, u32::try_from(runs).ok()?))
+        }
+        ("random", (Some(runs), Some(seed), None)) => {
+            Some(Step::Random(many, kind, u32::try_from(runs).ok()?, seed))
+        }
+        ("count", (None, ..)) => Some(Step::Count(many, kind)),
+        ("links", (Some(count), Some(until), None)) => {
             Some(Step::Links(kind, many, u32::try_from(count).ok()?, until))
         }
-        ("alone", None, None) => Some(Step::Alone(first)),
+        ("gone", (None, ..)) => Some(Step::Gone(many)),
         _ => None,
     }
 }

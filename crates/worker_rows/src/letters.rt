@@ -1,22 +1,23 @@
 //! What posts answer.
-ghost use Rattle.std.specs.Prelude.{◌≡◌, ◌≤◌, length};
+ghost use Rattle.std.specs.Prelude.{◌≤◌, length};
 ghost use Rattle.wl_plan.specs.Checked.{IsChecked};
 
-use crate::answers::{came, sent};
+use crate::handed::{post_emitted, run_on};
 use anyhow::{Result, bail};
-use std::alloc::{AllocError, Global};
-use std::fmt::Write;
+use std::alloc::Global;
 use std::sync::Wait;
-use wl_group::{Group, first_silence, value_laws};
+use wl_group::{Group, first_silence};
 use wl_mail::{Hold, MailFault, Post, posts};
 use wl_plan::Plan;
 
-/// Lets posts exchange letters of a plan, and tells what they answer.
-pub fn of_plan<R: Wait>(rt: &R, alloc: Global, plan: &Plan) -> Result<String>
-    requires checked { IsChecked plan.now }
-    requires nodes { 2 ≤ length plan.now.nodes }
+/// Lets posts exchange letters of a plan, and tells what they answer, line by line.
+pub fn tell_posts<R: Wait>(rt: &R, alloc: Global, plan: &Plan) -> Result<String>
+    requires { IsChecked plan.now }
 {
-    let mut told = String::new(alloc);
+    if plan.nodes.len() < 2 {
+        bail!("one node alone");
+    }
+    let mut told = format!(in alloc; "letters:")?;
     tell_letters(rt, alloc, plan, &mut told)?;
     tell_gone(rt, alloc, plan, &mut told)?;
     tell_many(rt, alloc, plan, &mut told)?;
@@ -98,7 +99,7 @@ fn tell_three<R: Wait>(
     let first = came(post.receive(rt, alloc, group));
     let second = came(post.receive(rt, alloc, group));
     let third = came(post.receive(rt, alloc, group));
-    writeln!(told, "three letters: {first}, {second}, {third}")?;
+    write!(told, "\nthree letters: {first}, {second}, {third}")?;
     Ok(())
 }
 
@@ -115,7 +116,7 @@ fn tell_gone<R: Wait>(rt: &R, alloc: Global, plan: &Plan, told: &mut String) -> 
     } = open(alloc)?;
     drop(second);
     let unsent = send_unheld(rt, alloc, plan, first, hold)?;
-    writeln!(told, "a reader given up: {unsent}")?;
+    write!(told, "\na reader given up: {unsent}")?;
     tell_last(rt, alloc, plan, third, told)
 }
 
@@ -150,7 +151,7 @@ fn tell_last<R: Wait>(
     let mut none = Group::new(alloc, plan, &[])?;
     for _ in 0..3 {
         let last = came(post.receive(rt, alloc, &mut none));
-        writeln!(told, "the writers given up: {last}")?;
+        write!(told, "\nthe writers given up: {last}")?;
     }
     Ok(())
 }
@@ -177,29 +178,7 @@ fn send_all<R: Wait>(rt: &R, alloc: Global, plan: &Plan, post: &mut Post) -> Res
 {
     let mut group = Group::new(alloc, plan, &[0])?;
     run_on(alloc, &mut group)?;
-    send_emitted(rt, alloc, &group, post)
-}
-
-/// Advances a group as far as it can.
-fn run_on(alloc: Global, group: &mut Group) -> Result<(), AllocError>
-    ensures { group.new.plan ≡ group.old.plan }
-{
-    value_laws();
-    // (reading a part gives the proof what the type keeps)
-    let _ = group.plan();
-    group.advance_all(alloc)?;
-    Ok(())
-}
-
-/// Sends all that a group emitted.
-#[tactic(auto, using(crate::proofs::Truth::emitted_true))]
-fn send_emitted<R: Wait>(
-    rt: &R,
-    alloc: Global,
-    group: &Group,
-    post: &mut Post,
-) -> Result<(), MailFault> {
-    post.send(rt, alloc, group.plan(), group.emitted())
+    post_emitted(rt, alloc, &group, post)
 }
 
 /// Hands a group the next letter of a post, and tells what came and how many records the group knows then. Answers whether memory was
@@ -214,6 +193,32 @@ fn tell_coming<R: Wait>(
     let answer = post.receive(rt, alloc, group);
     let called = came(answer);
     let known = group.replica().canonical(alloc)?.len();
-    writeln!(told, "a letter of many records: {called}, {known} known")?;
+    write!(told, "\na letter of many records: {called}, {known} known")?;
     Ok(answer == Err(MailFault::Memory))
+}
+
+/// What it is called that a letter was sent, or was not.
+fn sent(answer: Result<(), MailFault>) -> &'static str {
+    match answer {
+        Ok(()) => "sent",
+        Err(fault) => named(fault),
+    }
+}
+
+/// What it is called that a letter was taken, or was not.
+fn came(answer: Result<bool, MailFault>) -> &'static str {
+    match answer {
+        Ok(true) => "news",
+        Ok(false) => "nothing new",
+        Err(fault) => named(fault),
+    }
+}
+
+/// The name of a fault.
+fn named(fault: MailFault) -> &'static str {
+    match fault {
+        MailFault::Foreign => "Foreign",
+        MailFault::Gone => "Gone",
+        MailFault::Memory => "Memory",
+    }
 }

@@ -3,51 +3,21 @@ ghost use Rattle.std.specs.Prelude.{◌≡◌, ◌≤◌, IfOk, length};
 ghost use Rattle.wl_plan.specs.declared.plan.Plan.{Plan as GivenPlan};
 ghost use Rattle.wl_plan.specs.Checked.{IsChecked};
 
-use crate::steps::Kind;
 use anyhow::{Result, bail};
 use std::alloc::{AllocError, Global};
 use std::sync::Wait;
 use wl_group::{Group, value_laws};
-use wl_hub::Hub;
 use wl_mail::{MailFault, Post, posts};
 use wl_plan::Plan;
-use wl_worker::{Bell, HubLink, Link, LinkFault, MailLink, PlanName, shape_of_plan};
+use wl_worker::{Link, LinkFault};
 
-/// Node 0 alone gives what it emits by a link of this kind; what another link brings to a group of node 1, before and after a restart.
-pub fn tell_links<R: Wait>(rt: &R, alloc: Global, plan: &Plan, kind: Kind) -> Result<String>
-    requires { IsChecked plan.now }
-{
-    if plan.nodes.len() < 2 {
-        bail!("one node alone");
-    }
-    let bell = Bell::new(alloc, 2)?;
-    match kind {
-        Kind::Hub => {
-            let shape = shape_of_plan(alloc, plan)?;
-            let name = PlanName {
-                plan: plan.clone_in(alloc)?,
-            };
-            let (hub, pass) = Hub::start(alloc, shape.as_slice(), &name)?;
-            let mut pass = pass;
-            let own = hub.split(&mut pass);
-            let giving = HubLink::new(rt, alloc, &hub, own, &bell, 0)?;
-            let bringing = HubLink::new(rt, alloc, &hub, pass, &bell, 1)?;
-            tell_two(alloc, plan, giving, bringing)
-        }
-        Kind::Mail => {
-            let (mut posts, _hold) = posts(alloc, 2)?;
-            let (Some(second), Some(first)) = (posts.pop(), posts.pop()) else {
-                bail!("not two posts");
-            };
-            let giving = MailLink::new(rt, alloc, first, plan, &bell, 0)?;
-            let bringing = MailLink::new(rt, alloc, second, plan, &bell, 1)?;
-            tell_two(alloc, plan, giving, bringing)
-        }
-    }
-}
-
-/// One link gives what node 0 emits, and another one brings what there is to a group of node 1, twice, and once more after a restart.
-fn tell_two<L: Link + Drop>(alloc: Global, plan: &Plan, giving: L, bringing: L) -> Result<String>
+/// One link gives what node 0 alone emits, and another one brings what there is to a group of node 1, twice, and once more after a restart.
+pub fn tell_handed<L: Link + Drop>(
+    alloc: Global,
+    plan: &Plan,
+    giving: L,
+    bringing: L,
+) -> Result<String>
     requires checked { IsChecked plan.now }
     requires nodes { 2 ≤ length plan.now.nodes }
     requires giving { L.is_of giving plan.now }
@@ -103,7 +73,7 @@ fn restart(group: &mut Group) -> Result<(), AllocError>
 }
 
 /// Advances a group as far as it can.
-fn run_on(alloc: Global, group: &mut Group) -> Result<(), AllocError>
+pub fn run_on(alloc: Global, group: &mut Group) -> Result<(), AllocError>
     ensures { group.new.plan ≡ group.old.plan }
 {
     value_laws();
@@ -114,7 +84,7 @@ fn run_on(alloc: Global, group: &mut Group) -> Result<(), AllocError>
 }
 
 /// Up to when a group knows a node; 0 for a number that is no node.
-fn horizon_of(group: &Group, node: u8) -> u64 {
+pub fn horizon_of(group: &Group, node: u8) -> u64 {
     if node < group.replica().nodes() {
         group.replica().horizon(node)
     } else {
@@ -161,7 +131,7 @@ fn send_first<R: Wait>(rt: &R, alloc: Global, plan: &Plan, post: &mut Post) -> R
 
 /// Sends by a post what a group emitted.
 #[tactic(auto, using(crate::proofs::Handing::emitted_true))]
-fn post_emitted<R: Wait>(
+pub fn post_emitted<R: Wait>(
     rt: &R,
     alloc: Global,
     group: &Group,

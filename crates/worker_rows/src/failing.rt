@@ -1,0 +1,112 @@
+//! Links by which nothing comes, and which fail.
+ghost use Rattle.wl_plan.specs.Checked.{IsChecked};
+
+use crate::gates::ANY_TURN;
+use std::alloc::{AllocError, Global};
+use std::sync::Wait;
+use std::sync::atomic::{AtomicU64, Ordering};
+use std::thread::Threads;
+use wl_group::Group;
+use wl_plan::Plan;
+use wl_record_core::Record;
+use wl_worker::{Fault, Link, LinkFault, nothing_is_taken, simulate_over};
+
+/// The first worker that stopped; none so far.
+const NONE_STOPPED: u64 = u64::MAX;
+
+/// A link that keeps what is given to itself and brings nothing. At its nth call of `give` or `fetch` it is given up.
+#[derive(Drop)]
+struct Failing<'s> {
+    worker: u8,
+    /// n, from 1; 0 where it never fails.
+    nth: u64,
+    /// How many calls there were.
+    calls: u64,
+    /// The number of a worker that stopped, which all links of a run share.
+    stopped: &'s AtomicU64,
+}
+
+impl<'s> Failing<'s> {
+    /// One call more.
+    fn call(&mut self) -> Result<(), LinkFault> {
+        self.calls = self.calls.saturating_add(1);
+        if self.calls == self.nth {
+            return Err(LinkFault::Gone);
+        }
+        Ok(())
+    }
+}
+
+impl<'s> Link for Failing<'s> {
+    ghost use Rattle.std.specs.Prelude.{⊤};
+
+    ghost is_of = { λ link plan. ⊤ };
+
+    fn worker(&self) -> u8 {
+        self.worker
+    }
+
+    fn give(&mut self, _alloc: Global, _records: &[Record]) -> Result<(), LinkFault> {
+        self.call()
+    }
+
+    fn fetch(&mut self, _alloc: Global, _group: &mut Group) -> Result<bool, LinkFault> {
+        nothing_is_taken();
+        self.call()?;
+        Ok(false)
+    }
+
+    fn rewind(&mut self) {}
+
+    fn wait(&mut self) -> Option<u8> {
+        u8::try_from(self.stopped.load(Ordering::SeqCst)).ok()
+    }
+
+    fn stop(&mut self) {
+        self.stopped.store(u64::from(self.worker), Ordering::SeqCst);
+    }
+}
+
+/// In how many of ten runs by 2 workers, of which this one's link is given up at its nth call, that worker is answered.
+pub fn runs_gone<R: Threads + Wait + Sync>(
+    rt: &R,
+    alloc: Global,
+    plan: &Plan,
+    failing: u8,
+) -> Result<u64, AllocError>
+    requires { IsChecked plan.now }
+{
+    let mut answered = 0u64;
+    for before in 0..10u64 {
+        if run_gone(rt, alloc, plan, failing, before + 1)? {
+            answered = answered.saturating_add(1);
+        }
+    }
+    Ok(answered)
+}
+
+/// One run by 2 workers, of which this one's link is given up at its nth call. Whether that worker is answered.
+fn run_gone<R: Threads + Wait + Sync>(
+    rt: &R,
+    alloc: Global,
+    plan: &Plan,
+    failing: u8,
+    nth: u64,
+) -> Result<bool, AllocError>
+    requires { IsChecked plan.now }
+{
+    let stopped = AtomicU64::new(NONE_STOPPED);
+    let mut links = Vec::new(alloc);
+    for worker in 0..2u8 {
+        links.push(Failing {
+            worker,
+            nth: if worker == failing { nth } else { 0 },
+            calls: 0,
+            stopped: &stopped,
+        })?;
+    }
+    match simulate_over(rt, alloc, plan.clone_in(alloc)?, links, &ANY_TURN) {
+        Ok(_) => Ok(false),
+        Err(fault) => Ok(fault == Fault::Worker(failing)),
+    }
+}
