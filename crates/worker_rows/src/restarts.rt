@@ -12,6 +12,8 @@ const FIRST_TURNS: u64 = 4;
 /// Before which turns of which workers restarts are asked.
 #[derive(Clone, Copy)]
 pub enum When {
+    /// Before none.
+    Never,
     /// Worker `.0`, before turns `.1` and `.2`.
     Twice(u8, u64, u64),
     /// Random workers before random turns, by a seed.
@@ -47,6 +49,7 @@ impl Gate for Restarts {
 
     fn restart(&self, worker: u8, turn: u64) -> bool {
         let wanted = match self.when {
+            When::Never => false,
             When::Twice(one, first, second) => worker == one && (turn == first || turn == second),
             When::Random(seed) => is_chosen(seed, worker, turn),
         };

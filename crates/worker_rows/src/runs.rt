@@ -99,13 +99,8 @@ fn run<R: Threads + Wait + Sync>(
             run_by(rt, alloc, plan, alone, workers, link, &gate)?
         }
         Kind::Restart(worker, first, second) => {
-            let gate = Restarts::new(When::Twice(worker, first, second));
-            let end = run_by(rt, alloc, plan, alone, workers, link, &gate)?;
-            if gate.asked() == 2 {
-                end
-            } else {
-                End::FewTurns
-            }
+            let turns = (worker, first, second);
+            run_restarted(rt, alloc, plan, alone, workers, link, turns)?
         }
         Kind::Turns(least) => {
             let gate = TurnCounts::new(alloc)?;
@@ -130,6 +125,27 @@ fn run<R: Threads + Wait + Sync>(
     })
 }
 
+/// One run by so many workers, of which one restarts before two turns.
+fn run_restarted<R: Threads + Wait + Sync>(
+    rt: &R,
+    alloc: Global,
+    plan: &Plan,
+    alone: &[u8],
+    workers: u8,
+    link: LinkKind,
+    turns: (u8, u64, u64),
+) -> Result<End, AllocError>
+    requires { IsChecked plan.now }
+{
+    let (worker, first, second) = turns;
+    let gate = Restarts::new(When::Twice(worker, first, second));
+    let end = run_by(rt, alloc, plan, alone, workers, link, &gate)?;
+    if gate.asked() == 2 {
+        return Ok(end);
+    }
+    Ok(End::FewTurns)
+}
+
 /// What is answered to a step, where `alone` is the report of the one-thread simulation.
 pub fn answer<R: Threads + Wait + Sync>(
     rt: &R,
@@ -146,15 +162,10 @@ pub fn answer<R: Threads + Wait + Sync>(
             let named = by(link);
             Ok(format!(in alloc; "{workers} workers{named}{kind}: {end}")?)
         }
-        Step::Again(workers, link, runs) => {
-            let same = runs_as_one(rt, alloc, plan, alone, workers, link, runs)?;
-            let named = by(link);
-            Ok(format!(in alloc; "{same} of {runs} runs{named}: as one thread")?)
-        }
-        Step::Random(workers, link, runs, seed) => {
-            let same = restarts_as_one(rt, alloc, plan, alone, workers, link, (runs, seed))?;
-            let named = by(link);
-            Ok(format!(in alloc; "{same} of {runs} runs with restarts{named}: as one thread")?)
+        Step::Again(workers, link, runs, seed) => {
+            let same = runs_as_one(rt, alloc, plan, alone, workers, link, (runs, seed))?;
+            let (named, restarts) = (by(link), if seed.is_some() { " with restarts" } else { "" });
+            Ok(format!(in alloc; "{same} of {runs} runs{restarts}{named}: as one thread")?)
         }
         Step::Count(workers, link) => counts(rt, alloc, plan, alone, workers, link),
         Step::Links(link, node, count, until) => {
@@ -180,7 +191,7 @@ pub fn answer<R: Threads + Wait + Sync>(
     }
 }
 
-/// How many of so many runs, one after another, come to what one thread comes to.
+/// How many of so many runs, one after another, come to what one thread comes to. With a seed each has to have restarts too.
 fn runs_as_one<R: Threads + Wait + Sync>(
     rt: &R,
     alloc: Global,
@@ -188,39 +199,19 @@ fn runs_as_one<R: Threads + Wait + Sync>(
     alone: &[u8],
     workers: u8,
     link: LinkKind,
-    runs: u32,
+    asked: (u32, Option<u64>),
 ) -> Result<u32, AllocError>
     requires { IsChecked plan.now }
 {
-    let mut same = 0u32;
-    for _ in 0..runs {
-        let end = run_by(rt, alloc, plan, alone, workers, link, &ANY_TURN)?;
-        if end == End::AsOneThread {
-            same = same.saturating_add(1);
-        }
-    }
-    Ok(same)
-}
-
-/// How many of so many runs, one after another, had a restart and come to what one thread comes to. `restarts` is how many, and the
-/// number that seeds what is random.
-fn restarts_as_one<R: Threads + Wait + Sync>(
-    rt: &R,
-    alloc: Global,
-    plan: &Plan,
-    alone: &[u8],
-    workers: u8,
-    link: LinkKind,
-    restarts: (u32, u64),
-) -> Result<u32, AllocError>
-    requires { IsChecked plan.now }
-{
-    let (runs, seed) = restarts;
+    let (runs, seed) = asked;
     let mut same = 0u32;
     for number in 0..runs {
-        let gate = Restarts::new(When::Random(seed.wrapping_add(u64::from(number))));
+        let gate = Restarts::new(match seed {
+            Some(seed) => When::Random(seed.wrapping_add(u64::from(number))),
+            None => When::Never,
+        });
         let end = run_by(rt, alloc, plan, alone, workers, link, &gate)?;
-        if end == End::AsOneThread && gate.asked() > 0 {
+        if end == End::AsOneThread && (seed.is_none() || gate.asked() > 0) {
             same = same.saturating_add(1);
         }
     }

@@ -11,10 +11,8 @@ use wl_worker::LinkKind;
 pub enum Step {
     /// One run by so many workers, over this kind of link.
     Run(u8, LinkKind, Kind),
-    /// `.2` runs by `.0` workers.
-    Again(u8, LinkKind, u32),
-    /// `.2` runs by `.0` workers, of which restarts are seeded by `.3`.
-    Random(u8, LinkKind, u32, u64),
+    /// `.2` runs by `.0` workers, random ones of which restart where `.3` is a seed.
+    Again(u8, LinkKind, u32, Option<u64>),
     /// One run by so many workers, and what they did.
     Count(u8, LinkKind),
     /// What of a silence, by its node, count and end, comes by a link.
@@ -136,10 +134,10 @@ fn step_of_many(
         ("over", (None, ..)) => Some(Step::Run(many, kind, Kind::Over)),
         ("silent", (Some(turn), None, _)) => Some(Step::Run(many, kind, Kind::Silent(turn))),
         ("again", (Some(runs), None, _)) => {
-            Some(Step::Again(many, kind, u32::try_from(runs).ok()?))
+            Some(Step::Again(many, kind, u32::try_from(runs).ok()?, None))
         }
         ("random", (Some(runs), Some(seed), None)) => {
-            Some(Step::Random(many, kind, u32::try_from(runs).ok()?, seed))
+            Some(Step::Again(many, kind, u32::try_from(runs).ok()?, Some(seed)))
         }
         ("count", (None, ..)) => Some(Step::Count(many, kind)),
         ("links", (Some(count), Some(until), None)) => {
