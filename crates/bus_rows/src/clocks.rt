@@ -89,30 +89,33 @@ fn tell_of(
         Err(fault) => return Ok(write!(out, "{fault}")?),
     };
     match *asked {
-        [] => write!(out, "made")?,
-        ["at", quantum] => {
-            let quantum = number(quantum)?;
-            if quantum > LAST_QUANTUM {
-                return Err(Stop::Unread);
-            }
-            write!(out, "{}", clock.at(quantum))?;
-        }
-        ["first_not_before", tick] => {
-            let tick = number(tick)?;
-            if tick >= TICK_END {
-                return Err(Stop::Unread);
-            }
-            write!(out, "{}", clock.first_not_before(tick))?;
-        }
+        [] => Ok(out.push_str("made")?),
+        ["at", quantum] => Ok(write!(out, "{}", at(&clock, number(quantum)?)?)?),
+        ["first_not_before", tick] => Ok(write!(out, "{}", first(&clock, number(tick)?)?)?),
         ["is", offset, num, den] => {
             let other = Clock::new(number(offset)?, number(num)?, number(den)?);
-            write!(out, "{}", other == Ok(clock))?;
+            Ok(write!(out, "{}", other == Ok(clock))?)
         }
         ["are", offset, ref words @ ..] => {
             let other = of_rates(alloc, offset, words)?;
-            write!(out, "{}", other == Ok(clock))?;
+            Ok(write!(out, "{}", other == Ok(clock))?)
         }
-        _ => return Err(Stop::Unread),
+        _ => Err(Stop::Unread),
     }
-    Ok(())
+}
+
+/// The tick of a quantum.
+fn at(clock: &Clock, quantum: u64) -> Result<u64, Stop> {
+    if quantum > LAST_QUANTUM {
+        return Err(Stop::Unread);
+    }
+    Ok(clock.at(quantum))
+}
+
+/// The first quantum at a tick or later.
+fn first(clock: &Clock, tick: u64) -> Result<u64, Stop> {
+    if tick >= TICK_END {
+        return Err(Stop::Unread);
+    }
+    Ok(clock.first_not_before(tick))
 }

@@ -6,38 +6,50 @@ use wl_lattice::{FlatWord, Join, MaxWord};
 
 pub fn tell(subject: &str, words: &[&str], out: &mut String) -> Told {
     match (subject, words) {
-        ("max", [left, right]) => {
-            let joined = joined(max(left)?, &max(right)?);
-            Ok(write!(out, "{}", joined.word)?)
-        }
-        ("same_max", [left, right]) => Ok(write!(out, "{}", max(left)?.same(&max(right)?))?),
-        ("same_flat", [left, right]) => Ok(write!(out, "{}", flat(left)?.same(&flat(right)?))?),
-        ("same_pair", [most, value, other, second]) => {
-            let left = (max(most)?, flat(value)?);
-            Ok(write!(out, "{}", left.same(&(max(other)?, flat(second)?)))?)
-        }
-        ("same_array", [a, b, x, y]) => {
-            let left = [flat(a)?, flat(b)?];
-            Ok(write!(out, "{}", left.same(&[flat(x)?, flat(y)?]))?)
-        }
-        ("flat", [left, right]) => {
-            let joined = joined(flat(left)?, &flat(right)?);
-            write_flat(out, joined)
-        }
-        ("pair", [most, value, other, second]) => {
-            let joined = joined((max(most)?, flat(value)?), &(max(other)?, flat(second)?));
-            write!(out, "{} ", joined.0.word)?;
-            write_flat(out, joined.1)
-        }
-        ("array", [a, b, c, x, y, z]) => {
-            let right = [flat(x)?, flat(y)?, flat(z)?];
-            for word in joined([flat(a)?, flat(b)?, flat(c)?], &right) {
-                write_flat(out, word)?;
-            }
-            Ok(())
-        }
-        _ => Err(Stop::Unread),
+        ("max", [left, right]) => tell_max(left, right, out),
+        ("flat", [left, right]) => tell_flat(left, right, out),
+        ("pair", [most, value, other, second]) => tell_pair((most, value), (other, second), out),
+        ("array", [a, b, c, x, y, z]) => tell_array([a, b, c], [x, y, z], out),
+        _ => tell_same(subject, words, out),
     }
+}
+
+/// Whether two words are the same.
+fn tell_same(subject: &str, words: &[&str], out: &mut String) -> Told {
+    let is_same = match (subject, words) {
+        ("same_max", [left, right]) => max(left)?.same(&max(right)?),
+        ("same_flat", [left, right]) => flat(left)?.same(&flat(right)?),
+        ("same_pair", [most, value, other, second]) => {
+            pair((most, value))?.same(&pair((other, second))?)
+        }
+        ("same_array", [a, b, x, y]) => two([a, b])?.same(&two([x, y])?),
+        _ => return Err(Stop::Unread),
+    };
+    Ok(write!(out, "{is_same}")?)
+}
+
+fn tell_max(left: &str, right: &str, out: &mut String) -> Told {
+    let joined = joined(max(left)?, &max(right)?);
+    Ok(write!(out, "{}", joined.word)?)
+}
+
+fn tell_flat(left: &str, right: &str, out: &mut String) -> Told {
+    let joined = joined(flat(left)?, &flat(right)?);
+    write_flat(out, joined)
+}
+
+fn tell_pair(left: (&str, &str), right: (&str, &str), out: &mut String) -> Told {
+    let joined = joined(pair(left)?, &pair(right)?);
+    write!(out, "{} ", joined.0.word)?;
+    write_flat(out, joined.1)
+}
+
+fn tell_array(left: [&str; 3], right: [&str; 3], out: &mut String) -> Told {
+    let (left, right) = (three(left)?, three(right)?);
+    for word in joined(left, &right) {
+        write_flat(out, word)?;
+    }
+    Ok(())
 }
 
 /// Two words joined, by what every lattice has.
@@ -63,6 +75,21 @@ fn flat(word: &str) -> Result<FlatWord, Stop> {
         "x" => Ok(FlatWord::Clash),
         _ => Ok(FlatWord::Value(number(word)?)),
     }
+}
+
+fn pair(words: (&str, &str)) -> Result<(MaxWord, FlatWord), Stop> {
+    let (most, value) = words;
+    Ok((max(most)?, flat(value)?))
+}
+
+fn two(words: [&str; 2]) -> Result<[FlatWord; 2], Stop> {
+    let [a, b] = words;
+    Ok([flat(a)?, flat(b)?])
+}
+
+fn three(words: [&str; 3]) -> Result<[FlatWord; 3], Stop> {
+    let [a, b, c] = words;
+    Ok([flat(a)?, flat(b)?, flat(c)?])
 }
 
 fn write_flat(out: &mut String, word: FlatWord) -> Told {

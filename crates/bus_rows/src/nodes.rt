@@ -128,29 +128,13 @@ impl Line {
 /// What a node answers.
 fn ask(node: &Node, word: &str, out: &mut String) -> Told {
     match word {
-        "readers" => {
-            write_counters(out, &node.counters())?;
-            write!(out, "quanta {} drive {} ", node.quanta(), bit(node.drive()))?;
-            write!(out, "errors {} hards {} ", node.errors(), node.hards())?;
-            write!(
-                out,
-                "samples {} unsent {} ",
-                node.samples().len(),
-                node.unsent()
-            )?;
-        }
+        "readers" => write_readers(node, out)?,
         "phases" => {
             for (quantum, error) in node.phases() {
                 write!(out, "{error}@{quantum} ")?;
             }
         }
-        "frames" => {
-            for passed in node.frames() {
-                let what = if passed.sent { "sent" } else { "received" };
-                write!(out, "{what}@{} ", passed.quantum)?;
-                write_frame(out, &passed.frame)?;
-            }
-        }
+        "frames" => write_frames(node, out)?,
         _ => {
             for (quantum, level) in node.samples() {
                 write!(out, "{}@{quantum} ", bit(*level))?;
@@ -158,4 +142,23 @@ fn ask(node: &Node, word: &str, out: &mut String) -> Told {
         }
     }
     Ok(out.push_str("; ")?)
+}
+
+/// Writes a node's counters, and how many of what it had.
+fn write_readers(node: &Node, out: &mut String) -> Told {
+    write_counters(out, &node.counters())?;
+    write!(out, "quanta {} drive {} ", node.quanta(), bit(node.drive()))?;
+    write!(out, "errors {} hards {} ", node.errors(), node.hards())?;
+    let (samples, unsent) = (node.samples().len(), node.unsent());
+    Ok(write!(out, "samples {samples} unsent {unsent} ")?)
+}
+
+/// Writes the frames that passed a node.
+fn write_frames(node: &Node, out: &mut String) -> Told {
+    for passed in node.frames() {
+        let what = if passed.sent { "sent" } else { "received" };
+        write!(out, "{what}@{} ", passed.quantum)?;
+        write_frame(out, &passed.frame)?;
+    }
+    Ok(())
 }

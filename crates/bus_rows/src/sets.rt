@@ -14,29 +14,48 @@ pub fn tell(alloc: Global, words: &[&str], out: &mut String) -> Told {
         };
         match *what {
             "push" => push(&mut set, word, out)?,
-            "join" => {
-                let mut other = Intervals::new(alloc);
-                push(&mut other, word, out)?;
-                set.join(&other)?;
-            }
-            "join_shifted" => {
-                let later = shifted(alloc, &set, number(word)?)?;
-                set.join(&later)?;
-            }
-            "shift" => set = shifted(alloc, &set, number(word)?)?,
-            "cut" => set = set.cut(alloc, number(word)?)?,
-            "at" => write!(out, "{} ", bit(set.at(number(word)?)))?,
-            "next_change" => match set.next_change(number(word)?) {
-                Some(tick) => write!(out, "{tick} ")?,
-                None => out.push_str("none ")?,
-            },
-            _ => return Err(Stop::Unread),
+            "join" => join(alloc, &mut set, word, out)?,
+            "at" | "next_change" => ask(&set, what, number(word)?, out)?,
+            _ => set = made_of(alloc, set, what, number(word)?)?,
         }
     }
     for (from, to) in set.clone_in(alloc)?.as_slice() {
         write!(out, "{from}..{to} ")?;
     }
     Ok(())
+}
+
+/// Joins an interval to a set.
+fn join(alloc: Global, set: &mut Intervals, word: &str, out: &mut String) -> Told {
+    let mut other = Intervals::new(alloc);
+    push(&mut other, word, out)?;
+    Ok(set.join(&other)?)
+}
+
+/// What a set says of a tick.
+fn ask(set: &Intervals, what: &str, tick: u64, out: &mut String) -> Told {
+    if what == "at" {
+        return Ok(write!(out, "{} ", bit(set.at(tick)))?);
+    }
+    match set.next_change(tick) {
+        Some(next) => Ok(write!(out, "{next} ")?),
+        None => Ok(out.push_str("none ")?),
+    }
+}
+
+/// The set that a word and a number of ticks make of a set.
+fn made_of(alloc: Global, set: Intervals, what: &str, ticks: u64) -> Result<Intervals, Stop> {
+    match what {
+        "join_shifted" => {
+            let later = shifted(alloc, &set, ticks)?;
+            let mut set = set;
+            set.join(&later)?;
+            Ok(set)
+        }
+        "shift" => shifted(alloc, &set, ticks),
+        "cut" => Ok(set.cut(alloc, ticks)?),
+        _ => Err(Stop::Unread),
+    }
 }
 
 /// The set with each tick later by `d`, where its end may be so late.

@@ -7,37 +7,52 @@ use wl_topology::{Place, Topology, TopologyFault};
 
 pub fn tell(alloc: Global, subject: &str, words: &[&str], out: &mut String) -> Told {
     match (subject, words) {
-        ("topology", [per, places @ ..]) => match made(alloc, per, places)? {
-            Ok(topology) => Ok(write!(
-                out,
-                "nodes {} least {}",
-                topology.nodes(),
-                topology.least_delay()
-            )?),
-            Err(fault) => Ok(write!(out, "{fault}")?),
-        },
+        ("topology", [per, places @ ..]) => tell_of(made(alloc, per, places)?, out),
         ("same_cables", [per, other, places @ ..]) => {
             let is_same = made(alloc, per, places)? == made(alloc, other, places)?;
             Ok(write!(out, "{is_same}")?)
         }
         ("delay", [from, to, per, places @ ..]) => {
-            let topology = made(alloc, per, places)?.ok().ok_or(Stop::Unread)?;
-            let (from, to) = (from.parse::<u8>()?, to.parse::<u8>()?);
-            if from >= topology.nodes() || to >= topology.nodes() {
-                return Err(Stop::Unread);
-            }
-            Ok(write!(out, "{}", topology.delay(from, to))?)
+            let delay = delay(&read(alloc, per, places)?, from, to)?;
+            Ok(write!(out, "{delay}")?)
         }
         ("place_delay", [x, to, per, places @ ..]) => {
-            let topology = made(alloc, per, places)?.ok().ok_or(Stop::Unread)?;
-            let to = to.parse::<u8>()?;
-            if to >= topology.nodes() {
-                return Err(Stop::Unread);
-            }
-            Ok(write!(out, "{}", topology.place_delay(x.parse::<u32>()?, to))?)
+            let delay = place_delay(&read(alloc, per, places)?, x, to)?;
+            Ok(write!(out, "{delay}")?)
         }
         _ => Err(Stop::Unread),
     }
+}
+
+fn tell_of(made: Result<Topology, TopologyFault>, out: &mut String) -> Told {
+    match made {
+        Ok(topology) => {
+            let (nodes, least) = (topology.nodes(), topology.least_delay());
+            Ok(write!(out, "nodes {nodes} least {least}")?)
+        }
+        Err(fault) => Ok(write!(out, "{fault}")?),
+    }
+}
+
+fn delay(topology: &Topology, from: &str, to: &str) -> Result<u64, Stop> {
+    let (from, to) = (from.parse::<u8>()?, to.parse::<u8>()?);
+    if from >= topology.nodes() || to >= topology.nodes() {
+        return Err(Stop::Unread);
+    }
+    Ok(topology.delay(from, to))
+}
+
+fn place_delay(topology: &Topology, x: &str, to: &str) -> Result<u128, Stop> {
+    let to = to.parse::<u8>()?;
+    if to >= topology.nodes() {
+        return Err(Stop::Unread);
+    }
+    Ok(topology.place_delay(x.parse::<u32>()?, to))
+}
+
+/// A topology that there is.
+fn read(alloc: Global, per: &str, words: &[&str]) -> Result<Topology, Stop> {
+    made(alloc, per, words)?.ok().ok_or(Stop::Unread)
 }
 
 fn made(alloc: Global, per: &str, words: &[&str]) -> Result<Result<Topology, TopologyFault>, Stop> {
