@@ -7,7 +7,7 @@
 //! project's profile. Whether an edge lies in the quantum that finds it, or in the one before, is said by the segments.
 #![tactic(auto)]
 
-ghost use Rattle.std.specs.Prelude.{◌≡◌, ℕ, suc, ◌+◌, ◌-◌, ◌<◌, ◌≤◌, replicate, ◌==◌, ◌&&◌, true, false, List, [], ◌∷◌, ◌++◌, Some, if◌then◌else◌};
+ghost use Rattle.std.specs.Prelude.{◌≡◌, ◌≢◌, ◌↔◌, ℕ, suc, ◌+◌, ◌-◌, ◌<◌, ◌≤◌, replicate, ◌==◌, ◌&&◌, true, false, List, [], ◌∷◌, ◌++◌, Some, MatchOption, if◌then◌else◌};
 ghost use Rattle.wl_segments.specs.Lengths.{Lengths, AreLengths, sample_at, bit_quanta, found_at};
 
 mod laws;
@@ -173,6 +173,8 @@ impl BitClock {
     /// The quanta of a bit, where as many recessive ones would leave what the clock keeps as it is: the last of them samples the bit, and
     /// nothing else comes of them. So it is right behind the recessive sample of a bit that nothing moved; None elsewhere.
     pub fn resting_bit(&self) -> Option<u8>
+        ensures steady { MatchOption result (self.now ≢ steady_clock self.now.lengths)
+            (λ n. (self.now ≡ steady_clock self.now.lengths) × (n ≡ bit_quanta self.now.lengths)) }
         ensures some { (n : ℕ) → result ≡ Some n → 0 < n }
         ensures rests { (n : ℕ) → result ≡ Some n → Follows self.now (λ l past. (x : Seen) → x.level ≡ Level.Recessive
             → IsRestingBit l past x n) }
@@ -186,7 +188,7 @@ impl BitClock {
 
     /// The last quantum was the recessive sample of a bit that nothing moved.
     fn is_steady(&self) -> bool
-        ensures { result ≡ true → self.now ≡ steady_clock self.now.lengths }
+        ensures { result ≡ true ↔ self.now ≡ steady_clock self.now.lengths }
     {
         !self.synced
             && self.quanta == self.sample_at() + 1
