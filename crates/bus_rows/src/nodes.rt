@@ -4,7 +4,8 @@
 //!
 //! Words: `own*700` for quanta with the level that the nodes drive; `0*6` for quanta of this level; `changes` and `modes` for an
 //! answer with each change of a drive and of a mode from here on, with the number of the node and of the quantum; `readers`,
-//! `phases`, `frames` and `samples` ask all nodes.
+//! `phases`, `frames` and `samples` ask all nodes; `quiet` for how many quanta more each is sure to keep its drive, and `quiet>=8` whether
+//! that is at least so many.
 
 use crate::counters::write_counters;
 use crate::frames::write_frame;
@@ -67,12 +68,24 @@ impl Line {
         match word {
             "changes" => self.changes = true,
             "modes" => self.modes = true,
-            "readers" | "phases" | "frames" | "samples" => {
+            "readers" | "phases" | "frames" | "samples" | "quiet" => {
                 for node in &self.nodes {
                     ask(node, word, out)?;
                 }
             }
-            _ => return self.quanta(alloc, word, out),
+            _ => match word.strip_prefix("quiet>=") {
+                Some(least) => return self.are_quiet(least.parse::<u32>()?, out),
+                None => return self.quanta(alloc, word, out),
+            },
+        }
+        Ok(())
+    }
+
+    /// Whether each node is sure to keep its drive for so many quanta more at least.
+    fn are_quiet(&self, least: u32, out: &mut String) -> Told {
+        for node in &self.nodes {
+            let said = if least <= node.quiet() { "yes" } else { "no" };
+            write!(out, "{said}; ")?;
         }
         Ok(())
     }
@@ -135,6 +148,7 @@ fn ask(node: &Node, word: &str, out: &mut String) -> Told {
             }
         }
         "frames" => write_frames(node, out)?,
+        "quiet" => write!(out, "{}", node.quiet())?,
         _ => {
             for (quantum, level) in node.samples() {
                 write!(out, "{}@{quantum} ", bit(*level))?;
