@@ -27,5 +27,5 @@ pub enum Answer {
 #[derive(Clone, Copy, Debug, PartialEq, Eq)]
 pub struct Stopped {
     /// How many events were handled, those that were not possible too.
-    pub done: usize,
+    pub done: u64,
 }

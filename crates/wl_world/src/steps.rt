@@ -53,7 +53,7 @@ impl World {
         for (i, event) in events.iter().enumerate() {
             match self.step(*event) {
                 Ok(answer) => push_within(&mut answers, answer),
-                Err(_) => return Err(Stopped { done: i }),
+                Err(_) => return Err(Stopped { done: i as u64 }),
             }
         }
         Ok(answers)
