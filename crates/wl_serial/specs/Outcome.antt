@@ -1,5 +1,5 @@
 -- The outcome of the one-thread simulation of a plan: for each node its changes, and what its history at the end says. This project's profile.
-use Rattle.std.specs.Prelude.{ℕ, List, length, map}
+use Rattle.std.specs.Prelude.{◌≡◌, ℕ, ◌+◌, List, [], ◌∷◌, ◌++◌, length, map}
 use Rattle.std.specs.List.{range_with_len}
 use Rattle.wl_node.specs.declared.setup.NodeSetup.{NodeSetup}
 use Rattle.wl_node.specs.History.{History, history_of, counters_of, phases_of, hards_of, error_count, unsent_count}
@@ -32,3 +32,9 @@ node_outcome_of plan i = outcome_of_history (setup_at plan i) (table_of plan i) 
 -- of each node, and the end
 abbrev pub outcome_of : Plan → Outcome
 outcome_of plan = record { nodes = map (node_outcome_of plan) (range_with_len 0 (length plan.nodes)); end = plan.end }
+
+-- of one node more: what came before, and the outcome of that node
+abbrev pub GoesNodeByNode : Type 0
+GoesNodeByNode =
+    (plan : Plan) (n : ℕ)
+    → map (node_outcome_of plan) (range_with_len 0 (n + 1)) ≡ map (node_outcome_of plan) (range_with_len 0 n) ++ node_outcome_of plan n ∷ []

@@ -1,5 +1,6 @@
 //! Laws of what the engine answers, as contracts of functions with an empty body.
 
+ghost use Rattle.wl_serial.specs.Outcome.{GoesNodeByNode};
 ghost use Rattle.wl_serial.specs.Records.{OutcomeIsRecordable, RecordsAreTrue};
 
 /// Law: the outcome of a plan that passed its check can be written as records.
@@ -16,3 +17,8 @@ pub fn records_are_true()
     wl_plan::checked_is_sound();
     wl_plan::outcome_is_true();
 }
+
+/// Law: the outcomes of one node more are those of the nodes before it, and its own.
+pub fn outcome_node_by_node()
+    ensures { GoesNodeByNode }
+{}

@@ -15,7 +15,7 @@ mod sources;
 mod turn;
 
 pub use engine::run_serial;
-pub use laws::{outcome_is_recordable, records_are_true};
+pub use laws::{outcome_is_recordable, outcome_node_by_node, records_are_true};
 pub use outcome::{Changes, Frames, NodeOutcome, NodeOutcomes, Outcome, Phases, Samples};
 pub use records::records_of;
 pub use so_far::node_outcome;

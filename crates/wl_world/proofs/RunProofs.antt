@@ -1,6 +1,6 @@
 -- Lists of events, in parts.
 use Rattle.std.proofs.lemmas.List.{take_more}
-use Rattle.std.proofs.Common.{◌≡◌, ℕ, ◌+◌, ◌<◌, length, take, get_or, List, [], ◌∷◌, ◌++◌, refl, sym, ◌∙◌, ap, subst, Result, Ok, Err, OnOk, IfErr}
+use Rattle.std.proofs.Common.{◌≡◌, ℕ, ◌+◌, ◌<◌, length, take, get_or, List, [], ◌∷◌, ◌++◌, refl, sym, ◌∙◌, ap, subst, Result, Ok, Err, OnOk, OnErr, IfErr}
 use Rattle.wl_plan.specs.Line.{Line}
 use Rattle.wl_world.specs.declared.events.Event.{Event}
 use Rattle.wl_world.specs.declared.events.Answer.{Answer}
@@ -35,9 +35,14 @@ pub answered_more : {A : Type 0} (at : Scene → A → Type 0) (l : Line) (c : C
 answered_more at l c es i d w mid new a told b h s t =
     told_more l c (take i es) (get_or es i d) w told a t (s (run l c (take i es) w) h).0 ∙ ap (λ v. answers l c v w) (sym (take_more es i d b))
 
+-- a fact that holds anyway holds where there is an answer, and where there is none
 pub on_ok : {T E P : Type 0} (r : Result T E) → P → OnOk r P
 on_ok (Ok x) p = p
 on_ok (Err e) p = tt
+
+pub on_err : {T E P : Type 0} (r : Result T E) → P → OnErr r P
+on_err (Ok x) p = tt
+on_err (Err e) p = p
 
 pub if_err : {T E : Type 0} (P : E → Type 0) (r : Result T E) → ((e : E) → P e) → IfErr r P
 if_err P (Ok x) p = tt

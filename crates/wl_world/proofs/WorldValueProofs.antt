@@ -29,7 +29,6 @@ use Rattle.wl_world.specs.Headline.{Headline}
 use Rattle.wl_world.specs.Steps.{HasStepped}
 use Rattle.wl_world.specs.WorldValue.{WorldValue, world_value, cast_of, IsWorldAt, IsStaffed, IsWorldValue, IsFirstGroup, AreFirst}
 use Rattle.wl_group.proofs.Callers.{put_at}
-use Rattle.wl_replica.proofs.Callers.{some_is}
 use Rattle.wl_world.proofs.Lists.{true_member}
 use Rattle.wl_world.proofs.RoundProofs.{run_append}
 
@@ -55,19 +54,19 @@ get_set_other (y ∷ ys) (suc i) (suc j) x n = get_set_other ys i j x (λ e. n (
 -- what is read where a group was written
 set_cases : (groups : List GroupValue) (h j : ℕ) (new v : GroupValue) (P : GroupValue → Type 0) → h < length groups → slice_get (slice_set groups h new) j ≡ Some v → (j ≡ h → P new) → (slice_get groups j ≡ Some v → (j ≡ h → ⊥) → P v) → P v
 set_cases groups h j new v P b e f k = elim (cases_eq j h) [
-  | inl same ↦ subst P (some_is new v (sym (get_set_same groups h new b) ∙ (ap (slice_get (slice_set groups h new)) (sym same) ∙ e))) (f same)
+  | inl same ↦ let is : Some new ≡ Some v = sym (get_set_same groups h new b) ∙ (ap (slice_get (slice_set groups h new)) (sym same) ∙ e) in subst P (let g : new ≡ v = cc in g) (f same)
   | inr other ↦ k (sym (get_set_other groups h j new other) ∙ e) other
 ]
 
 -- a place written with what was there
 set_got : (xs : List GroupValue) (h : ℕ) (x : GroupValue) → slice_get xs h ≡ Some x → slice_set xs h x ≡ xs
 set_got [] h x e = refl
-set_got (y ∷ ys) zero x e = ap (λ z. z ∷ ys) (sym (some_is y x e))
+set_got (y ∷ ys) zero x e = ap (λ z. z ∷ ys) (let g : x ≡ y = cc in g)
 set_got (y ∷ ys) (suc h) x e = ap (λ t. y ∷ t) (set_got ys h x e)
 
 -- what is read of a list with one element more
 last_cases : {A : Type 0} (xs : List A) (y : A) (k : ℕ) (x : A) → slice_get (xs ++ y ∷ []) k ≡ Some x → (slice_get xs k ≡ Some x) ⊎ ((k ≡ length xs) × (y ≡ x))
-last_cases [] y zero x e = inr (refl, some_is y x e)
+last_cases [] y zero x e = inr (refl, let g : y ≡ x = cc in g)
 last_cases [] y (suc k) x e = cc
 last_cases (z ∷ xs) y zero x e = inl e
 last_cases (z ∷ xs) y (suc k) x e = elim (last_cases xs y k x e) [

@@ -5,7 +5,7 @@ ghost use Rattle.wl_serial.specs.Outcome.{node_outcome_of, outcome_of};
 use crate::world::World;
 use std::alloc::{AllocError, Global};
 use wl_level::Listed;
-use wl_serial::{NodeOutcome, Outcome, node_outcome};
+use wl_serial::{NodeOutcome, Outcome, node_outcome, outcome_node_by_node};
 
 impl World {
     ghost use Rattle.wl_world.specs.Ended.{AreAtEnd};
@@ -16,6 +16,7 @@ impl World {
         requires { AreAtEnd self.now }
         ensures { IfOk result (λ outcome. outcome ≡ outcome_of self.now.plan) }
     {
+        outcome_node_by_node();
         let mut nodes = Listed::new(alloc);
         for i in 0..self.plan.topology.nodes() {
             nodes.push(self.node_outcome(alloc, i)?)?;

@@ -2,10 +2,10 @@
 use Rattle.std.proofs.Common.{◌≡◌, ◌∙◌, ap, arith}
 use Rattle.wl_plan.specs.PlanLine.{line_of}
 use Rattle.wl_plan.specs.Groupings.{groups_of}
-use Rattle.wl_group.proofs.Callers.{on_err}
 use Rattle.wl_world.specs.Moves.{MovesLed, HasExhausted}
 use Rattle.wl_world.specs.WorldValue.{WorldValue, cast_of}
 use Rattle.wl_world.proofs.MoveProofs.{set_on, gone_on, exhausted_all_gone, exhausted_all_more, exhausted_all_enough}
+use Rattle.wl_world.proofs.RunProofs.{on_err}
 use Rattle.wl_world.proofs.world.World.advance_all.Goals as goal
 
 pub returns-in_err-advance_group-clause-moved : goal.returns-in_err-advance_group-clause-moved

@@ -1,12 +1,11 @@
 -- One quantum after another; each is one fewer that is left.
 use Rattle.std.proofs.Common.{refl, sym, ◌∙◌, ap, subst}
 use Rattle.wl_plan.specs.PlanLine.{line_of}
-use Rattle.wl_group.proofs.Callers.{on_err}
 use Rattle.wl_world.specs.declared.events.Event.TheVariants.{Advance}
 use Rattle.wl_world.specs.Scene.{Scene}
 use Rattle.wl_world.specs.Moves.{IsStuckAt, MovesLed}
 use Rattle.wl_world.specs.WorldValue.{IsWorldAt, IsWorldValue, cast_of}
-use Rattle.wl_world.proofs.RunProofs.{stepped_on}
+use Rattle.wl_world.proofs.RunProofs.{stepped_on, on_err}
 use Rattle.wl_world.proofs.MoveProofs.{advanced_none, advanced_more, advanced_gone, exhausted, set_on}
 use Rattle.wl_world.proofs.EndProofs.{advance_fewer}
 use Rattle.wl_world.proofs.world.World.advance_group.Goals as goal

@@ -1,11 +1,10 @@
 -- One delivery after another.
 use Rattle.std.proofs.Common.{sym, ◌∙◌, ap, subst, arith}
 use Rattle.wl_plan.specs.PlanLine.{line_of}
-use Rattle.wl_group.proofs.Callers.{on_err}
 use Rattle.wl_world.specs.declared.events.Event.TheVariants.{Deliver}
 use Rattle.wl_world.specs.Moves.{MovesLed}
 use Rattle.wl_world.specs.WorldValue.{IsWorldAt, cast_of}
-use Rattle.wl_world.proofs.RunProofs.{stepped_on}
+use Rattle.wl_world.proofs.RunProofs.{stepped_on, on_err}
 use Rattle.wl_world.proofs.MoveProofs.{handed_gone, handed_more, handed_enough}
 use Rattle.wl_world.proofs.world.World.deliver_to.Goals as goal
 

@@ -2,10 +2,10 @@
 use Rattle.std.proofs.Common.{◌≡◌, ◌∙◌, ap, arith}
 use Rattle.wl_plan.specs.PlanLine.{line_of}
 use Rattle.wl_plan.specs.Groupings.{groups_of}
-use Rattle.wl_group.proofs.Callers.{on_err}
 use Rattle.wl_world.specs.Moves.{MovesLed, HasHanded}
 use Rattle.wl_world.specs.WorldValue.{WorldValue, cast_of}
 use Rattle.wl_world.proofs.MoveProofs.{set_on, gone_on, handed_all_gone, handed_all_more, handed_all_enough}
+use Rattle.wl_world.proofs.RunProofs.{on_err}
 use Rattle.wl_world.proofs.world.World.deliver_to_all.Goals as goal
 
 pub returns-in_err-deliver_to-clause-moved : goal.returns-in_err-deliver_to-clause-moved

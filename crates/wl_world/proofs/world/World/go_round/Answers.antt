@@ -2,12 +2,11 @@
 use Rattle.std.proofs.Common.{◌<◌, refl, sym, ◌∙◌, ap, subst, arith}
 use Rattle.std.proofs.lemmas.Bool.{false≢true}
 use Rattle.wl_plan.specs.PlanLine.{line_of}
-use Rattle.wl_group.proofs.Callers.{on_err}
 use Rattle.wl_world.specs.Scene.{run, start}
 use Rattle.wl_world.specs.Ended.{AreAtEnd, quanta_left_of}
 use Rattle.wl_world.specs.Moves.{MovesLed, HasRounded}
 use Rattle.wl_world.specs.WorldValue.{IsWorldAt, IsWorldValue, cast_of}
-use Rattle.wl_world.proofs.RunProofs.{at_start}
+use Rattle.wl_world.proofs.RunProofs.{at_start, on_err}
 use Rattle.wl_world.proofs.MoveProofs.{set_on, gone_on, made_none, made_more, made_gone, made_ended}
 use Rattle.wl_world.proofs.EndProofs.{left_few, ended_on, unended_on, round_fewer}
 use Rattle.wl_world.proofs.world.World.go_round.Goals as goal

@@ -1,6 +1,7 @@
 -- The node's group has it, and it is at the end there.
 use Rattle.std.proofs.Common.{◌≡◌, ◌<◌, ◌≤◌, true, refl, sym, ◌∙◌, ap, subst, length, Some, IfOk, slice_get}
 use Rattle.std.proofs.lemmas.Option.{slice_get_read}
+use Rattle.std.proofs.lemmas.Result.{IfOk-weaker}
 use Rattle.wl_plan.specs.declared.plan.Plan.{Plan}
 use Rattle.wl_plan.specs.PlanLine.{line_of}
 use Rattle.wl_group.specs.Member.{next_tick}
@@ -9,7 +10,6 @@ use Rattle.wl_serial.specs.Outcome.{node_outcome_of}
 use Rattle.wl_world.specs.WorldValue.{WorldValue, world_value}
 use Rattle.wl_world.specs.Ended.{AreAtEnd}
 use Rattle.wl_world.proofs.EndProofs.{ended_at}
-use Rattle.wl_serial.proofs.Callers.{ok_as}
 use Rattle.wl_world.proofs.OutcomeProofs.{group_there, member_there, outcome_here}
 use Rattle.wl_world.proofs.world.World.node_outcome.Goals as goal
 use Rattle.wl_world.proofs.world.World.node_outcome.Goals.{After-index-group}
@@ -41,7 +41,7 @@ returns c =
     let late : g.plan.end ≤ next_tick (line_of g.plan) c.args.i (members_now g c.args.i) =
     subst (λ (p : Plan). p.end ≤ next_tick (line_of p) c.args.i (members_now g c.args.i)) (sym (staffed.plans c.in-Some.h g (there a))) (ended c.in-Some.h c.args.i g (there a) (member a)) in
     subst (λ (p : Plan). IfOk c.node_outcome.result (λ told. told ≡ node_outcome_of p c.args.i)) same
-    (ok_as c.node_outcome.result _ (λ told. told ≡ node_outcome_of g.plan c.args.i)
+    (IfOk-weaker c.node_outcome.result _ (λ told. told ≡ node_outcome_of g.plan c.args.i)
     (λ told is. outcome_here c.group_laws.ensures c.checked_is_sound.ensures g c.node.ensures.holds c.args.i node (member a) late _ c.node.ensures.setup c.in_ok-changes-in-Some.changes
     (c.in_ok-changes-in-Some.ensures.whole (ended_at (value a) staffed ended c.in-Some.h c.args.i g (there a) (member a))) told (is (members_now g c.args.i).saw c.node.ensures.node))
     c.node_outcome.ensures)

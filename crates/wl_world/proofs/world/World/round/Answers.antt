@@ -2,10 +2,10 @@
 use Rattle.std.proofs.Common.{◌≡◌, ◌∙◌, ap, subst, length, arith}
 use Rattle.wl_plan.specs.PlanLine.{line_of}
 use Rattle.wl_plan.specs.Groupings.{groups_of}
-use Rattle.wl_group.proofs.Callers.{on_err}
 use Rattle.wl_world.specs.Moves.{MovesLed, HasExhaustedAll}
 use Rattle.wl_world.specs.WorldValue.{WorldValue, cast_of}
 use Rattle.wl_world.proofs.MoveProofs.{set_on, gone_on, handed_all_gone, rounded}
+use Rattle.wl_world.proofs.RunProofs.{on_err}
 use Rattle.wl_world.proofs.world.World.round.Goals as goal
 
 pub returns-in_err-advance_all-clause-moved : goal.returns-in_err-advance_all-clause-moved
