@@ -3,10 +3,10 @@
 # usage: program.sh PROGRAM
 # - each plan of examples/ with the report beside it, and each of those plans through check, records and candump, which must accept it;
 #   and by 2, 3 and 8 workers over either link
-# - the explanation and the trace of each of them as bench/plain.py gives them, and the explanation of a plan with every doubt, and of one whose clocks
+# - the explanation, the trace and the waveform of each of them as bench/plain.py gives them, and the explanation of a plan with every doubt, and of one whose clocks
 #   change their rates
 # - the log of one plan, as ticks of three lengths have it, and the waveform of one, as ticks of two have it
-# - two nodes with full queues, as bench/plain.py reports them
+# - two nodes with full queues, as bench/plain.py reports them, their log and their waveform
 # - each row of .ci/refused.txt: the status, the one line on standard error, and nothing on standard output but what explain says of it
 # - command lines that name no task, or are no text: status 2, and nothing on standard output
 # - a run that doesn't end in 300 seconds, as one whose workers wait for each other for ever, has failed
@@ -53,6 +53,8 @@ for report in examples/*.report; do
   "$program" candump < "examples/$name.toml" > "$room/out" 2> "$room/err"
   is "candump of $name" [ $? = 0 -a ! -s "$room/err" ]
   is "lines of candump of $name" [ "$(grep -c '^frame [0-9]* sent ' "$report")" = "$(wc -l < "$room/out")" ]
+  python3 bench/plain.py vcd < "examples/$name.toml" > "$room/waved"
+  runs "vcd of $name" "examples/$name.toml" 0 "$room/waved" "$room/none" vcd
 done
 
 # Full queues: each of two nodes sends 64 frames and receives the other's 64, more than in any example.
@@ -60,6 +62,11 @@ python3 -Bc 'import sys; sys.path.insert(0, "bench"); import worst; print(worst.
 python3 bench/plain.py run < "$room/full.toml" > "$room/full"
 is "frames of full queues" [ "$(grep -c '^frame 0' "$room/full")" = 128 ]
 runs "run of full queues" "$room/full.toml" 0 "$room/full" "$room/none" run
+for word in candump vcd; do
+  "$program" "$word" < "$room/full.toml" > "$room/$word" 2> "$room/err"
+  is "$word of full queues" [ $? = 0 -a -s "$room/$word" -a ! -s "$room/err" ]
+done
+is "lines of candump of full queues" [ "$(wc -l < "$room/candump")" = 128 ]
 
 runs "explain of doubts" .ci/doubts.toml 0 .ci/doubts.explained "$room/none" explain
 runs "explain of rates" .ci/rates.toml 0 .ci/rates.explained "$room/none" explain
