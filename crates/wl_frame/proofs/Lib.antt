@@ -7,4 +7,6 @@ mod Reading
 mod HeldFrames
 mod OneStuffing
 mod Stuffed
+mod Deciding
+mod Edges
 pub mod Callers

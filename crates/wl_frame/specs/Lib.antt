@@ -7,3 +7,4 @@ pub mod Padded
 pub mod Held
 pub mod Limits
 pub mod Same
+pub mod Laws

@@ -2,9 +2,10 @@
 
 ghost use Rattle.std.specs.Prelude.{◌≡◌, ◌↔◌, ◌<◌, ◌≤◌, ℕ, suc, nat_le, true, false, List, [], ◌∷◌, ◌++◌, ◌+◌, MatchOption, length, take};
 ghost use Rattle.wl_level.specs.declared.Level.{Level};
-ghost use Rattle.wl_level.specs.Places.{run_at};
+ghost use Rattle.wl_level.specs.Places.{at, run_at};
 ghost use Rattle.wl_frame.specs.Grammar.{Content, IsContent, IsFrame, IsReadAs, IsUnfinished, bits_left, bits_of, covered_length, is_arbitration, is_front, is_whole, layout_of};
 ghost use Rattle.wl_frame.specs.Limits.{least_frame_bits, most_frame_bits};
+ghost use Rattle.wl_frame.specs.Laws.{HaveSameField, IsEdge, up_to_ack};
 ghost use Rattle.wl_frame.specs.Stuffing.{IsStuffedFront, NoSixBefore, Stuffs, first_six, is_stuff, destuffed_bits};
 
 /// Law: a list has one stuffing. So what [`stuff`](crate::stuffing::stuff) answers is the only right
@@ -60,4 +61,23 @@ pub fn each_bit_takes_one_of_those_left()
     ensures next { (bits : List Level) (bit : Level) → bits_left bits ≤ suc (bits_left (bits ++ bit ∷ [])) }
     ensures whole { (bits : List Level) → is_whole bits ≡ true → bits_left bits ≡ 0 }
     ensures least { (bits : List Level) → least_frame_bits ≤ length bits + bits_left bits }
+{}
+
+/// Law, of the arbitration: as long as two frames of different format, identifier or RTR bit have the same bits, no recessive bit of either is
+/// beyond its arbitration. So where they differ first, the sender of the recessive one may lose, and makes no error; also a base frame
+/// beside an extended one, and a data frame beside a remote one (Bosch CAN 2.0 part B, section 3.1).
+pub fn the_arbitration_decides()
+    ensures { (loser winner : Content) (front more rest : List Level) → IsContent loser → IsContent winner
+        → ¬ HaveSameField loser winner → bits_of loser ≡ front ++ more → bits_of winner ≡ front ++ rest
+        → at (bits_of loser) (length front) ≡ Level.Recessive → is_arbitration (bits_of loser) (length front) ≡ true }
+{}
+
+/// Law, of synchronisation: from the start of frame to an ACK slot that is acknowledged, ten bits in a row have an edge from recessive to
+/// dominant, at the first of them or later. Nine may have none: those after the first of five dominant bits that five recessive ones follow
+/// (Bosch CAN 2.0 part B, sections 6 and 10).
+pub fn ten_bits_have_an_edge()
+    ensures ten { (x y : List Level) (n : ℕ) → Stuffs y x → n + 10 ≤ length (up_to_ack y)
+        → (k : ℕ) × (n ≤ k) × (k < n + 10) × IsEdge (up_to_ack y) k }
+    ensures nine { (x : List Level) × (y : List Level) × (n : ℕ) × Stuffs y x × (n + 9 ≤ length (up_to_ack y))
+        × ((k : ℕ) → n ≤ k → k < n + 9 → ¬ IsEdge (up_to_ack y) k) }
 {}
