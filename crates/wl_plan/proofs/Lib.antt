@@ -6,6 +6,8 @@ mod RestProofs
 mod Rows
 mod CheckProofs
 mod EqualProofs
+mod GuessProofs
+mod GuessRows
 mod GroupingProofs
 mod SoundProofs
 pub mod Callers

@@ -1,5 +1,6 @@
 pub mod Checked
 pub mod Groupings
+pub mod Guess
 pub mod Limits
 pub mod Line
 pub mod PlanLine

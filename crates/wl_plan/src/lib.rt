@@ -3,12 +3,14 @@
 
 mod check;
 mod grouping;
+mod guess;
 mod laws;
 mod limits;
 mod plan;
 
 pub use check::PlanFault;
 pub use grouping::{Grouping, GroupingFault, MOST_GROUPS};
+pub use guess::a_consistent_guess_holds;
 pub use laws::{
     a_line_at_rest_stays, checked_is_sound, faultless_is_checked, grouping_laws, outcome_is_true,
     simulation_laws, test_of_truth,
