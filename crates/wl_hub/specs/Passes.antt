@@ -51,11 +51,10 @@ module _ {T : Type 0} where
   abbrev pub shape_of : Hub T → List (ℕ × ℕ)
   shape_of hub = hub.shape.items
 
-  -- the pass is one of this hub
-  pub record IsPassOf (hub : Hub T) (p : Pass T) : Type 0 where
-    pub edges : p.edges.seat.table_id ≡ hub.edges.table.shared.table_id
-    pub silences : p.silences.seat.table_id ≡ hub.silences.table.shared.table_id
-    pub shape : p.edges.seat.me.0.shape ≡ hub.shape.items
+  -- the pass is one of this hub: of its tables and of its shape. A type that keeps a hub and a pass may say so of them.
+  abbrev pub IsPassOf : Hub T → Pass T → Type 0
+  IsPassOf hub p = (p.edges.seat.table_id ≡ hub.edges.table.shared.table_id)
+      × ((p.silences.seat.table_id ≡ hub.silences.table.shared.table_id) × (p.edges.seat.me.0.shape ≡ hub.shape.items))
 
   -- a pass that gave nothing and saw nothing
   pub record IsNew (p : Pass T) : Type 0 where

@@ -6,6 +6,7 @@ mod RestProofs
 mod Rows
 mod CheckProofs
 mod EqualProofs
+mod FewProofs
 mod GuessProofs
 mod GuessRows
 mod GroupingProofs

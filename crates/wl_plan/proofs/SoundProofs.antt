@@ -23,6 +23,7 @@ use Rattle.wl_plan.specs.Simulation.{seen, differs, ran, AreInside}
 use Rattle.wl_plan.specs.SimulationLaws.{SimulationLaws}
 use Rattle.wl_plan.specs.Sound.{IsCausal, IsSound}
 use Rattle.wl_plan.specs.Checked.{IsChecked, CheckedIsSound, most_quanta_of}
+use Rattle.wl_plan.proofs.FewProofs.{changes_few}
 
 -- What the clock's laws give.
 pub record ClockLaws : Type 0 where
@@ -41,13 +42,6 @@ pub record QuietLaws : Type 0 where
 begins : (setup : NodeSetup) → is_dominant (history_of setup []).drive ≡ false
 unfolding history_of
 begins setup = refl
-
--- two drives differ as their levels do
-differs_as : (now before : Level) → differs (is_dominant now) (is_dominant before) ≡ not (same before now)
-differs_as Dominant Dominant = refl
-differs_as Dominant Recessive = refl
-differs_as Recessive Dominant = refl
-differs_as Recessive Recessive = refl
 
 -- so many quanta give room for so many parts of bits from a start to its sample: of four quanta at least, or of three where a node has fewer quanta
 few_parts : (n way : ℕ) → n ≤ cond (nat_lt way 3) most_short_quanta most_quanta → 2 ≤ way → n / suc way + 1 ≤ most_edges
@@ -93,43 +87,21 @@ module _ (places : PlaceLaws) (clocks : ClockLaws) (drives : QuietLaws) (laws : 
   few : (i k : ℕ) → i < length plan.nodes → tick_of (setup_at plan i).clock k < plan.end → k < most_quanta
   few i k b below = (let f = h.few_quanta i no_setup b k below in let g = few_of_all (setup_at plan i).segments in omega arith)
 
-  -- all that a node sees, and the first levels of it
-  abbrev all_seen : ℕ → List Level
-  all_seen i = seen (line_of plan) i (ran (line_of plan) i plan.end)
-
-  first_seen : (i k n : ℕ) → k ≤ n → take k (seen (line_of plan) i n) ≡ seen (line_of plan) i k
-  first_seen i k n b =
-      let more = laws.seen_more (line_of plan) i k n b in
-      ap (take k) more.1 ∙ (ap (λ m. take m (seen (line_of plan) i k ++ more.0)) (sym (laws.length_seen (line_of plan) i k)) ∙ take-append_seam (seen (line_of plan) i k) more.0)
-
-  -- its changes are as many as the node's own count of them
-  changes_are : (i : ℕ) → i < length plan.nodes → length (table_of plan i) ≡ changes_of (setup_at plan i) (all_seen i)
-  changes_are i b =
-      let l = line_of plan in
-      let n = ran l i plan.end in
-      let inside = laws.ran_inside l i plan.end causal b in
-      let past : plan.end ≤ l.instant i n = elim (laws.ran_all l i plan.end causal b) [ inl e ↦ e | inr e ↦ e ] in
-      sym (laws.all_at_end l i (l.instant i n) causal b past)
-      ∙ (laws.changes_counted l i n causal b inside
-      ∙ (places.counted_below _ _ n (λ k c.
-      differs_as (history_of (setup_at plan i) (seen l i (suc k))).drive (history_of (setup_at plan i) (seen l i k)).drive
-      ∙ (λ d. not (same (history_of (setup_at plan i) (sym (first_seen i k n (omega arith)) d)).drive (history_of (setup_at plan i) (sym (first_seen i (suc k) n (omega arith)) d)).drive)))
-      ∙ ap (count_places (λ k. not (same (drive_at (setup_at plan i) (all_seen i) k) (drive_at (setup_at plan i) (all_seen i) (suc k))))) (sym (laws.length_seen l i n))))
-
   -- no more quanta than may be
   quanta_few : (i n : ℕ) → i < length plan.nodes → AreInside (line_of plan) i n → n ≤ most_quanta_of (setup_at plan i).segments
   quanta_few i zero b inside = omega arith
   quanta_few i (suc n) b inside = (let f = h.few_quanta i no_setup b n (inside n (omega arith)) in omega arith)
 
-  changes_few : (i : ℕ) → i < length plan.nodes → length (table_of plan i) ≤ most_edges
-  changes_few i b =
-      let n = ran (line_of plan) i plan.end in
+  few_in_record : (i : ℕ) → i < length plan.nodes → length (table_of plan i) ≤ most_edges
+  few_in_record i b =
+      let l = line_of plan in
+      let n = ran l i plan.end in
+      let inside = laws.ran_inside l i plan.end causal b in
+      let past : plan.end ≤ l.instant i n = elim (laws.ran_all l i plan.end causal b) [ inl e ↦ e | inr e ↦ e ] in
       let lengths = h.segments i no_setup b in
       let least : 2 ≤ least_way (setup_at plan i).segments = (let p = lengths.prop_low in let q = lengths.ps1_low in let s = found_near (setup_at plan i).segments.sync in omega arith) in
-      let room = few_parts n (least_way (setup_at plan i).segments) (quanta_few i n b (laws.ran_inside (line_of plan) i plan.end causal b)) least in
-      let counted = drives.few (setup_at plan i) (all_seen i) in
-      let all = ap (λ k. k / suc (least_way (setup_at plan i).segments) + 1) (laws.length_seen (line_of plan) i n) in
-      let are = changes_are i b in
+      let room = few_parts n (least_way (setup_at plan i).segments) (quanta_few i n b inside) least in
+      let few_here = changes_few places drives.few laws plan causal i b n inside past in
       omega arith
 
   -- the ticks that a silence can name
@@ -157,7 +129,7 @@ module _ (places : PlaceLaws) (clocks : ClockLaws) (drives : QuietLaws) (laws : 
     some_node = h.some_node;
     few_nodes = (let e = most_nodes-is in let f = h.few_nodes in omega arith);
     few_quanta = few;
-    few_changes = changes_few;
+    few_changes = few_in_record;
     little_quiet = λ i levels b. drives.most (setup_at plan i) levels;
     first_fits = λ i b. first_near (setup_at plan i).clock (timed i b);
     next_fits = λ i k b below. next_near (setup_at plan i).clock (timed i b) k below;

@@ -1,3 +1,4 @@
+pub mod Changes
 pub mod Checked
 pub mod Groupings
 pub mod Guess

@@ -2,6 +2,7 @@
 
 ghost use Rattle.wl_plan.specs.SimulationLaws.{SimulationLaws, OutcomeIsTrue};
 ghost use Rattle.wl_plan.specs.Rest.{RestLaw};
+ghost use Rattle.wl_plan.specs.Changes.{ChangesAreFew};
 ghost use Rattle.wl_plan.specs.Checked.{FaultlessIsChecked, CheckedIsSound};
 ghost use Rattle.wl_plan.specs.Groupings.{GroupingLaws};
 ghost use Rattle.wl_plan.specs.PlanLine.{TestOfTruth};
@@ -47,6 +48,17 @@ pub fn checked_is_sound()
     wl_clock::ticks_increase();
     wl_node::drive_laws();
     simulation_laws();
+}
+
+/// Law: a node of a checked plan, `k` of whose quanta begin before the end, changes its drive at most `k / (least_way + 1) + 1` times,
+/// rounded down (`Segments::least_way`, in quanta).
+pub fn changes_are_few()
+    ensures { ChangesAreFew }
+{
+    wl_level::place_laws();
+    wl_node::drive_laws();
+    simulation_laws();
+    checked_is_sound();
 }
 
 #[tactic(auto, using(crate::proofs::GroupingProofs::grouping_laws))]

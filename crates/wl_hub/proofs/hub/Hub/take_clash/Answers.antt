@@ -14,6 +14,6 @@ returns-clause-seen g c =
     record {
       gift = s.0;
       kept = s.1;
-      others = edge_else c.args.pass.now _ c.args.self.now.shape.items c.args.node c.args.seq c.edge_index-i.result _ learnt.0 c.requires.here.shape c.edge_index-i.ensures.place learnt.2 refl
+      others = edge_else c.args.pass.now _ c.args.self.now.shape.items c.args.node c.args.seq c.edge_index-i.result _ learnt.0 c.requires.here.1.1 c.edge_index-i.ensures.place learnt.2 refl
           (All-cons (λ r. slot_of r ≡ slot) (Clash c.args.node c.args.seq) [] refl (All-nil (λ r. slot_of r ≡ slot))) learnt.1;
     }

@@ -14,6 +14,6 @@ returns-clause-seen g c =
     record {
       gift = s.0;
       kept = s.1;
-      others = silence_else c.args.pass.now _ c.args.self.now.shape.items c.args.node c.args.count c.silence_index-i.result _ learnt.0 (sym c.args.pass.now.same_shape ∙ c.requires.here.shape) c.silence_index-i.ensures.place learnt.2 refl
+      others = silence_else c.args.pass.now _ c.args.self.now.shape.items c.args.node c.args.count c.silence_index-i.result _ learnt.0 (sym c.args.pass.now.same_shape ∙ c.requires.here.1.1) c.silence_index-i.ensures.place learnt.2 refl
           (All-cons (λ r. slot_of r ≡ slot) (Silence c.args.node c.args.count c.args.until) [] refl (All-nil (λ r. slot_of r ≡ slot))) learnt.1;
     }
