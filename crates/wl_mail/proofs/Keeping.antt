@@ -1,6 +1,7 @@
 -- What a post keeps, and what it hands out.
 use Rattle.std.proofs.Common.{◌≡◌, ◌<◌, ◌≤◌, ℕ, ◌+◌, List, [], ◌∷◌, ◌++◌, length, slice_get, slice_index_or, inr, refl, sym, subst, ap, ◌∙◌, arith}
 use Rattle.std.proofs.lemmas.Option.{slice_get_read}
+use Rattle.std.specs.Arc.{arc_value}
 use Rattle.wl_group.specs.GroupValue.{GroupValue, with_records}
 use Rattle.wl_mail.specs.declared.letter.Letter.{Letter}
 use Rattle.wl_mail.specs.Posts.{PostValue, KeepsLetters, HandedOut}
@@ -22,7 +23,7 @@ kept_counted old mid sent kept handed n is keeps =
 -- the letter at the next place is handed out
 pub letter_handed : (old mid : PostValue) (sent : List ℕ) (kept : List Letter) (handed : ℕ) (letter : Letter) (before after : GroupValue)
     → record { sent = sent; kept = kept; handed = handed } ≡ mid → mid.handed ≡ old.handed → mid.handed < length mid.kept → letter ≡ slice_index_or kept handed letter
-    → letter.plan ≡ before.plan → after ≡ with_records letter.records.items before → HandedOut old (record { sent = sent; kept = kept; handed = handed + 1 }) before after
+    → arc_value letter.plan ≡ before.plan → after ≡ with_records (arc_value letter.records).items before → HandedOut old (record { sent = sent; kept = kept; handed = handed + 1 }) before after
 letter_handed old mid sent kept handed letter before after is same inside at of taken =
     let same_handed : handed ≡ mid.handed = ap (λ (p : PostValue). p.handed) is in
     let same_kept : kept ≡ mid.kept = ap (λ (p : PostValue). p.kept) is in

@@ -1,4 +1,3 @@
-pub mod Callers
 mod Counts
 mod Keeping
 mod News

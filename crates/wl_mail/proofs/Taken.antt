@@ -1,5 +1,5 @@
 -- What a group takes, record by record, and whether that changed what it knows.
-use Rattle.std.proofs.Common.{◌≡◌, ◌≢◌, ◌<◌, ◌+◌, ℕ, zero, suc, Bool, true, false, ◌||◌, List, [], ◌∷◌, ◌++◌, length, take, get_or, add-one, sym, subst, ap, ◌∙◌}
+use Rattle.std.proofs.Common.{◌≡◌, ◌≢◌, ◌<◌, ◌+◌, ℕ, zero, suc, Bool, true, false, ◌||◌, List, [], ◌∷◌, ◌++◌, length, take, get_or, add-one, refl, sym, subst, ap, ◌∙◌}
 use Rattle.std.proofs.Math.Seq.{take-suc}
 use Rattle.wl_record_core.specs.declared.record.Record.{Record}
 use Rattle.wl_replica.specs.State.{State, state_of, states_joined}
@@ -8,16 +8,28 @@ use Rattle.wl_plan.specs.declared.plan.Plan.{Plan}
 use Rattle.wl_group.specs.GroupValue.{GroupValue, with_records}
 use Rattle.wl_mail.specs.Truth.{AreTrueOfPlan}
 use Rattle.wl_mail.specs.Handed.{Took, TellsNews, IsNews}
+use Rattle.wl_mail.specs.Taking.{TakingLaws}
 
 -- ---- nothing, and more of them
 
-pub with_nothing : IsJoining → (old new : GroupValue) → new ≡ old → new ≡ with_records [] old
-with_nothing laws old new e = e ∙ ap (λ (s : State). record { plan = old.plan; ran = old.ran; replica = s; emitted = old.emitted }) (sym (laws.neutral old.replica))
+with_nothing : IsJoining → (g : GroupValue) → g ≡ with_records [] g
+with_nothing laws g = ap (λ (s : State). record { plan = g.plan; ran = g.ran; replica = s; emitted = g.emitted }) (sym (laws.neutral g.replica))
 
 pub with_both : TakingIsJoining → (a b c : GroupValue) (xs ys : List Record) → b ≡ with_records xs a → c ≡ with_records ys b → c ≡ with_records (xs ++ ys) a
 with_both laws a b c xs ys d e =
     e ∙ ap (with_records ys) d
     ∙ ap (λ (s : State). record { plan = a.plan; ran = a.ran; replica = s; emitted = a.emitted }) (laws.in_parts a.replica xs ys)
+
+both_true : (plan : Plan) (xs ys : List Record) → AreTrueOfPlan plan xs → AreTrueOfPlan plan ys → AreTrueOfPlan plan (xs ++ ys)
+both_true plan [] ys h g = g
+both_true plan (x ∷ xs) ys h g = (h.0, both_true plan xs ys h.1 g)
+
+took_both : TakingIsJoining → (a b c : GroupValue) → Took a b → Took b c → Took a c
+took_both laws a b c t u = record {
+  more = t.more ++ u.more;
+  are_true = both_true a.plan t.more u.more t.are_true (subst (λ p. AreTrueOfPlan p u.more) (ap (λ (g : GroupValue). g.plan) t.taken) u.are_true);
+  taken = with_both laws a b c t.more u.more t.taken u.taken;
+}
 
 pub first_true : (plan : Plan) (rs : List Record) (k : ℕ) → AreTrueOfPlan plan rs → AreTrueOfPlan plan (take k rs)
 first_true plan rs zero h = tt
@@ -59,3 +71,11 @@ pub changed_more : IsJoining → (a b c : GroupValue) (xs ys : List Record) → 
 changed_more laws a b c xs ys d e true y h g = changed_before laws a b c xs ys d e h
 changed_more laws a b c xs ys d e false true h g = subst (λ (z : GroupValue). c.replica ≢ z.replica) h g
 changed_more laws a b c xs ys d e false false h g = g ∙ h
+
+pub taking_laws : IsJoining → TakingIsJoining → TakingLaws
+taking_laws joins takes = record {
+  nothing = with_nothing joins;
+  in_parts = λ g rs others. with_both takes g (with_records rs g) (with_records others (with_records rs g)) rs others refl refl;
+  further = took_both takes;
+  news = λ a b c t u. changed_more joins a b c t.more u.more t.taken u.taken;
+}

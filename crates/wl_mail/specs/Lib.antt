@@ -1,4 +1,5 @@
 pub mod Handed
 pub mod Posts
+pub mod Taking
 pub mod Truth
 pub mod Ways

@@ -1,5 +1,6 @@
 -- A post, as contracts see it: what it sent, the letters that it received, and how far it has handed them out. This project's profile.
 use Rattle.std.specs.Prelude.{◌≡◌, ◌⊎◌, ◌≤◌, ℕ, suc, List, [], ◌∷◌, ◌++◌, length, replicate, slice_get, Some}
+use Rattle.std.specs.Arc.{arc_value}
 use Rattle.wl_group.specs.GroupValue.{GroupValue, with_records}
 use Rattle.wl_mail.specs.declared.letter.Letter.{Letter}
 
@@ -32,6 +33,6 @@ pub record KeepsLetters (old new : PostValue) : Type 0 where
 pub record HandedOut (old new : PostValue) (before after : GroupValue) : Type 0 where
   pub letter : Letter
   pub next : slice_get new.kept old.handed ≡ Some letter
-  pub plan_is : letter.plan ≡ before.plan
-  pub taken : after ≡ with_records letter.records.items before
+  pub plan_is : arc_value letter.plan ≡ before.plan
+  pub taken : after ≡ with_records (arc_value letter.records).items before
   pub counted : new.handed ≡ suc old.handed

@@ -2,11 +2,13 @@
 #![tactic(auto)]
 
 mod fault;
+mod laws;
 mod letter;
 mod post;
 mod taking;
 mod ways;
 
 pub use fault::MailFault;
+pub use laws::taking_laws;
 pub use letter::Letter;
 pub use post::{Hold, Post, posts};

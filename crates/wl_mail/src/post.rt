@@ -1,5 +1,6 @@
 //! Posts: the ends of the channels between workers.
 ghost use Rattle.std.specs.Prelude.{◌≡◌, ◌≢◌, ◌⊎◌, ℕ, suc, ◌-◌, ◌<◌, Err, All, IfOk, OnOk, OnErr, map, vec_len, length};
+ghost use Rattle.std.specs.Arc.{arc_value};
 ghost use Rattle.wl_mail.specs.Truth.{AreTrueOfPlan};
 ghost use Rattle.wl_mail.specs.Handed.{Took, TellsNews};
 ghost use Rattle.wl_mail.specs.Posts.{initial_post, with_sent, rewound, KeepsLetters, HandedOut};
@@ -12,7 +13,7 @@ use crate::ways::{Ways, ways_of};
 use crossbeam_channel::{Receiver, unbounded};
 use std::alloc::{AllocError, Global};
 use std::marker::Model;
-use std::sync::Wait;
+use std::sync::{Arc, Wait};
 use wl_group::Group;
 use wl_plan::Plan;
 use wl_record_core::Record;
@@ -61,7 +62,25 @@ impl Post {
         ensures some { (k : ℕ) × (self.new ≡ with_sent (one_letter_more_to k self.old.sent) self.old) }
         ensures cause { result ≢ Err Foreign }
     {
-        self.ways.send(rt, alloc, plan, records)
+        let letter = Letter::new(alloc, plan, records)?;
+        self.ways.send(rt, &letter)
+    }
+
+    /// The same of a plan that the letters of many calls share.
+    pub fn send_shared<R: Wait>(
+        &mut self,
+        rt: &R,
+        alloc: Global,
+        plan: &Arc<Plan>,
+        records: &[Record],
+    ) -> Result<(), MailFault>
+        requires { AreTrueOfPlan (arc_value plan.now) records.now }
+        ensures all { OnOk result (self.new ≡ with_sent (map one_letter_more self.old.sent) self.old) }
+        ensures some { (k : ℕ) × (self.new ≡ with_sent (one_letter_more_to k self.old.sent) self.old) }
+        ensures cause { result ≢ Err Foreign }
+    {
+        let letter = Letter::of(alloc, plan, records)?;
+        self.ways.send(rt, &letter)
     }
 
     /// Lets the group take the records of the next letter, and answers whether that changed what the group knows. The next letter is the

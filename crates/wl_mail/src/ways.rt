@@ -1,6 +1,5 @@
 //! The ways from a worker to all other workers.
 ghost use Rattle.std.specs.Prelude.{◌≡◌, ◌≢◌, ℕ, ◌-◌, ◌<◌, Err, IfOk, MatchBool, OnOk, OnErr, map, replicate, length};
-ghost use Rattle.wl_mail.specs.Truth.{AreTrueOfPlan};
 ghost use Rattle.wl_mail.specs.Ways.{one_letter_more, one_letter_more_to};
 ghost use Rattle.wl_mail.specs.declared.fault.MailFault.TheVariants.{Foreign, Gone, Memory};
 
@@ -10,8 +9,6 @@ use crossbeam_channel::Sender;
 use std::alloc::{AllocError, Global};
 use std::marker::Model;
 use std::sync::Wait;
-use wl_plan::Plan;
-use wl_record_core::Record;
 
 /// The way to another worker.
 #[derive(Drop)]
@@ -62,22 +59,15 @@ impl Way {
 }
 
 impl Ways {
-    /// Sends a letter of these records, which are true of the plan, every way. Refused, it may have gone the first ways.
-    pub(crate) fn send<R: Wait>(
-        &mut self,
-        rt: &R,
-        alloc: Global,
-        plan: &Plan,
-        records: &[Record],
-    ) -> Result<(), MailFault>
-        requires { AreTrueOfPlan plan.now records.now }
+    /// Sends a letter every way. Refused, it may have gone the first ways.
+    pub(crate) fn send<R: Wait>(&mut self, rt: &R, letter: &Letter) -> Result<(), MailFault>
         ensures all { OnOk result (self.new ≡ map one_letter_more self.old) }
         ensures some { (k : ℕ) × (self.new ≡ one_letter_more_to k self.old) }
         ensures cause { result ≢ Err Foreign }
     {
         for i in 0..self.ways.len() {
-            let letter = Letter::new(alloc, plan, records)?;
-            self.ways[i].send(rt, letter)?;
+            let same = letter.share()?;
+            self.ways[i].send(rt, same)?;
         }
         Ok(())
     }
