@@ -52,6 +52,3 @@ next_first fault ends h = (
 
 pub next_lower : (fault other : Fault) → IsNextFault (Some other) (Err fault) (Some (lower_fault fault other))
 next_lower fault other ends h = lower_at (nat_lt (rank other) (rank fault)) fault other ends refl h
-
-pub first_alone : (fault : Fault) → IsLowestFault (Err fault ∷ []) (Some fault)
-first_alone fault = next_first fault [] (All-nil IsOk)

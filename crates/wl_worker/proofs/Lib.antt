@@ -1,7 +1,8 @@
 mod Faults
 mod Fits
-mod Given
+mod Handing
 mod Named
+mod PassLists
 mod Shares
 mod Steps
 mod Told

@@ -4,7 +4,8 @@ use Rattle.std.proofs.lemmas.Bool.Decides.{nat_tests}
 use Rattle.std.proofs.lemmas.Bool.{eq-eqb, eqb-true}
 use Rattle.std.proofs.lemmas.List.Elements.{All-append, All-cons, All-nil}
 use Rattle.std.proofs.lemmas.List.Folds.{list_any-append}
-use Rattle.std.proofs.lemmas.List.{get_or_append_left, get_or_push}
+use Rattle.std.specs.Prelude.{IsOk}
+use Rattle.std.proofs.lemmas.List.{get_or_append_left, get_or_push, length-append}
 use Rattle.wl_node.specs.declared.setup.NodeSetup.{NodeSetup}
 use Rattle.wl_node.specs.History.{history_of}
 use Rattle.wl_plan.specs.declared.plan.Plan.{Plan}
@@ -18,7 +19,8 @@ use Rattle.wl_serial.specs.Outcome.{outcome_of_history, node_outcome_of}
 use Rattle.wl_worker.specs.Finished.{HasFinished}
 use Rattle.wl_worker.specs.declared.link.Fault.{Fault}
 use Rattle.wl_worker.specs.declared.link.Fault.TheVariants.{Workers}
-use Rattle.wl_worker.specs.Shares.{IsShare, IsDone, IsEnd}
+use Rattle.wl_worker.specs.declared.crew.OfShare.{OfShare}
+use Rattle.wl_worker.specs.Shares.{IsShare, IsDone, IsEnd, IsPromise, KeepsPromise, EndsKept, HaveEnded}
 
 -- ---- members
 
@@ -90,9 +92,11 @@ pub end_is : (plan : Plan) (workers worker : ℕ) (begun : GroupValue) (end : Re
 end_is plan workers worker begun (Ok done) s f e = done_is plan workers worker begun done s f
 end_is plan workers worker begun (Err fault) s f e = e
 
-pub fault_kept : (plan : Plan) (workers worker : ℕ) (end : Result GroupValue Fault) → IsEnd plan workers worker end → IfErr end (λ fault. fault ≢ Workers)
-fault_kept plan workers worker (Ok g) h = tt
-fault_kept plan workers worker (Err fault) h = h
+-- what a thread that promised it came to
+pub end_of_promise : (plan : Plan) (workers worker : ℕ) (p : OfShare) (end : Result GroupValue Fault) → IsPromise plan workers worker p → KeepsPromise p end → IsEnd plan workers worker end
+end_of_promise plan workers worker p end is kept =
+    subst (λ w. IsEnd plan workers w end) is.worker_is
+    (subst (λ n. IsEnd plan n p.worker end) is.workers_are (subst (λ q. IsEnd q p.workers p.worker end) is.plan_is kept))
 
 pub both_ok : {A E : Type 0} (r : Result A E) (P Q S : A → Type 0) → ((x : A) → P x → Q x → S x) → IfOk r P → IfOk r Q → IfOk r S
 both_ok (Ok x) P Q S f p q = f x p q
@@ -121,3 +125,30 @@ one_behind {X} xs ys y n Q e len h q k d b =
     (λ j low u. subst (λ (zs : List X). Q j (slice_index_or zs j u)) (sym e) (subst (Q j) (sym (get_or_append_left xs (y ∷ []) u j (omega arith))) (h j u low)))
     (λ u. subst (λ (zs : List X). Q n (slice_index_or zs n u)) (sym e) (subst (Q n) (sym (get_or_push xs y u n len)) q))
     k b d
+
+-- ---- all ends
+
+-- all workers came to their ends or failed
+failed_not_ok : (fault : Fault) (end : Result GroupValue Fault) → end ≡ Err fault → IsOk end → ⊥
+failed_not_ok fault (Ok group) e ok = cc
+failed_not_ok fault (Err other) e ok = cc
+
+pub ended_all : (plan : Plan) (workers : ℕ) (ends : List (Result GroupValue Fault)) → EndsKept plan workers ends → length ends ≡ workers → HaveEnded plan workers ends
+ended_all plan workers ends kept all = record { kept = kept; all = λ ok. all }
+
+-- those before one that could not be started, and then that one
+pub ended_short : (plan : Plan) (workers : ℕ) (ends more : List (Result GroupValue Fault)) (fault : Fault) → more ≡ ends ++ Err fault ∷ [] → EndsKept plan workers ends → fault ≢ Workers
+    → HaveEnded plan workers more
+ended_short plan workers ends more fault e kept other =
+    let longer : length more ≡ length ends + 1 = ap length e ∙ length-append ends (Err fault ∷ []) in record {
+      kept = λ w d b. one_behind ends more (Err fault) (length ends) (λ j end. IsEnd plan workers j end) e refl (λ j u low. kept j u low) other w d (omega arith);
+      all = λ ok.
+          let last : IsOk (slice_index_or more (length ends) (Err fault)) = ok (length ends) (Err fault) (omega arith) in
+          let failed : slice_index_or more (length ends) (Err fault) ≡ Err fault
+          = ap (λ xs. slice_index_or xs (length ends) (Err fault)) e ∙ get_or_push ends (Err fault) (Err fault) (length ends) refl in
+          absurd (failed_not_ok fault _ failed last);
+    }
+
+-- the end of each worker, where all came to theirs
+pub end_done : (plan : Plan) (workers w : ℕ) (end : Result GroupValue Fault) (group : GroupValue) → IsEnd plan workers w end → end ≡ Ok group → IsDone plan workers w group
+end_done plan workers w end group is e = subst (IsEnd plan workers w) e is

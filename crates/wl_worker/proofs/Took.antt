@@ -8,32 +8,22 @@ use Rattle.wl_record_core.specs.declared.record.Record.TheVariants.{Edge, Silenc
 use Rattle.wl_replica.specs.Slots.{edge_in, silence_in}
 use Rattle.wl_replica.specs.State.{State, edge_at, silence_at}
 use Rattle.wl_replica.specs.SlotsOf.{SlotsOfStates}
-use Rattle.wl_replica.specs.Laws.{TakingIsJoining, IsJoining}
 use Rattle.wl_plan.specs.declared.plan.Plan.{Plan}
 use Rattle.wl_plan.specs.PlanLine.{IsTrueOfPlan}
 use Rattle.wl_group.specs.GroupValue.{GroupValue, with_records}
 use Rattle.wl_worker.specs.Handed.{AreTrueOfPlan, Took, TellsNews}
-use Rattle.wl_mail.proofs.Callers.{with_nothing, with_both, changed_more}
-use Rattle.wl_worker.proofs.Steps.{took_plan}
+use Rattle.wl_mail.specs.Taking.{TakingLaws}
 
 -- ---- nothing, one record, and more of them
 
-pub took_nothing : IsJoining → (old new : GroupValue) → new ≡ old → Took old new
-took_nothing laws old new e = record { more = []; are_true = tt; taken = with_nothing laws old new e }
+pub took_nothing : TakingLaws → (old new : GroupValue) → new ≡ old → Took old new
+took_nothing laws old new e = record { more = []; are_true = tt; taken = e ∙ laws.nothing old }
 
 pub took_one : (old new : GroupValue) (r : Record) → IsTrueOfPlan old.plan r → new ≡ with_records (r ∷ []) old → Took old new
 took_one old new r h e = record { more = r ∷ []; are_true = (h, tt); taken = e }
 
-both_true : (plan : Plan) (xs ys : List Record) → AreTrueOfPlan plan xs → AreTrueOfPlan plan ys → AreTrueOfPlan plan (xs ++ ys)
-both_true plan [] ys h g = g
-both_true plan (x ∷ xs) ys h g = (h.0, both_true plan xs ys h.1 g)
-
-pub took_both : TakingIsJoining → (a b c : GroupValue) → Took a b → Took b c → Took a c
-took_both laws a b c t u = record {
-  more = t.more ++ u.more;
-  are_true = both_true a.plan t.more u.more t.are_true (subst (λ p. AreTrueOfPlan p u.more) (took_plan a b t) u.are_true);
-  taken = with_both laws a b c t.more u.more t.taken u.taken;
-}
+pub took_both : TakingLaws → (a b c : GroupValue) → Took a b → Took b c → Took a c
+took_both laws = laws.further
 
 -- ---- whether it changed
 
@@ -64,5 +54,5 @@ silence_changes laws old new n c u less e same =
     let still : (silence_at new.replica (n, c)).word ≡ (silence_at old.replica (n, c)).word = ap (λ (x : State). (silence_at x (n, c)).word) same in
     absurd (omega arith)
 
-pub changed_both : IsJoining → (a b c : GroupValue) → Took a b → Took b c → (x y : Bool) → TellsNews a b x → TellsNews b c y → TellsNews a c (x || y)
-changed_both laws a b c t u = changed_more laws a b c t.more u.more t.taken u.taken
+pub changed_both : TakingLaws → (a b c : GroupValue) → Took a b → Took b c → (x y : Bool) → TellsNews a b x → TellsNews b c y → TellsNews a c (x || y)
+changed_both laws = laws.news

@@ -20,11 +20,6 @@ abbrev pub IsLowestFault : List (Result GroupValue Fault) → Option Fault → T
 IsLowestFault ends None = All IsOk ends
 IsLowestFault ends (Some fault) = Any (λ end. end ≡ Err fault) ends × All (λ end. IfErr end (λ other. rank fault ≤ rank other)) ends
 
--- the first of this fault and of those that so many workers came to
-abbrev pub IsFirstOf : ℕ → Fault → Fault → Type 0
-IsFirstOf workers fault first =
-    (ends : List (Result GroupValue Fault)) × (length ends ≡ workers) × IsLowestFault (Err fault ∷ ends) (Some first)
-
 -- whatever others came to before: with what one more came to, the first fault is this one
 abbrev pub IsNextFault : Option Fault → Result GroupValue Fault → Option Fault → Type 0
 IsNextFault first end next = (ends : List (Result GroupValue Fault)) → IsLowestFault ends first → IsLowestFault (ends ++ end ∷ []) next

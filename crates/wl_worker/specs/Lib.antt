@@ -1,5 +1,6 @@
 pub mod Faults
 pub mod Finished
+pub mod Given
 pub mod Handed
 pub mod Letters
 pub mod Shared

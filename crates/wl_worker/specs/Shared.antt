@@ -4,10 +4,11 @@ use Rattle.wl_clock.specs.Timing.{tick_of}
 use Rattle.wl_record_core.specs.declared.record.Record.{Record}
 use Rattle.wl_plan.specs.declared.plan.Plan.{Plan}
 use Rattle.wl_plan.specs.PlanLine.{setup_at, IsTrueOfPlan}
+use Rattle.wl_plan.specs.Changes.{most_changes}
 use Rattle.wl_plan.specs.Checked.{IsChecked}
 use Rattle.wl_hub.specs.declared.hub.Hub.{Hub}
 use Rattle.wl_hub.specs.declared.hub.Pass.{Pass}
-use Rattle.wl_hub.specs.Passes.{with_edge, with_silence, pass_name, shape_of}
+use Rattle.wl_hub.specs.Passes.{with_edge, with_silence, given_edges, given_silences, pass_name, shape_of}
 use Rattle.wl_worker.specs.declared.shared.PlanName.{PlanName}
 
 abbrev pub name_of_plan : Plan → PlanName
@@ -21,10 +22,12 @@ is_told name told = IsTrueOfPlan name.plan told
 abbrev pub IsTrueOfName : Option PlanName → Record → Type 0
 IsTrueOfName name told = (plan : Plan) → name ≡ Some (name_of_plan plan) → IsTrueOfPlan plan told
 
--- a node with k quanta before the end has k edge words and one silence word more
+-- a node some of whose quanta begin before the end has as many edge words as it may have changes, and one silence word more
 pub record HasWords (plan : Plan) (i : ℕ) (words : ℕ × ℕ) : Type 0 where
-  pub reached : plan.end ≤ tick_of (setup_at plan i).clock words.0
-  pub least : (k : ℕ) → k < words.0 → tick_of (setup_at plan i).clock k < plan.end
+  pub quanta : ℕ
+  pub reached : plan.end ≤ tick_of (setup_at plan i).clock quanta
+  pub least : (k : ℕ) → k < quanta → tick_of (setup_at plan i).clock k < plan.end
+  pub edges : words.0 ≡ most_changes plan i quanta
   pub silences : words.1 ≡ suc words.0
 
 -- so has each node of the plan
@@ -46,3 +49,12 @@ pub record IsOfPlan (hub : Hub PlanName) (pass : Pass PlanName) (plan : Plan) : 
   pub name : pass_name pass ≡ Some (name_of_plan plan)
   pub checked : IsChecked plan
   pub words : IsShapeOf plan (shape_of hub)
+
+-- the list of a pass grew by exactly these records, each in its part
+pub record PassGave (old new : Pass PlanName) (records : List Record) : Type 0 where
+  pub edges : given_edges new ≡ with_edges (given_edges old) records
+  pub silences : given_silences new ≡ with_silences (given_silences old) records
+
+-- the links of workers 0, 1 and so on
+abbrev pub AreNumbered : {L : Type 0} → (L → ℕ) → List L → Type 0
+AreNumbered {L} number links = (w : ℕ) (d : L) → w < length links → number (slice_index_or links w d) ≡ w

@@ -1,56 +1,54 @@
 //! What came: what a pass sees in a hub that a group does not know yet, and how many letters others sent.
-ghost use Rattle.std.specs.Prelude.{◌≡◌, ◌<◌, ◌||◌, ℕ, Some, IfOk, IfSome, length};
+ghost use Rattle.std.specs.Prelude.{◌≡◌, ◌<◌, ◌||◌, ℕ, None, Some, IfOk, IfSome, length};
 ghost use Rattle.wl_record_core.specs.declared.record.Record.TheVariants.{Edge, Silence};
 ghost use Rattle.wl_plan.specs.PlanLine.{IsTrueOfPlan};
 ghost use Rattle.wl_hub.specs.Passes.{IsPassOf, pass_name};
 ghost use Rattle.wl_worker.specs.Handed.{Took, TellsNews};
 ghost use Rattle.wl_worker.specs.Shared.{name_of_plan, IsTrueOfName};
 
-use crate::bell::{Bell, MOST_WORKERS};
+use crate::bell::{Bell, Rings};
 use crate::shared::PlanName;
 use std::alloc::AllocError;
 use std::sync::Wait;
 use wl_group::Group;
 use wl_hub::{Hub, Pass, words_tell_records};
 use wl_lattice::FlatWord;
+use wl_mail::taking_laws;
 use wl_record_core::{Record, Slot};
-use wl_replica::{Word, joining_is_a_join, slots_of_states, taking_is_joining};
+use wl_replica::{Word, slots_of_states};
 use wl_topology::MOST_NODES;
 
-/// How often a bell had rung before a look for what came. Only a look makes one, and of a number that was read before the look: so whoever
-/// waits until the bell rings again can't miss what was given while it looked.
+/// How often a bell had rung before a look for what came. Only a look makes one, and of what the bell said before it: so whoever waits until
+/// the bell rings again can't miss what was given while it looked.
 #[derive(Clone, Copy, Drop)]
 pub(crate) struct Heard {
-    rings: u64,
+    rings: Option<Rings>,
 }
 
 impl Heard {
     /// Before any look: no ring was heard.
     pub(crate) fn nothing() -> Heard
-        ensures { result.rings ≡ 0 }
+        ensures { result.rings ≡ None }
     {
-        Heard { rings: 0 }
+        Heard { rings: None }
     }
 
-    /// The number of rings.
-    pub(crate) fn rings(self) -> u64
-        ensures { result ≡ self.rings }
-    {
-        self.rings
+    /// Waits until the bell has rung after the look, or some worker stopped; where there was no look it doesn't wait. Answers the first one
+    /// that stopped.
+    pub(crate) fn wait<R: Wait>(self, rt: &R, bell: &Bell) -> Option<u8> {
+        match self.rings {
+            Some(rings) => bell.wait_past(rt, rings),
+            None => bell.stopped(rt),
+        }
     }
 }
 
 /// How many letters the workers other than this one have sent, by a bell that had rung so often before; 2^64 - 1 stands for more.
-pub(crate) fn sent_by_others<R: Wait>(rt: &R, bell: &Bell, worker: u8, rings: u64) -> (u64, Heard)
-    ensures { result.1.rings ≡ rings }
+pub(crate) fn sent_by_others(bell: &Bell, worker: u8, rings: Rings) -> (u64, Heard)
+    ensures { result.1.rings ≡ Some rings }
 {
-    let mut sent = 0u64;
-    for other in 0..MOST_WORKERS as u8 {
-        if other != worker {
-            sent = sent.saturating_add(bell.gives(rt, other));
-        }
-    }
-    (sent, Heard { rings })
+    let heard = Heard { rings: Some(rings) };
+    (bell.gives_of_others(worker), heard)
 }
 
 /// Whether one of the two is.
@@ -105,7 +103,7 @@ fn learn_edge(group: &mut Group, node: u8, seq: u32, tick: u64) -> Result<bool, 
     ensures took { Took group.old group.new }
     ensures changed { IfOk result (λ b. TellsNews group.old group.new b) }
 {
-    joining_is_a_join();
+    taking_laws();
     slots_of_states();
     let Word::Edge(FlatWord::Nothing) = group.replica().slot(Slot::EdgeAt { node, seq }) else {
         return Ok(false);
@@ -121,7 +119,7 @@ fn learn_silence(group: &mut Group, node: u8, count: u32, until: u64) -> Result<
     ensures took { Took group.old group.new }
     ensures changed { IfOk result (λ b. TellsNews group.old group.new b) }
 {
-    joining_is_a_join();
+    taking_laws();
     slots_of_states();
     let known = match group.replica().slot(Slot::SilenceAt { node, count }) {
         Word::Silence(known) => known.word,
@@ -151,8 +149,7 @@ fn learn_edges(
     ensures took { Took group.old group.new }
     ensures changed { IfOk result (λ r. TellsNews group.old group.new r.0) }
 {
-    joining_is_a_join();
-    taking_is_joining();
+    taking_laws();
     let mut came = false;
     let mut next = first;
     for seq in first..u32::MAX {
@@ -196,8 +193,7 @@ fn learn_node(
     ensures took { Took group.old group.new }
     ensures changed { IfOk result (λ b. TellsNews group.old group.new b) }
 {
-    joining_is_a_join();
-    taking_is_joining();
+    taking_laws();
     if group.has(node) {
         return Ok(false);
     }
@@ -222,7 +218,7 @@ pub(crate) fn learn_all(
     pass: &mut Pass<PlanName>,
     group: &mut Group,
     handed: &mut Handed,
-    rings: u64,
+    rings: Rings,
 ) -> Result<(bool, Heard), AllocError>
     requires here { IsPassOf hub.now pass.old }
     requires name { pass_name pass.old ≡ Some (name_of_plan group.old.plan) }
@@ -230,14 +226,13 @@ pub(crate) fn learn_all(
     ensures name { pass_name pass.new ≡ pass_name pass.old }
     ensures took { Took group.old group.new }
     ensures changed { IfOk result (λ r. TellsNews group.old group.new r.0) }
-    ensures heard { IfOk result (λ r. r.1.rings ≡ rings) }
+    ensures heard { IfOk result (λ r. r.1.rings ≡ Some rings) }
 {
-    joining_is_a_join();
-    taking_is_joining();
+    taking_laws();
     let mut came = false;
     for node in 0..MOST_NODES as u8 {
         let taken = learn_node(hub, pass, group, node, &mut handed[usize::from(node)])?;
         came = either(came, taken);
     }
-    Ok((came, Heard { rings }))
+    Ok((came, Heard { rings: Some(rings) }))
 }

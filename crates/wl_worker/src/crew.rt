@@ -1,10 +1,11 @@
 //! All workers of a plan, each in a thread of its own, and what they come to.
-ghost use Rattle.std.specs.Prelude.{◌≡◌, ◌≢◌, ◌<◌, ◌⊎◌, ◌↔◌, true, All, Err, IfOk, IfErr, IfSome, Some, length, vec_len};
+ghost use Rattle.std.specs.Prelude.{◌≡◌, ◌≢◌, ◌<◌, ◌≤◌, ◌⊎◌, ◌↔◌, ℕ, true, All, Err, IsOk, IfOk, IfErr, IfSome, IfNone, Some, get_or, length, vec_len, vec_capacity};
 ghost use Rattle.wl_plan.specs.Checked.{IsChecked};
 ghost use Rattle.wl_group.specs.GroupValue.{belongs, has_ended};
 ghost use Rattle.wl_serial.specs.Outcome.{outcome_of, node_outcome_of};
-ghost use Rattle.wl_worker.specs.Faults.{IsLowestFault, IsNextFault, IsFirstOf};
-ghost use Rattle.wl_worker.specs.Shares.{IsEnd, IsPromise, EndsKept};
+ghost use Rattle.wl_worker.specs.Faults.{IsLowestFault, IsNextFault};
+ghost use Rattle.wl_worker.specs.Shares.{IsEnd, IsPromise, EndsKept, HaveEnded, IsFaultOfEnds, IsFaultOfRun};
+ghost use Rattle.wl_worker.specs.Shared.{AreNumbered};
 
 use crate::bell::MOST_WORKERS;
 use crate::link::{Fault, Gate, Link};
@@ -35,10 +36,13 @@ impl Promise<Result<Group, Fault>> for OfShare {
     ghost kept_by = { KeepsPromise };
 }
 
+/// A worker's thread, which promises what it comes to.
+type Child = PromisedHandle<Result<Group, Fault>, OfShare>;
+
 /// What the one-thread simulation of a plan comes to, by as many workers as there are links: link `w` is that of worker `w`, which runs
 /// the nodes `i` with `i` mod workers equal to `w`, in a thread of its own. Where it fails there is no partial outcome; of several faults
 /// the first by `Fault`'s order, and of these the lowest worker's, is answered. Where no thread can be made for a worker, that worker has
-/// stopped.
+/// stopped, and no more are started.
 pub fn simulate_over<R: Threads + Wait + Sync, L: Link + Send + Drop, G: Gate + Sync>(
     rt: &R,
     alloc: Global,
@@ -48,21 +52,44 @@ pub fn simulate_over<R: Threads + Wait + Sync, L: Link + Send + Drop, G: Gate + 
 ) -> Result<Outcome, Fault>
     requires checked { IsChecked plan }
     requires links { All (λ l. L.is_of l plan) links.items }
+    requires numbered { AreNumbered L.number links.items }
     ensures outcome { IfOk result (λ outcome. outcome ≡ outcome_of plan) }
     ensures workers { result ≡ Err Fault.Workers ↔ (vec_len links ≡ 0) ⊎ (8 < vec_len links) }
+    ensures fault { IfErr result (IsFaultOfRun plan (vec_len links)) }
 {
     if links.is_empty() || links.len() > MOST_WORKERS {
         return Err(Fault::Workers);
     }
     let workers = links.len() as u8;
     let ends = run_all(rt, alloc, &plan, workers, links, gate)?;
-    if let Some(fault) = first_fault(ends.as_slice()) {
-        return Err(fault);
-    }
-    outcome_from(alloc, &plan, workers, ends.as_slice())
+    outcome_of_ends(alloc, &plan, workers, ends.as_slice())
 }
 
-/// Runs all workers, each in a thread of its own, and answers what they came to, in order.
+/// What all workers come to together: the outcome, or the first of their faults.
+fn outcome_of_ends(
+    alloc: Global,
+    plan: &Plan,
+    workers: u8,
+    ends: &[Result<Group, Fault>],
+) -> Result<Outcome, Fault>
+    requires checked { IsChecked plan.now }
+    requires some { 0 < workers }
+    requires ends { HaveEnded plan.now workers ends.now }
+    ensures outcome { IfOk result (λ outcome. outcome ≡ outcome_of plan.now) }
+    ensures fault { IfErr result (IsFaultOfEnds ends.now) }
+    ensures cause { result ≢ Err Fault.Workers }
+{
+    if let Some(fault) = first_fault(ends) {
+        return Err(fault);
+    }
+    match outcome_from(alloc, plan, workers, ends) {
+        Ok(outcome) => Ok(outcome),
+        Err(AllocError) => Err(Fault::Memory),
+    }
+}
+
+/// Runs all workers, each in a thread of its own, and answers what they came to, in order: all of them, or those up to one for which no
+/// thread could be made. Refused only when out of memory, before any began.
 fn run_all<R: Threads + Wait + Sync, L: Link + Send + Drop, G: Gate + Sync>(
     rt: &R,
     alloc: Global,
@@ -73,10 +100,10 @@ fn run_all<R: Threads + Wait + Sync, L: Link + Send + Drop, G: Gate + Sync>(
 ) -> Result<Vec<Result<Group, Fault>>, Fault>
     requires checked { IsChecked plan.now }
     requires links { All (λ l. L.is_of l plan.now) links.items }
+    requires numbered { AreNumbered L.number links.items }
     requires count { vec_len links ≡ workers }
-    ensures count { IfOk result (λ ends. vec_len ends ≡ workers) }
-    ensures kept { IfOk result (λ ends. EndsKept plan.now workers ends.items) }
-    ensures fault { IfErr result (λ fault. fault ≢ Fault.Workers) }
+    ensures ends { IfOk result (λ ends. HaveEnded plan.now workers ends.items) }
+    ensures fault { IfErr result (λ fault. fault ≡ Fault.Memory) }
 {
     let refused = AtomicU64::new(u64::MAX);
     let refusal = &refused;
@@ -84,14 +111,15 @@ fn run_all<R: Threads + Wait + Sync, L: Link + Send + Drop, G: Gate + Sync>(
         thread::scope_env(),
         rt,
         |scope| -> Result<Vec<Result<Group, Fault>>, Fault>
-            requires { IsChecked plan.now × All (λ l. L.is_of l plan.now) links.items × (vec_len links ≡ workers) }
-            ensures ends { IfOk result (λ ends. (vec_len ends ≡ workers) × EndsKept plan.entry.now workers ends.items) }
-            ensures fault { IfErr result (λ fault. fault ≢ Fault.Workers) }
+            requires { IsChecked plan.now × All (λ l. L.is_of l plan.now) links.items
+                × AreNumbered L.number links.items × (vec_len links ≡ workers) }
+            ensures ends { IfOk result (λ ends. HaveEnded plan.entry.now workers ends.items) }
+            ensures fault { IfErr result (λ fault. fault ≡ Fault.Memory) }
         { run_in(scope, rt, alloc, plan, workers, links, gate, refusal) },
     )
 }
 
-/// Starts a thread of this scope for each link, and joins them.
+/// Starts a thread of this scope for each link, and joins them. Room for what they come to is made before the first begins.
 fn run_in<'s, E, R: Threads + Wait + Sync, L: Link + Send + Drop + 's, G: Gate + Sync>(
     scope: &Scope<'s, E>,
     rt: &'s R,
@@ -104,24 +132,81 @@ fn run_in<'s, E, R: Threads + Wait + Sync, L: Link + Send + Drop + 's, G: Gate +
 ) -> Result<Vec<Result<Group, Fault>>, Fault>
     requires checked { IsChecked plan.now }
     requires links { All (λ l. L.is_of l plan.now) links.items }
+    requires numbered { AreNumbered L.number links.items }
     requires count { vec_len links ≡ workers }
-    ensures count { IfOk result (λ ends. vec_len ends ≡ workers) }
-    ensures kept { IfOk result (λ ends. EndsKept plan.now workers ends.items) }
-    ensures fault { IfErr result (λ fault. fault ≢ Fault.Workers) }
+    ensures ends { IfOk result (λ ends. HaveEnded plan.now workers ends.items) }
+    ensures fault { IfErr result (λ fault. fault ≡ Fault.Memory) }
 {
-    let mut children = Vec::with_capacity(alloc, usize::from(workers))?;
+    let children = Vec::with_capacity(alloc, usize::from(workers))?;
+    let ends = Vec::with_capacity(alloc, usize::from(workers) + 1)?;
+    let (children, unstarted) = start_all(
+        scope, rt, alloc, plan, workers, links, gate, refusal, children,
+    );
+    let mut ends = join_all(rt, plan, workers, children, ends);
+    if let Some(fault) = unstarted {
+        ends.push_reserved(Err(fault));
+    }
+    Ok(ends)
+}
+
+/// Starts a thread of this scope for each link, up to one for which none can be made. Answers the threads, and the fault of that worker, if
+/// there is one.
+fn start_all<'s, E, R: Threads + Wait + Sync, L: Link + Send + Drop + 's, G: Gate + Sync>(
+    scope: &Scope<'s, E>,
+    rt: &'s R,
+    alloc: Global,
+    plan: &'s Plan,
+    workers: u8,
+    links: Vec<L>,
+    gate: &'s G,
+    refusal: &'s AtomicU64,
+    children: Vec<Child>,
+) -> (Vec<Child>, Option<Fault>)
+    requires checked { IsChecked plan.now }
+    requires links { All (λ l. L.is_of l plan.now) links.items }
+    requires numbered { AreNumbered L.number links.items }
+    requires count { vec_len links ≡ workers }
+    requires room { (vec_len children ≡ 0) × (workers ≤ vec_capacity children) }
+    ensures count { vec_len result.0 ≤ workers }
+    ensures promises { (w : ℕ) (d : _) → w < vec_len result.0
+        → IsPromise plan.now workers w (get_or result.0.items w d).promise }
+    ensures all { IfNone result.1 (vec_len result.0 ≡ workers) }
+    ensures fault { IfSome result.1 (λ fault. (fault ≢ Fault.Workers) × (vec_len result.0 < workers)) }
+{
+    let mut children = children;
     let mut worker = 0;
     for link in links {
         match start(scope, rt, alloc, plan, workers, worker, link, gate, refusal) {
             Ok(child) => children.push_reserved(child),
-            Err(fault) => return Err(lowest(rt, children, fault)),
+            Err(fault) => return (children, Some(fault)),
         }
         worker += 1;
     }
-    match thread::join_promised(rt, children) {
-        Ok(ends) => Ok(ends),
-        Err(_) => Err(Fault::Memory),
+    (children, None)
+}
+
+/// Joins the threads of workers 0, 1 and so on, and puts what they came to into a list with room.
+fn join_all<R: Threads>(
+    rt: &R,
+    plan: &Plan,
+    workers: u8,
+    children: Vec<Child>,
+    ends: Vec<Result<Group, Fault>>,
+) -> Vec<Result<Group, Fault>>
+    requires promises { (w : ℕ) (d : _) → w < vec_len children
+        → IsPromise plan.now workers w (get_or children.items w d).promise }
+    requires room { (vec_len ends ≡ 0) × (vec_len children < vec_capacity ends) }
+    ensures count { vec_len result ≡ vec_len children }
+    ensures room { vec_capacity result ≡ vec_capacity ends }
+    ensures kept { EndsKept plan.now workers result.items }
+{
+    let _ = plan;
+    let _ = workers;
+    let mut ends = ends;
+    for child in children {
+        ends.push_reserved(child.join(rt));
     }
+    ends
 }
 
 /// Starts the thread of a worker. Where none can be made, the worker stops, and so do all that wait.
@@ -135,10 +220,11 @@ fn start<'s, E, R: Wait + Sync, L: Link + Send + Drop + 's, G: Gate + Sync>(
     link: L,
     gate: &'s G,
     refusal: &'s AtomicU64,
-) -> Result<PromisedHandle<Result<Group, Fault>, OfShare>, Fault>
+) -> Result<Child, Fault>
     requires checked { IsChecked plan.now }
     requires worker { worker < workers }
     requires link { L.is_of link plan.now }
+    requires number { L.number link ≡ worker }
     ensures promise { IfOk result (λ child. IsPromise plan.now workers worker child.promise) }
     ensures fault { IfErr result (λ fault. fault ≢ Fault.Workers) }
 {
@@ -174,6 +260,7 @@ fn run_one<R: Wait, L: Link + Drop, G: Gate>(
     requires checked { IsChecked plan.now }
     requires worker { worker < workers }
     requires link { L.is_of link plan.now }
+    requires number { L.number link ≡ worker }
     ensures { IsEnd plan.now workers worker result }
 {
     let mut link = link;
@@ -188,23 +275,6 @@ fn run_one<R: Wait, L: Link + Drop, G: Gate>(
             Err(Fault::Memory)
         }
     }
-}
-
-/// The first of these threads' faults and of another one, once all have ended.
-fn lowest<R: Threads>(
-    rt: &R,
-    children: Vec<PromisedHandle<Result<Group, Fault>, OfShare>>,
-    fault: Fault,
-) -> Fault
-    requires { fault ≢ Fault.Workers }
-    ensures first { IsFirstOf (vec_len children) fault result }
-    ensures fault { result ≢ Fault.Workers }
-{
-    let mut first = fault;
-    for child in children {
-        first = lower_of(first, &child.join(rt));
-    }
-    first
 }
 
 /// The first fault of these ends: by the order of faults, and then by worker.
@@ -231,8 +301,7 @@ fn with_end(first: Option<Fault>, end: &Result<Group, Fault>) -> Option<Fault>
 
 /// The first of a fault and of that of one end more.
 fn lower_of(first: Fault, end: &Result<Group, Fault>) -> Fault
-    ensures next { IsNextFault (Some first) end.now (Some result) }
-    ensures fault { first ≢ Fault.Workers → IfErr end.now (λ fault. fault ≢ Fault.Workers) → result ≢ Fault.Workers }
+    ensures { IsNextFault (Some first) end.now (Some result) }
 {
     match end {
         Err(fault) => fault.or_lower(first),
@@ -240,18 +309,18 @@ fn lower_of(first: Fault, end: &Result<Group, Fault>) -> Fault
     }
 }
 
-/// What all groups, at their ends, come to together.
+/// What all groups, at their ends, come to together. Refused only when out of memory.
 fn outcome_from(
     alloc: Global,
     plan: &Plan,
     workers: u8,
     ends: &[Result<Group, Fault>],
-) -> Result<Outcome, Fault>
+) -> Result<Outcome, AllocError>
     requires checked { IsChecked plan.now }
     requires count { (0 < workers) × (length ends.now ≡ workers) }
+    requires ended { All IsOk ends.now }
     requires kept { EndsKept plan.now workers ends.now }
-    ensures outcome { IfOk result (λ outcome. outcome ≡ outcome_of plan.now) }
-    ensures fault { IfErr result (λ fault. fault ≢ Fault.Workers) }
+    ensures { IfOk result (λ outcome. outcome ≡ outcome_of plan.now) }
 {
     let mut nodes = Listed::new(alloc);
     for i in 0..plan.topology.nodes() {
@@ -264,25 +333,25 @@ fn outcome_from(
     })
 }
 
-/// What node `i` did, by the group that has it; or the fault of the worker that should have it.
+/// What node `i` did, by the group that has it.
 fn node_from(
     alloc: Global,
     plan: &Plan,
     workers: u8,
     ends: &[Result<Group, Fault>],
     i: u8,
-) -> Result<NodeOutcome, Fault>
+) -> Result<NodeOutcome, AllocError>
     requires count { (0 < workers) × (length ends.now ≡ workers) }
+    requires ended { All IsOk ends.now }
     requires kept { EndsKept plan.now workers ends.now }
     requires node { i < length plan.now.nodes }
-    ensures outcome { IfOk result (λ outcome. outcome ≡ node_outcome_of plan.now i) }
-    ensures fault { IfErr result (λ fault. fault ≢ Fault.Workers) }
+    ensures { IfOk result (λ outcome. outcome ≡ node_outcome_of plan.now i) }
 {
     let _ = plan;
-    match &ends[usize::from(i % workers)] {
-        Ok(group) => Ok(outcome_at_end(alloc, group, i)?),
-        Err(fault) => Err(*fault),
-    }
+    let Ok(group) = &ends[usize::from(i % workers)] else {
+        unreachable!()
+    };
+    outcome_at_end(alloc, group, i)
 }
 
 /// What a member did, at the end.

@@ -1,12 +1,12 @@
 //! The link over a hub.
-ghost use Rattle.std.specs.Prelude.{◌≡◌, IfOk, OnOk};
+ghost use Rattle.std.specs.Prelude.{◌≡◌, IfOk};
 ghost use Rattle.wl_plan.specs.declared.plan.Plan.{Plan as GivenPlan};
-ghost use Rattle.wl_hub.specs.Passes.{IsPassOf, pass_name, given_edges, given_silences};
-ghost use Rattle.wl_worker.specs.Handed.{AreTrueOfPlan};
-ghost use Rattle.wl_worker.specs.Shared.{IsOfPlan, with_edges, with_silences};
+ghost use Rattle.wl_hub.specs.Passes.{IsPassOf};
+ghost use Rattle.wl_worker.specs.Shared.{IsOfPlan};
 
 use crate::bell::Bell;
 use crate::coming::{Handed, Heard, learn_all};
+use crate::giving::give_words;
 use crate::link::{Link, LinkFault};
 use crate::shared::PlanName;
 use std::alloc::{AllocError, Global};
@@ -28,9 +28,7 @@ pub struct HubLink<'h, R: Wait> {
     heard: Heard,
     // It speeds up the next fetch, and decides nothing.
     handed: Handed,
-    pub ghost edges: { pass.edges.seat.table_id ≡ hub.now.edges.table.shared.table_id },
-    pub ghost silences: { pass.silences.seat.table_id ≡ hub.now.silences.table.shared.table_id },
-    pub ghost shape: { pass.edges.seat.me.0.shape ≡ hub.now.shape.items },
+    pub ghost here: { IsPassOf hub.now pass },
 }
 
 impl<'h, R: Wait> HubLink<'h, R> {
@@ -44,8 +42,9 @@ impl<'h, R: Wait> HubLink<'h, R> {
         worker: u8,
     ) -> Result<HubLink<'h, R>, AllocError>
         requires { IsPassOf hub.now pass }
-        ensures { IfOk result (λ link. (plan : GivenPlan) → IsOfPlan hub.now pass plan
+        ensures plan { IfOk result (λ link. (plan : GivenPlan) → IsOfPlan hub.now pass plan
             → IsOfPlan link.hub.now link.pass plan) }
+        ensures number { IfOk result (λ link. link.worker ≡ worker) }
     {
         let _ = alloc;
         Ok(HubLink {
@@ -60,51 +59,29 @@ impl<'h, R: Wait> HubLink<'h, R> {
     }
 }
 
-/// Gives all of these records to their words.
-fn give_all(hub: &Hub<PlanName>, pass: &mut Pass<PlanName>, records: &[Record])
-    requires here { IsPassOf hub.now pass.old }
-    requires truth { (plan : GivenPlan) × IsOfPlan hub.now pass.old plan × AreTrueOfPlan plan records.now }
-    ensures here { IsPassOf hub.now pass.new }
-    ensures name { pass_name pass.new ≡ pass_name pass.old }
-    ensures edges { given_edges pass.new ≡ with_edges (given_edges pass.old) records.now }
-    ensures silences { given_silences pass.new ≡ with_silences (given_silences pass.old) records.now }
-{
-    wl_record_core::table_laws();
-    wl_plan::simulation_laws();
-    wl_plan::checked_is_sound();
-    for i in 0..records.len() {
-        hub.take(pass, records[i]);
-    }
-}
-
 impl<'h, R: Wait> Link for HubLink<'h, R> {
-    ghost use Rattle.std.specs.Prelude.{◌≡◌, OnOk};
-    ghost use Rattle.wl_hub.specs.Passes.{given_edges, given_silences};
+    ghost use Rattle.std.specs.Prelude.{◌≡◌, None, OnOk};
     ghost use Rattle.wl_plan.specs.declared.plan.Plan.{Plan as GivenPlan};
     ghost use Rattle.wl_worker.specs.Handed.{AreTrueOfPlan, Took, TellsNews};
-    ghost use Rattle.wl_worker.specs.Shared.{IsOfPlan, with_edges, with_silences};
+    ghost use Rattle.wl_worker.specs.Shared.{IsOfPlan, PassGave};
 
     ghost is_of = { λ link plan. IsOfPlan link.hub.now link.pass plan };
 
-    ghost is_rewound = { λ link. link.heard.rings ≡ 0 };
+    ghost number = { λ link. link.worker };
+
+    ghost is_rewound = { λ link. link.heard.rings ≡ None };
+
+    ghost gave = { λ old new records. PassGave old.pass new.pass records };
 
     fn worker(&self) -> u8 {
         self.worker
     }
 
-    /// Gives records to the hub's words, and rings the bell. The pass's list grows by exactly these records.
-    fn give(&mut self, alloc: Global, records: &[Record]) -> Result<(), LinkFault>
-        requires { (p : GivenPlan) × IsOfPlan self.old.hub.now self.old.pass p × AreTrueOfPlan p records.now }
-        ensures same { (p : GivenPlan) → IsOfPlan self.old.hub.now self.old.pass p
-            → IsOfPlan self.new.hub.now self.new.pass p }
-        ensures rewound { self.old.heard.rings ≡ 0 → self.new.heard.rings ≡ 0 }
-        ensures edges { OnOk result (given_edges self.new.pass ≡ with_edges (given_edges self.old.pass) records.now) }
-        ensures silences { OnOk result
-            (given_silences self.new.pass ≡ with_silences (given_silences self.old.pass) records.now) }
-    {
+    /// Gives records to the hub's words, and then rings the bell. The pass's list grows by exactly these records.
+    fn give(&mut self, alloc: Global, records: &[Record]) -> Result<(), LinkFault> {
         let _ = alloc;
-        give_all(self.hub, &mut self.pass, records);
-        self.bell.give(self.rt, self.worker);
+        let given = give_words(self.hub, &mut self.pass, records);
+        self.bell.give(self.rt, self.worker, given);
         Ok(())
     }
 
@@ -116,14 +93,14 @@ impl<'h, R: Wait> Link for HubLink<'h, R> {
         Ok(came)
     }
 
-    /// Hears no bell any more, so that a wait before the next fetch ends where anything was given. What a fetch takes goes by what the
-    /// group knows: one that begins again gets all that the hub has.
+    /// Hears no bell any more, so that a wait before the next fetch ends at once. What a fetch takes goes by what the group knows: one
+    /// that begins again gets all that the hub has.
     fn rewind(&mut self) {
         self.heard = Heard::nothing();
     }
 
     fn wait(&mut self) -> Option<u8> {
-        self.bell.wait_past(self.rt, self.heard.rings())
+        self.heard.wait(self.rt, self.bell)
     }
 
     fn stop(&mut self) {

@@ -6,5 +6,5 @@ ghost use Rattle.wl_worker.specs.Handed.{NothingIsTaken};
 pub fn nothing_is_taken()
     ensures { NothingIsTaken }
 {
-    wl_replica::joining_is_a_join();
+    wl_mail::taking_laws();
 }

@@ -4,6 +4,7 @@
 mod bell;
 mod coming;
 mod crew;
+mod giving;
 mod hub_link;
 mod kinds;
 mod laws;
@@ -15,8 +16,9 @@ mod share;
 mod shared;
 mod turns;
 
-pub use bell::{Bell, MOST_WORKERS};
+pub use bell::{Bell, MOST_WORKERS, Rings};
 pub use crew::simulate_over;
+pub use giving::Given;
 pub use hub_link::HubLink;
 pub use kinds::{LinkKind, simulate, simulate_by};
 pub use laws::nothing_is_taken;

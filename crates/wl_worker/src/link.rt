@@ -84,44 +84,59 @@ impl From<AllocError> for Fault {
 ///
 /// A call that fails keeps what it gave or took before the fault.
 pub trait Link {
+    ghost use Rattle.std.specs.Prelude.{ℕ, List, OnOk};
+    ghost use Rattle.wl_record_core.specs.declared.record.Record.{Record as Told};
     ghost use Rattle.wl_plan.specs.declared.plan.Plan.{Plan as GivenPlan};
     ghost use Rattle.wl_worker.specs.Handed.{AreTrueOfPlan, Took, TellsNews};
 
     /// The link is of this plan.
     ghost is_of: { Self → GivenPlan → Type 0 };
 
+    /// And of the worker of this number.
+    ghost number: { Self → ℕ };
+
     /// The next fetch begins with what was fetched first.
     ghost is_rewound: { Self → Type 0 } = { λ _. Unit {0} };
 
+    /// These records were given, and made the second of the first.
+    ghost gave: { Self → Self → List Told → Type 0 } = { λ _ _ _. Unit {0} };
+
     /// The number of the worker whose link this is, from 0.
-    fn worker(&self) -> u8;
+    fn worker(&self) -> u8
+        ensures { result ≡ number self.now };
 
     /// Gives records that are true of the link's plan to all other workers.
     fn give(&mut self, alloc: Global, records: &[Record]) -> Result<(), LinkFault>
         requires { (p : GivenPlan) × is_of self.old p × AreTrueOfPlan p records.now }
         ensures same { (p : GivenPlan) → is_of self.old p → is_of self.new p }
-        ensures rewound { is_rewound self.old → is_rewound self.new };
+        ensures number { number self.new ≡ number self.old }
+        ensures rewound { is_rewound self.old → is_rewound self.new }
+        ensures gave { OnOk result (gave self.old self.new records.now) };
 
     /// Hands to a group of the link's plan what others gave, and answers whether that changed what the group knows.
     fn fetch(&mut self, alloc: Global, group: &mut Group) -> Result<bool, LinkFault>
         requires { is_of self.old group.old.plan }
         ensures same { (p : GivenPlan) → is_of self.old p → is_of self.new p }
+        ensures number { number self.new ≡ number self.old }
         ensures took { Took group.old group.new }
         ensures changed { IfOk result (λ b. TellsNews group.old group.new b) };
 
     /// Begins again: what was fetched may be fetched again, all of it at the next `fetch`.
     fn rewind(&mut self)
         ensures same { (p : GivenPlan) → is_of self.old p → is_of self.new p }
+        ensures number { number self.new ≡ number self.old }
         ensures rewound { is_rewound self.new };
 
     /// Waits until some worker gave something after this link's last `fetch` began, or some worker stopped. Answers the first one
     /// that stopped, if any.
     fn wait(&mut self) -> Option<u8>
-        ensures same { (p : GivenPlan) → is_of self.old p → is_of self.new p };
+        ensures same { (p : GivenPlan) → is_of self.old p → is_of self.new p }
+        ensures number { number self.new ≡ number self.old };
 
     /// Tells the others that this worker stopped.
     fn stop(&mut self)
-        ensures same { (p : GivenPlan) → is_of self.old p → is_of self.new p };
+        ensures same { (p : GivenPlan) → is_of self.old p → is_of self.new p }
+        ensures number { number self.new ≡ number self.old };
 }
 
 /// What is asked before each turn of a worker, so that workers can be watched, stopped and restarted.

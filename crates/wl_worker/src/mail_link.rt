@@ -1,13 +1,16 @@
 //! The link by letters.
-ghost use Rattle.std.specs.Prelude.{◌≡◌, All, IfOk, map, vec_len};
-ghost use Rattle.wl_mail.specs.Posts.{with_sent};
-ghost use Rattle.wl_mail.specs.Ways.{one_letter_more};
+ghost use Rattle.std.specs.Prelude.{◌≡◌, ◌≤◌, All, IfOk, OnOk, vec_len};
+ghost use Rattle.std.specs.Arc.{arc_value};
+ghost use Rattle.wl_worker.specs.Handed.{Took, TellsNews};
+ghost use Rattle.wl_worker.specs.Letters.{HandsAll};
+ghost use Rattle.wl_worker.specs.Shared.{AreNumbered};
 
 use crate::bell::Bell;
 use crate::coming::{Heard, sent_by_others};
+use crate::giving::give_letter;
 use crate::link::{Link, LinkFault};
 use std::alloc::{AllocError, Global};
-use std::sync::Wait;
+use std::sync::{Arc, Wait};
 use wl_group::Group;
 use wl_mail::{MailFault, Post};
 use wl_plan::Plan;
@@ -18,7 +21,8 @@ use wl_record_core::Record;
 pub struct MailLink<'h, R: Wait> {
     rt: &'h R,
     post: Post,
-    plan: Plan,
+    // All letters of the link share it.
+    plan: Arc<Plan>,
     bell: &'h Bell,
     worker: u8,
     // How often the bell had rung when the last fetch began; nothing after a rewind.
@@ -51,13 +55,14 @@ impl<'h, R: Wait> MailLink<'h, R> {
         bell: &'h Bell,
         worker: u8,
     ) -> Result<MailLink<'h, R>, AllocError>
-        ensures plan { IfOk result (λ link. link.plan ≡ plan.now) }
+        ensures plan { IfOk result (λ link. arc_value link.plan ≡ plan.now) }
         ensures post { IfOk result (λ link. link.post ≡ post) }
+        ensures number { IfOk result (λ link. link.worker ≡ worker) }
     {
         Ok(MailLink {
             rt,
             post,
-            plan: plan.clone_in(alloc)?,
+            plan: Arc::new(alloc, plan.clone_in(alloc)?)?,
             bell,
             worker,
             heard: Heard::nothing(),
@@ -66,46 +71,47 @@ impl<'h, R: Wait> MailLink<'h, R> {
 }
 
 impl<'h, R: Wait> Link for MailLink<'h, R> {
-    ghost use Rattle.std.specs.Prelude.{◌≡◌, OnOk, map};
+    ghost use Rattle.std.specs.Prelude.{◌≡◌, IfOk, OnOk, map};
+    ghost use Rattle.std.specs.Arc.{arc_value};
     ghost use Rattle.wl_plan.specs.declared.plan.Plan.{Plan as GivenPlan};
     ghost use Rattle.wl_mail.specs.Posts.{with_sent};
     ghost use Rattle.wl_mail.specs.Ways.{one_letter_more};
     ghost use Rattle.wl_worker.specs.Handed.{AreTrueOfPlan, Took, TellsNews};
+    ghost use Rattle.wl_worker.specs.Letters.{HandsAll};
 
-    ghost is_of = { λ link plan. link.plan ≡ plan };
+    ghost is_of = { λ link plan. arc_value link.plan ≡ plan };
+
+    ghost number = { λ link. link.worker };
 
     ghost is_rewound = { λ link. link.post.handed ≡ 0 };
+
+    ghost gave = { λ old new records. new.post ≡ with_sent (map one_letter_more old.post.sent) old.post };
 
     fn worker(&self) -> u8 {
         self.worker
     }
 
-    /// Sends a letter of these records to every other worker, and then rings the bell.
-    fn give(&mut self, alloc: Global, records: &[Record]) -> Result<(), LinkFault>
-        requires { (p : GivenPlan) × (self.old.plan ≡ p) × AreTrueOfPlan p records.now }
-        ensures same { (p : GivenPlan) → self.old.plan ≡ p → self.new.plan ≡ p }
-        ensures rewound { self.old.post.handed ≡ 0 → self.new.post.handed ≡ 0 }
-        ensures sent { OnOk result (self.new.post ≡ with_sent (map one_letter_more self.old.post.sent) self.old.post) }
-    {
-        self.post.send(self.rt, alloc, &self.plan, records)?;
-        self.bell.give(self.rt, self.worker);
+    /// Sends a letter of these records to every other worker, and then rings the bell. The post counts one letter more for each.
+    fn give(&mut self, alloc: Global, records: &[Record]) -> Result<(), LinkFault> {
+        let given = give_letter(self.rt, alloc, &mut self.post, &self.plan, records)?;
+        self.bell.give(self.rt, self.worker, given);
         Ok(())
     }
 
-    /// Hands the group the letters that the post received and hasn't handed out, and then as many new ones as the others have sent, by
+    /// Hands the group all letters that the post received and hasn't handed out, and then as many new ones as the others have sent, by
     /// the bell; where there are none it waits for nobody.
-    fn fetch(&mut self, alloc: Global, group: &mut Group) -> Result<bool, LinkFault> {
-        wl_replica::joining_is_a_join();
-        wl_replica::taking_is_joining();
+    fn fetch(&mut self, alloc: Global, group: &mut Group) -> Result<bool, LinkFault>
+        requires { arc_value self.old.plan ≡ group.old.plan }
+        ensures same { (p : GivenPlan) → arc_value self.old.plan ≡ p → arc_value self.new.plan ≡ p }
+        ensures number { self.new.worker ≡ self.old.worker }
+        ensures took { Took group.old group.new }
+        ensures changed { IfOk result (λ b. TellsNews group.old group.new b) }
+        ensures letters { OnOk result (HandsAll self.old.post self.new.post group.old group.new) }
+    {
         let rings = self.bell.rings();
-        let (sent, heard) = sent_by_others(self.rt, self.bell, self.worker, rings);
+        let (sent, heard) = sent_by_others(self.bell, self.worker, rings);
         self.heard = heard;
-        let end = sent.max(self.post.received() as u64);
-        let mut came = false;
-        for _ in self.post.handed() as u64..end {
-            let news = self.post.receive(self.rt, alloc, group)?;
-            came |= news;
-        }
+        let came = receive_all(self.rt, alloc, &mut self.post, group, sent)?;
         Ok(came)
     }
 
@@ -115,12 +121,35 @@ impl<'h, R: Wait> Link for MailLink<'h, R> {
     }
 
     fn wait(&mut self) -> Option<u8> {
-        self.bell.wait_past(self.rt, self.heard.rings())
+        self.heard.wait(self.rt, self.bell)
     }
 
     fn stop(&mut self) {
         self.bell.stop(self.rt, self.worker);
     }
+}
+
+/// Hands a group all letters that a post received and hasn't handed out, and then new ones, until so many were handed out together. Answers
+/// whether that changed what the group knows.
+fn receive_all<R: Wait>(
+    rt: &R,
+    alloc: Global,
+    post: &mut Post,
+    group: &mut Group,
+    sent: u64,
+) -> Result<bool, MailFault>
+    ensures took { Took group.old group.new }
+    ensures changed { IfOk result (λ b. TellsNews group.old group.new b) }
+    ensures letters { OnOk result (HandsAll post.old post.new group.old group.new) }
+{
+    wl_mail::taking_laws();
+    let end = sent.max(post.received() as u64);
+    let mut came = false;
+    for _ in post.handed() as u64..end {
+        let news = post.receive(rt, alloc, group)?;
+        came |= news;
+    }
+    Ok(came)
 }
 
 /// A link for each post, of a plan: the posts are those of workers 0, 1 and so on, at most 256. Refused only when out of memory.
@@ -132,13 +161,14 @@ pub fn mail_links<'h, R: Wait>(
     bell: &'h Bell,
 ) -> Result<Vec<MailLink<'h, R>>, AllocError>
     ensures count { IfOk result (λ links. vec_len links ≡ vec_len posts) }
-    ensures of { IfOk result (λ links. All (λ link. link.plan ≡ plan.now) links.items) }
+    ensures of { IfOk result (λ links. All (λ link. arc_value link.plan ≡ plan.now) links.items) }
+    ensures numbered { IfOk result (λ links. vec_len posts ≤ 256 → AreNumbered (λ link. link.worker) links.items) }
 {
     let mut links = Vec::new(alloc);
     let mut worker = 0u8;
     for post in posts {
         links.push(MailLink::new(rt, alloc, post, plan, bell, worker)?)?;
-        worker = worker.wrapping_add(1);
+        worker = worker.saturating_add(1);
     }
     Ok(links)
 }

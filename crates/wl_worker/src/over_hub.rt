@@ -4,7 +4,7 @@ ghost use Rattle.wl_hub.specs.Passes.{IsPassOf};
 ghost use Rattle.wl_plan.specs.declared.plan.Plan.{Plan as GivenPlan};
 ghost use Rattle.wl_plan.specs.Checked.{IsChecked};
 ghost use Rattle.wl_serial.specs.Outcome.{outcome_of};
-ghost use Rattle.wl_worker.specs.Shared.{IsOfPlan};
+ghost use Rattle.wl_worker.specs.Shared.{AreNumbered, IsOfPlan};
 
 use crate::bell::{Bell, MOST_WORKERS};
 use crate::crew::simulate_over;
@@ -56,6 +56,7 @@ pub fn hub_links<'h, R: Wait>(
     ensures count { IfOk result (λ links. vec_len links ≡ workers) }
     ensures of { IfOk result (λ links. (plan : GivenPlan) → IsOfPlan hub.now pass plan
         → All (λ link. IsOfPlan link.hub.now link.pass plan) links.items) }
+    ensures numbered { IfOk result (λ links. AreNumbered (λ link. link.worker) links.items) }
 {
     let mut pass = pass;
     let mut links = Vec::with_capacity(alloc, usize::from(workers))?;

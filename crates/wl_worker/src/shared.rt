@@ -19,8 +19,8 @@ impl Truth for PlanName {
     ghost is_true = { is_told };
 }
 
-/// The shape of a hub for a plan that passed its check: a node with so many quanta before the end has as many edge words and one
-/// silence word more. Refused only when out of memory.
+/// The shape of a hub for a plan that passed its check: a node `k` of whose quanta begin before the end has `k / (least_way + 1) + 1` edge
+/// words, rounded down, and one silence word more. Refused only when out of memory.
 pub fn shape_of_plan(alloc: Global, plan: &Plan) -> Result<Vec<(u32, u32)>, AllocError>
     requires { IsChecked plan.now }
     ensures { IfOk result (λ shape. IsShapeOf plan.now shape.items) }
@@ -39,6 +39,8 @@ fn words_of(plan: &Plan, i: usize) -> (u32, u32)
     ensures { HasWords plan.now i result }
 {
     wl_plan::checked_is_sound();
-    let quanta = plan.nodes.as_slice()[i].clock.first_not_before(plan.end) as u32;
-    (quanta, quanta + 1)
+    let node = &plan.nodes.as_slice()[i];
+    let quanta = node.clock.first_not_before(plan.end);
+    let edges = (quanta / (node.segments.least_way() + 1)) as u32 + 1;
+    (edges, edges + 1)
 }

@@ -5,6 +5,7 @@ ghost use Rattle.wl_plan.specs.PlanLine.{IsTrueOfPlan};
 ghost use Rattle.wl_group.specs.GroupValue.{belongs, initial_group};
 ghost use Rattle.wl_worker.specs.Handed.{AreTrueOfPlan};
 ghost use Rattle.wl_worker.specs.Finished.{MembersEnded, HasFinished};
+ghost use Rattle.wl_worker.specs.Given.{first_silences_of, Gives, GaveFirst};
 
 use crate::link::{Fault, Gate, Link, LinkFault};
 use std::alloc::{AllocError, Global};
@@ -39,6 +40,7 @@ pub fn work<R: Wait, L: Link + Drop, G: Gate>(
 ) -> Result<Group, Fault>
     requires { L.is_of link group.plan }
     ensures finished { IfOk result (λ done. HasFinished group done) }
+    ensures began { IfOk result (λ done. (next : L) × GaveFirst L.gave group link next) }
     ensures fault { IfErr result (λ fault. fault ≢ Fault.Workers) }
 {
     let _ = rt;
@@ -63,10 +65,14 @@ fn run<L: Link, G: Gate>(
     requires { L.is_of link.old group.old.plan }
     ensures same { (p : GivenPlan) → L.is_of link.old p → L.is_of link.new p }
     ensures finished { OnOk result (HasFinished group.old group.new) }
+    ensures began { OnOk result ((next : L) × GaveFirst L.gave group.old link.old next) }
     ensures fault { IfErr result (λ fault. fault ≢ Fault.Workers) }
 {
     let worker = link.worker();
-    begin(alloc, group, link).map_err(|fault| fault_of(fault, worker))?;
+    match begin(alloc, group, link) {
+        Ok(()) => (),
+        Err(fault) => return Err(fault_of(fault, worker)),
+    }
     for turn in 0..MOST_TURNS {
         if !gate.turn(worker, turn) {
             return Err(Fault::Worker(worker));
@@ -105,6 +111,7 @@ fn begin_anew<L: Link>(alloc: Global, group: &mut Group, link: &mut L) -> Result
     ensures same { (p : GivenPlan) → L.is_of link.old p → L.is_of link.new p }
     ensures fresh { OnOk result (group.new ≡ initial_group group.old.plan (belongs group.old)) }
     ensures rewound { OnOk result (L.is_rewound link.new) }
+    ensures began { OnOk result ((rewound : L) × L.is_rewound rewound × GaveFirst L.gave group.new rewound link.new) }
     ensures plan { group.new.plan ≡ group.old.plan }
     ensures members { belongs group.new ≡ belongs group.old }
 {
@@ -118,6 +125,7 @@ fn begin<L: Link>(alloc: Global, group: &Group, link: &mut L) -> Result<(), Link
     requires { L.is_of link.old group.now.plan }
     ensures same { (p : GivenPlan) → L.is_of link.old p → L.is_of link.new p }
     ensures rewound { L.is_rewound link.old → L.is_rewound link.new }
+    ensures gave { OnOk result (GaveFirst L.gave group.now link.old link.new) }
 {
     let first = first_silences(alloc, group)?;
     hand(alloc, group, link, first.as_slice())
@@ -126,7 +134,8 @@ fn begin<L: Link>(alloc: Global, group: &Group, link: &mut L) -> Result<(), Link
 /// What the members say before their first quanta.
 #[tactic(auto, using(crate::proofs::Steps::pushed_true))]
 fn first_silences(alloc: Global, group: &Group) -> Result<Vec<Record>, AllocError>
-    ensures { IfOk result (λ first. AreTrueOfPlan group.now.plan first.items) }
+    ensures truth { IfOk result (λ first. AreTrueOfPlan group.now.plan first.items) }
+    ensures value { IfOk result (λ first. first.items ≡ first_silences_of group.now) }
 {
     let plan = group.plan();
     let mut first = Vec::new(alloc);
@@ -269,6 +278,7 @@ fn hand<L: Link>(
     requires truth { AreTrueOfPlan group.now.plan said.now }
     ensures same { (p : GivenPlan) → L.is_of link.old p → L.is_of link.new p }
     ensures rewound { L.is_rewound link.old → L.is_rewound link.new }
+    ensures gave { OnOk result (Gives L.gave link.old link.new said.now) }
 {
     let _ = group;
     if said.is_empty() {

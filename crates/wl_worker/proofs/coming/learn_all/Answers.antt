@@ -13,7 +13,7 @@ loop-node-preserved c =
       c.in_ok-taken.ensures.name ∙ was.1,
       still_named _ c.loop-node.group c.learn_node.new.group took (c.in_ok-taken.ensures.name ∙ was.2),
       took_plan c.loop-node.group c.learn_node.new.group took ∙ was.3,
-      took_both c.taking_is_joining.ensures c.args.group.now c.loop-node.group c.learn_node.new.group was.4 took,
+      took_both c.taking_laws.ensures c.args.group.now c.loop-node.group c.learn_node.new.group was.4 took,
       subst (TellsNews c.args.group.now c.learn_node.new.group) (sym c.either-came.ensures)
-          (changed_both c.joining_is_a_join.ensures c.args.group.now c.loop-node.group c.learn_node.new.group was.4 took c.loop-node.came c.in_ok-taken.taken was.5 c.in_ok-taken.ensures.changed),
+          (changed_both c.taking_laws.ensures c.args.group.now c.loop-node.group c.learn_node.new.group was.4 took c.loop-node.came c.in_ok-taken.taken was.5 c.in_ok-taken.ensures.changed),
     )

@@ -14,7 +14,7 @@ loop-seq-preserved c =
       c.edge_seen.ensures.here,
       c.edge_seen.ensures.name ∙ was.1,
       still_named _ c.loop-seq.group c.learn_edge.new.group took (c.edge_seen.ensures.name ∙ was.2),
-      took_both c.taking_is_joining.ensures c.args.group.now c.loop-seq.group c.learn_edge.new.group was.3 took,
+      took_both c.taking_laws.ensures c.args.group.now c.loop-seq.group c.learn_edge.new.group was.3 took,
       subst (TellsNews c.args.group.now c.learn_edge.new.group) (sym c.either-came.ensures)
-          (changed_both c.joining_is_a_join.ensures c.args.group.now c.loop-seq.group c.learn_edge.new.group was.3 took c.loop-seq.came c.in_ok-taken.taken was.4 c.in_ok-taken.ensures.changed),
+          (changed_both c.taking_laws.ensures c.args.group.now c.loop-seq.group c.learn_edge.new.group was.3 took c.loop-seq.came c.in_ok-taken.taken was.4 c.in_ok-taken.ensures.changed),
     )

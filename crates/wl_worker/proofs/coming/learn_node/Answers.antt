@@ -7,7 +7,7 @@ use Rattle.wl_worker.proofs.coming.learn_node.Goals as goal
 pub returns-clause-changed : goal.returns-clause-changed
 returns-clause-changed c =
     subst (TellsNews c.args.group.now c.learn_silence.new.group) (sym c.either.ensures)
-    (changed_both c.joining_is_a_join.ensures c.args.group.now c.learn_edges.new.group c.learn_silence.new.group c.in_ok-edges.ensures.took c.in_ok-silence.ensures.took
+    (changed_both c.taking_laws.ensures c.args.group.now c.learn_edges.new.group c.learn_silence.new.group c.in_ok-edges.ensures.took c.in_ok-silence.ensures.took
     c.in_ok-edges.edges c.in_ok-silence.silence c.in_ok-edges.ensures.changed c.in_ok-silence.ensures.changed)
 
 pub learn_silence-requires : goal.learn_silence-requires

@@ -4,8 +4,8 @@ use Rattle.wl_worker.specs.Faults.{IsNextFault}
 use Rattle.wl_worker.proofs.Faults.{next_lower}
 use Rattle.wl_worker.proofs.crew.lower_of.Goals as goal
 
-pub returns-in-Err-clause-next : goal.returns-in-Err-clause-next
-returns-in-Err-clause-next c =
+pub returns-in-Err : goal.returns-in-Err
+returns-in-Err c =
     let fault = c.in-Err.fault in
     let first = c.args.first in
     subst (λ end. IsNextFault (Some first) end (Some c.or_lower.result)) (sym c.in-Err.is)

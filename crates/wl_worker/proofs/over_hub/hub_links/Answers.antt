@@ -18,6 +18,8 @@ loop-worker-preserved g c =
       (let m = was.3 in let n = pushed.capacity in omega arith),
       (λ plan k d h b. one_behind c.loop-worker.links.items c.push_reserved.new.self.items c.in_ok-link.link c.loop-worker.worker (λ j link. IsOfPlan link.hub.now link.pass plan)
           pushed.items many (λ j u low. was.4 plan j u h (omega arith))
-          (c.in_ok-link.ensures plan (record { name = own.new.0 ∙ (was.1 ∙ h.name); checked = h.checked; words = h.words })) k d
+          (c.in_ok-link.ensures.plan plan (record { name = own.new.0 ∙ (was.1 ∙ h.name); checked = h.checked; words = h.words })) k d
           (let m = was.2 in let n = pushed.len in omega arith)),
+      (λ k d b. one_behind c.loop-worker.links.items c.push_reserved.new.self.items c.in_ok-link.link c.loop-worker.worker (λ j link. link.worker ≡ j)
+          pushed.items many (λ j u low. was.5 j u (omega arith)) c.in_ok-link.ensures.number k d (let m = was.2 in let n = pushed.len in omega arith)),
     )

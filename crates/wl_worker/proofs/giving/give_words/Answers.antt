@@ -2,13 +2,13 @@ use Rattle.std.proofs.Common.{◌<◌, length, get_or, ap, sym, ◌∙◌, arith
 use Rattle.wl_record_core.specs.declared.record.Record.TheVariants.{Edge}
 use Rattle.wl_hub.specs.Passes.{shape_of, with_edge, with_silence, given_edges, given_silences}
 use Rattle.wl_worker.proofs.Fits.{in_shape, true_at}
-use Rattle.wl_worker.proofs.Given.{edges_more, silences_more}
-use Rattle.wl_worker.proofs.hub_link.give_all.Goals as goal
+use Rattle.wl_worker.proofs.PassLists.{edges_more, silences_more}
+use Rattle.wl_worker.proofs.giving.give_words.Goals as goal
 
 pub take-requires-clause-in_shape : goal.take-requires-clause-in_shape
 take-requires-clause-in_shape c =
     let p = c.requires.truth in
-    in_shape c.table_laws.ensures c.simulation_laws.ensures c.checked_is_sound.ensures p.0 p.1.checked (shape_of c.args.hub.now) p.1.words _
+    in_shape c.table_laws.ensures c.simulation_laws.ensures c.checked_is_sound.ensures c.changes_are_few.ensures p.0 p.1.checked (shape_of c.args.hub.now) p.1.words _
     (true_at p.0 c.args.records.now c.loop-i.i (Edge 0 0 0) p.2 (let low = c.loop-i-test.true in omega arith))
 
 pub loop-i-preserved : goal.loop-i-preserved
