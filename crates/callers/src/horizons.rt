@@ -60,7 +60,7 @@ pub fn known(alloc: Global) -> Result<KnownNode> {
             until: 50,
         },
     ];
-    let replica = replica_of(alloc, &records)?;
+    let replica = replica_of(alloc, 1, &records)?;
     let wave = replica.wave(alloc, 0)?;
     Ok(KnownNode {
         run_length: replica.run_length(0),

@@ -7,6 +7,7 @@ use anyhow::Result;
 
 mod horizons;
 mod merging;
+mod places;
 mod simulating;
 
 fn main(rt: HostRuntime) -> Result<()> {
@@ -39,5 +40,22 @@ fn main(rt: HostRuntime) -> Result<()> {
         "at tick 16 it finds the line dominant: {}",
         known.found_at_16.is_dominant()
     )?;
+    for (still, asked) in [
+        (120, [(0, 100), (0, 101), (0, 150)].as_slice()),
+        (200, &[(1, 150), (1, 151)]),
+    ] {
+        let replica = places::two_known(alloc, still)?;
+        println!(rt;
+            "with node 1 still up to {still}: the lines at the places are known below {} and {}",
+            places::known_until(&replica, 0)?,
+            places::known_until(&replica, 1)?
+        )?;
+        for (place, tick) in asked {
+            println!(rt;
+                "at tick {tick} node {place} finds the line dominant: {}",
+                places::found(&replica, *place, *tick)?.is_dominant()
+            )?;
+        }
+    }
     Ok(())
 }

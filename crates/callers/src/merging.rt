@@ -35,11 +35,11 @@ const SECOND: [Record; 2] = [
     },
 ];
 
-/// A replica of one node that took these records, but for those that don't fit it.
-pub fn replica_of(alloc: Global, records: &[Record]) -> Result<Replica>
-    ensures nodes { IfOk result (λ replica. replica.nodes ≡ 1) }
+/// A replica of so many nodes that took these records, but for those that don't fit it.
+pub fn replica_of(alloc: Global, nodes: u8, records: &[Record]) -> Result<Replica>
+    ensures nodes { IfOk result (λ replica. replica.nodes ≡ nodes) }
 {
-    let mut replica = Replica::new(alloc, 1)?;
+    let mut replica = Replica::new(alloc, nodes)?;
     for record in records {
         if replica.fits(record) {
             replica.take(*record)?;
@@ -50,8 +50,8 @@ pub fn replica_of(alloc: Global, records: &[Record]) -> Result<Replica>
 
 /// What both know, each record once and in order.
 pub fn merged(alloc: Global) -> Result<Vec<Record>> {
-    let mut all = replica_of(alloc, &FIRST)?;
-    let other = replica_of(alloc, &SECOND)?;
+    let mut all = replica_of(alloc, 1, &FIRST)?;
+    let other = replica_of(alloc, 1, &SECOND)?;
     all.join(&other)?;
     Ok(all.canonical(alloc)?)
 }

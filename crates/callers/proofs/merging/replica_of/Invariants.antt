@@ -3,4 +3,4 @@ use Rattle.callers.proofs.merging.replica_of.Given as goal
 
 -- taking a record leaves the number of nodes
 abbrev pub invariant-loop-record : goal.invariant-loop-record
-invariant-loop-record l = l.replica.nodes ≡ 1
+invariant-loop-record l = l.replica.nodes ≡ l.nodes

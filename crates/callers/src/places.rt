@@ -1,0 +1,82 @@
+//! Two nodes 50 units apart: up to which tick each of them knows the line at its place, and what it finds there.
+
+ghost use Rattle.std.specs.Prelude.{◌≡◌, IfOk};
+
+use crate::merging::replica_of;
+use anyhow::{Context, Result, bail};
+use std::alloc::Global;
+use wl_level::Level;
+use wl_record_core::Record;
+use wl_replica::Replica;
+use wl_topology::{Place, Topology};
+
+/// A level is found at its own node a tick after it is driven, and at the other node 51 ticks after.
+fn topology() -> Result<Topology> {
+    let near = Place {
+        x: 0,
+        out_delay: 0,
+        in_delay: 1,
+    };
+    let far = Place { x: 50, ..near };
+    Ok(Topology::new(&[near, far], 1).context("two places")?)
+}
+
+/// The tick up to which the line at node j's place is known.
+pub fn known_until(replica: &Replica, j: u8) -> Result<u64>
+    requires { replica.now.nodes ≡ 2 }
+{
+    let topology = topology()?;
+    if topology.nodes() != 2 || j >= 2 {
+        bail!("two nodes");
+    }
+    Ok(replica.place_horizon(&topology, j))
+}
+
+/// What node j finds at tick t, if that is known.
+pub fn found(replica: &Replica, j: u8, t: u64) -> Result<Level>
+    requires { replica.now.nodes ≡ 2 }
+{
+    let topology = topology()?;
+    if topology.nodes() != 2 || j >= 2 || replica.place_horizon(&topology, j) <= t {
+        bail!("a place whose line is known up to that tick");
+    }
+    Ok(replica.seen(&topology, j, t))
+}
+
+/// Node 0 changes at tick 100 and not again before 150; an edge behind a gap and a silence after it tell nothing yet.
+/// Node 1 keeps still up to this tick.
+pub fn two_known(alloc: Global, still: u64) -> Result<Replica>
+    ensures nodes { IfOk result (λ replica. replica.nodes ≡ 2) }
+{
+    replica_of(
+        alloc,
+        2,
+        &[
+            Record::Edge {
+                node: 0,
+                seq: 0,
+                tick: 100,
+            },
+            Record::Silence {
+                node: 0,
+                count: 1,
+                until: 150,
+            },
+            Record::Silence {
+                node: 0,
+                count: 3,
+                until: 400,
+            },
+            Record::Edge {
+                node: 0,
+                seq: 2,
+                tick: 300,
+            },
+            Record::Silence {
+                node: 1,
+                count: 0,
+                until: still,
+            },
+        ],
+    )
+}
