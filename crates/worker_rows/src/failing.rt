@@ -1,4 +1,5 @@
 //! Links by which nothing comes, and which fail.
+ghost use Rattle.std.specs.Prelude.{◌≡◌};
 ghost use Rattle.wl_plan.specs.Checked.{IsChecked};
 
 use crate::gates::ANY_TURN;
@@ -14,12 +15,14 @@ use wl_worker::{Fault, Link, LinkFault, nothing_is_taken, simulate_over};
 /// The first worker that stopped; none so far.
 const NONE_STOPPED: u64 = u64::MAX;
 
-/// A link that keeps what is given to itself and brings nothing. At its nth call of `give` or `fetch` it is given up.
+/// A link that keeps what is given to itself and brings nothing. At its nth call of `give` or `fetch` it fails.
 #[derive(Drop)]
 struct Failing<'s> {
     worker: u8,
     /// n, from 1; 0 where it never fails.
     nth: u64,
+    /// How it fails then.
+    fault: LinkFault,
     /// How many calls there were.
     calls: u64,
     /// The number of a worker that stopped, which all links of a run share.
@@ -28,10 +31,12 @@ struct Failing<'s> {
 
 impl<'s> Failing<'s> {
     /// One call more.
-    fn call(&mut self) -> Result<(), LinkFault> {
+    fn call(&mut self) -> Result<(), LinkFault>
+        ensures worker { self.new.worker ≡ self.old.worker }
+    {
         self.calls = self.calls.saturating_add(1);
         if self.calls == self.nth {
-            return Err(LinkFault::Gone);
+            return Err(self.fault);
         }
         Ok(())
     }
@@ -41,6 +46,8 @@ impl<'s> Link for Failing<'s> {
     ghost use Rattle.std.specs.Prelude.{⊤};
 
     ghost is_of = { λ link plan. ⊤ };
+
+    ghost number = { λ link. link.worker };
 
     fn worker(&self) -> u8 {
         self.worker
@@ -95,18 +102,52 @@ fn run_gone<R: Threads + Wait + Sync>(
 ) -> Result<bool, AllocError>
     requires { IsChecked plan.now }
 {
+    let nth = |worker: u8| if worker == failing { nth } else { 0 };
+    let faults = (LinkFault::Gone, LinkFault::Gone);
+    let ended = run_failing(rt, alloc, plan, (nth(0), nth(1)), faults)?;
+    Ok(ended == Some(Fault::Worker(failing)))
+}
+
+/// What is answered to 2 workers whose links fail at their first calls by these faults.
+pub fn fault_of_two<R: Threads + Wait + Sync>(
+    rt: &R,
+    alloc: Global,
+    plan: &Plan,
+    faults: (LinkFault, LinkFault),
+) -> Result<Option<Fault>, AllocError>
+    requires { IsChecked plan.now }
+{
+    run_failing(rt, alloc, plan, (1, 1), faults)
+}
+
+/// The fault of 2 workers whose links fail at these calls by these faults; none where they came to their ends.
+fn run_failing<R: Threads + Wait + Sync>(
+    rt: &R,
+    alloc: Global,
+    plan: &Plan,
+    nth: (u64, u64),
+    faults: (LinkFault, LinkFault),
+) -> Result<Option<Fault>, AllocError>
+    requires { IsChecked plan.now }
+{
     let stopped = AtomicU64::new(NONE_STOPPED);
     let mut links = Vec::new(alloc);
-    for worker in 0..2u8 {
-        links.push(Failing {
-            worker,
-            nth: if worker == failing { nth } else { 0 },
-            calls: 0,
-            stopped: &stopped,
-        })?;
-    }
+    links.push(Failing {
+        worker: 0,
+        nth: nth.0,
+        fault: faults.0,
+        calls: 0,
+        stopped: &stopped,
+    })?;
+    links.push(Failing {
+        worker: 1,
+        nth: nth.1,
+        fault: faults.1,
+        calls: 0,
+        stopped: &stopped,
+    })?;
     match simulate_over(rt, alloc, plan.clone_in(alloc)?, links, &ANY_TURN) {
-        Ok(_) => Ok(false),
-        Err(fault) => Ok(fault == Fault::Worker(failing)),
+        Ok(_) => Ok(None),
+        Err(fault) => Ok(Some(fault)),
     }
 }

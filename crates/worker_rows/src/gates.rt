@@ -20,15 +20,53 @@ impl Gate for OneRefusal {
     }
 }
 
-/// A gate that refuses each worker this turn.
+/// A gate that refuses each worker this turn, and keeps the last turn that it was asked.
 #[derive(Drop)]
 pub struct LastTurn {
-    pub refused: u64,
+    refused: u64,
+    asked: AtomicU64,
+}
+
+impl LastTurn {
+    /// A gate that was asked no turn.
+    pub fn new(refused: u64) -> LastTurn {
+        LastTurn {
+            refused,
+            asked: AtomicU64::new(0),
+        }
+    }
+
+    /// The last turn that it was asked; 0 where there was none.
+    pub fn asked(&self) -> u64 {
+        self.asked.load(Ordering::SeqCst)
+    }
 }
 
 impl Gate for LastTurn {
     fn turn(&self, _worker: u8, turn: u64) -> bool {
+        self.asked.store(turn, Ordering::SeqCst);
         turn != self.refused
+    }
+}
+
+/// A gate that counts turns, and holds one worker before one of its turns for so many polls, and then refuses it: the others sleep by then.
+#[derive(Drop)]
+pub struct HeldTurn {
+    pub worker: u8,
+    pub turn: u64,
+    pub polls: u64,
+    pub turns: TurnCounts,
+}
+
+impl Gate for HeldTurn {
+    fn turn(&self, worker: u8, turn: u64) -> bool {
+        if worker != self.worker || turn != self.turn {
+            return self.turns.turn(worker, turn);
+        }
+        for _ in 0..self.polls {
+            thread::yield_now();
+        }
+        false
     }
 }
 

@@ -2,8 +2,8 @@
 ghost use Rattle.std.specs.Prelude.{◌≤◌, All, IfOk, IfSome, IsTrue, length};
 ghost use Rattle.wl_plan.specs.Checked.{IsChecked};
 ghost use Rattle.wl_plan.specs.PlanLine.{IsTrueOfPlan};
+ghost use Rattle.wl_worker.specs.Shared.{AreNumbered};
 
-use crate::gates::TurnCounts;
 use crate::handed::{horizon_of, tell_handed};
 use crate::watched::{Counts, watch_all};
 use anyhow::{Result, bail};
@@ -17,18 +17,18 @@ use wl_plan::Plan;
 use wl_record_core::Record;
 use wl_serial::{Outcome, run_serial};
 use wl_worker::{
-    Bell, Fault, HubLink, Link, LinkKind, MailLink, PlanName, hub_links, mail_links, shape_of_plan,
-    simulate_over,
+    Bell, Fault, Gate, HubLink, Link, LinkKind, MailLink, PlanName, hub_links, mail_links,
+    shape_of_plan, simulate_over,
 };
 
 /// Runs a plan by so many workers, over links of this kind that are made here and watched.
-pub fn run_over<R: Threads + Wait + Sync>(
+pub fn run_over<R: Threads + Wait + Sync, G: Gate + Sync>(
     rt: &R,
     alloc: Global,
     plan: &Plan,
     workers: u8,
     kind: LinkKind,
-    gate: &TurnCounts,
+    gate: &G,
     counts: &Counts,
 ) -> Result<Outcome, Fault>
     requires { IsChecked plan.now }
@@ -53,16 +53,17 @@ pub fn run_over<R: Threads + Wait + Sync>(
 }
 
 /// Runs a plan over these links, watched.
-fn run_watched<R: Threads + Wait + Sync, L: Link + Send + Drop>(
+fn run_watched<R: Threads + Wait + Sync, L: Link + Send + Drop, G: Gate + Sync>(
     rt: &R,
     alloc: Global,
     plan: &Plan,
     links: Vec<L>,
-    gate: &TurnCounts,
+    gate: &G,
     counts: &Counts,
 ) -> Result<Outcome, Fault>
     requires checked { IsChecked plan.now }
     requires links { All (λ link. L.is_of link plan.now) links.items }
+    requires numbered { AreNumbered L.number links.items }
 {
     let links = watch_all(alloc, plan, links, counts)?;
     simulate_over(rt, alloc, plan.clone_in(alloc)?, links, gate)

@@ -6,9 +6,12 @@
 //! - `workers N`: one run by N workers.
 //! - `stop W T N`: one run by N workers, of which a gate refuses worker W its turn T; turns count from 0.
 //! - `again N K`: K runs by N workers, one after another; how many came to what one thread comes to.
-//! - `restart W T U N`: one run by N workers, of which worker W restarts before its turns T and U; whether both restarts were asked.
+//! - `restart W T U N`: one run by N workers over watched links, of which worker W restarts before its turns T and U; whether both restarts
+//!   were asked, and both times its link was rewound and something given next.
 //! - `random N K S`: K runs by N workers, random ones of which restart before random turns; the number S seeds what is random. A run counts
 //!   where at least one restart was asked.
+//! - `hold W T P N`: one run by N workers, of which a gate holds worker W before its turn T for P polls and then refuses it; the others sleep
+//!   by then, and have had a hundred turns at most.
 //! - `turns N K`: one run by N workers; whether each of them had at least K turns.
 //! - `overlap N P`: one run by N workers, of which workers 0 and 1 are each held in their first turn until the other one is in its first
 //!   turn too, for at most P polls; then the turn is refused.
@@ -20,9 +23,10 @@
 //! - `handed`: node 0 alone gives what it emits by one link; what another one brings to a group of node 1, twice, and once more after a
 //!   restart and a rewind.
 //! - `silent N T`: one run by N workers over links that bring nothing, with a gate that refuses each worker its turn T.
-//! - `alone T`: the same of one worker, with node 0 alone.
+//! - `alone T`: the same of one worker, with node 0 alone, and the last turn that it asked for.
 //! - `gone W`: ten runs by 2 workers, over links that bring nothing; the nth time that worker W gives or fetches its link answers `Gone`, for n
 //!   from 1 to 10.
+//! - `faults A B`: one run by 2 workers, whose links fail at their first calls: 0 is Foreign, 1 Gone, 2 Memory.
 //! - `letters`: what the posts of three workers answer about the nodes of the plan, on several lines: to a letter of one silence, to the same once
 //!   more and to one of no records; where ends are given up; and to a letter of all that node 0 emits, which has to run to the plan's end without a
 //!   word of the others.

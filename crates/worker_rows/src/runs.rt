@@ -1,8 +1,8 @@
 //! Runs of a plan by workers, and what is answered to them.
 ghost use Rattle.wl_plan.specs.Checked.{IsChecked};
 
-use crate::failing::runs_gone;
-use crate::gates::{ANY_TURN, LastTurn, OneRefusal, Overlap, TurnCounts};
+use crate::failing::{fault_of_two, runs_gone};
+use crate::gates::{ANY_TURN, HeldTurn, LastTurn, OneRefusal, Overlap, TurnCounts};
 use crate::handed::tell_foreign;
 use crate::letters::tell_posts;
 use crate::links::{run_over, tell_links, tell_silence};
@@ -22,6 +22,9 @@ use wl_report::report;
 use wl_serial::Outcome;
 use wl_worker::{Fault, Gate, LinkKind, simulate, simulate_by, simulate_over, work};
 
+/// The most turns of a worker that waits for another one which had a few.
+const MOST_WAITING: u64 = 100;
+
 /// What a run came to.
 #[derive(Clone, Copy, PartialEq, Eq)]
 enum End {
@@ -31,6 +34,8 @@ enum End {
     Differs,
     /// A worker had fewer turns, or restarts, than were wanted.
     FewTurns,
+    /// A worker that had nothing to do had more turns than it may.
+    ManyTurns,
     /// A fault.
     Fault(Fault),
 }
@@ -41,6 +46,7 @@ impl Display for End {
             End::AsOneThread => f.write_str("as one thread"),
             End::Differs => f.write_str("differs"),
             End::FewTurns => f.write_str("too few turns"),
+            End::ManyTurns => f.write_str("too many turns"),
             End::Fault(fault) => write!(f, "fault: {fault}"),
         }
     }
@@ -102,6 +108,10 @@ fn run<R: Threads + Wait + Sync>(
             let turns = (worker, first, second);
             run_restarted(rt, alloc, plan, alone, workers, link, turns)?
         }
+        Kind::Held(worker, turn, polls) => {
+            let held = (worker, turn, polls);
+            run_held(rt, alloc, plan, alone, workers, link, held)?
+        }
         Kind::Turns(least) => {
             let gate = TurnCounts::new(alloc)?;
             let end = run_by(rt, alloc, plan, alone, workers, link, &gate)?;
@@ -118,7 +128,7 @@ fn run<R: Threads + Wait + Sync>(
         }
         Kind::Silent(turn) => {
             let links = silent_links(alloc, workers)?;
-            let gate = LastTurn { refused: turn };
+            let gate = LastTurn::new(turn);
             let ran = simulate_over(rt, alloc, plan.clone_in(alloc)?, links, &gate);
             end_of(alloc, alone, ran)?
         }
@@ -139,11 +149,39 @@ fn run_restarted<R: Threads + Wait + Sync>(
 {
     let (worker, first, second) = turns;
     let gate = Restarts::new(When::Twice(worker, first, second));
-    let end = run_by(rt, alloc, plan, alone, workers, link, &gate)?;
-    if gate.asked() == 2 {
+    let counts = Counts::new();
+    let ran = run_over(rt, alloc, plan, workers, link, &gate, &counts);
+    let end = end_of(alloc, alone, ran)?;
+    if gate.asked() == 2 && counts.restarts() == 2 {
         return Ok(end);
     }
     Ok(End::FewTurns)
+}
+
+/// One run by so many workers, of which one is held before one of its turns and then refused it. The others have few turns.
+fn run_held<R: Threads + Wait + Sync>(
+    rt: &R,
+    alloc: Global,
+    plan: &Plan,
+    alone: &[u8],
+    workers: u8,
+    link: LinkKind,
+    held: (u8, u64, u64),
+) -> Result<End, AllocError>
+    requires { IsChecked plan.now }
+{
+    let (worker, turn, polls) = held;
+    let gate = HeldTurn {
+        worker,
+        turn,
+        polls,
+        turns: TurnCounts::new(alloc)?,
+    };
+    let end = run_by(rt, alloc, plan, alone, workers, link, &gate)?;
+    if (0..workers).all(|one| gate.turns.of(one) <= MOST_WAITING) {
+        return Ok(end);
+    }
+    Ok(End::ManyTurns)
 }
 
 /// What is answered to a step, where `alone` is the report of the one-thread simulation.
@@ -179,12 +217,19 @@ pub fn answer<R: Threads + Wait + Sync>(
             Ok(format!(in alloc; "handed{named}: {said}")?)
         }
         Step::Alone(turn) => {
-            let fault = work_alone(rt, alloc, plan, turn)?;
-            Ok(format!(in alloc; "node 0 alone over a silent link: {fault}")?)
+            let (fault, asked) = work_alone(rt, alloc, plan, turn)?;
+            Ok(format!(in alloc; "node 0 alone over a silent link: {fault} in turn {asked}")?)
         }
         Step::Gone(worker) => {
             let stopped = runs_gone(rt, alloc, plan, worker)?;
             Ok(format!(in alloc; "{stopped} of 10 runs: fault: Worker({worker})")?)
+        }
+        Step::Faults(first, second) => {
+            let fault = match fault_of_two(rt, alloc, plan, (first, second))? {
+                Some(fault) => End::Fault(fault),
+                None => End::AsOneThread,
+            };
+            Ok(format!(in alloc; "links that fail by {first} and {second}: {fault}")?)
         }
         Step::Letters => tell_posts(rt, alloc, plan),
         Step::Foreign => tell_foreign(rt, alloc, plan),
@@ -244,14 +289,14 @@ fn counts<R: Threads + Wait + Sync>(
     Ok(said)
 }
 
-/// The fault of a worker of node 0 over a link that brings nothing, which is refused this turn.
-fn work_alone<R: Wait>(rt: &R, alloc: Global, plan: &Plan, turn: u64) -> Result<Fault>
+/// The fault of a worker of node 0 over a link that brings nothing, which is refused this turn, and the last turn that it asked for.
+fn work_alone<R: Wait>(rt: &R, alloc: Global, plan: &Plan, turn: u64) -> Result<(Fault, u64)>
     requires { IsChecked plan.now }
 {
     let group = Group::new(alloc, plan, &[0])?;
-    let gate = LastTurn { refused: turn };
+    let gate = LastTurn::new(turn);
     match work(rt, alloc, group, Silent { worker: 0 }, &gate) {
         Ok(_) => bail!("a worker that came to its end"),
-        Err(fault) => Ok(fault),
+        Err(fault) => Ok((fault, gate.asked())),
     }
 }

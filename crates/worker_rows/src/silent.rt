@@ -1,4 +1,7 @@
 //! Links by which nothing comes: workers over them learn nothing of one another.
+ghost use Rattle.std.specs.Prelude.{IfOk};
+ghost use Rattle.wl_worker.specs.Shared.{AreNumbered};
+
 use std::alloc::{AllocError, Global};
 use wl_group::Group;
 use wl_record_core::Record;
@@ -14,6 +17,8 @@ impl Link for Silent {
     ghost use Rattle.std.specs.Prelude.{⊤};
 
     ghost is_of = { λ link plan. ⊤ };
+
+    ghost number = { λ link. link.worker };
 
     fn worker(&self) -> u8 {
         self.worker
@@ -38,7 +43,9 @@ impl Link for Silent {
 }
 
 /// Such a link for each of so many workers.
-pub fn silent_links(alloc: Global, workers: u8) -> Result<Vec<Silent>, AllocError> {
+pub fn silent_links(alloc: Global, workers: u8) -> Result<Vec<Silent>, AllocError>
+    ensures { IfOk result (λ links. AreNumbered (λ link. link.worker) links.items) }
+{
     let mut links = Vec::new(alloc);
     for worker in 0..workers {
         links.push(Silent { worker })?;

@@ -4,7 +4,7 @@ use anyhow::{Result, bail};
 use std::alloc::Global;
 use std::fmt;
 use std::fmt::{Display, Formatter, Write};
-use wl_worker::LinkKind;
+use wl_worker::{LinkFault, LinkKind};
 
 /// What is asked for; the main file says what each step does.
 #[derive(Clone, Copy)]
@@ -23,6 +23,8 @@ pub enum Step {
     Alone(u64),
     /// Ten runs, of which the link of this worker fails.
     Gone(u8),
+    /// One run by two workers, whose links fail so.
+    Faults(LinkFault, LinkFault),
     /// What posts answer.
     Letters,
     /// A letter of another plan.
@@ -36,6 +38,8 @@ pub enum Kind {
     Free,
     /// Worker `.0` is refused turn `.1`.
     Stop(u8, u64),
+    /// Worker `.0` is held before turn `.1` for `.2` polls, and then refused it.
+    Held(u8, u64, u64),
     /// Worker `.0` restarts before turns `.1` and `.2`.
     Restart(u8, u64, u64),
     /// Each has at least so many turns.
@@ -53,6 +57,7 @@ impl Display for Kind {
         match self {
             Kind::Free => Ok(()),
             Kind::Stop(..) => f.write_str(", a turn refused"),
+            Kind::Held(worker, ..) => write!(f, ", worker {worker} held and refused"),
             Kind::Restart(worker, ..) => write!(f, ", worker {worker} restarted twice"),
             Kind::Turns(least) => write!(f, ", each with {least} turns"),
             Kind::Overlap(_) => f.write_str(", first turns at once"),
@@ -125,6 +130,10 @@ fn step_of_many(
             let workers = u8::try_from(workers).ok()?;
             Some(Step::Run(workers, kind, Kind::Stop(many, turn)))
         }
+        ("hold", (Some(turn), Some(polls), Some(workers))) => {
+            let workers = u8::try_from(workers).ok()?;
+            Some(Step::Run(workers, kind, Kind::Held(many, turn, polls)))
+        }
         ("restart", (Some(first), Some(second), Some(workers))) => {
             let workers = u8::try_from(workers).ok()?;
             Some(Step::Run(workers, kind, Kind::Restart(many, first, second)))
@@ -144,6 +153,19 @@ fn step_of_many(
             Some(Step::Links(kind, many, u32::try_from(count).ok()?, until))
         }
         ("gone", (None, ..)) => Some(Step::Gone(many)),
+        ("faults", (Some(second), None, _)) => {
+            Some(Step::Faults(fault_of(u64::from(many))?, fault_of(second)?))
+        }
+        _ => None,
+    }
+}
+
+/// The fault of this number, by their order.
+fn fault_of(number: u64) -> Option<LinkFault> {
+    match number {
+        0 => Some(LinkFault::Foreign),
+        1 => Some(LinkFault::Gone),
+        2 => Some(LinkFault::Memory),
         _ => None,
     }
 }

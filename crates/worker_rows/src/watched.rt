@@ -1,6 +1,6 @@
 //! Links that count what workers do.
-ghost use Rattle.std.specs.Prelude.{All, IfOk};
-ghost use Rattle.wl_plan.specs.declared.plan.Plan.{Plan as GivenPlan};
+ghost use Rattle.std.specs.Prelude.{◌≡◌, All, IfOk};
+ghost use Rattle.wl_worker.specs.Shared.{AreNumbered};
 
 use std::alloc::{AllocError, Global};
 use std::fmt;
@@ -18,6 +18,7 @@ pub struct Counts {
     gives: AtomicU64,
     news: AtomicU64,
     waits: AtomicU64,
+    restarts: AtomicU64,
 }
 
 impl Counts {
@@ -28,7 +29,13 @@ impl Counts {
             gives: AtomicU64::new(0),
             news: AtomicU64::new(0),
             waits: AtomicU64::new(0),
+            restarts: AtomicU64::new(0),
         }
+    }
+
+    /// How often a link was rewound and something given by it next.
+    pub fn restarts(&self) -> u64 {
+        self.restarts.load(Ordering::SeqCst)
     }
 }
 
@@ -50,10 +57,14 @@ impl Display for Counts {
 pub struct Watched<'c, L: Drop> {
     link: L,
     counts: &'c Counts,
+    // Whether its last call was a rewind.
+    is_rewound: bool,
 }
 
 impl<'c, L: Link + Drop> Link for Watched<'c, L> {
     ghost is_of = { λ watched plan. L.is_of watched.link plan };
+
+    ghost number = { λ watched. L.number watched.link };
 
     ghost is_rewound = { λ watched. L.is_rewound watched.link };
 
@@ -66,10 +77,15 @@ impl<'c, L: Link + Drop> Link for Watched<'c, L> {
             .records
             .fetch_add(records.len() as u64, Ordering::SeqCst);
         self.counts.gives.fetch_add(1, Ordering::SeqCst);
+        if self.is_rewound {
+            self.counts.restarts.fetch_add(1, Ordering::SeqCst);
+        }
+        self.is_rewound = false;
         self.link.give(alloc, records)
     }
 
     fn fetch(&mut self, alloc: Global, group: &mut Group) -> Result<bool, LinkFault> {
+        self.is_rewound = false;
         let news = self.link.fetch(alloc, group)?;
         if news {
             self.counts.news.fetch_add(1, Ordering::SeqCst);
@@ -78,6 +94,7 @@ impl<'c, L: Link + Drop> Link for Watched<'c, L> {
     }
 
     fn rewind(&mut self) {
+        self.is_rewound = true;
         self.link.rewind()
     }
 
@@ -98,13 +115,19 @@ pub fn watch_all<'c, L: Link + Drop>(
     links: Vec<L>,
     counts: &'c Counts,
 ) -> Result<Vec<Watched<'c, L>>, AllocError>
-    requires { All (λ link. L.is_of link plan.now) links.items }
-    ensures { IfOk result (λ all. All (λ watched. L.is_of watched.link plan.now) all.items) }
+    requires of { All (λ link. L.is_of link plan.now) links.items }
+    requires numbered { AreNumbered L.number links.items }
+    ensures of { IfOk result (λ all. All (λ watched. L.is_of watched.link plan.now) all.items) }
+    ensures numbered { IfOk result (λ all. AreNumbered (λ watched. L.number watched.link) all.items) }
 {
     let _ = plan;
     let mut all = Vec::new(alloc);
     for link in links {
-        all.push(Watched { link, counts })?;
+        all.push(Watched {
+            link,
+            counts,
+            is_rewound: false,
+        })?;
     }
     Ok(all)
 }
