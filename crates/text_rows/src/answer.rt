@@ -6,10 +6,18 @@ use crate::records::{records, records_written, slots, truths};
 use crate::{devices, engines};
 use std::alloc::{AllocError, Global};
 use std::fmt::Display;
+use std::sync::Wait;
+use std::thread::Threads;
 use wl_device::{ScriptedReader, Then};
 
 /// The answer to a text that comes by so many bytes a call.
-fn answer_by(alloc: Global, block: &Block, text: &[u8], step: usize) -> Result<String, AllocError> {
+fn answer_by<H: Threads + Wait + Sync>(
+    rt: &H,
+    alloc: Global,
+    block: &Block,
+    text: &[u8],
+    step: usize,
+) -> Result<String, AllocError> {
     let then = if block.fails { Then::Failed } else { Then::End };
     let reader = &mut ScriptedReader { text, step, then };
     match block.word {
@@ -27,20 +35,27 @@ fn answer_by(alloc: Global, block: &Block, text: &[u8], step: usize) -> Result<S
         "disturbed" => disturbances(alloc, reader, block.rest),
         "grouping" => groups(alloc, reader, block.rest),
         "merge" => engines::merge(alloc, reader),
+        "merge_fronts" => engines::merge_fronts(alloc, reader),
         "horizon" => engines::horizon(alloc, reader),
         "check" => engines::check(alloc, reader),
         "records" => engines::records(alloc, reader),
         "run" => engines::run(alloc, reader),
+        "workers" => engines::workers(rt, alloc, reader, block.rest),
         "faults" => engines::faults(alloc),
         _ => String::from_str(alloc, "row: nothing of this name can be asked\n"),
     }
 }
 
 /// The answer to a text that comes whole, by one byte a call and by seven.
-pub fn answer(alloc: Global, block: &Block, text: &[u8]) -> Result<String, AllocError> {
-    let whole = answer_by(alloc, block, text, usize::MAX)?;
+pub fn answer<H: Threads + Wait + Sync>(
+    rt: &H,
+    alloc: Global,
+    block: &Block,
+    text: &[u8],
+) -> Result<String, AllocError> {
+    let whole = answer_by(rt, alloc, block, text, usize::MAX)?;
     for step in [1usize, 7] {
-        let other = answer_by(alloc, block, text, step)?;
+        let other = answer_by(rt, alloc, block, text, step)?;
         if other.as_str() != whole.as_str() {
             return format!(in alloc; "row: by {step} bytes a call {other}by all of them {whole}");
         }

@@ -32,16 +32,19 @@ pub fn read_whole(
     }
 }
 
-/// How many calls are made once a text has gone out: `CALLS STEP`, of which so many calls were made before.
+/// How many calls are made once a text has gone out: `CALLS STEP`, of which so many calls were made before. The writer has room for all, or, with
+/// `CALLS STEP ROOM`, for so many bytes, and is interrupted for ever after them.
 pub fn sent(alloc: Global, text: &[u8], words: &str) -> Result<String, AllocError> {
     let Some(numbers) = numbers(alloc, words)? else {
         return wrong_numbers(alloc);
     };
-    let [calls, step] = numbers.as_slice() else {
-        return wrong_numbers(alloc);
+    let (calls, step, room) = match numbers.as_slice() {
+        [calls, step] => (*calls, *step, usize::MAX),
+        [calls, step, room] => (*calls, *step, *room as usize),
+        _ => return wrong_numbers(alloc),
     };
-    let mut writer = writer(alloc, usize::MAX, *step as usize, Then::Failed);
-    match calls_made(text, &mut writer, *calls) {
+    let mut writer = writer(alloc, room, step as usize, Then::Again);
+    match calls_made(text, &mut writer, calls) {
         Some(made) => format!(in alloc; "{made}\n"),
         None => String::from_str(alloc, "none\n"),
     }

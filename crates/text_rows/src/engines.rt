@@ -1,9 +1,11 @@
 //! Rows of the engines.
 
-use crate::answer::fault_line;
+use crate::answer::{fault_line, wrong_numbers};
 use std::alloc::{AllocError, Global};
+use std::sync::Wait;
+use std::thread::Threads;
 use wl_device::{ScriptedReader, ScriptedWriter, Then, WriteFault};
-use wl_engines::{RunFault, check_run, horizon_run, merge_run, plan_run, records_run};
+use wl_engines::{RunFault, check_run, horizon_run, merge_run, plan_run, records_run, workers_run};
 use wl_plan::{GroupingFault, PlanFault};
 use wl_record::TextFault;
 use wl_setup::SetupFault;
@@ -42,6 +44,40 @@ pub fn merge(alloc: Global, reader: &mut ScriptedReader) -> Result<String, Alloc
     said(alloc, ended, writer)
 }
 
+/// What goes out of the canonical text of a record text to writers that fail after 0 bytes, after 1, and so on up to all of it: a line for each.
+pub fn merge_fronts(alloc: Global, reader: &ScriptedReader) -> Result<String, AllocError> {
+    let mut whole = ample(alloc);
+    let _ = merge_run(alloc, &mut again(reader), &mut whole);
+    let text = whole.written.as_slice();
+    let len = text.len();
+    let mut shown = String::new(alloc);
+    for room in 0..=len {
+        let mut writer = ScriptedWriter {
+            written: Vec::new(alloc),
+            room,
+            step: 7,
+            then: Then::Failed,
+        };
+        let ended = merge_run(alloc, &mut again(reader), &mut writer);
+        let one = writer.written.as_slice();
+        let (out, same) = (one.len(), text.starts_with(one));
+        match ended {
+            Ok(()) => writeln!(shown, "{out} of {len} written, the front: {same}")?,
+            Err(fault) => writeln!(shown, "{out} of {len} {fault}, the front: {same}")?,
+        }
+    }
+    Ok(shown)
+}
+
+/// A reader of the same text from its beginning.
+fn again<'a>(reader: &ScriptedReader<'a>) -> ScriptedReader<'a> {
+    ScriptedReader {
+        text: reader.text,
+        step: reader.step,
+        then: reader.then,
+    }
+}
+
 /// What a record text tells of each node, and up to when.
 pub fn horizon(alloc: Global, reader: &mut ScriptedReader) -> Result<String, AllocError> {
     let mut writer = ample(alloc);
@@ -67,6 +103,21 @@ pub fn records(alloc: Global, reader: &mut ScriptedReader) -> Result<String, All
 pub fn run(alloc: Global, reader: &mut ScriptedReader) -> Result<String, AllocError> {
     let mut writer = ample(alloc);
     let ended = plan_run(alloc, reader, &mut writer);
+    said(alloc, ended, writer)
+}
+
+/// The report of a plan by so many workers.
+pub fn workers<H: Threads + Wait + Sync>(
+    rt: &H,
+    alloc: Global,
+    reader: &mut ScriptedReader,
+    words: &str,
+) -> Result<String, AllocError> {
+    let Ok(workers) = words.parse::<u8>() else {
+        return wrong_numbers(alloc);
+    };
+    let mut writer = ample(alloc);
+    let ended = workers_run(rt, alloc, workers, reader, &mut writer);
     said(alloc, ended, writer)
 }
 

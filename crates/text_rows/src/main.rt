@@ -34,7 +34,7 @@ fn main(rt: HostRuntime) -> io::Result<()> {
     let mut rows = Rows::new(rt.alloc());
     for line in rt.lines(rt.alloc()) {
         let line = line?;
-        let said = rows.take(line.as_str())?;
+        let said = rows.take(&rt, line.as_str())?;
         print!(rt; "{said}")?;
     }
     Ok(())

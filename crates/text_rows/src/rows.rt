@@ -4,6 +4,8 @@ use crate::answer::answer;
 use crate::block::{Block, Text, text_of};
 use std::alloc::{AllocError, Global};
 use std::collections::BTreeMap;
+use std::sync::Wait;
+use std::thread::Threads;
 
 /// What was read of the block that is open, and the texts that were kept.
 #[derive(Drop)]
@@ -26,13 +28,17 @@ impl Rows {
     }
 
     /// Takes the next line, and answers what is to be written.
-    pub fn take(&mut self, line: &str) -> Result<String, AllocError> {
+    pub fn take<H: Threads + Wait + Sync>(
+        &mut self,
+        rt: &H,
+        line: &str,
+    ) -> Result<String, AllocError> {
         let alloc = self.alloc;
         if line == "---" {
             let Some(head) = self.head.take() else {
                 return String::from_str(alloc, "row: no block is open\n");
             };
-            let said = self.close(head.as_str())?;
+            let said = self.close(rt, head.as_str())?;
             self.body.clear();
             return Ok(said);
         }
@@ -49,7 +55,11 @@ impl Rows {
     }
 
     /// What is answered to the block that ends here. One that keeps its text answers nothing.
-    fn close(&mut self, head: &str) -> Result<String, AllocError> {
+    fn close<H: Threads + Wait + Sync>(
+        &mut self,
+        rt: &H,
+        head: &str,
+    ) -> Result<String, AllocError> {
         let alloc = self.alloc;
         if let Some(name) = head.strip_prefix("keep ") {
             let name = String::from_str(alloc, name)?;
@@ -61,11 +71,11 @@ impl Rows {
         let mut said = String::new(alloc);
         if block.each {
             for line in self.body.lines() {
-                let answered = answer_to(alloc, &block, line, &self.kept)?;
+                let answered = answer_to(rt, alloc, &block, line, &self.kept)?;
                 write!(said, "> {line}\n{answered}")?;
             }
         } else {
-            said = answer_to(alloc, &block, self.body.as_str(), &self.kept)?;
+            said = answer_to(rt, alloc, &block, self.body.as_str(), &self.kept)?;
         }
         said.push_str("---\n")?;
         Ok(said)
@@ -73,14 +83,15 @@ impl Rows {
 }
 
 /// What is answered to a block with these lines.
-fn answer_to(
+fn answer_to<H: Threads + Wait + Sync>(
+    rt: &H,
     alloc: Global,
     block: &Block,
     lines: &str,
     kept: &BTreeMap<String, String>,
 ) -> Result<String, AllocError> {
     match text_of(alloc, block, lines, kept)? {
-        Text::Given(text) => answer(alloc, block, text.as_slice()),
+        Text::Given(text) => answer(rt, alloc, block, text.as_slice()),
         Text::Wrong(why) => format!(in alloc; "row: {why}\n"),
     }
 }
