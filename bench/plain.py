@@ -68,7 +68,7 @@ class Segments(NamedTuple):
     ps1: int
     ps2: int
     sjw: int
-    inside: bool = False  # an edge lies in the quantum before the one that finds it
+    book: bool = False  # by the book: an edge lies in the quantum before the one that finds it
 
     def sample_at(self):
         return 1 + self.prop + self.ps1
@@ -95,17 +95,17 @@ class BitClock:
     def __init__(self, segments):
         self.segments = segments
         self.before = self.sampled = RECESSIVE
-        self.place, self.longer, self.shorter, self.synchronised = segments.bit_quanta() - 1 if segments.inside else -1, 0, 0, False
+        self.place, self.longer, self.shorter, self.synchronised = segments.bit_quanta() - 1 if segments.book else -1, 0, 0, False
         self.first = True
 
     def start(self, synchronised):
         self.place, self.longer, self.shorter, self.synchronised = 0, 0, 0, synchronised
 
-    def step(self, level, idle, driving):
+    def step(self, level, idle, awaits_start, driving):
         before, self.before = self.before, level
-        if self.segments.inside:
+        if self.segments.book:
             edge = level == DOMINANT and before == RECESSIVE and self.sampled == RECESSIVE and not self.synchronised
-            return self.step_inside(level, idle, driving, edge)
+            return self.step_by_the_book(level, awaits_start and not driving, driving, edge)
         self.place += 1
         sample_at = self.segments.sample_at() + self.longer
         if self.first or self.place == sample_at + self.segments.ps2 - self.shorter:
@@ -138,12 +138,12 @@ class BitClock:
             self.shorter, self.synchronised = self.segments.sjw, True
         return error
 
-    def step_inside(self, level, idle, driving, edge):
+    def step_by_the_book(self, level, hard, driving, edge):
         """The same by the book: the place is still that of the quantum before, in which the edge lies."""
         sync = None
-        if edge and idle:
+        if edge and hard:
             sync, anew = "Hard", True
-        elif edge and self.place + 1 != self.segments.sample_at():  # in the sample's quantum it counts for idle nodes alone (P)
+        elif edge:
             sync, anew = self.resynchronise(driving)
         if sync is not None and anew:
             self.start(True)
@@ -259,6 +259,12 @@ class Machine:
 
     def idle(self):
         return self.state in ("waiting", "suspend")
+
+    def awaits_start(self):
+        """The next edge may be a start of frame: up to its own, for a node that has decided to send."""
+        between = self.state == "intermission" and self.count in (1, 2)
+        decided = self.state == "sending" and self.count == 0
+        return self.idle() or self.state == "integrating" or between or decided
 
     def drive(self):
         """The level from the next bit start on."""
@@ -414,8 +420,10 @@ class Machine:
         if self.count < 3: return self.overload() if sample == DOMINANT else "Nothing"
         suspended = self.role == "Tx" and mode == "passive"
         self.role = "Rx"
-        if sample == DOMINANT: return self.receive(sample)
-        return self.go("suspend") if suspended else self.free(head)
+        if sample == RECESSIVE: return self.go("suspend") if suspended else self.free(head)
+        if head is None or suspended: return self.receive(sample)
+        self.free(head)  # its own start of frame, which others have begun
+        return self.sending(sample, head, mode)
 
     def suspend(self, sample, head, mode):
         self.count += 1
@@ -490,7 +498,7 @@ class Node:
         return self.setup.clock.at(self.quanta)
 
     def quantum(self, level):
-        beat, sync = self.bit_clock.step(level, self.machine.idle(), self.drive == DOMINANT)
+        beat, sync = self.bit_clock.step(level, self.machine.idle(), self.machine.awaits_start(), self.drive == DOMINANT)
         if sync == "Hard": self.hards += 1
         elif sync is not None: self.phases.append(sync)
         if sync is not None: self.events.append((self.quanta, self.samples, f"sync {'hard' if sync == 'Hard' else sync}"))
@@ -514,6 +522,7 @@ class Node:
         self.samples += 1
         mode = self.counters.mode()
         head = self.waiting[0].frame if self.waiting and self.waiting[0].ready <= self.quanta else None
+        if level == DOMINANT and not self.setup.segments.book: head = None  # a dominant bit is no start of frame of its own (P)
         where, state, role = self.machine.next_place(), self.machine.state, self.machine.role
         happened = self.machine.bit(level, head, mode)
         self.counters.apply(happened)
@@ -624,7 +633,7 @@ class Plan(NamedTuple):
     def fault(self):
         if self.end > 2**36: return "End"
         for i, node in enumerate(self.nodes):
-            short = node.segments.inside and node.segments.sample_at() == 3  # it may sample every third quantum
+            short = node.segments.book and node.segments.sample_at() == 3  # it may sample every third quantum
             if node.clock.quanta_before(self.end) > (786_432 if short else 1_048_576): return f"Quanta({i})"
         for i, node in enumerate(self.nodes):
             if len(node.queue) > 64: return f"Queue({i})"
@@ -644,7 +653,7 @@ def array_of(kind):
 NUMBER, SMALL, BYTE, PPM = whole(0, NUMBER_END), whole(0, SMALL_END), whole(0, 256), whole(-10**9, 10**9 + 1)
 TABLES = array_of(lambda value: type(value) is dict)
 TRUTH = lambda value: type(value) is bool
-SYNC = lambda value: type(value) is str and value in ("after", "inside")
+SYNC = lambda value: type(value) is str and value in ("after", "book")
 NAME = lambda value: type(value) is str and re.fullmatch("[A-Za-z0-9_-]{1,32}", value)
 TOP = {"version": NUMBER, "end": NUMBER, "per": NUMBER, "node": TABLES}
 FRACTION, NOMINAL = {"num": NUMBER, "den": NUMBER}, {"quantum": NUMBER, "ppm": PPM}
@@ -695,8 +704,8 @@ def read_plan(text):
         for frame in node.get("frame", []): test_keys(frame, *FRAME)
     for disturbance in top.get("disturbance", []): test_keys(disturbance, *DISTURBANCE)
     if len({node["name"] for node in top["node"]}) < len(top["node"]): raise Fault("SameName")
-    inside = top.get("sync") == "inside"
-    nodes = [read_node(i, node, inside) for i, node in enumerate(top["node"])]
+    book = top.get("sync") == "book"
+    nodes = [read_node(i, node, book) for i, node in enumerate(top["node"])]
     places = [Place(node["x"], node["out"], node["in"]) for node in top["node"]]
     disturbances = [(table["x"], table["from"], table["to"]) for table in top.get("disturbance", [])]
     plan = Plan(nodes, places, top["per"], disturbances, top["end"])
@@ -715,13 +724,13 @@ def table_rate(i, start, table):
     return Rate(start, table["quantum"] * (1_000_000 + table["ppm"]), 1_000_000)
 
 
-def read_node(i, node, inside):
+def read_node(i, node, book):
     if "rates" in node:
         rates = [table_rate(i, table["from"], table) for table in node["rates"]]
     else:
         rates = [table_rate(i, 0, node)]
     clock = Clock(node["offset"], rates)
-    segments = Segments(node["prop"], node["ps1"], node["ps2"], node["sjw"], inside)
+    segments = Segments(node["prop"], node["ps1"], node["ps2"], node["sjw"], book)
     refuse(f"NodeClock({i}, %s)", clock.fault())
     refuse(f"NodeSegments({i}, %s)", segments.fault())
     queue = []
@@ -918,7 +927,7 @@ def node_doubts(plan, node, idle):
 def room_doubts(plan, node):
     """A node sends its frames one after another, and takes a sample for each of their bits: 11 before, and three between two frames."""
     frames = [(64 if waiting.frame.extended else 44) + 8 * len(waiting.frame.data) for waiting in node.queue]
-    bits, way = 11 + sum(frames) + 3 * (len(frames) - 1), node.segments.sample_at() - node.segments.inside
+    bits, way = 11 + sum(frames) + 3 * (len(frames) - 1), node.segments.sample_at() - node.segments.book
     if frames and node.clock.at(bits * (1 + way) - 1) >= plan.end:
         yield f"doubt: 11 bits and the frames of {node.name} take at least {bits} bits, beyond the end"
 

@@ -1,7 +1,7 @@
 -- Two nodes and their doubts, computed: 500 kbit/s by quanta of 125 ns, and the same 2 % slow.
 use Rattle.std.proofs.Common.{◌≡◌, ℕ, Bool, true, false, List, [], ◌∷◌, refl}
 use Rattle.wl_clock.specs.Timing.{tick_of}
-use Rattle.wl_segments.specs.declared.SyncSeg.TheVariants.{After}
+use Rattle.wl_segments.specs.declared.SyncRules.TheVariants.{After}
 use Rattle.wl_frame.specs.Grammar.{Content}
 use Rattle.wl_node.specs.declared.setup.NodeSetup.{NodeSetup}
 use Rattle.wl_plan.specs.Limits.{most_quanta}

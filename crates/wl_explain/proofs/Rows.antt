@@ -3,7 +3,7 @@ use Rattle.std.proofs.Common.{◌≡◌, ℕ, List, [], ◌∷◌, Some, None, r
 use Rattle.wl_clock.specs.declared.Rate.{Rate}
 use Rattle.wl_clock.specs.Timing.{Timing, tick_of}
 use Rattle.wl_plan.specs.Limits.{most_quanta}
-use Rattle.wl_segments.specs.declared.SyncSeg.TheVariants.{After}
+use Rattle.wl_segments.specs.declared.SyncRules.TheVariants.{After}
 use Rattle.wl_segments.specs.Lengths.{Lengths}
 use Rattle.wl_explain.specs.Figures.{Ratio, ComesBack, quantum_of, picoseconds, bits_per_second, sample_point, furthest_way, longest_cable, longest_trip, mean_quantum, quanta_begun, tolerance}
 

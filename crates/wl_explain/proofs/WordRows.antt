@@ -3,7 +3,7 @@ use Rattle.std.proofs.Common.{◌≡◌, [], Some, None, codes, refl}
 use Rattle.std.specs.Fmt.{digits}
 use Rattle.wl_clock.specs.Timing.{tick_of}
 use Rattle.wl_plan.specs.Limits.{most_quanta}
-use Rattle.wl_segments.specs.declared.SyncSeg.TheVariants.{After}
+use Rattle.wl_segments.specs.declared.SyncRules.TheVariants.{After}
 use Rattle.wl_segments.specs.Lengths.{Lengths}
 use Rattle.wl_explain.specs.Words.{thousandths, hundredths, clocks_line, trip_line, jump_line, late_line, early_line, room_words, cable_words, margin_words, timing_words}
 use Rattle.wl_explain.proofs.DoubtRows.{node}

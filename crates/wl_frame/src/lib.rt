@@ -8,3 +8,6 @@ pub mod limits;
 mod numbers;
 pub mod places;
 pub mod stuffing;
+
+pub use checksum::crc15;
+pub use frame::{Frame, FrameFault};

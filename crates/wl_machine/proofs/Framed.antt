@@ -1,13 +1,14 @@
 -- The stretch of a frame, one sample later: who sends, what is kept, and where the stuffed part ends.
 use Rattle.std.proofs.Common.{◌≡◌, ℕ, zero, suc, ◌+◌, ◌<◌, ◌≤◌, ◌∙◌, List, [], ◌∷◌, ◌++◌, length, Bool, true, false, not, cond, ◌&&◌, Option, Some, None, is_some, refl, sym, ap, subst, arith, add-one, append-nil, length-append, inl, inr}
-use Rattle.std.specs.Prelude.{nat_le}
+use Rattle.std.specs.Prelude.{nat_le, nat_lt}
 use Rattle.std.proofs.lemmas.Bool.{le-leb, lt-leb, cases_lt, and_parts}
 use Rattle.wl_level.specs.declared.Level.{Level}
 use Rattle.wl_level.specs.Levels.{same, is_dominant, opposite}
 use Rattle.wl_level.specs.Places.{at, before, or_at, first_place, run_at, IsFirstPlace}
 use Rattle.wl_level.proofs.Callers.{at_new, at_old, before_old, first_cong, first_none, first_is}
 use Rattle.wl_frame.specs.Stuffing.{is_stuff, destuffed_bits}
-use Rattle.wl_frame.specs.Grammar.{Content, bits_of, is_whole, is_front, is_arbitration}
+use Rattle.wl_frame.specs.Grammar.{Content, bits_of, is_whole, is_front, is_arbitration, layout_by, layout_of}
+use Rattle.wl_frame.specs.Header.{is_extended}
 use Rattle.wl_frame.proofs.Callers.{front_more, arbitration_over as over, stuff_run, stuff_old, kept_old, length_more, run_more, before_more, destuffed_more}
 use Rattle.wl_machine.specs.declared.state.Role.{Role}
 use Rattle.wl_machine.specs.declared.state.Role.TheVariants.{Tx, Rx}
@@ -84,6 +85,16 @@ pub role_next : (head : Content) (own : List Level) (x : Level)
 role_next head own x =
     ap role_at (lost_more head own x) ∙ role_by_place (first_place (is_lost head own) (length own)) (lost_next head own x) (length own)
     ∙ ap (λ b. cond b Rx (frame_role (Some head) own)) (sym (lost_new head own x))
+
+-- a start of frame is no bit of the arbitration, so who sends it is a transmitter still
+starts_later : (extended : Bool) (bits : List Level) → nat_le (layout_by extended bits).start 0 ≡ false
+starts_later true bits = refl
+starts_later false bits = refl
+
+pub role_first : (head : Content) (x : Level) → frame_role (Some head) (x ∷ []) ≡ Tx
+role_first head x =
+    role_sends head [] x refl
+    (ap (λ b. b && nat_lt 0 (layout_of (bits_of head)).arbitration && not (is_dominant (at (bits_of head) 0)) && is_dominant x) (starts_later (is_extended (bits_of head)) (bits_of head)))
 
 -- the end of the stuffed part
 

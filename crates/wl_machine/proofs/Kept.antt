@@ -1,13 +1,14 @@
 -- What the state of a machine says of its running stretch.
-use Rattle.std.proofs.Common.{◌≡◌, ℕ, ◌+◌, ◌-◌, ◌<◌, ◌≤◌, ◌%◌, ◌∙◌, List, length, Bool, true, cond, ◌&&◌, Option, Some, refl, sym, ap, subst, arith}
-use Rattle.std.specs.Prelude.{nat_le, nat_eq}
+use Rattle.std.proofs.Common.{◌≡◌, ℕ, suc, ◌+◌, ◌-◌, ◌<◌, ◌≤◌, ◌%◌, ◌∙◌, List, [], ◌∷◌, length, Bool, true, false, cond, ◌&&◌, Option, Some, refl, sym, ap, subst, arith}
+use Rattle.std.specs.Prelude.{nat_le, nat_lt, nat_eq, ◌==◌}
+use Rattle.std.proofs.lemmas.Bool.{ne_eqb}
 use denote.Struct.Props.{props}
 use Rattle.std.proofs.Math.Logic.{∥∥₁_elim}
 use Rattle.wl_level.specs.declared.Level.{Level}
 use Rattle.wl_level.specs.declared.Level.TheVariants.{Dominant, Recessive}
 use Rattle.wl_level.specs.Levels.{opposite}
-use Rattle.wl_level.specs.Places.{at, run_at_end}
-use Rattle.wl_level.proofs.Callers.{run_before_le}
+use Rattle.wl_level.specs.Places.{at, run_at, run_at_end}
+use Rattle.wl_level.proofs.Callers.{run_before_le, run_positive}
 use Rattle.wl_frame.specs.Stuffing.{destuffed_bits}
 use Rattle.wl_frame.specs.Grammar.{Content, bits_of, is_whole, is_crc_right}
 use Rattle.wl_frame.specs.Limits.{most_bits}
@@ -24,8 +25,8 @@ use Rattle.wl_machine.specs.Stretch.{Sort, Stretch, Sampled}
 use Rattle.wl_machine.specs.Stretch.Sort.{Integration, Idle, Framing, Flagging}
 use Rattle.wl_machine.specs.Flags.{long_from, dominant_run}
 use Rattle.wl_machine.specs.Frames.{frame_role, frame_drive, drive_up_to, stuffed_drive, tail_drive}
-use Rattle.wl_machine.specs.Judged.{drive_by, drive_of, is_idle_sort}
-use Rattle.wl_machine.specs.States.{IsIn, IsAtState, IsStuffedPart, IsTail, Meets, stretch_by, flag_of, state_drive, is_idle_state}
+use Rattle.wl_machine.specs.Judged.{awaits_by, awaits_start, drive_by, drive_of, is_idle_sort}
+use Rattle.wl_machine.specs.States.{IsIn, IsAtState, IsCount, IsStuffedPart, IsTail, Meets, stretch_by, flag_of, state_drive, awaits_state, is_idle_state}
 use Rattle.wl_machine.proofs.FlagSteps.{until_positive}
 use Rattle.wl_machine.proofs.Framed.{not_whole, tail_whole}
 use Rattle.wl_machine.proofs.FrameSteps.{sent_level_is}
@@ -177,3 +178,39 @@ idle_at (states.BusOff runs run) bits sent sort own h = sym (ap is_idle_sort h.0
 
 pub idle_kept : (m : Progress) (s : Stretch) → IsIn m s → is_idle_state m.state ≡ is_idle_sort s.sort
 idle_kept m s h = idle_at m.state m.bits.items m.sent.items s.sort s.own h
+
+-- whether it awaits a start of frame
+
+-- a frame has begun where its last samples are some equal ones
+run_begun : (run : ℕ) (own : List Level) → run ≡ run_at own (length own) → (run == 0) ≡ (length own == 0)
+run_begun run own e = by own e
+  where
+    by : (own : List Level) → run ≡ run_at own (length own) → (run == 0) ≡ (length own == 0)
+    by [] e = ap (λ n. n == 0) e
+    by (x ∷ xs) e = ne_eqb run 0 (λ f. let some = run_positive (x ∷ xs) (length xs) in omega arith) ∙ sym (ne_eqb (suc (length xs)) 0 (λ f. omega arith))
+
+-- and where its stuffed part is over
+tail_begun : (place end : ℕ) (own : List Level) → IsTail place end own → false ≡ (length own == 0)
+tail_begun place end [] t = (let f = t.found in cc)
+tail_begun place end (x ∷ xs) t = sym (ne_eqb (suc (length xs)) 0 (λ f. omega arith))
+
+count_begun : (count : ℕ) (own : List Level) (limit : ℕ) → IsCount count own limit → nat_lt 0 count ≡ nat_lt 0 (length own)
+count_begun count own limit c = ap (nat_lt 0) c.is_length
+
+awaits_at : (state : State) (bits sent : List Level) (sort : Sort) (own : List Level) → IsAtState state bits sent sort own → awaits_state state ≡ awaits_by sort own
+awaits_at (states.Integrating run) bits sent sort own h = sym (ap (λ s. awaits_by s own) h.0)
+awaits_at states.Idle bits sent sort own h = sym (ap (λ s. awaits_by s own) h)
+awaits_at (states.Sending last run) bits sent sort own h = run_begun run own h.4.run_is ∙ sym (ap (λ s. awaits_by s own) h.1)
+awaits_at (states.Receiving last run) bits sent sort own h = run_begun run own h.3.run_is ∙ sym (ap (λ s. awaits_by s own) h.1)
+awaits_at (states.SentTail place) bits sent sort own h = tail_begun place h.3 own h.4 ∙ sym (ap (λ s. awaits_by s own) h.1)
+awaits_at (states.ReceivedTail place right) bits sent sort own h = tail_begun place h.3 own h.4.tail ∙ sym (ap (λ s. awaits_by s own) h.1)
+awaits_at (states.Flag cause role count run) bits sent sort own h = sym (ap (λ s. awaits_by s own) h.0)
+awaits_at (states.PassiveFlag role owed last run) bits sent sort own h = sym (ap (λ s. awaits_by s own) h.1)
+awaits_at (states.Wait role late left) bits sent sort own h = sym (ap (λ s. awaits_by s own) h.2)
+awaits_at (states.Delimiter role count) bits sent sort own h = sym (ap (λ s. awaits_by s own) h.0)
+awaits_at (states.Intermission role count) bits sent sort own h = count_begun count own 3 h.1 ∙ sym (ap (λ s. awaits_by s own) h.0)
+awaits_at (states.Suspended count) bits sent sort own h = sym (ap (λ s. awaits_by s own) h.0)
+awaits_at (states.BusOff runs run) bits sent sort own h = sym (ap (λ s. awaits_by s own) h.0)
+
+pub awaits_kept : (m : Progress) (s : Stretch) → IsIn m s → awaits_state m.state ≡ awaits_start s
+awaits_kept m s h = awaits_at m.state m.bits.items m.sent.items s.sort s.own h

@@ -3,18 +3,19 @@ use Rattle.std.proofs.Common.{◌≡◌, ℕ, zero, suc, ◌-◌, List, [], ◌�
 use Rattle.wl_level.specs.declared.Level.{Level}
 use Rattle.wl_level.specs.declared.Level.TheVariants.{Dominant, Recessive}
 use Rattle.wl_confine.specs.declared.ErrorKind.TheVariants.{Stuff, Ack, Crc}
-use Rattle.wl_confine.specs.declared.Mode.TheVariants.{Active}
+use Rattle.wl_confine.specs.declared.Mode.TheVariants.{Active, Passive}
 use Rattle.wl_confine.specs.declared.Happened.{Happened}
 use Rattle.wl_confine.specs.declared.Happened.TheVariants as happens
 use Rattle.wl_frame.specs.Grammar.{Content, bits_of, number_bits}
 use Rattle.wl_machine.specs.declared.state.Role.{Role}
 use Rattle.wl_machine.specs.declared.state.Role.TheVariants.{Tx, Rx}
 use Rattle.wl_machine.specs.Stretch.{Stretch, Sampled, Input, Ended}
-use Rattle.wl_machine.specs.Stretch.Sort.{Integration, Flagging, Suspension}
+use Rattle.wl_machine.specs.Stretch.Sort.{Integration, Framing, Flagging, Suspension}
 use Rattle.wl_machine.specs.Stretch.Flag.{PassiveFlag}
 use Rattle.wl_machine.specs.Stretch.Ended.{Sent, Received}
 use Rattle.wl_machine.specs.Stretch.Input.{Sample, SwitchedOff}
-use Rattle.wl_machine.specs.Judged.{judged, stretch_of, stretch_after, drive_of, role_of}
+use Rattle.wl_machine.specs.Judged.{awaits_start, judged, stretch_of, stretch_after, drive_of, role_of}
+use Rattle.wl_machine.specs.Quiet.{joined}
 use Rattle.wl_machine.specs.Rest.{rest_by, rest_of}
 
 abbrev heard : Level → Sampled
@@ -319,3 +320,31 @@ passive_for = refl
 
 passive_for_less : rest_by (Flagging (PassiveFlag false) Rx) (Dominant ∷ Recessive ∷ Recessive ∷ []) ≡ Some 14
 passive_for_less = refl
+
+-- a frame that waits is sent with the dominant third bit of an intermission for its start of frame, and not where a passive transmitter is to be suspended
+joins : stretch_after (flagged 10) (Sample (record { level = Dominant; head = zero_frame; mode = Active })) ≡ record { sort = Framing zero_frame; own = Dominant ∷ [] }
+unfolding bits_of number_bits
+joins = refl
+
+joins_not : joined Tx Passive zero_frame ≡ None
+joins_not = refl
+
+-- who awaits a start of frame: while it integrates, behind the first bit of an intermission, and up to its own start of frame
+awaits_first : awaits_start (stretch_of []) ≡ true
+awaits_first = refl
+
+awaits_behind : awaits_start (flagged 9) ≡ true
+unfolding bits_of number_bits
+awaits_behind = refl
+
+awaits_not_yet : awaits_start (flagged 8) ≡ false
+unfolding bits_of number_bits
+awaits_not_yet = refl
+
+awaits_decided : awaits_start (offered (flagged 10)) ≡ true
+unfolding bits_of number_bits
+awaits_decided = refl
+
+awaits_no_more : awaits_start (stretch_after (offered (flagged 10)) (Sample (heard Dominant))) ≡ false
+unfolding bits_of number_bits
+awaits_no_more = refl

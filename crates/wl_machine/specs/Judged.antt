@@ -1,5 +1,5 @@
 -- The machine over all that reached it: what each sample does, the running stretch, its role, and what it drives.
-use Rattle.std.specs.Prelude.{Bool, true, false, List, [], ◌∷◌, ◌++◌, fold, Option, Some, None}
+use Rattle.std.specs.Prelude.{◌==◌, nat_lt, Bool, true, false, List, [], ◌∷◌, ◌++◌, length, fold, Option, Some, None}
 use Rattle.wl_level.specs.declared.Level.{Level}
 use Rattle.wl_level.specs.declared.Level.TheVariants.{Dominant, Recessive}
 use Rattle.wl_frame.specs.Grammar.{Content}
@@ -69,6 +69,19 @@ abbrev pub is_idle_sort : Sort → Bool
 is_idle_sort Idle = true
 is_idle_sort Suspension = true
 is_idle_sort sort = false
+
+-- A node awaits a start of frame where the next edge may be one, up to its own: on an idle bus, while it is suspended or integrates, from the sample of the first
+-- bit of an intermission to that of the third, and where it has decided to send (sections 3.2.1 and 3.2.5; ISO 11898-1, hard synchronisation)
+abbrev pub awaits_by : Sort → List Level → Bool
+awaits_by Integration own = true
+awaits_by Idle own = true
+awaits_by (Framing head) own = length own == 0
+awaits_by (Intermission role) own = nat_lt 0 (length own)
+awaits_by Suspension own = true
+awaits_by sort own = false
+
+abbrev pub awaits_start : Stretch → Bool
+awaits_start s = awaits_by s.sort s.own
 
 -- the bus is free, and the node has nothing to send (section 3.2.5, bus idle)
 abbrev pub is_free_sort : Sort → Bool

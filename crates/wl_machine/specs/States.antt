@@ -150,6 +150,16 @@ is_idle_state states.Idle = true
 is_idle_state (states.Suspended count) = true
 is_idle_state state = false
 
+-- whether the machine awaits a start of frame, by what is kept
+abbrev pub awaits_state : State → Bool
+awaits_state (states.Integrating run) = true
+awaits_state states.Idle = true
+awaits_state (states.Sending last run) = run == 0
+awaits_state (states.Receiving last run) = run == 0
+awaits_state (states.Intermission role count) = nat_lt 0 count
+awaits_state (states.Suspended count) = true
+awaits_state state = false
+
 -- whether the bus is free, by what is kept
 abbrev pub is_free_state : State → Bool
 is_free_state states.Idle = true

@@ -63,7 +63,7 @@ pub struct Machine {
 impl Machine {
     ghost use Rattle.std.specs.Option.{option_copied};
     ghost use Rattle.wl_machine.specs.Stretch.Input.{Sample, SwitchedOff};
-    ghost use Rattle.wl_machine.specs.Judged.{judged, stretch_of, drive_of, is_free_sort, is_idle_sort};
+    ghost use Rattle.wl_machine.specs.Judged.{awaits_start, judged, stretch_of, drive_of, is_free_sort, is_idle_sort};
     ghost use Rattle.wl_machine.specs.States.{sample_of, done_of};
     ghost use Rattle.wl_machine.specs.Keeps.{keeps};
     ghost use Rattle.wl_machine.specs.Rest.{rest_of, IsRecessive};
@@ -85,7 +85,7 @@ impl Machine {
     /// One sampled bit.
     ///
     /// `head` is the frame that is to be sent next, if there is one: it is looked at only where the
-    /// bus becomes free, and a frame that has begun is sent to its end or to its first error,
+    /// bus becomes free, and at a dominant third bit of an intermission, which is its start of frame then; a frame that has begun is sent to its end or to its first error,
     /// whatever is handed in later. `mode` is the mode before this sample.
     pub fn bit(&mut self, sample: Level, head: Option<&Frame>, mode: Mode) -> Turn
         ensures machine { (past : List Input) → IsMachine self.old past
@@ -143,6 +143,15 @@ impl Machine {
         ensures { (past : List Input) → IsMachine self.now past → result ≡ is_idle_sort (stretch_of past).sort }
     {
         self.progress.is_idle()
+    }
+
+    /// True where the next edge may be a start of frame to the node, up to its own: on an idle bus, while it is suspended or
+    /// integrates, from the sample of the first bit of an intermission to that of the third, and where it has decided to send, up to
+    /// the sample of its start of frame (Bosch CAN 2.0 part B, sections 3.2.1 and 3.2.5; ISO 11898-1, hard synchronisation).
+    pub fn awaits_start(&self) -> bool
+        ensures { (past : List Input) → IsMachine self.now past → result ≡ awaits_start (stretch_of past) }
+    {
+        self.progress.awaits_start()
     }
 
     /// True where the bus is free and the node has nothing to send: a recessive sample leaves the machine as it is then, as long as

@@ -1,6 +1,6 @@
 //! What a machine keeps between two samples, and how the stretches begin.
 
-ghost use Rattle.std.specs.Prelude.{◌≡◌, [], ◌∷◌};
+ghost use Rattle.std.specs.Prelude.{◌≡◌, [], ◌∷◌, Some};
 ghost use Rattle.std.specs.Option.{option_copied};
 ghost use Rattle.wl_level.specs.declared.Level.{Level};
 ghost use Rattle.wl_machine.specs.Stretch.{free};
@@ -9,7 +9,7 @@ ghost use Rattle.wl_machine.specs.Stretch.Flag.{OverloadFlag as OverloadSort};
 ghost use Rattle.wl_machine.specs.Flags.{error_of, error_flag};
 ghost use Rattle.wl_machine.specs.Stretch.{Stretch};
 ghost use Rattle.wl_machine.specs.Stretch.Sort.{OffBus};
-ghost use Rattle.wl_machine.specs.States.{IsIn, IsReachedBy, Meets, state_drive, is_free_state, is_idle_state, sample_of, stretch_by};
+ghost use Rattle.wl_machine.specs.States.{IsIn, IsReachedBy, Meets, awaits_state, state_drive, is_free_state, is_idle_state, sample_of, stretch_by};
 
 use crate::Done;
 use crate::framing::ACKNOWLEDGEMENT;
@@ -78,6 +78,19 @@ impl Progress {
         self.bits.clear();
         self.bits.push(Level::Dominant);
         self.state = State::Receiving {
+            last: Level::Dominant,
+            run: 1,
+        };
+    }
+
+    /// The start of frame of this frame was sampled, which another node has begun: its next bit is sent next.
+    pub fn join(&mut self, frame: &Frame)
+        ensures { IsIn self.new (stretch_by (FramingSort (Some frame.now)) (Level.Dominant ∷ [])) }
+    {
+        self.sent = frame.bits();
+        self.bits.clear();
+        self.bits.push(Level::Dominant);
+        self.state = State::Sending {
             last: Level::Dominant,
             run: 1,
         };
@@ -196,6 +209,18 @@ impl Progress {
     {
         match self.state {
             State::Idle | State::Suspended { .. } => true,
+            _ => false,
+        }
+    }
+
+    /// The next edge may be a start of frame to the node, up to its own: in a frame that it has decided to send, no bit was sampled yet.
+    pub fn awaits_start(&self) -> bool
+        ensures { result ≡ awaits_state self.now.state }
+    {
+        match self.state {
+            State::Integrating { .. } | State::Idle | State::Suspended { .. } => true,
+            State::Intermission { count, .. } => 0 < count,
+            State::Sending { run, .. } | State::Receiving { run, .. } => run == 0,
             _ => false,
         }
     }

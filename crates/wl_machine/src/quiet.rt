@@ -1,12 +1,13 @@
 //! Between frames: integration, idle, intermission, suspension and bus off.
 
-ghost use Rattle.std.specs.Prelude.{◌≡◌, ◌<◌, List, []};
+ghost use Rattle.std.specs.Prelude.{◌≡◌, ◌<◌, List, [], ◌∷◌};
 ghost use Rattle.std.specs.Option.{option_copied};
 ghost use Rattle.wl_level.specs.declared.Level.{Level};
 ghost use Rattle.wl_level.specs.Places.{run_at_end};
 ghost use Rattle.wl_confine.specs.declared.Mode.{Mode};
-ghost use Rattle.wl_machine.specs.Stretch.Sort.{Integration as IntegrationSort, Idle as IdleSort, Intermission as IntermissionSort, Suspension as SuspensionSort, OffBus as OffBusSort};
-ghost use Rattle.wl_machine.specs.States.{Meets, IsCount, IsBusOff, stretch_by, sample_of};
+ghost use Rattle.wl_machine.specs.Stretch.Sort.{Integration as IntegrationSort, Idle as IdleSort, Framing as FramingSort, Intermission as IntermissionSort, Suspension as SuspensionSort, OffBus as OffBusSort};
+ghost use Rattle.wl_machine.specs.Quiet.{joined};
+ghost use Rattle.wl_machine.specs.States.{IsIn, Meets, IsCount, IsBusOff, stretch_by, sample_of};
 
 use crate::progress::{Progress, Step, plain};
 use crate::state::{Role, State};
@@ -59,7 +60,7 @@ impl Progress {
     {
         if level.is_dominant() {
             if count == 2 {
-                self.receive();
+                self.begun_by_others(role, head, mode);
             } else {
                 self.overload(role);
             }
@@ -74,6 +75,17 @@ impl Progress {
             self.free(head);
         }
         plain(Happened::Nothing)
+    }
+
+    /// The third bit of an intermission is dominant: the start of frame of the head, if there is one, and else of a frame that
+    /// the node receives. A passive transmitter takes no part with its next frame yet.
+    fn begun_by_others(&mut self, role: Role, head: Option<&Frame>, mode: Mode)
+        ensures { IsIn self.new (stretch_by (FramingSort (joined role mode (option_copied head.entry))) (Level.Dominant ∷ [])) }
+    {
+        match head {
+            Some(frame) if role != Role::Tx || mode != Mode::Passive => self.join(frame),
+            _ => self.receive(),
+        }
     }
 
     /// One sample of a suspended transmitter.

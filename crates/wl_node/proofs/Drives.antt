@@ -26,11 +26,11 @@ use Rattle.wl_machine.specs.Laws.{HeadLaws}
 use Rattle.wl_machine.proofs.Callers.{stretch_next}
 use Rattle.wl_node.specs.declared.setup.Queued.{Queued}
 use Rattle.wl_node.specs.declared.setup.NodeSetup.{NodeSetup}
-use Rattle.wl_node.specs.History.{History, history_of, no_history, seen_next, sampled_next, ready_head, is_sent, passed_frames, switched_off, by_beat, syncs_at, unsent_of}
+use Rattle.wl_node.specs.History.{History, history_of, no_history, seen_next, sampled_next, ready_head, handed, is_sent, passed_frames, switched_off, by_beat, syncs_at, unsent_of}
 use Rattle.wl_node.specs.Limits.{most_quiet, most_quiet-is}
 use Rattle.wl_node.specs.Quiet.{pending_of, is_waiting, floor_by, floor_at, floor_and_silence, promise_by, until_ready, promise_at, quiet_of, drive_at, changes_of}
 use Rattle.wl_node.proofs.Turns.{history_first, history_next}
-use Rattle.wl_node.proofs.Sends.{off_or_not, count_append}
+use Rattle.wl_node.proofs.Sends.{off_or_not, count_append, handed_none}
 
 -- what holds of no level, and of one level more where it holds before it, holds of all lists
 pub grown : {A : Type 0} (P : List A → Type 0) → P [] → ((xs : List A) (x : A) → P xs → P (xs ++ x ∷ [])) → (xs : List A) → P xs
@@ -187,8 +187,10 @@ module _ (silences : SilenceLaws) (ways : SampleLaws) (setup : NodeSetup) where
       }
 
   -- where none waits, none is handed to the machine, then and later
-  none_handed : (sent quantum : ℕ) → nat_lt sent (length setup.queue) ≡ false → ready_head (drop sent setup.queue) quantum ≡ None
-  none_handed sent quantum e = ap (λ u. ready_head u quantum) (drop_all sent setup.queue (ltb-false sent (length setup.queue) e))
+  none_handed : (level : Level) (sent quantum : ℕ) → nat_lt sent (length setup.queue) ≡ false
+      → handed level setup.segments.sync (ready_head (drop sent setup.queue) quantum) ≡ None
+  none_handed level sent quantum e =
+      ap (λ u. handed level setup.segments.sync (ready_head u quantum)) (drop_all sent setup.queue (ltb-false sent (length setup.queue) e)) ∙ handed_none level setup.segments.sync
 
   none_later : (sent more : ℕ) → sent ≤ more → nat_lt sent (length setup.queue) ≡ false → nat_lt more (length setup.queue) ≡ false
   none_later sent more h e = (let f = ltb-false sent (length setup.queue) e in le-ltb more (length setup.queue) (omega arith))
@@ -274,7 +276,7 @@ module _ (silences : SilenceLaws) (ways : SampleLaws) (setup : NodeSetup) where
   goes_waiting : (h : History) (level : Level) (b : Beat) → beat_next setup h level ≡ b → IsSettled setup h → (k : ℕ) → suc k ≤ promise_by (is_waiting setup h) setup h → Goes h (behind setup h level b) k
   goes_waiting h level b e s k q =
       let next : History = behind setup h level b in
-      let g = keeps_by (is_waiting setup h) h level b e (none_handed (count_by is_sent h.frames) (length h.seen)) s k q in
+      let g = keeps_by (is_waiting setup h) h level b e (none_handed level (count_by is_sent h.frames) (length h.seen)) s k q in
       let p = g.promise in
       let later : silence_of (is_waiting setup h) (stretch_of next.inputs) ≤ silence_of (is_waiting setup next) (stretch_of next.inputs) =
       never_less (is_waiting setup h) (is_waiting setup next) (stretch_of next.inputs)
@@ -305,7 +307,7 @@ module _ (silences : SilenceLaws) (ways : SampleLaws) (setup : NodeSetup) where
         any false = q
     goes_ready h level b e s k r q (inr f) =
         let next : History = behind setup h level b in
-        let g = keeps_by false h level b e (λ t. none_ready (unsent_of setup h) (length h.seen) k r) s k q in
+        let g = keeps_by false h level b e (λ t. ap (handed level setup.segments.sync) (none_ready (unsent_of setup h) (length h.seen) k r) ∙ handed_none level setup.segments.sync) s k q in
         let p = g.promise in
         let near = nearer (unsent_of setup h) (length h.seen) k r in
         let here : handed_in next ≡ until_ready (unsent_of setup h) (suc (length h.seen)) =

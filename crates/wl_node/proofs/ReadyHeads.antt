@@ -18,7 +18,7 @@ use Rattle.wl_node.specs.declared.setup.NodeSetup.{NodeSetup}
 use Rattle.wl_node.specs.History.{History, history_of, no_history, seen_next, sampled_next, ready_head, is_sent, passed_frames, switched_off, unsent_of}
 use Rattle.wl_node.specs.Stays.{until_frame}
 use Rattle.wl_node.proofs.Drives.{grown, behind, beat_next}
-use Rattle.wl_node.proofs.Sends.{count_append, none_sent, off_or_not, ready_first, sends_off}
+use Rattle.wl_node.proofs.Sends.{count_append, handed_some, none_sent, off_or_not, ready_first, sends_off}
 use Rattle.wl_node.proofs.Turns.{history_first, history_next}
 
 -- what is ready stays so
@@ -69,14 +69,14 @@ module _ (laws : HeadLaws) (setup : NodeSetup) where
 
       none : count_by is_sent (passed_frames (length h.seen) (judged s x).ended) ≡ 0
       none =
-          none_sent laws s x (unsent_of setup h) (length h.seen) (λ f g. ready_first (unsent_of setup h) (length h.seen) f (is f g)) refl frame now (judged s x).ended refl
+          none_sent laws s x (unsent_of setup h) (length h.seen) (λ f g. ready_first (unsent_of setup h) (length h.seen) f (is f g)) (handed_some level setup.segments.sync _) frame now (judged s x).ended refl
 
       by : (next : Option Stretch) → (judged s x).next ≡ next → ready_head (unsent_of setup h) (length h.seen) ≡ Some frame
       by None j = is frame (sym (ap head_of (laws.on s x j)) ∙ now)
       by (Some next) j =
           let here : head_of next.sort ≡ Some frame = sym (ap (λ n. head_of (or_next n (record { sort = s.sort; own = s.own ++ x.level ∷ [] })).sort) j) ∙ now in
           elim (laws.head s next x j) [
-            | inl f ↦ sym f ∙ here
+            | inl f ↦ handed_some level setup.segments.sync _ frame (sym f ∙ here)
             | inr f ↦ cc
           ]
 

@@ -4,7 +4,7 @@ use Rattle.std.specs.Prelude.{replicate}
 use Rattle.wl_level.specs.declared.Level.{Level}
 use Rattle.wl_level.specs.declared.Level.TheVariants.{Dominant, Recessive}
 use Rattle.wl_frame.specs.Grammar.{bits_of, number_bits}
-use Rattle.wl_segments.specs.declared.SyncSeg.TheVariants.{After, Inside}
+use Rattle.wl_segments.specs.declared.SyncRules.TheVariants.{After, Book}
 use Rattle.wl_node.specs.declared.setup.NodeSetup.{NodeSetup}
 use Rattle.wl_node.specs.History.{History, history_of, hards_of, unsent_count}
 
@@ -38,7 +38,7 @@ unsent = refl
 
 -- the same node where an edge lies in SYNC_SEG: early by 2, the edge that quantum 109 finds makes it place 1 of a bit, where the frame starts
 abbrev by_the_book : NodeSetup
-by_the_book = record setup { segments = record { prop = 3; ps1 = 3; ps2 = 3; sjw = 2; sync = Inside } }
+by_the_book = record setup { segments = record { prop = 3; ps1 = 3; ps2 = 3; sjw = 2; sync = Book } }
 
 before_place_1 : (history_of by_the_book (replicate 109 Recessive)).drive ≡ Recessive
 unfolding history_of bits_of number_bits

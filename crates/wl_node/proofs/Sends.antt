@@ -2,6 +2,10 @@
 use Rattle.std.proofs.Common.{◌≡◌, ◌∙◌, ℕ, ◌+◌, Bool, true, false, cond, nat_le, List, [], ◌∷◌, ◌++◌, drop, Option, Some, None, ◌⊎◌, inl, inr, refl, sym, ap, append-nil, add-zero}
 use Rattle.std.specs.Prelude.{count_by, if◌then◌else◌}
 use Rattle.std.proofs.lemmas.List.Sums.{sum_by-append}
+use Rattle.wl_level.specs.declared.Level.{Level}
+use Rattle.wl_level.specs.declared.Level.TheVariants.{Dominant, Recessive}
+use Rattle.wl_segments.specs.declared.SyncRules.{SyncRules}
+use Rattle.wl_segments.specs.declared.SyncRules.TheVariants.{After, Book}
 use Rattle.wl_confine.specs.declared.Mode.{Mode}
 use Rattle.wl_confine.specs.declared.Mode.TheVariants.{Active, Passive, Off}
 use Rattle.wl_frame.specs.Grammar.{Content}
@@ -12,7 +16,7 @@ use Rattle.wl_machine.specs.Judged.{judged, or_next, stretch_after, stretch_of, 
 use Rattle.wl_machine.specs.Laws.{HeadLaws}
 use Rattle.wl_machine.proofs.Callers.{stretch_next}
 use Rattle.wl_node.specs.declared.setup.Queued.{Queued}
-use Rattle.wl_node.specs.History.{ready_head, passed_frames, is_sent, switched_off}
+use Rattle.wl_node.specs.History.{ready_head, handed, passed_frames, is_sent, switched_off}
 use Rattle.wl_node.specs.Kept.{first_frame}
 
 pub count_append : {X : Type 0} (p : X → Bool) (xs ys : List X) → count_by p (xs ++ ys) ≡ count_by p xs + count_by p ys
@@ -27,6 +31,17 @@ ready_first (q ∷ qs) quantum frame e = first_if (nat_le q.ready quantum) e
     first_if true f = f
     first_if false f = cc
 
+-- and so is one that is handed
+pub handed_some : (level : Level) (rules : SyncRules) (head : Option Content) (frame : Content) → handed level rules head ≡ Some frame → head ≡ Some frame
+handed_some Recessive rules head frame e = e
+handed_some Dominant Book head frame e = e
+handed_some Dominant After head frame e = cc
+
+pub handed_none : (level : Level) (rules : SyncRules) → handed level rules None ≡ None
+handed_none Recessive rules = refl
+handed_none Dominant Book = refl
+handed_none Dominant After = refl
+
 pub off_or_not : (before after : Mode) → (switched_off before after ≡ []) ⊎ (switched_off before after ≡ SwitchedOff ∷ [])
 off_or_not Active Active = inl refl
 off_or_not Active Passive = inl refl
@@ -39,7 +54,7 @@ off_or_not Off after = inl refl
 module _ (laws : HeadLaws) where
   module _ (s : Stretch) (x : Sampled) (unsent : List Queued) (quantum : ℕ)
       (before : (frame : Content) → head_of s.sort ≡ Some frame → first_frame unsent ≡ Some frame)
-      (ready : x.head ≡ ready_head unsent quantum) where
+      (ready : (frame : Content) → x.head ≡ Some frame → ready_head unsent quantum ≡ Some frame) where
     -- a sample that leaves a head has sent no frame
     pub none_sent : (frame : Content) → head_of (stretch_after s (Sample x)).sort ≡ Some frame → (ended : Ended) → (judged s x).ended ≡ ended
         → count_by is_sent (passed_frames quantum ended) ≡ 0
@@ -57,7 +72,7 @@ module _ (laws : HeadLaws) where
         let here : head_of next.sort ≡ Some frame =
         sym (ap (λ n. head_of (or_next n (record { sort = s.sort; own = s.own ++ x.level ∷ [] })).sort) j) ∙ e in
         elim (laws.head s next x j) [
-          | inl h ↦ ready_first unsent quantum frame (sym ready ∙ (sym h ∙ here))
+          | inl h ↦ ready_first unsent quantum frame (ready frame (sym h ∙ here))
           | inr h ↦ cc
         ]
 
@@ -78,7 +93,7 @@ module _ (laws : HeadLaws) where
 
   pub sends_next : (past : List Input) (x : Sampled) (queue : List Queued) (sent quantum : ℕ) (after : Mode)
       → ((frame : Content) → head_of (stretch_of past).sort ≡ Some frame → first_frame (drop sent queue) ≡ Some frame)
-      → x.head ≡ ready_head (drop sent queue) quantum
+      → ((frame : Content) → x.head ≡ Some frame → ready_head (drop sent queue) quantum ≡ Some frame)
       → (frame : Content) → head_of (stretch_of ((past ++ Sample x ∷ []) ++ switched_off x.mode after)).sort ≡ Some frame
       → first_frame (drop (sent + count_by is_sent (passed_frames quantum (judged (stretch_of past) x).ended)) queue) ≡ Some frame
   sends_next past x queue sent quantum after before ready frame e =

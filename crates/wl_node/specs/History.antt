@@ -2,8 +2,10 @@
 use Rattle.std.specs.Prelude.{ℕ, nat_le, ℤ, Bool, true, false, List, [], ◌∷◌, ◌++◌, length, drop, count_by, fold, Option, Some, None, if◌then◌else◌}
 use Rattle.std.specs.List.{flat_map}
 use Rattle.wl_level.specs.declared.Level.{Level}
-use Rattle.wl_level.specs.declared.Level.TheVariants.{Recessive}
+use Rattle.wl_level.specs.declared.Level.TheVariants.{Dominant, Recessive}
 use Rattle.wl_level.specs.Levels.{is_dominant}
+use Rattle.wl_segments.specs.declared.SyncRules.{SyncRules}
+use Rattle.wl_segments.specs.declared.SyncRules.TheVariants.{After, Book}
 use Rattle.wl_sync.specs.declared.Sync.{Sync}
 use Rattle.wl_sync.specs.declared.Sync.TheVariants.{Hard, Error}
 use Rattle.wl_sync.specs.declared.Beat.{Beat}
@@ -17,7 +19,7 @@ use Rattle.wl_frame.specs.Grammar.{Content}
 use Rattle.wl_machine.specs.Stretch.{Sampled, Input, Ended, Judgement}
 use Rattle.wl_machine.specs.Stretch.Input.{Sample, SwitchedOff}
 use Rattle.wl_machine.specs.Stretch.Ended.{NoFrame, Sent, Received}
-use Rattle.wl_machine.specs.Judged.{judged, stretch_of, drive_of, is_idle_sort}
+use Rattle.wl_machine.specs.Judged.{awaits_start, judged, stretch_of, drive_of, is_idle_sort}
 use Rattle.wl_node.specs.declared.setup.Queued.{Queued}
 use Rattle.wl_node.specs.declared.setup.Passed.{Passed}
 use Rattle.wl_node.specs.declared.setup.NodeSetup.{NodeSetup}
@@ -49,6 +51,13 @@ abbrev pub ready_head : List Queued → ℕ → Option Content
 ready_head [] quantum = None
 ready_head (q ∷ qs) quantum = if nat_le q.ready quantum then Some q.frame else None
 
+-- The head that is handed to the machine with a sample of this level. A dominant one begins a frame of the node's own by the book alone, where it is the third bit of
+-- an intermission (Bosch CAN 2.0 part B, section 3.2.5; that no head is handed with it else, is this project's profile).
+abbrev pub handed : Level → SyncRules → Option Content → Option Content
+handed Recessive rules head = head
+handed Dominant Book head = head
+handed Dominant After head = None
+
 -- what is kept of a frame that a sample completed
 abbrev pub passed_frames : ℕ → Ended → List Passed
 passed_frames quantum NoFrame = []
@@ -63,13 +72,18 @@ switched_off old new = []
 
 -- what the bit clock sees at the next quantum
 abbrev pub seen_next : History → Level → Seen
-seen_next h level = record { level = level; idle = is_idle_sort (stretch_of h.inputs).sort; driving = is_dominant h.drive }
+seen_next h level = record {
+  level = level;
+  idle = is_idle_sort (stretch_of h.inputs).sort;
+  awaits = awaits_start (stretch_of h.inputs);
+  driving = is_dominant h.drive;
+}
 
 -- what the machine is given, where the next quantum is a sample
 abbrev pub sampled_next : NodeSetup → History → Level → Sampled
 sampled_next setup h level = record {
   level = level;
-  head = ready_head (unsent_of setup h) (length h.seen);
+  head = handed level setup.segments.sync (ready_head (unsent_of setup h) (length h.seen));
   mode = mode_of (counts_of h.happened);
 }
 

@@ -5,18 +5,18 @@ use Rattle.std.specs.Cmp.{IsEquivalence, IsPartialEquivalence, decided, partial_
 use Rattle.std.specs.Cmp.Lexicographic.{pointwise, pointwise_decides}
 use Rattle.std.proofs.lemmas.Bool.Decides.{Decides-and, Decides-like}
 use Rattle.wl_clock.specs.Same.{same_timing, timing_decides}
-use Rattle.wl_segments.specs.declared.SyncSeg.{SyncSeg}
-use Rattle.wl_segments.specs.declared.SyncSeg.TheVariants.{After, Inside}
+use Rattle.wl_segments.specs.declared.SyncRules.{SyncRules}
+use Rattle.wl_segments.specs.declared.SyncRules.TheVariants.{After, Book}
 use Rattle.wl_segments.specs.Lengths.{Lengths}
 use Rattle.wl_frame.specs.Same.{same_content, content_decides}
 use Rattle.wl_node.specs.declared.setup.Queued.{Queued}
 use Rattle.wl_node.specs.declared.setup.NodeSetup.{NodeSetup}
 
-abbrev pub same_sync : SyncSeg → SyncSeg → Bool
+abbrev pub same_sync : SyncRules → SyncRules → Bool
 same_sync After After = true
-same_sync After Inside = false
-same_sync Inside After = false
-same_sync Inside Inside = true
+same_sync After Book = false
+same_sync Book After = false
+same_sync Book Book = true
 
 abbrev pub same_lengths : Lengths → Lengths → Bool
 same_lengths a b = a.prop == b.prop && (a.ps1 == b.ps1 && (a.ps2 == b.ps2 && (a.sjw == b.sjw && same_sync a.sync b.sync)))
@@ -28,11 +28,11 @@ same_queued a b = same_content a.frame b.frame && a.ready == b.ready
 abbrev pub same_setup : NodeSetup → NodeSetup → Bool
 same_setup a b = same_timing a.clock b.clock && (same_lengths a.segments b.segments && pointwise same_queued a.queue b.queue)
 
-sync_decides : (a b : SyncSeg) → Decides (same_sync a b) (a ≡ b)
+sync_decides : (a b : SyncRules) → Decides (same_sync a b) (a ≡ b)
 sync_decides After After = (λ e. refl, λ e. refl)
-sync_decides After Inside = (λ e. cc, λ e. cc)
-sync_decides Inside After = (λ e. cc, λ e. cc)
-sync_decides Inside Inside = (λ e. refl, λ e. refl)
+sync_decides After Book = (λ e. cc, λ e. cc)
+sync_decides Book After = (λ e. cc, λ e. cc)
+sync_decides Book Book = (λ e. refl, λ e. refl)
 
 lengths_decides : (a b : Lengths) → Decides (same_lengths a b) (a ≡ b)
 lengths_decides a b =

@@ -82,7 +82,10 @@ impl Progress {
         ensures errors { self.new.traffic.errors ≤ self.old.traffic.errors + 1 }
     {
         let idle = self.traffic.machine.idle();
-        let (beat, sync) = self.clock.step(level, idle, self.drive.is_dominant());
+        let awaits = self.traffic.machine.awaits_start();
+        let (beat, sync) = self
+            .clock
+            .step(level, idle, awaits, self.drive.is_dominant());
         self.syncs.note(self.quanta, sync);
         obey(
             &mut self.drive,
@@ -154,6 +157,6 @@ fn obey(
     match beat {
         Beat::Plain => {}
         Beat::Start => *drive = traffic.pending,
-        Beat::Sample(_) => traffic.sample(setup.queue.as_slice(), quantum, level),
+        Beat::Sample(_) => traffic.sample(setup, quantum, level),
     }
 }

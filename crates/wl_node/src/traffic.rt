@@ -10,16 +10,17 @@ ghost use Rattle.wl_machine.specs.Judged.{stretch_of, drive_of};
 ghost use Rattle.wl_machine.specs.Reached.{IsMachine};
 ghost use Rattle.wl_machine.specs.States.{done_of};
 ghost use Rattle.wl_node.specs.declared.setup.NodeSetup.{NodeSetup};
-ghost use Rattle.wl_node.specs.History.{History, ready_head, passed_frames, is_sent, switched_off, history_after_sample};
+ghost use Rattle.wl_node.specs.History.{History, handed, ready_head, passed_frames, is_sent, switched_off, history_after_sample};
 ghost use Rattle.wl_node.specs.Kept.{IsTraffic, first_frame};
 ghost use Rattle.wl_node.specs.Limits.{most_run_quanta};
 
-use crate::setup::{Passed, Queued};
+use crate::setup::{NodeSetup, Passed, Queued};
 use std::alloc::AllocError;
 use wl_confine::{Counters, Happened, Mode};
 use wl_frame::frame::Frame;
 use wl_level::Level;
 use wl_machine::{Done, Machine};
+use wl_segments::SyncRules;
 
 /// What a node keeps of its samples, and of what came of them.
 #[derive(Drop)]
@@ -43,6 +44,17 @@ pub fn ready_head(queue: &[Queued], sent: usize, quantum: u64) -> Option<&Frame>
         Some(first) if first.ready <= quantum => Some(&first.frame),
         _ => None,
     }
+}
+
+/// The head that is handed to the machine with a sample of this level: with a dominant one by the book alone, where it is the start
+/// of frame of the head too if it is the third bit of an intermission (Bosch CAN 2.0 part B, section 3.2.5).
+fn handed(level: Level, rules: SyncRules, head: Option<&Frame>) -> Option<&Frame>
+    ensures { option_copied result ≡ handed level rules (option_copied head.entry) }
+{
+    if level.is_dominant() && rules == SyncRules::After {
+        return None;
+    }
+    head
 }
 
 /// Keeps the frame that a sample completed: one that was sent is the first unsent one.
@@ -112,16 +124,16 @@ impl Traffic {
     }
 
     /// A sample at this quantum: it is stored, and goes to the machine and then to the counters.
-    pub fn sample(&mut self, queue: &[Queued], quantum: u64, level: Level)
+    pub fn sample(&mut self, setup: &NodeSetup, quantum: u64, level: Level)
         requires samples { vec_len self.old.samples < vec_capacity self.old.samples }
         requires frames { vec_len self.old.frames < vec_capacity self.old.frames }
         requires fits { self.old.errors < most_run_quanta }
-        ensures traffic { (setup : NodeSetup) (h : History) → setup.queue ≡ queue.now → length h.seen ≡ quantum
-            → IsTraffic setup self.old h → IsTraffic setup self.new (history_after_sample setup h level) }
+        ensures traffic { (h : History) → length h.seen ≡ quantum → IsTraffic setup.now self.old h
+            → IsTraffic setup.now self.new (history_after_sample setup.now h level) }
         ensures errors { self.new.errors ≤ self.old.errors + 1 }
     {
         if !self.keep(quantum, level) {
-            self.look(queue, quantum, level);
+            self.look(setup, quantum, level);
         }
     }
 
@@ -144,34 +156,36 @@ impl Traffic {
     }
 
     /// The same, also on a free bus.
-    fn look(&mut self, queue: &[Queued], quantum: u64, level: Level)
+    fn look(&mut self, setup: &NodeSetup, quantum: u64, level: Level)
         requires samples { vec_len self.old.samples < vec_capacity self.old.samples }
         requires frames { vec_len self.old.frames < vec_capacity self.old.frames }
         requires fits { self.old.errors < most_run_quanta }
-        ensures traffic { (setup : NodeSetup) (h : History) → setup.queue ≡ queue.now → length h.seen ≡ quantum
-            → IsTraffic setup self.old h → IsTraffic setup self.new (history_after_sample setup h level) }
+        ensures traffic { (h : History) → length h.seen ≡ quantum → IsTraffic setup.now self.old h
+            → IsTraffic setup.now self.new (history_after_sample setup.now h level) }
         ensures errors { self.new.errors ≤ self.old.errors + 1 }
     {
-        let head = ready_head(queue, self.sent, quantum);
+        let head = ready_head(setup.queue.as_slice(), self.sent, quantum);
         if head.is_none() && !level.is_dominant() && self.machine.is_free() {
             self.samples.push_reserved((quantum, Level::Recessive));
             return;
         }
-        self.judge(queue, quantum, level);
+        self.judge(setup, quantum, level);
     }
 
     /// The same, whatever the machine is in.
-    fn judge(&mut self, queue: &[Queued], quantum: u64, level: Level)
+    fn judge(&mut self, setup: &NodeSetup, quantum: u64, level: Level)
         requires samples { vec_len self.old.samples < vec_capacity self.old.samples }
         requires frames { vec_len self.old.frames < vec_capacity self.old.frames }
         requires fits { self.old.errors < most_run_quanta }
-        ensures traffic { (setup : NodeSetup) (h : History) → setup.queue ≡ queue.now → length h.seen ≡ quantum
-            → IsTraffic setup self.old h → IsTraffic setup self.new (history_after_sample setup h level) }
+        ensures traffic { (h : History) → length h.seen ≡ quantum → IsTraffic setup.now self.old h
+            → IsTraffic setup.now self.new (history_after_sample setup.now h level) }
         ensures errors { self.new.errors ≤ self.old.errors + 1 }
     {
         wl_machine::laws::a_sent_frame_is_the_head_that_began_its_stretch();
         let mode = self.counters.mode();
-        let head = ready_head(queue, self.sent, quantum);
+        let queue = setup.queue.as_slice();
+        let ready = ready_head(queue, self.sent, quantum);
+        let head = handed(level, setup.segments.sync(), ready);
         let turn = self.machine.bit(level, head, mode);
         self.samples.push_reserved((quantum, level));
         self.pending = turn.drive;

@@ -6,8 +6,8 @@ use Rattle.wl_level.specs.declared.Level.{Level}
 use Rattle.wl_level.specs.declared.Level.TheVariants.{Dominant, Recessive}
 use Rattle.wl_level.specs.Levels.{is_dominant, same}
 use Rattle.wl_level.specs.Places.{count_places, PlaceLaws}
-use Rattle.wl_segments.specs.declared.SyncSeg.{SyncSeg}
-use Rattle.wl_segments.specs.declared.SyncSeg.TheVariants.{After, Inside}
+use Rattle.wl_segments.specs.declared.SyncRules.{SyncRules}
+use Rattle.wl_segments.specs.declared.SyncRules.TheVariants.{After, Book}
 use Rattle.wl_segments.specs.Lengths.{Lengths, least_way, found_by}
 use Rattle.std.proofs.lemmas.Bool.{ltb-false}
 use Rattle.wl_clock.specs.Timing.{Timing, IsTiming, tick_of, slowest_rate, largest_offset}
@@ -68,9 +68,9 @@ few_of_all l = by_way (nat_lt (least_way l) 3)
     by_way false = omega arith
 
 -- a sample comes two quanta after a start at least
-found_near : (s : SyncSeg) → found_by s ≤ 1
+found_near : (s : SyncRules) → found_by s ≤ 1
 found_near After = omega arith
-found_near Inside = omega arith
+found_near Book = omega arith
 
 module _ (places : PlaceLaws) (clocks : ClockLaws) (drives : QuietLaws) (laws : SimulationLaws) (plan : Plan) (h : IsChecked plan) where
   timed : (i : ℕ) → i < length plan.nodes → IsTiming (setup_at plan i).clock

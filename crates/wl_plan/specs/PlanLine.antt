@@ -4,7 +4,7 @@ use Rattle.std.specs.List.{list_any}
 use Rattle.wl_level.specs.Levels.{is_dominant}
 use Rattle.wl_clock.specs.Timing.{tick_of}
 use Rattle.wl_topology.specs.Delays.{delay_of, disturbance_delay}
-use Rattle.wl_segments.specs.declared.SyncSeg.TheVariants.{After}
+use Rattle.wl_segments.specs.declared.SyncRules.TheVariants.{After}
 use Rattle.wl_record_core.specs.declared.record.Record.{Record}
 use Rattle.wl_record_core.specs.Truth.{IsTrueOf, is_true_of}
 use Rattle.wl_node.specs.declared.setup.NodeSetup.{NodeSetup}

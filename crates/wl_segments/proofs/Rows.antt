@@ -1,7 +1,7 @@
 -- Worked segments: which are accepted, where they are sampled, and the greatest deviation that is tolerated.
 use Rattle.std.proofs.Common.{◌≡◌, ℕ, Ok, Err, refl, arith}
 use Rattle.wl_segments.specs.declared.SegmentsFault.TheVariants.{Prop, Jump, Length}
-use Rattle.wl_segments.specs.declared.SyncSeg.TheVariants.{After, Inside}
+use Rattle.wl_segments.specs.declared.SyncRules.TheVariants.{After, Book}
 use Rattle.wl_segments.specs.Lengths.{Lengths, IsTolerated, bit_quanta, sample_at, least_way, segments_of}
 
 abbrev lengths : ℕ → ℕ → ℕ → ℕ → Lengths
@@ -19,10 +19,10 @@ sample = refl
 way_after : least_way (lengths 3 3 3 2) ≡ 7
 way_after = refl
 
-way_inside : least_way (record (lengths 3 3 3 2) { sync = Inside }) ≡ 6
-way_inside = refl
+way_book : least_way (record (lengths 3 3 3 2) { sync = Book }) ≡ 6
+way_book = refl
 
--- without the choice of the book a way is the place of the sample, whatever the lengths
+-- by the profile a way is the place of the sample, whatever the lengths
 way_as_before : (prop ps1 ps2 sjw : ℕ) → least_way (lengths prop ps1 ps2 sjw) ≡ sample_at (lengths prop ps1 ps2 sjw)
 way_as_before prop ps1 ps2 sjw = omega arith
 

@@ -2,17 +2,17 @@
 use Rattle.std.specs.Prelude.{ℕ, ◌+◌, ◌-◌, ◌*◌, ◌≤◌, ◌||◌, nat_lt, min, Result, Ok, Err, if◌then◌else◌}
 use Rattle.wl_segments.specs.declared.SegmentsFault.{SegmentsFault}
 use Rattle.wl_segments.specs.declared.SegmentsFault.TheVariants.{Prop, Phase1, Phase2, Jump, Length}
-use Rattle.wl_segments.specs.declared.SyncSeg.{SyncSeg}
-use Rattle.wl_segments.specs.declared.SyncSeg.TheVariants.{After, Inside}
+use Rattle.wl_segments.specs.declared.SyncRules.{SyncRules}
+use Rattle.wl_segments.specs.declared.SyncRules.TheVariants.{After, Book}
 
--- PROP_SEG, PHASE_SEG1, PHASE_SEG2 and the resynchronisation jump width (Bosch CAN 2.0 part B, section 10); and where
--- SYNC_SEG lies in a bit that an edge begins
+-- PROP_SEG, PHASE_SEG1, PHASE_SEG2 and the resynchronisation jump width (Bosch CAN 2.0 part B, section 10); and the
+-- rules by which edges synchronise a bit
 pub record Lengths : Type 0 where
   pub prop : ℕ
   pub ps1 : ℕ
   pub ps2 : ℕ
   pub sjw : ℕ
-  pub sync : SyncSeg
+  pub sync : SyncRules
 
 -- the place of the sample in a bit that nothing moved: after SYNC_SEG of 1 quantum, PROP_SEG and PHASE_SEG1
 -- (Bosch CAN 2.0 part B, section 10)
@@ -25,9 +25,9 @@ bit_quanta l = sample_at l + l.ps2
 
 -- The place, in the bit that an edge begins, of the quantum that finds the edge: SYNC_SEG itself, so that the edge lies before it (this
 -- project's profile), or the first quantum after it, so that the edge lies within it (Bosch CAN 2.0 part B, section 10, hard synchronization).
-abbrev pub found_by : SyncSeg → ℕ
+abbrev pub found_by : SyncRules → ℕ
 found_by After = 0
-found_by Inside = 1
+found_by Book = 1
 
 -- the same in a bit of these lengths, of which the sample is one quantum after it at least
 abbrev pub found_at : Lengths → ℕ
@@ -53,7 +53,7 @@ pub record AreLengths (l : Lengths) : Type 0 where
   pub high : bit_quanta l ≤ 25
 
 -- the segments of these lengths, or the first refusal that applies (the ranges of Bosch CAN 2.0 part B, section 10;
--- the order, and that SYNC_SEG comes after an edge, are this project's profile)
+-- the order, and the rules of synchronisation, are this project's profile)
 abbrev pub segments_of : ℕ → ℕ → ℕ → ℕ → Result Lengths SegmentsFault
 segments_of prop ps1 ps2 sjw =
     if nat_lt prop 1 || nat_lt 8 prop then Err Prop

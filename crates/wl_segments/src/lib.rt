@@ -31,23 +31,24 @@ pub enum SegmentsFault {
     Length,
 }
 
-/// Where SYNC_SEG lies in a bit that an edge begins: an edge is found by the first quantum that begins on a dominant line.
+/// The rules by which edges synchronise a bit. An edge is found by the first quantum that begins on a dominant line.
 #[derive(Clone, Copy, Debug, PartialEq, Eq)]
-pub enum SyncSeg {
+pub enum SyncRules {
     /// The quantum that finds the edge is SYNC_SEG, so the edge lies before it, by a quantum at most: this project's profile.
     After,
-    /// The quantum before it is SYNC_SEG, so the edge lies within it (Bosch CAN 2.0 part B, section 10).
-    Inside,
+    /// The quantum before it is SYNC_SEG, so the edge lies within it, and all rules are those of the book (Bosch CAN 2.0 part B,
+    /// section 10; ISO 11898-1, synchronisation), as far as one look a quantum allows.
+    Book,
 }
 
-/// The segments of a bit and the resynchronisation jump width, in quanta, and where SYNC_SEG lies in a bit that an edge begins.
+/// The segments of a bit and the resynchronisation jump width, in quanta, and the rules by which edges synchronise it.
 #[derive(Clone, Copy, Debug, PartialEq, Eq)]
 pub struct Segments {
     prop: u8,
     ps1: u8,
     ps2: u8,
     sjw: u8,
-    sync: SyncSeg,
+    sync: SyncRules,
 }
 
 impl Model for Segments {
@@ -61,7 +62,7 @@ impl Model for Segments {
 }
 
 impl Segments {
-    /// The segments with PROP_SEG, PHASE_SEG1 and PHASE_SEG2 of these quanta, and this jump width. SYNC_SEG comes after an edge.
+    /// The segments with PROP_SEG, PHASE_SEG1 and PHASE_SEG2 of these quanta, and this jump width. Their rules are `After`.
     ///
     /// Refused as `Prop` (not 1 to 8), `Phase1` (not 1 to 8), `Phase2` (not 2 to 8), `Jump` (not 1 to the lesser of 4
     /// and `ps1`) or `Length` (all four segments together below 8 quanta or above 25); where several apply, the first
@@ -90,19 +91,19 @@ impl Segments {
             ps1: ps1 as u8,
             ps2: ps2 as u8,
             sjw: sjw as u8,
-            sync: SyncSeg::After,
+            sync: SyncRules::After,
         })
     }
 
-    /// The same segments, with SYNC_SEG there in a bit that an edge begins.
-    pub fn with_sync(self, sync: SyncSeg) -> Segments
+    /// The same segments with these rules of synchronisation.
+    pub fn with_sync(self, sync: SyncRules) -> Segments
         ensures { result ≡ record self { sync = sync } }
     {
         Segments { sync, ..self }
     }
 
-    /// Where SYNC_SEG lies in a bit that an edge begins.
-    pub fn sync(&self) -> SyncSeg
+    /// The rules by which edges synchronise a bit.
+    pub fn sync(&self) -> SyncRules
         ensures { result ≡ self.now.sync }
     {
         self.sync
@@ -113,8 +114,8 @@ impl Segments {
         ensures { result ≡ found_at self.now }
     {
         match self.sync {
-            SyncSeg::After => 0,
-            SyncSeg::Inside => 1,
+            SyncRules::After => 0,
+            SyncRules::Book => 1,
         }
     }
 

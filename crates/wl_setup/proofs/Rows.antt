@@ -18,7 +18,7 @@ use Rattle.wl_setup.specs.declared.plan_text.PlanText.{PlanText}
 use Rattle.wl_setup.specs.declared.plan_text.NodeText.{NodeText}
 use Rattle.wl_setup.specs.declared.plan_text.FrameText.{FrameText}
 use Rattle.wl_setup.specs.declared.plan_text.ClockText.TheVariants.{Rate}
-use Rattle.wl_segments.specs.declared.SyncSeg.TheVariants.{After}
+use Rattle.wl_segments.specs.declared.SyncRules.TheVariants.{After}
 use Rattle.wl_setup.specs.Limits.{most_bytes, largest_number, largest_small, largest_ppm, largest_byte, longest_name, first_version, version_of_rates}
 use Rattle.wl_setup.specs.Plans.{plan_of_text, queued_of}
 

@@ -3,8 +3,8 @@ use Rattle.std.specs.Prelude.{ℕ, ℤ, pos, unsigned_abs, ◌||◌, ◌&&◌, �
 use Rattle.std.specs.List.{list_all, filter_map}
 use Rattle.toml.specs.Data.{Data, integer, array, Items, no_items, item, Members, get_member, as_str, as_integer, as_bool, as_table}
 use Rattle.std.specs.Str.{bytes_eq}
-use Rattle.wl_segments.specs.declared.SyncSeg.{SyncSeg}
-use Rattle.wl_segments.specs.declared.SyncSeg.TheVariants.{After, Inside}
+use Rattle.wl_segments.specs.declared.SyncRules.{SyncRules}
+use Rattle.wl_segments.specs.declared.SyncRules.TheVariants.{After, Book}
 use Rattle.wl_setup.specs.declared.keys.Key.{Key}
 use Rattle.wl_setup.specs.declared.keys.Kind.{Kind}
 use Rattle.wl_setup.specs.declared.keys.Kind.TheVariants as kind
@@ -45,10 +45,10 @@ abbrev pub byte_in : Data → Option ℕ
 byte_in d = number_in largest_byte d
 
 -- where SYNC_SEG lies in a bit that an edge begins, as a word says it
-abbrev pub sync_named : List ℕ → Option SyncSeg
-sync_named text = if bytes_eq text (codes "after") then Some After else if bytes_eq text (codes "inside") then Some Inside else None
+abbrev pub sync_named : List ℕ → Option SyncRules
+sync_named text = if bytes_eq text (codes "after") then Some After else if bytes_eq text (codes "inside") then Some Book else None
 
-abbrev pub sync_in : Data → Option SyncSeg
+abbrev pub sync_in : Data → Option SyncRules
 sync_in d = option_and_then sync_named (as_str d)
 
 -- whether a value is of a kind
@@ -79,7 +79,7 @@ ppm_at key table = unwrap_or (option_and_then as_integer (value_at key table)) (
 abbrev pub truth_at : Key → Members → Bool
 truth_at key table = unwrap_or (option_and_then as_bool (value_at key table)) false
 
-abbrev pub sync_choice_at : Key → Members → SyncSeg
+abbrev pub sync_choice_at : Key → Members → SyncRules
 sync_choice_at key table = unwrap_or (option_and_then sync_in (value_at key table)) After
 
 abbrev pub name_at : Key → Members → List ℕ

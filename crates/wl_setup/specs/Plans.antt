@@ -7,7 +7,7 @@ use Rattle.wl_clock.specs.declared.Rate.{Rate}
 use Rattle.wl_clock.specs.declared.ClockFault.{ClockFault}
 use Rattle.wl_segments.specs.Lengths.{Lengths, segments_of}
 use Rattle.wl_segments.specs.declared.SegmentsFault.{SegmentsFault}
-use Rattle.wl_segments.specs.declared.SyncSeg.{SyncSeg}
+use Rattle.wl_segments.specs.declared.SyncRules.{SyncRules}
 use Rattle.wl_frame.specs.Grammar.{frame_of_numbers}
 use Rattle.wl_topology.specs.declared.Place.{Place}
 use Rattle.wl_topology.specs.Delays.{Cable, topology_of}
@@ -58,12 +58,12 @@ abbrev pub clock_in : ℕ → NodeText → Result Timing SetupFault
 clock_in i node = after (each (rate_in i) node.rates) (λ rates. with_fault (fault.NodeClock i) (timing_of_rates node.offset rates))
 
 -- segments with SYNC_SEG there in a bit that an edge begins
-abbrev pub with_sync : SyncSeg → Result Lengths SegmentsFault → Result Lengths SegmentsFault
+abbrev pub with_sync : SyncRules → Result Lengths SegmentsFault → Result Lengths SegmentsFault
 with_sync sync (Ok lengths) = Ok (record lengths { sync = sync })
 with_sync sync (Err e) = Err e
 
 -- the bit segments that they make, or their fault
-abbrev pub segments_of_node : SyncSeg → NodeText → Result Lengths SegmentsFault
+abbrev pub segments_of_node : SyncRules → NodeText → Result Lengths SegmentsFault
 segments_of_node sync node = with_sync sync (segments_of node.prop node.ps1 node.ps2 node.sjw)
 
 -- a numbered frame of node i: a frame that waits from its quantum `ready` on
@@ -73,7 +73,7 @@ queued_of i (n, text) =
     (λ frame. Ok (record { frame = frame; ready = text.ready }))
 
 -- a numbered node: its clock, then its segments, then its frames in order
-abbrev pub setup_of : SyncSeg → ℕ × NodeText → Result NodeSetup SetupFault
+abbrev pub setup_of : SyncRules → ℕ × NodeText → Result NodeSetup SetupFault
 setup_of sync (i, node) =
     after (clock_in i node)
     (λ clock. after (with_fault (fault.NodeSegments i) (segments_of_node sync node))

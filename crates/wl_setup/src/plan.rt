@@ -17,7 +17,7 @@ use wl_frame::frame::Frame;
 use wl_level::Listed;
 use wl_node::{NodeSetup, Queue, Queued};
 use wl_plan::{Disturbance, Disturbances, Nodes, Plan};
-use wl_segments::{Segments, SegmentsFault, SyncSeg};
+use wl_segments::{Segments, SegmentsFault, SyncRules};
 use wl_topology::{Place, Topology};
 
 impl FrameText {
@@ -96,7 +96,7 @@ impl NodeText {
     }
 
     /// The bit segments that the keys `prop`, `ps1`, `ps2` and `sjw` make, with SYNC_SEG there in a bit that an edge begins.
-    fn make_segments(&self, sync: SyncSeg) -> Result<Segments, SegmentsFault>
+    fn make_segments(&self, sync: SyncRules) -> Result<Segments, SegmentsFault>
         ensures { result ≡ segments_of_node sync self.now }
     {
         match Segments::new(self.prop, self.ps1, self.ps2, self.sjw) {
@@ -106,7 +106,7 @@ impl NodeText {
     }
 
     /// What node `i` is made of: its clock, its segments and its frames, or the first fault of these in order.
-    fn setup(&self, alloc: Global, i: u64, sync: SyncSeg) -> Result<NodeSetup, SetupFault>
+    fn setup(&self, alloc: Global, i: u64, sync: SyncRules) -> Result<NodeSetup, SetupFault>
         ensures { IsAnswer (setup_of sync (i, self.now)) result }
     {
         let clock = self.make_clock(alloc, i)?;
@@ -135,7 +135,7 @@ impl NodeText {
 }
 
 /// What the nodes are made of, or the first fault, node by node.
-fn setups(alloc: Global, nodes: &[NodeText], sync: SyncSeg) -> Result<Nodes, SetupFault>
+fn setups(alloc: Global, nodes: &[NodeText], sync: SyncRules) -> Result<Nodes, SetupFault>
     ensures { IsAnswer (each (setup_of sync) (enumerate_from 0 nodes.now)) result }
 {
     let mut setups = Listed::new(alloc);

@@ -1,7 +1,7 @@
 //! What a plan's text says, key by key, with the numbers as they are written.
 use crate::text::Text;
 use wl_level::Listed;
-use wl_segments::SyncSeg;
+use wl_segments::SyncRules;
 
 /// A plan as it is written: one field for each key of the top table.
 ///
@@ -19,7 +19,7 @@ pub struct PlanText {
     /// The disturbances, none where the key is absent.
     pub disturbance: Listed<DisturbanceText>,
     /// Where SYNC_SEG lies in a bit that an edge begins, at all nodes: after the edge where the key is absent.
-    pub sync: SyncSeg,
+    pub sync: SyncRules,
 }
 
 /// How fast a clock goes, as it is written.

@@ -11,7 +11,7 @@ use crate::text::Text;
 use std::alloc::{AllocError, Global};
 use toml::{Table, Value};
 use wl_level::Listed;
-use wl_segments::SyncSeg;
+use wl_segments::SyncRules;
 
 /// The value at a key of this name.
 pub fn value_named<'a>(table: &'a Table, name: &str) -> Option<&'a Value>
@@ -87,19 +87,19 @@ fn elements_of(value: &Value) -> Option<&[Value]>
 }
 
 /// Where SYNC_SEG lies, as a word says it.
-fn sync_named(text: &str) -> Option<SyncSeg>
+fn sync_named(text: &str) -> Option<SyncRules>
     ensures { result ≡ sync_named text.now }
 {
     if text == "after" {
-        Some(SyncSeg::After)
+        Some(SyncRules::After)
     } else if text == "inside" {
-        Some(SyncSeg::Inside)
+        Some(SyncRules::Book)
     } else {
         None
     }
 }
 
-fn sync_in(value: &Value) -> Option<SyncSeg>
+fn sync_in(value: &Value) -> Option<SyncRules>
     ensures { result ≡ sync_in (view value.now) }
 {
     match value.as_str() {
@@ -177,12 +177,12 @@ pub(crate) fn truth_at(table: &Table, key: Key) -> bool
 }
 
 /// Where SYNC_SEG lies, at a key; after an edge where it has none.
-pub(crate) fn sync_choice_at(table: &Table, key: Key) -> SyncSeg
+pub(crate) fn sync_choice_at(table: &Table, key: Key) -> SyncRules
     ensures { result ≡ sync_choice_at key (table_view table.now) }
 {
     match value_at(table, key) {
-        Some(value) => sync_in(value).unwrap_or(SyncSeg::After),
-        None => SyncSeg::After,
+        Some(value) => sync_in(value).unwrap_or(SyncRules::After),
+        None => SyncRules::After,
     }
 }
 

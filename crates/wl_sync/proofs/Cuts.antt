@@ -1,18 +1,18 @@
 -- What a bit clock keeps, one quantum later.
-use Rattle.std.proofs.Common.{◌≡◌, ℕ, suc, ◌+◌, ◌-◌, ◌<◌, ◌≤◌, ◌∙◌, inl, inr, List, [], ◌∷◌, ◌++◌, length, Bool, true, false, cond, not, ◌&&◌, Option, Some, None, is_some, refl, sym, ap, subst, arith, length-append, add-zero, add-one, min}
-use Rattle.std.specs.Prelude.{◌==◌, nat_lt, ◌||◌}
+use Rattle.std.proofs.Common.{◌≡◌, ℕ, suc, ◌+◌, ◌-◌, ◌<◌, ◌≤◌, ◌∙◌, inl, inr, List, [], ◌∷◌, ◌++◌, length, Bool, true, false, cond, not, ◌&&◌, Option, Some, None, is_some, refl, sym, ap, arith, length-append, add-zero, add-one, min}
+use Rattle.std.specs.Prelude.{◌==◌, nat_lt, nat_le, ◌||◌}
 use Rattle.std.proofs.Math.ListN.{get_or-append}
 use Rattle.std.proofs.Math.Seq.{get_or-append_seam}
 use Rattle.std.proofs.lemmas.List.{length-replicate, get_or-replicate}
-use Rattle.std.proofs.lemmas.Bool.{ltb-true, eqb-false, lt-ltb, le-ltb, eq-eqb, ne_eqb, and_right, and_parts, both_ways, not-true, cases_order}
+use Rattle.std.proofs.lemmas.Bool.{ltb-true, eqb-false, lt-ltb, le-ltb, lt-leb, eq-eqb, ne_eqb, and_right, and_parts, cases_lt, cases_order}
 use Rattle.wl_level.specs.declared.Level.{Level}
 use Rattle.wl_level.specs.declared.Level.TheVariants.{Recessive}
 use Rattle.wl_level.specs.Places.{or_at, first_place, is_found_at}
 use Rattle.wl_level.proofs.Callers.{first_cong, first_not, none_first, or_at_here, or_at_cond}
-use Rattle.wl_segments.specs.declared.SyncSeg.{SyncSeg}
-use Rattle.wl_segments.specs.declared.SyncSeg.TheVariants.{After, Inside}
+use Rattle.wl_segments.specs.declared.SyncRules.{SyncRules}
+use Rattle.wl_segments.specs.declared.SyncRules.TheVariants.{After, Book}
 use Rattle.wl_segments.specs.Lengths.{Lengths, sample_at, bit_quanta, found_at}
-use Rattle.wl_sync.specs.Edges.{Seen, looks, edge_counts, edge_restarts, phase_error, longer_by, shorter_by}
+use Rattle.wl_sync.specs.Edges.{Seen, is_hard, looks, edge_counts, edge_restarts, phase_error, longer_by, shorter_by}
 use Rattle.wl_sync.specs.Bits.{Bit, unseen, seen_at_place, previous_level, sample_before, is_edge, sync_place, sample_place, end_place, last_level, last_sample, opened, begun_bit, due_bit, edge_bit, edge_bit_by, longer, is_sync, is_restart, going_on, placed, bit_after, first_quanta, bit_of, beat_at, sync_at, beat_of, sync_of}
 use Rattle.wl_sync.specs.Running.{Running, running, clock_after}
 use Rattle.wl_sync.specs.Steps.{end_of, running_due, running_edge, running_edge_by, running_sync, running_restart, running_moved, running_first, running_over, running_placed, running_after, running_beat, running_answer}
@@ -40,24 +40,10 @@ cond_twice : {A : Type 0} (b : Bool) (x y : A) → x ≡ y → cond b x y ≡ y
 cond_twice true x y e = e
 cond_twice false x y e = refl
 
--- an edge that counts and begins no bit is that of a node that isn't idle
-no_idle : (a i b : Bool) → a ≡ true → (a && (i || b)) ≡ false → i ≡ false
-no_idle true true b e f = cc
-no_idle true false b e f = refl
-no_idle false i b e f = cc
-
--- and doesn't come in the sample's quantum
-looks_apart : (s : SyncSeg) (idle : Bool) (place k : ℕ) → idle ≡ false → looks s idle place k ≡ true → k ≡ place → ⊥
-looks_apart After idle place k i h e = both_ways (k == place) (not-true _ h) (eq-eqb k place e)
-looks_apart Inside idle place k i h e =
-    let g : (idle || not (k == place)) ≡ true = (and_parts _ _ h).1 in
-    let apart : not (k == place) ≡ true = subst (λ b. (b || not (k == place)) ≡ true) i g in
-    both_ways (k == place) (not-true _ apart) (eq-eqb k place e)
-
 -- where an edge lies in the quantum before, no first quantum of a bit looks for one
-looks_first : (s : SyncSeg) (idle : Bool) (place : ℕ) → s ≡ Inside → looks s idle place 0 ≡ false
-looks_first After idle place e = cc
-looks_first Inside idle place e = refl
+looks_first : (s : SyncRules) (place : ℕ) → s ≡ Book → looks s place 0 ≡ false
+looks_first After place e = cc
+looks_first Book place e = refl
 
 never_and : (a d e : Bool) → d ≡ false → ((a && d) && e) ≡ false
 never_and a d e h = ap (λ c. c && e) (and_right a d h)
@@ -184,37 +170,22 @@ module _ (l : Lengths) (bit : Bit) (x : Seen) where
     ]
   ]
 
-  -- and where it moves from p to q, both still to come
-  sample_moved : (p q : ℕ) → length bit.seen < p → length bit.seen < q
-      → cond (nat_lt q (suc (length bit.seen))) (seen_at_place (longer bit x) q).level bit.opening.sample
-      ≡ cond (length bit.seen == p) x.level (cond (nat_lt p (length bit.seen)) (seen_at_place bit p).level bit.opening.sample)
-  sample_moved p q n_p n_q =
-      rw (le-ltb q (suc (length bit.seen)) (omega arith), ne_eqb (length bit.seen) p (λ e. omega arith), le-ltb p (length bit.seen) (omega arith)) refl
-
-  -- an edge counts where none did before, and at the sample only where it begins a bit
+  -- an edge counts where none did before
   sync_fresh : running_sync (running l bit) x ≡ true → sync_place l bit ≡ None
   sync_fresh h = none_from (sync_place l bit) (and_parts _ _ h).1
 
-  sync_apart : running_sync (running l bit) x ≡ true → running_restart (running l bit) x ≡ false → length bit.seen ≡ sample_at l → ⊥
-  sync_apart h f e =
-      looks_apart l.sync x.idle (sample_at l) (length bit.seen) (no_idle (running_sync (running l bit) x) x.idle _ h f)
-      (and_parts _ _ (and_parts _ _ (and_parts _ _ h).0).0).1 e
-
-  sample_step : (b : Bool) → running_sync (running l bit) x ≡ b → running_restart (running l bit) x ≡ false
-      → cond (nat_lt (sample_at l + longer_by l (cond b (Some (length bit.seen)) (sync_place l bit))) (suc (length bit.seen)))
-      (seen_at_place (longer bit x) (sample_at l + longer_by l (cond b (Some (length bit.seen)) (sync_place l bit)))).level bit.opening.sample
-      ≡ cond (length bit.seen == sample_place l bit) x.level (last_sample l bit)
-  sample_step false h f = sample_new (sample_place l bit)
-  sample_step true h f = elim (cases_order (length bit.seen) (sample_at l)) [
-    | inl e ↦ absurd (sync_apart h f e)
-    | inr apart ↦ elim apart [
-      | inl before ↦ sample_moved (sample_place l bit) (sample_at l + longer_by l (Some (length bit.seen))) (omega arith) (omega arith)
-      | inr after ↦
-          ap (λ q. cond (nat_lt q (suc (length bit.seen))) (seen_at_place (longer bit x) q).level bit.opening.sample)
-          (ap (λ b. sample_at l + cond b (min (length bit.seen - found_at l) l.sjw) 0) (le-ltb (length bit.seen) (sample_at l) (omega arith))
-          ∙ ap (λ o. sample_at l + longer_by l o) (sym (sync_fresh h)))
-          ∙ sample_new (sample_place l bit)
-    ]
+  -- an edge moves the place of the sample where neither the old nor the new one is over
+  sample_step : (b : Bool) → running_sync (running l bit) x ≡ b
+      → cond (nat_lt (sample_at l + longer_by l (cond b (Some (length bit.seen)) (sync_place l bit))) (length bit.seen))
+      (seen_at_place bit (sample_at l + longer_by l (cond b (Some (length bit.seen)) (sync_place l bit)))).level bit.opening.sample
+      ≡ last_sample l bit
+  sample_step false h = refl
+  sample_step true h = elim (cases_lt (sample_at l) (length bit.seen)) [
+    | inl after ↦
+        ap (λ q. cond (nat_lt q (length bit.seen)) (seen_at_place bit q).level bit.opening.sample)
+        (ap (λ b. sample_at l + cond b (min (length bit.seen - found_at l) l.sjw) 0) (lt-leb (length bit.seen) (sample_at l) after)
+        ∙ ap (λ o. sample_at l + longer_by l o) (sym (sync_fresh h)))
+    | inr before ↦ rw (le-ltb (sample_at l + longer_by l (Some (length bit.seen))) (length bit.seen) (omega arith), sync_fresh h, le-ltb (sample_at l + 0) (length bit.seen) (omega arith)) refl
   ]
 
   -- what the bit keeps after x, where x does not restart it
@@ -227,7 +198,9 @@ module _ (l : Lengths) (bit : Bit) (x : Seen) where
       level_new
       (ap (λ n. cond (nat_lt (sample_place l (longer bit x)) n) (seen_at_place (longer bit x) (sample_place l (longer bit x))).level bit.opening.sample) quanta_more
       ∙ ap (λ o. cond (nat_lt (sample_at l + longer_by l o) (suc (length bit.seen))) (seen_at_place (longer bit x) (sample_at l + longer_by l o)).level bit.opening.sample) (place_is bit.opening.synced refl)
-      ∙ sample_step (running_sync (running l bit) x) refl f)
+      ∙ sample_new (sample_at l + longer_by l (cond (running_sync (running l bit) x) (Some (length bit.seen)) (sync_place l bit)))
+      ∙ ap (λ v. cond (length bit.seen == sample_at l + longer_by l (cond (running_sync (running l bit) x) (Some (length bit.seen)) (sync_place l bit))) x.level v) (sample_step (running_sync (running l bit) x) refl)
+      ∙ ap (λ n. cond (length bit.seen == sample_at l + n) x.level (last_sample l bit)) (longer_cond l (running_sync (running l bit) x) (length bit.seen) (sync_place l bit)))
 
 -- the quanta of a bit that an edge begins
 begun_length : (l : Lengths) (bit : Bit) (x : Seen) → length (longer (begun_bit l bit) x).seen ≡ suc (found_at l)
@@ -236,26 +209,26 @@ begun_length l bit x = quanta_more l (begun_bit l bit) x ∙ ap suc (length-repl
 module _ (l : Lengths) (bit : Bit) (x : Seen) where
   restarted : running l (longer (begun_bit l bit) x) ≡ running_moved (running l bit) (running_sync (running l bit) x) true x.level
   restarted =
-      same_running l (begun_length l bit x) (cond_min (nat_lt 0 (sample_at l)) (found_at l) l.sjw)
+      same_running l (begun_length l bit x) (cond_min (nat_le 0 (sample_at l)) (found_at l) l.sjw)
       (ap (λ b. cond b l.sjw 0) (le-ltb (sample_at l) 0 (omega arith)))
       refl (level_new l (begun_bit l bit) x)
       (ap (λ b. cond b (seen_at_place (longer (begun_bit l bit) x) (sample_at l + longer_by l (Some 0))).level (last_sample l bit))
       (le-ltb (sample_at l + longer_by l (Some 0)) (length (longer (begun_bit l bit) x).seen) (let g = begun_length l bit x in omega arith)))
 
   -- the first quantum of a bit that no edge begins, where an edge lies in the quantum before
-  first_none : l.sync ≡ Inside → sync_place l (longer (opened l bit false) x) ≡ None
+  first_none : l.sync ≡ Book → sync_place l (longer (opened l bit false) x) ≡ None
   first_none e =
       none_first (is_edge l (longer (opened l bit false) x)) 1 (λ k b. let first : k ≡ 0 = omega arith in
-      ap (is_edge l (longer (opened l bit false) x)) first ∙ never_and _ _ _ (looks_first l.sync x.idle (sample_at l) e))
+      ap (is_edge l (longer (opened l bit false) x)) first ∙ never_and _ _ _ (looks_first l.sync (sample_at l) e))
 
-  first_kept : l.sync ≡ Inside → running l (longer (opened l bit false) x) ≡ running_first (running l bit) x.level
+  first_kept : l.sync ≡ Book → running l (longer (opened l bit false) x) ≡ running_first (running l bit) x.level
   first_kept e =
       same_running l refl (ap (longer_by l) (first_none e)) (ap (shorter_by l) (first_none e)) (ap is_some (first_none e)) (level_new l (opened l bit false) x)
       (ap (λ b. cond b (seen_at_place (longer (opened l bit false) x) (sample_place l (longer (opened l bit false) x))).level (last_sample l bit))
       (le-ltb (sample_place l (longer (opened l bit false) x)) 1 (omega arith)))
 
   -- a bit that goes on, or is over with x
-  bordered : l.sync ≡ Inside → running_restart (running l bit) x ≡ false → (b : Bool) → (length bit.seen == end_place l (longer bit x)) ≡ b
+  bordered : l.sync ≡ Book → running_restart (running l bit) x ≡ false → (b : Bool) → (length bit.seen == end_place l (longer bit x)) ≡ b
       → running l (longer (cond b (opened l bit false) bit) x)
       ≡ cond b (running_first (running l bit) x.level) (running_moved (running l bit) (running_sync (running l bit) x) false x.level)
   bordered e f true c = first_kept e
@@ -264,13 +237,13 @@ module _ (l : Lengths) (bit : Bit) (x : Seen) where
   end_is : running_restart (running l bit) x ≡ false → end_place l (longer bit x) ≡ end_of (running_moved (running l bit) (running_sync (running l bit) x) false x.level)
   end_is f = ap end_of (stepped l bit x f)
 
-  placed_by : (s : SyncSeg) → l.sync ≡ s → (b : Bool) → running_restart (running l bit) x ≡ b
+  placed_by : (s : SyncRules) → l.sync ≡ s → (b : Bool) → running_restart (running l bit) x ≡ b
       → running l (longer (cond b (begun_bit l bit) (going_on s l bit x)) x)
       ≡ running_over s (running l bit) (running_moved (running l bit) (running_sync (running l bit) x) b x.level) b x.level
   placed_by After e true f = restarted
   placed_by After e false f = stepped l bit x f
-  placed_by Inside e true f = restarted
-  placed_by Inside e false f =
+  placed_by Book e true f = restarted
+  placed_by Book e false f =
       bordered e f (length bit.seen == end_place l (longer bit x)) refl
       ∙ ap (λ n. cond (length bit.seen == n) (running_first (running l bit) x.level) (running_moved (running l bit) (running_sync (running l bit) x) false x.level)) (end_is f)
 
@@ -281,11 +254,11 @@ module _ (l : Lengths) (bit : Bit) (x : Seen) where
 
   beat_is : beat_at l bit x ≡ running_beat (running l bit) x
   beat_is =
-      ap (λ b. cond (b || length (placed l bit x).seen == 1) Start (cond (length bit.seen == sample_place l bit) (Sample x.level) Plain)) (restart_is l bit x)
-      ∙ ap (λ r. cond (running_restart (running l bit) x || r.quanta == 1) Start (cond (length bit.seen == sample_place l bit) (Sample x.level) Plain)) placed_is
+      ap (λ b. cond (b || length (placed l bit x).seen == 1) Start (cond (length bit.seen == sample_place l (placed l bit x)) (Sample x.level) Plain)) (restart_is l bit x)
+      ∙ ap (λ r. cond (running_restart (running l bit) x || r.quanta == 1) Start (cond (length bit.seen == sample_at l + r.longer) (Sample x.level) Plain)) placed_is
 
   answer_is : sync_at l bit x ≡ running_answer (running l bit) x
-  answer_is = ap (λ b. cond b (Some (cond x.idle Hard (Error (phase_error l (length bit.seen))))) None) (is_sync_is l bit x)
+  answer_is = ap (λ b. cond b (Some (cond (is_hard l.sync x) Hard (Error (phase_error l (length bit.seen))))) None) (is_sync_is l bit x)
 
 -- the bit that is due
 due_cond : (l : Lengths) (bit : Bit) (b : Bool)
@@ -300,9 +273,9 @@ due_is : (l : Lengths) (bit : Bit) → running l (due_bit l bit) ≡ running_due
 due_is l bit = due_cond l bit (length bit.seen == end_place l bit)
 
 -- the bit in which an edge lies
-edge_bit_is : (l : Lengths) (bit : Bit) (s : SyncSeg) → running l (edge_bit_by s l bit) ≡ running_edge_by s (running l bit)
+edge_bit_is : (l : Lengths) (bit : Bit) (s : SyncRules) → running l (edge_bit_by s l bit) ≡ running_edge_by s (running l bit)
 edge_bit_is l bit After = due_is l bit
-edge_bit_is l bit Inside = refl
+edge_bit_is l bit Book = refl
 
 -- what is kept of a bit, one quantum later
 pub bit_next : (l : Lengths) (bit : Bit) (x : Seen) → running l (bit_after l bit x) ≡ running_after (running l bit) x
@@ -322,37 +295,37 @@ pub sync_next : (l : Lengths) (past : List Seen) (x : Seen) → sync_of l past x
 sync_next l past x = answer_is l (edge_bit l (bit_of l past)) x ∙ ap (λ r. running_answer r x) (edge_bit_is l (bit_of l past) l.sync)
 
 -- before the first quantum of all
-abbrev pub running_at_first : SyncSeg → Lengths → Running
+abbrev pub running_at_first : SyncRules → Lengths → Running
 running_at_first After l = record { lengths = l; quanta = 0; longer = 0; shorter = 0; synced = false; level = Recessive; sample = Recessive }
-running_at_first Inside l = record { lengths = l; quanta = bit_quanta l; longer = 0; shorter = 0; synced = false; level = Recessive; sample = Recessive }
+running_at_first Book l = record { lengths = l; quanta = bit_quanta l; longer = 0; shorter = 0; synced = false; level = Recessive; sample = Recessive }
 
 module _ (l : Lengths) where
-  abbrev silent : SyncSeg → Bit
+  abbrev silent : SyncRules → Bit
   silent s = record { opening = record { synced = false; sample = Recessive; level = Recessive }; seen = first_quanta s (bit_quanta l) }
 
-  silent_length : length (silent Inside).seen ≡ bit_quanta l
+  silent_length : length (silent Book).seen ≡ bit_quanta l
   silent_length = length-replicate (bit_quanta l) unseen
 
-  silent_at : (k : ℕ) → k < bit_quanta l → seen_at_place (silent Inside) k ≡ unseen
+  silent_at : (k : ℕ) → k < bit_quanta l → seen_at_place (silent Book) k ≡ unseen
   silent_at k b = get_or-replicate (bit_quanta l) k unseen unseen b
 
-  silent_none : sync_place l (silent Inside) ≡ None
+  silent_none : sync_place l (silent Book) ≡ None
   silent_none =
-      none_first (is_edge l (silent Inside)) (length (silent Inside).seen) (λ k b.
-      ap (λ s. edge_counts l s (previous_level (silent Inside) k) (sample_before l (silent Inside) k) k) (silent_at k (let g = silent_length in omega arith)))
+      none_first (is_edge l (silent Book)) (length (silent Book).seen) (λ k b.
+      ap (λ s. edge_counts l s (previous_level (silent Book) k) (sample_before l (silent Book) k) k) (silent_at k (let g = silent_length in omega arith)))
 
-  first_by : (s : SyncSeg) → running l (silent s) ≡ running_at_first s l
+  first_by : (s : SyncRules) → running l (silent s) ≡ running_at_first s l
   first_by After =
       same_running l refl refl refl refl refl
       (ap (λ b. cond b (seen_at_place (silent After) (sample_at l + 0)).level Recessive) (le-ltb (sample_at l + 0) 0 (omega arith)))
-  first_by Inside =
+  first_by Book =
       same_running l silent_length (ap (longer_by l) silent_none) (ap (shorter_by l) silent_none) (ap is_some silent_none)
-      (cond_same (length (silent Inside).seen == 0) Recessive _ (ap (λ s. s.level) (silent_at (length (silent Inside).seen - 1) (let g = silent_length in omega arith))))
-      (ap (λ o. cond (nat_lt (sample_at l + longer_by l o) (length (silent Inside).seen)) (seen_at_place (silent Inside) (sample_at l + longer_by l o)).level Recessive) silent_none
-      ∙ by_test (nat_lt (sample_at l + 0) (length (silent Inside).seen)) refl)
+      (cond_same (length (silent Book).seen == 0) Recessive _ (ap (λ s. s.level) (silent_at (length (silent Book).seen - 1) (let g = silent_length in omega arith))))
+      (ap (λ o. cond (nat_lt (sample_at l + longer_by l o) (length (silent Book).seen)) (seen_at_place (silent Book) (sample_at l + longer_by l o)).level Recessive) silent_none
+      ∙ by_test (nat_lt (sample_at l + 0) (length (silent Book).seen)) refl)
     where
-      by_test : (b : Bool) → nat_lt (sample_at l + 0) (length (silent Inside).seen) ≡ b → cond b (seen_at_place (silent Inside) (sample_at l + 0)).level Recessive ≡ Recessive
-      by_test true e = ap (λ s. s.level) (silent_at (sample_at l + 0) (let f = ltb-true (sample_at l + 0) (length (silent Inside).seen) e in let g = silent_length in omega arith))
+      by_test : (b : Bool) → nat_lt (sample_at l + 0) (length (silent Book).seen) ≡ b → cond b (seen_at_place (silent Book) (sample_at l + 0)).level Recessive ≡ Recessive
+      by_test true e = ap (λ s. s.level) (silent_at (sample_at l + 0) (let f = ltb-true (sample_at l + 0) (length (silent Book).seen) e in let g = silent_length in omega arith))
       by_test false e = refl
 
 pub first_is : (l : Lengths) → clock_after l [] ≡ running_at_first l.sync l

@@ -3,7 +3,7 @@ use Rattle.std.proofs.Common.{◌≡◌, ℕ, List, ◌++◌, Bool, true, false,
 use Rattle.std.specs.Prelude.{◌-◌, pos, negsuc, nat_lt, if◌then◌else◌}
 use Rattle.wl_level.specs.declared.Level.{Level}
 use Rattle.wl_level.specs.declared.Level.TheVariants.{Dominant, Recessive}
-use Rattle.wl_segments.specs.declared.SyncSeg.TheVariants.{After, Inside}
+use Rattle.wl_segments.specs.declared.SyncRules.TheVariants.{After, Book}
 use Rattle.wl_segments.specs.Lengths.{Lengths}
 use Rattle.wl_sync.specs.declared.Sync.{Sync}
 use Rattle.wl_sync.specs.declared.Sync.TheVariants.{Hard, Error}
@@ -16,7 +16,7 @@ abbrev l : ℕ → Lengths
 l jump = record { prop = 3; ps1 = 3; ps2 = 3; sjw = jump; sync = After }
 
 abbrev seen : Bool → Level → Seen
-seen driving level = record { level = level; idle = false; driving = driving }
+seen driving level = record { level = level; idle = false; awaits = false; driving = driving }
 
 -- recessive, and dominant from a quantum on
 abbrev line : Bool → ℕ → ℕ → List Seen
@@ -89,7 +89,7 @@ driven_sample = refl
 -- Where an edge lies in the quantum before the one that finds it: what quantum k of a line answers.
 abbrev answered : ℕ → List Seen → ℕ → Seen → Answer
 answered jump before k x =
-    let m = record (l jump) { sync = Inside } in
+    let m = record (l jump) { sync = Book } in
     (beat_of m (take k before) x, sync_of m (take k before) x)
 
 abbrev in_sync_seg : ℕ → Bool → ℕ → ℕ → Answer
@@ -107,8 +107,8 @@ nothing_next : in_sync_seg 2 false 40 10 ≡ (Start, None)
 nothing_next = refl
 
 -- dominant from quantum 0: the edge lies in the quantum before, so this one is place 1
-zero_inside : in_sync_seg 2 false 0 0 ≡ (Start, Some (Error (negsuc 0)))
-zero_inside = refl
+zero_book : in_sync_seg 2 false 0 0 ≡ (Start, Some (Error (negsuc 0)))
+zero_book = refl
 
 zero_sample : in_sync_seg 2 false 0 6 ≡ (Sample Dominant, None)
 zero_sample = refl
@@ -117,8 +117,8 @@ zero_next : in_sync_seg 2 false 0 9 ≡ (Start, None)
 zero_next = refl
 
 -- from 1: within SYNC_SEG
-one_inside : in_sync_seg 2 false 1 1 ≡ (Plain, Some (Error (pos 0)))
-one_inside = refl
+one_book : in_sync_seg 2 false 1 1 ≡ (Plain, Some (Error (pos 0)))
+one_book = refl
 
 one_sample : in_sync_seg 2 false 1 7 ≡ (Sample Dominant, None)
 one_sample = refl
@@ -127,8 +127,8 @@ one_next : in_sync_seg 2 false 1 10 ≡ (Start, None)
 one_next = refl
 
 -- from 2: late by 1
-two_inside : in_sync_seg 2 false 2 2 ≡ (Plain, Some (Error (pos 1)))
-two_inside = refl
+two_book : in_sync_seg 2 false 2 2 ≡ (Plain, Some (Error (pos 1)))
+two_book = refl
 
 two_sample : in_sync_seg 2 false 2 8 ≡ (Sample Dominant, None)
 two_sample = refl
@@ -137,69 +137,79 @@ two_next : in_sync_seg 2 false 2 11 ≡ (Start, None)
 two_next = refl
 
 -- from 6: late by 5, and longer by the jump width
-six_inside : in_sync_seg 2 false 6 6 ≡ (Plain, Some (Error (pos 5)))
-six_inside = refl
+six_book : in_sync_seg 2 false 6 6 ≡ (Plain, Some (Error (pos 5)))
+six_book = refl
 
 six_sample : in_sync_seg 2 false 6 9 ≡ (Sample Dominant, None)
 six_sample = refl
 
--- from 7, the sample's quantum
-seven_inside : in_sync_seg 2 false 7 7 ≡ (Sample Dominant, None)
-seven_inside = refl
+-- from 7, the sample's quantum: late by 6, so the sample moves by the jump width
+seven_book : in_sync_seg 2 false 7 7 ≡ (Plain, Some (Error (pos 6)))
+seven_book = refl
+
+seven_later : in_sync_seg 2 false 7 9 ≡ (Sample Dominant, None)
+seven_later = refl
+
+seven_next : in_sync_seg 2 false 7 12 ≡ (Start, None)
+seven_next = refl
+
+-- but where the node drives dominant
+seven_driven : in_sync_seg 2 true 7 7 ≡ (Sample Dominant, None)
+seven_driven = refl
 
 -- from 8: early by 3, one more than the jump width, so the bit ends before this very quantum
-eight_inside : in_sync_seg 2 false 8 8 ≡ (Start, Some (Error (negsuc 2)))
-eight_inside = refl
+eight_book : in_sync_seg 2 false 8 8 ≡ (Start, Some (Error (negsuc 2)))
+eight_book = refl
 
-eight_sample_inside : in_sync_seg 2 false 8 15 ≡ (Sample Dominant, None)
-eight_sample_inside = refl
+eight_sample_book : in_sync_seg 2 false 8 15 ≡ (Sample Dominant, None)
+eight_sample_book = refl
 
 eight_next : in_sync_seg 2 false 8 18 ≡ (Start, None)
 eight_next = refl
 
 -- from 9: early by 2, so SYNC_SEG is quantum 8
-nine_inside : in_sync_seg 2 false 9 9 ≡ (Start, Some (Error (negsuc 1)))
-nine_inside = refl
+nine_book : in_sync_seg 2 false 9 9 ≡ (Start, Some (Error (negsuc 1)))
+nine_book = refl
 
-nine_sample_inside : in_sync_seg 2 false 9 15 ≡ (Sample Dominant, None)
-nine_sample_inside = refl
+nine_sample_book : in_sync_seg 2 false 9 15 ≡ (Sample Dominant, None)
+nine_sample_book = refl
 
 nine_next : in_sync_seg 2 false 9 18 ≡ (Start, None)
 nine_next = refl
 
 -- from 10, at the border: early by 1, in the last quantum of the bit before
-ten_inside : in_sync_seg 2 false 10 10 ≡ (Start, Some (Error (negsuc 0)))
-ten_inside = refl
+ten_book : in_sync_seg 2 false 10 10 ≡ (Start, Some (Error (negsuc 0)))
+ten_book = refl
 
 ten_sample : in_sync_seg 2 false 10 16 ≡ (Sample Dominant, None)
 ten_sample = refl
 
 -- a jump of 1, from 8 and from 9
-short_inside : in_sync_seg 1 false 8 8 ≡ (Plain, Some (Error (negsuc 2)))
-short_inside = refl
+short_book : in_sync_seg 1 false 8 8 ≡ (Plain, Some (Error (negsuc 2)))
+short_book = refl
 
 short_next : in_sync_seg 1 false 8 9 ≡ (Start, None)
 short_next = refl
 
-short_sample_inside : in_sync_seg 1 false 8 16 ≡ (Sample Dominant, None)
-short_sample_inside = refl
+short_sample_book : in_sync_seg 1 false 8 16 ≡ (Sample Dominant, None)
+short_sample_book = refl
 
-shorter_inside : in_sync_seg 1 false 9 9 ≡ (Start, Some (Error (negsuc 1)))
-shorter_inside = refl
+shorter_book : in_sync_seg 1 false 9 9 ≡ (Start, Some (Error (negsuc 1)))
+shorter_book = refl
 
 shorter_sample : in_sync_seg 1 false 9 16 ≡ (Sample Dominant, None)
 shorter_sample = refl
 
 -- driving dominant: an edge without error counts, a late one doesn't
-driven_inside : in_sync_seg 2 true 1 1 ≡ (Plain, Some (Error (pos 0)))
-driven_inside = refl
+driven_book : in_sync_seg 2 true 1 1 ≡ (Plain, Some (Error (pos 0)))
+driven_book = refl
 
 driven_late : in_sync_seg 2 true 2 2 ≡ (Plain, None)
 driven_late = refl
 
--- an idle node synchronises hard in any quantum, the sample's too
+-- a node that awaits a start of frame synchronises hard in any quantum, the sample's too
 abbrev of_idle : Level → Seen
-of_idle level = record { level = level; idle = true; driving = false }
+of_idle level = record { level = level; idle = true; awaits = true; driving = false }
 
 abbrev idle_at : ℕ → ℕ → Answer
 idle_at from k = answered 2 (replicate from (of_idle Recessive) ++ replicate 40 (of_idle Dominant)) k (of_idle (if nat_lt k from then Recessive else Dominant))
@@ -230,6 +240,22 @@ idle_ten = refl
 
 idle_ten_sample : idle_at 10 16 ≡ (Sample Dominant, None)
 idle_ten_sample = refl
+
+-- also one that isn't idle, up to its own start of frame, of which the edge has an error of 0
+abbrev of_decided : Bool → Level → Seen
+of_decided driving level = record { level = level; idle = false; awaits = true; driving = driving }
+
+abbrev decided_at : Bool → ℕ → ℕ → Answer
+decided_at driving from k = answered 2 (replicate 40 (of_decided driving Recessive)) k (of_decided driving (if nat_lt k from then Recessive else Dominant))
+
+decided_seven : decided_at false 7 7 ≡ (Start, Some Hard)
+decided_seven = refl
+
+begun_one : decided_at true 1 1 ≡ (Plain, Some (Error (pos 0)))
+begun_one = refl
+
+begun_five : decided_at true 5 5 ≡ (Plain, None)
+begun_five = refl
 
 -- dominant at quantum 2, which makes the bit one quantum longer, and again from 11, at the border: that edge lies in the bit that has synchronised
 abbrev twice : ℕ → ℕ → ℕ → Level → Answer

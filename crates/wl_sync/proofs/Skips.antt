@@ -5,14 +5,14 @@ use Rattle.std.proofs.lemmas.Bool.{eqb-true, eqb-false, ne_eqb, lt-ltb, le-ltb, 
 use Rattle.wl_level.specs.declared.Level.{Level}
 use Rattle.wl_level.specs.Levels.{is_dominant}
 use Rattle.wl_level.proofs.Callers.{snoc}
-use Rattle.wl_segments.specs.declared.SyncSeg.{SyncSeg}
-use Rattle.wl_segments.specs.declared.SyncSeg.TheVariants.{After, Inside}
+use Rattle.wl_segments.specs.declared.SyncRules.{SyncRules}
+use Rattle.wl_segments.specs.declared.SyncRules.TheVariants.{After, Book}
 use Rattle.wl_segments.specs.Lengths.{Lengths, AreLengths, sample_at}
 use Rattle.wl_sync.specs.declared.Beat.TheVariants.{Plain, Sample, Start}
 use Rattle.wl_sync.specs.Edges.{Seen}
 use Rattle.wl_sync.specs.Bits.{beat_of}
 use Rattle.wl_sync.specs.Running.{Running, clock_after}
-use Rattle.wl_sync.specs.Steps.{IsBitClock, end_of, running_due, running_edge, running_edge_by, running_sync, running_restart, running_moved, running_on, running_over, running_placed, running_after, running_beat, beat_between, running_answer, is_sampled}
+use Rattle.wl_sync.specs.Steps.{IsBitClock, end_of, running_due, running_edge, running_edge_by, running_sync, running_restart, running_moved, running_on, running_over, running_placed, running_after, running_beat, beat_between, running_answer, is_sampled, samples}
 use Rattle.wl_sync.specs.Skips.{moved_place, finds_edge, quanta_before_sample, quanta_before_beat, free_quanta, IsUnmoved, IsUnsampled, IsPlain}
 use Rattle.wl_sync.proofs.Cuts.{clock_next, beat_next, sync_next}
 
@@ -47,20 +47,20 @@ first_unsampled : (l : Lengths) → (0 == sample_at l + 0) ≡ false
 first_unsampled l = ne_eqb 0 (sample_at l + 0) (λ e. omega arith)
 
 -- the bit that x is in, one quantum later
-abbrev passed : SyncSeg → Running → Level → Running
+abbrev passed : SyncRules → Running → Level → Running
 passed s r level = running_over s (running_edge_by s r) (running_moved (running_edge_by s r) false false level) false level
 
 unsampled : (r : Running) (x : Seen) → IsFree r x → is_sampled r ≡ false
 unsampled r x is = ne_eqb r.quanta (moved_place r) is.apart
 
-passed_is : (s : SyncSeg) (r : Running) (x : Seen) → IsFree r x → (b : Bool) → (r.quanta == end_of r) ≡ b → passed s r x.level ≡ running_skipped r x.level 1
+passed_is : (s : SyncRules) (r : Running) (x : Seen) → IsFree r x → (b : Bool) → (r.quanta == end_of r) ≡ b → passed s r x.level ≡ running_skipped r x.level 1
 passed_is After r x is true e = (let h = eqb-true r.quanta (end_of r) e in let q : r.quanta + 1 - end_of r ≡ 1 = omega arith in
     rw (e, first_unsampled r.lengths) refl ∙ ap (running_new r x.level) (sym q) ∙ sym (skipped_new r x.level 1 (omega arith)))
 passed_is After r x is false e = (let h = eqb-false r.quanta (end_of r) e in let i = is.inside in
     rw (e, unsampled r x is) refl ∙ sym (skipped_on r x.level 1 (omega arith)))
-passed_is Inside r x is true e = (let h = eqb-true r.quanta (end_of r) e in let q : r.quanta + 1 - end_of r ≡ 1 = omega arith in
+passed_is Book r x is true e = (let h = eqb-true r.quanta (end_of r) e in let q : r.quanta + 1 - end_of r ≡ 1 = omega arith in
     rw e refl ∙ ap (running_new r x.level) (sym q) ∙ sym (skipped_new r x.level 1 (omega arith)))
-passed_is Inside r x is false e = (let h = eqb-false r.quanta (end_of r) e in let i = is.inside in
+passed_is Book r x is false e = (let h = eqb-false r.quanta (end_of r) e in let i = is.inside in
     rw (e, unsampled r x is) refl ∙ sym (skipped_on r x.level 1 (omega arith)))
 
 due_level : (r : Running) (b : Bool) → (r.quanta == end_of r) ≡ b → (running_due r).level ≡ r.level
@@ -71,22 +71,13 @@ due_lengths : (r : Running) (b : Bool) → (r.quanta == end_of r) ≡ b → (run
 due_lengths r true e = rw e refl
 due_lengths r false e = rw e refl
 
-edge_level : (s : SyncSeg) (r : Running) → (running_edge_by s r).level ≡ r.level
+edge_level : (s : SyncRules) (r : Running) → (running_edge_by s r).level ≡ r.level
 edge_level After r = due_level r (r.quanta == end_of r) refl
-edge_level Inside r = refl
+edge_level Book r = refl
 
-edge_lengths : (s : SyncSeg) (r : Running) → (running_edge_by s r).lengths ≡ r.lengths
+edge_lengths : (s : SyncRules) (r : Running) → (running_edge_by s r).lengths ≡ r.lengths
 edge_lengths After r = due_lengths r (r.quanta == end_of r) refl
-edge_lengths Inside r = refl
-
--- the bit in which an edge lies is not sampled
-due_unsampled : (r : Running) (x : Seen) → IsFree r x → (b : Bool) → (r.quanta == end_of r) ≡ b → is_sampled (running_due r) ≡ false
-due_unsampled r x is true e = rw (e, first_unsampled r.lengths) refl
-due_unsampled r x is false e = rw e (unsampled r x is)
-
-edge_unsampled : (s : SyncSeg) (r : Running) (x : Seen) → IsFree r x → is_sampled (running_edge_by s r) ≡ false
-edge_unsampled After r x is = due_unsampled r x is (r.quanta == end_of r) refl
-edge_unsampled Inside r x is = unsampled r x is
+edge_lengths Book r = refl
 
 module _ (r : Running) (x : Seen) (is : IsFree r x) where
   abbrev edge : Running
@@ -107,11 +98,31 @@ module _ (r : Running) (x : Seen) (is : IsFree r x) where
   answer : running_answer edge x ≡ None
   answer = rw edge_sync refl
 
+  -- the quantum is no sample, or the first of a bit
+  unsampled_or_first : (b : Bool) → (r.quanta == end_of r) ≡ b
+      → cond ((running_skipped r x.level 1).quanta == 1) Start (cond (samples edge (running_skipped r x.level 1).longer) (Sample x.level) Plain)
+      ≡ cond ((running_skipped r x.level 1).quanta == 1) Start Plain
+  unsampled_or_first true e =
+      let h = eqb-true r.quanta (end_of r) e in
+      let q : r.quanta + 1 - end_of r ≡ 1 = omega arith in
+      rw (skipped_new r x.level 1 (omega arith), q) refl
+  unsampled_or_first false e =
+      let h = eqb-false r.quanta (end_of r) e in
+      let i = is.inside in
+      ap (λ (s : Running). cond (s.quanta == 1) Start (cond (samples edge s.longer) (Sample x.level) Plain)) (skipped_on r x.level 1 (omega arith))
+      ∙ ap (λ (s : Running). cond (r.quanta + 1 == 1) Start (cond (samples s r.longer) (Sample x.level) Plain)) (edge_on r.lengths.sync e)
+      ∙ ap (λ b. cond (r.quanta + 1 == 1) Start (cond b (Sample x.level) Plain)) (unsampled r x is)
+      ∙ ap (λ (s : Running). cond (s.quanta == 1) Start Plain) (sym (skipped_on r x.level 1 (omega arith)))
+    where
+      edge_on : (s : SyncRules) → (r.quanta == end_of r) ≡ false → running_edge_by s r ≡ r
+      edge_on After f = rw f refl
+      edge_on Book f = refl
+
   beat : running_beat edge x ≡ cond ((running_skipped r x.level 1).quanta == 1) Start Plain
   beat =
       ap (λ b. beat_between b edge (running_placed edge x) x.level) edge_restart
       ∙ ap (λ s. beat_between false edge s x.level) placed
-      ∙ ap (λ b. cond ((running_skipped r x.level 1).quanta == 1) Start (cond b (Sample x.level) Plain)) (edge_unsampled r.lengths.sync r x is)
+      ∙ unsampled_or_first (r.quanta == end_of r) refl
 
 -- a quantum that no edge comes with, within its bit
 pub record GoesOn (r : Running) (x : Seen) : Type 0 where
@@ -126,13 +137,13 @@ module _ (r : Running) (x : Seen) (is : GoesOn r x) where
   sync_none : running_sync r x ≡ false
   sync_none = (let g = is.no_edge in rw g refl)
 
-  edge_same : (s : SyncSeg) → running_edge_by s r ≡ r
+  edge_same : (s : SyncRules) → running_edge_by s r ≡ r
   edge_same After = rw not_over refl
-  edge_same Inside = refl
+  edge_same Book = refl
 
-  over_same : (s : SyncSeg) → running_over s r (running_moved r false false x.level) false x.level ≡ running_on r x.level
+  over_same : (s : SyncRules) → running_over s r (running_moved r false false x.level) false x.level ≡ running_on r x.level
   over_same After = refl
-  over_same Inside = rw not_over refl
+  over_same Book = rw not_over refl
 
   goes_placed : running_placed r x ≡ running_on r x.level
   goes_placed = rw sync_none (over_same r.lengths.sync)

@@ -3,14 +3,14 @@ use Rattle.std.proofs.Common.{◌≡◌, ◌≢◌, ℕ, suc, ◌+◌, ◌-◌, 
 use Rattle.std.specs.Prelude.{fold, ◌==◌, nat_lt, nat_le}
 use Rattle.std.proofs.lemmas.Bool.{ltb-true, leb-true, leb-false, eqb-true, eqb-false, le-leb, lt-leb, lt-ltb, and_parts, not-true, or_parts, cond_both}
 use Rattle.wl_level.specs.declared.Level.{Level}
-use Rattle.wl_segments.specs.declared.SyncSeg.{SyncSeg}
-use Rattle.wl_segments.specs.declared.SyncSeg.TheVariants.{After, Inside}
+use Rattle.wl_segments.specs.declared.SyncRules.{SyncRules}
+use Rattle.wl_segments.specs.declared.SyncRules.TheVariants.{After, Book}
 use Rattle.wl_segments.specs.Lengths.{Lengths, AreLengths, sample_at, bit_quanta, found_by, found_at, least_way}
 use Rattle.wl_sync.specs.declared.Beat.TheVariants.{Plain, Sample, Start}
 use Rattle.wl_sync.specs.Edges.{Seen, longer_by}
 use Rattle.wl_sync.specs.Bits.{quanta_up_to, bit_after, beat_of, first_bit}
 use Rattle.wl_sync.specs.Running.{Running, running, clock_after}
-use Rattle.wl_sync.specs.Steps.{running_due, running_edge, running_edge_by, running_sync, running_restart, running_moved, running_over, running_placed, running_after, is_sampled, end_of}
+use Rattle.wl_sync.specs.Steps.{running_due, running_edge, running_edge_by, running_sync, running_restart, running_moved, running_over, running_placed, running_after, samples, end_of}
 use Rattle.wl_sync.specs.SampleLaws.{quanta_to_sample}
 use Rattle.wl_sync.proofs.Cuts.{clock_next, beat_next, bit_next, running_at_first, first_is}
 
@@ -45,27 +45,27 @@ moved_placed l r x p =
     (λ e. record {
       lengths = p.lengths;
       fresh = λ f. none_longer (running_sync r x) (longer_by r.lengths (Some r.quanta)) r.longer (or_parts (running_sync r x) r.synced f).0 (p.fresh (or_parts (running_sync r x) r.synced f).1);
-      longer = longer_few (running_sync r x) (nat_lt r.quanta (sample_at r.lengths)) r.quanta (found_at r.lengths) r.lengths.sjw r.longer p.longer;
+      longer = longer_few (running_sync r x) (nat_le r.quanta (sample_at r.lengths)) r.quanta (found_at r.lengths) r.lengths.sjw r.longer p.longer;
     })
 
-over_placed : (l : Lengths) (r m : Running) (b : Bool) (level : Level) (s : SyncSeg) → r.lengths ≡ l → IsPlaced l m → IsPlaced l (running_over s r m b level)
+over_placed : (l : Lengths) (r m : Running) (b : Bool) (level : Level) (s : SyncRules) → r.lengths ≡ l → IsPlaced l m → IsPlaced l (running_over s r m b level)
 over_placed l r m b level After e p = p
-over_placed l r m b level Inside e p =
+over_placed l r m b level Book e p =
     cond_both (not b && r.quanta == end_of m) _ _ (IsPlaced l) (λ f. record { lengths = e; fresh = λ g. refl; longer = omega arith }) (λ f. p)
 
 placed_placed : (l : Lengths) (r : Running) (x : Seen) → IsPlaced l r → IsPlaced l (running_placed r x)
 placed_placed l r x p = over_placed l r _ (running_restart r x) x.level r.lengths.sync p.lengths (moved_placed l r x p)
 
-edge_placed : (l : Lengths) (r : Running) (s : SyncSeg) → IsPlaced l r → IsPlaced l (running_edge_by s r)
+edge_placed : (l : Lengths) (r : Running) (s : SyncRules) → IsPlaced l r → IsPlaced l (running_edge_by s r)
 edge_placed l r After p = due_placed l r (r.quanta == end_of r) p
-edge_placed l r Inside p = p
+edge_placed l r Book p = p
 
 after_placed : (l : Lengths) (r : Running) (x : Seen) → IsPlaced l r → IsPlaced l (running_after r x)
 after_placed l r x p = placed_placed l (running_edge r) x (edge_placed l r r.lengths.sync p)
 
-first_placed : (l : Lengths) (s : SyncSeg) → IsPlaced l (running_at_first s l)
+first_placed : (l : Lengths) (s : SyncRules) → IsPlaced l (running_at_first s l)
 first_placed l After = record { lengths = refl; fresh = λ e. refl; longer = omega arith }
-first_placed l Inside = record { lengths = refl; fresh = λ e. refl; longer = omega arith }
+first_placed l Book = record { lengths = refl; fresh = λ e. refl; longer = omega arith }
 
 bit_placed : (l : Lengths) (past : List Seen) → IsPlaced l (clock_after l past)
 bit_placed l past =
@@ -113,11 +113,11 @@ plain_here false true level e = cc
 plain_here false false level e = (refl, refl)
 
 -- a quantum that begins no bit comes in the running one, which goes on with it
-over_not : (s : SyncSeg) (r m : Running) (level : Level) → (running_over s r m false level).quanta ≢ 1 → running_over s r m false level ≡ m
+over_not : (s : SyncRules) (r m : Running) (level : Level) → (running_over s r m false level).quanta ≢ 1 → running_over s r m false level ≡ m
 over_not After r m level h = refl
-over_not Inside r m level h = by_test (r.quanta == end_of m) refl
+over_not Book r m level h = by_test (r.quanta == end_of m) refl
   where
-    by_test : (b : Bool) → (r.quanta == end_of m) ≡ b → running_over Inside r m false level ≡ m
+    by_test : (b : Bool) → (r.quanta == end_of m) ≡ b → running_over Book r m false level ≡ m
     by_test true e = absurd (h (rw e refl))
     by_test false e = rw e refl
 
@@ -130,13 +130,13 @@ goes_on r x f h =
 first_not : (r : Running) (x : Seen) → running_restart r x ≡ false → (running_placed r x).quanta ≢ 1 → r.quanta ≢ 0
 first_not r x f h e = h (ap (λ n. n.quanta) (goes_on r x f h) ∙ (let g : r.quanta + 1 ≡ 1 = omega arith in g))
 
-edge_not : (s : SyncSeg) (r : Running) → (running_edge_by s r).quanta ≢ 0 → running_edge_by s r ≡ r
+edge_not : (s : SyncRules) (r : Running) → (running_edge_by s r).quanta ≢ 0 → running_edge_by s r ≡ r
 edge_not After r h = by_test (r.quanta == end_of r) refl
   where
     by_test : (b : Bool) → (r.quanta == end_of r) ≡ b → running_due r ≡ r
     by_test true e = absurd (h (rw e refl))
     by_test false e = rw e refl
-edge_not Inside r h = refl
+edge_not Book r h = refl
 
 -- the way after a quantum by which an edge begins a bit
 begun_start : (l : Lengths) (r : Running) (x : Seen) → r.lengths ≡ l → running_restart r x ≡ true
@@ -146,11 +146,11 @@ begun_start l r x e f = by_sync r.lengths.sync (sym_moved r.lengths.sync)
     m : Running
     m = record { lengths = r.lengths; quanta = suc (found_at r.lengths); longer = 0; shorter = 0; synced = true; level = x.level; sample = r.sample }
 
-    sym_moved : (s : SyncSeg) → running_over s r (running_moved r (running_sync r x) (running_restart r x) x.level) (running_restart r x) x.level ≡ m
+    sym_moved : (s : SyncRules) → running_over s r (running_moved r (running_sync r x) (running_restart r x) x.level) (running_restart r x) x.level ≡ m
     sym_moved After = rw f refl
-    sym_moved Inside = rw f refl
+    sym_moved Book = rw f refl
 
-    by_sync : (s : SyncSeg) → running_placed r x ≡ m
+    by_sync : (s : SyncRules) → running_placed r x ≡ m
         → (m : ℕ) × ((quanta_up_to (running_placed r x).quanta (sample_at l + (running_placed r x).longer) ≡ Some m) × (least_way l ≤ m))
     by_sync s g =
         let q : (running_placed r x).quanta ≡ suc (found_at r.lengths) = ap (λ n. n.quanta) g in
@@ -174,24 +174,34 @@ module _ (l : Lengths) (r : Running) (x : Seen) (p : IsPlaced l r) (goes : runni
   goes_longer : (running_placed r x).longer ≡ cond (running_sync r x) (longer_by r.lengths (Some r.quanta)) r.longer
   goes_longer = ap (λ n. n.longer) goes
 
-  -- the place of the sample moves away where a synchronisation makes the bit longer, and only before the sample
-  moves : (s : Bool) → running_sync r x ≡ s → (b : Bool) → nat_lt r.quanta (sample_at r.lengths) ≡ b
+  -- the place of the sample moves away where a synchronisation makes the bit longer, and only up to the sample, which is none then
+  moves : (s : Bool) → running_sync r x ≡ s → (b : Bool) → nat_le r.quanta (sample_at r.lengths) ≡ b
       → (r.longer ≤ cond s (cond b (min (r.quanta - found_at r.lengths) r.lengths.sjw) 0) r.longer)
-      × (sample_at l + r.longer ≤ r.quanta → cond s (cond b (min (r.quanta - found_at r.lengths) r.lengths.sjw) 0) r.longer ≡ r.longer)
-  moves false e b f = (omega arith, λ h. refl)
-  moves true e false f = (let g : r.longer ≡ 0 = p.fresh (not-true r.synced (and_parts _ _ e).1) in (omega arith, λ h. sym g))
-  moves true e true f = (let g : r.longer ≡ 0 = p.fresh (not-true r.synced (and_parts _ _ e).1) in omega arith, λ h. absurd (let g = ltb-true r.quanta (sample_at r.lengths) f in let a : sample_at r.lengths ≡ sample_at l = ap sample_at p.lengths in omega arith))
+      × (sample_at l + cond s (cond b (min (r.quanta - found_at r.lengths) r.lengths.sjw) 0) r.longer ≤ r.quanta
+      → cond s (cond b (min (r.quanta - found_at r.lengths) r.lengths.sjw) 0) r.longer ≡ r.longer)
+      × (sample_at l + r.longer < r.quanta → cond s (cond b (min (r.quanta - found_at r.lengths) r.lengths.sjw) 0) r.longer ≡ r.longer)
+  moves false e b f = (omega arith, λ h. refl, λ h. refl)
+  moves true e false f = (let g : r.longer ≡ 0 = p.fresh (not-true r.synced (and_parts _ _ e).1) in (omega arith, λ h. sym g, λ h. sym g))
+  moves true e true f =
+      let g : r.longer ≡ 0 = p.fresh (not-true r.synced (and_parts _ _ e).1) in
+      let k = leb-true r.quanta (sample_at r.lengths) f in
+      let a : sample_at r.lengths ≡ sample_at l = ap sample_at p.lengths in
+      (omega arith, λ h. omega arith, λ h. omega arith)
 
-  moved : (r.longer ≤ (running_placed r x).longer) × (sample_at l + r.longer ≤ r.quanta → (running_placed r x).longer ≡ r.longer)
+  moved : (r.longer ≤ (running_placed r x).longer) × (sample_at l + (running_placed r x).longer ≤ r.quanta → (running_placed r x).longer ≡ r.longer)
+      × (sample_at l + r.longer < r.quanta → (running_placed r x).longer ≡ r.longer)
   moved =
-      let m = moves (running_sync r x) refl (nat_lt r.quanta (sample_at r.lengths)) refl in
-      (subst (λ n. r.longer ≤ n) (sym goes_longer) m.0, λ h. goes_longer ∙ m.1 h)
+      let m = moves (running_sync r x) refl (nat_le r.quanta (sample_at r.lengths)) refl in (
+        subst (λ n. r.longer ≤ n) (sym goes_longer) m.0,
+        λ h. goes_longer ∙ m.1 (subst (λ n. sample_at l + n ≤ r.quanta) goes_longer h),
+        λ h. goes_longer ∙ m.2 h,
+      )
 
-  stays_behind : sample_at l + r.longer ≤ r.quanta → way_of l (running_placed r x) ≡ None
+  stays_behind : sample_at l + (running_placed r x).longer ≤ r.quanta → way_of l (running_placed r x) ≡ None
   stays_behind h =
-      none_left (running_placed r x).quanta (sample_at l + (running_placed r x).longer) (let q = goes_quanta in let g = moved.1 h in omega arith)
+      none_left (running_placed r x).quanta (sample_at l + (running_placed r x).longer) (let q = goes_quanta in omega arith)
 
-  comes_near : (n : ℕ) → r.quanta ≢ sample_at l + r.longer → way_of l r ≡ Some n → (m : ℕ) × ((way_of l (running_placed r x) ≡ Some m) × (n ≤ suc m))
+  comes_near : (n : ℕ) → r.quanta ≢ sample_at l + (running_placed r x).longer → way_of l r ≡ Some n → (m : ℕ) × ((way_of l (running_placed r x) ≡ Some m) × (n ≤ suc m))
   comes_near n h e =
       let q = goes_quanta in
       let g = moved.0 in
@@ -250,15 +260,16 @@ module _ (l : Lengths) (past : List Seen) (x : Seen) where
   on_some h = first_not r x (on_restart h) (on_first h)
 
   -- and is the sample
-  sampled_now : (level : Level) → beat_of l past x ≡ Sample level → BeginsNone × (r.quanta ≡ sample_at l + r.longer)
+  sampled_now : (level : Level) → beat_of l past x ≡ Sample level → BeginsNone × (r.quanta ≡ sample_at l + (running_placed r x).longer)
   sampled_now level e =
       let f = sample_here _ _ x.level level (sym (beat_next l past x) ∙ e) in
-      (f.0, eqb-true r.quanta (sample_at l + r.longer) (subst (λ (q : Running). is_sampled q ≡ true) (on_due f.0) f.1))
+      (f.0, eqb-true r.quanta (sample_at l + (running_placed r x).longer) (subst (λ (q : Running). samples q (running_placed q x).longer ≡ true) (on_due f.0) f.1))
 
   pub way_sampled : (level : Level) → beat_of l past x ≡ Sample level → quanta_to_sample l past ≡ Some 1
   way_sampled level e =
       let f = sampled_now level e in
       let g = f.1 in
+      let stays = (moved l r x (bit_placed l past) (on_goes f.0) (on_some f.0)).1 (omega arith) in
       some_left r.quanta (sample_at l + r.longer) (omega arith) (omega arith) ∙ ap Some (let h : suc (sample_at l + r.longer) - r.quanta ≡ 1 = omega arith in h)
 
   pub way_sample : (level : Level) → beat_of l past x ≡ Sample level → quanta_to_sample l (past ++ x ∷ []) ≡ None
@@ -267,16 +278,17 @@ module _ (l : Lengths) (past : List Seen) (x : Seen) where
       let g = f.1 in
       way_next ∙ ap (λ q. way_of l (running_placed q x)) (on_due f.0) ∙ stays_behind l r x (bit_placed l past) (on_goes f.0) (on_some f.0) (omega arith)
 
-  plain_now : beat_of l past x ≡ Plain → BeginsNone × (r.quanta ≢ sample_at l + r.longer)
+  plain_now : beat_of l past x ≡ Plain → BeginsNone × (r.quanta ≢ sample_at l + (running_placed r x).longer)
   plain_now e =
       let f = plain_here _ _ x.level (sym (beat_next l past x) ∙ e) in
-      (f.0, eqb-false r.quanta (sample_at l + r.longer) (subst (λ (q : Running). is_sampled q ≡ false) (on_due f.0) f.1))
+      (f.0, eqb-false r.quanta (sample_at l + (running_placed r x).longer) (subst (λ (q : Running). samples q (running_placed q x).longer ≡ false) (on_due f.0) f.1))
 
   pub way_behind : beat_of l past x ≡ Plain → quanta_to_sample l past ≡ None → quanta_to_sample l (past ++ x ∷ []) ≡ None
   way_behind e none =
       let f = plain_now e in
       let some = on_some f.0 in
       let past_it = left_not r.quanta (sample_at l + r.longer) (omega arith) none in
+      let stays = (moved l r x (bit_placed l past) (on_goes f.0) (on_some f.0)).2 past_it in
       way_next ∙ ap (λ q. way_of l (running_placed q x)) (on_due f.0) ∙ stays_behind l r x (bit_placed l past) (on_goes f.0) some (omega arith)
 
   pub way_near : (n : ℕ) → beat_of l past x ≡ Plain → quanta_to_sample l past ≡ Some n → (m : ℕ) × ((quanta_to_sample l (past ++ x ∷ []) ≡ Some m) × (n ≤ suc m))
@@ -285,17 +297,17 @@ module _ (l : Lengths) (past : List Seen) (x : Seen) where
       let near = comes_near l r x (bit_placed l past) (on_goes f.0) (on_some f.0) n f.1 some in
       (near.0, (way_next ∙ ap (λ q. way_of l (running_placed q x)) (on_due f.0) ∙ near.1.0, near.1.1))
 
-found_near : (s : SyncSeg) → found_by s ≤ 1
+found_near : (s : SyncRules) → found_by s ≤ 1
 found_near After = omega arith
-found_near Inside = omega arith
+found_near Book = omega arith
 
 pub way_least : (l : Lengths) → sample_at l ≤ suc (least_way l)
 way_least l = (let f = found_near l.sync in omega arith)
 
 -- before the first quantum
-first_way : (l : Lengths) → 0 < l.ps2 → (s : SyncSeg) → way_of l (running_at_first s l) ≡ None
+first_way : (l : Lengths) → 0 < l.ps2 → (s : SyncRules) → way_of l (running_at_first s l) ≡ None
 first_way l h After = refl
-first_way l h Inside = none_left (bit_quanta l) (sample_at l + 0) (omega arith)
+first_way l h Book = none_left (bit_quanta l) (sample_at l + 0) (omega arith)
 
 pub way_at_first : (l : Lengths) → AreLengths l → quanta_to_sample l [] ≡ None
 way_at_first l h = ap (way_of l) (first_is l) ∙ first_way l (let low = h.ps2_low in omega arith) l.sync

@@ -4,15 +4,15 @@ use Rattle.std.specs.Prelude.{ℕ, suc, ◌+◌, ◌-◌, ◌==◌, ◌&&◌, �
 use Rattle.wl_level.specs.declared.Level.{Level}
 use Rattle.wl_level.specs.declared.Level.TheVariants.{Recessive}
 use Rattle.wl_level.specs.Places.{first_place, is_found_at}
-use Rattle.wl_segments.specs.declared.SyncSeg.{SyncSeg}
-use Rattle.wl_segments.specs.declared.SyncSeg.TheVariants.{After, Inside}
+use Rattle.wl_segments.specs.declared.SyncRules.{SyncRules}
+use Rattle.wl_segments.specs.declared.SyncRules.TheVariants.{After, Book}
 use Rattle.wl_segments.specs.Lengths.{Lengths, sample_at, bit_quanta, found_at}
 use Rattle.wl_sync.specs.declared.Sync.{Sync}
 use Rattle.wl_sync.specs.declared.Sync.TheVariants.{Hard, Error}
 use Rattle.wl_sync.specs.declared.Beat.{Beat}
 use Rattle.wl_sync.specs.declared.Beat.TheVariants.{Plain, Sample, Start}
 pub use Rattle.wl_sync.specs.Edges.{Seen}
-use Rattle.wl_sync.specs.Edges.{edge_counts, edge_restarts, phase_error, longer_by, shorter_by}
+use Rattle.wl_sync.specs.Edges.{is_hard, edge_counts, edge_restarts, phase_error, longer_by, shorter_by}
 
 -- how a bit begins: by a synchronisation or not, and the last sample and the last level before it
 pub record Opening : Type 0 where
@@ -27,7 +27,7 @@ pub record Bit : Type 0 where
 
 -- what a list shows where nothing was seen: a silent line
 abbrev pub unseen : Seen
-unseen = record { level = Recessive; idle = false; driving = false }
+unseen = record { level = Recessive; idle = false; awaits = false; driving = false }
 
 -- what was seen at place k of a bit
 abbrev pub seen_at_place : Bit → ℕ → Seen
@@ -97,9 +97,9 @@ abbrev pub due_bit : Lengths → Bit → Bit
 due_bit l bit = if length bit.seen == end_place l bit then opened l bit false else bit
 
 -- the bit in which the edge lies that the next quantum finds: its own, or that of the quantum before
-abbrev pub edge_bit_by : SyncSeg → Lengths → Bit → Bit
+abbrev pub edge_bit_by : SyncRules → Lengths → Bit → Bit
 edge_bit_by After l bit = due_bit l bit
-edge_bit_by Inside l bit = bit
+edge_bit_by Book l bit = bit
 
 abbrev pub edge_bit : Lengths → Bit → Bit
 edge_bit l bit = edge_bit_by l.sync l bit
@@ -118,9 +118,9 @@ is_restart l bit x = is_sync l bit x && edge_restarts l x (length bit.seen)
 
 -- the bit to which the quantum x belongs, where it does not begin one anew: this one, which where an edge lies in the quantum before may be over now, by
 -- that edge too
-abbrev pub going_on : SyncSeg → Lengths → Bit → Seen → Bit
+abbrev pub going_on : SyncRules → Lengths → Bit → Seen → Bit
 going_on After l bit x = bit
-going_on Inside l bit x = if length bit.seen == end_place l (longer bit x) then opened l bit false else bit
+going_on Book l bit x = if length bit.seen == end_place l (longer bit x) then opened l bit false else bit
 
 -- the running bit, one quantum later, from that in which an edge lies
 abbrev pub placed : Lengths → Bit → Seen → Bit
@@ -131,9 +131,9 @@ abbrev pub bit_after : Lengths → Bit → Seen → Bit
 bit_after l bit x = placed l (edge_bit l bit) x
 
 -- the quanta of the bit before the first quantum of all
-abbrev pub first_quanta : SyncSeg → ℕ → List Seen
+abbrev pub first_quanta : SyncRules → ℕ → List Seen
 first_quanta After n = []
-first_quanta Inside n = replicate n unseen
+first_quanta Book n = replicate n unseen
 
 -- Before the first quantum the line was recessive: that begins a bit or, where an edge lies in the quantum before, follows one in which nothing was seen
 -- (this project's profile).
@@ -144,17 +144,17 @@ first_bit l = record { opening = record { synced = false; sample = Recessive; le
 abbrev pub bit_of : Lengths → List Seen → Bit
 bit_of l seen = fold (bit_after l) (first_bit l) seen
 
--- what the quantum x is, from the bit in which an edge lies that it finds
+-- what the quantum x is, from the bit in which an edge lies that it finds: the sample, where that edge doesn't move it away
 abbrev pub beat_at : Lengths → Bit → Seen → Beat
 beat_at l bit x =
     if is_restart l bit x || length (placed l bit x).seen == 1 then Start
-    else if length bit.seen == sample_place l bit then Sample x.level
+    else if length bit.seen == sample_place l (placed l bit x) then Sample x.level
     else Plain
 
 -- how the quantum x synchronises that bit
 abbrev pub sync_at : Lengths → Bit → Seen → Option Sync
 sync_at l bit x =
-    if is_sync l bit x then Some (if x.idle then Hard else Error (phase_error l (length bit.seen))) else None
+    if is_sync l bit x then Some (if is_hard l.sync x then Hard else Error (phase_error l (length bit.seen))) else None
 
 -- the beat at x, after all that was seen before
 abbrev pub beat_of : Lengths → List Seen → Seen → Beat

@@ -16,8 +16,8 @@ pub fn the_sample_comes_near()
 
 /// Law: what one more quantum does, by what the bit clock keeps.
 ///
-/// It is a function of this level, the level before, the last sample, whether the node is idle or drives dominant,
-/// and the bit's place, lengthening, shortening and whether it has synchronised. The level before is that of the
+/// It is a function of this level, the level before, the last sample, whether the bus is idle to the node, whether it awaits a
+/// start of frame or drives dominant, and the bit's place, lengthening, shortening and whether it has synchronised. The level before is that of the
 /// last quantum, and the last sample that of the last quantum whose beat was a sample, in whatever bit.
 pub fn clock_goes_on()
     ensures clock { (l : Lengths) (past : List Seen) (x : Seen)

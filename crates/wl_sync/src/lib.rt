@@ -1,10 +1,11 @@
 //! The bit clock of a node: which quantum begins a bit, which one samples it, and how edges of the line move both.
 //!
 //! A bit is SYNC_SEG, PROP_SEG, PHASE_SEG1 and PHASE_SEG2, and is sampled after PHASE_SEG1. An edge from recessive to
-//! dominant synchronises the bit: of an idle node it begins a new bit (hard synchronisation), and otherwise it moves
-//! the sample or the end of the bit by the jump width at most (resynchronisation). Bosch CAN 2.0 part B, section 10;
+//! dominant synchronises the bit: where it may be a start of frame it begins a new bit (hard synchronisation), and otherwise
+//! it moves the sample or the end of the bit by the jump width at most (resynchronisation). Bosch CAN 2.0 part B, section 10;
 //! ISO 11898-1, bit timing. The line is looked at once a quantum, at the tick where the quantum begins: that is this
-//! project's profile. Whether an edge lies in the quantum that finds it, or in the one before, is said by the segments.
+//! project's profile. The segments have the rules: whether an edge lies in the quantum that finds it or in the one before, and
+//! where it may be a start of frame.
 #![tactic(auto)]
 
 ghost use Rattle.std.specs.Prelude.{◌≡◌, ◌≢◌, ◌↔◌, ℕ, suc, ◌+◌, ◌-◌, ◌<◌, ◌≤◌, replicate, ◌==◌, ◌&&◌, true, false, List, [], ◌∷◌, ◌++◌, Some, MatchOption, if◌then◌else◌};
@@ -15,7 +16,7 @@ mod laws;
 pub use laws::{clock_goes_on, the_sample_comes_near};
 use std::marker::Model;
 use wl_level::Level;
-use wl_segments::{Segments, SyncSeg};
+use wl_segments::{Segments, SyncRules};
 
 /// What a quantum is in its bit.
 #[derive(Clone, Copy, Debug, PartialEq, Eq)]
@@ -31,7 +32,7 @@ pub enum Beat {
 /// How a quantum synchronises its bit.
 #[derive(Clone, Copy, Debug, PartialEq, Eq)]
 pub enum Sync {
-    /// Hard synchronisation: the node is idle, and its bit begins anew with the quantum in which the edge lies.
+    /// Hard synchronisation: the edge may be a start of frame, and the bit begins anew with the quantum in which the edge lies.
     Hard,
     /// Resynchronisation at a phase error, in quanta: 0 at the start of the bit, positive before the sample, negative after it.
     Error(i8),
@@ -87,19 +88,19 @@ impl Model for BitClock {
 }
 
 impl BitClock {
-    ghost use Rattle.wl_sync.specs.Edges.{Seen, seen_as, edge_restarts, longer_by, looks, phase_error, shorter_by};
+    ghost use Rattle.wl_sync.specs.Edges.{Seen, seen_as, is_hard, longer_by, looks, phase_error, restarts_at, shorter_by};
     ghost use Rattle.wl_sync.specs.Bits.{beat_of, sync_of, before_sample, bit_of};
     ghost use Rattle.wl_sync.specs.Running.{clock_after, Follows};
     ghost use Rattle.wl_sync.specs.Skips.{finds_edge, free_quanta, steady_clock, IsPlain, IsRestingBit, IsUnmoved, IsUnsampled};
-    ghost use Rattle.wl_sync.specs.Steps.{IsBitClock, beat_between, end_of, is_inside, is_sampled, running_due, running_edge, running_moved, running_on, running_passed, running_sync};
+    ghost use Rattle.wl_sync.specs.Steps.{IsBitClock, beat_between, end_of, is_by_the_book, is_sampled, longer_with, passed_edge, running_counts, running_due, running_edge, running_moved, running_on, running_passed, samples};
 
     /// The bit clock before the first quantum: a bit begins with it, or where that finds an edge with the edge, and the line was recessive.
     pub fn new(segments: Segments) -> BitClock
         ensures { result ≡ clock_after segments [] }
     {
         let quanta = match segments.sync() {
-            SyncSeg::After => 0,
-            SyncSeg::Inside => segments.bit_quanta() as u8,
+            SyncRules::After => 0,
+            SyncRules::Book => segments.bit_quanta() as u8,
         };
         let _ = segments.sample_at();
         BitClock {
@@ -116,19 +117,27 @@ impl BitClock {
     /// One quantum: what it is in its bit, and how it synchronises the bit, if it does.
     ///
     /// `level` is the line's level at the quantum, `idle` that the bus is idle to the node, so that it is idle or in
-    /// suspend transmission, and `driving` that it drove dominant up to this quantum. After any list of quanta both
-    /// answers, and what the clock keeps, are those of that list.
-    pub fn step(&mut self, level: Level, idle: bool, driving: bool) -> (Beat, Option<Sync>)
+    /// suspend transmission, `awaits` that the next edge may be a start of frame to it, so that it is idle, suspended,
+    /// integrating, between the samples of the first and the third bit of an intermission, or has decided to send, and `driving`
+    /// that it drove dominant up to this quantum. The profile's rules synchronise hard with `idle`, those of the book with
+    /// `awaits` and without `driving`. After any list of quanta both answers, and what the clock keeps, are those of that list.
+    pub fn step(
+        &mut self,
+        level: Level,
+        idle: bool,
+        awaits: bool,
+        driving: bool,
+    ) -> (Beat, Option<Sync>)
         ensures clock { Follows self.old (λ l past.
-            self.new ≡ clock_after l (past ++ seen_as level idle driving ∷ [])) }
-        ensures beat { Follows self.old (λ l past. result.0 ≡ beat_of l past (seen_as level idle driving)) }
-        ensures sync { Follows self.old (λ l past. result.1 ≡ sync_of l past (seen_as level idle driving)) }
+            self.new ≡ clock_after l (past ++ seen_as level idle awaits driving ∷ [])) }
+        ensures beat { Follows self.old (λ l past. result.0 ≡ beat_of l past (seen_as level idle awaits driving)) }
+        ensures sync { Follows self.old (λ l past. result.1 ≡ sync_of l past (seen_as level idle awaits driving)) }
     {
         if self.goes_on(level) {
             let beat = self.go_on(level);
             return (beat, None);
         }
-        self.look(level, idle, driving)
+        self.look(level, idle, awaits, driving)
     }
 
     /// How many quanta come up to the sample of the running bit, that one too: from 1 to 21. None
@@ -284,16 +293,23 @@ impl BitClock {
     }
 
     /// One quantum that may find an edge, or begin a bit.
-    fn look(&mut self, level: Level, idle: bool, driving: bool) -> (Beat, Option<Sync>)
+    fn look(
+        &mut self,
+        level: Level,
+        idle: bool,
+        awaits: bool,
+        driving: bool,
+    ) -> (Beat, Option<Sync>)
         ensures clock { Follows self.old (λ l past.
-            self.new ≡ clock_after l (past ++ seen_as level idle driving ∷ [])) }
-        ensures beat { Follows self.old (λ l past. result.0 ≡ beat_of l past (seen_as level idle driving)) }
-        ensures sync { Follows self.old (λ l past. result.1 ≡ sync_of l past (seen_as level idle driving)) }
+            self.new ≡ clock_after l (past ++ seen_as level idle awaits driving ∷ [])) }
+        ensures beat { Follows self.old (λ l past. result.0 ≡ beat_of l past (seen_as level idle awaits driving)) }
+        ensures sync { Follows self.old (λ l past. result.1 ≡ sync_of l past (seen_as level idle awaits driving)) }
     {
         self.reach_edge();
-        let counts = self.is_sync(level, idle, driving);
-        let sync = if counts { Some(self.sync(idle)) } else { None };
-        let restarts = self.is_restart(counts, idle);
+        let hard = self.is_hard(idle, awaits, driving);
+        let counts = self.is_sync(level, hard, driving);
+        let sync = if counts { Some(self.sync(hard)) } else { None };
+        let restarts = self.is_restart(counts, hard);
         let beat = self.place(level, counts, restarts);
         (beat, sync)
     }
@@ -301,12 +317,12 @@ impl BitClock {
     /// Goes to the bit in which the edge lies that this quantum finds, if it finds one: its own, or that of the quantum before.
     fn reach_edge(&mut self)
         ensures edge { self.new ≡ running_edge self.old }
-        ensures room { self.new.lengths.sync ≡ SyncSeg.After
+        ensures room { self.new.lengths.sync ≡ SyncRules.After
             → self.new.quanta + self.new.shorter < bit_quanta self.new.lengths + self.new.longer }
     {
         match self.segments.sync() {
-            SyncSeg::After => self.begin_due(),
-            SyncSeg::Inside => {}
+            SyncRules::After => self.begin_due(),
+            SyncRules::Book => {}
         }
     }
 
@@ -323,35 +339,44 @@ impl BitClock {
         }
     }
 
-    /// The quantum looks for an edge.
-    fn looks(&self, idle: bool) -> bool
-        ensures { result ≡ looks self.now.lengths.sync idle (sample_at self.now.lengths) self.now.quanta }
+    /// The node synchronises hard: on an idle bus, or by the book wherever the next edge may be a start of frame, up to its own.
+    fn is_hard(&self, idle: bool, awaits: bool, driving: bool) -> bool
+        ensures { (level : Level) → result ≡ is_hard self.now.lengths.sync (seen_as level idle awaits driving) }
     {
-        let is_sample = self.quanta == self.sample_at();
         match self.segments.sync() {
-            SyncSeg::After => !is_sample,
-            SyncSeg::Inside => 0 < self.quanta && (idle || !is_sample),
+            SyncRules::After => idle,
+            SyncRules::Book => awaits && !driving,
+        }
+    }
+
+    /// The quantum looks for an edge.
+    fn looks(&self) -> bool
+        ensures { result ≡ looks self.now.lengths.sync (sample_at self.now.lengths) self.now.quanta }
+    {
+        match self.segments.sync() {
+            SyncRules::After => self.quanta != self.sample_at(),
+            SyncRules::Book => 0 < self.quanta,
         }
     }
 
     /// The edge that is seen now counts.
-    fn is_sync(&self, level: Level, idle: bool, driving: bool) -> bool
-        ensures { result ≡ running_sync self.now (seen_as level idle driving) }
+    fn is_sync(&self, level: Level, hard: bool, driving: bool) -> bool
+        ensures { result ≡ running_counts self.now level hard driving }
     {
-        let is_late = self.found_at() < self.quanta && self.quanta < self.sample_at();
+        let is_late = self.found_at() < self.quanta && self.quanta <= self.sample_at();
         level.is_dominant()
             && !self.level.is_dominant()
             && !self.sample.is_dominant()
-            && self.looks(idle)
-            && !(is_late && driving && !idle)
+            && self.looks()
+            && !(is_late && driving && !hard)
             && !self.synced
     }
 
     /// How an edge that counts synchronises the bit.
-    fn sync(&self, idle: bool) -> Sync
-        ensures { result ≡ (if idle then Sync.Hard else Sync.Error (phase_error self.now.lengths self.now.quanta)) }
+    fn sync(&self, hard: bool) -> Sync
+        ensures { result ≡ (if hard then Sync.Hard else Sync.Error (phase_error self.now.lengths self.now.quanta)) }
     {
-        if idle {
+        if hard {
             return Sync::Hard;
         }
         let found_at = self.found_at();
@@ -363,20 +388,19 @@ impl BitClock {
     }
 
     /// The edge counts, and begins the bit anew.
-    fn is_restart(&self, counts: bool, idle: bool) -> bool
-        ensures restart { (x : Seen) → x.idle ≡ idle
-            → result ≡ (counts && edge_restarts self.now.lengths x self.now.quanta) }
+    fn is_restart(&self, counts: bool, hard: bool) -> bool
+        ensures restart { result ≡ (counts && restarts_at self.now.lengths hard self.now.quanta) }
         ensures stays { counts ≡ true → result ≡ false → sample_at self.now.lengths < self.now.quanta
             → self.now.lengths.sjw < found_at self.now.lengths + bit_quanta self.now.lengths - self.now.quanta }
     {
         let is_near_end = self.sample_at() < self.quanta
             && (self.found_at() + self.bit_quanta()).saturating_sub(self.quanta) <= self.jump();
-        counts && (idle || is_near_end)
+        counts && (hard || is_near_end)
     }
 
     /// Puts the quantum into its bit.
     fn place(&mut self, level: Level, counts: bool, restarts: bool) -> Beat
-        requires room { self.old.lengths.sync ≡ SyncSeg.After
+        requires room { self.old.lengths.sync ≡ SyncRules.After
             → self.old.quanta + self.old.shorter < bit_quanta self.old.lengths + self.old.longer }
         requires fresh { counts ≡ true → self.old.synced ≡ false }
         requires stays { counts ≡ true → restarts ≡ false → sample_at self.old.lengths < self.old.quanta
@@ -388,10 +412,7 @@ impl BitClock {
             self.restart(level);
             return Beat::Start;
         }
-        let is_sampled = self.quanta == self.sample_at() + self.longer;
-        if counts {
-            self.synchronise();
-        }
+        let is_sampled = self.pass_edge(counts);
         self.reach_quantum();
         let is_sampled = is_sampled && 0 < self.quanta;
         self.count(level, is_sampled)
@@ -399,14 +420,14 @@ impl BitClock {
 
     /// Begins a new bit where an edge lies in the quantum before and the running one is over, by that edge too.
     fn reach_quantum(&mut self)
-        requires room { self.old.lengths.sync ≡ SyncSeg.After
+        requires room { self.old.lengths.sync ≡ SyncRules.After
             → self.old.quanta + self.old.shorter < bit_quanta self.old.lengths + self.old.longer }
-        ensures quantum { self.new ≡ (if is_inside self.old.lengths.sync then running_due self.old else self.old) }
+        ensures quantum { self.new ≡ (if is_by_the_book self.old.lengths.sync then running_due self.old else self.old) }
         ensures room { self.new.quanta + self.new.shorter < bit_quanta self.new.lengths + self.new.longer }
     {
         match self.segments.sync() {
-            SyncSeg::After => {}
-            SyncSeg::Inside => self.begin_due(),
+            SyncRules::After => {}
+            SyncRules::Book => self.begin_due(),
         }
     }
 
@@ -427,12 +448,30 @@ impl BitClock {
         self.level = level;
     }
 
-    /// Moves the sample or the end of a bit that nothing moved yet.
+    /// Moves the bit by an edge that counts. True if the quantum is the sample even so.
+    fn pass_edge(&mut self, counts: bool) -> bool
+        requires room { self.old.lengths.sync ≡ SyncRules.After
+            → self.old.quanta + self.old.shorter < bit_quanta self.old.lengths + self.old.longer }
+        requires fresh { counts ≡ true → self.old.synced ≡ false }
+        requires stays { counts ≡ true → sample_at self.old.lengths < self.old.quanta
+            → self.old.lengths.sjw < found_at self.old.lengths + bit_quanta self.old.lengths - self.old.quanta }
+        ensures bit { self.new ≡ passed_edge self.old counts }
+        ensures sample { result ≡ samples self.old (longer_with self.old counts) }
+        ensures room { self.new.lengths.sync ≡ SyncRules.After
+            → self.new.quanta + self.new.shorter < bit_quanta self.new.lengths + self.new.longer }
+    {
+        if counts {
+            self.synchronise();
+        }
+        self.quanta == self.sample_at() + self.longer
+    }
+
+    /// Moves the sample or the end of a bit that nothing moved yet: the sample also where this quantum would be it.
     fn synchronise(&mut self)
-        requires fresh { (self.old.longer ≡ 0) × (self.old.shorter ≡ 0) }
+        requires fresh { self.old.synced ≡ false }
         requires stays { sample_at self.old.lengths < self.old.quanta
             → self.old.lengths.sjw < found_at self.old.lengths + bit_quanta self.old.lengths - self.old.quanta }
-        requires room { self.old.lengths.sync ≡ SyncSeg.After
+        requires room { self.old.lengths.sync ≡ SyncRules.After
             → self.old.quanta + self.old.shorter < bit_quanta self.old.lengths + self.old.longer }
         ensures { self.new ≡ record self.old {
           longer = longer_by self.old.lengths (Some self.old.quanta);
@@ -442,7 +481,7 @@ impl BitClock {
     {
         let sample_at = self.sample_at();
         let jump = self.jump();
-        if self.quanta < sample_at {
+        if self.quanta <= sample_at {
             self.longer = self.quanta.saturating_sub(self.found_at()).min(jump);
         }
         if sample_at < self.quanta {
@@ -509,20 +548,20 @@ mod tests {
             } else {
                 Level::Dominant
             };
-            let _ = clock.step(level, false, false);
+            let _ = clock.step(level, false, false, false);
             assert_eq!(rt; clock.before_sample(), WAYS[k], "after quantum {k}");
         }
         assert_eq!(rt; clock.free_quanta(Level::Dominant, false), 6);
         assert_eq!(rt; clock.free_quanta(Level::Recessive, true), 6);
         clock.skip(Level::Dominant, 6);
         assert_eq!(rt; clock.before_sample(), Some(1));
-        let _ = clock.step(Level::Recessive, false, false);
+        let _ = clock.step(Level::Recessive, false, false, false);
         assert_eq!(rt; clock.free_quanta(Level::Dominant, true), 0);
         assert_eq!(rt; clock.free_quanta(Level::Recessive, true), 9);
         clock.skip(Level::Recessive, 9);
         assert_eq!(rt; clock.before_sample(), Some(1));
         assert_eq!(rt; clock.resting_bit(), None);
-        let _ = clock.step(Level::Recessive, false, false);
+        let _ = clock.step(Level::Recessive, false, false, false);
         assert_eq!(rt; clock.resting_bit(), Some(10));
         the_sample_comes_near();
         Ok(())

@@ -9,7 +9,7 @@ use Rattle.std.specs.Prelude.{option_map}
 use Rattle.wl_sync.specs.declared.Sync.{Sync}
 use Rattle.wl_sync.specs.Bits.{Seen, beat_of, sync_of}
 use Rattle.wl_sync.specs.Skips.{IsPlain, IsUnmoved}
-use Rattle.wl_machine.specs.Judged.{is_idle_sort, stretch_of}
+use Rattle.wl_machine.specs.Judged.{awaits_start, is_idle_sort, stretch_of}
 use Rattle.wl_node.specs.declared.setup.NodeSetup.{NodeSetup}
 use Rattle.wl_node.specs.History.{History, history_of, history_after, by_beat, seen_next}
 use Rattle.wl_trace.specs.Events.{noted}
@@ -35,6 +35,7 @@ seen_same : (g h : History) (level : Level) → past_of g ≡ past_of h → g.dr
 seen_same g h level p d i = record {
   level = level;
   idle = ap (λ (q : SampledPast). is_idle_sort (stretch_of q.inputs).sort) p i;
+  awaits = ap (λ (q : SampledPast). awaits_start (stretch_of q.inputs)) p i;
   driving = ap is_dominant d i;
 }
 

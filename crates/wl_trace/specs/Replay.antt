@@ -10,7 +10,7 @@ use Rattle.wl_machine.specs.Reached.{IsMachine}
 use Rattle.wl_frame.specs.Grammar.{Content}
 use Rattle.wl_node.specs.declared.setup.NodeSetup.{NodeSetup}
 use Rattle.wl_node.specs.declared.setup.Passed.{Passed}
-use Rattle.wl_node.specs.History.{History, ready_head, passed_frames, is_sent, switched_off}
+use Rattle.wl_node.specs.History.{History, handed, ready_head, passed_frames, is_sent, switched_off}
 use Rattle.wl_trace.specs.declared.event.Event.{Event}
 use Rattle.wl_trace.specs.declared.controller.Controller.{Controller}
 use Rattle.wl_trace.specs.declared.replay.Replay.{Replay}
@@ -31,15 +31,18 @@ no_past = record { inputs = []; happened = []; frames = []; samples = [] }
 abbrev pub past_of : History → SampledPast
 past_of h = record { inputs = h.inputs; happened = h.happened; frames = h.frames; samples = h.samples }
 
--- the first unsent frame, if it is ready at this quantum
-abbrev pub head_then : NodeSetup → SampledPast → ℕ → Option Content
-head_then setup p quantum = ready_head (drop (count_by is_sent p.frames) setup.queue) quantum
+-- the frame that is handed with a sample of this level at this quantum, after so many sent ones: the first unsent one, if it is ready
+abbrev pub head_at : NodeSetup → (sent quantum : ℕ) → Level → Option Content
+head_at setup sent quantum level = handed level setup.segments.sync (ready_head (drop sent setup.queue) quantum)
+
+abbrev pub head_then : NodeSetup → SampledPast → ℕ → Level → Option Content
+head_then setup p quantum level = head_at setup (count_by is_sent p.frames) quantum level
 
 -- what the machine is given with a sample at this quantum
 abbrev pub sampled_then : NodeSetup → SampledPast → ℕ → Level → Sampled
 sampled_then setup p quantum level = record {
   level = level;
-  head = head_then setup p quantum;
+  head = head_then setup p quantum level;
   mode = mode_of (counts_of p.happened);
 }
 

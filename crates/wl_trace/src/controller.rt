@@ -1,5 +1,5 @@
 //! The machine of a node, its error counters and its queue, sample by sample.
-ghost use Rattle.std.specs.Prelude.{◌≡◌, ℕ, [], ◌∷◌, count_by, if◌then◌else◌, ◌+◌, ◌<◌, ◌≤◌, ◌^◌, ◌-◌, ◌++◌, drop, List};
+ghost use Rattle.std.specs.Prelude.{◌≡◌, ℕ, [], ◌∷◌, count_by, if◌then◌else◌, ◌+◌, ◌<◌, ◌≤◌, ◌^◌, ◌-◌, ◌++◌, List};
 ghost use Rattle.std.specs.Option.{option_copied};
 ghost use Rattle.wl_machine.specs.Stretch.{Ended, Input};
 ghost use Rattle.wl_machine.specs.Stretch.Input.{SwitchedOff};
@@ -7,15 +7,16 @@ ghost use Rattle.wl_machine.specs.States.{done_of};
 ghost use Rattle.wl_machine.specs.Judged.{drive_of, stretch_of};
 ghost use Rattle.wl_machine.specs.Reached.{IsMachine};
 ghost use Rattle.wl_node.specs.declared.setup.NodeSetup.{NodeSetup};
-ghost use Rattle.wl_node.specs.History.{is_sent, passed_frames, ready_head, switched_off};
-ghost use Rattle.wl_trace.specs.Replay.{IsController, SampledPast, head_then, judged_then, no_past, past_after};
+ghost use Rattle.wl_node.specs.History.{is_sent, passed_frames, switched_off};
+ghost use Rattle.wl_trace.specs.Replay.{IsController, SampledPast, head_at, head_then, judged_then, no_past, past_after};
 ghost use Rattle.wl_confine.specs.Counts.{counts_after};
 
 use wl_confine::{Counters, Mode};
 use wl_frame::frame::Frame;
 use wl_level::Level;
 use wl_machine::{Done, Machine, Turn};
-use wl_node::Queued;
+use wl_node::NodeSetup;
+use wl_segments::SyncRules;
 
 /// What is kept of a node's samples so far.
 #[derive(Drop)]
@@ -28,11 +29,15 @@ pub(crate) struct Controller {
     pub(crate) sent: usize,
 }
 
-/// The first unsent frame, if it is ready.
-pub(crate) fn ready_head(queue: &[Queued], sent: usize, quantum: u64) -> Option<&Frame>
-    ensures { option_copied result ≡ ready_head (drop sent queue.now) quantum }
+/// The frame that is handed to the machine with a sample of this level: the first unsent one, if it is ready; with a dominant sample
+/// by the book alone, where it may be its start of frame (Bosch CAN 2.0 part B, section 3.2.5).
+pub(crate) fn head_at(setup: &NodeSetup, sent: usize, quantum: u64, level: Level) -> Option<&Frame>
+    ensures { option_copied result ≡ head_at setup.now sent quantum level }
 {
-    match queue.get(sent) {
+    if level.is_dominant() && setup.segments.sync() == SyncRules::After {
+        return None;
+    }
+    match setup.queue.as_slice().get(sent) {
         Some(first) if first.ready <= quantum => Some(&first.frame),
         _ => None,
     }
@@ -78,13 +83,13 @@ impl Controller {
     /// A sample of this level, where this frame is to be sent next: what it did.
     pub(crate) fn sample(&mut self, level: Level, head: Option<&Frame>) -> Turn
         ensures past { (setup : NodeSetup) (p : SampledPast) (quantum : ℕ)
-            → option_copied head.entry ≡ head_then setup p quantum → self.old.sent < 2 ^ 64 - 1
+            → option_copied head.entry ≡ head_then setup p quantum level → self.old.sent < 2 ^ 64 - 1
             → IsController self.old p → IsController self.new (past_after setup p (quantum, level)) }
         ensures happened { (setup : NodeSetup) (p : SampledPast) (quantum : ℕ)
-            → option_copied head.entry ≡ head_then setup p quantum
+            → option_copied head.entry ≡ head_then setup p quantum level
             → IsController self.old p → result.happened ≡ (judged_then setup p quantum level).happened }
         ensures done { (setup : NodeSetup) (p : SampledPast) (quantum : ℕ)
-            → option_copied head.entry ≡ head_then setup p quantum
+            → option_copied head.entry ≡ head_then setup p quantum level
             → IsController self.old p → result.done ≡ done_of (judged_then setup p quantum level).ended }
         ensures counters { self.new.counters ≡ counts_after self.old.counters result.happened }
         ensures sent { self.new.sent ≤ self.old.sent + 1 }

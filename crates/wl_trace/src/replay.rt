@@ -3,21 +3,20 @@ ghost use Rattle.std.specs.Prelude.{◌≡◌, ◌+◌, ◌<◌, ◌≤◌, ◌^
 ghost use Rattle.wl_level.specs.declared.Level.{Level};
 ghost use Rattle.wl_machine.specs.Stretch.{Input};
 ghost use Rattle.wl_machine.specs.Judged.{stretch_of};
-ghost use Rattle.wl_node.specs.declared.setup.NodeSetup.{NodeSetup};
 ghost use Rattle.wl_node.specs.History.{history_of, switched_off};
 ghost use Rattle.wl_trace.specs.Events.{events_of};
 ghost use Rattle.wl_trace.specs.Running.{KeepsStretch};
 ghost use Rattle.wl_trace.specs.Notes.{Adds};
 ghost use Rattle.wl_trace.specs.Replay.{IsReplay, SampledPast, no_past, past_after, then_events};
 
-use crate::controller::{Controller, goes_off, ready_head};
+use crate::controller::{Controller, goes_off, head_at};
 use crate::event::Noted;
 use crate::noting::Notes;
 use crate::stretch::RunningStretch;
 use std::alloc::{AllocError, Global};
 use wl_confine::Mode;
 use wl_level::Level;
-use wl_node::{NodeSetup, Queued};
+use wl_node::NodeSetup;
 
 /// What is kept of a node's samples so far, with the running stretch.
 #[derive(Drop)]
@@ -41,21 +40,21 @@ impl Replay {
     /// The sample at which `notes` stands, of this level.
     pub(crate) fn sample(
         &mut self,
-        queue: &[Queued],
+        setup: &NodeSetup,
         level: Level,
         notes: &mut Notes,
     ) -> Result<(), AllocError>
         requires { self.old.controller.sent < 2 ^ 64 - 1 }
-        ensures past { (setup : NodeSetup) (p : SampledPast) → setup.queue ≡ queue.now → IsReplay self.old p
-            → OnOk result (IsReplay self.new (past_after setup p (notes.old.quantum, level))) }
-        ensures notes { (setup : NodeSetup) (p : SampledPast) → setup.queue ≡ queue.now → IsReplay self.old p
-            → OnOk result (Adds notes.old notes.new (then_events setup p notes.old.quantum level)) }
+        ensures past { (p : SampledPast) → IsReplay self.old p
+            → OnOk result (IsReplay self.new (past_after setup.now p (notes.old.quantum, level))) }
+        ensures notes { (p : SampledPast) → IsReplay self.old p
+            → OnOk result (Adds notes.old notes.new (then_events setup.now p notes.old.quantum level)) }
         ensures sent { self.new.controller.sent ≤ self.old.controller.sent + 1 }
     {
         wl_machine::laws::a_sent_frame_is_the_head_that_began_its_stretch();
         let old = self.controller.counters;
         let mode = old.mode();
-        let head = ready_head(queue, self.controller.sent, notes.quantum);
+        let head = head_at(setup, self.controller.sent, notes.quantum, level);
         let turn = self.controller.sample(level, head);
         let new = self.controller.counters;
         let next = self.stretch.next(level, head, mode, turn.happened);
@@ -94,7 +93,6 @@ pub fn node_events(
     ensures { IfOk result (λ events. (levels : List Level) → samples.now ≡ (history_of setup.now levels).samples
         → events.items ≡ events_of setup.now levels) }
 {
-    let queue = setup.queue.as_slice();
     let mut replay = Replay::new(alloc);
     let mut notes = Notes {
         quantum: 0,
@@ -105,7 +103,7 @@ pub fn node_events(
         let (quantum, level) = samples[bit];
         notes.quantum = quantum;
         notes.bit = bit as u64;
-        replay.sample(queue, level, &mut notes)?;
+        replay.sample(setup, level, &mut notes)?;
     }
     Ok(notes.events)
 }

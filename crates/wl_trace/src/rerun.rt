@@ -8,11 +8,11 @@ ghost use Rattle.wl_trace.specs.Rerun.{RunsTo, IsRerun, starts_with};
 ghost use Rattle.wl_trace.specs.Shown.{plain_quanta, shown_of};
 ghost use Rattle.wl_trace.specs.Synced.{sync_event, sync_next, syncs_of};
 
-use crate::controller::{Controller, ready_head};
+use crate::controller::{Controller, head_at};
 use crate::event::{Event, Noted};
 use crate::shown::{NodeState, Shown};
 use wl_level::Level;
-use wl_node::Queued;
+use wl_node::NodeSetup;
 use wl_segments::Segments;
 use wl_sync::{Beat, BitClock, Sync};
 
@@ -89,27 +89,30 @@ impl Rerun {
         }
     }
 
-    /// Its next quantum, which has this number, counted from 0, and at which it sees this level; `queue` is that of its setup. How an edge
-    /// synchronises it then, if one does: hard, or with a phase error in quanta (Bosch CAN 2.0 part B, section 10).
-    pub fn quantum(&mut self, queue: &[Queued], quantum: u64, level: Level) -> Option<Noted>
+    /// Its next quantum, which has this number, counted from 0, and at which it sees this level; `setup` is what it was made of. How an
+    /// edge synchronises it then, if one does: hard, or with a phase error in quanta (Bosch CAN 2.0 part B, section 10).
+    pub fn quantum(&mut self, setup: &NodeSetup, quantum: u64, level: Level) -> Option<Noted>
         requires few { quantum < 2 ^ 64 - 1 }
-        ensures sync { (setup : NodeSetup) (levels : List Level) → length levels ≡ quantum
-            → IsRerun setup levels self.old → result ≡ sync_next setup (history_of setup levels) level }
-        ensures run { (setup : NodeSetup) (levels : List Level) → setup.queue ≡ queue.now → length levels ≡ quantum
-            → IsRerun setup levels self.old → IsRerun setup (levels ++ level ∷ []) self.new }
+        ensures sync { (levels : List Level) → length levels ≡ quantum
+            → IsRerun setup.now levels self.old → result ≡ sync_next setup.now (history_of setup.now levels) level }
+        ensures run { (levels : List Level) → length levels ≡ quantum
+            → IsRerun setup.now levels self.old → IsRerun setup.now (levels ++ level ∷ []) self.new }
     {
         let bit = self.bits;
         let idle = self.controller.machine.idle();
-        let (beat, sync) = self.clock.step(level, idle, self.drive.is_dominant());
-        self.obey(queue, quantum, level, beat);
+        let awaits = self.controller.machine.awaits_start();
+        let (beat, sync) = self
+            .clock
+            .step(level, idle, awaits, self.drive.is_dominant());
+        self.obey(setup, quantum, level, beat);
         noted_sync(quantum, bit, sync)
     }
 
     /// What the quantum of this number does by its beat, where it is of this level.
-    fn obey(&mut self, queue: &[Queued], quantum: u64, level: Level, beat: Beat)
-        ensures run { (setup : NodeSetup) (h : History) (starts : ℕ) → setup.queue ≡ queue.now → quantum ≡ length h.seen
+    fn obey(&mut self, setup: &NodeSetup, quantum: u64, level: Level, beat: Beat)
+        ensures run { (h : History) (starts : ℕ) → quantum ≡ length h.seen
             → self.old.controller.sent < 2 ^ 64 - 1 → self.old.bits < 2 ^ 64 - 1 → RunsTo self.old h starts
-            → RunsTo self.new (by_beat setup h level beat) (starts_with beat starts) }
+            → RunsTo self.new (by_beat setup.now h level beat) (starts_with beat starts) }
         ensures clock { self.new.clock ≡ self.old.clock }
         ensures sent { self.new.controller.sent ≤ self.old.controller.sent + 1 }
         ensures bits { self.new.bits ≤ self.old.bits + 1 }
@@ -121,7 +124,7 @@ impl Rerun {
                 self.started = !self.started;
             }
             Beat::Sample(_) => {
-                let head = ready_head(queue, self.controller.sent, quantum);
+                let head = head_at(setup, self.controller.sent, quantum, level);
                 let _ = self.controller.sample(level, head);
                 self.bits = self.bits.saturating_add(1);
                 self.sampled = !self.sampled;

@@ -121,6 +121,24 @@ fn received() -> NextStretch
     }
 }
 
+/// A frame begins with this sample: that of the head, if there is one, and else that of another node.
+fn framed(head: Option<&Frame>) -> NextStretch
+    ensures { (level : Level)
+        → ComesNext level result (Some (stretch_by (FramingSort (option_copied head.entry)) (level ∷ []))) }
+{
+    match head {
+        Some(frame) => NextStretch::Begins {
+            kind: StretchKind::Framing {
+                head: Some(*frame),
+                sends: true,
+                end: None,
+            },
+            sampled: true,
+        },
+        None => received(),
+    }
+}
+
 /// The bus is free: the head is sent from its start of frame on, if there is one.
 fn free(head: Option<&Frame>) -> NextStretch
     ensures { (level : Level) → ComesNext level result (Some (stretch_by (free (option_copied head.entry)) [])) }
@@ -273,17 +291,14 @@ fn after_intermission(
         → ComesNext level result (intermission (way_of sends) own.now x).next }
 {
     let last = own.len() == INTERMISSION_BITS - 1;
+    let suspends = sends && mode == Mode::Passive;
     match (level, last) {
-        (Level::Dominant, true) => received(),
+        (Level::Dominant, true) if suspends => received(),
+        (Level::Dominant, true) => framed(head),
         (Level::Dominant, false) => overload_flag(sends),
         (Level::Recessive, false) => NextStretch::Same,
-        (Level::Recessive, true) => {
-            if sends && mode == Mode::Passive {
-                begins(StretchKind::Suspension)
-            } else {
-                free(head)
-            }
-        }
+        (Level::Recessive, true) if suspends => begins(StretchKind::Suspension),
+        (Level::Recessive, true) => free(head),
     }
 }
 

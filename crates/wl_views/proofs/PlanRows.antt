@@ -1,7 +1,7 @@
 -- What a node of a small plan finds, computed: a disturbance at its place from tick 1 up to tick 3, which takes a tick to it.
 use Rattle.std.specs.Prelude.{◌≡◌, true, false, [], ◌∷◌, map, refl}
 use Rattle.wl_clock.specs.Timing.{tick_of}
-use Rattle.wl_segments.specs.declared.SyncSeg.TheVariants.{After}
+use Rattle.wl_segments.specs.declared.SyncRules.TheVariants.{After}
 use Rattle.wl_node.specs.History.{history_of}
 use Rattle.wl_plan.specs.declared.plan.Plan.{Plan}
 use Rattle.wl_plan.specs.Simulation.{history}

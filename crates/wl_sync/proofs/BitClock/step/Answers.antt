@@ -5,7 +5,7 @@ use Rattle.wl_sync.proofs.Cuts.{clock_next, beat_next, sync_next}
 use Rattle.wl_sync.proofs.Skips.{GoesOn, goes_after, goes_answer, goes_beat}
 use Rattle.wl_sync.proofs.BitClock.step.Goals as goal
 
-goes : (c : goal.After-go_on-beat) → GoesOn c.args.self.now (seen_as c.args.level c.args.idle c.args.driving)
+goes : (c : goal.After-go_on-beat) → GoesOn c.args.self.now (seen_as c.args.level c.args.idle c.args.awaits c.args.driving)
 goes c = record {
   no_edge = c.goes_on.ensures.edge c.if-goes_on.true;
   begun = c.goes_on.ensures.begun c.if-goes_on.true;
@@ -14,15 +14,15 @@ goes c = record {
 
 pub returns-then-goes_on-clause-clock : goal.returns-then-goes_on-clause-clock
 returns-then-goes_on-clause-clock c l past e =
-    let x : Seen = seen_as c.args.level c.args.idle c.args.driving in
+    let x : Seen = seen_as c.args.level c.args.idle c.args.awaits c.args.driving in
     c.go_on-beat.ensures.clock ∙ sym (goes_after c.args.self.now x (goes c)) ∙ ap (λ r. running_after r x) e ∙ sym (clock_next l past x)
 
 pub returns-then-goes_on-clause-beat : goal.returns-then-goes_on-clause-beat
 returns-then-goes_on-clause-beat c l past e =
-    let x : Seen = seen_as c.args.level c.args.idle c.args.driving in
+    let x : Seen = seen_as c.args.level c.args.idle c.args.awaits c.args.driving in
     c.go_on-beat.ensures.beat ∙ sym (goes_beat c.args.self.now x (goes c)) ∙ ap (λ r. running_beat (running_edge r) x) e ∙ sym (beat_next l past x)
 
 pub returns-then-goes_on-clause-sync : goal.returns-then-goes_on-clause-sync
 returns-then-goes_on-clause-sync c l past e =
-    let x : Seen = seen_as c.args.level c.args.idle c.args.driving in
+    let x : Seen = seen_as c.args.level c.args.idle c.args.awaits c.args.driving in
     sym (goes_answer c.args.self.now x (goes c)) ∙ ap (λ r. running_answer (running_edge r) x) e ∙ sym (sync_next l past x)

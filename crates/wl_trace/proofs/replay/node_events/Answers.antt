@@ -26,10 +26,10 @@ loop-bit-preserved c =
     let p : SampledPast = (replay_of setup (take bit samples)).0 in
     let d : ℕ × Level = (0, Dominant) in
     record {
-      past = past_more setup samples bit d c.loop-bit-test.true c.sample.new.self (c.in_ok-sample.ensures.past setup p (sym c.as_slice-queue.ensures) c.loop-bit.invariant.past);
+      past = past_more setup samples bit d c.loop-bit-test.true c.sample.new.self (c.in_ok-sample.ensures.past p c.loop-bit.invariant.past);
       events =
           events_more setup samples bit d c.loop-bit-test.true _ c.sample.new.notes refl refl c.loop-bit.invariant.events c.loop-bit.invariant.counted
-          (c.in_ok-sample.ensures.notes setup p (sym c.as_slice-queue.ensures) c.loop-bit.invariant.past);
+          (c.in_ok-sample.ensures.notes p c.loop-bit.invariant.past);
       counted = count_more setup samples bit d c.loop-bit-test.true c.loop-bit.invariant.counted;
       sent = omega (arith, c.in_ok-sample.ensures.sent, c.loop-bit.invariant.sent);
     }

@@ -22,9 +22,10 @@ returns-clause-place c levels old =
       traffic = c.obey.new.traffic;
     } in
     let p : FitsHistory setup c.args.self.now h = old.place in
-    let told : Seen = record { level = c.args.level; idle = c.idle-idle.result; driving = c.is_dominant.result } in
+    let told : Seen = record { level = c.args.level; idle = c.idle-idle.result; awaits = c.awaits_start-awaits.result; driving = c.is_dominant.result } in
     let x : Seen = seen_next h c.args.level in
-    let e : told ≡ x = seen_is h c.args.level c.args.self.now.drive c.idle-idle.result c.is_dominant.result (c.idle-idle.ensures h.inputs p.traffic.machine) c.is_dominant.ensures p.drive in
+    let e : told ≡ x = seen_is h c.args.level c.args.self.now.drive c.idle-idle.result c.awaits_start-awaits.result c.is_dominant.result (c.idle-idle.ensures h.inputs p.traffic.machine)
+    (c.awaits_start-awaits.ensures h.inputs p.traffic.machine) c.is_dominant.ensures p.drive in
     let beat : c.step-beat.result.0 ≡ beat_of setup.segments h.seen x = c.step-beat.ensures.beat setup.segments h.seen p.clock ∙ ap (beat_of setup.segments h.seen) e in
     let sync : c.step-beat.result.1 ≡ sync_of setup.segments h.seen x = c.step-beat.ensures.sync setup.segments h.seen p.clock ∙ ap (sync_of setup.segments h.seen) e in
     let traffic : IsTraffic setup c.obey.new.traffic (by_beat setup h c.args.level (beat_of setup.segments h.seen x)) =

@@ -1,4 +1,4 @@
-use Rattle.std.proofs.Common.{◌≡◌, ◌∙◌, ◌+◌, [], ◌∷◌, ◌++◌, length, drop, sym, ap, subst}
+use Rattle.std.proofs.Common.{◌≡◌, ◌∙◌, ◌+◌, [], ◌∷◌, ◌++◌, length, drop, Some, sym, ap, subst}
 use Rattle.std.specs.Prelude.{count_by}
 use Rattle.std.specs.Option.{option_copied}
 use Rattle.wl_confine.specs.declared.Happened.{Happened}
@@ -9,10 +9,12 @@ use Rattle.wl_machine.specs.Stretch.Input.{Sample}
 use Rattle.wl_machine.specs.Judged.{judged, stretch_of, head_of}
 use Rattle.wl_machine.specs.Laws.{HeadLaws}
 use Rattle.wl_machine.specs.States.{sample_of}
+use Rattle.wl_frame.specs.Grammar.{Content}
+use Rattle.wl_node.specs.declared.setup.NodeSetup.{NodeSetup}
 use Rattle.wl_node.specs.declared.traffic.Traffic.{Traffic}
-use Rattle.wl_node.specs.History.{History, sampled_next, history_after_judgement, passed_frames, is_sent, switched_off, ready_head, unsent_of}
+use Rattle.wl_node.specs.History.{History, handed, sampled_next, history_after_judgement, passed_frames, is_sent, switched_off, ready_head, unsent_of}
 use Rattle.wl_node.specs.Kept.{IsTraffic, first_frame}
-use Rattle.wl_node.proofs.Sends.{count_append, sends_next}
+use Rattle.wl_node.proofs.Sends.{count_append, handed_some, sends_next}
 use Rattle.wl_node.proofs.traffic.Traffic.judge.Goals as goal
 
 -- the history after a sample, by what was answered of it
@@ -28,7 +30,8 @@ made h x happened ended after = record {
 }
 
 pub returns-clause-traffic : goal.returns-clause-traffic
-returns-clause-traffic c setup h q n old =
+returns-clause-traffic c h n old =
+    let setup : NodeSetup = c.args.setup.now in
     let now : Traffic = record {
       machine = c.switch_off.new.machine;
       counters = c.apply.new.self;
@@ -39,10 +42,13 @@ returns-clause-traffic c setup h q n old =
       frames = c.pass.new.frames;
     } in
     let laws : HeadLaws = c.a_sent_frame_is_the_head_that_began_its_stretch.ensures in
-    let x : Sampled = sample_of c.args.level (option_copied c.ready_head-head.result) c.mode-mode.result in
+    let x : Sampled = sample_of c.args.level (option_copied c.handed-head.result) c.mode-mode.result in
     let ended : Ended = (judged (stretch_of h.inputs) x).ended in
-    let unsent : drop c.args.self.now.sent c.args.queue.now ≡ unsent_of setup h = ap (λ k. drop k c.args.queue.now) old.sent ∙ ap (drop (count_by is_sent h.frames)) (sym q) in
-    let head : x.head ≡ ready_head (unsent_of setup h) (length h.seen) = c.ready_head-head.ensures ∙ (ap (λ u. ready_head u c.args.quantum) unsent ∙ ap (ready_head (unsent_of setup h)) (sym n)) in
+    let unsent : drop c.args.self.now.sent c.as_slice-queue.result.now ≡ unsent_of setup h = ap (drop c.args.self.now.sent) c.as_slice-queue.ensures ∙ ap (λ k. drop k setup.queue) old.sent in
+    let head : x.head ≡ handed c.args.level setup.segments.sync (ready_head (unsent_of setup h) (length h.seen)) =
+    c.handed-head.ensures ∙ ap (λ s. handed c.args.level s (option_copied c.ready_head-ready.result)) c.sync.ensures
+    ∙ ap (handed c.args.level setup.segments.sync) (c.ready_head-ready.ensures ∙ (ap (λ u. ready_head u c.args.quantum) unsent ∙ ap (ready_head (unsent_of setup h)) (sym n))) in
+    let ready = λ (frame : Content) (e : x.head ≡ Some frame). handed_some c.args.level setup.segments.sync (ready_head (unsent_of setup h) (length h.seen)) frame (sym head ∙ e) in
     let mode : x.mode ≡ mode_of (counts_of h.happened) = c.mode-mode.ensures ∙ ap mode_of old.counters in
     let same : x ≡ sampled_next setup h c.args.level = λ i. record { level = c.args.level; head = head i; mode = mode i } in
     let off = c.switch_off.ensures (h.inputs ++ Sample x ∷ []) (c.bit-turn.ensures.machine h.inputs old.machine) (c.bit-turn.ensures.drive h.inputs old.machine) in
@@ -56,7 +62,7 @@ returns-clause-traffic c setup h q n old =
       errors = c.count.ensures ∙ (ap (λ k. k + count_by is_error (c.bit-turn.result.happened ∷ [])) old.errors ∙ sym (count_append is_error h.happened (c.bit-turn.result.happened ∷ [])));
       samples = c.push_reserved.ensures.items ∙ (ap (λ l. l ++ (c.args.quantum, c.args.level) ∷ []) old.samples ∙ ap (λ k. h.samples ++ (k, c.args.level) ∷ []) (sym n));
       frames = kept.0 ∙ (ap (λ l. l ++ passed_frames c.args.quantum ended) old.frames ∙ ap (λ k. h.frames ++ passed_frames k ended) (sym n));
-      sends = λ frame e. ap (λ k. first_frame (drop k setup.queue)) (count_append is_sent h.frames (passed_frames (length h.seen) ended)) ∙ sends_next laws h.inputs x setup.queue (count_by is_sent h.frames) (length h.seen) c.mode-after.result old.sends head frame e;
+      sends = λ frame e. ap (λ k. first_frame (drop k setup.queue)) (count_append is_sent h.frames (passed_frames (length h.seen) ended)) ∙ sends_next laws h.inputs x setup.queue (count_by is_sent h.frames) (length h.seen) c.mode-after.result old.sends ready frame e;
     } in
     let happened = c.bit-turn.ensures.happened h.inputs old.machine in
     let after : c.mode-after.result ≡ mode_of (counts_of (h.happened ++ c.bit-turn.result.happened ∷ [])) = c.mode-after.ensures ∙ ap mode_of counted in

@@ -27,7 +27,7 @@ made p quantum x happened ended after = record {
 }
 
 given : (setup : NodeSetup) (p : SampledPast) (quantum : ℕ) (level : Level) (head : Option Content) (mode : Mode) (counters : Counts) → counters ≡ counts_of p.happened
-    → head ≡ head_then setup p quantum → mode ≡ mode_of counters → sample_of level head mode ≡ sampled_then setup p quantum level
+    → head ≡ head_then setup p quantum level → mode ≡ mode_of counters → sample_of level head mode ≡ sampled_then setup p quantum level
 given setup p quantum level head mode counters k h m i = record { level = level; head = h i; mode = (m ∙ ap mode_of k) i }
 
 pub returns-clause-happened : goal.returns-clause-happened

@@ -1,7 +1,8 @@
 -- The running stretch goes on as the machine judged.
-use Rattle.std.proofs.Common.{◌≡◌, ◌∙◌, ◌++◌, [], ◌∷◌, ℕ, List, Option, drop, refl, sym, ap, subst}
+use Rattle.std.proofs.Common.{◌≡◌, ◌∙◌, ◌++◌, [], ◌∷◌, ℕ, Option, refl, sym, ap, subst}
 use Rattle.std.specs.Prelude.{count_by}
 use Rattle.std.specs.Option.{option_copied}
+use Rattle.wl_level.specs.declared.Level.{Level}
 use Rattle.wl_confine.specs.declared.Mode.{Mode}
 use Rattle.wl_confine.specs.Counts.{Counts, counts_of, mode_of}
 use Rattle.wl_machine.specs.Stretch.{Sampled, Stretch}
@@ -11,26 +12,25 @@ use Rattle.wl_machine.specs.Laws.{HeadLaws}
 use Rattle.wl_machine.proofs.Callers.{stretch_next}
 use Rattle.wl_frame.specs.Grammar.{Content}
 use Rattle.wl_node.specs.declared.setup.NodeSetup.{NodeSetup}
-use Rattle.wl_node.specs.declared.setup.Queued.{Queued}
-use Rattle.wl_node.specs.History.{is_sent, ready_head, switched_off}
+use Rattle.wl_node.specs.History.{is_sent, switched_off}
 use Rattle.wl_trace.specs.Events.{judged_events}
 use Rattle.wl_trace.specs.Notes.{Adds}
-use Rattle.wl_trace.specs.Replay.{IsController, SampledPast, head_then, past_after, sampled_then}
+use Rattle.wl_trace.specs.Replay.{IsController, SampledPast, head_at, head_then, past_after, sampled_then}
 use Rattle.wl_trace.specs.Running.{ComesNext, KeepsStretch}
 use Rattle.wl_trace.proofs.replay.Replay.sample.Goals as goal
 
 -- the frame that is handed in is the one that the past says
-ready : (setup : NodeSetup) (p : SampledPast) (queue : List Queued) (sent quantum : ℕ) (head : Option Content) → setup.queue ≡ queue → sent ≡ count_by is_sent p.frames
-    → head ≡ ready_head (drop sent queue) quantum → head ≡ head_then setup p quantum
-ready setup p queue sent quantum head q s h =
-    h ∙ ap (λ (n : ℕ). ready_head (drop n queue) quantum) s ∙ ap (λ (qs : List Queued). ready_head (drop (count_by is_sent p.frames) qs) quantum) (sym q)
+ready : (setup : NodeSetup) (p : SampledPast) (sent quantum : ℕ) (level : Level) (head : Option Content) → sent ≡ count_by is_sent p.frames
+    → head ≡ head_at setup sent quantum level → head ≡ head_then setup p quantum level
+ready setup p sent quantum level head s h = h ∙ ap (λ (n : ℕ). head_at setup n quantum level) s
 
 pub returns-clause-past : goal.returns-clause-past
-returns-clause-past c setup p q r =
+returns-clause-past c p r =
+    let setup : NodeSetup = c.args.setup.now in
     let quantum : ℕ = c.args.notes.now.quantum in
     let s : Stretch = stretch_of p.inputs in
     let x : Sampled = sampled_then setup p quantum c.args.level in
-    let head = ready setup p c.args.queue.now c.args.self.now.controller.sent quantum (option_copied c.ready_head-head.result) q r.controller.sent c.ready_head-head.ensures in
+    let head = ready setup p c.args.self.now.controller.sent quantum c.args.level (option_copied c.head_at-head.result) r.controller.sent c.head_at-head.ensures in
     let happened = c.sample-turn.ensures.happened setup p quantum head r.controller in
     let mode : x.mode ≡ c.mode-mode.result = ap mode_of (sym r.controller.counters) ∙ sym c.mode-mode.ensures in
     let next : ComesNext c.args.level c.next-next.result (judged s x).next = c.next-next.ensures s x r.stretch refl (sym head) mode happened in
@@ -46,12 +46,13 @@ returns-clause-past c setup p q r =
     }
 
 pub returns-clause-notes : goal.returns-clause-notes
-returns-clause-notes c setup p q r =
+returns-clause-notes c p r =
+    let setup : NodeSetup = c.args.setup.now in
     let quantum : ℕ = c.args.notes.now.quantum in
     let s : Stretch = stretch_of p.inputs in
     let x : Sampled = sampled_then setup p quantum c.args.level in
     let laws : HeadLaws = c.a_sent_frame_is_the_head_that_began_its_stretch.ensures in
-    let head = ready setup p c.args.queue.now c.args.self.now.controller.sent quantum (option_copied c.ready_head-head.result) q r.controller.sent c.ready_head-head.ensures in
+    let head = ready setup p c.args.self.now.controller.sent quantum c.args.level (option_copied c.head_at-head.result) r.controller.sent c.head_at-head.ensures in
     let happened = c.sample-turn.ensures.happened setup p quantum head r.controller in
     let mode : x.mode ≡ c.mode-mode.result = ap mode_of (sym r.controller.counters) ∙ sym c.mode-mode.ensures in
     let next : ComesNext c.args.level c.next-next.result (judged s x).next = c.next-next.ensures s x r.stretch refl (sym head) mode happened in

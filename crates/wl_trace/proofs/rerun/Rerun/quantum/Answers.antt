@@ -7,6 +7,7 @@ use Rattle.std.specs.Prelude.{option_map}
 use Rattle.wl_sync.specs.declared.Sync.{Sync}
 use Rattle.wl_sync.specs.Bits.{Seen, beat_of, sync_of}
 use Rattle.wl_sync.specs.Running.{clock_after}
+use Rattle.wl_node.specs.declared.setup.NodeSetup.{NodeSetup}
 use Rattle.wl_node.specs.History.{History, by_beat, history_after, history_of, seen_next}
 use Rattle.wl_trace.specs.Events.{noted}
 use Rattle.wl_trace.specs.Synced.{sync_event}
@@ -24,12 +25,14 @@ counted before quantum beats.Plain = ap length (append-nil before)
 counted before quantum (beats.Sample _) = ap length (append-nil before)
 
 pub returns-clause-run : goal.returns-clause-run
-returns-clause-run c setup levels q n r =
+returns-clause-run c levels n r =
+    let setup : NodeSetup = c.args.setup.now in
     let level : Level = c.args.level in
     let h : History = history_of setup levels in
     let x : Seen = seen_next h level in
-    let told : Seen = record { level = level; idle = c.idle-idle.result; driving = c.is_dominant.result } in
-    let e : told ≡ x = seen_is h level c.args.self.now.drive c.idle-idle.result c.is_dominant.result (c.idle-idle.ensures h.inputs r.run.controller.machine) c.is_dominant.ensures r.run.drive in
+    let told : Seen = record { level = level; idle = c.idle-idle.result; awaits = c.awaits_start-awaits.result; driving = c.is_dominant.result } in
+    let e : told ≡ x = seen_is h level c.args.self.now.drive c.idle-idle.result c.awaits_start-awaits.result c.is_dominant.result (c.idle-idle.ensures h.inputs r.run.controller.machine)
+    (c.awaits_start-awaits.ensures h.inputs r.run.controller.machine) c.is_dominant.ensures r.run.drive in
     let beat : c.step-beat.result.0 ≡ beat_of setup.segments h.seen x = c.step-beat.ensures.beat setup.segments h.seen r.clock ∙ ap (beat_of setup.segments h.seen) e in
     let long : length levels ≡ length h.seen = sym (all_seen setup levels) in
     let bound = r.few in
@@ -39,7 +42,7 @@ returns-clause-run c setup levels q n r =
     let begun : starts_with (beat_of setup.segments h.seen x) (length (starts_of setup levels)) ≡ length (starts_of setup (levels ++ level ∷ [])) =
     sym (counted (starts_of setup levels) (length h.seen) (beat_of setup.segments h.seen x)) ∙ ap (λ (qs : List ℕ). length qs) (sym (starts_more setup levels level)) in
     let ran : RunsTo c.obey.new.self (by_beat setup h level c.step-beat.result.0) (starts_with c.step-beat.result.0 (length (starts_of setup levels))) =
-    c.obey.ensures.run setup h (length (starts_of setup levels)) q (sym n ∙ long) (omega arith) (omega arith) (record { controller = r.run.controller; drive = r.run.drive; bits = r.run.bits; sampled = r.run.sampled; started = r.run.started }) in
+    c.obey.ensures.run h (length (starts_of setup levels)) (sym n ∙ long) (omega arith) (omega arith) (record { controller = r.run.controller; drive = r.run.drive; bits = r.run.bits; sampled = r.run.sampled; started = r.run.started }) in
     let so = subst (λ (b : Beat). RunsTo c.obey.new.self (by_beat setup h level b) (starts_with b (length (starts_of setup levels)))) beat ran in
     let after : RunsTo c.obey.new.self (history_after setup h level) (starts_with (beat_of setup.segments h.seen x) (length (starts_of setup levels))) =
     record { controller = so.controller; drive = so.drive; bits = so.bits; sampled = so.sampled; started = so.started } in
@@ -56,12 +59,14 @@ returns-clause-run c setup levels q n r =
     }
 
 pub returns-clause-sync : goal.returns-clause-sync
-returns-clause-sync c setup levels n r =
+returns-clause-sync c levels n r =
+    let setup : NodeSetup = c.args.setup.now in
     let level : Level = c.args.level in
     let h : History = history_of setup levels in
     let x : Seen = seen_next h level in
-    let told : Seen = record { level = level; idle = c.idle-idle.result; driving = c.is_dominant.result } in
-    let e : told ≡ x = seen_is h level c.args.self.now.drive c.idle-idle.result c.is_dominant.result (c.idle-idle.ensures h.inputs r.run.controller.machine) c.is_dominant.ensures r.run.drive in
+    let told : Seen = record { level = level; idle = c.idle-idle.result; awaits = c.awaits_start-awaits.result; driving = c.is_dominant.result } in
+    let e : told ≡ x = seen_is h level c.args.self.now.drive c.idle-idle.result c.awaits_start-awaits.result c.is_dominant.result (c.idle-idle.ensures h.inputs r.run.controller.machine)
+    (c.awaits_start-awaits.ensures h.inputs r.run.controller.machine) c.is_dominant.ensures r.run.drive in
     let sync : c.step-beat.result.1 ≡ sync_of setup.segments h.seen x = c.step-beat.ensures.sync setup.segments h.seen r.clock ∙ ap (sync_of setup.segments h.seen) e in
     c.noted_sync.ensures
     ∙ ap (λ (o : Option Sync). option_map (λ s. noted c.args.quantum c.args.self.now.bits (sync_event s)) o) sync
