@@ -33,7 +33,7 @@ NUMBERS = [0, 1, 9, 10, 15, 16, 63, 64, 65, 2**20, 2**20 + 1, 262_143, 262_144, 
 BYTES = [b"\x00", b"\xff", b"\xc3", b"\xc3\xa9", b"\xed\xa0\x80", b"\xef\xbb\xbf", b"\xf4\x90\x80\x80", b"\r", b"\r\n", b"\n", b"\n\n", b"\t", b" ", b"  ", b"\x7f", b"\x1a",
          b"-", b"+", b"_", b".", b"0", b"00", b"9" * 40, b"e5", b"#", b"'", b'"', b'"""', b"'''", b"=", b"[", b"]", b"[[", b"]]", b"{", b"}", b",", b"\\", b"\\u0000",
          b"E", b"C", b"S", b"E 0 0 0\n", b"S 0 0 1\n", b"nan", b"inf", b"true", b"0x10", b"1979-05-27T07:32:00Z"]
-TOML_PIECES = [b"[node]\n", b"[[node]]\n", b"[[node.frame]]\n", b"[node.frame]\n", b"[[disturbance]]\n", b"version = 1\n", b"version = 2\n", b"sync = \"inside\"\n", b"sync = 1\n",
+TOML_PIECES = [b"[node]\n", b"[[node]]\n", b"[[node.frame]]\n", b"[node.frame]\n", b"[[disturbance]]\n", b"version = 1\n", b"version = 2\n", b"sync = \"book\"\n", b"sync = 1\n",
                b"a.b.c = 1\n", b"node.x = 3\n", b"\"x\" = 1\n", b"'end' = 5\n", b"x = {a = 1, b = [1, 2, {c = 3}]}\n", b"x = [\n1,\n2,\n]\n", b"x = \"\"\"a\nb\"\"\"\n",
                b"rates = [{from = 0, quantum = 125, ppm = 0}]\n", b"rates = []\n", b"frame = []\n", b"[node.rates]\n", b"[[node.rates]]\nfrom = 0\nnum = 1\nden = 1\n"]
 

@@ -31,7 +31,7 @@ kind_remedy key =
     else if bytes_eq key (codes "name") then codes "Give `name` as 1 to 32 ASCII letters, digits, `_` or `-`."
     else if bytes_eq key (codes "x") then codes "Give `x` as a whole number from 0 to 2,147,483,647; choose a smaller unit of length for parts of one."
     else if bytes_eq key (codes "id") then codes "Give `id` as a whole number from 0 to 0x7FF, or to 0x1FFFFFFF beside `extended = true`."
-    else if bytes_eq key (codes "sync") then codes "Set `sync = \"after\"` or `sync = \"inside\"`, or leave it out."
+    else if bytes_eq key (codes "sync") then codes "Set `sync = \"after\"` or `sync = \"book\"`, or leave it out."
     else if bytes_eq key (codes "dlc") then codes "Give `dlc` as a whole number from 0 to 15."
     else if bytes_eq key (codes "ppm") then codes "Give `ppm` as a whole number from -100,000 to 100,000."
     else if bytes_eq key (codes "remote") then codes "Write `remote = true`, or leave the key out."
@@ -125,7 +125,7 @@ topology_remedy (topology.TooLong i j) = codes "Shorten the way from the one nod
 abbrev pub plan_remedy : PlanFault → List ℕ
 plan_remedy plan.Nodes = codes "Give each node a place."
 plan_remedy plan.End = codes "Set `end` to at most 68,719,476,736."
-plan_remedy (plan.Quanta i) = codes "Lower `end` to at most `offset` + 1,048,576 quanta of that node in ticks (786,432 for `sync = \"inside\"` with `prop` and `ps1` of 1)."
+plan_remedy (plan.Quanta i) = codes "Lower `end` to at most `offset` + 1,048,576 quanta of that node in ticks (786,432 for `sync = \"book\"` with `prop` and `ps1` of 1)."
 plan_remedy (plan.Queue i) = codes "Keep at most 64 frames a node."
 plan_remedy (plan.Disturbance n) = codes "Give at most 64 disturbances, each with `from` below `to` and near enough to each node."
 

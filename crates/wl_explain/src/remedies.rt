@@ -44,7 +44,7 @@ fn kind_remedy(key: &str) -> &'static str
             "Give `x` as a whole number from 0 to 2,147,483,647; choose a smaller unit of length for parts of one.",
         "id" =>
             "Give `id` as a whole number from 0 to 0x7FF, or to 0x1FFFFFFF beside `extended = true`.",
-        "sync" => "Set `sync = \"after\"` or `sync = \"inside\"`, or leave it out.",
+        "sync" => "Set `sync = \"after\"` or `sync = \"book\"`, or leave it out.",
         "dlc" => "Give `dlc` as a whole number from 0 to 15.",
         "ppm" => "Give `ppm` as a whole number from -100,000 to 100,000.",
         "remote" => "Write `remote = true`, or leave the key out.",
@@ -202,7 +202,7 @@ fn plan_remedy(fault: PlanFault) -> &'static str
         PlanFault::Nodes => "Give each node a place.",
         PlanFault::End => "Set `end` to at most 68,719,476,736.",
         PlanFault::Quanta(_) =>
-            "Lower `end` to at most `offset` + 1,048,576 quanta of that node in ticks (786,432 for `sync = \"inside\"` with `prop` and `ps1` of 1).",
+            "Lower `end` to at most `offset` + 1,048,576 quanta of that node in ticks (786,432 for `sync = \"book\"` with `prop` and `ps1` of 1).",
         PlanFault::Queue(_) => "Keep at most 64 frames a node.",
         PlanFault::Disturbance(_) =>
             "Give at most 64 disturbances, each with `from` below `to` and near enough to each node.",

@@ -46,7 +46,7 @@ byte_in d = number_in largest_byte d
 
 -- where SYNC_SEG lies in a bit that an edge begins, as a word says it
 abbrev pub sync_named : List ℕ → Option SyncRules
-sync_named text = if bytes_eq text (codes "after") then Some After else if bytes_eq text (codes "inside") then Some Book else None
+sync_named text = if bytes_eq text (codes "after") then Some After else if bytes_eq text (codes "book") then Some Book else None
 
 abbrev pub sync_in : Data → Option SyncRules
 sync_in d = option_and_then sync_named (as_str d)

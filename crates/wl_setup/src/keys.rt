@@ -25,7 +25,7 @@ pub enum Kind {
     Bytes,
     /// An array of tables.
     Tables,
-    /// `"after"` or `"inside"`.
+    /// `"after"` or `"book"`.
     Sync,
 }
 

@@ -92,7 +92,7 @@ fn sync_named(text: &str) -> Option<SyncRules>
 {
     if text == "after" {
         Some(SyncRules::After)
-    } else if text == "inside" {
+    } else if text == "book" {
         Some(SyncRules::Book)
     } else {
         None

@@ -178,9 +178,9 @@ impl Watched {
         if self.next != t {
             return None;
         }
-        let queue = plan.nodes.as_slice()[i].queue.as_slice();
+        let setup = &plan.nodes.as_slice()[i];
         let level = level_of(self.line().value);
-        let sync = self.node.quantum(queue, self.quanta, level);
+        let sync = self.node.quantum(setup, self.quanta, level);
         self.shown = self.node.shown();
         self.quanta += 1;
         sync
