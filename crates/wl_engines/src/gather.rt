@@ -8,7 +8,7 @@ ghost use Rattle.wl_engines.specs.Gather.{Gathers, state_of_all};
 use crate::fault::RunFault;
 use std::alloc::{AllocError, Global};
 use wl_device::Source;
-use wl_record::{Came, RecordReader};
+use wl_record::{Came, RecordReader, nothing_read_law};
 use wl_record_core::{MOST_NODES, Record};
 use wl_replica::Rows;
 
@@ -33,6 +33,7 @@ pub fn gather<R: Source>(alloc: Global, reader: &mut R) -> Result<Rows, RunFault
 {
     let mut rows = Rows::new(alloc, MOST_NODES)?;
     let mut input = RecordReader::new(alloc)?;
+    nothing_read_law(reader);
     let mut batch = Vec::new(alloc);
     'pieces: loop {
         batch.clear();

@@ -8,4 +8,3 @@ mod QuickLemmas
 mod ReadLemmas
 mod Rows
 mod WriteLemmas
-pub mod Callers

@@ -19,7 +19,7 @@ use Rattle.wl_device.specs.Devices.{Answer, moved, ended, again, failed, moved_b
 use Rattle.wl_device.specs.Readings.{at_end, broken_off, going_on}
 use Rattle.wl_record.specs.Faults.{HasNoNewline, Stands, IsFirstFault}
 use Rattle.wl_device.specs.Readings.{ReadsBy}
-use Rattle.wl_record.specs.Reading.{Progress, HasRead, RecordsOf, FaultOf}
+use Rattle.wl_record.specs.Reading.{Progress, HasRead, RecordsOf, FaultOf, beginning}
 use Rattle.wl_record.specs.Parsing.{TakesLines, TakesPiece, StopsAt, IsPieceFault, stop_fault, past_len}
 use Rattle.wl_device.proofs.Runs.{run_more, goes_more, moved_bytes-append, all_append}
 
@@ -262,3 +262,14 @@ piece_bytes old new have n most within len kept fits =
 
 pub past_means : (bytes : ℕ) (past : Bool) → past ≡ nat_lt MOST_BYTES bytes → bytes ≤ MOST_BYTES + 1 → (past ≡ true → bytes ≡ most_record_bytes + 1) × (past ≡ false → bytes ≤ most_record_bytes)
 past_means bytes past is few = ((λ set. omega (arith, few, most_record_bytes-is, ltb-true MOST_BYTES bytes (sym is ∙ set))), (λ unset. omega (arith, most_record_bytes-is, ltb-false MOST_BYTES bytes (sym is ∙ unset))))
+
+-- before the first call nothing has been read
+pub nothing_read : {S : Type 0} (gives : S → Answer → S → Type 0) (s : S) → HasRead gives s [] [] beginning s
+nothing_read gives s = record {
+  run = refl;
+  goes = tt;
+  calls = refl;
+  bytes = refl;
+  lines = refl;
+  stands = record { front = []; parts = refl; lines = refl; within = tt; one_line = tt; short_line = omega arith; short_text = omega arith };
+}

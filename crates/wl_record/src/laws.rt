@@ -1,5 +1,5 @@
 //! Laws of record text: each is the contract of a function that does nothing.
-ghost use Rattle.std.specs.Prelude.{◌≡◌, ◌++◌, ◌↔◌, List, ℕ, Result};
+ghost use Rattle.std.specs.Prelude.{◌≡◌, ◌++◌, ◌↔◌, List, [], ℕ, Result};
 ghost use Rattle.wl_record_core.specs.declared.record.Record.{Record};
 ghost use Rattle.wl_record.specs.declared.fault.TextFault.{TextFault};
 ghost use Rattle.wl_record_core.specs.Within.{IsWithin};
@@ -7,6 +7,9 @@ ghost use Rattle.wl_record_core.specs.Text.{words_of, text_of};
 ghost use Rattle.wl_record.specs.Grammar.{Spells, IsText};
 ghost use Rattle.wl_device.specs.Readings.{Ending, going_on};
 ghost use Rattle.wl_record.specs.Faults.{IsFirstFault, IsTextAnswer};
+ghost use Rattle.wl_record.specs.Reading.{HasRead, beginning};
+
+use wl_device::Source;
 
 /// Law: some bytes and their ending have at most one answer: the records of a text, or one fault.
 pub fn one_answer_law()
@@ -28,4 +31,9 @@ pub fn spelling_law()
 /// Law: the text of records is that in which they are written, and no other.
 pub fn text_law()
     ensures { (text : List ℕ) (rs : List Record) → IsText text rs → text ≡ text_of rs }
+{}
+
+/// Law: where a reading begins no call was made, and no record and no part of a line has come.
+pub fn nothing_read_law<R: Source>(_reader: &R)
+    ensures { HasRead R.gives _reader.now [] [] beginning _reader.now }
 {}

@@ -12,7 +12,7 @@ mod tests;
 mod write;
 
 pub use fault::TextFault;
-pub use laws::{fault_stays_law, one_answer_law, spelling_law, text_law};
+pub use laws::{fault_stays_law, nothing_read_law, one_answer_law, spelling_law, text_law};
 pub use limits::{MOST_BYTES, MOST_LINE};
 pub use read::{Came, RecordReader, read_records};
 pub use wl_device::{

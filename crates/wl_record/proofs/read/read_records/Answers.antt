@@ -2,7 +2,7 @@ use Rattle.std.proofs.Common.{[], sym, subst, List, arith}
 use Rattle.wl_record_core.specs.declared.record.Record.{Record}
 use Rattle.wl_device.proofs.Runs.{nothing_given}
 use Rattle.wl_record.specs.Reading.{HasRead, Progress}
-use Rattle.wl_record.proofs.Callers.{nothing_read}
+use Rattle.wl_record.proofs.ReadLemmas.{nothing_read}
 use Rattle.wl_record.proofs.read.read_records.Goals as goal
 
 pub returns-in_default-clause-fault : goal.returns-in_default-clause-fault

@@ -5,12 +5,13 @@ use Rattle.wl_level.specs.declared.Level.{Level}
 use Rattle.wl_level.specs.Levels.{level_of}
 use Rattle.wl_clock.specs.Timing.{tick_of}
 use Rattle.wl_node.specs.declared.setup.NodeSetup.{NodeSetup}
+use Rattle.wl_node.specs.History.{history_of}
 use Rattle.wl_plan.specs.declared.plan.Plan.{Plan}
 use Rattle.wl_plan.specs.Line.{found}
 use Rattle.wl_plan.specs.PlanLine.{line_of, setup_at}
 use Rattle.wl_plan.specs.Simulation.{level, seen}
 use Rattle.wl_trace.specs.Rerun.{IsRerun}
-use Rattle.wl_trace.specs.Synced.{syncs_of, with_next}
+use Rattle.wl_trace.specs.Synced.{sync_next, syncs_of, with_next}
 use Rattle.wl_trace.proofs.Callers.{syncs_more}
 use Rattle.wl_views.proofs.Going.{next_after, next_now, setup_is}
 use Rattle.wl_views.proofs.Seeing.{few_more, inside_more, seen_more}
@@ -50,14 +51,16 @@ returns-clause-seen c =
     let is : found (line_of plan) (level (line_of plan)) i (tick_of (setup_at plan i).clock k) ≡ c.line.result.value =
     ap (found (line_of plan) (level (line_of plan)) i) begins ∙ line.same t (omega arith) line.later
     in
-    let sees : seen (line_of plan) i k ++ c.level_of-level.result ∷ [] ≡ seen (line_of plan) i (k + 1) =
+    let levels : List Level = seen (line_of plan) i k in
+    let sees : levels ++ c.level_of-level.result ∷ [] ≡ seen (line_of plan) i (k + 1) =
     ap (λ (l : Level). seen (line_of plan) i k ++ l ∷ []) (c.level_of-level.ensures ∙ ap level_of (sym is))
     ∙ sym (seen_more c.checked_is_sound.ensures c.simulation_laws.ensures plan c.requires.checked i b k)
     in
     let node : IsRerun (setup_at plan i) (seen (line_of plan) i (k + 1)) c.quantum-sync.new.self =
     subst (λ (ls : List Level). IsRerun (setup_at plan i) ls c.quantum-sync.new.self) sees
-    (c.quantum-sync.ensures.run (setup_at plan i) (seen (line_of plan) i k) (sym (c.as_slice-queue.ensures ∙ ap (λ (s : NodeSetup). s.queue) setup))
-    (c.simulation_laws.ensures.length_seen (line_of plan) i k) old.runs.node)
+    (subst (λ (s : NodeSetup). IsRerun s (levels ++ c.level_of-level.result ∷ []) c.quantum-sync.new.self) setup
+    (c.quantum-sync.ensures.run levels (c.simulation_laws.ensures.length_seen (line_of plan) i k)
+    (subst (λ (s : NodeSetup). IsRerun s levels c.args.self.now.node) (sym setup) old.runs.node)))
     in
     record {
       runs = record {
@@ -88,8 +91,11 @@ returns-clause-syncs c =
     in
     let l : Level = c.level_of-level.result in
     let levels : List Level = seen (line_of plan) i k in
+    let setup = setup_is plan c.as_slice.result.now i c.index-as_slice-i.result c.as_slice.ensures b in
     ap (syncs_of (setup_at plan i)) (seen_more c.checked_is_sound.ensures c.simulation_laws.ensures plan c.requires.checked i b k
     ∙ ap (λ (x : Level). levels ++ x ∷ []) (ap level_of is ∙ sym c.level_of-level.ensures))
     ∙ syncs_more (setup_at plan i) levels l
     ∙ ap (with_next (syncs_of (setup_at plan i) levels))
-    (sym (c.quantum-sync.ensures.sync (setup_at plan i) levels (c.simulation_laws.ensures.length_seen (line_of plan) i k) old.runs.node))
+    (sym (c.quantum-sync.ensures.sync levels (c.simulation_laws.ensures.length_seen (line_of plan) i k)
+    (subst (λ (s : NodeSetup). IsRerun s levels c.args.self.now.node) (sym setup) old.runs.node)
+    ∙ ap (λ (s : NodeSetup). sync_next s (history_of s levels) l) setup))
