@@ -20,7 +20,7 @@ use std::thread::{Promise, PromisedHandle, Scope, Threads};
 use wl_group::Group;
 use wl_level::Listed;
 use wl_plan::Plan;
-use wl_serial::{NodeOutcome, Outcome, node_outcome};
+use wl_serial::{NodeOutcome, Outcome, node_outcome, outcome_node_by_node};
 
 /// What a worker's thread promises of the group that it hands back.
 #[derive(Drop)]
@@ -322,6 +322,7 @@ fn outcome_from(
     requires kept { EndsKept plan.now workers ends.now }
     ensures { IfOk result (λ outcome. outcome ≡ outcome_of plan.now) }
 {
+    outcome_node_by_node();
     let mut nodes = Listed::new(alloc);
     for i in 0..plan.topology.nodes() {
         let outcome = node_from(alloc, plan, workers, ends, i)?;
