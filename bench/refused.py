@@ -156,8 +156,12 @@ CAUSES = {
 ESCAPES = {"\b": "\\b", "\t": "\\t", "\n": "\\n", "\f": "\\f", "\r": "\\r"}
 
 
+# Control characters, separators of lines, marks of writing direction
+def steers(c): return c < 32 or 127 <= c < 160 or c in (0x61C, 0x200E, 0x200F) or 0x2028 <= c <= 0x202E or 0x2066 <= c <= 0x2069
+
+
 def shown(text):
-    return "".join(ESCAPES.get(c) or (f"\\u{ord(c):04X}" if ord(c) < 32 or ord(c) == 127 else c) for c in text)
+    return "".join(ESCAPES.get(c) or (f"\\u{ord(c):04X}" if steers(ord(c)) else c) for c in text)
 
 
 @functools.cache

@@ -132,7 +132,7 @@ first_version_is = refl
 version_of_rates_is : version_of_rates ≡ 2
 version_of_rates_is = refl
 
--- control characters are shown by TOML's escapes, and no other letter is
+-- control characters, separators of lines and marks of direction are shown by TOML's escapes, and no other letter is
 shown_escape : shown_letter 27 ≡ codes "\\u001B"
 unfolding digits encode_utf8
 shown_escape = refl
@@ -152,6 +152,78 @@ shown_delete = refl
 shown_last_control : shown_letter 31 ≡ codes "\\u001F"
 unfolding digits encode_utf8
 shown_last_control = refl
+
+shown_c1 : shown_letter 128 ≡ codes "\\u0080"
+unfolding digits encode_utf8
+shown_c1 = refl
+
+shown_next_line : shown_letter 133 ≡ codes "\\u0085"
+unfolding digits encode_utf8
+shown_next_line = refl
+
+shown_introducer : shown_letter 155 ≡ codes "\\u009B"
+unfolding digits encode_utf8
+shown_introducer = refl
+
+shown_last_c1 : shown_letter 159 ≡ codes "\\u009F"
+unfolding digits encode_utf8
+shown_last_c1 = refl
+
+shown_arabic_mark : shown_letter 1564 ≡ codes "\\u061C"
+unfolding digits encode_utf8
+shown_arabic_mark = refl
+
+shown_left_to_right : shown_letter 8206 ≡ codes "\\u200E"
+unfolding digits encode_utf8
+shown_left_to_right = refl
+
+shown_right_to_left : shown_letter 8207 ≡ codes "\\u200F"
+unfolding digits encode_utf8
+shown_right_to_left = refl
+
+shown_line_separator : shown_letter 8232 ≡ codes "\\u2028"
+unfolding digits encode_utf8
+shown_line_separator = refl
+
+shown_override : shown_letter 8238 ≡ codes "\\u202E"
+unfolding digits encode_utf8
+shown_override = refl
+
+shown_isolate : shown_letter 8294 ≡ codes "\\u2066"
+unfolding digits encode_utf8
+shown_isolate = refl
+
+shown_last_isolate : shown_letter 8297 ≡ codes "\\u2069"
+unfolding digits encode_utf8
+shown_last_isolate = refl
+
+shown_no_break_space : shown_letter 160 ≡ 194 ∷ 160 ∷ []
+unfolding digits encode_utf8
+shown_no_break_space = refl
+
+shown_before_marks : shown_letter 8205 ≡ 226 ∷ 128 ∷ 141 ∷ []
+unfolding digits encode_utf8
+shown_before_marks = refl
+
+shown_after_marks : shown_letter 8208 ≡ 226 ∷ 128 ∷ 144 ∷ []
+unfolding digits encode_utf8
+shown_after_marks = refl
+
+shown_before_separators : shown_letter 8231 ≡ 226 ∷ 128 ∷ 167 ∷ []
+unfolding digits encode_utf8
+shown_before_separators = refl
+
+shown_after_override : shown_letter 8239 ≡ 226 ∷ 128 ∷ 175 ∷ []
+unfolding digits encode_utf8
+shown_after_override = refl
+
+shown_before_isolates : shown_letter 8293 ≡ 226 ∷ 129 ∷ 165 ∷ []
+unfolding digits encode_utf8
+shown_before_isolates = refl
+
+shown_after_isolates : shown_letter 8298 ≡ 226 ∷ 129 ∷ 170 ∷ []
+unfolding digits encode_utf8
+shown_after_isolates = refl
 
 shown_space : shown_letter 32 ≡ codes " "
 unfolding digits encode_utf8

@@ -47,7 +47,8 @@ impl fmt::Debug for Text {
 #[derive(Clone, Copy)]
 struct Letter(char);
 
-/// A control character (below 32, or 127) is shown as TOML 1.0 escapes it in a basic string, any other as it is.
+/// A letter that could steer a terminal is shown as TOML 1.0 escapes it in a basic string, any other as it is: the control characters
+/// (below 32, 127 to 159), the separators of lines, and the marks of writing direction.
 impl fmt::Display for Letter {
     ghost use Rattle.std.specs.Prelude.{Some};
     ghost use Rattle.wl_setup.specs.Shown.{shown_letter};
@@ -63,16 +64,17 @@ impl fmt::Display for Letter {
             10 => write!(f, "\\n"),
             12 => write!(f, "\\f"),
             13 => write!(f, "\\r"),
-            0..=31 | 127 => {
-                let (high, low) = (number / 16, number % 16);
-                write!(f, "\\u00{high:X}{low:X}")
+            0..=31 | 127..=159 | 1564 | 8206..=8207 | 8232..=8238 | 8294..=8297 => {
+                let (first, second) = (number / 4096, number / 256 % 16);
+                let (third, fourth) = (number / 16 % 16, number % 16);
+                write!(f, "\\u{first:X}{second:X}{third:X}{fourth:X}")
             }
             _ => write!(f, "{letter}"),
         }
     }
 }
 
-/// The text in one line: no control character of it is shown as it is.
+/// The text in one line: no letter of it that could steer a terminal is shown as it is.
 impl fmt::Display for Text {
     ghost use Rattle.std.specs.Prelude.{Some};
     ghost use Rattle.wl_setup.specs.Shown.{shown};
