@@ -16,7 +16,7 @@ use Rattle.wl_machine.specs.Stretch.Flag.{ActiveFlag, OverloadFlag, PassiveFlag}
 use Rattle.wl_machine.specs.Stretch.Sort.{Integration, Idle, Framing, Flagging, Waiting, Delimiting, Intermission, Suspension, OffBus}
 use Rattle.wl_machine.specs.Stretch.Ended.{Sent, Received}
 use Rattle.wl_machine.specs.Flags.{error_of, error_flag, fails, dominant_flag, flagging, waiting, delimiting}
-use Rattle.wl_machine.specs.Quiet.{integration, idle, idle_on, intermission, joined, after_intermission, suspension, off_bus}
+use Rattle.wl_machine.specs.Quiet.{integration, idle, idle_on, intermission, begun_head, after_intermission, suspension, off_bus}
 use Rattle.wl_machine.specs.Frames.{stuffed_end, frame_role, differing, unanswered, sent_tail, received_tail, framing_sent, framing_received, framing_by}
 use Rattle.wl_machine.specs.States.{stretch_by}
 use Rattle.wl_machine.specs.Judged.{judged_by, judged, head_of}
@@ -57,11 +57,11 @@ after_head Tx Passive given = inr refl
 after_head Tx Off given = free_head given
 after_head Rx mode given = free_head given
 
-joined_head : (role : Role) (mode : Mode) (given : Option Content) → (head_of (Framing (joined role mode given)) ≡ given) ⊎ (head_of (Framing (joined role mode given)) ≡ None)
-joined_head Tx Active given = inl refl
-joined_head Tx Passive given = inr refl
-joined_head Tx Off given = inl refl
-joined_head Rx mode given = inl refl
+begun_head_is : (role : Role) (mode : Mode) (given : Option Content) → (head_of (Framing (begun_head role mode given)) ≡ given) ⊎ (head_of (Framing (begun_head role mode given)) ≡ None)
+begun_head_is Tx Active given = inl refl
+begun_head_is Tx Passive given = inr refl
+begun_head_is Tx Off given = inl refl
+begun_head_is Rx mode given = inl refl
 
 no_head : (given : Option Content) (sort : Sort) → head_of sort ≡ None → (head_of sort ≡ given) ⊎ (head_of sort ≡ None)
 no_head given sort h = inr h
@@ -78,7 +78,7 @@ module _ (x : Sampled) where
   idle_all = search (keeps_if None x.head, keeps_begins None x.head, idle_keeps, no_head) depth 12
 
   intermission_keeps : (role : Role) (own : List Level) → Keeps None x.head (intermission role own x)
-  intermission_keeps role own = search (keeps_if None x.head, keeps_begins None x.head, keeps_on None x.head, after_head, joined_head, no_head) depth 12
+  intermission_keeps role own = search (keeps_if None x.head, keeps_begins None x.head, keeps_on None x.head, after_head, begun_head_is, no_head) depth 12
 
   suspension_keeps : (own : List Level) → Keeps None x.head (suspension own x)
   suspension_keeps own = search (keeps_if None x.head, keeps_begins None x.head, keeps_on None x.head, free_head, no_head) depth 12

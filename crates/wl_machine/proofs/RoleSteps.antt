@@ -19,7 +19,7 @@ use Rattle.wl_machine.specs.Stretch.Sort.{Integration, Idle, Framing, Flagging, 
 use Rattle.wl_machine.specs.Stretch.Input.{Sample, SwitchedOff}
 use Rattle.wl_machine.specs.Stretch.Ended.{Sent, Received}
 use Rattle.wl_machine.specs.Flags.{error_of, flag_bit_of, long_of, error_flag, fails, dominant_flag, flagging, waiting, delimiting, is_after_flag}
-use Rattle.wl_machine.specs.Quiet.{integration, idle, idle_on, intermission, joined, after_intermission, suspension, off_bus}
+use Rattle.wl_machine.specs.Quiet.{integration, idle, idle_on, intermission, begun_head, after_intermission, suspension, off_bus}
 use Rattle.wl_machine.specs.Frames.{stuffed_end, sent_at, frame_role, differing, unanswered, sent_tail, received_tail, framing_sent, framing_received, framing_by}
 use Rattle.wl_machine.specs.States.{stretch_by}
 use Rattle.wl_machine.specs.Judged.{judged_by, judged, or_next, stretch_after, stretch_of, role_by, role_of}
@@ -115,11 +115,11 @@ framed_begun : (role : Role) (level : Level) (head : Option Content) → IsBegun
 framed_begun role level None = received_begun role (level ∷ [])
 framed_begun role level (Some head) = record { goes = role_first head level; plain = refl }
 
-joined_begun : (role was : Role) (mode : Mode) (head : Option Content) (level : Level) → IsBegun role true (stretch_by (Framing (joined was mode head)) (level ∷ []))
-joined_begun role Tx Active head level = framed_begun role level head
-joined_begun role Tx Passive head level = framed_begun role level None
-joined_begun role Tx Off head level = framed_begun role level head
-joined_begun role Rx mode head level = framed_begun role level head
+begun_head_begins : (role was : Role) (mode : Mode) (head : Option Content) (level : Level) → IsBegun role true (stretch_by (Framing (begun_head was mode head)) (level ∷ []))
+begun_head_begins role Tx Active head level = framed_begun role level head
+begun_head_begins role Tx Passive head level = framed_begun role level None
+begun_head_begins role Tx Off head level = framed_begun role level head
+begun_head_begins role Rx mode head level = framed_begun role level head
 
 overload_begun : (role : Role) → IsBegun role false (stretch_by (Flagging OverloadFlag role) [])
 overload_begun role = record { goes = refl; plain = refl }
@@ -170,8 +170,8 @@ module _ (x : Sampled) where
   off_roles own = search (roles_if Rx true, roles_begins Rx true, roles_on Rx true, nothing, recovered, free_begun) depth 12
 
   third_roles : (role was : Role) → Roles role true
-      (cond (is_dominant x.level) (begins happens.Nothing (Framing (joined was x.mode x.head)) (x.level ∷ [])) (begins happens.Nothing (after_intermission was x.mode x.head) []))
-  third_roles role was = search (roles_if role true, roles_begins role true, nothing, joined_begun, after_begun) depth 12
+      (cond (is_dominant x.level) (begins happens.Nothing (Framing (begun_head was x.mode x.head)) (x.level ∷ [])) (begins happens.Nothing (after_intermission was x.mode x.head) []))
+  third_roles role was = search (roles_if role true, roles_begins role true, nothing, begun_head_begins, after_begun) depth 12
 
   early_roles : (role : Role) → Roles role false
       (cond (is_dominant x.level) (begins happens.Nothing (Flagging OverloadFlag role) []) (continues happens.Nothing))

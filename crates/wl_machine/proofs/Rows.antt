@@ -15,7 +15,7 @@ use Rattle.wl_machine.specs.Stretch.Flag.{PassiveFlag}
 use Rattle.wl_machine.specs.Stretch.Ended.{Sent, Received}
 use Rattle.wl_machine.specs.Stretch.Input.{Sample, SwitchedOff}
 use Rattle.wl_machine.specs.Judged.{awaits_start, judged, stretch_of, stretch_after, drive_of, role_of}
-use Rattle.wl_machine.specs.Quiet.{joined}
+use Rattle.wl_machine.specs.Quiet.{begun_head}
 use Rattle.wl_machine.specs.Rest.{rest_by, rest_of}
 
 abbrev heard : Level → Sampled
@@ -326,7 +326,7 @@ joins : stretch_after (flagged 10) (Sample (record { level = Dominant; head = ze
 unfolding bits_of number_bits
 joins = refl
 
-joins_not : joined Tx Passive zero_frame ≡ None
+joins_not : begun_head Tx Passive zero_frame ≡ None
 joins_not = refl
 
 -- who awaits a start of frame: while it integrates, behind the first bit of an intermission, and up to its own start of frame

@@ -35,15 +35,15 @@ after_intermission role mode head = free head
 
 -- A dominant third bit of the intermission is taken for the start of frame of the head, if there is one, of which the bit after that comes next; but not after
 -- its own frame by an error passive transmitter, that would be suspended (section 3.2.5, intermission; ISO 11898-1)
-abbrev pub joined : Role → Mode → Option Content → Option Content
-joined Tx modes.Passive head = None
-joined role mode head = head
+abbrev pub begun_head : Role → Mode → Option Content → Option Content
+begun_head Tx modes.Passive head = None
+begun_head role mode head = head
 
 -- Three recessive bits. A dominant one of the first two is an overload, and the third is a start of frame (sections 3.2.4 and 3.2.5).
 abbrev pub intermission : Role → List Level → Sampled → Judgement
 intermission role own x =
     if length own == 2
-    then (if is_dominant x.level then begins happens.Nothing (Framing (joined role x.mode x.head)) (x.level ∷ []) else begins happens.Nothing (after_intermission role x.mode x.head) [])
+    then (if is_dominant x.level then begins happens.Nothing (Framing (begun_head role x.mode x.head)) (x.level ∷ []) else begins happens.Nothing (after_intermission role x.mode x.head) [])
     else (if is_dominant x.level then begins happens.Nothing (Flagging OverloadFlag role) [] else continues happens.Nothing)
 
 -- eight recessive bits, or a frame that another node begins (section 3.2.5, suspend transmission)

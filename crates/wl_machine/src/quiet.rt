@@ -6,7 +6,7 @@ ghost use Rattle.wl_level.specs.declared.Level.{Level};
 ghost use Rattle.wl_level.specs.Places.{run_at_end};
 ghost use Rattle.wl_confine.specs.declared.Mode.{Mode};
 ghost use Rattle.wl_machine.specs.Stretch.Sort.{Integration as IntegrationSort, Idle as IdleSort, Framing as FramingSort, Intermission as IntermissionSort, Suspension as SuspensionSort, OffBus as OffBusSort};
-ghost use Rattle.wl_machine.specs.Quiet.{joined};
+ghost use Rattle.wl_machine.specs.Quiet.{begun_head};
 ghost use Rattle.wl_machine.specs.States.{IsIn, Meets, IsCount, IsBusOff, stretch_by, sample_of};
 
 use crate::progress::{Progress, Step, plain};
@@ -80,7 +80,8 @@ impl Progress {
     /// The third bit of an intermission is dominant: the start of frame of the head, if there is one, and else of a frame that
     /// the node receives. A passive transmitter takes no part with its next frame yet.
     fn begun_by_others(&mut self, role: Role, head: Option<&Frame>, mode: Mode)
-        ensures { IsIn self.new (stretch_by (FramingSort (joined role mode (option_copied head.entry))) (Level.Dominant ∷ [])) }
+        ensures { IsIn self.new
+            (stretch_by (FramingSort (begun_head role mode (option_copied head.entry))) (Level.Dominant ∷ [])) }
     {
         match head {
             Some(frame) if role != Role::Tx || mode != Mode::Passive => self.join(frame),

@@ -6,7 +6,7 @@ use Rattle.wl_level.specs.declared.Level.{Level}
 use Rattle.wl_level.specs.Levels.{is_dominant}
 use Rattle.wl_segments.specs.declared.SyncRules.TheVariants.{After}
 use Rattle.wl_segments.specs.Lengths.{Lengths, sample_at, bit_quanta, found_by, found_at}
-use Rattle.wl_sync.specs.Edges.{Seen, is_hard, looks, restarts_at, edge_counts, edge_restarts, phase_error, longer_by}
+use Rattle.wl_sync.specs.Edges.{Seen, is_hard_edge, looks, restarts_at, edge_counts, edge_restarts, phase_error, longer_by}
 use Rattle.wl_sync.specs.Bits.{Bit, due_bit, edge_bit, edge_bit_by, going_on}
 use Rattle.wl_sync.specs.Running.{Running}
 use Rattle.wl_sync.specs.Steps.{running_due, running_edge, running_edge_by, running_sync, running_restart, running_moved, running_over, running_placed}
@@ -46,7 +46,7 @@ module _ (l : Lengths) (h : l.sync ≡ After) where
       && not (nat_lt 0 k && nat_lt k (sample_at l) && x.driving && not x.idle))
   counts_as_before x before sample k =
       ap (λ s. is_dominant x.level && not (is_dominant before) && not (is_dominant sample) && looks s (sample_at l) k
-      && not (nat_lt (found_at l) k && nat_le k (sample_at l) && x.driving && not (is_hard s x))) h
+      && not (nat_lt (found_at l) k && nat_le k (sample_at l) && x.driving && not (is_hard_edge s x))) h
       ∙ ap (λ n. is_dominant x.level && not (is_dominant before) && not (is_dominant sample) && not (k == sample_at l)
       && not (nat_lt n k && nat_le k (sample_at l) && x.driving && not x.idle)) found_none
       ∙ late_apart (is_dominant x.level && not (is_dominant before) && not (is_dominant sample)) (nat_lt 0 k) x.driving (not x.idle) k (sample_at l)
@@ -57,7 +57,7 @@ module _ (l : Lengths) (h : l.sync ≡ After) where
       ∙ ap (λ n. cond (nat_lt (sample_at l) k) (pos k -ℤ pos (bit_quanta l)) (pos n)) (place_same k)
 
   restarts_as_before : (x : Seen) (k : ℕ) → edge_restarts l x k ≡ (x.idle || (nat_lt (sample_at l) k && nat_le (bit_quanta l - k) l.sjw))
-  restarts_as_before x k = ap (λ s. restarts_at l (is_hard s x) k) h ∙ ap (λ n. x.idle || (nat_lt (sample_at l) k && nat_le (n - k) l.sjw)) quanta_same
+  restarts_as_before x k = ap (λ s. restarts_at l (is_hard_edge s x) k) h ∙ ap (λ n. x.idle || (nat_lt (sample_at l) k && nat_le (n - k) l.sjw)) quanta_same
 
   longer_as_before : (k : ℕ) → (k == sample_at l) ≡ false → longer_by l (Some k) ≡ cond (nat_lt k (sample_at l)) (min k l.sjw) 0
   longer_as_before k e =

@@ -12,7 +12,7 @@ use Rattle.wl_level.proofs.Callers.{first_cong, first_not, none_first, or_at_her
 use Rattle.wl_segments.specs.declared.SyncRules.{SyncRules}
 use Rattle.wl_segments.specs.declared.SyncRules.TheVariants.{After, Book}
 use Rattle.wl_segments.specs.Lengths.{Lengths, sample_at, bit_quanta, found_at}
-use Rattle.wl_sync.specs.Edges.{Seen, is_hard, looks, edge_counts, edge_restarts, phase_error, longer_by, shorter_by}
+use Rattle.wl_sync.specs.Edges.{Seen, is_hard_edge, looks, edge_counts, edge_restarts, phase_error, longer_by, shorter_by}
 use Rattle.wl_sync.specs.Bits.{Bit, unseen, seen_at_place, previous_level, sample_before, is_edge, sync_place, sample_place, end_place, last_level, last_sample, opened, begun_bit, due_bit, edge_bit, edge_bit_by, longer, is_sync, is_restart, going_on, placed, bit_after, first_quanta, bit_of, beat_at, sync_at, beat_of, sync_of}
 use Rattle.wl_sync.specs.Running.{Running, running, clock_after}
 use Rattle.wl_sync.specs.Steps.{end_of, running_due, running_edge, running_edge_by, running_sync, running_restart, running_moved, running_first, running_over, running_placed, running_after, running_beat, running_answer}
@@ -258,7 +258,7 @@ module _ (l : Lengths) (bit : Bit) (x : Seen) where
       ∙ ap (λ r. cond (running_restart (running l bit) x || r.quanta == 1) Start (cond (length bit.seen == sample_at l + r.longer) (Sample x.level) Plain)) placed_is
 
   answer_is : sync_at l bit x ≡ running_answer (running l bit) x
-  answer_is = ap (λ b. cond b (Some (cond (is_hard l.sync x) Hard (Error (phase_error l (length bit.seen))))) None) (is_sync_is l bit x)
+  answer_is = ap (λ b. cond b (Some (cond (is_hard_edge l.sync x) Hard (Error (phase_error l (length bit.seen))))) None) (is_sync_is l bit x)
 
 -- the bit that is due
 due_cond : (l : Lengths) (bit : Bit) (b : Bool)

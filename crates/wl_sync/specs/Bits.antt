@@ -12,7 +12,7 @@ use Rattle.wl_sync.specs.declared.Sync.TheVariants.{Hard, Error}
 use Rattle.wl_sync.specs.declared.Beat.{Beat}
 use Rattle.wl_sync.specs.declared.Beat.TheVariants.{Plain, Sample, Start}
 pub use Rattle.wl_sync.specs.Edges.{Seen}
-use Rattle.wl_sync.specs.Edges.{is_hard, edge_counts, edge_restarts, phase_error, longer_by, shorter_by}
+use Rattle.wl_sync.specs.Edges.{is_hard_edge, edge_counts, edge_restarts, phase_error, longer_by, shorter_by}
 
 -- how a bit begins: by a synchronisation or not, and the last sample and the last level before it
 pub record Opening : Type 0 where
@@ -154,7 +154,7 @@ beat_at l bit x =
 -- how the quantum x synchronises that bit
 abbrev pub sync_at : Lengths → Bit → Seen → Option Sync
 sync_at l bit x =
-    if is_sync l bit x then Some (if is_hard l.sync x then Hard else Error (phase_error l (length bit.seen))) else None
+    if is_sync l bit x then Some (if is_hard_edge l.sync x then Hard else Error (phase_error l (length bit.seen))) else None
 
 -- the beat at x, after all that was seen before
 abbrev pub beat_of : Lengths → List Seen → Seen → Beat

@@ -19,9 +19,9 @@ seen_as level idle awaits driving = record { level = level; idle = idle; awaits 
 -- The node synchronises hard. By the book it does wherever the next edge may be a start of frame, up to its own: all stations synchronise to that of the
 -- one that began first (Bosch CAN 2.0 part B, sections 3.2.1 and 10, synchronization rule 3; ISO 11898-1, hard synchronisation also while integrating and in
 -- the interframe space but for its first bit). Else on an idle bus alone (this project's profile).
-abbrev pub is_hard : SyncRules → Seen → Bool
-is_hard After x = x.idle
-is_hard Book x = x.awaits && not x.driving
+abbrev pub is_hard_edge : SyncRules → Seen → Bool
+is_hard_edge After x = x.idle
+is_hard_edge Book x = x.awaits && not x.driving
 
 -- Whether the quantum at place k looks for an edge, where the sample is at this place. Where an edge lies in the quantum that finds it, each does
 -- but the sample's (this project's profile). Where it lies in the quantum before, that quantum is of the same bit, so place 0 doesn't: the bit
@@ -39,7 +39,7 @@ counts_at l level hard driving before sample k =
     && not (nat_lt (found_at l) k && nat_le k (sample_at l) && driving && not hard)
 
 abbrev pub edge_counts : Lengths → Seen → Level → Level → ℕ → Bool
-edge_counts l x before sample k = counts_at l x.level (is_hard l.sync x) x.driving before sample k
+edge_counts l x before sample k = counts_at l x.level (is_hard_edge l.sync x) x.driving before sample k
 
 -- the phase error: how far the edge is after the bit's start, or, past the sample, before the next one
 -- (Bosch CAN 2.0 part B, section 10)
@@ -52,7 +52,7 @@ abbrev pub restarts_at : Lengths → (hard : Bool) → ℕ → Bool
 restarts_at l hard k = hard || (nat_lt (sample_at l) k && nat_le (found_at l + bit_quanta l - k) l.sjw)
 
 abbrev pub edge_restarts : Lengths → Seen → ℕ → Bool
-edge_restarts l x k = restarts_at l (is_hard l.sync x) k
+edge_restarts l x k = restarts_at l (is_hard_edge l.sync x) k
 
 -- A late edge lengthens PHASE_SEG1 by the phase error, and by the jump width at most (Bosch CAN 2.0 part B, section 10). Where it lies in the quantum before the one
 -- that finds it, that of the last quantum before the sample point is late too, and then its finder is no sample.

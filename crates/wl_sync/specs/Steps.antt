@@ -8,7 +8,7 @@ use Rattle.wl_sync.specs.declared.Sync.{Sync}
 use Rattle.wl_sync.specs.declared.Sync.TheVariants.{Hard, Error}
 use Rattle.wl_sync.specs.declared.Beat.{Beat}
 use Rattle.wl_sync.specs.declared.Beat.TheVariants.{Plain, Sample, Start}
-use Rattle.wl_sync.specs.Edges.{Seen, is_hard, counts_at, edge_restarts, phase_error, longer_by, shorter_by}
+use Rattle.wl_sync.specs.Edges.{Seen, is_hard_edge, counts_at, edge_restarts, phase_error, longer_by, shorter_by}
 use Rattle.wl_sync.specs.Running.{Running}
 
 -- what holds of every bit clock
@@ -44,7 +44,7 @@ abbrev pub running_counts : Running → Level → (hard driving : Bool) → Bool
 running_counts r level hard driving = counts_at r.lengths level hard driving r.level r.sample r.quanta && not r.synced
 
 abbrev pub running_sync : Running → Seen → Bool
-running_sync r x = running_counts r x.level (is_hard r.lengths.sync x) x.driving
+running_sync r x = running_counts r x.level (is_hard_edge r.lengths.sync x) x.driving
 
 -- and begins a bit anew
 abbrev pub running_restart : Running → Seen → Bool
@@ -130,4 +130,4 @@ running_beat r x = beat_between (running_restart r x) r (running_placed r x) x.l
 -- and how it synchronises that bit
 abbrev pub running_answer : Running → Seen → Option Sync
 running_answer r x =
-    if running_sync r x then Some (if is_hard r.lengths.sync x then Hard else Error (phase_error r.lengths r.quanta)) else None
+    if running_sync r x then Some (if is_hard_edge r.lengths.sync x then Hard else Error (phase_error r.lengths r.quanta)) else None

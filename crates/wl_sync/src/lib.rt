@@ -88,7 +88,7 @@ impl Model for BitClock {
 }
 
 impl BitClock {
-    ghost use Rattle.wl_sync.specs.Edges.{Seen, seen_as, is_hard, longer_by, looks, phase_error, restarts_at, shorter_by};
+    ghost use Rattle.wl_sync.specs.Edges.{Seen, seen_as, is_hard_edge, longer_by, looks, phase_error, restarts_at, shorter_by};
     ghost use Rattle.wl_sync.specs.Bits.{beat_of, sync_of, before_sample, bit_of};
     ghost use Rattle.wl_sync.specs.Running.{clock_after, Follows};
     ghost use Rattle.wl_sync.specs.Skips.{finds_edge, free_quanta, steady_clock, IsPlain, IsRestingBit, IsUnmoved, IsUnsampled};
@@ -306,7 +306,7 @@ impl BitClock {
         ensures sync { Follows self.old (λ l past. result.1 ≡ sync_of l past (seen_as level idle awaits driving)) }
     {
         self.reach_edge();
-        let hard = self.is_hard(idle, awaits, driving);
+        let hard = self.is_hard_edge(idle, awaits, driving);
         let counts = self.is_sync(level, hard, driving);
         let sync = if counts { Some(self.sync(hard)) } else { None };
         let restarts = self.is_restart(counts, hard);
@@ -340,8 +340,8 @@ impl BitClock {
     }
 
     /// The node synchronises hard: on an idle bus, or by the book wherever the next edge may be a start of frame, up to its own.
-    fn is_hard(&self, idle: bool, awaits: bool, driving: bool) -> bool
-        ensures { (level : Level) → result ≡ is_hard self.now.lengths.sync (seen_as level idle awaits driving) }
+    fn is_hard_edge(&self, idle: bool, awaits: bool, driving: bool) -> bool
+        ensures { (level : Level) → result ≡ is_hard_edge self.now.lengths.sync (seen_as level idle awaits driving) }
     {
         match self.segments.sync() {
             SyncRules::After => idle,

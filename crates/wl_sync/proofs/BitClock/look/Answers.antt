@@ -1,7 +1,7 @@
 use Rattle.std.proofs.Common.{◌≡◌, ◌∙◌, ◌&&◌, cond, Some, None, ap, sym}
 use Rattle.std.proofs.lemmas.Bool.{and_parts, not-true}
 use Rattle.wl_sync.specs.declared.Sync.TheVariants.{Hard, Error}
-use Rattle.wl_sync.specs.Edges.{Seen, seen_as, is_hard, restarts_at, phase_error}
+use Rattle.wl_sync.specs.Edges.{Seen, seen_as, is_hard_edge, restarts_at, phase_error}
 use Rattle.wl_sync.specs.Running.{Running}
 use Rattle.wl_sync.specs.Steps.{running_counts, running_sync, running_restart, running_passed, running_placed, running_beat, running_answer, running_edge, running_after, beat_between}
 use Rattle.wl_sync.proofs.Cuts.{clock_next, beat_next, sync_next}
@@ -18,8 +18,8 @@ seen c = seen_as c.args.level c.args.idle c.args.awaits c.args.driving
 abbrev edge : goal.After-place-beat → Running
 edge c = c.reach_edge.new.self
 
-hard : (c : goal.After-place-beat) → c.is_hard-hard.result ≡ is_hard (edge c).lengths.sync (seen c)
-hard c = c.is_hard-hard.ensures c.args.level
+hard : (c : goal.After-place-beat) → c.is_hard_edge-hard.result ≡ is_hard_edge (edge c).lengths.sync (seen c)
+hard c = c.is_hard_edge-hard.ensures c.args.level
 
 counts : (c : goal.After-place-beat) → c.is_sync-counts.result ≡ running_sync (edge c) (seen c)
 counts c = c.is_sync-counts.ensures ∙ ap (λ b. running_counts (edge c) c.args.level b c.args.driving) (hard c)
@@ -27,7 +27,7 @@ counts c = c.is_sync-counts.ensures ∙ ap (λ b. running_counts (edge c) c.args
 restarts : (c : goal.After-place-beat) → c.is_restart-restarts.result ≡ running_restart (edge c) (seen c)
 restarts c =
     c.is_restart-restarts.ensures.restart
-    ∙ ap (λ b. b && restarts_at (edge c).lengths c.is_hard-hard.result (edge c).quanta) (counts c)
+    ∙ ap (λ b. b && restarts_at (edge c).lengths c.is_hard_edge-hard.result (edge c).quanta) (counts c)
     ∙ ap (λ b. running_sync (edge c) (seen c) && restarts_at (edge c).lengths b (edge c).quanta) (hard c)
 
 -- the bit in which an edge lies, after the quantum
@@ -53,10 +53,10 @@ answered c = elim c.if-counts.branch [
   | then-counts w ↦
       w.sync-is ∙ ap Some w.sync.ensures
       ∙ ap (λ b. Some (cond b Hard (Error (phase_error (edge c).lengths (edge c).quanta)))) (hard c)
-      ∙ ap (λ b. cond b (Some (cond (is_hard (edge c).lengths.sync (seen c)) Hard (Error (phase_error (edge c).lengths (edge c).quanta)))) None) (sym w.if-counts.true ∙ counts c)
+      ∙ ap (λ b. cond b (Some (cond (is_hard_edge (edge c).lengths.sync (seen c)) Hard (Error (phase_error (edge c).lengths (edge c).quanta)))) None) (sym w.if-counts.true ∙ counts c)
   | else-counts w ↦
       w.sync-is
-      ∙ ap (λ b. cond b (Some (cond (is_hard (edge c).lengths.sync (seen c)) Hard (Error (phase_error (edge c).lengths (edge c).quanta)))) None) (sym w.if-counts.false ∙ counts c)
+      ∙ ap (λ b. cond b (Some (cond (is_hard_edge (edge c).lengths.sync (seen c)) Hard (Error (phase_error (edge c).lengths (edge c).quanta)))) None) (sym w.if-counts.false ∙ counts c)
 ]
 
 pub returns-clause-sync : goal.returns-clause-sync
