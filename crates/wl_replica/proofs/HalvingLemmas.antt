@@ -4,10 +4,13 @@ use Rattle.std.proofs.lemmas.Bool.{cases_eq, lt-leb, le-leb, and_parts}
 use Rattle.wl_lattice.specs.declared.FlatWord.{FlatWord}
 use Rattle.wl_record_core.specs.Truth.{odd}
 use Rattle.wl_record_core.proofs.Callers.{odd_is}
-use Rattle.wl_replica.specs.Known.{tick_in, is_run, after_edges, ticks, ticks_from}
+use Rattle.wl_record_core.specs.Limits.{most_edges}
+use Rattle.wl_replica.specs.Slots.{Contents}
+use Rattle.wl_replica.specs.Known.{tick_in, is_run, after_edges, ticks, ticks_from, run_length, horizon, wave_at}
 use Rattle.wl_replica.proofs.SmallFacts.{run_part}
 use Rattle.wl_replica.proofs.RunLemmas.{run_shorter}
-use Rattle.wl_replica.proofs.WaveLemmas.{goes_above, flips, ticks_from_first}
+use Rattle.wl_replica.proofs.WalkLemmas.{longest_passes}
+use Rattle.wl_replica.proofs.WaveLemmas.{goes_above, flips, ticks_from_first, level_is}
 
 -- the ticks of a run climb
 module _ (e : ℕ → FlatWord) (s : ℕ → ℕ) where
@@ -42,6 +45,19 @@ pub level_after : (e : ℕ → FlatWord) (length c t : ℕ) → c ≤ length →
 level_after e length c t le p q =
     ap (λ ts. flips ts t) (sym (ticks_from_first e length))
     ∙ (flips_are e 0 length c t le (λ n low lt. p n (omega arith)) (λ lt. subst (λ k. t < tick_in (e k)) (let same : c ≡ 0 + c = omega arith in same) (q c (omega arith) lt)) ∙ sym (odd_is c))
+
+-- and of the run that slots have, by the changes next to that tick
+pub wave_counted : (w : Contents) (i t count : ℕ) → count ≤ run_length w i → t < horizon w i → (0 < count → tick_in (w.edge i (count - 1)) ≤ t)
+    → (count < run_length w i → t < tick_in (w.edge i count)) → wave_at w i t ≡ odd count
+wave_counted w i t count few early come others =
+    let e = w.edge i in
+    let m = run_length w i in
+    let run = longest_passes e (w.silence i) most_edges in
+    sym (level_is e (w.silence i) m t run early)
+    ∙ (level_after e m count t few
+    (λ n lt. (let up = run_climbs e (w.silence i) m (count - 1) n run (omega arith) (omega arith) in let last = come (omega arith) in omega arith))
+    (λ n le lt. (let up = run_climbs e (w.silence i) m n count run lt le in let next = others (omega arith) in omega arith))
+    ∙ odd_is count)
 
 pub middle_below : (a b : ℕ) → a < b → a + (b - a) / 2 < b
 middle_below a b lt = omega arith

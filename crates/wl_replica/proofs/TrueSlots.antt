@@ -13,6 +13,7 @@ use Rattle.wl_record_core.proofs.Callers.{one_tick_a_slot}
 use Rattle.wl_replica.proofs.SmallFacts.{max_cases}
 use Rattle.wl_replica.specs.Slots.{Contents, no_slots, slots_joined, silence_in, slots_only, slots_of_records, HoldsTrue, IsBelow}
 use Rattle.wl_replica.specs.KnownLaws.{KnownLaws}
+use Rattle.wl_replica.proofs.HalvingLemmas.{wave_counted}
 use Rattle.wl_replica.proofs.KnownProofs.{tick_stays, place_known, place_above, wave_agrees, horizon_keeps, horizon_reached, changes_held}
 
 true_joined : (nodes : ℕ) (table : ℕ → List ℕ) (a b : Contents) → HoldsTrue nodes table a → HoldsTrue nodes table b → HoldsTrue nodes table (slots_joined a b)
@@ -99,6 +100,7 @@ known_laws tables = record {
   true_records = true_records;
   horizon_keeps = horizon_keeps tables;
   wave_agrees = wave_agrees tables;
+  wave_counted = wave_counted;
   changes_held = changes_held tables;
   horizon_reached = horizon_reached tables;
   edge_held = edge_held;

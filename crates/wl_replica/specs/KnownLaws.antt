@@ -1,5 +1,5 @@
 -- What holds of slots, and of slots that hold what is true of one table of changes.
-use Rattle.std.specs.Prelude.{◌≡◌, ℕ, suc, ◌+◌, ◌<◌, ◌≤◌, true, List, ◌++◌, Contains}
+use Rattle.std.specs.Prelude.{◌≡◌, ℕ, suc, ◌+◌, ◌-◌, ◌<◌, ◌≤◌, true, List, ◌++◌, Contains}
 use Rattle.wl_lattice.specs.declared.FlatWord.TheVariants as flat
 use Rattle.wl_lattice.specs.Maps.{SameMembers}
 use Rattle.wl_record_core.specs.declared.record.Record.{Record}
@@ -7,7 +7,7 @@ use Rattle.wl_record_core.specs.declared.record.Record.TheVariants.{Edge, Silenc
 use Rattle.wl_record_core.specs.Limits.{most_edges}
 use Rattle.wl_record_core.specs.Truth.{count_below, odd, IsIncreasing, AreTrueOf}
 use Rattle.wl_replica.specs.Slots.{Contents, no_slots, slots_joined, slots_only, slots_of_records, HoldsTrue, IsBelow}
-use Rattle.wl_replica.specs.Known.{is_tick, horizon, place_horizon, wave_at}
+use Rattle.wl_replica.specs.Known.{is_tick, tick_in, run_length, horizon, place_horizon, wave_at}
 
 -- Joining slots is a semilattice, and slots rest on the records alone.
 pub record SlotsLaws : Type 0 where
@@ -39,6 +39,9 @@ pub record KnownLaws : Type 0 where
   pub true_records : (nodes : ℕ) (table : ℕ → List ℕ) (rs : List Record) → AreTrueOf nodes table rs → HoldsTrue nodes table (slots_of_records rs)
   pub horizon_keeps : HorizonsStay
   pub wave_agrees : WavesAgree
+  -- whatever the slots hold, a wave is dominant after an odd number of the changes of its run
+  pub wave_counted : (w : Contents) (i t count : ℕ) → count ≤ run_length w i → t < horizon w i → (0 < count → tick_in (w.edge i (count - 1)) ≤ t)
+      → (count < run_length w i → t < tick_in (w.edge i count)) → wave_at w i t ≡ odd count
   -- the changes below a horizon stand in the slots
   pub changes_held : (nodes : ℕ) (table : ℕ → List ℕ) (w : Contents) (i u n : ℕ) → IsIncreasing (table i)
       → HoldsTrue nodes table w → u ≤ horizon w i → n < count_below u (table i) → is_tick (w.edge i n) ≡ true
