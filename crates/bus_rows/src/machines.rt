@@ -2,9 +2,10 @@
 //! hexadecimal (eight digits: extended), with `r` before it for a remote frame.
 //!
 //! Words: `own*53` for samples of what the machines drive; `0*6` and `0101` for samples of these levels; `count` counts the samples
-//! from 1 again; `drive`, `idle`, `counters` and `silence` ask all machines, the last one for how many samples more they are silent,
-//! with heads and without; `off` calls bus off of the first machine, `head=ID` and `mode=Off` give it another head, and a mode that
-//! isn't its counters'. The answer has what happened, with the number of the machine and of the sample, and the counters after it.
+//! from 1 again; `drive`, `idle`, `awaits`, `counters` and `silence` ask all machines, `awaits` whether the next edge may be a start
+//! of frame to them, and `silence` for how many samples more they are silent, with heads and without; `off` calls bus off of the first
+//! machine, `head=ID` and `mode=Off` give it another head, and a mode that isn't its counters'. The answer has what happened, with the
+//! number of the machine and of the sample, and the counters after it.
 
 use crate::counters::write_counters;
 use crate::frames::{frame_of, write_id};
@@ -142,7 +143,12 @@ impl Wire {
             self.samples = 0;
             return Ok(());
         }
-        if word == "drive" || word == "idle" || word == "counters" || word == "silence" {
+        if word == "drive"
+            || word == "idle"
+            || word == "awaits"
+            || word == "counters"
+            || word == "silence"
+        {
             return self.ask(word, out);
         }
         if let Some(("own", count)) = word.split_once('*') {
@@ -183,12 +189,14 @@ impl Wire {
         Ok(())
     }
 
-    /// What each machine drives, whether the bus is idle to it, its counters, or for how many samples more it is silent.
+    /// What each machine drives, whether the bus is idle to it, whether it awaits a start of frame, its counters, or for how many
+    /// samples more it is silent.
     fn ask(&self, word: &str, out: &mut String) -> Told {
         for station in &self.stations {
             match word {
                 "drive" => write!(out, "drive({}) ", bit(station.drive))?,
                 "idle" => write!(out, "idle({}) ", station.machine.idle())?,
+                "awaits" => write!(out, "awaits({}) ", station.machine.awaits_start())?,
                 "silence" => write_silence(out, &station.machine)?,
                 _ => write_counters(out, &station.counters)?,
             }

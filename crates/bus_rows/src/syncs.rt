@@ -1,39 +1,64 @@
-//! The bit clock: `sync PROP PS1 PS2 SJW`, then `idle` and `driving` where the node is and does so throughout, then the level of
-//! each quantum. The answer has each quantum that begins a bit, samples one, or synchronises one.
+//! The bit clock: `sync PROP PS1 PS2 SJW`, then the words of these that hold, in this order: `book` for the rules of the book, and
+//! throughout the row `idle` where the bus is idle to the node, `awaits` where the next edge may be a start of frame to it, `driving`
+//! where it drives dominant; then the level of each quantum. The answer has each quantum that begins a bit, samples one, or
+//! synchronises one.
 
 use crate::segments::made;
 use crate::words::{Stop, Told, bit, levels};
 use std::alloc::Global;
 use wl_level::Level;
-use wl_segments::Segments;
+use wl_segments::{Segments, SyncRules};
 use wl_sync::{Beat, BitClock, Sync};
 
+/// What the node is throughout a row.
+#[derive(Clone, Copy)]
+struct Stays {
+    idle: bool,
+    awaits: bool,
+    driving: bool,
+}
+
 pub fn tell(alloc: Global, words: &[&str], out: &mut String) -> Told {
-    let [prop, ps1, ps2, sjw, seen @ ..] = words else {
+    let [prop, ps1, ps2, sjw, rest @ ..] = words else {
         return Err(Stop::Unread);
     };
     let segments = match made(prop, ps1, ps2, sjw)? {
         Ok(segments) => segments,
         Err(_) => return Err(Stop::Unread),
     };
-    match seen {
-        ["idle", "driving", seen @ ..] => tell_of(segments, true, true, &levels(alloc, seen)?, out),
-        ["idle", seen @ ..] => tell_of(segments, true, false, &levels(alloc, seen)?, out),
-        ["driving", seen @ ..] => tell_of(segments, false, true, &levels(alloc, seen)?, out),
-        _ => tell_of(segments, false, false, &levels(alloc, seen)?, out),
+    let (is_book, rest) = taken("book", rest);
+    let (idle, rest) = taken("idle", rest);
+    let (awaits, rest) = taken("awaits", rest);
+    let (driving, rest) = taken("driving", rest);
+    let segments = if is_book {
+        segments.with_sync(SyncRules::Book)
+    } else {
+        segments
+    };
+    let stays = Stays {
+        idle,
+        awaits,
+        driving,
+    };
+    tell_of(segments, stays, &levels(alloc, rest)?, out)
+}
+
+/// Whether the words begin with this one, and the words after it.
+fn taken<'a, 'b>(word: &str, words: &'a [&'b str]) -> (bool, &'a [&'b str]) {
+    match words {
+        [first, rest @ ..] => if *first == word {
+            (true, rest)
+        } else {
+            (false, words)
+        },
+        [] => (false, words),
     }
 }
 
-fn tell_of(
-    segments: Segments,
-    idle: bool,
-    driving: bool,
-    seen: &[Level],
-    out: &mut String,
-) -> Told {
+fn tell_of(segments: Segments, stays: Stays, seen: &[Level], out: &mut String) -> Told {
     let mut clock = BitClock::new(segments);
     for (quantum, level) in seen.iter().enumerate() {
-        let (beat, sync) = clock.step(*level, idle, driving);
+        let (beat, sync) = clock.step(*level, stays.idle, stays.awaits, stays.driving);
         match sync {
             Some(Sync::Hard) => write!(out, "{quantum}:hard ")?,
             Some(Sync::Error(error)) => write!(out, "{quantum}:error({error}) ")?,
