@@ -43,7 +43,7 @@ returns-clause-seen c =
     let t : ℕ = c.args.t in
     let b = c.requires.node in
     let old = c.requires.awaits in
-    let setup = setup_is plan c.as_slice.result.now i c.index-as_slice-i.result c.as_slice.ensures b in
+    let setup = c.index-as_slice-i.is ∙ setup_is plan c.as_slice.result.now i c.index-as_slice-i.result c.as_slice.ensures b in
     let now = next_now c.checked_is_sound.ensures c.simulation_laws.ensures plan c.requires.checked i b k t c.requires.early (sym old.next ∙ c.if-self-t.false) in
     let begins : tick_of (setup_at plan i).clock k ≡ t = now.0 in
     let early : tick_of (setup_at plan i).clock k < plan.end = omega (arith, now.0, now.1) in
@@ -91,7 +91,7 @@ returns-clause-syncs c =
     in
     let l : Level = c.level_of-level.result in
     let levels : List Level = seen (line_of plan) i k in
-    let setup = setup_is plan c.as_slice.result.now i c.index-as_slice-i.result c.as_slice.ensures b in
+    let setup = c.index-as_slice-i.is ∙ setup_is plan c.as_slice.result.now i c.index-as_slice-i.result c.as_slice.ensures b in
     ap (syncs_of (setup_at plan i)) (seen_more c.checked_is_sound.ensures c.simulation_laws.ensures plan c.requires.checked i b k
     ∙ ap (λ (x : Level). levels ++ x ∷ []) (ap level_of is ∙ sym c.level_of-level.ensures))
     ∙ syncs_more (setup_at plan i) levels l
