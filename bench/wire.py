@@ -107,7 +107,7 @@ def sent(c, own):
 class Rules(NamedTuple):
     lossless: bool = False  # a sender never loses
     late_role: bool = False  # a sender may lose up to the identifier's end only
-    third: bool = False  # a dominant third bit of intermission is the start of one's own frame, if there is a head
+    third: bool = True  # a dominant third bit of intermission is the start of one's own frame, if there is a head
 
 
 @lru_cache(300_000)
@@ -467,7 +467,7 @@ def same(count, seed):
             if stretch[0] == "frame" and read(stretch[1])[1] is not None and len(stretch[1]) - read(stretch[1])[1] == 1 and random.random() < .9: level = "d"
             if random.random() < noise: level = random.choice("dr")
             happened, ended, stretch = after(stretch, level, head, mode, RULES)
-            told = other.bit(level == "r", frames.get(head), mode)
+            told = other.bit(int(level == "r"), frames.get(head), mode)
             if (told, other.drive() == plain.RECESSIVE) != (happened, drive(stretch, RULES) == "r"):
                 differ += 1
                 print("differs", n, step, stretch, told, happened)
