@@ -13,7 +13,7 @@ use Rattle.wl_frame.proofs.Callers.{sent_whole, whole_alone, frame_is_read, fron
 use Rattle.wl_machine.specs.Frames.{stuffed_end}
 use Rattle.wl_machine.specs.Laws.{FoundSent}
 
-abbrev ends_at : List Level → ℕ → Bool
+abbrev pub ends_at : List Level → ℕ → Bool
 ends_at own n = is_whole (destuffed_bits own n) && not (is_stuff own n)
 
 end_first : (own : List Level) (end : ℕ) → stuffed_end own ≡ Some end → IsFirstPlace (ends_at own) (suc (length own)) end
@@ -26,9 +26,9 @@ is_whole_there : (own : List Level) (end : ℕ) → stuffed_end own ≡ Some end
 is_whole_there own end h = (and_parts (is_whole (destuffed_bits own end)) (not (is_stuff own end)) (end_first own end h).passes).0
 
 -- a prefix of the bits of the head was kept
-record HasRest (bits front : List Level) : Type 0 where
-  rest : List Level
-  joined : bits ≡ front ++ rest
+pub record HasRest (bits front : List Level) : Type 0 where
+  pub rest : List Level
+  pub joined : bits ≡ front ++ rest
 
 keeps_stuff : (own : List Level) (n : ℕ) → is_stuff own n ≡ true → destuffed_bits own (suc n) ≡ destuffed_bits own n
 keeps_stuff own n due = ap (λ b. destuffed_bits own n ++ cond b [] (at own n ∷ [])) due ∙ append-nil (destuffed_bits own n)
@@ -52,21 +52,22 @@ more_rest head own n (l ∷ rest) c e free no_end found =
           ∙ ap (λ k. (destuffed_bits own n ++ k ∷ []) ++ rest) (sym l_is) ∙ ap (λ ks. ks ++ rest) (sym (keeps_bit own n free));
     }
 
-front_kept : (head : Content) (own : List Level) (end : ℕ) → IsContent head → stuffed_end own ≡ Some end → FoundSent head own end
+-- a transmitter that finds what it sends keeps a prefix of the bits of its head, as long as no place ends the stuffed part
+pub front_kept : (head : Content) (own : List Level) (end : ℕ) → IsContent head → ((k : ℕ) → k < end → ends_at own k ≡ false) → FoundSent head own end
     → (n : ℕ) → n ≤ end → HasRest (bits_of head) (destuffed_bits own n)
-front_kept head own end c h found zero below = record { rest = bits_of head; joined = refl }
-front_kept head own end c h found (suc n) below =
-    let front : HasRest (bits_of head) (destuffed_bits own n) = front_kept head own end c h found n (omega arith) in
+front_kept head own end c none found zero below = record { rest = bits_of head; joined = refl }
+front_kept head own end c none found (suc n) below =
+    let front : HasRest (bits_of head) (destuffed_bits own n) = front_kept head own end c none found n (omega arith) in
     elim (cases_Bool (is_stuff own n)) [
       | inl due ↦ record { rest = front.rest; joined = front.joined ∙ ap (λ ks. ks ++ front.rest) (sym (keeps_stuff own n due)) }
       | inr free ↦
-          more_rest head own n front.rest c front.joined free ((end_first own end h).none_before n (omega arith))
+          more_rest head own n front.rest c front.joined free (none n (omega arith))
           (found n (omega arith) ∙ ap (λ b. cond b (opposite (before own n)) (at (bits_of head) (length (destuffed_bits own n)))) free)
     ]
 
-kept_is_all : (head : Content) (own : List Level) (end : ℕ) → IsContent head → stuffed_end own ≡ Some end → FoundSent head own end → destuffed_bits own end ≡ bits_of head
+pub kept_is_all : (head : Content) (own : List Level) (end : ℕ) → IsContent head → stuffed_end own ≡ Some end → FoundSent head own end → destuffed_bits own end ≡ bits_of head
 kept_is_all head own end c h found =
-    let front : HasRest (bits_of head) (destuffed_bits own end) = front_kept head own end c h found end (omega arith) in
+    let front : HasRest (bits_of head) (destuffed_bits own end) = front_kept head own end c (end_first own end h).none_before found end (omega arith) in
     let none : front.rest ≡ [] = whole_alone (destuffed_bits own end) front.rest (is_whole_there own end h) (ap is_whole (sym front.joined) ∙ sent_whole head c) in
     sym (front.joined ∙ ap (λ r. destuffed_bits own end ++ r) none ∙ append-nil (destuffed_bits own end))
 
