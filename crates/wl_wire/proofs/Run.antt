@@ -1,0 +1,111 @@
+-- All machines of a wire, over any list of events.
+use Rattle.std.proofs.Common.{◌≡◌, ℕ, ◌<◌, ◌∙◌, List, [], ◌∷◌, ◌++◌, length, Bool, true, false, Option, Some, None, refl, sym, ap, arith, inl, inr}
+use Rattle.wl_level.specs.declared.Level.{Level}
+use Rattle.wl_level.specs.declared.Level.TheVariants.{Recessive}
+use Rattle.wl_frame.specs.Grammar.{Content}
+use Rattle.wl_machine.specs.Stretch.Sort.{Framing}
+use Rattle.wl_machine.specs.Frames.{stuffed_end}
+use Rattle.wl_machine.specs.Judged.{judged}
+use Rattle.wl_machine.specs.Laws.{HeadLaws}
+use Rattle.wl_machine.specs.States.{stretch_by}
+use Rattle.wl_wire.specs.Wire.{Wire, Handed, Event, Bit, Own, stretch_at, may_be_alone, sampled, happens, wire_after, idle_wire}
+use Rattle.wl_wire.specs.InStep.{IsSound, AreInFrame, AreInStep, FindsNoError, is_fine}
+use Rattle.wl_wire.proofs.Between.{between_fine, alone_between_fine, between_alone, between_bit, intermission_fine, none_alone_in_it, intermission_alone, intermission_bit}
+use Rattle.wl_wire.proofs.Events.{OwnHeads, sample_at, heads_at_bit, heads_alone, none_alone, finds_none}
+use Rattle.wl_wire.proofs.Stuffing.{ArbitrationDecides, stuffed_bit, stuffed_fine}
+use Rattle.wl_wire.proofs.Tail.{tail_bit, tail_fine}
+
+-- a machine in a frame may not have a bit by itself
+in_frame : (own : List Level) (head : Option Content) → 0 < length own → may_be_alone (stretch_by (Framing head) own) ≡ false
+in_frame [] head h = absurd (omega (arith, h))
+in_frame (l ∷ own) None h = refl
+in_frame (l ∷ own) (Some head) h = refl
+
+not_so : (b : Bool) → b ≡ true → b ≡ false → ⊥
+not_so true t f = cc
+not_so false t f = cc
+
+module _ (decides : ArbitrationDecides) (laws : HeadLaws) where
+  -- in a frame
+  module _ (w : Wire) (own : List Level) (sound : IsSound w.count w.frames) (heads : OwnHeads w) (f : AreInFrame w own) where
+    frame_bit_by : (handed : ℕ → Handed) (o : Option ℕ) → stuffed_end own ≡ o → AreInStep (happens w (Bit handed))
+    frame_bit_by handed None e = inr (inr (own ++ _ ∷ [], stuffed_bit decides w own sound heads f e handed))
+    frame_bit_by handed (Some end) e = tail_bit w own sound heads f end e handed
+
+    frame_fine_by : (handed : ℕ → Handed) (k : ℕ) → k < w.count → (o : Option ℕ) → stuffed_end own ≡ o → is_fine (judged (stretch_at w k) (sample_at w handed k)).happened ≡ true
+    frame_fine_by handed k lt None e = stuffed_fine decides w own sound heads f e handed k lt
+    frame_fine_by handed k lt (Some end) e = tail_fine w own sound heads f end e handed k lt
+
+    frame_not_alone : (k : ℕ) → k < w.count → may_be_alone (stretch_at w k) ≡ false
+    frame_not_alone k lt = ap may_be_alone (f.each k lt).1 ∙ in_frame own (f.each k lt).0 f.begun
+
+    frame_alone : (machine : ℕ) (handed : Handed) → AreInFrame (happens w (Own machine handed)) own
+    frame_alone machine handed = record {
+      begun = f.begun;
+      each = λ k lt. ((f.each k lt).0, stays k lt ∙ (f.each k lt).1);
+      sender = (f.sender.0, f.sender.1, f.sender.2, record { framing = stays f.sender.0 f.sender.1 ∙ f.sender.3.framing; role = f.sender.3.role });
+      found = λ k head lt s. f.found k head lt (record { framing = sym (stays k lt) ∙ s.framing; role = s.role });
+      tail = f.tail;
+    }
+      where
+        stays : (k : ℕ) → k < w.count → stretch_at (happens w (Own machine handed)) k ≡ stretch_at w k
+        stays k lt = none_alone w machine handed k (frame_not_alone k lt)
+
+  -- what holds of a wire, whatever has happened
+  record IsKept (w : Wire) : Type 0 where
+    heads : OwnHeads w
+    step : AreInStep w
+
+  step_bit : (w : Wire) → IsSound w.count w.frames → OwnHeads w → AreInStep w → (handed : ℕ → Handed) → AreInStep (happens w (Bit handed))
+  step_bit w sound heads (inl b) handed = between_bit w sound heads b handed (heads_at_bit w handed laws heads)
+  step_bit w sound heads (inr (inl i)) handed = intermission_bit w i.0 i.1 handed
+  step_bit w sound heads (inr (inr f)) handed = frame_bit_by w f.0 sound heads f.1 handed (stuffed_end f.0) refl
+
+  step_alone : (w : Wire) → IsSound w.count w.frames → OwnHeads w → AreInStep w → (machine : ℕ) (handed : Handed) → AreInStep (happens w (Own machine handed))
+  step_alone w sound heads (inl b) machine handed = inl (between_alone w sound heads b machine handed)
+  step_alone w sound heads (inr (inl i)) machine handed = inr (inl (i.0, intermission_alone w i.0 i.1 machine handed))
+  step_alone w sound heads (inr (inr f)) machine handed = inr (inr (f.0, frame_alone w f.0 sound heads f.1 machine handed))
+
+  kept_on : (w : Wire) → IsSound w.count w.frames → IsKept w → (event : Event) → IsKept (happens w event)
+  kept_on w sound kept (Bit handed) = record { heads = heads_at_bit w handed laws kept.heads; step = step_bit w sound kept.heads kept.step handed }
+  kept_on w sound kept (Own machine handed) = record { heads = heads_alone w machine handed laws kept.heads; step = step_alone w sound kept.heads kept.step machine handed }
+
+  kept_after : (w : Wire) (events : List Event) → IsSound w.count w.frames → IsKept w → IsKept (wire_after w events)
+  kept_after w [] sound kept = kept
+  kept_after w (event ∷ events) sound kept = kept_after (happens w event) events sound (kept_on w sound kept event)
+
+  sound_after : (w : Wire) (events : List Event) → IsSound w.count w.frames → IsSound (wire_after w events).count (wire_after w events).frames
+  sound_after w [] sound = sound
+  sound_after w (event ∷ events) sound = sound_after (happens w event) events sound
+
+  at_first : (count : ℕ) (frames : ℕ → List Content) → IsKept (idle_wire count frames)
+  at_first count frames = record { heads = λ k c e. absurd (none_some c e); step = inl (λ k lt. refl) }
+    where
+      none_some : (c : Content) → None ≡ Some c → ⊥
+      none_some c e = cc
+
+  kept : (count : ℕ) (frames : ℕ → List Content) (events : List Event) → IsSound count frames → IsKept (wire_after (idle_wire count frames) events)
+  kept count frames events sound = kept_after (idle_wire count frames) events sound (at_first count frames)
+
+  -- no error
+  fine_at_bit : (w : Wire) → IsSound w.count w.frames → OwnHeads w → AreInStep w → (handed : ℕ → Handed) (k : ℕ) → k < w.count
+      → is_fine (judged (stretch_at w k) (sample_at w handed k)).happened ≡ true
+  fine_at_bit w sound heads (inl b) handed k lt = between_fine w sound heads b handed k lt
+  fine_at_bit w sound heads (inr (inl i)) handed k lt = intermission_fine w i.0 i.1 handed k lt
+  fine_at_bit w sound heads (inr (inr f)) handed k lt = frame_fine_by w f.0 sound heads f.1 handed k lt (stuffed_end f.0) refl
+
+  fine_alone : (w : Wire) → IsSound w.count w.frames → OwnHeads w → AreInStep w → (handed : Handed) (k : ℕ) → k < w.count → may_be_alone (stretch_at w k) ≡ true
+      → is_fine (judged (stretch_at w k) (sampled Recessive (w.frames k) handed)).happened ≡ true
+  fine_alone w sound heads (inl b) handed k lt may = alone_between_fine w sound heads b handed k lt may
+  fine_alone w sound heads (inr (inl i)) handed k lt may = absurd (none_alone_in_it w i.0 i.1 k lt may)
+  fine_alone w sound heads (inr (inr f)) handed k lt may = absurd (not_so (may_be_alone (stretch_at w k)) may (frame_not_alone w f.0 sound heads f.1 k lt))
+
+  no_error : (w : Wire) → IsSound w.count w.frames → IsKept w → FindsNoError w
+  no_error w sound kept = finds_none w (fine_at_bit w sound kept.heads kept.step) (fine_alone w sound kept.heads kept.step)
+
+  pub stay_in_step : (count : ℕ) (frames : ℕ → List Content) (events : List Event) → IsSound count frames → AreInStep (wire_after (idle_wire count frames) events)
+  stay_in_step count frames events sound = (kept count frames events sound).step
+
+  pub find_no_error : (count : ℕ) (frames : ℕ → List Content) (events : List Event) → IsSound count frames → FindsNoError (wire_after (idle_wire count frames) events)
+  find_no_error count frames events sound =
+      no_error (wire_after (idle_wire count frames) events) (sound_after (idle_wire count frames) events sound) (kept count frames events sound)

@@ -1,0 +1,303 @@
+-- All machines in the ten bits after the stuffed part, one bit of the bus later.
+use Rattle.std.proofs.Common.{◌≡◌, ◌≢◌, ℕ, ◌+◌, ◌-◌, ◌<◌, ◌≤◌, ◌∙◌, List, [], ◌∷◌, ◌++◌, length, Bool, true, false, cond, not, ◌&&◌, Option, Some, None, refl, sym, ap, subst, arith, inl, inr}
+use Rattle.std.specs.Prelude.{◌==◌, slice_get}
+use Rattle.std.proofs.lemmas.Bool.{cases_Bool, cases_eq, ne_eqb, and_right}
+use Rattle.wl_level.specs.declared.Level.{Level}
+use Rattle.wl_level.specs.declared.Level.TheVariants.{Dominant, Recessive}
+use Rattle.wl_level.proofs.Callers.{length_more}
+use Rattle.wl_confine.specs.declared.ErrorKind.TheVariants.{Crc, Form, Bit as BitError}
+use Rattle.wl_confine.specs.declared.Mode.{Mode}
+use Rattle.wl_confine.specs.declared.Happened.TheVariants as happens_there
+use Rattle.wl_frame.specs.Stuffing.{destuffed_bits}
+use Rattle.wl_frame.specs.Grammar.{Content, bits_of, content_of, is_crc_right}
+use Rattle.wl_machine.specs.declared.state.Role.{Role}
+use Rattle.wl_machine.specs.declared.state.Role.TheVariants.{Tx, Rx}
+use Rattle.wl_machine.specs.Stretch.{Sampled, Judgement, continues}
+use Rattle.wl_machine.specs.Stretch.Ended.{Sent, Received}
+use Rattle.wl_machine.specs.Stretch.Sort.{Framing, Intermission}
+use Rattle.wl_machine.specs.Flags.{fails}
+use Rattle.wl_machine.specs.Frames.{stuffed_end, frame_role, framing_by, framing_sent, framing_received, drive_up_to, tail_drive, sent_tail, received_tail, acknowledging, last_bit, unanswered}
+use Rattle.wl_machine.specs.Judged.{judged, or_next, drive_of, head_of}
+use Rattle.wl_machine.specs.Laws.{FoundSent}
+use Rattle.wl_machine.specs.States.{IsTail, sample_of, stretch_by}
+use Rattle.wl_machine.proofs.Callers.{end_stays, role_receives, tail_sends, kept_is_all}
+use Rattle.wl_wire.specs.Wire.{Wire, Handed, Bit, stretch_at, bus, happens}
+use Rattle.wl_wire.specs.InStep.{IsSound, AreInIntermission, AreInFrame, AreInStep, Sends, or_all, stuffed_length, is_fine}
+use Rattle.wl_wire.proofs.Bus.{bus_driven, bus_silent}
+use Rattle.wl_wire.proofs.Events.{OwnHeads, sample_at, at_bit}
+use Rattle.wl_wire.proofs.Quiet.{read_back}
+use Rattle.wl_wire.proofs.Stuffing.{IsMember, Receives, member, role_cases, not_both_roles, sends_content, sends_apart, after_none, found_old}
+
+-- the stretch goes on without an error
+pub record GoesOnBy (j : Judgement) : Type 0 where
+  pub next : j.next ≡ None
+  pub fine : is_fine j.happened ≡ true
+
+-- the intermission begins
+pub record EndsBy (role : Role) (j : Judgement) : Type 0 where
+  pub next : j.next ≡ Some (stretch_by (Intermission role) [])
+  pub fine : is_fine j.happened ≡ true
+
+-- a transmitter in these bits, and a receiver
+sent_on : (head : Content) (n : ℕ) (given : Option Content) (mode : Mode) → (n == 1) ≡ false → (n == 9) ≡ false → GoesOnBy (sent_tail head n (sample_of Recessive given mode))
+sent_on head n given mode slot last =
+    subst GoesOnBy
+    (sym (ap (λ b. cond b (unanswered mode) (cond (n == 9) (record { happened = happens_there.Sent; ended = Sent head; next = Some (stretch_by (Intermission Tx) []) }) (continues happens_there.Nothing))) slot
+    ∙ ap (λ b. cond b (record { happened = happens_there.Sent; ended = Sent head; next = Some (stretch_by (Intermission Tx) []) }) (continues happens_there.Nothing)) last))
+    (record { next = refl; fine = refl })
+
+sent_slot : (head : Content) (n : ℕ) (given : Option Content) (mode : Mode) → (n == 1) ≡ true → GoesOnBy (sent_tail head n (sample_of Dominant given mode))
+sent_slot head n given mode slot =
+    subst GoesOnBy (sym (ap (λ b. cond b (continues happens_there.Nothing) (fails Tx mode BitError)) slot)) (record { next = refl; fine = refl })
+
+sent_end : (head : Content) (n : ℕ) (given : Option Content) (mode : Mode) → (n == 1) ≡ false → (n == 9) ≡ true → EndsBy Tx (sent_tail head n (sample_of Recessive given mode))
+sent_end head n given mode slot last =
+    subst (EndsBy Tx)
+    (sym (ap (λ b. cond b (unanswered mode) (cond (n == 9) (record { happened = happens_there.Sent; ended = Sent head; next = Some (stretch_by (Intermission Tx) []) }) (continues happens_there.Nothing))) slot
+    ∙ ap (λ b. cond b (record { happened = happens_there.Sent; ended = Sent head; next = Some (stretch_by (Intermission Tx) []) }) (continues happens_there.Nothing)) last))
+    (record { next = refl; fine = refl })
+
+-- after the acknowledgement slot, or before it, where the CRC is right
+received_by : (bits : List Level) (n : ℕ) (mode : Mode) (right wrong : Bool) → wrong ≡ false
+    → GoesOnBy (cond wrong (fails Rx mode Crc) (cond right (record { happened = happens_there.Nothing; ended = Received (content_of bits); next = None }) (continues happens_there.Nothing)))
+received_by bits n mode true true e = cc
+received_by bits n mode false true e = cc
+received_by bits n mode true false e = record { next = refl; fine = refl }
+received_by bits n mode false false e = record { next = refl; fine = refl }
+
+received_on : (bits : List Level) (n : ℕ) (given : Option Content) (mode : Mode) → is_crc_right bits ≡ true → (n == 1) ≡ false → (n == 9) ≡ false
+    → GoesOnBy (received_tail bits n (sample_of Recessive given mode))
+received_on bits n given mode crc slot last =
+    let x : Sampled = sample_of Recessive given mode in
+    let rest : Judgement = cond (n == 2 && not (is_crc_right bits)) (fails Rx mode Crc) (cond (n == 8) (record { happened = happens_there.Nothing; ended = Received (content_of bits); next = None }) (continues happens_there.Nothing)) in
+    subst GoesOnBy
+    (sym (ap (λ b. cond b (acknowledging bits x) (cond (n == 9) (last_bit x) rest)) slot ∙ ap (λ b. cond b (last_bit x) rest) last))
+    (received_by bits n mode (n == 8) (n == 2 && not (is_crc_right bits)) (and_right (n == 2) (not (is_crc_right bits)) (ap not crc)))
+
+received_slot : (bits : List Level) (n : ℕ) (given : Option Content) (mode : Mode) → is_crc_right bits ≡ true → (n == 1) ≡ true
+    → GoesOnBy (received_tail bits n (sample_of Dominant given mode))
+received_slot bits n given mode crc slot =
+    let x : Sampled = sample_of Dominant given mode in
+    subst GoesOnBy
+    (sym (ap (λ b. cond b (acknowledging bits x) (cond (n == 9) (last_bit x) (fails Rx mode Form))) slot
+    ∙ ap (λ b. cond (not b) (continues happens_there.Nothing) (continues happens_there.Acked)) crc))
+    (record { next = refl; fine = refl })
+
+received_end : (bits : List Level) (n : ℕ) (given : Option Content) (mode : Mode) → (n == 1) ≡ false → (n == 9) ≡ true → EndsBy Rx (received_tail bits n (sample_of Recessive given mode))
+received_end bits n given mode slot last =
+    let x : Sampled = sample_of Recessive given mode in
+    let rest : Judgement = cond (n == 2 && not (is_crc_right bits)) (fails Rx mode Crc) (cond (n == 8) (record { happened = happens_there.Nothing; ended = Received (content_of bits); next = None }) (continues happens_there.Nothing)) in
+    subst (EndsBy Rx)
+    (sym (ap (λ b. cond b (acknowledging bits x) (cond (n == 9) (last_bit x) rest)) slot ∙ ap (λ b. cond b (last_bit x) rest) last))
+    (record { next = refl; fine = refl })
+
+module _ (w : Wire) (own : List Level) (sound : IsSound w.count w.frames) (heads : OwnHeads w) (f : AreInFrame w own)
+    (end : ℕ) (over : stuffed_end own ≡ Some end) where
+  abbrev place : ℕ
+  place = length own - end
+
+  abbrev kept : List Level
+  kept = destuffed_bits own end
+
+  found_to_end : (k : ℕ) (head : Content) → k < w.count → Sends w own k head → FoundSent head own end
+  found_to_end k head lt s = subst (FoundSent head own) (ap (λ e. or_all e (length own)) over) (f.found k head lt s)
+
+  -- what all have is what a sender sent
+  kept_is : (k : ℕ) (head : Content) → k < w.count → Sends w own k head → kept ≡ bits_of head
+  kept_is k head lt s = kept_is_all head own end (sends_content w own k head sound heads lt s) over (found_to_end k head lt s)
+
+  -- so there is one
+  same_head : (j k : ℕ) (a b : Content) → j < w.count → k < w.count → Sends w own j a → Sends w own k b → a ≡ b
+  same_head j k a b lj lk p q =
+      sym (read_back a (sends_content w own j a sound heads lj p)).content
+      ∙ ap content_of (sym (kept_is j a lj p) ∙ kept_is k b lk q)
+      ∙ (read_back b (sends_content w own k b sound heads lk q)).content
+
+  pub one_sender : (j k : ℕ) (a b : Content) → j < w.count → k < w.count → Sends w own j a → Sends w own k b → j ≡ k
+  one_sender j k a b lj lk p q = elim (cases_eq j k) [
+    | inl e ↦ e
+    | inr apart ↦
+        (let e : a ≡ b = same_head j k a b lj lk p q in
+        absurd (sends_apart w own j k a b sound heads lj lk apart p q (ap (λ c. c.extended) e, ap (λ c. c.id) e, ap (λ c. c.remote) e)))
+  ]
+
+  -- a machine that isn't the sender receives
+  record Answers : Type 0 where
+    machine : ℕ
+    inside : machine < w.count
+    head : Option Content
+    receives : Receives w own machine head
+
+  answers_by : (k : ℕ) → k < w.count → f.sender.0 ≢ k → IsMember w own k → Answers
+  answers_by k lt apart (inl m) = absurd (apart (one_sender f.sender.0 k f.sender.2 m.0 f.sender.1 lt f.sender.3 m.1))
+  answers_by k lt apart (inr m) = record { machine = k; inside = lt; head = m.0; receives = m.1 }
+
+  answers_at : (k : ℕ) → k < w.count → f.sender.0 ≢ k → Answers
+  answers_at k lt apart = answers_by k lt apart (member w own f k lt)
+
+  answers : Answers
+  answers = elim (cases_eq f.sender.0 0) [
+    | inl first ↦ answers_at 1 (let two : 2 ≤ w.count = sound.two in omega arith) (λ e. omega (arith, e, first))
+    | inr other ↦ answers_at 0 (let two : 2 ≤ w.count = sound.two in omega arith) other
+  ]
+
+  crc : is_crc_right kept ≡ true
+  crc = ap is_crc_right (kept_is f.sender.0 f.sender.2 f.sender.1 f.sender.3) ∙ (read_back f.sender.2 (sends_content w own f.sender.0 f.sender.2 sound heads f.sender.1 f.sender.3)).crc
+
+  -- what each drives
+  sender_drives : (k : ℕ) (head : Content) → Sends w own k head → drive_of (stretch_at w k) ≡ Recessive
+  sender_drives k head s =
+      ap drive_of s.framing ∙ ap (λ e. drive_up_to e (Some head) own) over ∙ ap (λ r. tail_drive r kept place) s.role
+
+  receiver_drives : (k : ℕ) (head : Option Content) → Receives w own k head → drive_of (stretch_at w k) ≡ cond (place == 1) Dominant Recessive
+  receiver_drives k head r =
+      ap drive_of r.framing ∙ ap (λ e. drive_up_to e head own) over ∙ ap (λ role. tail_drive role kept place) r.role
+      ∙ ap (λ c. cond ((place == 1) && c) Dominant Recessive) crc ∙ slot_alone (place == 1)
+    where
+      slot_alone : (b : Bool) → cond (b && true) Dominant Recessive ≡ cond b Dominant Recessive
+      slot_alone true = refl
+      slot_alone false = refl
+
+  bus_in_slot : (place == 1) ≡ true → bus w ≡ Dominant
+  bus_in_slot slot =
+      bus_driven w answers.machine answers.inside (receiver_drives answers.machine answers.head answers.receives ∙ ap (λ b. cond b Dominant Recessive) slot)
+
+  silent_member : (place == 1) ≡ false → (k : ℕ) → IsMember w own k → drive_of (stretch_at w k) ≡ Recessive
+  silent_member slot k (inl m) = sender_drives k m.0 m.1
+  silent_member slot k (inr m) = receiver_drives k m.0 m.1 ∙ ap (λ b. cond b Dominant Recessive) slot
+
+  bus_elsewhere : (place == 1) ≡ false → bus w ≡ Recessive
+  bus_elsewhere slot = bus_silent w (λ k lt. silent_member slot k (member w own f k lt))
+
+  module _ (handed : ℕ → Handed) where
+    abbrev given : ℕ → Option Content
+    given k = slice_get (w.frames k) (handed k).which
+
+    abbrev mode : ℕ → Mode
+    mode k = (handed k).mode
+
+    sends_judged : (k : ℕ) (head : Content) (l : Level) → Sends w own k head → bus w ≡ l
+        → judged (stretch_at w k) (sample_at w handed k) ≡ sent_tail head place (sample_of l (given k) (mode k))
+    sends_judged k head l s e =
+        ap (λ t. judged t (sample_at w handed k)) s.framing ∙ ap (λ role. framing_by role (Some head) own (sample_at w handed k)) s.role
+        ∙ ap (λ o. framing_sent head own o (sample_at w handed k)) over
+        ∙ ap (λ b. sent_tail head place (sample_of b (given k) (mode k))) e
+
+    receives_judged : (k : ℕ) (head : Option Content) (l : Level) → Receives w own k head → bus w ≡ l
+        → judged (stretch_at w k) (sample_at w handed k) ≡ received_tail kept place (sample_of l (given k) (mode k))
+    receives_judged k head l r e =
+        ap (λ t. judged t (sample_at w handed k)) r.framing ∙ ap (λ role. framing_by role head own (sample_at w handed k)) r.role
+        ∙ ap (λ o. framing_received own o (sample_at w handed k)) over
+        ∙ ap (λ b. received_tail kept place (sample_of b (given k) (mode k))) e
+
+    in_slot : (place == 1) ≡ true → (k : ℕ) → IsMember w own k → GoesOnBy (judged (stretch_at w k) (sample_at w handed k))
+    in_slot slot k (inl m) = subst GoesOnBy (sym (sends_judged k m.0 Dominant m.1 (bus_in_slot slot))) (sent_slot m.0 place (given k) (mode k) slot)
+    in_slot slot k (inr m) = subst GoesOnBy (sym (receives_judged k m.0 Dominant m.1 (bus_in_slot slot))) (received_slot kept place (given k) (mode k) crc slot)
+
+    elsewhere : (place == 1) ≡ false → (place == 9) ≡ false → (k : ℕ) → IsMember w own k → GoesOnBy (judged (stretch_at w k) (sample_at w handed k))
+    elsewhere slot last k (inl m) = subst GoesOnBy (sym (sends_judged k m.0 Recessive m.1 (bus_elsewhere slot))) (sent_on m.0 place (given k) (mode k) slot last)
+    elsewhere slot last k (inr m) = subst GoesOnBy (sym (receives_judged k m.0 Recessive m.1 (bus_elsewhere slot))) (received_on kept place (given k) (mode k) crc slot last)
+
+    at_end : (place == 1) ≡ false → (place == 9) ≡ true → (k : ℕ) → IsMember w own k → (role : Role) × EndsBy role (judged (stretch_at w k) (sample_at w handed k))
+    at_end slot last k (inl m) = (Tx, subst (EndsBy Tx) (sym (sends_judged k m.0 Recessive m.1 (bus_elsewhere slot))) (sent_end m.0 place (given k) (mode k) slot last))
+    at_end slot last k (inr m) = (Rx, subst (EndsBy Rx) (sym (receives_judged k m.0 Recessive m.1 (bus_elsewhere slot))) (received_end kept place (given k) (mode k) slot last))
+
+    goes_on_there : place ≢ 9 → (k : ℕ) → k < w.count → GoesOnBy (judged (stretch_at w k) (sample_at w handed k))
+    goes_on_there apart k lt = elim (cases_Bool (place == 1)) [
+      | inl slot ↦ in_slot slot k (member w own f k lt)
+      | inr off ↦ elsewhere off (ne_eqb place 9 apart) k (member w own f k lt)
+    ]
+
+    ends_there : place ≡ 9 → (k : ℕ) → k < w.count → (role : Role) × EndsBy role (judged (stretch_at w k) (sample_at w handed k))
+    ends_there e k lt = at_end (ap (λ n. n == 1) e) (ap (λ n. n == 9) e) k (member w own f k lt)
+
+    pub tail_fine : (k : ℕ) → k < w.count → is_fine (judged (stretch_at w k) (sample_at w handed k)).happened ≡ true
+    tail_fine k lt = elim (cases_eq place 9) [
+      | inl e ↦ (ends_there e k lt).1.fine
+      | inr apart ↦ (goes_on_there apart k lt).fine
+    ]
+
+    -- the frame goes on
+    abbrev later : Wire
+    later = happens w (Bit handed)
+
+    abbrev longer : List Level
+    longer = own ++ bus w ∷ []
+
+    next_stretch : place ≢ 9 → (k : ℕ) (lt : k < w.count) → stretch_at later k ≡ stretch_by (Framing (f.each k lt).0) longer
+    next_stretch apart k lt =
+        at_bit w handed k
+        ∙ after_none (stretch_at w k) (sample_at w handed k) (Framing (f.each k lt).0) own (f.each k lt).1 (goes_on_there apart k lt).next
+
+    sent_before : place ≢ 9 → (k : ℕ) (head : Content) → k < w.count → Sends later longer k head → Sends w own k head
+    sent_before apart k head lt s = record {
+      framing = (f.each k lt).1 ∙ ap (λ o. stretch_by (Framing o) own) (ap (λ t. head_of t.sort) (sym (next_stretch apart k lt) ∙ s.framing));
+      role = elim (role_cases (frame_role (Some head) own)) [
+        | inl t ↦ t
+        | inr r ↦ absurd (not_both_roles (frame_role (Some head) longer) s.role (role_receives (Some head) own (bus w) r))
+      ];
+    }
+
+    still_over : stuffed_end longer ≡ Some end
+    still_over = end_stays own (bus w) end over
+
+    inside : (end ≤ length own) × (length own < end + 10)
+    inside = f.tail end over
+
+    is_tail : IsTail place end own
+    is_tail = record {
+      found = over;
+      place_is = (let a : end ≤ length own = inside.0 in omega arith);
+      below = (let a : end ≤ length own = inside.0 in let b : length own < end + 10 = inside.1 in omega arith);
+    }
+
+    found_still : place ≢ 9 → (k : ℕ) (head : Content) → k < w.count → Sends later longer k head → FoundSent head longer (stuffed_length longer)
+    found_still apart k head lt s =
+        subst (FoundSent head longer) (sym (ap (λ e. or_all e (length longer)) still_over))
+        (found_old head own (bus w) end inside.0 (found_to_end k head lt (sent_before apart k head lt s)))
+
+    tail_within : place ≢ 9 → (n : ℕ) → stuffed_end longer ≡ Some n → (n ≤ length longer) × (length longer < n + 10)
+    tail_within apart n e =
+        let here : end ≡ n = some_place (sym still_over ∙ e) in
+        let more : length longer ≡ length own + 1 = length_more own (bus w) in
+        let a : end ≤ length own = inside.0 in
+        let b : length own < end + 10 = inside.1 in
+        (omega arith, omega (arith, apart))
+      where
+        some_place : Some end ≡ Some n → end ≡ n
+        some_place p = cc
+
+    frame_goes_on : place ≢ 9 → AreInFrame later longer
+    frame_goes_on apart = record {
+      begun = (let more : length longer ≡ length own + 1 = length_more own (bus w) in omega arith);
+      each = λ k lt. ((f.each k lt).0, next_stretch apart k lt);
+      sender = (
+        f.sender.0,
+        f.sender.1,
+        f.sender.2,
+        record {
+          framing =
+              next_stretch apart f.sender.0 f.sender.1
+              ∙ ap (λ o. stretch_by (Framing o) longer) (ap (λ t. head_of t.sort) (sym (f.each f.sender.0 f.sender.1).1 ∙ f.sender.3.framing));
+          role = tail_sends f.sender.2 place end own (bus w) is_tail f.sender.3.role;
+        },
+      );
+      found = found_still apart;
+      tail = tail_within apart;
+    }
+
+    -- the frame ends
+    frame_ends : place ≡ 9 → AreInIntermission later []
+    frame_ends e = record {
+      each = λ k lt. (
+        (ends_there e k lt).0,
+        at_bit w handed k ∙ ap (λ n. or_next n (stretch_by (stretch_at w k).sort ((stretch_at w k).own ++ bus w ∷ []))) (ends_there e k lt).1.next,
+      );
+      short = omega arith;
+    }
+
+    pub tail_bit : AreInStep later
+    tail_bit = elim (cases_eq place 9) [
+      | inl e ↦ inr (inl ([], frame_ends e))
+      | inr apart ↦ inr (inr (longer, frame_goes_on apart))
+    ]
