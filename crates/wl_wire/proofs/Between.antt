@@ -16,6 +16,7 @@ use Rattle.wl_machine.specs.States.{sample_of, stretch_by}
 use Rattle.wl_machine.proofs.Callers.{role_first}
 use Rattle.wl_wire.specs.Wire.{Wire, Handed, Bit, Own, stretch_at, bus, sampled, is_between, is_between_by, may_be_alone, happens}
 use Rattle.wl_wire.specs.InStep.{IsSound, AreBetween, AreInIntermission, AreInFrame, AreInStep, Sends, is_fine}
+use Rattle.wl_wire.specs.Outcome.{IsFree}
 use Rattle.wl_wire.proofs.Bus.{Drives, level_cases, bus_dominant, bus_recessive, bus_silent}
 use Rattle.wl_wire.proofs.Events.{OwnHeads, sample_at, at_bit, alone, none_alone}
 use Rattle.wl_wire.proofs.Quiet.{StaysQuiet, Begins, GoesOn, read_back, stays_quiet, begins_frame, goes_on}
@@ -42,12 +43,12 @@ due_by (Delimiting role) own h d = cc
 due_by OffBus own h d = cc
 
 module _ (w : Wire) (sound : IsSound w.count w.frames) (heads : OwnHeads w) (b : AreBetween w) where
-  begun : (handed : ℕ → Handed) (k : ℕ) → k < w.count → bus w ≡ Dominant → Begins (stretch_at w k) (sample_at w handed k)
+  pub begun : (handed : ℕ → Handed) (k : ℕ) → k < w.count → bus w ≡ Dominant → Begins (stretch_at w k) (sample_at w handed k)
   begun handed k lt d =
       subst (λ l. Begins (stretch_at w k) (sample_of l (slice_get (w.frames k) (handed k).which) (handed k).mode)) (sym d)
       (begins_frame (stretch_at w k) (slice_get (w.frames k) (handed k).which) (handed k).mode (b k lt) (heads_content w sound heads k lt))
 
-  quiet : (handed : ℕ → Handed) (k : ℕ) → k < w.count → bus w ≡ Recessive → StaysQuiet (stretch_at w k) (sample_at w handed k)
+  pub quiet : (handed : ℕ → Handed) (k : ℕ) → k < w.count → bus w ≡ Recessive → StaysQuiet (stretch_at w k) (sample_at w handed k)
   quiet handed k lt r =
       subst (λ l. StaysQuiet (stretch_at w k) (sample_of l (slice_get (w.frames k) (handed k).which) (handed k).mode)) (sym r)
       (stays_quiet (stretch_at w k) (slice_get (w.frames k) (handed k).which) (handed k).mode (b k lt) (bus_recessive w r k lt) (heads_content w sound heads k lt))
@@ -58,7 +59,7 @@ module _ (w : Wire) (sound : IsSound w.count w.frames) (heads : OwnHeads w) (b :
     | inr r ↦ (quiet handed k lt r).fine
   ]
 
-  alone_quiet : (handed : Handed) (k : ℕ) → k < w.count → may_be_alone (stretch_at w k) ≡ true → StaysQuiet (stretch_at w k) (sampled Recessive (w.frames k) handed)
+  pub alone_quiet : (handed : Handed) (k : ℕ) → k < w.count → may_be_alone (stretch_at w k) ≡ true → StaysQuiet (stretch_at w k) (sampled Recessive (w.frames k) handed)
   alone_quiet handed k lt may =
       stays_quiet (stretch_at w k) (slice_get (w.frames k) handed.which) handed.mode (b k lt)
       (silent (drive_of (stretch_at w k)) (and_parts (is_between (stretch_at w k)) (not (is_dominant (drive_of (stretch_at w k)))) may).1) (heads_content w sound heads k lt)
@@ -77,7 +78,7 @@ module _ (w : Wire) (sound : IsSound w.count w.frames) (heads : OwnHeads w) (b :
     | inr a ↦ ap is_between a.next ∙ (alone_quiet handed k lt a.may).between
   ]
 
-  still_between : (handed : ℕ → Handed) → bus w ≡ Recessive → AreBetween (happens w (Bit handed))
+  pub still_between : (handed : ℕ → Handed) → bus w ≡ Recessive → AreBetween (happens w (Bit handed))
   still_between handed r k lt = ap is_between (at_bit w handed k) ∙ (quiet handed k lt r).between
 
   -- a frame begins
@@ -99,7 +100,7 @@ module _ (w : Wire) (sound : IsSound w.count w.frames) (heads : OwnHeads w) (b :
     role = role_first c Dominant;
   }
 
-  frame_begins : (handed : ℕ → Handed) → OwnHeads (happens w (Bit handed)) → bus w ≡ Dominant → AreInFrame (happens w (Bit handed)) (Dominant ∷ [])
+  pub frame_begins : (handed : ℕ → Handed) → OwnHeads (happens w (Bit handed)) → bus w ≡ Dominant → AreInFrame (happens w (Bit handed)) (Dominant ∷ [])
   frame_begins handed new_heads dominant =
       let d : Drives w = bus_dominant w dominant in
       let due : (head : Content) × ((stretch_at w d.machine).sort ≡ Framing (Some head)) = due_by (stretch_at w d.machine).sort (stretch_at w d.machine).own (b d.machine d.inside) d.dominant in
@@ -133,7 +134,7 @@ module _ (w : Wire) (own : List Level) (f : AreInIntermission w own) where
   silent_bus : bus w ≡ Recessive
   silent_bus = bus_silent w (λ k lt. ap drive_of (f.each k lt).1)
 
-  on : (handed : ℕ → Handed) (k : ℕ) (lt : k < w.count) → GoesOn (f.each k lt).0 own (sample_at w handed k)
+  pub on : (handed : ℕ → Handed) (k : ℕ) (lt : k < w.count) → GoesOn (f.each k lt).0 own (sample_at w handed k)
   on handed k lt =
       subst (λ l. GoesOn (f.each k lt).0 own (sample_of l (slice_get (w.frames k) (handed k).which) (handed k).mode)) (sym silent_bus)
       (goes_on (f.each k lt).0 own (slice_get (w.frames k) (handed k).which) (handed k).mode short_of_two)
@@ -154,17 +155,24 @@ module _ (w : Wire) (own : List Level) (f : AreInIntermission w own) where
     short = f.short;
   }
 
-  longer : (handed : ℕ → Handed) (k : ℕ) (lt : k < w.count) → stretch_at (happens w (Bit handed)) k ≡ stretch_by (Intermission (f.each k lt).0) (own ++ Recessive ∷ [])
+  pub longer : (handed : ℕ → Handed) (k : ℕ) (lt : k < w.count) → stretch_at (happens w (Bit handed)) k ≡ stretch_by (Intermission (f.each k lt).0) (own ++ Recessive ∷ [])
   longer handed k lt = at_bit w handed k ∙ ap (λ s. stretch_after s (Sample (sample_at w handed k))) (f.each k lt).1 ∙ (on handed k lt).next
 
-  pub intermission_bit : (handed : ℕ → Handed) → AreInStep (happens w (Bit handed))
-  intermission_bit handed = elim (cases_eq (length own) 1) [
+  pub intermission_free : (handed : ℕ → Handed) → IsFree (happens w (Bit handed))
+  intermission_free handed = elim (cases_eq (length own) 1) [
     | inl one ↦ inl (λ k lt. ap is_between (longer handed k lt) ∙ eq-eqb (length (own ++ Recessive ∷ [])) 2 (length-append own (Recessive ∷ []) ∙ ap (λ n. n + 1) one))
-    | inr apart ↦ inr (inl (
+    | inr apart ↦ inr (
       own ++ Recessive ∷ [],
       record {
         each = λ k lt. ((f.each k lt).0, longer handed k lt);
         short = (let e : length (own ++ Recessive ∷ []) ≡ length own + 1 = length-append own (Recessive ∷ []) in let s : length own < 2 = f.short in omega (arith, apart));
       },
-    ))
+    )
   ]
+
+  pub intermission_bit : (handed : ℕ → Handed) → AreInStep (happens w (Bit handed))
+  intermission_bit handed = in_step_by (intermission_free handed)
+    where
+      in_step_by : IsFree (happens w (Bit handed)) → AreInStep (happens w (Bit handed))
+      in_step_by (inl b) = inl b
+      in_step_by (inr i) = inr (inl i)

@@ -10,7 +10,7 @@ use Rattle.wl_machine.specs.Judged.{judged, or_next, stretch_of, stretch_after, 
 use Rattle.wl_machine.specs.Laws.{HeadLaws}
 use Rattle.wl_machine.specs.States.{stretch_by}
 use Rattle.wl_machine.proofs.Callers.{stretch_next}
-use Rattle.wl_wire.specs.Wire.{Wire, Handed, Bit, Own, stretch_at, bus, sampled, may_be_alone, happens}
+use Rattle.wl_wire.specs.Wire.{Wire, Handed, Bit, Own, stretch_at, bus, sampled, may_be_alone, added, happens}
 use Rattle.wl_wire.specs.InStep.{Has, is_fine, FindsNoError}
 
 -- each frame that is sent is one of the machine's own
@@ -91,13 +91,16 @@ one_same x y e = cc
 none_same : (x : Sampled) → [] ≡ Sample x ∷ [] → ⊥
 none_same x e = cc
 
-alone_fine : (w : Wire) (machine : ℕ) (handed : Handed) (k : ℕ) (x : Sampled) (b : Bool) → ((k == machine) && may_be_alone (stretch_at w k)) ≡ b
-    → (may_be_alone (stretch_at w k) ≡ true → is_fine (judged (stretch_at w k) (sampled Recessive (w.frames k) handed)).happened ≡ true)
-    → cond b (Sample (sampled Recessive (w.frames k) handed) ∷ []) [] ≡ Sample x ∷ [] → is_fine (judged (stretch_at w k) x).happened ≡ true
-alone_fine w machine handed k x true e fine h =
-    subst (λ y. is_fine (judged (stretch_at w k) y).happened ≡ true) (one_same x (sampled Recessive (w.frames k) handed) h)
-    (fine (and_parts (k == machine) (may_be_alone (stretch_at w k)) e).1)
-alone_fine w machine handed k x false e fine h = absurd (none_same x h)
+alone_by_test : (w : Wire) (machine : ℕ) (handed : Handed) (P : ℕ → Sampled → Type 0) (k : ℕ) (x : Sampled) (b : Bool) → ((k == machine) && may_be_alone (stretch_at w k)) ≡ b
+    → (may_be_alone (stretch_at w k) ≡ true → P k (sampled Recessive (w.frames k) handed)) → cond b (Sample (sampled Recessive (w.frames k) handed) ∷ []) [] ≡ Sample x ∷ [] → P k x
+alone_by_test w machine handed P k x true e alone_holds h =
+    subst (P k) (one_same x (sampled Recessive (w.frames k) handed) h) (alone_holds (and_parts (k == machine) (may_be_alone (stretch_at w k)) e).1)
+alone_by_test w machine handed P k x false e alone_holds h = absurd (none_same x h)
+
+-- what holds of a bit by itself holds of the sample that reaches a machine by such an event
+pub own_events : (w : Wire) (machine : ℕ) (handed : Handed) (P : ℕ → Sampled → Type 0) (k : ℕ) → (may_be_alone (stretch_at w k) ≡ true → P k (sampled Recessive (w.frames k) handed))
+    → (x : Sampled) → added w (Own machine handed) k ≡ Sample x ∷ [] → P k x
+own_events w machine handed P k alone_holds x h = alone_by_test w machine handed P k x ((k == machine) && may_be_alone (stretch_at w k)) refl alone_holds h
 
 pub finds_none : (w : Wire)
     → ((handed : ℕ → Handed) (k : ℕ) → k < w.count → is_fine (judged (stretch_at w k) (sample_at w handed k)).happened ≡ true)
@@ -106,4 +109,4 @@ pub finds_none : (w : Wire)
 finds_none w bits alones (Bit handed) k x lt h =
     subst (λ y. is_fine (judged (stretch_at w k) y).happened ≡ true) (one_same x (sample_at w handed k) h) (bits handed k lt)
 finds_none w bits alones (Own machine handed) k x lt h =
-    alone_fine w machine handed k x ((k == machine) && may_be_alone (stretch_at w k)) refl (alones handed k lt) h
+    own_events w machine handed (λ j y. is_fine (judged (stretch_at w j) y).happened ≡ true) k (alones handed k lt) x h

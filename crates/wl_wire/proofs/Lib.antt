@@ -1,7 +1,13 @@
 mod Between
 mod Bus
+mod Deeds
 mod Events
+mod LostSteps
+mod Losers
 mod Quiet
 mod Stuffing
 mod Tail
+mod Winners
+mod Passages
+mod FramePassages
 mod Run

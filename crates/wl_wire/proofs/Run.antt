@@ -1,5 +1,6 @@
 -- All machines of a wire, over any list of events.
 use Rattle.std.proofs.Common.{◌≡◌, ℕ, ◌<◌, ◌∙◌, List, [], ◌∷◌, ◌++◌, length, Bool, true, false, Option, Some, None, refl, sym, ap, arith, inl, inr}
+use Rattle.std.proofs.lemmas.List.Elements.{All-nil}
 use Rattle.wl_level.specs.declared.Level.{Level}
 use Rattle.wl_level.specs.declared.Level.TheVariants.{Recessive}
 use Rattle.wl_frame.specs.Grammar.{Content}
@@ -8,12 +9,20 @@ use Rattle.wl_machine.specs.Frames.{stuffed_end}
 use Rattle.wl_machine.specs.Judged.{judged}
 use Rattle.wl_machine.specs.Laws.{HeadLaws}
 use Rattle.wl_machine.specs.States.{stretch_by}
-use Rattle.wl_wire.specs.Wire.{Wire, Handed, Event, Bit, Own, stretch_at, may_be_alone, sampled, happens, wire_after, idle_wire}
-use Rattle.wl_wire.specs.InStep.{IsSound, AreInFrame, AreInStep, FindsNoError, is_fine}
+use Rattle.wl_wire.specs.Wire.{Wire, is_between, bus, Handed, Event, Bit, Own, stretch_at, may_be_alone, sampled, happens, wire_after, idle_wire}
+use Rattle.wl_wire.specs.Outcome.{Passage, HaveGot, IsFree}
+use Rattle.wl_wire.specs.Winner.{HasOneWinner}
+use Rattle.wl_wire.specs.InStep.{Has, IsSound, AreInFrame, AreInStep, FindsNoError, is_fine}
 use Rattle.wl_wire.proofs.Between.{between_fine, alone_between_fine, between_alone, between_bit, intermission_fine, none_alone_in_it, intermission_alone, intermission_bit}
 use Rattle.wl_wire.proofs.Events.{OwnHeads, sample_at, heads_at_bit, heads_alone, none_alone, finds_none}
+use Rattle.wl_wire.proofs.Losers.{LostSoFar}
+use Rattle.wl_wire.proofs.LostSteps.{no_frame, lost_between, lost_intermission, lost_bit}
+use Rattle.wl_wire.proofs.FramePassages.{got_stuffed, tail_progress}
+use Rattle.wl_wire.proofs.Passages.{Progress, HaveGotIn, between_progress, between_own_progress, intermission_progress, intermission_own_progress, got_in_alone}
+use Rattle.wl_wire.proofs.Passages.Progress.{free, under_way}
 use Rattle.wl_wire.proofs.Stuffing.{ArbitrationDecides, stuffed_bit, stuffed_fine}
 use Rattle.wl_wire.proofs.Tail.{tail_bit, tail_fine}
+use Rattle.wl_wire.proofs.Winners.{one_winner, begun_not_between}
 
 -- a machine in a frame may not have a bit by itself
 in_frame : (own : List Level) (head : Option Content) → 0 < length own → may_be_alone (stretch_by (Framing head) own) ≡ false
@@ -55,6 +64,8 @@ module _ (decides : ArbitrationDecides) (laws : HeadLaws) where
   record IsKept (w : Wire) : Type 0 where
     heads : OwnHeads w
     step : AreInStep w
+    lost : LostSoFar w
+    progress : Progress w
 
   step_bit : (w : Wire) → IsSound w.count w.frames → OwnHeads w → AreInStep w → (handed : ℕ → Handed) → AreInStep (happens w (Bit handed))
   step_bit w sound heads (inl b) handed = between_bit w sound heads b handed (heads_at_bit w handed laws heads)
@@ -66,9 +77,42 @@ module _ (decides : ArbitrationDecides) (laws : HeadLaws) where
   step_alone w sound heads (inr (inl i)) machine handed = inr (inl (i.0, intermission_alone w i.0 i.1 machine handed))
   step_alone w sound heads (inr (inr f)) machine handed = inr (inr (f.0, frame_alone w f.0 sound heads f.1 machine handed))
 
+  lost_alone : (w : Wire) → IsSound w.count w.frames → OwnHeads w → AreInStep w → LostSoFar w → (machine : ℕ) (handed : Handed) → LostSoFar (happens w (Own machine handed))
+  lost_alone w sound heads (inl b) lost machine handed = lost_between (happens w (Own machine handed)) (between_alone w sound heads b machine handed)
+  lost_alone w sound heads (inr (inl i)) lost machine handed = lost_intermission (happens w (Own machine handed)) i.0 (intermission_alone w i.0 i.1 machine handed)
+  lost_alone w sound heads (inr (inr f)) lost machine handed = λ k head own lt e r.
+      lost k head own lt (sym (none_alone w machine handed k (frame_not_alone w f.0 sound heads f.1 k lt)) ∙ e) r
+
+  progress_framed : (w : Wire) → IsSound w.count w.frames → OwnHeads w → (passages : List Passage) (own : List Level) (f : AreInFrame w own) → HaveGotIn w own passages
+      → (handed : ℕ → Handed) (o : Option ℕ) → stuffed_end own ≡ o → Progress (happens w (Bit handed))
+  progress_framed w sound heads passages own f got handed None e =
+      under_way passages (own ++ bus w ∷ []) (stuffed_bit decides w own sound heads f e handed) (got_stuffed decides w own sound heads f e passages got handed)
+  progress_framed w sound heads passages own f got handed (Some end) e = tail_progress w own sound heads f end e passages got handed
+
+  progress_bit : (w : Wire) → IsSound w.count w.frames → OwnHeads w → Progress w → (handed : ℕ → Handed) → Progress (happens w (Bit handed))
+  progress_bit w sound heads (free passages (inl b) got) handed = between_progress w sound heads b passages got handed (heads_at_bit w handed laws heads)
+  progress_bit w sound heads (free passages (inr i) got) handed = intermission_progress w i.0 i.1 passages got handed
+  progress_bit w sound heads (under_way passages own f got) handed = progress_framed w sound heads passages own f got handed (stuffed_end own) refl
+
+  progress_alone : (w : Wire) → IsSound w.count w.frames → OwnHeads w → Progress w → (machine : ℕ) (handed : Handed) → Progress (happens w (Own machine handed))
+  progress_alone w sound heads (free passages (inl b) got) machine handed = between_own_progress w sound heads b passages got machine handed
+  progress_alone w sound heads (free passages (inr i) got) machine handed = intermission_own_progress w i.0 i.1 passages got machine handed
+  progress_alone w sound heads (under_way passages own f got) machine handed =
+      under_way passages own (frame_alone w own sound heads f machine handed) (got_in_alone w own passages machine handed (frame_not_alone w own sound heads f) got)
+
   kept_on : (w : Wire) → IsSound w.count w.frames → IsKept w → (event : Event) → IsKept (happens w event)
-  kept_on w sound kept (Bit handed) = record { heads = heads_at_bit w handed laws kept.heads; step = step_bit w sound kept.heads kept.step handed }
-  kept_on w sound kept (Own machine handed) = record { heads = heads_alone w machine handed laws kept.heads; step = step_alone w sound kept.heads kept.step machine handed }
+  kept_on w sound kept (Bit handed) = record {
+    heads = heads_at_bit w handed laws kept.heads;
+    step = step_bit w sound kept.heads kept.step handed;
+    lost = lost_bit decides laws w sound kept.heads kept.step kept.lost handed (heads_at_bit w handed laws kept.heads);
+    progress = progress_bit w sound kept.heads kept.progress handed;
+  }
+  kept_on w sound kept (Own machine handed) = record {
+    heads = heads_alone w machine handed laws kept.heads;
+    step = step_alone w sound kept.heads kept.step machine handed;
+    lost = lost_alone w sound kept.heads kept.step kept.lost machine handed;
+    progress = progress_alone w sound kept.heads kept.progress machine handed;
+  }
 
   kept_after : (w : Wire) (events : List Event) → IsSound w.count w.frames → IsKept w → IsKept (wire_after w events)
   kept_after w [] sound kept = kept
@@ -79,7 +123,17 @@ module _ (decides : ArbitrationDecides) (laws : HeadLaws) where
   sound_after w (event ∷ events) sound = sound_after (happens w event) events sound
 
   at_first : (count : ℕ) (frames : ℕ → List Content) → IsKept (idle_wire count frames)
-  at_first count frames = record { heads = λ k c e. absurd (none_some c e); step = inl (λ k lt. refl) }
+  at_first count frames = record {
+    heads = λ k c e. absurd (none_some c e);
+    step = inl (λ k lt. refl);
+    lost = lost_between (idle_wire count frames) (λ k lt. refl);
+    progress = free [] (inl (λ k lt. refl)) (record {
+      senders = All-nil (λ p. (p.sender < count) × Has frames p.sender p.frame);
+      begun = λ k lt. refl;
+      frames = λ k lt. refl;
+      acknowledged = λ k lt. refl;
+    });
+  }
     where
       none_some : (c : Content) → None ≡ Some c → ⊥
       none_some c e = cc
@@ -109,3 +163,20 @@ module _ (decides : ArbitrationDecides) (laws : HeadLaws) where
   pub find_no_error : (count : ℕ) (frames : ℕ → List Content) (events : List Event) → IsSound count frames → FindsNoError (wire_after (idle_wire count frames) events)
   find_no_error count frames events sound =
       no_error (wire_after (idle_wire count frames) events) (sound_after (idle_wire count frames) events sound) (kept count frames events sound)
+
+  pub have_one_winner : (count : ℕ) (frames : ℕ → List Content) (events : List Event) → IsSound count frames → HasOneWinner (wire_after (idle_wire count frames) events)
+  have_one_winner count frames events sound =
+      let all : IsKept (wire_after (idle_wire count frames) events) = kept count frames events sound in
+      one_winner (wire_after (idle_wire count frames) events) (sound_after (idle_wire count frames) events sound) all.heads all.step all.lost
+
+  -- where no frame is under way
+  passages_by : (w : Wire) → Progress w → IsFree w → (passages : List Passage) × HaveGot w passages
+  passages_by w (free passages is got) no_frame_there = (passages, got)
+  passages_by w (under_way passages own f got) (inl b) =
+      absurd (begun_not_between f.sender.2 own f.begun (ap is_between (sym f.sender.3.framing) ∙ b f.sender.0 f.sender.1))
+  passages_by w (under_way passages own f got) (inr i) =
+      absurd (no_frame (i.1.each f.sender.0 f.sender.1).0 f.sender.2 own i.0 (sym (i.1.each f.sender.0 f.sender.1).1 ∙ f.sender.3.framing))
+
+  pub all_got : (count : ℕ) (frames : ℕ → List Content) (events : List Event) → IsSound count frames → IsFree (wire_after (idle_wire count frames) events)
+      → (passages : List Passage) × HaveGot (wire_after (idle_wire count frames) events) passages
+  all_got count frames events sound is = passages_by (wire_after (idle_wire count frames) events) (kept count frames events sound).progress is

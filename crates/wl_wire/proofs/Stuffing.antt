@@ -178,13 +178,13 @@ module _ (decides : ArbitrationDecides) (w : Wire) (own : List Level) (sound : I
   ]
 
   -- a sender finds a dominant bit of the arbitration where it sends a recessive one
-  record Loses (head : Content) : Type 0 where
-    free : is_stuff own place ≡ false
-    arbitration : is_arbitration (bits_of head) (length kept) ≡ true
-    recessive : sent_at head own place ≡ Recessive
-    dominant : bus w ≡ Dominant
+  pub record Loses (head : Content) : Type 0 where
+    pub free : is_stuff own place ≡ false
+    pub arbitration : is_arbitration (bits_of head) (length kept) ≡ true
+    pub recessive : sent_at head own place ≡ Recessive
+    pub dominant : bus w ≡ Dominant
 
-  found_here : (k : ℕ) (head : Content) → k < w.count → Sends w own k head → FoundSent head own place
+  pub found_here : (k : ℕ) (head : Content) → k < w.count → Sends w own k head → FoundSent head own place
   found_here k head lt s = subst (FoundSent head own) (ap (λ e. or_all e (length own)) none) (f.found k head lt s)
 
   rest_of_bits : (k : ℕ) (head : Content) → k < w.count → Sends w own k head → HasRest (bits_of head) kept
@@ -221,7 +221,7 @@ module _ (decides : ArbitrationDecides) (w : Wire) (own : List Level) (sound : I
       }
 
   -- what becomes of a sender
-  fate : (k : ℕ) (head : Content) → k < w.count → Sends w own k head → (sent_at head own place ≡ bus w) ⊎ Loses head
+  pub fate : (k : ℕ) (head : Content) → k < w.count → Sends w own k head → (sent_at head own place ≡ bus w) ⊎ Loses head
   fate k head lt s = elim (level_cases (sent_at head own place)) [
     | inl d ↦ inl (d ∙ sym (bus_driven w k lt (sends_drive k head s ∙ d)))
     | inr r ↦ elim (level_cases (bus w)) [
@@ -278,13 +278,16 @@ module _ (decides : ArbitrationDecides) (w : Wire) (own : List Level) (sound : I
     ]
 
   -- and the frame is one bit longer
+  pub kept_role : (head : Content) → frame_role (Some head) own ≡ Tx → sent_at head own place ≡ bus w → frame_role (Some head) (own ++ bus w ∷ []) ≡ Tx
+  kept_role head role found =
+      role_next head own (bus w)
+      ∙ ap (λ l. cond l Rx (frame_role (Some head) own)) (lost_here head own (bus w)
+      ∙ ap (λ l. not (is_stuff own place) && is_arbitration (bits_of head) (length kept) && not (is_dominant l) && is_dominant (bus w)) found
+      ∙ no_loss (is_stuff own place) (is_arbitration (bits_of head) (length kept)) (bus w))
+      ∙ role
+
   carried_role : frame_role (Some carrier.head) (own ++ bus w ∷ []) ≡ Tx
-  carried_role =
-      role_next carrier.head own (bus w)
-      ∙ ap (λ l. cond l Rx (frame_role (Some carrier.head) own)) (lost_here carrier.head own (bus w)
-      ∙ ap (λ l. not (is_stuff own place) && is_arbitration (bits_of carrier.head) (length kept) && not (is_dominant l) && is_dominant (bus w)) carrier.carries
-      ∙ no_loss (is_stuff own place) (is_arbitration (bits_of carrier.head) (length kept)) (bus w))
-      ∙ carrier.sends.role
+  carried_role = kept_role carrier.head carrier.sends.role carrier.carries
 
   lost_role : (head : Content) → Loses head → frame_role (Some head) (own ++ bus w ∷ []) ≡ Rx
   lost_role head l =
@@ -302,7 +305,7 @@ module _ (decides : ArbitrationDecides) (w : Wire) (own : List Level) (sound : I
     abbrev longer : List Level
     longer = own ++ bus w ∷ []
 
-    next_stretch : (k : ℕ) (lt : k < w.count) → stretch_at later k ≡ stretch_by (Framing (f.each k lt).0) longer
+    pub next_stretch : (k : ℕ) (lt : k < w.count) → stretch_at later k ≡ stretch_by (Framing (f.each k lt).0) longer
     next_stretch k lt =
         at_bit w handed k
         ∙ after_none (stretch_at w k) (sample_at w handed k) (Framing (f.each k lt).0) own (f.each k lt).1
@@ -333,10 +336,10 @@ module _ (decides : ArbitrationDecides) (w : Wire) (own : List Level) (sound : I
           (at_new own (bus w) ∙ sym (found_bit k head lt s) ∙ sym (sent_old head own (bus w) place (omega arith))))
     ]
 
-    end_next : stuffed_end longer ≡ or_at None (ends_at longer (length longer)) (length longer)
+    pub end_next : stuffed_end longer ≡ or_at None (ends_at longer (length longer)) (length longer)
     end_next = end_more own (bus w) ∙ ap (λ o. or_at o (ends_at longer (length longer)) (length longer)) none
 
-    all_stuffed : stuffed_length longer ≡ suc place
+    pub all_stuffed : stuffed_length longer ≡ suc place
     all_stuffed = ap (λ e. or_all e (length longer)) end_next ∙ end_there (ends_at longer (length longer)) (length longer) ∙ length_more own (bus w)
 
     pub stuffed_bit : AreInFrame later longer

@@ -1,95 +1,111 @@
 -- All machines in the ten bits after the stuffed part, one bit of the bus later.
 use Rattle.std.proofs.Common.{◌≡◌, ◌≢◌, ℕ, ◌+◌, ◌-◌, ◌<◌, ◌≤◌, ◌∙◌, List, [], ◌∷◌, ◌++◌, length, Bool, true, false, cond, not, ◌&&◌, Option, Some, None, refl, sym, ap, subst, arith, inl, inr}
 use Rattle.std.specs.Prelude.{◌==◌, slice_get}
-use Rattle.std.proofs.lemmas.Bool.{cases_Bool, cases_eq, ne_eqb, and_right}
+use Rattle.std.proofs.lemmas.Bool.{cases_eq, ne_eqb, and_right}
 use Rattle.wl_level.specs.declared.Level.{Level}
 use Rattle.wl_level.specs.declared.Level.TheVariants.{Dominant, Recessive}
 use Rattle.wl_level.proofs.Callers.{length_more}
-use Rattle.wl_confine.specs.declared.ErrorKind.TheVariants.{Crc, Form, Bit as BitError}
+use Rattle.wl_confine.specs.declared.ErrorKind.TheVariants.{Crc}
 use Rattle.wl_confine.specs.declared.Mode.{Mode}
 use Rattle.wl_confine.specs.declared.Happened.TheVariants as happens_there
 use Rattle.wl_frame.specs.Stuffing.{destuffed_bits}
 use Rattle.wl_frame.specs.Grammar.{Content, bits_of, content_of, is_crc_right}
 use Rattle.wl_machine.specs.declared.state.Role.{Role}
 use Rattle.wl_machine.specs.declared.state.Role.TheVariants.{Tx, Rx}
-use Rattle.wl_machine.specs.Stretch.{Sampled, Judgement, continues}
+use Rattle.wl_machine.specs.Stretch.{Sampled, Judgement, Ended, continues}
 use Rattle.wl_machine.specs.Stretch.Ended.{Sent, Received}
 use Rattle.wl_machine.specs.Stretch.Sort.{Framing, Intermission}
 use Rattle.wl_machine.specs.Flags.{fails}
 use Rattle.wl_machine.specs.Frames.{stuffed_end, frame_role, framing_by, framing_sent, framing_received, drive_up_to, tail_drive, sent_tail, received_tail, acknowledging, last_bit, unanswered}
-use Rattle.wl_machine.specs.Judged.{judged, or_next, drive_of, head_of}
+use Rattle.wl_machine.specs.Judged.{judged, or_next, drive_of, head_of, role_of}
 use Rattle.wl_machine.specs.Laws.{FoundSent}
 use Rattle.wl_machine.specs.States.{IsTail, sample_of, stretch_by}
 use Rattle.wl_machine.proofs.Callers.{end_stays, role_receives, tail_sends, kept_is_all}
 use Rattle.wl_wire.specs.Wire.{Wire, Handed, Bit, stretch_at, bus, happens}
 use Rattle.wl_wire.specs.InStep.{IsSound, AreInIntermission, AreInFrame, AreInStep, Sends, or_all, stuffed_length, is_fine}
+use Rattle.wl_wire.specs.Outcome.{completed, is_acked}
 use Rattle.wl_wire.proofs.Bus.{bus_driven, bus_silent}
 use Rattle.wl_wire.proofs.Events.{OwnHeads, sample_at, at_bit}
 use Rattle.wl_wire.proofs.Quiet.{read_back}
 use Rattle.wl_wire.proofs.Stuffing.{IsMember, Receives, member, role_cases, not_both_roles, sends_content, sends_apart, after_none, found_old}
 
--- the stretch goes on without an error
-pub record GoesOnBy (j : Judgement) : Type 0 where
+-- The stretch goes on without an error, with or without an acknowledgement, and with these frames completed.
+pub record GoesOnBy (acked : Bool) (got : List Ended) (j : Judgement) : Type 0 where
   pub next : j.next ≡ None
   pub fine : is_fine j.happened ≡ true
+  pub acked_is : is_acked j.happened ≡ acked
+  pub got_is : completed j.ended ≡ got
 
 -- the intermission begins
-pub record EndsBy (role : Role) (j : Judgement) : Type 0 where
+pub record EndsBy (role : Role) (got : List Ended) (j : Judgement) : Type 0 where
   pub next : j.next ≡ Some (stretch_by (Intermission role) [])
   pub fine : is_fine j.happened ≡ true
+  pub acked_is : is_acked j.happened ≡ false
+  pub got_is : completed j.ended ≡ got
 
--- a transmitter in these bits, and a receiver
-sent_on : (head : Content) (n : ℕ) (given : Option Content) (mode : Mode) → (n == 1) ≡ false → (n == 9) ≡ false → GoesOnBy (sent_tail head n (sample_of Recessive given mode))
+-- the last bit of the end of frame, of who sent it, and of who received it
+abbrev ended_sent : Content → Judgement
+ended_sent head = record { happened = happens_there.Sent; ended = Sent head; next = Some (stretch_by (Intermission Tx) []) }
+
+abbrev reception : List Level → Judgement
+reception bits = record { happened = happens_there.Nothing; ended = Received (content_of bits); next = None }
+
+-- a transmitter in these bits
+sent_on : (head : Content) (n : ℕ) (given : Option Content) (mode : Mode) → n ≢ 1 → n ≢ 9 → GoesOnBy false [] (sent_tail head n (sample_of Recessive given mode))
 sent_on head n given mode slot last =
-    subst GoesOnBy
-    (sym (ap (λ b. cond b (unanswered mode) (cond (n == 9) (record { happened = happens_there.Sent; ended = Sent head; next = Some (stretch_by (Intermission Tx) []) }) (continues happens_there.Nothing))) slot
-    ∙ ap (λ b. cond b (record { happened = happens_there.Sent; ended = Sent head; next = Some (stretch_by (Intermission Tx) []) }) (continues happens_there.Nothing)) last))
-    (record { next = refl; fine = refl })
+    subst (GoesOnBy false [])
+    (sym (ap (λ b. cond b (unanswered mode) (cond (n == 9) (ended_sent head) (continues happens_there.Nothing))) (ne_eqb n 1 slot)
+    ∙ ap (λ b. cond b (ended_sent head) (continues happens_there.Nothing)) (ne_eqb n 9 last)))
+    (record { next = refl; fine = refl; acked_is = refl; got_is = refl })
 
-sent_slot : (head : Content) (n : ℕ) (given : Option Content) (mode : Mode) → (n == 1) ≡ true → GoesOnBy (sent_tail head n (sample_of Dominant given mode))
+sent_slot : (head : Content) (n : ℕ) (given : Option Content) (mode : Mode) → n ≡ 1 → GoesOnBy false [] (sent_tail head n (sample_of Dominant given mode))
 sent_slot head n given mode slot =
-    subst GoesOnBy (sym (ap (λ b. cond b (continues happens_there.Nothing) (fails Tx mode BitError)) slot)) (record { next = refl; fine = refl })
+    subst (λ m. GoesOnBy false [] (sent_tail head m (sample_of Dominant given mode))) (sym slot) (record { next = refl; fine = refl; acked_is = refl; got_is = refl })
 
-sent_end : (head : Content) (n : ℕ) (given : Option Content) (mode : Mode) → (n == 1) ≡ false → (n == 9) ≡ true → EndsBy Tx (sent_tail head n (sample_of Recessive given mode))
-sent_end head n given mode slot last =
-    subst (EndsBy Tx)
-    (sym (ap (λ b. cond b (unanswered mode) (cond (n == 9) (record { happened = happens_there.Sent; ended = Sent head; next = Some (stretch_by (Intermission Tx) []) }) (continues happens_there.Nothing))) slot
-    ∙ ap (λ b. cond b (record { happened = happens_there.Sent; ended = Sent head; next = Some (stretch_by (Intermission Tx) []) }) (continues happens_there.Nothing)) last))
-    (record { next = refl; fine = refl })
+sent_end : (head : Content) (n : ℕ) (given : Option Content) (mode : Mode) → n ≡ 9 → EndsBy Tx (Sent head ∷ []) (sent_tail head n (sample_of Recessive given mode))
+sent_end head n given mode last =
+    subst (λ m. EndsBy Tx (Sent head ∷ []) (sent_tail head m (sample_of Recessive given mode))) (sym last) (record { next = refl; fine = refl; acked_is = refl; got_is = refl })
 
--- after the acknowledgement slot, or before it, where the CRC is right
-received_by : (bits : List Level) (n : ℕ) (mode : Mode) (right wrong : Bool) → wrong ≡ false
-    → GoesOnBy (cond wrong (fails Rx mode Crc) (cond right (record { happened = happens_there.Nothing; ended = Received (content_of bits); next = None }) (continues happens_there.Nothing)))
-received_by bits n mode true true e = cc
-received_by bits n mode false true e = cc
-received_by bits n mode true false e = record { next = refl; fine = refl }
-received_by bits n mode false false e = record { next = refl; fine = refl }
+-- a receiver, where the CRC is right
+abbrev pub got_at : List Level → ℕ → List Ended
+got_at bits n = cond (n == 8) (Received (content_of bits) ∷ []) []
 
-received_on : (bits : List Level) (n : ℕ) (given : Option Content) (mode : Mode) → is_crc_right bits ≡ true → (n == 1) ≡ false → (n == 9) ≡ false
-    → GoesOnBy (received_tail bits n (sample_of Recessive given mode))
+received_by : (bits : List Level) (mode : Mode) (right wrong : Bool) → wrong ≡ false
+    → GoesOnBy false (cond right (Received (content_of bits) ∷ []) []) (cond wrong (fails Rx mode Crc) (cond right (reception bits) (continues happens_there.Nothing)))
+received_by bits mode true true e = cc
+received_by bits mode false true e = cc
+received_by bits mode true false e = record { next = refl; fine = refl; acked_is = refl; got_is = refl }
+received_by bits mode false false e = record { next = refl; fine = refl; acked_is = refl; got_is = refl }
+
+received_on : (bits : List Level) (n : ℕ) (given : Option Content) (mode : Mode) → is_crc_right bits ≡ true → n ≢ 1 → n ≢ 9
+    → GoesOnBy (n == 1) (got_at bits n) (received_tail bits n (sample_of Recessive given mode))
 received_on bits n given mode crc slot last =
     let x : Sampled = sample_of Recessive given mode in
-    let rest : Judgement = cond (n == 2 && not (is_crc_right bits)) (fails Rx mode Crc) (cond (n == 8) (record { happened = happens_there.Nothing; ended = Received (content_of bits); next = None }) (continues happens_there.Nothing)) in
-    subst GoesOnBy
-    (sym (ap (λ b. cond b (acknowledging bits x) (cond (n == 9) (last_bit x) rest)) slot ∙ ap (λ b. cond b (last_bit x) rest) last))
-    (received_by bits n mode (n == 8) (n == 2 && not (is_crc_right bits)) (and_right (n == 2) (not (is_crc_right bits)) (ap not crc)))
+    let rest : Judgement = cond (n == 2 && not (is_crc_right bits)) (fails Rx mode Crc) (cond (n == 8) (reception bits) (continues happens_there.Nothing)) in
+    subst (λ b. GoesOnBy b (got_at bits n) (received_tail bits n x)) (sym (ne_eqb n 1 slot))
+    (subst (GoesOnBy false (got_at bits n))
+    (sym (ap (λ b. cond b (acknowledging bits x) (cond (n == 9) (last_bit x) rest)) (ne_eqb n 1 slot) ∙ ap (λ b. cond b (last_bit x) rest) (ne_eqb n 9 last)))
+    (received_by bits mode (n == 8) (n == 2 && not (is_crc_right bits)) (and_right (n == 2) (not (is_crc_right bits)) (ap not crc))))
 
-received_slot : (bits : List Level) (n : ℕ) (given : Option Content) (mode : Mode) → is_crc_right bits ≡ true → (n == 1) ≡ true
-    → GoesOnBy (received_tail bits n (sample_of Dominant given mode))
+received_slot : (bits : List Level) (n : ℕ) (given : Option Content) (mode : Mode) → is_crc_right bits ≡ true → n ≡ 1
+    → GoesOnBy (n == 1) (got_at bits n) (received_tail bits n (sample_of Dominant given mode))
 received_slot bits n given mode crc slot =
-    let x : Sampled = sample_of Dominant given mode in
-    subst GoesOnBy
-    (sym (ap (λ b. cond b (acknowledging bits x) (cond (n == 9) (last_bit x) (fails Rx mode Form))) slot
-    ∙ ap (λ b. cond (not b) (continues happens_there.Nothing) (continues happens_there.Acked)) crc))
-    (record { next = refl; fine = refl })
+    subst (λ m. GoesOnBy (m == 1) (got_at bits m) (received_tail bits m (sample_of Dominant given mode))) (sym slot)
+    (subst (GoesOnBy true []) (sym (ap (λ b. cond (not b) (continues happens_there.Nothing) (continues happens_there.Acked)) crc))
+    (record { next = refl; fine = refl; acked_is = refl; got_is = refl }))
 
-received_end : (bits : List Level) (n : ℕ) (given : Option Content) (mode : Mode) → (n == 1) ≡ false → (n == 9) ≡ true → EndsBy Rx (received_tail bits n (sample_of Recessive given mode))
-received_end bits n given mode slot last =
-    let x : Sampled = sample_of Recessive given mode in
-    let rest : Judgement = cond (n == 2 && not (is_crc_right bits)) (fails Rx mode Crc) (cond (n == 8) (record { happened = happens_there.Nothing; ended = Received (content_of bits); next = None }) (continues happens_there.Nothing)) in
-    subst (EndsBy Rx)
-    (sym (ap (λ b. cond b (acknowledging bits x) (cond (n == 9) (last_bit x) rest)) slot ∙ ap (λ b. cond b (last_bit x) rest) last))
-    (record { next = refl; fine = refl })
+received_end : (bits : List Level) (n : ℕ) (given : Option Content) (mode : Mode) → n ≡ 9 → EndsBy Rx [] (received_tail bits n (sample_of Recessive given mode))
+received_end bits n given mode last =
+    subst (λ m. EndsBy Rx [] (received_tail bits m (sample_of Recessive given mode))) (sym last) (record { next = refl; fine = refl; acked_is = refl; got_is = refl })
+
+-- what the next of these bits gives to a machine in this role
+abbrev pub acked_in : Role → ℕ → Bool
+acked_in Tx n = false
+acked_in Rx n = n == 1
+
+abbrev pub got_in : Role → List Level → ℕ → List Ended
+got_in Tx bits n = []
+got_in Rx bits n = got_at bits n
 
 module _ (w : Wire) (own : List Level) (sound : IsSound w.count w.frames) (heads : OwnHeads w) (f : AreInFrame w own)
     (end : ℕ) (over : stuffed_end own ≡ Some end) where
@@ -103,11 +119,11 @@ module _ (w : Wire) (own : List Level) (sound : IsSound w.count w.frames) (heads
   found_to_end k head lt s = subst (FoundSent head own) (ap (λ e. or_all e (length own)) over) (f.found k head lt s)
 
   -- what all have is what a sender sent
-  kept_is : (k : ℕ) (head : Content) → k < w.count → Sends w own k head → kept ≡ bits_of head
+  pub kept_is : (k : ℕ) (head : Content) → k < w.count → Sends w own k head → kept ≡ bits_of head
   kept_is k head lt s = kept_is_all head own end (sends_content w own k head sound heads lt s) over (found_to_end k head lt s)
 
   -- so there is one
-  same_head : (j k : ℕ) (a b : Content) → j < w.count → k < w.count → Sends w own j a → Sends w own k b → a ≡ b
+  pub same_head : (j k : ℕ) (a b : Content) → j < w.count → k < w.count → Sends w own j a → Sends w own k b → a ≡ b
   same_head j k a b lj lk p q =
       sym (read_back a (sends_content w own j a sound heads lj p)).content
       ∙ ap content_of (sym (kept_is j a lj p) ∙ kept_is k b lk q)
@@ -141,7 +157,7 @@ module _ (w : Wire) (own : List Level) (sound : IsSound w.count w.frames) (heads
     | inr other ↦ answers_at 0 (let two : 2 ≤ w.count = sound.two in omega arith) other
   ]
 
-  crc : is_crc_right kept ≡ true
+  pub crc : is_crc_right kept ≡ true
   crc = ap is_crc_right (kept_is f.sender.0 f.sender.2 f.sender.1 f.sender.3) ∙ (read_back f.sender.2 (sends_content w own f.sender.0 f.sender.2 sound heads f.sender.1 f.sender.3)).crc
 
   -- what each drives
@@ -190,30 +206,56 @@ module _ (w : Wire) (own : List Level) (sound : IsSound w.count w.frames) (heads
         ∙ ap (λ o. framing_received own o (sample_at w handed k)) over
         ∙ ap (λ b. received_tail kept place (sample_of b (given k) (mode k))) e
 
-    in_slot : (place == 1) ≡ true → (k : ℕ) → IsMember w own k → GoesOnBy (judged (stretch_at w k) (sample_at w handed k))
-    in_slot slot k (inl m) = subst GoesOnBy (sym (sends_judged k m.0 Dominant m.1 (bus_in_slot slot))) (sent_slot m.0 place (given k) (mode k) slot)
-    in_slot slot k (inr m) = subst GoesOnBy (sym (receives_judged k m.0 Dominant m.1 (bus_in_slot slot))) (received_slot kept place (given k) (mode k) crc slot)
+    role_is : (k : ℕ) (head : Option Content) (role : Role) → stretch_at w k ≡ stretch_by (Framing head) own → frame_role head own ≡ role → role_of (stretch_at w k) ≡ role
+    role_is k head role e r = ap role_of e ∙ r
 
-    elsewhere : (place == 1) ≡ false → (place == 9) ≡ false → (k : ℕ) → IsMember w own k → GoesOnBy (judged (stretch_at w k) (sample_at w handed k))
-    elsewhere slot last k (inl m) = subst GoesOnBy (sym (sends_judged k m.0 Recessive m.1 (bus_elsewhere slot))) (sent_on m.0 place (given k) (mode k) slot last)
-    elsewhere slot last k (inr m) = subst GoesOnBy (sym (receives_judged k m.0 Recessive m.1 (bus_elsewhere slot))) (received_on kept place (given k) (mode k) crc slot last)
+    abbrev GoesOnIn : ℕ → Role → Judgement → Type 0
+    GoesOnIn k role j = GoesOnBy (acked_in role place) (got_in role kept place) j
 
-    at_end : (place == 1) ≡ false → (place == 9) ≡ true → (k : ℕ) → IsMember w own k → (role : Role) × EndsBy role (judged (stretch_at w k) (sample_at w handed k))
-    at_end slot last k (inl m) = (Tx, subst (EndsBy Tx) (sym (sends_judged k m.0 Recessive m.1 (bus_elsewhere slot))) (sent_end m.0 place (given k) (mode k) slot last))
-    at_end slot last k (inr m) = (Rx, subst (EndsBy Rx) (sym (receives_judged k m.0 Recessive m.1 (bus_elsewhere slot))) (received_end kept place (given k) (mode k) slot last))
+    as_role : (k : ℕ) (role : Role) → role_of (stretch_at w k) ≡ role → GoesOnIn k role (judged (stretch_at w k) (sample_at w handed k))
+        → GoesOnIn k (role_of (stretch_at w k)) (judged (stretch_at w k) (sample_at w handed k))
+    as_role k role e g = subst (λ r. GoesOnIn k r (judged (stretch_at w k) (sample_at w handed k))) (sym e) g
 
-    goes_on_there : place ≢ 9 → (k : ℕ) → k < w.count → GoesOnBy (judged (stretch_at w k) (sample_at w handed k))
-    goes_on_there apart k lt = elim (cases_Bool (place == 1)) [
+    in_slot : place ≡ 1 → (k : ℕ) → IsMember w own k → GoesOnIn k (role_of (stretch_at w k)) (judged (stretch_at w k) (sample_at w handed k))
+    in_slot slot k (inl m) =
+        as_role k Tx (role_is k (Some m.0) Tx m.1.framing m.1.role)
+        (subst (GoesOnBy false []) (sym (sends_judged k m.0 Dominant m.1 (bus_in_slot (ap (λ n. n == 1) slot)))) (sent_slot m.0 place (given k) (mode k) slot))
+    in_slot slot k (inr m) =
+        as_role k Rx (role_is k m.0 Rx m.1.framing m.1.role)
+        (subst (GoesOnBy (place == 1) (got_at kept place)) (sym (receives_judged k m.0 Dominant m.1 (bus_in_slot (ap (λ n. n == 1) slot)))) (received_slot kept place (given k) (mode k) crc slot))
+
+    elsewhere : place ≢ 1 → place ≢ 9 → (k : ℕ) → IsMember w own k → GoesOnIn k (role_of (stretch_at w k)) (judged (stretch_at w k) (sample_at w handed k))
+    elsewhere slot last k (inl m) =
+        as_role k Tx (role_is k (Some m.0) Tx m.1.framing m.1.role)
+        (subst (GoesOnBy false []) (sym (sends_judged k m.0 Recessive m.1 (bus_elsewhere (ne_eqb place 1 slot)))) (sent_on m.0 place (given k) (mode k) slot last))
+    elsewhere slot last k (inr m) =
+        as_role k Rx (role_is k m.0 Rx m.1.framing m.1.role)
+        (subst (GoesOnBy (place == 1) (got_at kept place)) (sym (receives_judged k m.0 Recessive m.1 (bus_elsewhere (ne_eqb place 1 slot)))) (received_on kept place (given k) (mode k) crc slot last))
+
+    pub goes_on_there : place ≢ 9 → (k : ℕ) → k < w.count → GoesOnBy (acked_in (role_of (stretch_at w k)) place) (got_in (role_of (stretch_at w k)) kept place) (judged (stretch_at w k) (sample_at w handed k))
+    goes_on_there apart k lt = elim (cases_eq place 1) [
       | inl slot ↦ in_slot slot k (member w own f k lt)
-      | inr off ↦ elsewhere off (ne_eqb place 9 apart) k (member w own f k lt)
+      | inr off ↦ elsewhere off apart k (member w own f k lt)
     ]
 
-    ends_there : place ≡ 9 → (k : ℕ) → k < w.count → (role : Role) × EndsBy role (judged (stretch_at w k) (sample_at w handed k))
-    ends_there e k lt = at_end (ap (λ n. n == 1) e) (ap (λ n. n == 9) e) k (member w own f k lt)
+    pub sender_ends : place ≡ 9 → (k : ℕ) (head : Content) → Sends w own k head → EndsBy Tx (Sent head ∷ []) (judged (stretch_at w k) (sample_at w handed k))
+    sender_ends last k head s =
+        subst (EndsBy Tx (Sent head ∷ [])) (sym (sends_judged k head Recessive s (bus_elsewhere (ap (λ n. n == 1) last)))) (sent_end head place (given k) (mode k) last)
+
+    pub receiver_ends : place ≡ 9 → (k : ℕ) (head : Option Content) → Receives w own k head → EndsBy Rx [] (judged (stretch_at w k) (sample_at w handed k))
+    receiver_ends last k head r =
+        subst (EndsBy Rx []) (sym (receives_judged k head Recessive r (bus_elsewhere (ap (λ n. n == 1) last)))) (received_end kept place (given k) (mode k) last)
+
+    member_ends : place ≡ 9 → (k : ℕ) → IsMember w own k → (role : Role) × (got : List Ended) × EndsBy role got (judged (stretch_at w k) (sample_at w handed k))
+    member_ends last k (inl m) = (Tx, Sent m.0 ∷ [], sender_ends last k m.0 m.1)
+    member_ends last k (inr m) = (Rx, [], receiver_ends last k m.0 m.1)
+
+    pub ends_there : place ≡ 9 → (k : ℕ) → k < w.count → (role : Role) × (got : List Ended) × EndsBy role got (judged (stretch_at w k) (sample_at w handed k))
+    ends_there e k lt = member_ends e k (member w own f k lt)
 
     pub tail_fine : (k : ℕ) → k < w.count → is_fine (judged (stretch_at w k) (sample_at w handed k)).happened ≡ true
     tail_fine k lt = elim (cases_eq place 9) [
-      | inl e ↦ (ends_there e k lt).1.fine
+      | inl e ↦ (ends_there e k lt).2.fine
       | inr apart ↦ (goes_on_there apart k lt).fine
     ]
 
@@ -224,7 +266,7 @@ module _ (w : Wire) (own : List Level) (sound : IsSound w.count w.frames) (heads
     abbrev longer : List Level
     longer = own ++ bus w ∷ []
 
-    next_stretch : place ≢ 9 → (k : ℕ) (lt : k < w.count) → stretch_at later k ≡ stretch_by (Framing (f.each k lt).0) longer
+    pub next_stretch : place ≢ 9 → (k : ℕ) (lt : k < w.count) → stretch_at later k ≡ stretch_by (Framing (f.each k lt).0) longer
     next_stretch apart k lt =
         at_bit w handed k
         ∙ after_none (stretch_at w k) (sample_at w handed k) (Framing (f.each k lt).0) own (f.each k lt).1 (goes_on_there apart k lt).next
@@ -238,13 +280,13 @@ module _ (w : Wire) (own : List Level) (sound : IsSound w.count w.frames) (heads
       ];
     }
 
-    still_over : stuffed_end longer ≡ Some end
+    pub still_over : stuffed_end longer ≡ Some end
     still_over = end_stays own (bus w) end over
 
     inside : (end ≤ length own) × (length own < end + 10)
     inside = f.tail end over
 
-    is_tail : IsTail place end own
+    pub is_tail : IsTail place end own
     is_tail = record {
       found = over;
       place_is = (let a : end ≤ length own = inside.0 in omega arith);
@@ -267,7 +309,7 @@ module _ (w : Wire) (own : List Level) (sound : IsSound w.count w.frames) (heads
         some_place : Some end ≡ Some n → end ≡ n
         some_place p = cc
 
-    frame_goes_on : place ≢ 9 → AreInFrame later longer
+    pub frame_goes_on : place ≢ 9 → AreInFrame later longer
     frame_goes_on apart = record {
       begun = (let more : length longer ≡ length own + 1 = length_more own (bus w) in omega arith);
       each = λ k lt. ((f.each k lt).0, next_stretch apart k lt);
@@ -287,11 +329,11 @@ module _ (w : Wire) (own : List Level) (sound : IsSound w.count w.frames) (heads
     }
 
     -- the frame ends
-    frame_ends : place ≡ 9 → AreInIntermission later []
+    pub frame_ends : place ≡ 9 → AreInIntermission later []
     frame_ends e = record {
       each = λ k lt. (
         (ends_there e k lt).0,
-        at_bit w handed k ∙ ap (λ n. or_next n (stretch_by (stretch_at w k).sort ((stretch_at w k).own ++ bus w ∷ []))) (ends_there e k lt).1.next,
+        at_bit w handed k ∙ ap (λ n. or_next n (stretch_by (stretch_at w k).sort ((stretch_at w k).own ++ bus w ∷ []))) (ends_there e k lt).2.next,
       );
       short = omega arith;
     }

@@ -1,2 +1,4 @@
 pub mod Wire
 pub mod InStep
+pub mod Winner
+pub mod Outcome

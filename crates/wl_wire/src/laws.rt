@@ -1,9 +1,12 @@
 //! Laws of machines on one wire, each proved as the contract of a function that does nothing.
 
-ghost use Rattle.std.specs.Prelude.{ℕ, List};
+ghost use Rattle.std.specs.Prelude.{◌≡◌, ◌<◌, ℕ, List};
+ghost use Rattle.wl_confine.specs.Counts.{no_counts};
 ghost use Rattle.wl_frame.specs.Grammar.{Content};
 ghost use Rattle.wl_wire.specs.InStep.{IsSound, AreInStep, FindsNoError};
-ghost use Rattle.wl_wire.specs.Wire.{Event, idle_wire, wire_after};
+ghost use Rattle.wl_wire.specs.Outcome.{Passage, HaveGot, IsFree, counts_after_all};
+ghost use Rattle.wl_wire.specs.Winner.{HasOneWinner};
+ghost use Rattle.wl_wire.specs.Wire.{Event, Wire, idle_wire, wire_after};
 
 /// Law: two or more machines on one wire that are handed frames of different format, identifier or RTR stay in step, and none finds an
 /// error: whatever they are handed, in whatever modes, and however many recessive bits each samples by itself between frames.
@@ -12,6 +15,35 @@ pub fn machines_stay_in_step()
         → AreInStep (wire_after (idle_wire count frames) events) }
     ensures errors { (count : ℕ) (frames : ℕ → List Content) (events : List Event) → IsSound count frames
         → FindsNoError (wire_after (idle_wire count frames) events) }
+{
+    wl_machine::laws::a_sent_frame_is_the_head_that_began_its_stretch();
+    wl_frame::laws::the_arbitration_decides();
+}
+
+/// Law: the error counters of such machines stay 0.
+pub fn counters_stay_zero()
+    ensures { (count : ℕ) (frames : ℕ → List Content) (events : List Event) → IsSound count frames
+        → (k : ℕ) → k < count → counts_after_all ((wire_after (idle_wire count frames) events).past k) ≡ no_counts }
+{
+    machines_stay_in_step();
+}
+
+/// Law: of such machines that begin frames together, one that still sends has a lesser arbitration field than each that has lost, and after
+/// the stuffed part one sends alone.
+pub fn the_least_field_wins()
+    ensures { (count : ℕ) (frames : ℕ → List Content) (events : List Event) → IsSound count frames
+        → HasOneWinner (wire_after (idle_wire count frames) events) }
+{
+    wl_machine::laws::a_sent_frame_is_the_head_that_began_its_stretch();
+    wl_frame::laws::the_arbitration_decides();
+}
+
+/// Law: each frame that such machines begin gets through: as soon as none is under way, each that was begun is one that one machine
+/// has sent, one of its own, and that every other machine has acknowledged and received, in the same order at all of them.
+pub fn all_get_each_frame()
+    ensures { (count : ℕ) (frames : ℕ → List Content) (events : List Event) → IsSound count frames
+        → IsFree (wire_after (idle_wire count frames) events)
+        → (passages : List Passage) × HaveGot (wire_after (idle_wire count frames) events) passages }
 {
     wl_machine::laws::a_sent_frame_is_the_head_that_began_its_stretch();
     wl_frame::laws::the_arbitration_decides();
