@@ -17,7 +17,7 @@ use Rattle.wl_machine.specs.Stretch.{Sort, Stretch, Sampled, Judgement, Ended, c
 use Rattle.wl_machine.specs.Stretch.Sort.{Integration, Idle, Framing, Flagging, Waiting, Delimiting, Intermission, Suspension, OffBus}
 use Rattle.wl_machine.specs.Stretch.Ended.{NoFrame}
 use Rattle.wl_machine.specs.Stretch.Input.{Sample}
-use Rattle.wl_machine.specs.Quiet.{after_intermission, joined}
+use Rattle.wl_machine.specs.Quiet.{after_intermission, begun_head}
 use Rattle.wl_machine.specs.Frames.{differing}
 use Rattle.wl_machine.specs.Judged.{judged, judged_by, stretch_after, or_next, drive_of, drive_by}
 use Rattle.wl_machine.specs.States.{sample_of, stretch_by}
@@ -124,7 +124,7 @@ begins_by : (sort : Sort) (own : List Level) (head : Option Content) (mode : Mod
 begins_by Idle own head mode h is = record { head = None; next = refl; fine = refl; plain = refl; own_head = λ c e. cc }
 begins_by Suspension own head mode h is = record { head = None; next = refl; fine = refl; plain = refl; own_head = λ c e. cc }
 begins_by (Intermission role) own head mode h is =
-    begins_yes (stretch_by (Intermission role) own) (length own == 2) _ _ h (record { head = joined role mode head; next = refl; fine = refl; plain = refl; own_head = λ c e. cc })
+    begins_yes (stretch_by (Intermission role) own) (length own == 2) _ _ h (record { head = begun_head role mode head; next = refl; fine = refl; plain = refl; own_head = λ c e. cc })
 begins_by (Framing (Some c)) [] head mode h is =
     let x : Sampled = sample_of Dominant head mode in
     subst (BeginsBy (stretch_by (Framing (Some c)) []))
