@@ -138,9 +138,9 @@ def segments(rng):
 
 
 class BitTimes:
-    def __init__(self, lengths, inside):
+    def __init__(self, lengths, book):
         self.prop, self.ps1, self.ps2, self.sjw = lengths
-        self.inside, self.quantum, self.before, self.sampled = inside, -1, 1, 1
+        self.book, self.quantum, self.before, self.sampled = book, -1, 1, 1
         self.begin(-bit_of(*lengths[:3]), False)  # a silent bit, whose end is quantum 0
 
     def begin(self, quantum, used):
@@ -153,49 +153,48 @@ class BitTimes:
         if error >= 0: self.sample += min(error, self.sjw)
         self.end += max(-self.sjw, min(error, self.sjw))
 
-    def look(self, level, idle, drives):
+    def look(self, level, idle, awaits, drives):
         """The beat and the synchronisation of the next quantum."""
         self.quantum += 1
-        falls, self.before = self.before == 1 and level == 0, level
-        sync = self.look_inside(falls, idle, drives) if self.inside else self.look_after(falls, idle, drives)
-        beat = "Start" if self.quantum == self.begun or self.inside and sync is not None and self.quantum == self.begun + 1 and self.fresh else "Plain"
-        if self.quantum == self.sample: beat, self.sampled = "Sample", level
-        return beat, sync
+        edge = self.before == 1 and level == 0 and self.sampled == 1
+        self.before = level
+        if self.book: starts, sync = self.look_by_the_book(edge, awaits and not drives, drives)
+        else: starts, sync = self.look_after(edge, idle, drives)
+        if self.quantum == self.sample: self.sampled = level
+        return "Start" if starts else "Sample" if self.quantum == self.sample else "Plain", sync
 
-    def look_after(self, falls, idle, drives):
-        now = self.quantum
+    def look_after(self, edge, idle, drives):
+        """The edge lies in this quantum. Whether that begins a bit, and the synchronisation."""
+        now, sync = self.quantum, None
         if now == self.end: self.begin(now, False)
-        if not falls or self.sampled == 0 or self.used or now == self.sample: return None
-        if idle:
-            self.begin(now, True)
-            return "Hard"
-        error = now - self.begun if now < self.sample else now - self.end
-        if error > 0 and drives: return None
-        if -self.sjw <= error < 0: self.begin(now, True)
-        else: self.move(error)
-        return error
+        if edge and not self.used and now != self.sample:
+            error = now - self.begun if now < self.sample else now - self.end
+            if idle: sync = "Hard"
+            elif error <= 0 or not drives: sync = error
+        if sync == "Hard" or sync is not None and -self.sjw <= sync < 0: self.begin(now, True)
+        elif sync is not None: self.move(sync)
+        return now == self.begun, sync
 
-    def look_inside(self, falls, idle, drives):
-        """The edge lies in the quantum before, and in its bit."""
-        lies, self.fresh = self.quantum - 1, False
-        sync = None
-        if falls and self.sampled == 1 and not self.used and (idle or self.quantum != self.sample):
-            error = lies - self.begun if lies < self.sample else lies - self.end
-            if idle or -self.sjw <= error < 0:
-                self.begin(lies, True)
-                self.fresh, sync = True, "Hard" if idle else error
-            elif error <= 0 or not drives:
-                self.move(error)
-                sync = error
-        if self.quantum == self.end: self.begin(self.quantum, False)
-        return sync
+    def look_by_the_book(self, edge, hard, drives):
+        """The edge lies in the quantum before, and in its bit: the rules of the table, by number."""
+        lies, now = self.quantum - 1, self.quantum
+        is_late = self.begun < lies < self.sample
+        if not edge or self.used or is_late and drives: sync = None  # 7, 8, 9
+        elif hard: sync = "Hard"  # 6
+        else: sync = lies - self.begun if lies < self.sample else lies - self.end  # 2
+        if sync == "Hard" or sync is not None and -self.sjw <= sync < 0:
+            self.begin(lies, True)  # 3: this quantum is place 1
+            return True, sync
+        if sync is not None: self.move(sync)  # 4, 5
+        if now == self.end: self.begin(now, False)
+        return now == self.begun, sync
 
     def to_sample(self):
         """How many quanta come up to the sample of the running bit, that one too."""
         return self.sample - self.quantum if self.quantum >= 0 and self.quantum < self.sample else None
 
     def least_way(self):
-        return 1 + self.prop + self.ps1 - self.inside
+        return 1 + self.prop + self.ps1 - self.book
 
 
 def random_lengths(rng):
@@ -205,32 +204,32 @@ def random_lengths(rng):
 
 
 # What the page shows of bits of 1 + 3 + 3 + 3 quanta, a jump width of 2 and an edge that a quantum finds: the phase error, and the next sample of a
-# node that isn't idle and of an idle one.
-INSIDE_TABLE = {0: (-1, 6, 6), 1: (0, 7, 7), 2: (1, 8, 8), 6: (5, 9, 12), 7: (None, 7, 13), 8: (-3, 15, 14), 9: (-2, 15, 15), 10: (-1, 16, 16)}
+# node that doesn't await a start of frame and of one that does.
+BOOK_TABLE = {0: (-1, 6, 6), 1: (0, 7, 7), 2: (1, 8, 8), 6: (5, 9, 12), 7: (6, 9, 13), 8: (-3, 15, 14), 9: (-2, 15, 15), 10: (-1, 16, 16)}
 
 
 def shown_row(edge):
-    def seen(idle):
+    def seen(awaits):
         times, errors = BitTimes((3, 3, 3, 2), True), []
         for quantum in range(40):
-            beat, sync = times.look(int(quantum < edge), idle, False)
+            beat, sync = times.look(int(quantum < edge), False, awaits, False)
             errors.append(sync)
             if beat == "Sample" and quantum >= edge: return errors[edge], quantum
     return seen(False) + seen(True)[1:]
 
 
 def bit_clock(rng):
-    lengths, inside = random_lengths(rng), rng.random() < 0.5
-    ours, other = BitTimes(lengths, inside), plain.BitClock(plain.Segments(*lengths, inside))
+    lengths, book = random_lengths(rng), rng.random() < 0.5
+    ours, other = BitTimes(lengths, book), plain.BitClock(plain.Segments(*lengths, book))
     stay, level = rng.choice([0.5, 0.8, 0.93]), 1
-    often = rng.choice([0, 0.05, 0.5, 1]), rng.choice([0, 0.1, 0.5])
+    often = rng.choice([0, 0.05, 0.5, 1]), rng.choice([0, 0.05, 0.5, 1]), rng.choice([0, 0.1, 0.5])
     for quantum in range(rng.choice([10, 30, 90])):
         if rng.random() > stay: level = 1 - level
-        seen = level, rng.random() < often[0], rng.random() < often[1]
+        seen = level, *(rng.random() < one for one in often)
         found = differs(f"quantum {quantum} of {lengths}", ours.look(*seen), other.step(*seen))
         if found: return found
-    edge = rng.choice(list(INSIDE_TABLE))
-    return differs(f"the page's row {edge}", shown_row(edge), INSIDE_TABLE[edge])
+    edge = rng.choice(list(BOOK_TABLE))
+    return differs(f"the page's row {edge}", shown_row(edge), BOOK_TABLE[edge])
 
 
 # ---- docs/frames.md: fields, CRC sequence, stuffing, reading; a frame is a string of 0 and 1
@@ -409,6 +408,11 @@ class Machine:
     def is_idle(self):
         return self.now.kind in ("idle", "suspension")
 
+    def awaits_start(self):
+        now = self.now
+        if now.kind == "intermission": return len(now.samples) in (1, 2)
+        return now.kind in ("integration", "idle", "suspension") or now.kind == "frame" and now.samples == ""
+
     def drive(self):
         now = self.now
         if now.kind == "flag": return int(now.flag == "passive")
@@ -456,7 +460,10 @@ class Machine:
     def intermission(self, now, sample, head, mode):
         if len(now.samples) < 2: return "Nothing", None, Stretch("flag", flag="overload") if sample == "0" else None
         waits, self.role = self.role == "Tx" and mode == "passive", "Rx"
-        return "Nothing", None, self.receive() if sample == "0" else Stretch("suspension") if waits else self.free(head)
+        if sample == "1": return "Nothing", None, Stretch("suspension") if waits else self.free(head)
+        after = self.receive() if waits or head is None else self.free(head)
+        after.samples = after.bits = sample
+        return "Nothing", None, after
 
     def suspension(self, now, sample, head, mode):
         return "Nothing", None, self.receive() if sample == "0" else self.free(head) if len(now.samples) == 7 else None
@@ -526,9 +533,9 @@ def machine(rng):
     for n, sample in enumerate(samples):
         if n == off: ours.go_off(), other.bus_off()
         now, mode = head if rng.random() < 0.9 else None, rng.choice(modes)
-        told = ours.drive(), ours.is_idle(), ours.role, ours.place()
+        told = ours.drive(), ours.is_idle(), ours.awaits_start(), ours.role, ours.place()
         where = other.next_place() if ours.place() else None
-        found = differs(f"before sample {n}", told, (other.drive(), other.idle(), other.role, where))
+        found = differs(f"before sample {n}", told, (other.drive(), other.idle(), other.awaits_start(), other.role, where))
         found = found or differs(f"sample {n}", ours.bit(sample, now, mode), (other.bit(sample, now, mode), other.done))
         if found: return found
 
@@ -537,7 +544,7 @@ def machine(rng):
 
 class Node:
     def __init__(self, setup):
-        self.setup, self.times, self.machine = setup, BitTimes(setup.segments[:4], setup.segments.inside), Machine()
+        self.setup, self.times, self.machine = setup, BitTimes(setup.segments[:4], setup.segments.book), Machine()
         self.counts, self.quantum, self.drive = (0, 0), 0, 1
         self.changed, self.starts, self.samples, self.frames, self.events, self.errors = [], [], [], [], [], 0
 
@@ -545,7 +552,7 @@ class Node:
         return self.setup.queue[sum(what == "sent" for what, _, _ in self.frames):]
 
     def run(self, level):
-        beat, sync = self.times.look(level, self.machine.is_idle(), self.drive == 0)
+        beat, sync = self.times.look(level, self.machine.is_idle(), self.machine.awaits_start(), self.drive == 0)
         if sync is not None: self.tell("sync", "hard" if sync == "Hard" else sync)
         if beat == "Start": self.starts.append(self.quantum)
         if beat == "Start" and self.machine.drive() != self.drive:
@@ -558,7 +565,8 @@ class Node:
         self.events.append((self.quantum, len(self.samples), " ".join(map(str, words))))
 
     def sample(self, level):
-        head = next((queued.frame for queued in self.unsent()[:1] if queued.ready <= self.quantum), None)
+        is_handed = level == 1 or self.setup.segments.book
+        head = next((queued.frame for queued in self.unsent()[:1] if is_handed and queued.ready <= self.quantum), None)
         machine, mode, place = self.machine, mode_of(self.counts), self.machine.place()
         role, sends, kind = machine.role, machine.now.head is not None, machine.now.kind
         happened, done = machine.bit(level, head, mode)
@@ -617,10 +625,10 @@ def words_of(frame):
     return f"{number} {'remote' if frame.remote else 'data'} {frame.dlc} {''.join(f'{byte:02x}' for byte in frame.data) or '-'}"
 
 
-def random_setup(rng, inside):
+def random_setup(rng, book):
     lengths = rng.choice([(3, 3, 3, 2), (1, 1, 5, 1), (2, 3, 2, 2), random_lengths(rng)])
     queue = [plain.Queued(random_frame(rng), rng.choice([0, 0, rng.randrange(1500)])) for _ in range(rng.choice([0, 1, 1, 2]))]
-    return plain.Setup("n", plain.Clock(0, [plain.Rate(0, 1, 1)]), plain.Segments(*lengths, inside), queue)
+    return plain.Setup("n", plain.Clock(0, [plain.Rate(0, 1, 1)]), plain.Segments(*lengths, book), queue)
 
 
 def random_levels(rng, setup):

@@ -1,5 +1,5 @@
 #!/usr/bin/env python3
-"""Changes one rule at a time in what again_plans.py and its neighbours wrote, and shows that the comparison sees each.
+"""Changes one rule at a time in what again.py and its neighbours wrote, and shows that the comparison sees each.
 
 usage: again_mutants.py [--count N] [--program PROGRAM] [SECTION..]      2,000 inputs of seed 1 each, all sections; candump needs a PROGRAM
 
@@ -13,8 +13,18 @@ import tempfile
 from pathlib import Path
 
 HERE = Path(__file__).resolve().parent
-PLANS, VIEWS, GROUPS = "again_plans.py", "again_views.py", "again_groups.py"
+AGAIN, PLANS, VIEWS, GROUPS = "again.py", "again_plans.py", "again_views.py", "again_groups.py"
 MUTANTS = (
+    ("bit_clock", AGAIN, "edge, awaits and not drives, drives)", "edge, idle and not drives, drives)"),
+    ("bit_clock", AGAIN, "edge, awaits and not drives, drives)", "edge, awaits, drives)"),
+    ("bit_clock", AGAIN, "self.begun < lies < self.sample\n", "self.begun < lies < self.sample - 1\n"),
+    ("bit_clock", AGAIN, "self.begin(lies, True)  # 3", "self.begin(now, True)  # 3"),
+    ("machine", AGAIN, "return len(now.samples) in (1, 2)", "return len(now.samples) in (0, 1, 2)"),
+    ("machine", AGAIN, "\"frame\" and now.samples == \"\"", "\"frame\" and False"),
+    ("machine", AGAIN, "self.receive() if waits or head is None", "self.receive() if head is None"),
+    ("machine", AGAIN, "self.receive() if waits or head is None else self.free(head)", "self.receive()"),
+    ("node", AGAIN, "is_handed = level == 1 or self.setup.segments.book", "is_handed = True"),
+    ("node", AGAIN, "is_handed = level == 1 or self.setup.segments.book", "is_handed = level == 1"),
     ("check", PLANS, "1 + prop + ps1", "prop + ps1"),
     ("check", PLANS, "ppm {node.ppm}\"", "ppm {node.ppm + (node.sjw == 4)}\""),
     ("check", PLANS, "back {delay_of(b, a, top['per'])}", "back {delay_of(a, b, top['per'])}"),
@@ -30,7 +40,7 @@ MUTANTS = (
     ("explain", PLANS, "self.rates, top[\"end\"]), 2**20", "self.rates, top[\"end\"] + 1), 2**20"),
     ("explain", PLANS, "least <= million <= most", "least <= million"),
     ("explain", PLANS, "least <= million <= most", "million <= most"),
-    ("explain", PLANS, "(top.get(\"sync\") == \"inside\")", "0"),
+    ("explain", PLANS, "(top.get(\"sync\") == \"book\")", "0"),
     ("explain", PLANS, "len(frame_bits(frame)) + 13", "len(frame_bits(frame)) + 12"),
     ("explain", PLANS, "none\" if way < own", "none\" if way <= own"),
     ("explain", PLANS, "return max(node.tick(11", "return min(node.tick(11"),

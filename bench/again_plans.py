@@ -22,7 +22,7 @@ class Settings:
         self.rates = [rate[:3] for rate in rates_of(node, top["version"])]
         prop, ps1, self.ps2, self.sjw = self.lengths
         self.quanta, self.sample = bit_of(prop, ps1, self.ps2), 1 + prop + ps1
-        self.way = self.sample - (top.get("sync") == "inside")
+        self.way = self.sample - (top.get("sync") == "book")
         self.quantum = Fraction(self.millionths(max(1, min(first_not_before(self.offset, self.rates, top["end"]), 2**20))), 10**6)
         self.bit, self.ppm = self.quanta * self.quantum, greatest_ppm(*self.lengths)
         self.queue = [(frame.get("ready", 0), content_of(frame)) for frame in node.get("frame", [])]
@@ -122,7 +122,7 @@ def last_wanted(node, frames=None):
 
 def sent_too_soon(rng):
     """A frame that plain.py sends before that quantum, in a plan with disturbances."""
-    top = {"version": 1} | differ().random_plan(rng) | rng.choice([{}, {"sync": "inside"}])
+    top = {"version": 1} | differ().random_plan(rng) | rng.choice([{}, {"sync": "book"}])
     try:
         plan = plain.read_plan(differ().toml_text(top, False).encode() + b"\n")
     except plain.Fault:
@@ -234,7 +234,7 @@ def bordered_plan(rng):
     while True:
         top = {"version": 1} | differ().random_plan(rng)
         top.pop("disturbance", None)
-        top |= rng.choice([{}, {"sync": "after"}, {"sync": "inside"}])
+        top |= rng.choice([{}, {"sync": "after"}, {"sync": "book"}])
         if rng.random() < 0.05: top["node"] = [dict(top["node"][n % len(top["node"])], name=f"m{n}", x=rng.randrange(50)) for n in range(rng.choice([10, 11, 16]))]
         for border in rng.sample(BORDERS, rng.choice([0, 1, 2, 3])):
             i = rng.randrange(len(top["node"]))

@@ -36,7 +36,7 @@ def ticks_below(offset, rates, end):
 def setup_of(top, table):
     rates = [plain.Rate(*rate[:3]) for rate in rates_of(table, top["version"])]
     queue = [plain.Queued(content_of(frame), frame.get("ready", 0)) for frame in table.get("frame", [])]
-    return plain.Setup(table["name"], plain.Clock(table["offset"], rates), plain.Segments(*lengths_of(table), top.get("sync") == "inside"), queue)
+    return plain.Setup(table["name"], plain.Clock(table["offset"], rates), plain.Segments(*lengths_of(table), top.get("sync") == "book"), queue)
 
 
 class Watched(Node):
@@ -209,7 +209,7 @@ def small_plan(rng, bits):
             nodes.append({"name": f"n{n}", "offset": rng.choice([0, 0, rng.randrange(3 * bit)]), "num": int(den * base * (1 + drift * rng.random())), "den": den}
                          | dict(zip(("prop", "ps1", "ps2", "sjw"), common if rng.random() < 0.8 else short_lengths(rng)))
                          | {"x": rng.randrange(far + 1), "out": rng.choice([0, 0, base]), "in": rng.choice([1, 1, base])} | ({"frame": queue} if queue else {}))
-        top = {"version": 1, "end": bits * bit, "per": per, "node": nodes} | rng.choice([{}, {"sync": "after"}, {"sync": "inside"}])
+        top = {"version": 1, "end": bits * bit, "per": per, "node": nodes} | rng.choice([{}, {"sync": "after"}, {"sync": "book"}])
         shocks = [(start, start + rng.choice([1, base, bit // 2, bit, bit, 6 * bit, 9 * bit])) for start in rng.sample(range(bits * bit + 4), rng.choice([0, 0, 0, 1, 2, 4]))]
         if rng.random() < 0.03: shocks.append((12 * bit, (12 + rng.choice([160, 290])) * bit))
         if shocks: top["disturbance"] = [{"x": rng.choice(nodes)["x"], "from": start, "to": end} for start, end in shocks]
@@ -235,7 +235,7 @@ def sending_plan(rng):
                 bits += (60 if frame.extended else 40) + 10 * len(frame.data) + 20
             tables.append({"name": f"n{n}", "offset": rng.randrange(4), "num": base, "den": 1} | dict(zip(("prop", "ps1", "ps2", "sjw"), common))
                           | {"x": 0, "out": 0, "in": 1, "frame": queue})
-        top = {"version": 1, "end": bits * base * (1 + sum(common[:3])), "per": 0, "sync": rng.choice(["after", "inside"]), "node": tables}
+        top = {"version": 1, "end": bits * base * (1 + sum(common[:3])), "per": 0, "sync": rng.choice(["after", "book"]), "node": tables}
         text = differ().toml_text(top, True).encode() + b"\n"
         try:
             return read(text), text

@@ -2,7 +2,7 @@
 """Compares a program with plain.py on random inputs: standard output, the fault line and the status of all commands but candump.
 
 usage: differ.py PROGRAM [SEED [COUNT [SYNC]]]     the same words give the same inputs; PROGRAM - runs plain.py alone
-SYNC is the key `sync` of every plan: inside, after, none (no key), wrong (some other value), mixed (any of these; the default), or
+SYNC is the key `sync` of every plan: book, after, none (no key), wrong (some other value), mixed (any of these; the default), or
 before (no key, or after). COUNT may be A-B: the inputs from number A up to B.
 
 Prints how many answers agreed, which inputs were refused by which fault, and which rows of the machine, the counters and the bit clock the
@@ -29,7 +29,7 @@ idle                 d  Nothing                       receiving
 intermission 1|2     r  Nothing                       intermission
 intermission 1|2     d  Nothing                       overload
 intermission 3       r  Nothing                       waiting|sending|suspend
-intermission 3       d  Nothing                       receiving
+intermission 3       d  Nothing                       receiving|sending
 suspend              r  Nothing                       suspend|waiting|sending
 suspend              d  Nothing                       receiving
 active|overload      r  TxFlagBit|RxFlagBit           flag|wait
@@ -86,12 +86,13 @@ CLOCK_ROWS = """
 hard_at_place_0|hard_before_the_sample|hard_behind_the_sample|error_0|late_within_sjw|late_beyond_sjw|late_while_driving
 early_within_sjw|early_beyond_sjw|early_while_driving|edge_at_the_sample|second_edge_of_a_bit|edge_behind_a_dominant_sample
 """
-# The same with `inside`, where the place of an edge is that of the quantum before the one that finds it.
-INSIDE_ROWS = """
-in_hard_before_the_sample|in_hard_at_the_sample|in_hard_behind_the_sample|in_hard_at_the_border|in_error_0|in_error_0_while_driving
-in_late_within_sjw|in_late_beyond_sjw|in_late_while_driving|in_early_within_sjw|in_early_at_the_border|in_early_beyond_sjw|in_early_that_ends_the_bit
-in_early_while_driving|in_edge_at_the_sample|in_second_edge_of_a_bit|in_second_edge_at_the_border|in_edge_behind_a_dominant_sample
-in_early_in_quantum_0
+# The same by the book, where the place of an edge is that of the quantum before the one that finds it; and what the node was at in hard synchronisations.
+BOOK_ROWS = """
+book_hard_before_the_sample|book_hard_at_the_sample|book_hard_behind_the_sample|book_hard_at_the_border|book_error_0|book_error_0_while_driving
+book_late_within_sjw|book_late_beyond_sjw|book_late_at_the_sample|book_late_while_driving|book_late_at_the_sample_while_driving|book_early_within_sjw
+book_early_at_the_border|book_early_beyond_sjw|book_early_that_ends_the_bit|book_early_while_driving|book_second_edge_of_a_bit|book_second_edge_at_the_border
+book_edge_behind_a_dominant_sample|book_hard_in_quantum_0|book_error_0_of_its_own_start_of_frame
+book_hard_integrating|book_hard_waiting|book_hard_suspend|book_hard_intermission|book_hard_sending
 """
 
 
@@ -108,7 +109,7 @@ FAULTS = """
 Toml Version Missing Kind Unknown SameName Size ZeroDen TooFast TooSlow BigOffset BigDen BadPpm NoRates TooManyRates RateOrder BadFrom Prop Phase1 Phase2 Jump Length
 Id Dlc DataLength ExtendedId NoNodes TooManyNodes ZeroDelay TooLong End Quanta Queue Disturbance Line Range Truncated TooLong
 """
-ALL_ROWS = rows_of(ROWS) | rows_of(COUNTER_ROWS) | rows_of(CLOCK_ROWS) | rows_of(INSIDE_ROWS)
+ALL_ROWS = rows_of(ROWS) | rows_of(COUNTER_ROWS) | rows_of(CLOCK_ROWS) | rows_of(BOOK_ROWS)
 reached = Counter()
 
 
@@ -123,6 +124,11 @@ class CountedMachine(plain.Machine):
         if self.state == "intermission": return f"intermission {self.count + 1}"
         if self.state == "wait": return "wait-" + self.flag_kind
         return {"waiting": "idle", "flag": getattr(self, "flag_kind", ""), "passive_flag": "passive"}.get(self.state, self.state)
+
+    def awaits_start(self):
+        """Asked before each step of the bit clock, whose rows have the state in which the node synchronises hard."""
+        CountedBitClock.state = self.state
+        return super().awaits_start()
 
     def bit(self, sample, head, mode):
         where, state = self.where(), self.state
@@ -147,14 +153,14 @@ class CountedCounters(plain.Counters):
 
 
 class CountedBitClock(plain.BitClock):
-    def step(self, level, idle, driving):
+    def step(self, level, idle, awaits_start, driving):
         before, sampled, synchronised, place, sjw = self.before, self.sampled, self.synchronised, self.place, self.segments.sjw
         sample_at, end = self.segments.sample_at() + self.longer, self.segments.bit_quanta() + self.longer - self.shorter
         self.steps = getattr(self, "steps", 0) + 1
-        beat, sync = super().step(level, idle, driving)
+        beat, sync = super().step(level, idle, awaits_start, driving)
         if before == plain.DOMINANT or level == plain.RECESSIVE: return beat, sync
-        if self.segments.inside:
-            for row in inside_rows(self, beat, sync, driving, sampled, synchronised, place, sample_at, end): reached[row] += 1
+        if self.segments.book:
+            for row in book_rows(self, sync, awaits_start, driving, sampled, synchronised, place, sample_at, end): reached["book_" + row] += 1
             return beat, sync
         if sync == "Hard":
             before_start = place + 1 == sample_at + self.segments.ps2
@@ -171,22 +177,22 @@ class CountedBitClock(plain.BitClock):
         return beat, sync
 
 
-def inside_rows(clock, beat, sync, driving, sampled, synchronised, place, sample_at, end):
+def book_rows(clock, sync, awaits_start, driving, sampled, synchronised, place, sample_at, end):
     """The rows of an edge that lies at this place of a bit with its sample and its end there, and is found by the next quantum."""
-    sjw, at_border = clock.segments.sjw, place == end - 1
+    sjw, at_border, at_sample = clock.segments.sjw, place == end - 1, place + 1 == sample_at
     if sync is None:
-        if sampled == plain.DOMINANT: return ["in_edge_behind_a_dominant_sample"]
-        if synchronised: return ["in_second_edge_at_the_border" if at_border else "in_second_edge_of_a_bit"]
-        return ["in_edge_at_the_sample" if beat == "Sample" else "in_late_while_driving"]
+        if sampled == plain.DOMINANT: return ["edge_behind_a_dominant_sample"]
+        if synchronised: return ["second_edge_at_the_border" if at_border else "second_edge_of_a_bit"]
+        return ["late_at_the_sample_while_driving" if at_sample else "late_while_driving"]
     if sync == "Hard":
-        where = "before" if place + 1 < sample_at else "behind"
-        rows = ["in_hard_at_the_sample" if place + 1 == sample_at else "in_hard_at_the_border" if at_border else f"in_hard_{where}_the_sample"]
-    elif sync == 0: rows = ["in_error_0"] + ["in_error_0_while_driving"] * driving
-    elif sync > 0: rows = ["in_late_within_sjw" if sync <= sjw else "in_late_beyond_sjw"]
+        where = "at_the_sample" if at_sample else "at_the_border" if at_border else "before_the_sample" if place + 1 < sample_at else "behind_the_sample"
+        rows = ["hard_" + where, "hard_" + clock.state]
+    elif sync == 0: rows = ["error_0"] + ["error_0_while_driving"] * driving + ["error_0_of_its_own_start_of_frame"] * (driving and awaits_start)
+    elif sync > 0: rows = ["late_within_sjw" if sync <= sjw else "late_beyond_sjw"] + ["late_at_the_sample"] * at_sample
     else:
-        rows = ["in_early_beyond_sjw" if -sync > sjw else "in_early_at_the_border" if at_border else "in_early_within_sjw"]
-        rows += ["in_early_that_ends_the_bit"] * (-sync == sjw + 1) + ["in_early_while_driving"] * driving
-    if clock.steps == 1: rows.append("in_early_in_quantum_0")
+        rows = ["early_beyond_sjw" if -sync > sjw else "early_at_the_border" if at_border else "early_within_sjw"]
+        rows += ["early_that_ends_the_bit"] * (-sync == sjw + 1) + ["early_while_driving"] * driving
+    if clock.steps == 1: rows.append("hard_in_quantum_0")  # a node integrates then
     return rows
 
 
@@ -415,12 +421,12 @@ def spoil(rng, plan):
     elif (picked := [one for one in table if one in RANGES]): table.update({(key := rng.choice(picked)): rng.choice(RANGES[key])})
 
 
-WRONG_SYNCS = ["", "Inside", "inside ", "before", "af", "afterinside", "after\\u0000", "\x01'inside'", 0, 1, True, [], ["inside"], {}, {"inside": True}]
+WRONG_SYNCS = ["", "inside", "Book", "book ", "before", "af", "afterbook", "after\\u0000", "\x01'book'", 0, 1, True, [], ["book"], {}, {"book": True}]
 
 
 def choose_sync(rng, plan, sync):
     """Gives the plan the key `sync`, or none."""
-    if sync == "mixed": sync = rng.choice(["none"] * 6 + ["inside"] * 8 + ["after"] * 3 + ["wrong"])
+    if sync == "mixed": sync = rng.choice(["none"] * 6 + ["book"] * 8 + ["after"] * 3 + ["wrong"])
     if sync == "before": sync = rng.choice(["none", "after"])
     if sync == "none": return plan
     if sync == "wrong": sync = rng.choice(WRONG_SYNCS)

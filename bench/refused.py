@@ -30,7 +30,7 @@ ANY, PLACE, TRUTH, TABLES = is_number(0, 2**48 - 1), is_number(0, 2**31 - 1), la
 PPM = is_number(-10**9, 10**9)
 NODE_NAME = lambda value: isinstance(value, str) and 1 <= len(value) <= 32 and set(value) <= set("ABCDEFGHIJKLMNOPQRSTUVWXYZabcdefghijklmnopqrstuvwxyz0123456789_-")
 TABLE_KEYS = {
-    "plan": ((("version", ANY), ("end", ANY), ("per", ANY), ("node", TABLES)), (("disturbance", TABLES), ("sync", lambda value: value in ("after", "inside")))),
+    "plan": ((("version", ANY), ("end", ANY), ("per", ANY), ("node", TABLES)), (("disturbance", TABLES), ("sync", lambda value: value in ("after", "book")))),
     "frame": ((("id", PLACE), ("dlc", PLACE)), (("remote", TRUTH), ("bytes", are(is_number(0, 255))), ("ready", ANY), ("extended", TRUTH))),
     "disturbance": ((("x", PLACE), ("from", ANY), ("to", ANY)), ()),
 }
@@ -126,7 +126,7 @@ def test_topology(top):
 def test_plan(top, version):
     if top["end"] > 2**36: raise Refused("Plan(End)", ("plan",), "end")
     for i, node in enumerate(top["node"]):
-        most = 786_432 if top.get("sync") == "inside" and node["prop"] == node["ps1"] == 1 else 2**20
+        most = 786_432 if top.get("sync") == "book" and node["prop"] == node["ps1"] == 1 else 2**20
         if tick_of(node["offset"], [rate[:3] for rate in rates_of(node, version)], most) < top["end"]:
             raise Refused(f"Plan(Quanta({i}))", ("plan",), "end", "sync", ("node", i), "offset", "quantum", "ppm", "num", "den", "rates")
     for i, node in enumerate(top["node"]):

@@ -51,7 +51,7 @@ def wide_plan(rng):
 def text_of(seed, number):
     rng = random.Random(f"{seed} {number}")
     plan = differ.random_plan(rng) if number % 2 else wide_plan(rng)
-    if rng.random() < 0.5: plan["sync"] = rng.choice(["inside", "after"])
+    if rng.random() < 0.5: plan["sync"] = rng.choice(["book", "after"])
     return differ.toml_text(plan, False) + "\n"
 
 

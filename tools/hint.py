@@ -136,7 +136,7 @@ def is_wrong(key, value):
     if key == "name":
         return not isinstance(value, str) or not re.fullmatch(r"[A-Za-z0-9_-]{1,32}", value)
     if key == "sync":
-        return value not in ("after", "inside")
+        return value not in ("after", "book")
     if key == "bytes":
         return not isinstance(value, list) or any(type(it) is not int or not 0 <= it <= 255 for it in value)
     least, most = BOUNDS.get(key, NUMBER)
@@ -192,7 +192,7 @@ def rate_of(keys):
 
 def latest_end(plan, node):
     """Returns the greatest end that a node's quanta allow."""
-    is_short = plan.keys.get("sync") == "inside" and node.keys.get("prop") == 1 and node.keys.get("ps1") == 1
+    is_short = plan.keys.get("sync") == "book" and node.keys.get("prop") == 1 and node.keys.get("ps1") == 1
     most = MOST_SHORT_QUANTA if is_short else MOST_QUANTA
     rates = node.keys.get("rates", [{"from": 0, **node.keys}])
     ends = [rate["from"] for rate in rates[1:]] + [most]
