@@ -1,7 +1,7 @@
 #!/usr/bin/env python3
 """Measures both choices of synchronisation (the key `sync` of a plan) side by side, and prints the tables of docs/bit-clock.md.
 
-usage: sync_tables.py [--program PROGRAM] [--jobs N] [phases|pairs|pulses|deviations|cables|sweeps]..     all of them by default
+usage: sync_tables.py [--program PROGRAM] [--jobs N] [TABLE]..     all of phases pairs pulses deviations cables senders both joins sweeps by default
 
 Without a program bench/plain.py answers, which takes some hours in all, and leaves out the sweeps; a proved build takes minutes. A run is clean
 where its verdict is, and each node has received what the others sent. Nodes are 5 m apart, a level takes 5 ns a metre and 80 ns through both transceivers,
@@ -11,6 +11,7 @@ With `after` a start of frame that a listener finds in the quantum of its sample
 says so, the phases with which that happens are left out for `after`, so that what else the choice does is seen.
 """
 import os
+import random
 import re
 import subprocess
 import sys
@@ -21,7 +22,7 @@ from pathlib import Path
 sys.dont_write_bytecode = True
 import plain
 
-CHOICES = ("after", "inside")
+CHOICES = ("after", "book")
 FRAME = "{ id = 0x0F1, dlc = 8, ready = %d, bytes = [0x3C, 0x3C, 0x3C, 0x3C, 0x3C, 0x3C, 0x3C, 0x3C] }"
 BITS, READY_BITS = 190, 30  # the frame takes 127 bits with its stuff bits and the intermission
 # prop, ps1, ps2, sjw and the ticks of a quantum, in ns
@@ -30,6 +31,8 @@ DEVIATIONS = [(8, 4, 3, 3, 125), (6, 7, 2, 2, 125), (2, 3, 2, 2, 250), (3, 2, 2,
               (7, 4, 4, 3, 125), (8, 4, 3, 2, 125), (2, 3, 2, 1, 125), (6, 1, 2, 1, 100)]
 # ... and the metres from one cable to the next
 CABLES = [("1 Mbit/s", (2, 3, 2, 1, 125), 1), ("500 kbit/s", (6, 7, 2, 1, 125), 1), ("125 kbit/s", (6, 7, 2, 1, 500), 5)]
+SENDERS = [("1 Mbit/s", (5, 6, 4, 1, 62)), ("500 kbit/s", (6, 7, 2, 1, 125)), ("500 kbit/s", (7, 4, 4, 1, 125)), ("125 kbit/s", (2, 3, 2, 1, 1000))]
+POWER_UPS, JOINS = 400, 24_000
 PULSES = [(6, 7, 2, 1, 100), (2, 3, 2, 1, 100), (7, 4, 4, 3, 100)]
 SWEPT = ("clean_500k", "sampled_late_500k", "canopen_125k", "j1939_250k", "drifting_listener", "priorities", "sixteen_nodes", "one_megabit_25m")
 EXAMPLES = Path(__file__).resolve().parent.parent / "examples"
@@ -164,7 +167,7 @@ def pulses(pool):
             begins = [first + k * quantum // 10 + 1 for k in range(10 * lengths.bit_quanta())]
             # with `after` a pulse that the quantum of the sample finds first is sampled at once
             found = [[one for one, begin in zip(pool.imap(least_pulse, [(sync, setting, begin) for begin in begins], chunksize=2), begins)
-                      if sync == "inside" or -(-begin // quantum) % lengths.bit_quanta() != lengths.sample_at()] for sync in CHOICES]
+                      if sync == "book" or -(-begin // quantum) % lengths.bit_quanta() != lengths.sample_at()] for sync in CHOICES]
             yield name_of(setting), lengths.sample_at(), *(f"{min(one):.2f} to {max(one):.2f} ({len(one)} phases)" for one in found)
     table(["prop, ps1, ps2, sjw", "Sample", *(f"`{sync}`" for sync in CHOICES)], rows())
 
@@ -175,7 +178,7 @@ SIGNS = ((1, -1), (-1, 1))
 def counted(sync, setting, ppm, steps):
     """The jobs at a deviation that count: both signs, every phase, but for lost starts with `after`."""
     jobs = [(sync, setting, offset, (ppm * one, ppm * other)) for one, other in SIGNS for offset in offsets_of(setting, steps)]
-    return [job for job in jobs if sync == "inside" or not is_lost(*job[1:])]
+    return [job for job in jobs if sync == "book" or not is_lost(*job[1:])]
 
 
 def fails(job):
@@ -212,7 +215,7 @@ def cables(pool):
         clean = None
         for x in range(0, 1000, step):
             ways = [offset for offset in sorted({*offsets_of(setting), *offsets_of(setting, 25)[:25]})
-                    if sync == "inside" or not is_lost(setting, offset, (0, 0), x, (120, 130))]
+                    if sync == "book" or not is_lost(setting, offset, (0, 0), x, (120, 130))]
             texts = [plan_of(sync, setting, offset, (0, 0), x, (120, 130)) for offset in ways]
             if not all(pool.imap(is_clean, texts, chunksize=4)): return clean
             clean = x
@@ -222,6 +225,100 @@ def cables(pool):
             sample = segments_of(setting).sample_at() * setting[4]
             yield name, name_of(setting), f"{(sample - 2 * 250) // 10} m", *(f"{longest(sync, setting, step)} m" for sync in CHOICES)
     table(["Bus", "prop, ps1, ps2, sjw", "Round trip at most the sample point", *(f"Every phase clean up to, `{sync}`" for sync in CHOICES)], rows())
+
+
+def frame_text(rng, ready):
+    """A frame with edges far apart, or any; the first bits of its identifier are those of others too."""
+    number = rng.choice([0x0F0, 0x3C3, 0x555, 0]) ^ rng.choice([1 << rng.randrange(11), rng.randrange(8), rng.randrange(2048)])
+    data = rng.choice([[], [0x3C] * 8, [0xF0] * 4, [rng.randrange(256)]])
+    return f"{{ id = {number}, dlc = {len(data)}, ready = {ready}, bytes = {data} }}"
+
+
+def power_up(sync, setting, x, senders, seed):
+    """Nodes at both ends of a cable, three where three send: offsets, signs of 100 ppm, identifiers and when frames are ready at random."""
+    rng, bit = random.Random(seed), segments_of(setting).bit_quanta()
+    places = [0, x, x] if senders == 3 else [0, x]
+    spread, ready = rng.choice([0, 1, bit, 3 * bit]), READY_BITS * bit
+    nodes = [node_text(f"n{i}", rng.randrange(2 * bit * setting[4]), setting, rng.choice([-100, 100]), place, (120, 130),
+                       frame_text(rng, ready + rng.randint(0, spread)) if i < senders else "") for i, place in enumerate(places)]
+    return f'version = 1\nend = {(READY_BITS + 150 * senders) * bit * setting[4] + 20 * x}\nper = 5\nsync = "{sync}"\n{"".join(nodes)}'
+
+
+def has_two_alike(text):
+    """Whether two frames have one identifier, so that both would be sent at once."""
+    ids = re.findall("id = ([0-9]+)", text)
+    return len(set(ids)) < len(ids)
+
+
+def senders(pool):
+    """The longest cable with which 400 power-ups are clean, in metres, by halving: one, two and three nodes send, at 100 ppm and 250 ns through both
+    transceivers, with frames that are ready at once or some bits apart."""
+    def longest(setting, count):
+        low, high = 0, ((segments_of(setting).sample_at() + 2) * setting[4] - 500) // 10
+        while high - low > 1:
+            middle = (low + high) // 2
+            texts = (power_up("book", setting, middle, count, f"{middle} {k}") for k in range(POWER_UPS))
+            if all(pool.imap(is_clean, (text for text in texts if not has_two_alike(text)), chunksize=4)): low = middle
+            else: high = middle
+        return low
+
+    def rows():
+        for name, setting in SENDERS:
+            sample = segments_of(setting).sample_at() * setting[4]
+            yield name, name_of(setting), f"{(sample - 2 * 250) // 10} m", *(f"{longest(setting, count)} m" for count in (1, 2, 3))
+    table(["Bus", "prop, ps1, ps2, sjw", "Round trip at most the sample point", "One sender, `book`", "Two", "Three"], rows())
+
+
+def both_at_once(sync, metres, seed):
+    """The example one_megabit_25m with both frames ready at once, on another cable, and with other offsets and signs of deviations."""
+    rng = random.Random(seed)
+    text = re.sub(r"ready = [0-9_]+", "ready = 600", example_text("one_megabit_25m", sync))
+    text = re.sub(r"(?m)^x = ([0-9]+)", lambda found: f"x = {int(found[1]) * metres // 25}", text)
+    text = re.sub(r"(?m)^offset = [0-9_]+", lambda found: f"offset = {rng.randrange(1000)}", text)
+    return re.sub(r"(?m)^ppm = (-?[0-9]+)", lambda found: f"ppm = {rng.choice([-1, 1]) * int(found[1])}", text)
+
+
+def both(pool):
+    """The example one_megabit_25m with both frames ready at once, on cables of other lengths: 1,000 power-ups each."""
+    def rows():
+        for metres in (10, 20, 25, 28, 30, 31, 32):
+            found = [clean_in(pool, [both_at_once(sync, metres, f"{metres} {k}") for k in range(1000)]) for sync in CHOICES]
+            yield f"{metres} m", *(f"{clean} of {count}" for clean, count in found)
+    table(["Cable", *(f"Clean, `{sync}`" for sync in CHOICES)], rows())
+
+
+def joining(sync, seed):
+    """Three or four nodes that send, of which the last powers up amid the others' frames, with two frames ready at once."""
+    rng = random.Random(seed)
+    while True:
+        ps1, ps2, prop = rng.randint(2, 8), rng.randint(2, 8), rng.randint(3, 8)
+        setting = prop, ps1, ps2, rng.randint(1, min(4, ps1)), 40
+        if 8 <= 1 + prop + ps1 + ps2 <= 25: break
+    lengths = segments_of(setting)
+    bit, count = lengths.bit_quanta(), rng.choice([3, 4])
+    loop = rng.randint(42, 20 * prop)  # a quantum and a tick at least; a way there and back fits into PROP_SEG
+    far = (40 * prop - 2 * loop) // 10
+    ppm = min(1000, lengths.greatest_ppm() // 2)
+    nodes = []
+    for i in range(count):
+        joins = i == count - 1
+        offset = rng.randrange(25 * bit * 40, 400 * bit * 40) if joins else rng.randrange(2 * bit * 40)
+        ready = [0, 0] if joins else [READY_BITS * bit + rng.randrange(2 * bit), READY_BITS * bit + rng.randrange(300 * bit)]
+        frames = ", ".join(frame_text(rng, one) for one in ready)
+        nodes.append(node_text(f"n{i}", offset, setting, rng.randint(-ppm, ppm), rng.randint(0, far) if far else 0, (loop - loop // 2, loop // 2), frames))
+    return f'version = 1\nend = {2000 * bit * 40}\nper = 5\nsync = "{sync}"\n{"".join(nodes)}'
+
+
+def is_sound(text):
+    return report_of(text)[-1] == "verdict clean"
+
+
+def joins(pool):
+    """Nodes that power up amid the frames of two or three others, with frames of their own ready at once: equal segments, up to 1,000 ppm, a way there
+    and back within PROP_SEG."""
+    texts = [[text for k in range(JOINS * 21 // 20) if not has_two_alike(text := joining(sync, k))][:JOINS] for sync in CHOICES]
+    found = [(sum(pool.imap(is_sound, some, chunksize=16)), len(some)) for some in texts]
+    table([f"Clean power-ups, `{sync}`" for sync in CHOICES], [[f"{clean} of {count}" for clean, count in found]])
 
 
 def swept(text):
@@ -241,7 +338,7 @@ def sweeps(pool):
     table(["Example", *(f"Clean, `{sync}`" for sync in CHOICES)], rows)
 
 
-TABLES = {one.__name__: one for one in (phases, pairs, pulses, deviations, cables, sweeps)}
+TABLES = {one.__name__: one for one in (phases, pairs, pulses, deviations, cables, senders, both, joins, sweeps)}
 
 
 def main():
