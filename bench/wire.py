@@ -452,8 +452,9 @@ WRONG = (
 
 
 def same(count, seed):
-    """The machine beside that of plain.py."""
+    """The machine beside that of plain.py, which joins by a dominant third bit where it is handed a head."""
     import plain
+    rules = Rules(third=True)
     random.seed(seed)
     differ = 0
     for n in range(count):
@@ -463,12 +464,12 @@ def same(count, seed):
         noise = random.choice((0, .01, .05))
         for step in range(random.choice((60, 250))):
             head, mode = random.choice(contents + [None]), random.choice(("active", "active", "passive"))
-            level = drive(stretch, RULES)
+            level = drive(stretch, rules)
             if stretch[0] == "frame" and read(stretch[1])[1] is not None and len(stretch[1]) - read(stretch[1])[1] == 1 and random.random() < .9: level = "d"
             if random.random() < noise: level = random.choice("dr")
-            happened, ended, stretch = after(stretch, level, head, mode, RULES)
+            happened, ended, stretch = after(stretch, level, head, mode, rules)
             told = other.bit(int(level == "r"), frames.get(head), mode)
-            if (told, other.drive() == plain.RECESSIVE) != (happened, drive(stretch, RULES) == "r"):
+            if (told, other.drive() == plain.RECESSIVE) != (happened, drive(stretch, rules) == "r"):
                 differ += 1
                 print("differs", n, step, stretch, told, happened)
                 break
