@@ -3,6 +3,7 @@ mod Fits
 mod Handing
 mod Named
 mod PassLists
+mod Seen
 mod Shares
 mod Steps
 mod Told

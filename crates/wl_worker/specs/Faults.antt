@@ -1,5 +1,5 @@
 -- Which of several faults is answered. This project's profile.
-use Rattle.std.specs.Prelude.{◌≡◌, ℕ, ◌+◌, ◌≤◌, nat_lt, List, [], ◌∷◌, ◌++◌, length, Any, All, Option, Some, None, Result, Err, IsOk, IfErr, if◌then◌else◌}
+use Rattle.std.specs.Prelude.{◌≡◌, ℕ, ◌+◌, ◌≤◌, nat_lt, List, [], ◌∷◌, ◌++◌, Any, All, Option, Some, None, Result, Err, IsOk, IfErr, if◌then◌else◌}
 use Rattle.wl_group.specs.GroupValue.{GroupValue}
 use Rattle.wl_worker.specs.declared.link.Fault.{Fault}
 use Rattle.wl_worker.specs.declared.link.Fault.TheVariants.{Workers, Memory, Foreign, Worker}

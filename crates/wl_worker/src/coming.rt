@@ -1,10 +1,17 @@
 //! What came: what a pass sees in a hub that a group does not know yet, and how many letters others sent.
-ghost use Rattle.std.specs.Prelude.{◌≡◌, ◌<◌, ◌||◌, ℕ, None, Some, IfOk, IfSome, length};
+ghost use Rattle.std.specs.Prelude.{◌≡◌, ◌≢◌, ◌<◌, ◌≤◌, ◌||◌, ℕ, false, All, None, Some, IfOk, IfSome, IfNone, length, unwrap_or};
+ghost use Rattle.wl_lattice.specs.declared.FlatWord.TheVariants.{Nothing};
 ghost use Rattle.wl_record_core.specs.declared.record.Record.TheVariants.{Edge, Silence};
+ghost use Rattle.wl_record_core.specs.declared.record.Slot.{Slot as Place};
+ghost use Rattle.wl_record_core.specs.declared.record.Slot.TheVariants.{EdgeAt, SilenceAt};
+ghost use Rattle.wl_replica.specs.State.{edge_at, silence_at};
 ghost use Rattle.wl_plan.specs.PlanLine.{IsTrueOfPlan};
-ghost use Rattle.wl_hub.specs.Passes.{IsPassOf, pass_name};
+ghost use Rattle.wl_group.specs.GroupValue.{belongs};
+ghost use Rattle.wl_hub.specs.Words.{HasWord};
+ghost use Rattle.wl_hub.specs.Passes.{IsPassOf, pass_name, shape_of, seen};
 ghost use Rattle.wl_worker.specs.Handed.{Took, TellsNews};
-ghost use Rattle.wl_worker.specs.Shared.{name_of_plan, IsTrueOfName};
+ghost use Rattle.wl_worker.specs.Seen.{IsUnseen, SawOnlyOf, HasChanges, HasSeenOf, HandsSeen};
+ghost use Rattle.wl_worker.specs.Shared.{IsOfPlan, IsTrueOfName};
 
 use crate::bell::{Bell, Rings};
 use crate::shared::PlanName;
@@ -14,8 +21,9 @@ use wl_group::Group;
 use wl_hub::{Hub, Pass, words_tell_records};
 use wl_lattice::FlatWord;
 use wl_mail::taking_laws;
+use wl_plan::checked_is_sound;
 use wl_record_core::{Record, Slot};
-use wl_replica::{Word, slots_of_states};
+use wl_replica::{Word, slots_of_states, states_join_slot_by_slot};
 use wl_topology::MOST_NODES;
 
 /// How often a bell had rung before a look for what came. Only a look makes one, and of what the bell said before it: so whoever waits until
@@ -64,6 +72,8 @@ fn edge_seen(hub: &Hub<PlanName>, pass: &mut Pass<PlanName>, node: u8, seq: u32)
     ensures here { IsPassOf hub.now pass.new }
     ensures name { pass_name pass.new ≡ pass_name pass.old }
     ensures truth { IfSome result (λ tick. IsTrueOfName (pass_name pass.old) (Edge node seq tick)) }
+    ensures unseen { IfNone result (IsUnseen hub.now pass.new (EdgeAt node seq)) }
+    ensures others { (slot : Place) → slot ≢ EdgeAt node seq → seen pass.new slot ≡ seen pass.old slot }
 {
     words_tell_records::<PlanName>();
     let slot = Slot::EdgeAt { node, seq };
@@ -83,6 +93,8 @@ fn silence_seen(hub: &Hub<PlanName>, pass: &mut Pass<PlanName>, node: u8, count:
     ensures here { IsPassOf hub.now pass.new }
     ensures name { pass_name pass.new ≡ pass_name pass.old }
     ensures truth { IfSome result (λ until. IsTrueOfName (pass_name pass.old) (Silence node count until)) }
+    ensures seen { HasWord (shape_of hub.now) (SilenceAt node count) → seen pass.new (SilenceAt node count) ≡ unwrap_or result 0 }
+    ensures others { (slot : Place) → slot ≢ SilenceAt node count → seen pass.new slot ≡ seen pass.old slot }
 {
     words_tell_records::<PlanName>();
     let slot = Slot::SilenceAt { node, count };
@@ -102,6 +114,7 @@ fn learn_edge(group: &mut Group, node: u8, seq: u32, tick: u64) -> Result<bool, 
     requires { IsTrueOfPlan group.old.plan (Edge node seq tick) }
     ensures took { Took group.old group.new }
     ensures changed { IfOk result (λ b. TellsNews group.old group.new b) }
+    ensures known { IfOk result (λ _. edge_at group.new.replica (node, seq) ≢ Nothing) }
 {
     taking_laws();
     slots_of_states();
@@ -118,12 +131,13 @@ fn learn_silence(group: &mut Group, node: u8, count: u32, until: u64) -> Result<
     requires { IsTrueOfPlan group.old.plan (Silence node count until) }
     ensures took { Took group.old group.new }
     ensures changed { IfOk result (λ b. TellsNews group.old group.new b) }
+    ensures known { IfOk result (λ _. until ≤ (silence_at group.new.replica (node, count)).word) }
 {
     taking_laws();
     slots_of_states();
     let known = match group.replica().slot(Slot::SilenceAt { node, count }) {
         Word::Silence(known) => known.word,
-        Word::Edge(_) => return Ok(false),
+        Word::Edge(_) => unreachable!(),
     };
     if until <= known {
         return Ok(false);
@@ -134,7 +148,7 @@ fn learn_silence(group: &mut Group, node: u8, count: u32, until: u64) -> Result<
 
 /// Takes the changes of a node that the hub has, from change `first` on, up to one that it hasn't. Answers whether some were taken, and
 /// the number of that one.
-#[tactic(auto, using(crate::proofs::Took::took_nothing, crate::proofs::Took::took_both, crate::proofs::Named::still_named))]
+#[tactic(auto, using(crate::proofs::Took::took_nothing, crate::proofs::Took::took_both, crate::proofs::Named::still_of))]
 fn learn_edges(
     hub: &Hub<PlanName>,
     pass: &mut Pass<PlanName>,
@@ -143,13 +157,18 @@ fn learn_edges(
     first: u32,
 ) -> Result<(bool, u32), AllocError>
     requires here { IsPassOf hub.now pass.old }
-    requires name { pass_name pass.old ≡ Some (name_of_plan group.old.plan) }
+    requires of { IsOfPlan hub.now pass.old group.old.plan }
     ensures here { IsPassOf hub.now pass.new }
     ensures name { pass_name pass.new ≡ pass_name pass.old }
     ensures took { Took group.old group.new }
     ensures changed { IfOk result (λ r. TellsNews group.old group.new r.0) }
+    ensures others { SawOnlyOf node pass.old pass.new }
+    ensures known { IfOk result (λ r. HasChanges group.old node first → HasChanges group.new node r.1) }
+    ensures no_more { IfOk result (λ r. IsUnseen hub.now pass.new (EdgeAt node r.1)) }
 {
     taking_laws();
+    states_join_slot_by_slot();
+    checked_is_sound();
     let mut came = false;
     let mut next = first;
     for seq in first..u32::MAX {
@@ -163,22 +182,9 @@ fn learn_edges(
     Ok((came, next))
 }
 
-/// Where to begin to look for a node's changes: behind so many that were handed to a group before, if it knows the last of them; else, as
-/// after a restart of the group, at the first.
-fn first_to_see(group: &Group, node: u8, handed: u32) -> u32 {
-    if handed == 0 {
-        return 0;
-    }
-    let seq = handed - 1;
-    match group.replica().slot(Slot::EdgeAt { node, seq }) {
-        Word::Edge(FlatWord::Value(_)) => handed,
-        _ => 0,
-    }
-}
-
 /// Takes what the hub has of a node's next changes and of the silence after them, where the node is no member. Answers whether something
 /// was taken. `handed` is how many of its changes were handed over so far.
-#[tactic(auto, using(crate::proofs::Took::took_nothing, crate::proofs::Took::took_both, crate::proofs::Named::still_named))]
+#[tactic(auto, using(crate::proofs::Took::took_nothing, crate::proofs::Took::took_both, crate::proofs::Named::still_of))]
 fn learn_node(
     hub: &Hub<PlanName>,
     pass: &mut Pass<PlanName>,
@@ -187,18 +193,21 @@ fn learn_node(
     handed: &mut u32,
 ) -> Result<bool, AllocError>
     requires here { IsPassOf hub.now pass.old }
-    requires name { pass_name pass.old ≡ Some (name_of_plan group.old.plan) }
+    requires of { IsOfPlan hub.now pass.old group.old.plan }
     ensures here { IsPassOf hub.now pass.new }
     ensures name { pass_name pass.new ≡ pass_name pass.old }
     ensures took { Took group.old group.new }
     ensures changed { IfOk result (λ b. TellsNews group.old group.new b) }
+    ensures others { SawOnlyOf node pass.old pass.new }
+    ensures known { IfOk result (λ _. belongs group.old node ≡ false → HasChanges group.old node handed.old
+        → HasSeenOf hub.now pass.new group.new node handed.new) }
 {
     taking_laws();
+    states_join_slot_by_slot();
     if group.has(node) {
         return Ok(false);
     }
-    let first = first_to_see(group, node, *handed);
-    let (edges, next) = learn_edges(hub, pass, group, node, first)?;
+    let (edges, next) = learn_edges(hub, pass, group, node, *handed)?;
     *handed = next;
     let Some(until) = silence_seen(hub, pass, node, next) else {
         return Ok(edges);
@@ -210,9 +219,16 @@ fn learn_node(
 /// For each node that there may be, how many of its changes were handed to a group.
 pub(crate) type Handed = [u32; MOST_NODES];
 
+/// Nothing was handed over so far.
+pub(crate) fn nothing_handed() -> Handed
+    ensures { All (λ count. count ≡ 0) result }
+{
+    [0; MOST_NODES]
+}
+
 /// Takes what the hub has of all nodes that are no members of the group, whose bell had rung so often before. Answers whether something was
 /// taken.
-#[tactic(auto, using(crate::proofs::Took::took_nothing, crate::proofs::Took::took_both, crate::proofs::Named::still_named))]
+#[tactic(auto, using(crate::proofs::Took::took_nothing, crate::proofs::Took::took_both, crate::proofs::Named::still_of))]
 pub(crate) fn learn_all(
     hub: &Hub<PlanName>,
     pass: &mut Pass<PlanName>,
@@ -221,17 +237,19 @@ pub(crate) fn learn_all(
     rings: Rings,
 ) -> Result<(bool, Heard), AllocError>
     requires here { IsPassOf hub.now pass.old }
-    requires name { pass_name pass.old ≡ Some (name_of_plan group.old.plan) }
+    requires of { IsOfPlan hub.now pass.old group.old.plan }
     ensures here { IsPassOf hub.now pass.new }
     ensures name { pass_name pass.new ≡ pass_name pass.old }
     ensures took { Took group.old group.new }
     ensures changed { IfOk result (λ r. TellsNews group.old group.new r.0) }
     ensures heard { IfOk result (λ r. r.1.rings ≡ Some rings) }
+    ensures known { IfOk result (λ _. HandsSeen hub.now pass.new handed.old handed.new group.old group.new) }
 {
     taking_laws();
+    states_join_slot_by_slot();
     let mut came = false;
     for node in 0..MOST_NODES as u8 {
-        let taken = learn_node(hub, pass, group, node, &mut handed[usize::from(node)])?;
+        let taken = learn_node(hub, pass, group, node, &mut handed[node as usize])?;
         came = either(came, taken);
     }
     Ok((came, Heard { rings: Some(rings) }))

@@ -5,7 +5,7 @@ ghost use Rattle.wl_hub.specs.Passes.{IsPassOf};
 ghost use Rattle.wl_worker.specs.Shared.{IsOfPlan};
 
 use crate::bell::Bell;
-use crate::coming::{Handed, Heard, learn_all};
+use crate::coming::{Handed, Heard, learn_all, nothing_handed};
 use crate::giving::give_words;
 use crate::link::{Link, LinkFault};
 use crate::shared::PlanName;
@@ -14,7 +14,6 @@ use std::sync::Wait;
 use wl_group::Group;
 use wl_hub::{Hub, Pass};
 use wl_record_core::Record;
-use wl_topology::MOST_NODES;
 
 /// A link over a pass of a hub, whose name is the link's plan. It waits at a bell.
 #[derive(Drop)]
@@ -26,7 +25,7 @@ pub struct HubLink<'h, R: Wait> {
     worker: u8,
     // How often the bell had rung when the last fetch began; nothing after a rewind.
     heard: Heard,
-    // It speeds up the next fetch, and decides nothing.
+    // For each node, how many of its changes were handed over; none after a rewind.
     handed: Handed,
     pub ghost here: { IsPassOf hub.now pass },
 }
@@ -54,22 +53,23 @@ impl<'h, R: Wait> HubLink<'h, R> {
             bell,
             worker,
             heard: Heard::nothing(),
-            handed: [0; MOST_NODES],
+            handed: nothing_handed(),
         })
     }
 }
 
 impl<'h, R: Wait> Link for HubLink<'h, R> {
-    ghost use Rattle.std.specs.Prelude.{◌≡◌, None, OnOk};
+    ghost use Rattle.std.specs.Prelude.{◌≡◌, All, None, IfOk, IsSome, OnOk};
     ghost use Rattle.wl_plan.specs.declared.plan.Plan.{Plan as GivenPlan};
     ghost use Rattle.wl_worker.specs.Handed.{AreTrueOfPlan, Took, TellsNews};
+    ghost use Rattle.wl_worker.specs.Seen.{HandsSeen};
     ghost use Rattle.wl_worker.specs.Shared.{IsOfPlan, PassGave};
 
     ghost is_of = { λ link plan. IsOfPlan link.hub.now link.pass plan };
 
     ghost number = { λ link. link.worker };
 
-    ghost is_rewound = { λ link. link.heard.rings ≡ None };
+    ghost is_rewound = { λ link. (link.heard.rings ≡ None) × All (λ count. count ≡ 0) link.handed };
 
     ghost gave = { λ old new records. PassGave old.pass new.pass records };
 
@@ -85,7 +85,18 @@ impl<'h, R: Wait> Link for HubLink<'h, R> {
         Ok(())
     }
 
-    fn fetch(&mut self, alloc: Global, group: &mut Group) -> Result<bool, LinkFault> {
+    /// Takes what the hub has of the nodes that are no members: of each whose first changes the group has, as many as were handed over, it
+    /// then has all that the pass has seen.
+    fn fetch(&mut self, alloc: Global, group: &mut Group) -> Result<bool, LinkFault>
+        requires { IsOfPlan self.old.hub.now self.old.pass group.old.plan }
+        ensures same { (p : GivenPlan) → IsOfPlan self.old.hub.now self.old.pass p → IsOfPlan self.new.hub.now self.new.pass p }
+        ensures number { self.new.worker ≡ self.old.worker }
+        ensures took { Took group.old group.new }
+        ensures changed { IfOk result (λ b. TellsNews group.old group.new b) }
+        ensures heard { OnOk result (IsSome self.new.heard.rings) }
+        ensures known { OnOk result
+            (HandsSeen self.new.hub.now self.new.pass self.old.handed self.new.handed group.old group.new) }
+    {
         let _ = alloc;
         let rings = self.bell.rings();
         let (came, heard) = learn_all(self.hub, &mut self.pass, group, &mut self.handed, rings)?;
@@ -93,10 +104,11 @@ impl<'h, R: Wait> Link for HubLink<'h, R> {
         Ok(came)
     }
 
-    /// Hears no bell any more, so that a wait before the next fetch ends at once. What a fetch takes goes by what the group knows: one
-    /// that begins again gets all that the hub has.
+    /// Hears no bell any more, so that a wait before the next fetch ends at once, and counts nothing as handed over, so that this fetch hands
+    /// over all that the pass has seen.
     fn rewind(&mut self) {
         self.heard = Heard::nothing();
+        self.handed = nothing_handed();
     }
 
     fn wait(&mut self) -> Option<u8> {

@@ -71,7 +71,7 @@ impl<'h, R: Wait> MailLink<'h, R> {
 }
 
 impl<'h, R: Wait> Link for MailLink<'h, R> {
-    ghost use Rattle.std.specs.Prelude.{◌≡◌, IfOk, OnOk, map};
+    ghost use Rattle.std.specs.Prelude.{◌≡◌, IfOk, IsSome, OnOk, map};
     ghost use Rattle.std.specs.Arc.{arc_value};
     ghost use Rattle.wl_plan.specs.declared.plan.Plan.{Plan as GivenPlan};
     ghost use Rattle.wl_mail.specs.Posts.{with_sent};
@@ -106,6 +106,7 @@ impl<'h, R: Wait> Link for MailLink<'h, R> {
         ensures number { self.new.worker ≡ self.old.worker }
         ensures took { Took group.old group.new }
         ensures changed { IfOk result (λ b. TellsNews group.old group.new b) }
+        ensures heard { OnOk result (IsSome self.new.heard.rings) }
         ensures letters { OnOk result (HandsAll self.old.post self.new.post group.old group.new) }
     {
         let rings = self.bell.rings();

@@ -1,5 +1,5 @@
 -- The children that are left have the promises of the workers that are left, and each end is what was promised.
-use Rattle.std.proofs.Common.{◌≡◌, suc, ◌+◌, List, length, slice_index_or, vec_len, sym, subst, refl, arith}
+use Rattle.std.proofs.Common.{◌≡◌, suc, ◌+◌, List, length, slice_index_or, vec_len, subst, refl, arith}
 use Rattle.std.specs.Vec.Iter.{into_iter_items}
 use Rattle.wl_worker.specs.Shares.{IsEnd, IsPromise}
 use Rattle.wl_worker.proofs.Shares.{one_behind, end_of_promise}

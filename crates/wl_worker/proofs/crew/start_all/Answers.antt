@@ -1,5 +1,5 @@
 -- The links that are left are of the plan, each of its worker, and each child has the promise of its worker.
-use Rattle.std.proofs.Common.{◌≡◌, suc, ◌+◌, List, length, slice_index_or, subst, ap, ◌∙◌, arith}
+use Rattle.std.proofs.Common.{◌≡◌, suc, ◌+◌, List, length, slice_index_or, subst, ◌∙◌, arith}
 use Rattle.wl_worker.specs.Shares.{IsPromise}
 use Rattle.wl_worker.proofs.Shares.{one_behind}
 use Rattle.wl_worker.proofs.crew.start_all.Goals as goal

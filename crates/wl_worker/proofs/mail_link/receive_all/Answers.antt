@@ -1,5 +1,5 @@
 -- All letters so far, and the next one.
-use Rattle.std.proofs.Common.{◌∙◌, ◌+◌, ap, arith}
+use Rattle.std.proofs.Common.{arith}
 use Rattle.wl_worker.proofs.Handing.{handed_one}
 use Rattle.wl_worker.proofs.Took.{took_both, changed_both}
 use Rattle.wl_worker.proofs.mail_link.receive_all.Goals as goal

@@ -1,8 +1,6 @@
 -- A node has few quanta, so few words.
-use Rattle.std.proofs.Common.{◌≡◌, ℕ, suc, ◌+◌, ◌*◌, ◌/◌, ◌≤◌, ◌∙◌, ap, get_or, sym, arith}
-use Rattle.std.proofs.Math.Nat.{div-mul-le_self, mul-le-mul_left}
+use Rattle.std.proofs.Common.{◌≡◌, ◌≤◌, ◌∙◌, ap, get_or, arith}
 use Rattle.std.proofs.lemmas.List.{get_or_default}
-use Rattle.wl_node.specs.declared.setup.NodeSetup.{NodeSetup}
 use Rattle.wl_plan.specs.PlanLine.{setup_at, no_setup}
 use Rattle.wl_worker.proofs.Fits.{few_quanta, quotient_small}
 use Rattle.wl_worker.proofs.shared.words_of.Goals.{After-first_not_before-quanta, After-least_way}
