@@ -57,7 +57,7 @@ module _ (tables : TableLaws) (joins : SlotsLaws) (knows : KnownLaws) (sims : Si
       sims.found_same l (wave_at w) (level l) j t (λ i c early. let q = knows.place_known l.nodes l.delay w i j t c p in wave_is_level l s w h i (t - l.delay i j) c (omega arith))
 
   -- no place horizon falls
-  place_keeps : (l : Line) (a b : Contents) (j : ℕ) → 0 < l.nodes → HoldsTrue l.nodes (changes l) a → HoldsTrue l.nodes (changes l) b → IsBelow a b → (t : ℕ)
+  pub place_keeps : (l : Line) (a b : Contents) (j : ℕ) → 0 < l.nodes → HoldsTrue l.nodes (changes l) a → HoldsTrue l.nodes (changes l) b → IsBelow a b → (t : ℕ)
       → t < place_horizon l.nodes l.delay a j → t < place_horizon l.nodes l.delay b j
   place_keeps l a b j p ha hb up t h = knows.place_above l.nodes l.delay b j t p (λ i c.
       let q = knows.place_known l.nodes l.delay a i j t c h in

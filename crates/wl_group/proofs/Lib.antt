@@ -1,11 +1,13 @@
 pub mod Callers
 mod AdvanceProofs
 mod BeginProofs
+mod CellProofs
 mod ChangesProofs
-mod CountedProofs
 mod HeardProofs
+mod GoingProofs
 mod GroupProofs
 mod Rows
 mod ValueProofs
 mod RunProofs
+mod RowProofs
 mod AllProofs

@@ -24,7 +24,8 @@ use Rattle.wl_group.specs.Member.{Member, next_tick, can_run, member_after_quant
 use Rattle.wl_group.specs.GroupLaws.{GroupLaws}
 use Rattle.wl_group.specs.GroupValue.{GroupValue, IsGroupValue, quanta_at, belongs, member_after, member_at, members_now, may_run, reads_at, emission_at, run_on}
 use Rattle.wl_group.specs.Kept.{quanta_kept, ran_of, group_value, IsCell, AreCells, IsKept}
-use Rattle.wl_group.specs.Running.{IsCellOf, MaySay, quanta_to_come, quanta_left, HasRunNext}
+use Rattle.wl_group.specs.Running.{IsCellOf, HasNotGone, quanta_to_come, quanta_left, HasRunNext}
+use Rattle.wl_group.specs.Going.{at_quantum, MayGo, HasRunSome}
 use Rattle.wl_group.specs.ValueLaws.{ValueLaws}
 use Rattle.wl_group.proofs.Callers.{is_there}
 use Rattle.wl_replica.proofs.Callers.{some_is}
@@ -41,13 +42,13 @@ ran_set [] i o = refl
 ran_set (x ∷ xs) zero o = refl
 ran_set (x ∷ xs) (suc i) o = ap (λ ys. quanta_kept x ∷ ys) (ran_set xs i o)
 
-set_own : (xs : List (Option ℕ)) (i k : ℕ) → get_or xs i None ≡ Some k → set xs i (Some k) ≡ xs
+pub set_own : (xs : List (Option ℕ)) (i k : ℕ) → get_or xs i None ≡ Some k → set xs i (Some k) ≡ xs
 set_own [] i k h = refl
 set_own (x ∷ xs) zero k h = ap (λ y. y ∷ xs) (sym h)
 set_own (x ∷ xs) (suc i) k h = ap (λ ys. x ∷ ys) (set_own xs i k h)
 
 -- a place that holds something is there
-some_there : {A : Type 0} (xs : List (Option A)) (i : ℕ) (x : A) → get_or xs i None ≡ Some x → i < length xs
+pub some_there : {A : Type 0} (xs : List (Option A)) (i : ℕ) (x : A) → get_or xs i None ≡ Some x → i < length xs
 some_there {A} xs i x h =
     elim (cases_lt i (length xs)) [
       | inl there ↦ there
@@ -57,6 +58,11 @@ some_there {A} xs i x h =
 same_length : (cells : List (Option Cell)) → length (ran_of cells) ≡ length cells
 same_length [] = refl
 same_length (x ∷ xs) = ap suc (same_length xs)
+
+pub set_there : {A : Type 0} (xs : List A) (i : ℕ) (a b : A) → set (set xs i a) i b ≡ set xs i b
+set_there [] i a b = refl
+set_there (x ∷ xs) zero a b = refl
+set_there {A} (x ∷ xs) (suc i) a b = ap (λ ys. x ∷ ys) (set_there xs i a b)
 
 -- ---- how many quanta are left
 
@@ -95,7 +101,7 @@ module _ (laws : ValueLaws) (sound : CheckedIsSound) (plan : Plan) (cells : List
       omega arith
 
   module _ (cell : Cell) (is : get_or cells i None ≡ Some cell) where
-    ran_is : quanta_at (group_value plan cells replica emitted) i ≡ Some (quanta_of cell.node)
+    pub ran_is : quanta_at (group_value plan cells replica emitted) i ≡ Some (quanta_of cell.node)
     ran_is = ran_get cells i ∙ ap quanta_kept is
 
     few : (i < length plan.nodes) × (quanta_of cell.node ≤ most_quanta) × AreInside (line_of plan) i (quanta_of cell.node)
@@ -121,18 +127,7 @@ module _ (laws : ValueLaws) (sound : CheckedIsSound) (plan : Plan) (cells : List
     pub own : IsCellOf plan i (members_now (group_value plan cells replica emitted) i) cell
     own =
         let c = kept.placed i cell is in
-        subst (λ m. IsCellOf plan i m cell) (sym member_is) (record { setup = c.setup; node = c.node; changed = c.changed })
-
-    -- what it reads, where the line is as the simulation has it, is what its value says
-    pub reads_is : GroupLaws → may_run now i ≡ true → (tick : ℕ) (read : Level) → tick ≡ next_tick (line_of now.plan) i (members_now now i)
-        → read ≡ level_of (found (line_of plan) (level (line_of plan)) i tick) → read ≡ reads_at (group_value plan cells replica emitted) i
-    reads_is groups may tick read et el =
-        let g = group_value plan cells replica emitted in
-        let here : may_run g i ≡ true = subst (λ (v : GroupValue). may_run v i ≡ true) (sym view) may in
-        let can = (and_parts (belongs g i) (can_run (line_of plan) i (members_now g i) (slots_of replica)) here).1 in
-        el ∙ (ap (λ t. level_of (found (line_of plan) (level (line_of plan)) i t))
-        (et ∙ ap (λ (v : GroupValue). next_tick (line_of v.plan) i (members_now v i)) (sym view))
-        ∙ sym (groups.read_is_found (line_of plan) (sound plan kept.value.checked) (slots_of replica) kept.value.holds.truth i (members_now g i) in_plan can))
+        subst (λ m. IsCellOf plan i m cell) (sym member_is) (record { setup = c.setup; node = c.node; changed = c.changed; next = c.next })
 
     -- a list of cells in which it has another state
     module _ (new : Cell) where
@@ -148,96 +143,103 @@ module _ (laws : ValueLaws) (sound : CheckedIsSound) (plan : Plan) (cells : List
       ]
 
       -- no quantum was run
-      module _ (quanta : quanta_of new.node ≡ quanta_of cell.node) (stays : (p : Plan) (j : ℕ) (m : Member) → IsCellOf p j m cell → IsCellOf p j m new)
-          (replica_new : State) (emitted_new : List Record) (untaken : replica_new ≡ replica) (unemitted : emitted_new ≡ emitted) where
+      module _ (not : HasNotGone cell new) (replica_new : State) (emitted_new : List Record) (untaken : replica_new ≡ replica) (unemitted : emitted_new ≡ emitted) where
         pub value_stays : ◌≡◌ {A = GroupValue} (group_value plan (set cells i (Some new)) replica_new emitted_new) (group_value plan cells replica emitted)
         value_stays =
-            let ran : ran_of (set cells i (Some new)) ≡ ran_of cells = ran_new ∙ (ap (λ k. set (ran_of cells) i (Some k)) quanta ∙ set_own (ran_of cells) i (quanta_of cell.node) ran_is) in
+            let ran : ran_of (set cells i (Some new)) ≡ ran_of cells = ran_new ∙ (ap (λ k. set (ran_of cells) i (Some k)) not.quanta ∙ set_own (ran_of cells) i (quanta_of cell.node) ran_is) in
             λ d. record { plan = plan; ran = ran d; replica = untaken d; emitted = unemitted d }
 
         pub kept_stays : IsKept plan (set cells i (Some new)) replica_new emitted_new
         kept_stays =
             let c = kept.placed i cell is in
-            let s = stays plan i (member_after (line_of plan) i (quanta_of cell.node)) (record { setup = c.setup; node = c.node; changed = c.changed }) in
-            let at : IsCellOf plan i (member_after (line_of plan) i (quanta_of new.node)) new = subst (λ k. IsCellOf plan i (member_after (line_of plan) i k) new) (sym quanta) s in
+            let s = not.same plan i (member_after (line_of plan) i (quanta_of cell.node)) (record { setup = c.setup; node = c.node; changed = c.changed; next = c.next }) in
+            let at : IsCellOf plan i (member_after (line_of plan) i (quanta_of new.node)) new = subst (λ k. IsCellOf plan i (member_after (line_of plan) i k) new) (sym not.quanta) s in
             record {
               value = subst IsGroupValue (sym value_stays) kept.value;
-              placed = cells_new (record { setup = at.setup; node = at.node; changed = at.changed });
+              placed = cells_new (record { setup = at.setup; node = at.node; changed = at.changed; next = at.next });
             }
 
-      -- one was run
-      module _ (may : may_run now i ≡ true) (level : Level) (read : level ≡ reads_at (group_value plan cells replica emitted) i) (said : List Record)
-          (says : (p : Plan) (m : Member) → IsCellOf p i m cell → said ≡ emission (line_of p) i m level)
-          (quanta : quanta_of new.node ≡ quanta_of cell.node + 1)
-          (after : (p : Plan) (j : ℕ) (m : Member) → IsCellOf p j m cell → IsCellOf p j (member_after_quantum (line_of p) j m level) new)
+      -- n quanta were run and one, as far as which the group may go
+      module _ (n : ℕ) (go : MayGo (group_value plan cells replica emitted) i (quanta_of cell.node) n) (may : may_run (at_quantum (group_value plan cells replica emitted) i (quanta_of cell.node + n)) i ≡ true)
+          (level : Level) (read : level ≡ reads_at (at_quantum (group_value plan cells replica emitted) i (quanta_of cell.node + n)) i) (said : List Record)
+          (says : said ≡ emission (line_of plan) i (member_after (line_of plan) i (quanta_of cell.node + n)) level)
+          (quanta : quanta_of new.node ≡ quanta_of cell.node + suc n)
+          (after : IsCellOf plan i (member_after_quantum (line_of plan) i (member_after (line_of plan) i (quanta_of cell.node + n)) level) new)
           (replica_new : State) (emitted_new : List Record) (taken : replica_new ≡ state_with_records replica said) (appended : emitted_new ≡ emitted ++ said) where
-        may_here : may_run (group_value plan cells replica emitted) i ≡ true
-        may_here = subst (λ (v : GroupValue). may_run v i ≡ true) (sym view) may
+        -- the group before the last of them
+        from : GroupValue
+        from = at_quantum (group_value plan cells replica emitted) i (quanta_of cell.node + n)
 
-        pub said_is : said ≡ emission_at (group_value plan cells replica emitted) i
-        said_is = says plan (members_now (group_value plan cells replica emitted) i) own ∙ ap (emission (line_of plan) i (members_now (group_value plan cells replica emitted) i)) read
+        ran_from : quanta_at (at_quantum (group_value plan cells replica emitted) i (quanta_of cell.node + n)) i ≡ Some (quanta_of cell.node + n)
+        ran_from = get_or-set_same (ran_of cells) i (Some (quanta_of cell.node + n)) None (some_there (ran_of cells) i (quanta_of cell.node) ran_is)
 
-        quanta_is : quanta_of new.node ≡ suc (quanta_of cell.node)
+        said_is : said ≡ emission_at (at_quantum (group_value plan cells replica emitted) i (quanta_of cell.node + n)) i
+        said_is =
+            says
+            ∙ (ap (emission (line_of plan) i (member_after (line_of plan) i (quanta_of cell.node + n))) read
+            ∙ ap (λ q. emission (line_of plan) i (member_at (line_of plan) i q) (reads_at (at_quantum (group_value plan cells replica emitted) i (quanta_of cell.node + n)) i)) (sym ran_from))
+
+        quanta_is : quanta_of new.node ≡ suc (quanta_of cell.node + n)
         quanta_is = quanta ∙ omega arith
 
-        value_runs : ◌≡◌ {A = GroupValue} (group_value plan (set cells i (Some new)) replica_new emitted_new) (run_on i (quanta_of cell.node) (group_value plan cells replica emitted))
+        value_runs : ◌≡◌ {A = GroupValue} (group_value plan (set cells i (Some new)) replica_new emitted_new)
+            (run_on i (quanta_of cell.node + n) (at_quantum (group_value plan cells replica emitted) i (quanta_of cell.node + n)))
         value_runs =
-            let ran : ran_of (set cells i (Some new)) ≡ set (ran_of cells) i (Some (suc (quanta_of cell.node))) = ran_new ∙ ap (λ k. set (ran_of cells) i (Some k)) quanta_is in
-            let known : replica_new ≡ state_with_records replica (emission_at (group_value plan cells replica emitted) i) = taken ∙ ap (state_with_records replica) said_is in
-            let more : emitted_new ≡ emitted ++ emission_at (group_value plan cells replica emitted) i = appended ∙ ap (λ rs. emitted ++ rs) said_is in
+            let ran : ran_of (set cells i (Some new)) ≡ set (set (ran_of cells) i (Some (quanta_of cell.node + n))) i (Some (suc (quanta_of cell.node + n))) =
+            ran_new ∙ (ap (λ k. set (ran_of cells) i (Some k)) quanta_is ∙ sym (set_there (ran_of cells) i (Some (quanta_of cell.node + n)) (Some (suc (quanta_of cell.node + n))))) in
+            let known : replica_new ≡ state_with_records replica (emission_at (at_quantum (group_value plan cells replica emitted) i (quanta_of cell.node + n)) i) = taken ∙ ap (state_with_records replica) said_is in
+            let more : emitted_new ≡ emitted ++ emission_at (at_quantum (group_value plan cells replica emitted) i (quanta_of cell.node + n)) i = appended ∙ ap (λ rs. emitted ++ rs) said_is in
             λ d. record { plan = plan; ran = ran d; replica = known d; emitted = more d }
 
-        value_new : IsGroupValue (run_on i (quanta_of cell.node) (group_value plan cells replica emitted))
-        value_new = laws.runs (group_value plan cells replica emitted) kept.value i (quanta_of cell.node) ran_is may_here
+        value_new : IsGroupValue (run_on i (quanta_of cell.node + n) (at_quantum (group_value plan cells replica emitted) i (quanta_of cell.node + n)))
+        value_new = laws.runs (at_quantum (group_value plan cells replica emitted) i (quanta_of cell.node + n)) go.value i (quanta_of cell.node + n) ran_from may
 
-        ran_on : quanta_at (run_on i (quanta_of cell.node) (group_value plan cells replica emitted)) i ≡ Some (suc (quanta_of cell.node))
-        ran_on = get_or-set_same (ran_of cells) i (Some (suc (quanta_of cell.node))) None (some_there (ran_of cells) i (quanta_of cell.node) ran_is)
+        ran_on : quanta_at (run_on i (quanta_of cell.node + n) (at_quantum (group_value plan cells replica emitted) i (quanta_of cell.node + n))) i ≡ Some (suc (quanta_of cell.node + n))
+        ran_on =
+            get_or-set_same (set (ran_of cells) i (Some (quanta_of cell.node + n))) i (Some (suc (quanta_of cell.node + n))) None
+            (some_there (set (ran_of cells) i (Some (quanta_of cell.node + n))) i (quanta_of cell.node + n) ran_from)
 
-        new_is : member_after_quantum (line_of plan) i (members_now (group_value plan cells replica emitted) i) level ≡ member_after (line_of plan) i (quanta_of new.node)
+        new_is : member_after_quantum (line_of plan) i (member_after (line_of plan) i (quanta_of cell.node + n)) level ≡ member_after (line_of plan) i (quanta_of new.node)
         new_is =
-            ap (member_after_quantum (line_of plan) i (members_now (group_value plan cells replica emitted) i)) read
-            ∙ (laws.steps_to (group_value plan cells replica emitted) kept.value i (quanta_of cell.node) ran_is may_here
-            ∙ (ap (member_at (line_of plan) i) ran_on ∙ ap (member_after (line_of plan) i) (sym quanta_is)))
+            ap (member_after_quantum (line_of plan) i (member_after (line_of plan) i (quanta_of cell.node + n))) read
+            ∙ (ap (λ q. member_after_quantum (line_of plan) i (member_at (line_of plan) i q) (reads_at (at_quantum (group_value plan cells replica emitted) i (quanta_of cell.node + n)) i)) (sym ran_from)
+            ∙ (laws.steps_to (at_quantum (group_value plan cells replica emitted) i (quanta_of cell.node + n)) go.value i (quanta_of cell.node + n) ran_from may
+            ∙ (ap (member_at (line_of plan) i) ran_on ∙ ap (member_after (line_of plan) i) (sym quanta_is))))
 
         cell_new : IsCell plan i new
         cell_new =
-            let s = after plan i (members_now (group_value plan cells replica emitted) i) own in
-            let at : IsCellOf plan i (member_after (line_of plan) i (quanta_of new.node)) new = subst (λ m. IsCellOf plan i m new) new_is s in
-            record { setup = at.setup; node = at.node; changed = at.changed }
+            let at : IsCellOf plan i (member_after (line_of plan) i (quanta_of new.node)) new = subst (λ m. IsCellOf plan i m new) new_is after in
+            record { setup = at.setup; node = at.node; changed = at.changed; next = at.next }
 
         pub kept_runs : IsKept plan (set cells i (Some new)) replica_new emitted_new
         kept_runs = record { value = subst IsGroupValue (sym value_runs) value_new; placed = cells_new cell_new }
 
-        fewer : quanta_left (run_on i (quanta_of cell.node) (group_value plan cells replica emitted)) < quanta_left (group_value plan cells replica emitted)
+        fewer : quanta_left (run_on i (quanta_of cell.node + n) (at_quantum (group_value plan cells replica emitted) i (quanta_of cell.node + n)))
+            < quanta_left (at_quantum (group_value plan cells replica emitted) i (quanta_of cell.node + n))
         fewer =
-            let q = (laws.quanta_few (run_on i (quanta_of cell.node) (group_value plan cells replica emitted)) value_new i (suc (quanta_of cell.node)) ran_on).1 in
-            left_set (ran_of cells) i (quanta_of cell.node) ran_is (omega arith)
+            let q = (laws.quanta_few (run_on i (quanta_of cell.node + n) (at_quantum (group_value plan cells replica emitted) i (quanta_of cell.node + n))) value_new i (suc (quanta_of cell.node + n)) ran_on).1 in
+            left_set (set (ran_of cells) i (Some (quanta_of cell.node + n))) i (quanta_of cell.node + n) ran_from (omega arith)
 
-        ran_here : HasRunNext i (group_value plan cells replica emitted) (run_on i (quanta_of cell.node) (group_value plan cells replica emitted)) said
+        ran_here : HasRunNext i (at_quantum (group_value plan cells replica emitted) i (quanta_of cell.node + n))
+            (run_on i (quanta_of cell.node + n) (at_quantum (group_value plan cells replica emitted) i (quanta_of cell.node + n))) said
         ran_here = record {
           node = in_plan;
           emits = said_is;
-          runs = λ k e. ap (λ n. run_on i n (group_value plan cells replica emitted)) (some_is (quanta_of cell.node) k (sym ran_is ∙ e));
-          emitted = λ p h. said_is ∙ laws.emits_as (group_value plan cells replica emitted) p i h (ap is_some ran_is);
-          after = λ p h. laws.runs_as (group_value plan cells replica emitted) kept.value p i (quanta_of cell.node) h ran_is may_here;
+          runs = λ k e. ap (λ m. run_on i m (at_quantum (group_value plan cells replica emitted) i (quanta_of cell.node + n))) (some_is (quanta_of cell.node + n) k (sym ran_from ∙ e));
+          emitted = λ p h. said_is ∙ laws.emits_as (at_quantum (group_value plan cells replica emitted) i (quanta_of cell.node + n)) p i h (ap is_some ran_from);
+          after = λ p h. laws.runs_as (at_quantum (group_value plan cells replica emitted) i (quanta_of cell.node + n)) go.value p i (quanta_of cell.node + n) h ran_from may;
           plan = refl;
-          members = laws.runs_with (group_value plan cells replica emitted) i (quanta_of cell.node) ran_is;
+          members = laws.runs_with (at_quantum (group_value plan cells replica emitted) i (quanta_of cell.node + n)) i (quanta_of cell.node + n) ran_from;
           fewer = fewer;
         }
 
-        pub has_run : HasRunNext i now (group_value plan (set cells i (Some new)) replica_new emitted_new) said
-        has_run =
-            subst (λ (v : GroupValue). HasRunNext i v (group_value plan (set cells i (Some new)) replica_new emitted_new) said) view
-            (subst (λ (v : GroupValue). HasRunNext i (group_value plan cells replica emitted) v said) (sym value_runs) ran_here)
-
-    -- what it may say at its next quantum
-    pub may_say : may_run now i ≡ true → (level : Level) → level ≡ reads_at (group_value plan cells replica emitted) i
-        → (p : Plan) × ((m : Member) × MaySay p i m cell level replica.nodes)
-    may_say may level read =
-        let here : may_run (group_value plan cells replica emitted) i ≡ true = subst (λ (v : GroupValue). may_run v i ≡ true) (sym view) may in
-        let m : Member = members_now (group_value plan cells replica emitted) i in
-        let e : emission (line_of plan) i m level ≡ emission_at (group_value plan cells replica emitted) i = ap (emission (line_of plan) i m) read in
-        let t = laws.emits_true (group_value plan cells replica emitted) kept.value i here in
-        let fit : All (Fits replica.nodes) (emission (line_of plan) i m level) =
-        subst (λ n. All (Fits n) (emission (line_of plan) i m level)) (sym kept.value.of_all) (subst (All (Fits (length plan.nodes))) (sym e) (true_fits (length plan.nodes) (table_of plan) (emission_at (group_value plan cells replica emitted) i) t)) in
-        (plan, (m, record { at = own; fits = fit }))
+        pub has_run : (most : ℕ) → n < most → HasRunSome i most now (group_value plan (set cells i (Some new)) replica_new emitted_new) said
+        has_run most few =
+            subst (λ (v : GroupValue). HasRunSome i most v (group_value plan (set cells i (Some new)) replica_new emitted_new) said) view
+            (record {
+              k = quanta_of cell.node;
+              n = n;
+              few = few;
+              may = go;
+              last = subst (λ (v : GroupValue). HasRunNext i (at_quantum (group_value plan cells replica emitted) i (quanta_of cell.node + n)) v said) (sym value_runs) ran_here;
+            })

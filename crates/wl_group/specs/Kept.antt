@@ -22,11 +22,12 @@ ran_of cells = map quanta_kept cells
 abbrev pub group_value : Plan → List (Option Cell) → State → List Record → GroupValue
 group_value plan cells replica emitted = record { plan = plan; ran = ran_of cells; replica = replica; emitted = emitted }
 
--- The node of a member is node i of the plan after its quanta, and its changes were counted.
+-- The node of a member is node i of the plan after its quanta, its changes were counted, and the tick of its next quantum is there.
 pub record IsCell (plan : Plan) (i : ℕ) (cell : Cell) : Type 0 where
   pub setup : node_setup cell.node ≡ setup_at plan i
   pub node : IsNode (seen (line_of plan) i (quanta_of cell.node)) cell.node
   pub changed : cell.changed ≡ count_below ((line_of plan).instant i (quanta_of cell.node)) (table_of plan i)
+  pub next : cell.next ≡ (line_of plan).instant i (quanta_of cell.node)
 
 abbrev pub AreCells : Plan → List (Option Cell) → Type 0
 AreCells plan cells = (i : ℕ) (cell : Cell) → slice_index_or cells i None ≡ Some cell → IsCell plan i cell

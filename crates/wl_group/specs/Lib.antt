@@ -1,7 +1,7 @@
 pub mod AdvanceLaws
 pub mod Advanced
 pub mod Chosen
-pub mod Counted
+pub mod Going
 pub mod GroupLaws
 pub mod GroupValue
 pub mod Heard

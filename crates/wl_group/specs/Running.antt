@@ -1,14 +1,15 @@
 -- A member's next quantum, and the group's after it. This project's profile.
-use Rattle.std.specs.Prelude.{◌≡◌, ℕ, ◌+◌, ◌-◌, ◌<◌, All, List, [], ◌∷◌, ◌++◌, length, Option, None, Some, true, false, not, nat_le, if◌then◌else◌}
+use Rattle.std.specs.Prelude.{◌≡◌, ℕ, suc, ◌+◌, ◌-◌, ◌<◌, ◌≤◌, replicate, All, List, [], ◌∷◌, ◌++◌, length, Option, None, Some, true, false, not, nat_le, if◌then◌else◌}
 use Rattle.wl_level.specs.declared.Level.{Level}
 use Rattle.wl_record_core.specs.declared.record.Record.{Record}
 use Rattle.wl_record_core.specs.declared.record.Slot.{Slot}
 use Rattle.wl_record_core.specs.declared.record.Slot.TheVariants.{EdgeAt, SilenceAt}
 use Rattle.wl_record_core.specs.Truth.{AreTrueOf}
 use Rattle.wl_replica.specs.State.{Fits, slots_of}
-use Rattle.wl_node.specs.Reached.{IsNode, node_setup}
+use Rattle.wl_node.specs.Reached.{IsNode, node_setup, quanta_of}
 use Rattle.wl_plan.specs.declared.plan.Plan.{Plan}
 use Rattle.wl_plan.specs.Limits.{most_quanta}
+use Rattle.wl_plan.specs.Line.{Line}
 use Rattle.wl_plan.specs.PlanLine.{setup_at, line_of, table_of}
 use Rattle.wl_group.specs.declared.cell.Cell.{Cell}
 use Rattle.wl_group.specs.Member.{Member, next_tick, can_run, member_after_quantum, emission}
@@ -21,25 +22,38 @@ pub record IsCellOf (plan : Plan) (i : ℕ) (m : Member) (cell : Cell) : Type 0 
   pub setup : node_setup cell.node ≡ setup_at plan i
   pub node : IsNode m.saw cell.node
   pub changed : cell.changed ≡ m.changed
+  pub next : cell.next ≡ (line_of plan).instant i (quanta_of cell.node)
 
--- One cell and a later one: it has run the next quantum, at which it read this level, or none; and what node i said then. Of every plan and member.
-abbrev pub StepsCell : Level → Cell → Cell → Type 0
-StepsCell level old new = (plan : Plan) (i : ℕ) (m : Member) → IsCellOf plan i m old → IsCellOf plan i (member_after_quantum (line_of plan) i m level) new
+-- a member after so many quanta more, at which it read this level and kept its drive
+abbrev pub passed : Member → Level → ℕ → Member
+passed m level n = record { saw = m.saw ++ replicate n level; changed = m.changed }
 
-abbrev pub KeepsCell : Cell → Cell → Type 0
-KeepsCell old new = (plan : Plan) (i : ℕ) (m : Member) → IsCellOf plan i m old → IsCellOf plan i m new
+-- up to so many quanta more of this level node i drives what it drove
+abbrev pub Stood : Line → ℕ → Member → Level → ℕ → Type 0
+Stood l i m level n = (j : ℕ) → j ≤ n → l.drives i (m.saw ++ replicate j level) ≡ l.drives i m.saw
 
-abbrev pub SaysOf : ℕ → Level → Cell → List Record → Type 0
-SaysOf i level old rs = (plan : Plan) (m : Member) → IsCellOf plan i m old → rs ≡ emission (line_of plan) i m level
+-- One cell and a later one: at n quanta more and one it read this level, and its drive turned at the last if at any; and what node i said of them. Of every plan and member.
+pub record HasGone (i : ℕ) (level : Level) (most : ℕ) (old new : Cell) (said : List Record) : Type 0 where
+  pub n : ℕ
+  pub few : n < most
+  pub quanta : quanta_of new.node ≡ quanta_of old.node + suc n
+  pub stood : (plan : Plan) (m : Member) → IsCellOf plan i m old → Stood (line_of plan) i m level n
+  pub after : (plan : Plan) (m : Member) → IsCellOf plan i m old → IsCellOf plan i (member_after_quantum (line_of plan) i (passed m level n) level) new
+  pub says : (plan : Plan) (m : Member) → IsCellOf plan i m old → said ≡ emission (line_of plan) i (passed m level n) level
 
--- the slots of which node i may say something at its next quantum, after so many changes
+-- or none
+pub record HasNotGone (old new : Cell) : Type 0 where
+  pub quanta : quanta_of new.node ≡ quanta_of old.node
+  pub same : (plan : Plan) (i : ℕ) (m : Member) → IsCellOf plan i m old → IsCellOf plan i m new
+
+-- the slots of which node i may say something at its next quanta, up to one that turns its drive, after so many changes
 abbrev pub slots_ahead : ℕ → ℕ → List Slot
 slots_ahead i changed = EdgeAt i changed ∷ SilenceAt i changed ∷ SilenceAt i (changed + 1) ∷ []
 
--- What a member says at its next quantum, at which it reads this level, fits.
-pub record MaySay (plan : Plan) (i : ℕ) (m : Member) (cell : Cell) (level : Level) (nodes : ℕ) : Type 0 where
+-- What a member says after so many quanta at most, at each of which it reads this level, fits.
+pub record MaySay (plan : Plan) (i : ℕ) (m : Member) (cell : Cell) (level : Level) (most nodes : ℕ) : Type 0 where
   pub at : IsCellOf plan i m cell
-  pub fits : All (Fits nodes) (emission (line_of plan) i m level)
+  pub fits : (n : ℕ) → n < most → Stood (line_of plan) i m level n → All (Fits nodes) (emission (line_of plan) i (passed m level n) level)
 
 -- how many quanta may still come
 abbrev pub quanta_to_come : List (Option ℕ) → ℕ

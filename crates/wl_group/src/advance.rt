@@ -1,43 +1,34 @@
-//! The advances of a group: quanta of its members, one at a time, or all that may run.
+//! The advances of a group: quanta of its members, one at a time, several in a row, or all that may run.
 
-ghost use Rattle.std.specs.Prelude.{◌≡◌, ℕ, ◌+◌, ◌<◌, ◌≤◌, ◌^◌, ◌++◌, [], ◌∷◌, true, false, List, All, IfOk, IsOk, OnOk, OnErr, IfSome, IfNone, length, vec_len, vec_capacity};
-ghost use Rattle.wl_level.specs.Levels.{level_of};
-ghost use Rattle.wl_replica.specs.Known.{place_horizon};
+ghost use Rattle.std.specs.Prelude.{◌≡◌, ℕ, ◌+◌, ◌<◌, ◌≤◌, ◌++◌, true, false, List, IfOk, IsOk, OnOk, OnErr, IfSome, IfNone, Some, length, vec_len, vec_capacity};
 ghost use Rattle.wl_record_core.specs.Limits.{most_edges};
-ghost use Rattle.wl_replica.specs.State.{slots_of, state_with_records};
+ghost use Rattle.wl_replica.specs.State.{state_with_records};
 ghost use Rattle.wl_node.specs.Reached.{quanta_of};
 ghost use Rattle.wl_plan.specs.Limits.{most_quanta};
 ghost use Rattle.wl_plan.specs.declared.plan.Plan.{Plan as GivenPlan};
-ghost use Rattle.wl_replica.specs.Slots.{HoldsTrue};
-ghost use Rattle.wl_plan.specs.Checked.{IsChecked};
-ghost use Rattle.wl_plan.specs.PlanLine.{line_of, table_of};
-ghost use Rattle.wl_plan.specs.Simulation.{level};
-ghost use Rattle.wl_plan.specs.Line.{found};
-ghost use Rattle.wl_group.specs.Counted.{AreCounted, AreHorizons, TellHorizons};
-ghost use Rattle.wl_group.specs.Heard.{IsStretch};
+ghost use Rattle.wl_plan.specs.PlanLine.{line_of};
 ghost use Rattle.wl_group.specs.Member.{Member};
-ghost use Rattle.wl_group.specs.Running.{StepsCell, KeepsCell, SaysOf, MaySay};
+ghost use Rattle.wl_group.specs.Running.{HasGone, HasNotGone, MaySay};
 
 use crate::answer::{Advance, Emission};
 use crate::cell::Cell;
-use crate::counted::{Horizons, Runs, catch_up, laws_of_counts};
 use crate::group::Group;
-use crate::heard::{Come, Stretch, stretch_around};
+use crate::heard::stretch_around;
 use crate::laws::{group_laws, value_laws};
 use std::alloc::{AllocError, Global};
 use std::mem;
 use wl_level::Level;
-use wl_plan::Plan;
 use wl_record_core::{Record, Slot};
 use wl_replica::{PREPARED_SLOTS, Prepared, Replica};
 
 impl Group {
     ghost use Rattle.wl_record_core.specs.declared.record.Record.{Record};
-    ghost use Rattle.wl_group.specs.GroupValue.{belongs, may_run};
+    ghost use Rattle.wl_group.specs.GroupValue.{belongs, quanta_at, may_run};
     ghost use Rattle.wl_group.specs.Running.{HasRunNext, HasReplied, Ran};
+    ghost use Rattle.wl_group.specs.Going.{HasGoneOn, HasRunSome, IsWithin};
     ghost use Rattle.wl_group.specs.Said.{reply_of_answer, HasAnswered};
 
-    /// Runs the next quantum of a node, if it may run. Any number may be asked. Refused for want of
+    /// Runs the next quantum of a node, if it may run. Any number may be asked. Refused out of
     /// memory, the group is as it was; that is where the node may run alone, since else nothing grows.
     pub fn advance(&mut self, node: u8) -> Result<Advance, AllocError>
         ensures value { IfOk result (λ a. HasReplied node self.old self.new (reply_of_answer a)) }
@@ -58,7 +49,38 @@ impl Group {
         Ok(Advance::Blocked)
     }
 
-    /// Advances the members until none can, and answers what they emitted, in order. Refused for want
+    /// Runs quanta of a node in a row, if it may run one, and says what they come to: the change of its drive, if there is one,
+    /// and one promise in the place of each quantum's. None where the node may not run; nothing changed then. Any number may be asked.
+    ///
+    /// It goes on up to the first quantum that changes the drive, or that is not below its last promise, and below the end,
+    /// below what is known of the line at its place, and as long as that stays as it is: so it may run fewer quanta than it could.
+    /// Refused out of memory, the group is as it was.
+    pub fn go(&mut self, node: u8) -> Result<Option<Emission>, AllocError>
+        ensures none { IfOk result (λ gone. IfNone gone ((may_run self.old node ≡ false) × (self.new ≡ self.old))) }
+        ensures gone { IfOk result (λ gone. IfSome gone (λ said. HasGoneOn node self.old self.new said.items)) }
+        ensures plan { self.new.plan ≡ self.old.plan }
+        ensures members { belongs self.new ≡ belongs self.old }
+        ensures calm { may_run self.old node ≡ false → IsOk result }
+        ensures err { OnErr result (self.new ≡ self.old) }
+    {
+        value_laws();
+        group_laws();
+        wl_record_core::table_laws();
+        wl_replica::slots_laws();
+        wl_replica::known_laws();
+        wl_replica::slots_of_states();
+        wl_plan::simulation_laws();
+        wl_plan::checked_is_sound();
+        // (reading a part gives the proof what the type keeps)
+        let _ = self.plan();
+        if !self.can_advance(node) {
+            return Ok(None);
+        }
+        let said = self.run_some(node, ALL_QUANTA)?;
+        Ok(Some(said))
+    }
+
+    /// Advances the members until none can, and answers what they emitted, in order. Refused out
     /// of memory, the advances that were made stand, and `emitted` has their records.
     pub fn advance_all(&mut self, alloc: Global) -> Result<Vec<Record>, AllocError>
         ensures all { IfOk result (λ rs. Ran self.old rs.items self.new) }
@@ -83,94 +105,94 @@ impl Group {
         ensures least { IfSome result (λ i. (j : ℕ) → j < i → may_run self.now j ≡ false) }
         ensures stuck { IfNone result ((i : ℕ) → may_run self.now i ≡ false) }
     {
-        let horizons = self.horizons_now();
+        value_laws();
         for i in 0..self.replica.nodes() {
-            if self.can_run_by(&horizons, i) {
+            if self.can_advance(i) {
                 return Some(i);
             }
         }
         None
     }
 
-    /// Runs the next quantum of a member that may run, and takes what it emits. Refused for want of
+    /// Runs the next quantum of a member that may run, and takes what it emits. Refused out of
     /// memory, the group is as it was.
     fn run_next(&mut self, i: u8) -> Result<Emission, AllocError>
         requires { may_run self.old i ≡ true }
         ensures ran { IfOk result (λ emission. HasRunNext i self.old self.new emission.items) }
         ensures err { OnErr result (self.new ≡ self.old) }
     {
+        self.run_some(i, 1)
+    }
+
+    /// Runs quanta of a member in a row: one at least, `most` at most, none after one that changes its drive. It takes what the
+    /// member says after them. Refused out of memory, the group is as it was.
+    fn run_some(&mut self, i: u8, most: u64) -> Result<Emission, AllocError>
+        requires may { may_run self.old i ≡ true }
+        requires some { 0 < most }
+        ensures ran { IfOk result (λ said. HasRunSome i most self.old self.new said.items) }
+        ensures err { OnErr result (self.new ≡ self.old) }
+    {
         value_laws();
         wl_plan::checked_is_sound();
         wl_plan::simulation_laws();
-        laws_of_counts();
         group_laws();
         let tick = self.due(i);
-        catch_up(&self.replica, &mut self.runs, &mut self.horizons);
-        let level = level_at(
+        let heard = self.heard[i as usize];
+        let stretch = stretch_around(
             &self.plan,
             &self.replica,
-            &self.runs,
-            &self.horizons,
             &mut self.come,
-            &mut self.heard[i as usize],
+            heard,
             i,
             tick,
         );
+        self.heard[i as usize] = stretch;
+        let count = self.quanta_until(i, stretch.until).min(most);
         let Some(cell) = &mut self.cells[i as usize] else {
             unreachable!()
         };
-        let emission = run_cell(
+        let said = run_cell(
             self.alloc,
             cell,
             i,
-            level,
+            stretch.level,
+            count,
             &mut self.replica,
             &mut self.emitted,
         )?;
-        self.horizons[i as usize] = None;
-        catch_up(&self.replica, &mut self.runs, &mut self.horizons);
-        Ok(emission)
+        Ok(said)
+    }
+
+    /// How many quanta of a member that may run come before a tick, before the end, below what is known at its place, and not
+    /// after its promise.
+    fn quanta_until(&self, i: u8, until: u64) -> u64
+        requires may { may_run self.now i ≡ true }
+        requires due { (k : ℕ) → quanta_at self.now i ≡ Some k → (line_of self.now.plan).instant i k < until }
+        ensures some { 0 < result }
+        ensures each { (k j : ℕ) → quanta_at self.now i ≡ Some k → j < result
+            → IsWithin self.now i until ((line_of self.now.plan).instant i (k + j)) }
+    {
+        value_laws();
+        wl_plan::checked_is_sound();
+        wl_plan::simulation_laws();
+        let known = self.replica.place_horizon(&self.plan.topology, i);
+        let promised = self.replica.horizon(i) + 1;
+        let end = until.min(self.plan.end).min(known).min(promised);
+        let ran = self.node(i).quanta();
+        self.plan.nodes.as_slice()[i as usize].clock.first_not_before(end) - ran
     }
 }
 
 /// The most records that one advance emits.
 const MOST_EMITTED: usize = 2;
 
-/// The level that node `i` reads at a tick: in the stretch in which it read the line last, or in one that is found anew; and by the disturbances.
-fn level_at(
-    plan: &Plan,
-    replica: &Replica,
-    runs: &Runs,
-    horizons: &Horizons,
-    come: &mut Come,
-    heard: &mut Stretch,
-    i: u8,
-    tick: u64,
-) -> Level
-    requires checked { IsChecked plan.now }
-    requires nodes { replica.now.nodes ≡ length plan.now.nodes }
-    requires places { length plan.now.topology.places ≡ length plan.now.nodes }
-    requires truth { HoldsTrue (length plan.now.nodes) (table_of plan.now) (slots_of replica.now) }
-    requires node { i < length plan.now.nodes }
-    requires counted { AreCounted (slots_of replica.now) runs.now }
-    requires kept { AreHorizons (slots_of replica.now) runs.now horizons.now }
-    requires all { TellHorizons replica.now horizons.now }
-    requires known { let l = line_of plan.now in tick < place_horizon l.nodes l.delay (slots_of replica.now) i }
-    requires heard { IsStretch (line_of plan.now) i heard.old }
-    ensures level { result ≡ level_of (found (line_of plan.now) (level (line_of plan.now)) i tick) }
-    ensures heard { IsStretch (line_of plan.now) i heard.new }
-{
-    *heard = stretch_around(plan, replica, runs, horizons, come, *heard, i, tick);
-    if plan.disturbed(i, tick) {
-        return Level::Dominant;
-    }
-    heard.level
-}
+/// No fewer quanta than a node runs.
+const ALL_QUANTA: u64 = u64::MAX;
 
-/// Runs a member's next quantum, at which it reads this level. The replica takes what is emitted
-/// then, and it is appended to what was emitted.
+/// Runs quanta of a member in a row, at each of which it reads this level: one at least, `most` at most, none after one that
+/// changes its drive. The replica takes what it says after them, and it is appended to what was emitted.
 ///
-/// A quantum that was run can't be taken back, and what it emits is known only then. So all growth
+/// Quanta that were run can't be taken back, and what they come to is known only then. So all growth
 /// comes first: the replica makes room in each slot of which the member may say something. Refused
 /// when out of memory, all is as it was.
 fn run_cell(
@@ -178,29 +200,35 @@ fn run_cell(
     cell: &mut Cell,
     i: u8,
     level: Level,
+    most: u64,
     replica: &mut Replica,
     emitted: &mut Vec<Record>,
 ) -> Result<Emission, AllocError>
-    requires says { (plan : GivenPlan) × ((m : Member) × MaySay plan i m cell.old level replica.old.nodes) }
-    requires quanta { quanta_of cell.old.node ≤ most_quanta }
+    requires says { (plan : GivenPlan) × ((m : Member) × MaySay plan i m cell.old level most replica.old.nodes) }
+    requires some { 0 < most }
+    requires quanta { quanta_of cell.old.node + most ≤ most_quanta }
     requires changed { cell.old.changed ≤ most_edges }
-    ensures after { OnOk result (StepsCell level cell.old cell.new) }
-    ensures quanta { OnOk result (quanta_of cell.new.node ≡ quanta_of cell.old.node + 1) }
-    ensures emits { IfOk result (λ e. SaysOf i level cell.old e.items) }
-    ensures taken { IfOk result (λ e. replica.new ≡ state_with_records replica.old e.items) }
-    ensures emitted { IfOk result (λ e. emitted.new.items ≡ emitted.old.items ++ e.items) }
-    ensures stays { OnErr result (KeepsCell cell.old cell.new) }
-    ensures same_quanta { OnErr result (quanta_of cell.new.node ≡ quanta_of cell.old.node) }
+    ensures gone { IfOk result (λ said. HasGone i level most cell.old cell.new said.items) }
+    ensures taken { IfOk result (λ said. replica.new ≡ state_with_records replica.old said.items) }
+    ensures emitted { IfOk result (λ said. emitted.new.items ≡ emitted.old.items ++ said.items) }
+    ensures stays { OnErr result (HasNotGone cell.old cell.new) }
     ensures not_taken { OnErr result (replica.new ≡ replica.old) }
     ensures not_emitted { OnErr result (emitted.new.items ≡ emitted.old.items) }
 {
+    wl_replica::joining_is_a_join();
     emitted.reserve(MOST_EMITTED)?;
-    cell.node.prepare()?;
     let prepared = prepare(alloc, replica, cell.next_slots(i))?;
-    let emission = cell.run(i, level);
-    *replica = prepared.take_all(&emission);
-    append(emitted, &emission);
-    Ok(emission)
+    match cell.go(i, level, most) {
+        Ok(said) => {
+            *replica = prepared.take_all(&said);
+            append(emitted, &said);
+            Ok(said)
+        }
+        Err(_) => {
+            *replica = prepared.take_all(&[]);
+            Err(AllocError)
+        }
+    }
 }
 
 /// Moves what a replica knows into one that has room in these slots. Refused when out of memory, the

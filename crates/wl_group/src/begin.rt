@@ -78,7 +78,12 @@ fn fresh_cell(
     }
     let setup = plan.nodes.as_slice()[i as usize].clone_in(alloc)?;
     let node = Node::new(alloc, setup)?;
-    Ok(Some(Cell { node, changed: 0 }))
+    let next = node.setup().clock.at(0);
+    Ok(Some(Cell {
+        node,
+        changed: 0,
+        next,
+    }))
 }
 
 /// A replica of the plan's nodes that has taken the first silence of each node that is chosen: that

@@ -1,29 +1,58 @@
-//! A member of a group, as the group keeps it, and its next quantum.
+//! A member of a group, as the group keeps it, and its next quanta.
 
-ghost use Rattle.std.specs.Prelude.{◌≡◌, ◌+◌, ◌≤◌};
+ghost use Rattle.std.specs.Prelude.{◌≡◌, ◌+◌, ◌<◌, ◌≤◌, IfOk, OnErr};
+ghost use Rattle.wl_level.specs.declared.Level.{Level as GivenLevel};
 ghost use Rattle.wl_record_core.specs.Limits.{most_edges};
-ghost use Rattle.wl_node.specs.Reached.{quanta_of, HasRoom};
+ghost use Rattle.wl_node.specs.Limits.{most_quiet, most_run_quanta};
+ghost use Rattle.wl_node.specs.Reached.{quanta_of, node_setup, HasGone as NodeHasGone, IsSameNode};
 ghost use Rattle.wl_plan.specs.Limits.{most_quanta};
 
 use crate::answer::Emission;
 use arrayvec::ArrayVec;
+use std::alloc::AllocError;
 use wl_level::Level;
 use wl_node::Node;
 use wl_record_core::{Record, Slot};
 use wl_replica::PREPARED_SLOTS;
 
-/// A node of the plan, and how often its drive has changed.
+/// A node of the plan, how often its drive has changed, and the tick of its next quantum.
 #[derive(Drop)]
 pub(crate) struct Cell {
     pub(crate) node: Node,
     pub(crate) changed: u32,
+    pub(crate) next: u64,
+}
+
+/// Quanta of one level, up to the first that changes the drive: one at least, `most` at most. Answers how many ran, also where
+/// memory ran out after some. Refused where it ran out before the first, and the node is where it was.
+fn run_some(node: &mut Node, level: Level, most: u64) -> Result<u64, AllocError>
+    requires some { 0 < most }
+    requires short { quanta_of node.old + most ≤ most_run_quanta }
+    ensures gone { IfOk result (λ n. NodeHasGone level n node.old node.new) }
+    ensures some { IfOk result (λ n. 0 < n) }
+    ensures few { IfOk result (λ n. n ≤ most) }
+    ensures same { OnErr result (IsSameNode node.old node.new) }
+    ensures setup { OnErr result (node_setup node.new ≡ node_setup node.old) }
+    ensures quanta { OnErr result (quanta_of node.new ≡ quanta_of node.old) }
+{
+    let before = node.quanta();
+    match node.go(level, most) {
+        Ok(ran) => Ok(ran),
+        Err(_) => {
+            let ran = node.quanta() - before;
+            if ran == 0 {
+                return Err(AllocError);
+            }
+            Ok(ran)
+        }
+    }
 }
 
 impl Cell {
-    ghost use Rattle.wl_group.specs.Running.{StepsCell, SaysOf, slots_ahead};
+    ghost use Rattle.wl_group.specs.Running.{HasGone, HasNotGone, slots_ahead};
 
-    /// The slots of which node `i` may say something at its next quantum: of the change of its drive,
-    /// and of the silence without it and with it.
+    /// The slots of which node `i` may say something at its next quanta, up to one that changes its drive: of that change, and
+    /// of the silence without it and with it.
     pub(crate) fn next_slots(&self, i: u8) -> [Slot; PREPARED_SLOTS]
         requires { self.now.changed ≤ most_edges }
         ensures { result ≡ slots_ahead i self.now.changed }
@@ -39,38 +68,43 @@ impl Cell {
         ]
     }
 
-    /// Runs the next quantum of node `i`, at which it reads this level and for which it has room, and
-    /// answers what it says then: the change of its drive, if there is one, and up to which tick it is
-    /// sure to keep its drive from then on.
-    pub(crate) fn run(&mut self, i: u8, level: Level) -> Emission
-        requires room { HasRoom self.old.node }
-        requires quanta { quanta_of self.old.node ≤ most_quanta }
+    /// Runs quanta of node `i` in a row, at which it reads this level: one at least, `most` at most, and none after one that
+    /// changes its drive. Answers what it says after them: that change, if there is one, and up to which tick it is sure to
+    /// keep its drive from then on. Refused where memory runs out before the first, and the member is where it was.
+    pub(crate) fn go(&mut self, i: u8, level: Level, most: u64) -> Result<Emission, AllocError>
+        requires some { 0 < most }
+        requires quanta { quanta_of self.old.node + most ≤ most_quanta }
         requires changed { self.old.changed ≤ most_edges }
-        ensures after { StepsCell level self.old self.new }
-        ensures quanta { quanta_of self.new.node ≡ quanta_of self.old.node + 1 }
-        ensures emits { SaysOf i level self.old result.items }
+        ensures gone { IfOk result (λ said. HasGone i level most self.old self.new said.items) }
+        ensures err { OnErr result (HasNotGone self.old self.new) }
     {
         let (seq, quanta) = (self.changed, self.node.quanta());
         let before = self.node.drive();
-        self.node.run(level);
-        let turned = !self.node.drive().is(before);
-        if turned {
-            self.changed += 1;
-        }
+        let ran = run_some(&mut self.node, level, most)?;
+        let next = quanta + ran;
         let clock = &self.node.setup().clock;
+        self.next = clock.at(next);
+        let until = clock.at(next + self.node.quiet() as u64);
         let mut emission = ArrayVec::new();
-        if turned {
-            emission.push(Record::Edge {
+        if self.node.drive().is(before) {
+            emission.push(Record::Silence {
                 node: i,
-                seq,
-                tick: clock.at(quanta),
+                count: seq,
+                until,
             });
+            return Ok(emission);
         }
+        emission.push(Record::Edge {
+            node: i,
+            seq,
+            tick: clock.at(next - 1),
+        });
+        self.changed = seq + 1;
         emission.push(Record::Silence {
             node: i,
             count: self.changed,
-            until: clock.at(quanta + 1 + self.node.quiet() as u64),
+            until,
         });
-        emission
+        Ok(emission)
     }
 }

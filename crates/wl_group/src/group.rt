@@ -4,9 +4,6 @@ ghost use Rattle.std.specs.Prelude.{◌≡◌, ◌<◌, ℕ, true, List, [], ◌
 
 use crate::begin::{Chosen, chosen_of, first_replica, fresh_cells};
 use crate::cell::Cell;
-use crate::counted::{
-    Horizons, Runs, catch_up, is_line_known, laws_of_counts, no_horizons, no_runs,
-};
 use crate::heard::{Come, Heard, nothing_heard};
 use crate::laws::value_laws;
 use std::alloc::{AllocError, Global};
@@ -29,8 +26,6 @@ pub struct Group {
     pub(crate) cells: Vec<Option<Cell>>,
     pub(crate) replica: Replica,
     pub(crate) emitted: Vec<Record>,
-    pub(crate) runs: Runs,
-    pub(crate) horizons: Horizons,
     pub(crate) come: Come,
     pub(crate) heard: Heard,
 }
@@ -44,11 +39,11 @@ impl Model for Group {
     ghost coded = { coded_group };
 
     ghost use Rattle.wl_group.specs.Kept.{group_value};
-    ghost use Rattle.wl_group.specs.Counted.{IsCounting};
+    ghost use Rattle.wl_group.specs.Heard.{IsKeptWithStretches};
 
     ghost view = { λ g. group_value g.plan g.cells.items g.replica g.emitted.items };
 
-    ghost invariant = { λ g. IsCounting g.plan g.cells.items g.replica g.emitted.items g.runs g.horizons g.heard };
+    ghost invariant = { λ g. IsKeptWithStretches g.plan g.cells.items g.replica g.emitted.items g.heard };
 }
 
 impl Group {
@@ -61,7 +56,6 @@ impl Group {
     ghost use Rattle.wl_group.specs.Party.{Party, initial_party, party_with};
     ghost use Rattle.wl_group.specs.Member.{next_tick};
     ghost use Rattle.wl_group.specs.Chosen.{is_chosen};
-    ghost use Rattle.wl_group.specs.Counted.{TellHorizons};
     ghost use Rattle.wl_group.specs.Said.{HasJoined};
     ghost use Rattle.wl_group.specs.GroupValue.{IsGroupValue, Matches, belongs, quanta_at, members_now, names, initial_group, may_run, has_ended, with_records, with_state};
 
@@ -86,8 +80,6 @@ impl Group {
             cells,
             replica,
             emitted: Vec::new(alloc),
-            runs: no_runs(),
-            horizons: no_horizons(),
             come: [0; MOST_NODES],
             heard: nothing_heard(),
         })
@@ -108,8 +100,6 @@ impl Group {
         self.cells = cells;
         self.replica = replica;
         self.emitted.clear();
-        self.runs = no_runs();
-        self.horizons = no_horizons();
         Ok(())
     }
 
@@ -121,9 +111,7 @@ impl Group {
         ensures err { OnErr result (self.new ≡ self.old) }
     {
         value_laws();
-        laws_of_counts();
         self.replica.take(entry)?;
-        self.horizons[entry.node() as usize] = None;
         Ok(())
     }
 
@@ -137,11 +125,9 @@ impl Group {
         ensures err { OnErr result (self.new ≡ self.old) }
     {
         value_laws();
-        laws_of_counts();
         // (what it knows is what some records say)
         let _ = other.nodes();
         self.replica.join(other)?;
-        self.horizons = no_horizons();
         Ok(())
     }
 
@@ -157,31 +143,12 @@ impl Group {
     pub fn can_advance(&self, node: u8) -> bool
         ensures { result ≡ may_run self.now node }
     {
-        self.can_run_by(&self.horizons_now(), node)
-    }
-
-    /// The horizons of all nodes.
-    pub(crate) fn horizons_now(&self) -> Horizons
-        ensures { TellHorizons self.now.replica result }
-    {
-        wl_plan::simulation_laws();
-        let (mut runs, mut horizons) = (self.runs, self.horizons);
-        catch_up(&self.replica, &mut runs, &mut horizons);
-        horizons
-    }
-
-    /// Whether an advance of this node would run a quantum, by the horizons of all nodes.
-    pub(crate) fn can_run_by(&self, horizons: &Horizons, node: u8) -> bool
-        requires { TellHorizons self.now.replica horizons.now }
-        ensures { result ≡ may_run self.now node }
-    {
         value_laws();
         if !self.has(node) {
             return false;
         }
         let due = self.due(node);
-        due < self.plan.end
-            && is_line_known(&self.replica, &self.plan.topology, horizons, node, due)
+        due < self.plan.end && due < self.replica.place_horizon(&self.plan.topology, node)
     }
 
     /// Whether this node is at the end: it is a member, and its next quantum isn't below the end. A node
@@ -212,8 +179,10 @@ impl Group {
     {
         value_laws();
         wl_plan::simulation_laws();
-        let quanta = self.node(node).quanta();
-        self.plan.nodes.as_slice()[node as usize].clock.at(quanta)
+        match &self.cells[node as usize] {
+            Some(cell) => cell.next,
+            None => unreachable!(),
+        }
     }
 
     /// What is known of all nodes. All of it is true of the plan.

@@ -6,7 +6,6 @@ mod answer;
 mod begin;
 mod cell;
 mod changes;
-mod counted;
 mod group;
 mod heard;
 mod laws;

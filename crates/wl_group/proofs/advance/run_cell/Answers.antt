@@ -9,11 +9,13 @@ use Rattle.wl_record_core.specs.declared.record.Record.TheVariants.{Edge, Silenc
 use Rattle.wl_record_core.specs.declared.record.Slot.{Slot}
 use Rattle.wl_record_core.specs.declared.record.Slot.TheVariants.{SilenceAt}
 use Rattle.wl_record_core.specs.Slots.{slot_of}
+use Rattle.wl_replica.specs.State.{State, Fits}
 use Rattle.wl_plan.specs.Line.{Line, reach}
 use Rattle.wl_plan.specs.PlanLine.{line_of}
 use Rattle.wl_group.specs.Member.{Member, next_tick, turns, member_after_quantum, emission}
-use Rattle.wl_group.specs.Running.{IsCellOf, slots_ahead}
+use Rattle.wl_group.specs.Running.{passed, slots_ahead}
 use Rattle.wl_group.proofs.advance.run_cell.Goals as goal
+use Rattle.wl_group.proofs.advance.run_cell.Goals.{In-Ok}
 
 -- a record of node i's slots after n changes
 abbrev IsAhead : ℕ → ℕ → Record → Type 0
@@ -27,18 +29,24 @@ said_ahead : (l : Line) (i : ℕ) (m : Member) (level : Level) → All (IsAhead 
 said_ahead l i m level =
     All-from_recursion (IsAhead i m.changed) (emission l i m level) (with_turn i m.changed (next_tick l i m) (reach l i (member_after_quantum l i m level).saw) (turns l i m level))
 
+-- what was said, where the member stood up to the last quantum
+said_by : (c : In-Ok) → c.in-Ok.said.items ≡ emission (line_of c.requires.says.0) c.args.i (passed c.requires.says.1.0 c.args.level c.in-Ok.ensures.gone.n) c.args.level
+said_by c = c.in-Ok.ensures.gone.says c.requires.says.0 c.requires.says.1.0 c.requires.says.1.1.at
+
+pub take_all-requires-clause-fits : goal.take_all-requires-clause-fits
+take_all-requires-clause-fits c =
+    let may = c.requires.says.1.1 in
+    let gone = c.in-Ok.ensures.gone in
+    let said = c.deref.ensures.0 ∙ said_by (goal.at.take_all-requires-clause-fits c).In-Ok in
+    subst (λ (s : State). All (Fits s.nodes) c.deref.result.now) (sym c.in_ok-prepared.ensures.known)
+    (subst (λ (rs : List Record). All (Fits c.args.replica.now.nodes) rs) (sym said)
+    (may.fits gone.n gone.few (gone.stood c.requires.says.0 c.requires.says.1.0 may.at)))
+
 pub take_all-requires-clause-room : goal.take_all-requires-clause-room
 take_all-requires-clause-room c =
     let p = c.requires.says.0 in
-    let m = c.requires.says.1.0 in
-    let at = c.requires.says.1.1.at in
-    let prepared : IsCellOf p c.args.i m (record { node = c.prepare.new.self; changed = c.args.cell.now.changed }) =
-    record { setup = c.prepare.ensures.setup ∙ at.setup; node = c.prepare.ensures.node m.saw at.node; changed = at.changed } in
-    let emitted : c.deref.result.now ≡ emission (line_of p) c.args.i m c.args.level = c.deref.ensures.0 ∙ c.run-emission.ensures.emits p m prepared in
-    let slots : c.in_ok-prepared.prepared.slots ≡ slots_ahead c.args.i m.changed = c.in_ok-prepared.ensures.slots ∙ c.next_slots.ensures ∙ ap (slots_ahead c.args.i) at.changed in
-    subst (λ (rs : List Record). All (λ r. Contains c.in_ok-prepared.prepared.slots (slot_of r)) rs) (sym emitted)
+    let m = passed c.requires.says.1.0 c.args.level c.in-Ok.ensures.gone.n in
+    let said = c.deref.ensures.0 ∙ said_by (goal.at.take_all-requires-clause-room c).In-Ok in
+    let slots : c.in_ok-prepared.prepared.slots ≡ slots_ahead c.args.i m.changed = c.in_ok-prepared.ensures.slots ∙ c.next_slots.ensures ∙ ap (slots_ahead c.args.i) c.requires.says.1.1.at.changed in
+    subst (λ (rs : List Record). All (λ r. Contains c.in_ok-prepared.prepared.slots (slot_of r)) rs) (sym said)
     (subst (λ (ss : List Slot). All (λ r. Contains ss (slot_of r)) (emission (line_of p) c.args.i m c.args.level)) (sym slots) (said_ahead (line_of p) c.args.i m c.args.level))
-
-pub returns-clause-after : goal.returns-clause-after
-returns-clause-after c plan i m held =
-    c.run-emission.ensures.after plan i m (record { setup = c.prepare.ensures.setup ∙ held.setup; node = c.prepare.ensures.node m.saw held.node; changed = held.changed })

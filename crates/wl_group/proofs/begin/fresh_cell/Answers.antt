@@ -1,5 +1,7 @@
-use Rattle.std.proofs.Common.{◌≡◌, ◌∙◌}
-use Rattle.wl_node.specs.Reached.{quanta_of}
+use Rattle.std.proofs.Common.{◌≡◌, ◌∙◌, ap}
+use Rattle.wl_clock.specs.Timing.{tick_of}
+use Rattle.wl_node.specs.declared.setup.NodeSetup.{NodeSetup}
+use Rattle.wl_node.specs.Reached.{node_setup, quanta_of}
 use Rattle.wl_plan.specs.PlanLine.{setup_at}
 use Rattle.wl_plan.proofs.Callers.{element_is}
 use Rattle.wl_group.proofs.BeginProofs.{fresh_kept}
@@ -10,7 +12,9 @@ returns-clause-cell c =
     let element : c.index-as_slice-i.result ≡ setup_at c.args.plan.now c.args.i =
     element_is c.args.plan.now c.args.i c.index-as_slice-i.result c.as_slice.result.now c.as_slice.ensures c.index-as_slice-i.is c.requires.node
     in
+    let setup : node_setup c.in_ok-node.node ≡ setup_at c.args.plan.now c.args.i = c.in_ok-node.ensures.setup ∙ (c.in_ok-setup.ensures ∙ element) in
     let is = c.in_ok-node.ensures.node in
     let none : quanta_of c.in_ok-node.node ≡ 0 = c.node_laws.ensures.counted c.in_ok-node.node _ is in
-    fresh_kept c.args.plan.now c.args.i c.in_ok-node.node c.simulation_laws.ensures (c.checked_is_sound.ensures c.args.plan.now c.requires.checked) c.requires.node
-    (c.in_ok-node.ensures.setup ∙ (c.in_ok-setup.ensures ∙ element)) is none
+    fresh_kept c.args.plan.now c.args.i c.in_ok-node.node c.at-next.result c.simulation_laws.ensures (c.checked_is_sound.ensures c.args.plan.now c.requires.checked) c.requires.node
+    setup is none
+    (c.at-next.ensures.tick ∙ ap (λ (s : NodeSetup). tick_of s.clock 0) (c.setup.ensures ∙ setup))

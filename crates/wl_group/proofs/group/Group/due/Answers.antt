@@ -1,28 +1,23 @@
-use Rattle.std.proofs.Common.{◌≡◌, ◌≤◌, ◌∙◌, ap, arith, sym, length}
-use Rattle.wl_clock.specs.Timing.{tick_of}
-use Rattle.wl_node.specs.declared.setup.NodeSetup.{NodeSetup}
+-- The tick that is kept of a member is that of its next quantum.
+use Rattle.std.proofs.Common.{◌≡◌, ◌<◌, ◌∙◌, ap, length, Some, None, sym, subst}
+use Rattle.std.specs.Prelude.{slice_index_or, true}
+use Rattle.wl_plan.specs.PlanLine.{line_of}
 use Rattle.wl_node.specs.Reached.{quanta_of}
-use Rattle.wl_plan.specs.Limits.{most_quanta, most_quanta-is}
-use Rattle.wl_plan.specs.PlanLine.{setup_at}
-use Rattle.wl_group.specs.GroupValue.{GroupValue, members_now}
-use Rattle.wl_plan.proofs.Callers.{element_is}
+use Rattle.wl_group.specs.Member.{next_tick}
+use Rattle.wl_group.specs.GroupValue.{GroupValue, members_now, belongs}
+use Rattle.wl_group.proofs.BeginProofs.{has_place, cell_read, kept_member}
 use Rattle.wl_group.proofs.group.Group.due.Goals as goal
 
-pub at-requires : goal.at-requires
-at-requires c =
-    let q = c.value_laws.ensures.quanta_few c.args.self.now c.node.ensures.holds c.args.node (quanta_of c.node.result.now) c.node.ensures.quanta in
-    let few : quanta_of c.node.result.now ≤ most_quanta = q.1 in
-    let e = c.quanta-quanta.ensures.value in
-    omega (arith, most_quanta-is)
-
--- the clock asked is the plan's, and it is asked for the quantum after all that the member has seen
 pub returns : goal.returns
 returns c =
-    let q = c.value_laws.ensures.quanta_few c.args.self.now c.node.ensures.holds c.args.node (quanta_of c.node.result.now) c.node.ensures.quanta in
-    let element : c.index-as_slice-node.result ≡ setup_at c.args.self.now.plan c.args.node =
-    element_is c.args.self.now.plan c.args.node c.index-as_slice-node.result c.as_slice.result.now (c.as_slice.ensures ∙ ap (λ (v : GroupValue). v.plan.nodes) c.self.view_is) c.index-as_slice-node.is q.0
+    let plan = c.self.inside.plan in
+    let b : c.args.node < length c.self.inside.cells.items =
+    has_place c.self.inside.cells.items c.args.node (subst (λ (v : GroupValue). belongs v c.args.node ≡ true) (sym c.self.view_is) c.requires)
     in
-    c.at.ensures.tick
-    ∙ ap (λ (s : NodeSetup). tick_of s.clock c.quanta-quanta.result) (sym c.index-as_slice-node.is)
-    ∙ ap (tick_of c.index-as_slice-node.result.clock) (c.quanta-quanta.ensures.levels (members_now c.args.self.now c.args.node).saw c.node.ensures.node)
-    ∙ ap (λ (s : NodeSetup). tick_of s.clock (length (members_now c.args.self.now c.args.node).saw)) element
+    let e : slice_index_or c.self.inside.cells.items c.args.node None ≡ Some c.in-Some.cell =
+    cell_read c.self.inside.cells.items c.args.node c.index.result.now c.in-Some.cell b c.index.ensures c.in-Some.is
+    in
+    (c.self.invariant.kept.placed c.args.node c.in-Some.cell e).next
+    ∙ (ap ((line_of plan).instant c.args.node) (sym (c.simulation_laws.ensures.length_seen (line_of plan) c.args.node (quanta_of c.in-Some.cell.node)))
+    ∙ (ap (λ m. next_tick (line_of plan) c.args.node m) (sym (kept_member plan c.self.inside.cells.items c.self.inside.replica c.self.inside.emitted.items c.args.node c.in-Some.cell e))
+    ∙ ap (λ (v : GroupValue). next_tick (line_of v.plan) c.args.node (members_now v c.args.node)) c.self.view_is))

@@ -1,5 +1,4 @@
 use Rattle.std.proofs.Common.{◌∙◌, ap, length}
-use Rattle.wl_replica.specs.State.{slots_of}
 use Rattle.wl_plan.specs.PlanLine.{line_of}
 use Rattle.wl_group.specs.GroupValue.{names, belongs}
 use Rattle.wl_group.specs.Chosen.{is_chosen}
@@ -12,8 +11,6 @@ invariant_of-result c =
       kept = begun_kept c.value_laws.ensures c.args.plan.now c.in_ok-clone_in.field-0 (is_chosen c.chosen_of-chosen.result) (names c.args.members.now)
           c.in_ok-cells.cells.items c.in_ok-replica.replica c.new.result.items c.requires.checked c.in_ok-clone_in.ensures c.chosen_of-chosen.ensures
           c.in_ok-cells.ensures.ran c.in_ok-cells.ensures.cells c.in_ok-replica.ensures c.new.ensures.items;
-      counted = c.no_runs.ensures (slots_of c.in_ok-replica.replica);
-      known = c.no_horizons.ensures (slots_of c.in_ok-replica.replica) c.no_runs.result;
       stretches = c.nothing_heard.ensures (line_of c.in_ok-clone_in.field-0);
     }
 

@@ -1,5 +1,4 @@
 use Rattle.std.proofs.Common.{refl, sym, ◌∙◌, ap, subst}
-use Rattle.wl_replica.specs.State.{slots_of}
 use Rattle.wl_plan.specs.PlanLine.{line_of}
 use Rattle.wl_group.specs.Party.{initial_party}
 use Rattle.wl_group.specs.GroupValue.{GroupValue, IsGroupValue, Matches, belongs, initial_group}
@@ -13,8 +12,6 @@ invariant_of-self c =
       kept = begun_kept c.value_laws.ensures c.self.inside.plan c.self.inside.plan (is_chosen c.chosen-chosen.result) (is_chosen c.chosen-chosen.result)
           c.in_ok-cells.cells.items c.in_ok-replica.replica c.clear.new.self.items c.self.invariant.kept.value.checked refl (λ i. refl)
           c.in_ok-cells.ensures.ran c.in_ok-cells.ensures.cells c.in_ok-replica.ensures c.clear.ensures.items;
-      counted = c.no_runs-self-inside.ensures (slots_of c.in_ok-replica.replica);
-      known = c.no_horizons-self-inside.ensures (slots_of c.in_ok-replica.replica) c.no_runs-self-inside.result;
       stretches = c.self.invariant.stretches;
     }
 

@@ -1,0 +1,338 @@
+-- Quanta in a row, while the line at the place stays and the drive too: where they take the node, and that the machine takes them one by one.
+use Rattle.std.proofs.Common.{◌≡◌, ℕ, zero, suc, ◌+◌, ◌-◌, ◌<◌, ◌≤◌, Bool, true, false, ◌&&◌, nat_lt, inl, inr, List, [], ◌∷◌, ◌++◌, length, replicate, refl, sym, ◌∙◌, ap, subst, arith, append-nil, Option, Some, None, is_some, if◌then◌else◌}
+use Rattle.std.specs.Prelude.{slice_set, slice_index_or, Contains}
+use Rattle.std.proofs.lemmas.Bool.{cases_lt, cases_eq, and_parts, and_from, lt-ltb}
+use Rattle.std.proofs.lemmas.List.{get_or-set_same, get_or-set_other}
+use Rattle.std.proofs.lemmas.List.Elements.{Contains-append_left, Contains-append_right}
+use Rattle.std.proofs.Math.ListN.{length-set}
+use Rattle.wl_level.specs.declared.Level.{Level}
+use Rattle.wl_level.specs.Levels.{level_of}
+use Rattle.wl_record_core.specs.declared.record.Record.{Record}
+use Rattle.wl_record_core.specs.declared.record.Record.TheVariants.{Edge, Silence}
+use Rattle.wl_record_core.specs.Truth.{count_below, AreTrueOf}
+use Rattle.wl_record_core.specs.TableLaws.{TableLaws}
+use Rattle.wl_replica.specs.State.{State, state_of, slots_of, state_with_records}
+use Rattle.wl_replica.specs.Slots.{slots_joined, slots_of_records, IsBelow}
+use Rattle.wl_replica.specs.SlotsOf.{SlotsOfStates}
+use Rattle.wl_replica.specs.Known.{horizon, place_horizon}
+use Rattle.wl_replica.specs.KnownLaws.{SlotsLaws, KnownLaws}
+use Rattle.wl_plan.specs.Limits.{most_quanta}
+use Rattle.wl_plan.specs.Line.{Line, found, reach}
+use Rattle.wl_plan.specs.PlanLine.{line_of, table_of}
+use Rattle.wl_plan.specs.Simulation.{level, seen, differs, changes, AreInside}
+use Rattle.wl_plan.specs.SimulationLaws.{SimulationLaws}
+use Rattle.wl_plan.specs.Sound.{IsSound}
+use Rattle.wl_plan.specs.Checked.{CheckedIsSound}
+use Rattle.wl_group.specs.Member.{Member, next_tick, can_run, turns, member_after_quantum, emission, level_read}
+use Rattle.wl_group.specs.Party.{Party}
+use Rattle.wl_group.specs.Holds.{IsMember}
+use Rattle.wl_group.specs.GroupLaws.{GroupLaws}
+use Rattle.wl_group.specs.Running.{passed, Stood, HasRunNext, Ran, quanta_to_come, quanta_left}
+use Rattle.wl_group.specs.Running as runs_of
+use Rattle.wl_group.specs.ValueLaws.{ValueLaws}
+use Rattle.wl_group.specs.GroupValue.{GroupValue, IsGroupValue, Matches, quanta_at, belongs, member_after, member_at, members_now, may_run, reads_at, emission_at, run_on}
+use Rattle.wl_group.specs.Going.{told_by, at_quantum, gone_on, AdvancesTo, HasGoneOn, MayGo, HasRunSome}
+use Rattle.wl_group.proofs.CellProofs.{one_longer}
+use Rattle.wl_group.proofs.GroupProofs.{place_keeps}
+use Rattle.wl_group.proofs.RunProofs.{some_there, set_own, set_there}
+
+-- ---- a node at whose place the line stays
+
+same_differs : (a b : Bool) → a ≡ b → differs a b ≡ false
+same_differs true b e = ap (λ v. differs true v) (sym e)
+same_differs false b e = sym e
+
+-- at each of the quanta from k on, below k + n, the node finds this level
+abbrev pub Finds : Line → ℕ → Level → ℕ → ℕ → Type 0
+Finds l i here k n = (j : ℕ) → j < n → level_of (found l (level l) i (l.instant i (k + j))) ≡ here
+
+pub seen_on : (l : Line) (i : ℕ) (here : Level) (k n : ℕ) → Finds l i here k n → seen l i (k + n) ≡ seen l i k ++ replicate n here
+unfolding seen
+seen_on l i here k zero f = ap (seen l i) (let e : k + 0 ≡ k = omega arith in e) ∙ sym (append-nil (seen l i k))
+seen_on l i here k (suc n) f =
+    ap (seen l i) (let e : k + suc n ≡ suc (k + n) = omega arith in e)
+    ∙ (ap (λ xs. xs ++ level_of (found l (level l) i (l.instant i (k + n))) ∷ []) (seen_on l i here k n (λ j b. f j (omega arith)))
+    ∙ (ap (λ x. (seen l i k ++ replicate n here) ++ x ∷ []) (f n (omega arith))
+    ∙ sym (one_longer (seen l i k) n here)))
+
+module _ (sims : SimulationLaws) (l : Line) (s : IsSound l) (i : ℕ) (b : i < l.nodes) (here : Level) (k : ℕ) where
+  -- as long as the drive stays no change is counted
+  count_on : (n : ℕ) → Finds l i here k n → AreInside l i (k + n) → Stood l i (member_after l i k) here n
+      → count_below (l.instant i (k + n)) (changes l i) ≡ count_below (l.instant i k) (changes l i)
+  count_on zero f inside stood = ap (λ m. count_below (l.instant i m) (changes l i)) (let e : k + 0 ≡ k = omega arith in e)
+  count_on (suc n) f inside stood =
+      let e : k + suc n ≡ suc (k + n) = omega arith in
+      let now : l.drives i (seen l i (suc (k + n))) ≡ l.drives i (seen l i k) = ap (λ m. l.drives i (seen l i m)) (sym e) ∙ (ap (l.drives i) (seen_on l i here k (suc n) f) ∙ stood (suc n) (omega arith)) in
+      let before : l.drives i (seen l i (k + n)) ≡ l.drives i (seen l i k) = ap (l.drives i) (seen_on l i here k n (λ j c. f j (omega arith))) ∙ stood n (omega arith) in
+      ap (λ m. count_below (l.instant i m) (changes l i)) e
+      ∙ (sims.no_turn l i (k + n) s.causal b (λ j c. inside j (omega arith)) (same_differs (l.drives i (seen l i (suc (k + n)))) (l.drives i (seen l i (k + n))) (now ∙ sym before))
+      ∙ count_on n (λ j c. f j (omega arith)) (λ j c. inside j (omega arith)) (λ j c. stood j (omega arith)))
+
+  pub passed_is : (n : ℕ) → Finds l i here k n → AreInside l i (k + n) → Stood l i (member_after l i k) here n → passed (member_after l i k) here n ≡ member_after l i (k + n)
+  passed_is n f inside stood =
+      let saw = sym (seen_on l i here k n f) in
+      let changed = sym (count_on n f inside stood) in
+      λ d. record { saw = saw d; changed = changed d }
+
+-- ---- the list of quanta
+
+left_up : (xs : List (Option ℕ)) (i k m : ℕ) → slice_index_or xs i None ≡ Some k → k ≤ m → quanta_to_come (slice_set xs i (Some m)) ≤ quanta_to_come xs
+left_up [] i k m h b = omega arith
+left_up (None ∷ xs) zero k m h b = absurd cc
+left_up (Some n ∷ xs) zero k m h b = (let e : n ≡ k = cc in omega arith)
+left_up (None ∷ xs) (suc i) k m h b = left_up xs i k m h b
+left_up (Some n ∷ xs) (suc i) k m h b = (let e = left_up xs i k m h b in omega arith)
+
+-- ---- a group with a member at a later quantum
+
+-- what node i says at quantum k in the simulation
+abbrev spoken : Line → ℕ → ℕ → List Record
+spoken l i k = emission l i (member_after l i k) (level_of (found l (level l) i (l.instant i k)))
+
+pub here_at : (g : GroupValue) (i k m : ℕ) → quanta_at g i ≡ Some k → quanta_at (at_quantum g i m) i ≡ Some m
+here_at g i k m ran = get_or-set_same g.ran i (Some m) None (some_there g.ran i k ran)
+
+belongs_at : (g : GroupValue) (i k m : ℕ) → quanta_at g i ≡ Some k → (j : ℕ) → belongs (at_quantum g i m) j ≡ belongs g j
+belongs_at g i k m ran j = elim (cases_eq j i) [
+  | inl same ↦ subst (λ n. belongs (at_quantum g i m) n ≡ belongs g n) (sym same) (ap is_some (here_at g i k m ran) ∙ sym (ap is_some ran))
+  | inr other ↦ ap is_some (get_or-set_other g.ran i j (Some m) None other)
+]
+
+pub belongs_on : (g : GroupValue) (i k m : ℕ) → quanta_at g i ≡ Some k → belongs (at_quantum g i m) ≡ belongs g
+belongs_on g i k m ran = λ d j. belongs_at g i k m ran j d
+
+module _ (laws : ValueLaws) (groups : GroupLaws) (sims : SimulationLaws) (sound : CheckedIsSound) (g : GroupValue) (v : IsGroupValue g) (i k : ℕ) (ran : quanta_at g i ≡ Some k) where
+  pub node : i < length g.plan.nodes
+  node = (laws.quanta_few g v i k ran).0
+
+  -- a member whose next quantum is before the end, and below what is known at its place, may run it
+  pub may_at : (line_of g.plan).instant i k < g.plan.end → (line_of g.plan).instant i k < place_horizon (length g.plan.nodes) (line_of g.plan).delay (slots_of g.replica) i → may_run g i ≡ true
+  may_at early known =
+      let l = line_of g.plan in
+      let long : length (seen l i k) ≡ k = sims.length_seen l i k in
+      let can : can_run l i (member_after l i k) (slots_of g.replica) ≡ true =
+      subst (λ m. (nat_lt (l.instant i m) l.stop && nat_lt (l.instant i m) (place_horizon l.nodes l.delay (slots_of g.replica) i)) ≡ true) (sym long)
+      (and_from _ _ (lt-ltb _ _ early) (lt-ltb _ _ known)) in
+      and_from _ _ (ap is_some ran) (ap (λ q. can_run l i (member_at l i q) (slots_of g.replica)) ran ∙ can)
+
+  -- and says then what it says in the simulation
+  pub spoken_is : may_run g i ≡ true → emission_at g i ≡ spoken (line_of g.plan) i k
+  spoken_is may =
+      let l = line_of g.plan in
+      let c = and_parts (belongs g i) (can_run l i (members_now g i) (slots_of g.replica)) may in
+      let long : length (seen l i k) ≡ k = sims.length_seen l i k in
+      ap (emission l i (members_now g i)) (groups.read_is_found l (sound g.plan v.checked) (slots_of g.replica) v.holds.truth i (members_now g i) node c.1)
+      ∙ (ap (λ q. emission l i (member_at l i q) (level_of (found l (level l) i (next_tick l i (member_at l i q))))) ran
+      ∙ ap (λ m. emission l i (member_after l i k) (level_of (found l (level l) i (l.instant i m)))) long)
+
+  -- the quanta k to k + n of node i are before the end, and the line at its place is known there
+  module _ (n : ℕ) (early : (j : ℕ) → j ≤ n → (line_of g.plan).instant i (k + j) < g.plan.end)
+      (known : (j : ℕ) → j ≤ n → (line_of g.plan).instant i (k + j) < place_horizon (length g.plan.nodes) (line_of g.plan).delay (slots_of g.replica) i) where
+    pub inside_all : AreInside (line_of g.plan) i (k + suc n)
+    inside_all j b = elim (cases_lt j k) [
+      | inl old ↦ (laws.quanta_few g v i k ran).2 j old
+      | inr new ↦ subst (λ m. (line_of g.plan).instant i m < g.plan.end) (let e : k + (j - k) ≡ j = omega arith in e) (early (j - k) (omega arith))
+    ]
+
+    own_before : IsMember (line_of g.plan) i (member_after (line_of g.plan) i k) (slots_of g.replica)
+    own_before = subst (λ m. IsMember (line_of g.plan) i m (slots_of g.replica)) (ap (member_at (line_of g.plan) i) ran) (v.holds.each i node (ap is_some ran))
+
+    -- node i is a member there
+    member_on : (line_of g.plan).instant i (k + n) ≤ horizon (slots_of g.replica) i → IsMember (line_of g.plan) i (member_after (line_of g.plan) i (k + n)) (slots_of g.replica)
+    member_on promised =
+        let l = line_of g.plan in
+        let long : length (seen l i (k + n)) ≡ k + n = sims.length_seen l i (k + n) in
+        let short : length (seen l i k) ≡ k = sims.length_seen l i k in
+        record {
+          state = ap (seen l i) (sym long);
+          inside = λ j b. inside_all j (omega arith);
+          read = λ j b. elim (cases_lt j k) [
+            | inl before ↦ own_before.read j (omega arith)
+            | inr new ↦ subst (λ m. l.instant i m < place_horizon l.nodes l.delay (slots_of g.replica) i) (let e : k + (j - k) ≡ j = omega arith in e) (known (j - k) (omega arith))
+          ];
+          count = ap (λ m. count_below (l.instant i m) (changes l i)) (sym long);
+          known = subst (λ m. l.instant i m ≤ horizon (slots_of g.replica) i) (sym long) promised;
+        }
+
+    else_at : (j : ℕ) → (j ≡ i → ⊥) → quanta_at (at_quantum g i (k + n)) j ≡ quanta_at g j
+    else_at j o = get_or-set_other g.ran i j (Some (k + n)) None o
+
+    pub value_on : (line_of g.plan).instant i (k + n) ≤ horizon (slots_of g.replica) i → IsGroupValue (at_quantum g i (k + n))
+    value_on promised = record {
+      checked = v.checked;
+      one_each = length-set g.ran i (Some (k + n)) ∙ v.one_each;
+      of_all = v.of_all;
+      of_records = v.of_records;
+      holds = record {
+        truth = v.holds.truth;
+        each = λ j b o. elim (cases_eq j i) [
+          | inl same ↦ subst (λ x. IsMember (line_of g.plan) x (members_now (at_quantum g i (k + n)) x) (slots_of g.replica)) (sym same)
+              (subst (λ m. IsMember (line_of g.plan) i m (slots_of g.replica)) (sym (ap (member_at (line_of g.plan) i) (here_at g i k (k + n) ran))) (member_on promised))
+          | inr other ↦ subst (λ q. IsMember (line_of g.plan) j (member_at (line_of g.plan) j q) (slots_of g.replica)) (sym (else_at j other))
+              (v.holds.each j b (sym (ap is_some (else_at j other)) ∙ o))
+        ];
+      };
+      emitted_true = v.emitted_true;
+    }
+
+-- the next quantum alone
+pub next_of_some : (i : ℕ) (old new : GroupValue) (said : List Record) → HasRunSome i 1 old new said → HasRunNext i old new said
+next_of_some i old new said h =
+    let none : h.n ≡ 0 = (let f = h.few in omega arith) in
+    let ran = set_own old.ran i (h.k + h.n) (h.may.ran ∙ ap (λ m. Some m) (omega arith)) in
+    subst (λ (g : GroupValue). HasRunNext i g new said) (λ d. record { plan = old.plan; ran = ran d; replica = old.replica; emitted = old.emitted }) h.last
+
+-- ---- one by one
+
+-- the group after n quanta of node i one by one, and what it said at each
+record OneByOne (g : GroupValue) (i k n : ℕ) : Type 0 where
+  h : GroupValue
+  rs : List Record
+  steps : Ran g rs h
+  quanta : h.ran ≡ slice_set g.ran i (Some (k + n))
+  last : (m : ℕ) → n ≡ suc m → (r : Record) → Contains (spoken (line_of g.plan) i (k + m)) r → Contains rs r
+
+module _ (laws : ValueLaws) (groups : GroupLaws) (tables : TableLaws) (joins : SlotsLaws) (knows : KnownLaws) (sims : SimulationLaws) (states : SlotsOfStates) (sound : CheckedIsSound) (i : ℕ) where
+  -- what is known at a place stays known
+  known_still : (g : GroupValue) → IsGroupValue g → (k : ℕ) → quanta_at g i ≡ Some k → may_run g i ≡ true → (t : ℕ)
+      → t < place_horizon (length g.plan.nodes) (line_of g.plan).delay (slots_of g.replica) i → t < place_horizon (length g.plan.nodes) (line_of g.plan).delay (slots_of (run_on i k g).replica) i
+  known_still g v k ran may t h =
+      let l = line_of g.plan in
+      let b = node laws groups sims sound g v i k ran in
+      place_keeps tables joins knows sims l (slots_of g.replica) (slots_of (run_on i k g).replica) i (omega arith) v.holds.truth (laws.runs g v i k ran may).holds.truth
+      (subst (IsBelow (slots_of g.replica)) (sym (states.both g.replica (state_of g.replica.nodes (emission_at g i)))) (joins.above_first (slots_of g.replica) (slots_of (state_of g.replica.nodes (emission_at g i)))))
+      t h
+
+  one_by_one : (n : ℕ) (g : GroupValue) (k : ℕ) → IsGroupValue g → quanta_at g i ≡ Some k → ((j : ℕ) → j < n → (line_of g.plan).instant i (k + j) < g.plan.end)
+      → ((j : ℕ) → j < n → (line_of g.plan).instant i (k + j) < place_horizon (length g.plan.nodes) (line_of g.plan).delay (slots_of g.replica) i) → OneByOne g i k n
+  one_by_one zero g k v ran early known = record {
+    h = g;
+    rs = [];
+    steps = runs_of.none;
+    quanta = sym (set_own g.ran i (k + 0) (ran ∙ ap (λ m. Some m) (omega arith)));
+    last = λ m e. absurd (omega arith);
+  }
+  one_by_one (suc n) g k v ran early known =
+      let l = line_of g.plan in
+      let e : k + 0 ≡ k = omega arith in
+      let may = may_at laws groups sims sound g v i k ran (subst (λ m. l.instant i m < g.plan.end) e (early 0 (omega arith)))
+      (subst (λ m. l.instant i m < place_horizon (length g.plan.nodes) l.delay (slots_of g.replica) i) e (known 0 (omega arith))) in
+      let on : (j : ℕ) → k + suc j ≡ suc k + j = λ j. omega arith in
+      let next = one_by_one n (run_on i k g) (suc k) (laws.runs g v i k ran may) (get_or-set_same g.ran i (Some (suc k)) None (some_there g.ran i k ran))
+      (λ j b. subst (λ m. l.instant i m < g.plan.end) (on j) (early (suc j) (omega arith)))
+      (λ j b. known_still g v k ran may (l.instant i (suc k + j)) (subst (λ m. l.instant i m < place_horizon (length g.plan.nodes) l.delay (slots_of g.replica) i) (on j) (known (suc j) (omega arith)))) in
+      record {
+        h = next.h;
+        rs = emission_at g i ++ next.rs;
+        steps = runs_of.more i k ran may next.steps;
+        quanta = next.quanta ∙ (set_there g.ran i (Some (suc k)) (Some (suc k + n)) ∙ ap (λ m. slice_set g.ran i (Some m)) (sym (on n)));
+        last = λ m is r c. elim (cases_eq n 0) [
+          | inl none ↦ Contains-append_left (emission_at g i) next.rs r
+              (subst (λ es. Contains es r) (sym (spoken_is laws groups sims sound g v i k ran may)) (subst (λ q. Contains (spoken l i q) r) (let f : k + m ≡ k = omega arith in f) c))
+          | inr some ↦ Contains-append_right (emission_at g i) next.rs r
+              (next.last (n - 1) (omega arith) r (subst (λ q. Contains (spoken l i q) r) (let f : k + m ≡ suc k + (n - 1) = omega arith in f) c))
+        ];
+      }
+
+  -- ---- what was run in a row, as the group's calls say it
+
+  module _ (most : ℕ) (old new : GroupValue) (said : List Record) (v : IsGroupValue old) (h : HasRunSome i most old new said) where
+    l : Line
+    l = line_of old.plan
+
+    at : GroupValue
+    at = at_quantum old i (h.k + h.n)
+
+    there : quanta_at (at_quantum old i (h.k + h.n)) i ≡ Some (h.k + h.n)
+    there = here_at old i h.k (h.k + h.n) h.may.ran
+
+    may : may_run (at_quantum old i (h.k + h.n)) i ≡ true
+    may = may_at laws groups sims sound (at_quantum old i (h.k + h.n)) h.may.value i (h.k + h.n) there (h.may.early h.n (omega arith)) (h.may.known h.n (omega arith))
+
+    said_spoken : said ≡ spoken (line_of old.plan) i (h.k + h.n)
+    said_spoken = h.last.emits ∙ spoken_is laws groups sims sound (at_quantum old i (h.k + h.n)) h.may.value i (h.k + h.n) there may
+
+    here : Level
+    here = level_of (found (line_of old.plan) (level (line_of old.plan)) i ((line_of old.plan).instant i (h.k + h.n)))
+
+    saw_after : seen (line_of old.plan) i (h.k + h.n) ++ here ∷ [] ≡ seen (line_of old.plan) i (h.k + suc h.n)
+    unfolding seen here
+    saw_after = ap (seen (line_of old.plan) i) (let e : suc (h.k + h.n) ≡ h.k + suc h.n = omega arith in e)
+
+    -- the member after its last quantum, by the machine and by the simulation
+    after_is : member_after_quantum (line_of old.plan) i (member_after (line_of old.plan) i (h.k + h.n)) here ≡ member_after (line_of old.plan) i (h.k + suc h.n)
+    unfolding here
+    after_is =
+        let lin = line_of old.plan in
+        let g = at_quantum old i (h.k + h.n) in
+        let c = and_parts (belongs g i) (can_run lin i (members_now g i) (slots_of g.replica)) may in
+        let long : length (seen lin i (h.k + h.n)) ≡ h.k + h.n = sims.length_seen lin i (h.k + h.n) in
+        let b = node laws groups sims sound old v i h.k h.may.ran in
+        let m_is : members_now g i ≡ member_after lin i (h.k + h.n) = ap (member_at lin i) there in
+        let read : reads_at g i ≡ here =
+        groups.read_is_found lin (sound old.plan v.checked) (slots_of g.replica) h.may.value.holds.truth i (members_now g i) b c.1
+        ∙ (ap (λ m. level_of (found lin (level lin) i (next_tick lin i m))) m_is ∙ ap (λ q. level_of (found lin (level lin) i (lin.instant i q))) long) in
+        let ran_on : quanta_at (run_on i (h.k + h.n) g) i ≡ Some (suc (h.k + h.n)) = get_or-set_same g.ran i (Some (suc (h.k + h.n))) None (some_there g.ran i (h.k + h.n) there) in
+        sym (ap (λ m. member_after_quantum lin i m (reads_at g i)) m_is ∙ ap (member_after_quantum lin i (member_after lin i (h.k + h.n))) read)
+        ∙ (laws.steps_to g h.may.value i (h.k + h.n) there may
+        ∙ (ap (member_at lin i) ran_on ∙ ap (member_after lin i) (let e : suc (h.k + h.n) ≡ h.k + suc h.n = omega arith in e)))
+
+    said_is : said ≡ told_by old i h.k (suc h.n)
+    unfolding here
+    said_is =
+        let lin = line_of old.plan in
+        let m = member_after lin i (h.k + h.n) in
+        let new_m = member_after lin i (h.k + suc h.n) in
+        let long : length (seen lin i (h.k + h.n)) ≡ h.k + suc h.n - 1 = sims.length_seen lin i (h.k + h.n) ∙ omega arith in
+        let turn : turns lin i m here ≡ differs (lin.drives i new_m.saw) (lin.drives i (member_after lin i h.k).saw) =
+        ap (λ xs. differs (lin.drives i xs) (lin.drives i m.saw)) saw_after ∙ ap (differs (lin.drives i new_m.saw)) h.may.stood in
+        said_spoken
+        ∙ (ap (λ b. (if b then Edge i m.changed (next_tick lin i m) ∷ [] else []) ++ Silence i (member_after_quantum lin i m here).changed (reach lin i (member_after_quantum lin i m here).saw) ∷ []) turn
+        ∙ (ap (λ x. (if differs (lin.drives i new_m.saw) (lin.drives i (member_after lin i h.k).saw) then Edge i x (next_tick lin i m) ∷ [] else [])
+            ++ Silence i (member_after_quantum lin i m here).changed (reach lin i (member_after_quantum lin i m here).saw) ∷ []) h.may.changed
+        ∙ (ap (λ q. (if differs (lin.drives i new_m.saw) (lin.drives i (member_after lin i h.k).saw) then Edge i (member_after lin i h.k).changed (lin.instant i q) ∷ [] else [])
+            ++ Silence i (member_after_quantum lin i m here).changed (reach lin i (member_after_quantum lin i m here).saw) ∷ []) long
+        ∙ ap (λ (x : Member). (if differs (lin.drives i new_m.saw) (lin.drives i (member_after lin i h.k).saw) then Edge i (member_after lin i h.k).changed (lin.instant i (h.k + suc h.n - 1)) ∷ [] else [])
+            ++ Silence i x.changed (reach lin i x.saw) ∷ []) after_is)))
+
+    quanta_new : slice_set (slice_set old.ran i (Some (h.k + h.n))) i (Some (suc (h.k + h.n))) ≡ slice_set old.ran i (Some (h.k + suc h.n))
+    quanta_new = set_there old.ran i (Some (h.k + h.n)) (Some (suc (h.k + h.n))) ∙ ap (λ m. slice_set old.ran i (Some m)) (omega arith)
+
+    new_is : new ≡ gone_on old i (h.k + suc h.n) said
+    new_is =
+        let e = sym h.last.emits in
+        h.last.runs (h.k + h.n) there
+        ∙ (λ d. record { plan = old.plan; ran = quanta_new d; replica = state_with_records old.replica (e d); emitted = old.emitted ++ e d })
+
+    advances : (p : Party) → Matches p old → AdvancesTo old new said p
+    advances p match =
+        let one = one_by_one (suc h.n) old h.k v h.may.ran (λ j b. h.may.early j (omega arith)) (λ j b. h.may.known j (omega arith)) in
+        let run = laws.all_run_as old one.h one.rs v p match one.steps in
+        let on = laws.all_run old one.h one.rs v one.steps in
+        let ran : new.ran ≡ one.h.ran = ap (λ (g : GroupValue). g.ran) new_is ∙ sym one.quanta in
+        let plan : new.plan ≡ one.h.plan = ap (λ (g : GroupValue). g.plan) new_is ∙ sym on.plan in
+        record {
+          q = run.0;
+          emitted = one.rs;
+          steps = run.1;
+          members = λ j b. run.2.members j (ap (λ xs. is_some (slice_index_or xs j None)) (sym ran) ∙ b)
+              ∙ (ap (λ x. member_at (line_of x) j (slice_index_or one.h.ran j None)) (sym plan)
+              ∙ ap (λ xs. member_at (line_of new.plan) j (slice_index_or xs j None)) (sym ran));
+          some = λ r c. one.last h.n refl r (subst (λ rs. Contains rs r) said_spoken c);
+        }
+
+    fewer : quanta_left new < quanta_left old
+    fewer = (let a = h.last.fewer in let b = left_up old.ran i h.k (h.k + h.n) h.may.ran (omega arith) in omega arith)
+
+    pub gone_of_some : HasGoneOn i old new said
+    gone_of_some = record {
+      k = h.k;
+      n = suc h.n;
+      some = omega arith;
+      ran = h.may.ran;
+      said_is = said_is;
+      new_is = new_is;
+      advances = advances;
+      said_true = subst (AreTrueOf (length old.plan.nodes) (table_of old.plan)) (sym h.last.emits) (laws.emits_true (at_quantum old i (h.k + h.n)) h.may.value i may);
+      fewer = fewer;
+    }
