@@ -24,10 +24,37 @@ pub fn of_plan(alloc: Global, plan: &Plan) -> Result<String>
         tell_node(alloc, &all, i, &mut told)?;
         tell_joined(alloc, plan, &all, i, &mut told)?;
     }
+    tell_rows(alloc, plan, &mut told)?;
     all.restart()?;
     let emitted = all.emitted().len();
     writeln!(told, "begun again: {emitted} told, first {:?}", all.ready())?;
     Ok(told)
+}
+
+/// No plan has so many rows of quanta here.
+const MOST_ROWS: u32 = 10_000;
+
+/// Runs a group of all nodes in rows, each of the least member that may run, and tells how many rows that were, how many records the group
+/// has emitted, and where each node is in the end.
+fn tell_rows(alloc: Global, plan: &Plan, told: &mut String) -> Result<()>
+    requires { IsChecked plan.now }
+{
+    let mut all = group_of_all(alloc, plan)?;
+    let mut rows = 0;
+    for _ in 0..MOST_ROWS {
+        let Some(i) = all.ready() else {
+            break;
+        };
+        if all.go(i)?.is_some() {
+            rows += 1;
+        }
+    }
+    let emitted = all.emitted().len();
+    writeln!(told, "in {rows} rows: {emitted} told, then {:?}", all.ready())?;
+    for i in 0..plan.topology.nodes() {
+        tell_node(alloc, &all, i, told)?;
+    }
+    Ok(())
 }
 
 /// Whether each of the numbers is that of a node.

@@ -3,7 +3,7 @@
 //! Standard input has plan texts with a line `---` between two of them. For each plan a group of every single node says whether the
 //! node may run at once, also after it took the others' first silences. Then a group of all nodes runs: its first advance, all the
 //! others, and all again, which is none; what it has emitted, and where each node is in the end. A group of a single node that joins in
-//! what these know runs to its end as well. At last the group of all begins again.
+//! what these know runs to its end as well. Another group of all nodes runs in rows of quanta. At last the first group of all begins again.
 #![tactic(auto)]
 
 mod course;
