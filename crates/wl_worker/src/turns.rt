@@ -1,7 +1,6 @@
 //! One worker: its turns, from the first silences of its members to their end.
-ghost use Rattle.std.specs.Prelude.{◌≡◌, ◌≢◌, ◌↔◌, ℕ, true, length, IsTrue, IfOk, IfErr, IfSome, OnOk};
+ghost use Rattle.std.specs.Prelude.{◌≡◌, ◌≢◌, ◌↔◌, ℕ, true, length, IsTrue, IfOk, IfErr, OnOk};
 ghost use Rattle.wl_plan.specs.declared.plan.Plan.{Plan as GivenPlan};
-ghost use Rattle.wl_plan.specs.PlanLine.{IsTrueOfPlan};
 ghost use Rattle.wl_group.specs.GroupValue.{belongs, initial_group};
 ghost use Rattle.wl_worker.specs.Handed.{AreTrueOfPlan};
 ghost use Rattle.wl_worker.specs.Finished.{MembersEnded, HasFinished};
@@ -10,23 +9,20 @@ ghost use Rattle.wl_worker.specs.Given.{first_silences_of, Gives, GaveFirst};
 use crate::link::{Fault, Gate, Link, LinkFault};
 use std::alloc::{AllocError, Global};
 use std::sync::Wait;
-use wl_group::{Advance, Emission, Group, first_silence, value_laws};
+use wl_group::{Group, first_silence};
 use wl_record_core::Record;
 
 /// A worker has no turn of this number: there it ends with its fault.
 const MOST_TURNS: u64 = 1 << 63;
 
-/// How many quanta a member runs at most before the next member's turn comes.
-const MOST_QUANTA: u32 = 16;
-
-/// How often at most each member has its turn before the worker gives what was emitted: so others can go on before it has advanced all that
-/// it can, and needn't wait in turns.
+/// How often at most each member has its turn before the worker gives what was said: so others can go on before it has run all that it
+/// can, and needn't wait in turns.
 const MOST_ROUNDS: u32 = 4;
 
 /// Runs a group to its end, with what comes by its link.
 ///
-/// The worker gives its members' first silences. Then in each turn it asks the gate, fetches, advances its members, and gives what others have
-/// to know of it, if anything; it waits where nothing came and nothing was emitted. It ends when all its members are at the end. Where it
+/// The worker gives its members' first silences. Then in each turn it asks the gate, fetches, runs its members, and gives what they said,
+/// if anything; it waits where nothing came and nothing was said. It ends when all its members are at the end. Where it
 /// fails, it tells the others by `stop`.
 ///
 /// Where the gate asks a restart of a turn, the group begins again before it: fresh nodes that know nothing, to which the link hands again
@@ -147,7 +143,7 @@ fn first_silences(alloc: Global, group: &Group) -> Result<Vec<Record>, AllocErro
     Ok(first)
 }
 
-/// Fetches, advances the members and gives what others have to know of it, if anything. Answers whether something came or was emitted.
+/// Fetches, runs the members and gives what they said, if anything. Answers whether something came or was said.
 fn step<L: Link>(alloc: Global, group: &mut Group, link: &mut L) -> Result<bool, LinkFault>
     requires { L.is_of link.old group.old.plan }
     ensures same { (p : GivenPlan) → L.is_of link.old p → L.is_of link.new p }
@@ -171,7 +167,7 @@ fn come<L: Link>(alloc: Global, group: &mut Group, link: &mut L) -> Result<bool,
     link.fetch(alloc, group)
 }
 
-/// Advances all members until none can or many quanta were run, and answers what others have to know of it.
+/// Runs all members until none may run or each had its turn often enough, and answers what they said.
 fn say(alloc: Global, group: &mut Group) -> Result<Vec<Record>, AllocError>
     ensures truth { IfOk result (λ said. AreTrueOfPlan group.old.plan said.items) }
     ensures plan { group.new.plan ≡ group.old.plan }
@@ -180,7 +176,7 @@ fn say(alloc: Global, group: &mut Group) -> Result<Vec<Record>, AllocError>
     let mut said = Vec::new(alloc);
     for _ in 0..MOST_ROUNDS {
         let before = said.len();
-        advance_members(group, &mut said)?;
+        run_members(group, &mut said)?;
         if said.len() == before {
             break;
         }
@@ -188,81 +184,30 @@ fn say(alloc: Global, group: &mut Group) -> Result<Vec<Record>, AllocError>
     Ok(said)
 }
 
-/// Advances each member in turn, as far as it can but few quanta, and puts what others have to know of it behind the rest.
-fn advance_members(group: &mut Group, said: &mut Vec<Record>) -> Result<(), AllocError>
+/// Runs a row of quanta of each member that may run one, and puts what it says behind the rest.
+fn run_members(group: &mut Group, said: &mut Vec<Record>) -> Result<(), AllocError>
     requires { AreTrueOfPlan group.old.plan said.old.items }
     ensures truth { AreTrueOfPlan group.old.plan said.new.items }
     ensures plan { group.new.plan ≡ group.old.plan }
     ensures members { belongs group.new ≡ belongs group.old }
 {
     for i in 0..group.replica().nodes() {
-        advance_member(group, i, said)?;
+        run_member(group, i, said)?;
     }
     Ok(())
 }
 
-/// Advances a member, as far as it can but few quanta. Of what it emits others have to know the changes and the last silence: any one before
-/// ends no later than that, or than the change behind it.
-fn advance_member(group: &mut Group, i: u8, said: &mut Vec<Record>) -> Result<(), AllocError>
+/// Runs a row of quanta of a node, if it may run one, and puts what it says behind the rest: its change, if there is one, and one
+/// promise.
+#[tactic(auto, using(crate::proofs::Steps::appended_true, crate::proofs::Steps::gone_true))]
+fn run_member(group: &mut Group, i: u8, said: &mut Vec<Record>) -> Result<(), AllocError>
     requires { AreTrueOfPlan group.old.plan said.old.items }
     ensures truth { AreTrueOfPlan group.old.plan said.new.items }
     ensures plan { group.new.plan ≡ group.old.plan }
     ensures members { belongs group.new ≡ belongs group.old }
 {
-    let mut silence = None;
-    for _ in 0..MOST_QUANTA {
-        let Some(emission) = advance_one(group, i)? else {
-            break;
-        };
-        silence = put_changes(&emission, silence, said)?;
-    }
-    put_last(silence, said)
-}
-
-/// Runs a node's next quantum, where it may run, and answers what it emitted.
-#[tactic(auto, using(crate::proofs::Steps::replied_true))]
-fn advance_one(group: &mut Group, i: u8) -> Result<Option<Emission>, AllocError>
-    ensures truth { IfOk result (λ answer. IfSome answer (λ emission. AreTrueOfPlan group.old.plan emission.items)) }
-    ensures plan { group.new.plan ≡ group.old.plan }
-    ensures members { belongs group.new ≡ belongs group.old }
-{
-    value_laws();
-    // (reading a part gives the proof what the type keeps)
-    let _ = group.plan();
-    match group.advance(i)? {
-        Advance::Emitted(emission) => Ok(Some(emission)),
-        Advance::Blocked | Advance::Ended => Ok(None),
-    }
-}
-
-/// Puts the changes of an emission behind the rest, and answers the last silence: the emission's, or else the one before.
-fn put_changes(
-    emission: &[Record],
-    silence: Option<Record>,
-    said: &mut Vec<Record>,
-) -> Result<Option<Record>, AllocError>
-    ensures said { (plan : GivenPlan) → AreTrueOfPlan plan emission.now → AreTrueOfPlan plan said.old.items
-        → AreTrueOfPlan plan said.new.items }
-    ensures silence { IfOk result (λ last. (plan : GivenPlan) → AreTrueOfPlan plan emission.now
-        → IfSome silence (IsTrueOfPlan plan) → IfSome last (IsTrueOfPlan plan)) }
-{
-    let mut last = silence;
-    for i in 0..emission.len() {
-        match emission[i] {
-            Record::Silence { .. } => last = Some(emission[i]),
-            Record::Edge { .. } | Record::Clash { .. } => said.push(emission[i])?,
-        }
-    }
-    Ok(last)
-}
-
-/// Puts a record behind the rest, if there is one.
-fn put_last(entry: Option<Record>, said: &mut Vec<Record>) -> Result<(), AllocError>
-    ensures { (plan : GivenPlan) → IfSome entry (IsTrueOfPlan plan) → AreTrueOfPlan plan said.old.items
-        → AreTrueOfPlan plan said.new.items }
-{
-    if let Some(last) = entry {
-        said.push(last)?;
+    if let Some(emission) = group.go(i)? {
+        said.extend_from_slice(&emission)?;
     }
     Ok(())
 }

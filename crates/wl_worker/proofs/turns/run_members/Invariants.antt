@@ -1,7 +1,7 @@
 use Rattle.std.proofs.Common.{◌≡◌}
 use Rattle.wl_group.specs.GroupValue.{belongs}
 use Rattle.wl_worker.specs.Handed.{AreTrueOfPlan}
-use Rattle.wl_worker.proofs.turns.advance_members.Given as goal
+use Rattle.wl_worker.proofs.turns.run_members.Given as goal
 
 abbrev pub invariant-loop-i : goal.invariant-loop-i
 invariant-loop-i l =
