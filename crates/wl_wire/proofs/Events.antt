@@ -10,7 +10,7 @@ use Rattle.wl_machine.specs.Judged.{judged, or_next, stretch_of, stretch_after, 
 use Rattle.wl_machine.specs.Laws.{HeadLaws}
 use Rattle.wl_machine.specs.States.{stretch_by}
 use Rattle.wl_machine.proofs.Callers.{stretch_next}
-use Rattle.wl_wire.specs.Wire.{Wire, Handed, Bit, Own, stretch_at, bus, sampled, may_be_alone, added, happens}
+use Rattle.wl_wire.specs.Wire.{Wire, Handed, Bit, Own, stretch_at, bus, sampled, may_be_alone, added, happens, wire_after, Event}
 use Rattle.wl_wire.specs.InStep.{Has, is_fine, FindsNoError}
 
 -- each frame that is sent is one of the machine's own
@@ -110,3 +110,8 @@ finds_none w bits alones (Bit handed) k x lt h =
     subst (λ y. is_fine (judged (stretch_at w k) y).happened ≡ true) (one_same x (sample_at w handed k) h) (bits handed k lt)
 finds_none w bits alones (Own machine handed) k x lt h =
     own_events w machine handed (λ j y. is_fine (judged (stretch_at w j) y).happened ≡ true) k (alones handed k lt) x h
+
+-- a wire keeps its machines
+pub count_after : (w : Wire) (events : List Event) → (wire_after w events).count ≡ w.count
+count_after w [] = refl
+count_after w (event ∷ events) = count_after (happens w event) events
