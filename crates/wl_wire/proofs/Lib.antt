@@ -10,4 +10,5 @@ mod Tail
 mod Winners
 mod Passages
 mod FramePassages
+mod Lengths
 mod Run

@@ -15,6 +15,7 @@ use Rattle.wl_wire.specs.Winner.{HasOneWinner}
 use Rattle.wl_wire.specs.InStep.{Has, IsSound, AreInFrame, AreInStep, FindsNoError, is_fine}
 use Rattle.wl_wire.proofs.Between.{between_fine, alone_between_fine, between_alone, between_bit, intermission_fine, none_alone_in_it, intermission_alone, intermission_bit}
 use Rattle.wl_wire.proofs.Events.{OwnHeads, sample_at, heads_at_bit, heads_alone, none_alone, finds_none}
+use Rattle.wl_wire.proofs.Lengths.{short_frame}
 use Rattle.wl_wire.proofs.Losers.{LostSoFar}
 use Rattle.wl_wire.proofs.LostSteps.{no_frame, lost_between, lost_intermission, lost_bit}
 use Rattle.wl_wire.proofs.FramePassages.{got_stuffed, tail_progress}
@@ -180,3 +181,9 @@ module _ (decides : ArbitrationDecides) (laws : HeadLaws) where
   pub all_got : (count : ℕ) (frames : ℕ → List Content) (events : List Event) → IsSound count frames → IsFree (wire_after (idle_wire count frames) events)
       → (passages : List Passage) × HaveGot (wire_after (idle_wire count frames) events) passages
   all_got count frames events sound is = passages_by (wire_after (idle_wire count frames) events) (kept count frames events sound).progress is
+
+  -- a frame comes to its end
+  pub frames_end : (count : ℕ) (frames : ℕ → List Content) (events : List Event) → IsSound count frames
+      → (own : List Level) → AreInFrame (wire_after (idle_wire count frames) events) own → length own < 157
+  frames_end count frames events sound own f =
+      short_frame (wire_after (idle_wire count frames) events) (sound_after (idle_wire count frames) events sound) (kept count frames events sound).heads own f

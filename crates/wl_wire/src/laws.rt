@@ -1,9 +1,10 @@
 //! Laws of machines on one wire, each proved as the contract of a function that does nothing.
 
-ghost use Rattle.std.specs.Prelude.{◌≡◌, ◌<◌, ℕ, List};
+ghost use Rattle.std.specs.Prelude.{◌≡◌, ◌<◌, ℕ, List, length};
+ghost use Rattle.wl_level.specs.declared.Level.{Level};
 ghost use Rattle.wl_confine.specs.Counts.{no_counts};
 ghost use Rattle.wl_frame.specs.Grammar.{Content};
-ghost use Rattle.wl_wire.specs.InStep.{IsSound, AreInStep, FindsNoError};
+ghost use Rattle.wl_wire.specs.InStep.{IsSound, AreInFrame, AreInStep, FindsNoError};
 ghost use Rattle.wl_wire.specs.Outcome.{Passage, HaveGot, IsFree, counts_after_all};
 ghost use Rattle.wl_wire.specs.Winner.{HasOneWinner};
 ghost use Rattle.wl_wire.specs.Wire.{Event, Wire, idle_wire, wire_after};
@@ -44,6 +45,16 @@ pub fn all_get_each_frame()
     ensures { (count : ℕ) (frames : ℕ → List Content) (events : List Event) → IsSound count frames
         → IsFree (wire_after (idle_wire count frames) events)
         → (passages : List Passage) × HaveGot (wire_after (idle_wire count frames) events) passages }
+{
+    wl_machine::laws::a_sent_frame_is_the_head_that_began_its_stretch();
+    wl_frame::laws::the_arbitration_decides();
+}
+
+/// Law: a frame that such machines begin comes to its end. While it is under way each has fewer than 157 bits of it, so it ends with the
+/// 157th at the latest: 118 bits, 29 stuff bits, and the ten bits after them (Bosch CAN 2.0 part B, sections 3.2.1 and 6).
+pub fn a_frame_ends()
+    ensures { (count : ℕ) (frames : ℕ → List Content) (events : List Event) → IsSound count frames
+        → (own : List Level) → AreInFrame (wire_after (idle_wire count frames) events) own → length own < 157 }
 {
     wl_machine::laws::a_sent_frame_is_the_head_that_began_its_stretch();
     wl_frame::laws::the_arbitration_decides();

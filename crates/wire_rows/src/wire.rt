@@ -1,0 +1,198 @@
+//! Machines on one wire, each with its head.
+
+use crate::{Stop, Told};
+use std::alloc::Global;
+use wl_confine::Mode;
+use wl_frame::frame::Frame;
+use wl_level::Level;
+use wl_machine::{Done, Machine, Turn};
+use wl_wire::{is_without_error, sample};
+
+/// A machine, the frame that it is to send, and the level that it drives.
+#[derive(Drop)]
+struct Station {
+    machine: Machine,
+    head: Option<Frame>,
+    drive: Level,
+}
+
+impl Station {
+    /// A machine that is idle, or that integrates still.
+    fn new(head: Option<Frame>, integrates: bool) -> Station {
+        let mut station = Station {
+            machine: Machine::new(),
+            head: None,
+            drive: Level::Recessive,
+        };
+        if !integrates {
+            for _ in 0..11_u32 {
+                let _ = station.sample(Level::Recessive);
+            }
+        }
+        station.head = head;
+        station
+    }
+
+    fn sample(&mut self, level: Level) -> Turn {
+        let turn = sample(&mut self.machine, level, self.head.as_ref(), Mode::Active);
+        self.drive = turn.drive;
+        if turn.done == Done::Sent {
+            self.head = None;
+        }
+        turn
+    }
+}
+
+/// Machines on one wire, how many bits the bus has had, and whether some machine found an error.
+#[derive(Drop)]
+struct Wire {
+    stations: Vec<Station>,
+    bits: u64,
+    failed: bool,
+}
+
+/// Writes what happens to the machines of a row, and at last whether one found an error.
+pub fn tell(alloc: Global, words: &[&str], out: &mut String) -> Told {
+    let mut stations = Vec::new(alloc);
+    let colon = words.iter().position(|w| *w == ":").ok_or(Stop::Unread)?;
+    for word in words.iter().take(colon) {
+        stations.push(read_station(alloc, word)?)?;
+    }
+    let mut wire = Wire {
+        stations,
+        bits: 0,
+        failed: false,
+    };
+    for word in words.iter().skip(colon).skip(1) {
+        wire.obey(alloc, word, out)?;
+    }
+    let verdict = if wire.failed { "error" } else { "no error" };
+    Ok(out.push_str(verdict)?)
+}
+
+fn read_station(alloc: Global, word: &str) -> Result<Station, Stop> {
+    match word.strip_prefix('~') {
+        Some(rest) => Ok(Station::new(head(alloc, rest)?, true)),
+        None => Ok(Station::new(head(alloc, word)?, false)),
+    }
+}
+
+fn head(alloc: Global, word: &str) -> Result<Option<Frame>, Stop> {
+    if word == "-" {
+        return Ok(None);
+    }
+    let (id, remote) = match word.strip_prefix('r') {
+        Some(id) => (id, true),
+        None => (word, false),
+    };
+    let (id, spelled) = match id.split_once('.') {
+        Some((id, spelled)) => (id, spelled),
+        None => (id, ""),
+    };
+    let bytes = bytes(alloc, spelled)?;
+    Ok(Some(frame(id, remote, bytes.as_slice())?))
+}
+
+/// The bytes of hexadecimal digits, two for each.
+fn bytes(alloc: Global, spelled: &str) -> Result<Vec<u8>, Stop> {
+    let mut bytes = Vec::new(alloc);
+    let mut high = None;
+    for digit in spelled.chars() {
+        let value = digit.to_digit(16).ok_or(Stop::Unread)?;
+        high = match high {
+            None => Some(value),
+            Some(first) => {
+                bytes.push(byte_of(first, value))?;
+                None
+            }
+        };
+    }
+    Ok(bytes)
+}
+
+fn byte_of(high: u32, low: u32) -> u8 {
+    (high % 16 * 16 + low % 16) as u8
+}
+
+/// The frame of an identifier as it is written: one of eight digits is extended.
+fn frame(id: &str, remote: bool, bytes: &[u8]) -> Result<Frame, Stop> {
+    let number = u32::from_str_radix(id, 16)?;
+    let dlc = u32::try_from(bytes.len()).map_err(|_| Stop::Unread)?;
+    let made = if id.len() == 8 {
+        Frame::extended(number, remote, dlc, bytes)
+    } else {
+        Frame::base(number, remote, dlc, bytes)
+    };
+    made.map_err(|_| Stop::Unread)
+}
+
+/// Writes what happened to a machine, and which frame it completed.
+fn write_turn(out: &mut String, number: usize, bits: u64, turn: &Turn) -> Told {
+    if !is_without_error(turn.happened) {
+        write!(out, "{number}.{:?}@{bits} ", turn.happened)?;
+    }
+    match &turn.done {
+        Done::Nothing => {}
+        Done::Sent => write!(out, "{number}.sent@{bits} ")?,
+        Done::Received(frame) => write!(out, "{number}.received({:03x})@{bits} ", frame.id())?,
+    }
+    Ok(())
+}
+
+impl Wire {
+    /// Does what a word says.
+    fn obey(&mut self, alloc: Global, word: &str, out: &mut String) -> Told {
+        if let Some((number, count)) = word.split_once('+') {
+            for _ in 0..count.parse::<u32>()? {
+                self.alone(number, out)?;
+            }
+            return Ok(());
+        }
+        if let Some((number, given)) = word.split_once('=') {
+            let given = head(alloc, given)?;
+            self.at(number)?.head = given;
+            return Ok(());
+        }
+        for _ in 0..word.parse::<u32>()? {
+            self.bit(out)?;
+        }
+        Ok(())
+    }
+
+    /// The machine of a number, from 1 on.
+    fn at(&mut self, number: &str) -> Result<&mut Station, Stop> {
+        let number = number.parse::<usize>()?;
+        let place = number.checked_sub(1).ok_or(Stop::Unread)?;
+        self.stations.get_mut(place).ok_or(Stop::Unread)
+    }
+
+    /// Dominant where some machine drives dominant.
+    fn level(&self) -> Level {
+        if self.stations.iter().any(|s| s.drive.is_dominant()) {
+            Level::Dominant
+        } else {
+            Level::Recessive
+        }
+    }
+
+    /// A bit of the bus, which all machines sample.
+    fn bit(&mut self, out: &mut String) -> Told {
+        let level = self.level();
+        self.bits = self.bits.saturating_add(1);
+        let bits = self.bits;
+        for (k, station) in self.stations.iter_mut().enumerate() {
+            let turn = station.sample(level);
+            self.failed = self.failed || !is_without_error(turn.happened);
+            write_turn(out, k.saturating_add(1), bits, &turn)?;
+        }
+        Ok(())
+    }
+
+    /// A recessive bit that one machine samples by itself.
+    fn alone(&mut self, number: &str, out: &mut String) -> Told {
+        let bits = self.bits;
+        let turn = self.at(number)?.sample(Level::Recessive);
+        self.failed = self.failed || !is_without_error(turn.happened);
+        write_turn(out, number.parse::<usize>()?, bits, &turn)
+    }
+}
