@@ -93,7 +93,8 @@ fn silence_seen(hub: &Hub<PlanName>, pass: &mut Pass<PlanName>, node: u8, count:
     ensures here { IsPassOf hub.now pass.new }
     ensures name { pass_name pass.new ≡ pass_name pass.old }
     ensures truth { IfSome result (λ until. IsTrueOfName (pass_name pass.old) (Silence node count until)) }
-    ensures seen { HasWord (shape_of hub.now) (SilenceAt node count) → seen pass.new (SilenceAt node count) ≡ unwrap_or result 0 }
+    ensures seen { HasWord (shape_of hub.now) (SilenceAt node count)
+        → seen pass.new (SilenceAt node count) ≡ unwrap_or result 0 }
     ensures others { (slot : Place) → slot ≢ SilenceAt node count → seen pass.new slot ≡ seen pass.old slot }
 {
     words_tell_records::<PlanName>();

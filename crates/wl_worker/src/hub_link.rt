@@ -89,7 +89,8 @@ impl<'h, R: Wait> Link for HubLink<'h, R> {
     /// then has all that the pass has seen.
     fn fetch(&mut self, alloc: Global, group: &mut Group) -> Result<bool, LinkFault>
         requires { IsOfPlan self.old.hub.now self.old.pass group.old.plan }
-        ensures same { (p : GivenPlan) → IsOfPlan self.old.hub.now self.old.pass p → IsOfPlan self.new.hub.now self.new.pass p }
+        ensures same { (p : GivenPlan) → IsOfPlan self.old.hub.now self.old.pass p
+            → IsOfPlan self.new.hub.now self.new.pass p }
         ensures number { self.new.worker ≡ self.old.worker }
         ensures took { Took group.old group.new }
         ensures changed { IfOk result (λ b. TellsNews group.old group.new b) }
