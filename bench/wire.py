@@ -5,6 +5,7 @@ usage: wire.py same [COUNT [SEED]]      compares the machine with that of plain.
        wire.py search [COUNT [SEED]]    plays random schedules of 2 to 6 machines, and counts those that refuse the claim
        wire.py wrong [COUNT [SEED]]     the same with each condition left out or changed: each has to be refused
        wire.py edges [COUNT [SEED]]     measures the longest way from one edge to the next, in random frames
+       wire.py rows < FILE              answers the rows of crates/wire_rows/stdin, which say how they are written
 
 The wire. All machines are idle at first. At a bit of the bus each samples the same level: dominant where some machine drives dominant.
 A machine that is between frames (idle, suspended, or in intermission after two bits) and drives recessive may also sample a recessive bit by
@@ -493,7 +494,55 @@ def edges(count, seed):
 RULES = Rules()
 
 
+# ---- Rows
+
+def head_of(word):
+    if word == "-": return None
+    id, _, bytes_ = word.lstrip("r").partition(".")
+    data = tuple(bytes.fromhex(bytes_))
+    return Content(len(id) == 8, int(id, 16), word[0] == "r", len(data), data)
+
+
+def row(line):
+    heads, words = line.split(" : ")
+    heads = heads.split()
+    at = [("integration" if h[0] == "~" else "idle", "", None) for h in heads]
+    heads, told, bits = [head_of(h.lstrip("~")) for h in heads], [], 0
+
+    def sampled(k, level):
+        happened, ended, at[k] = after(at[k], level, heads[k], "active", RULES)
+        if happened not in ("Nothing", "Sent", "Acked"): told.append(f"{k + 1}.{happened.replace(' ', '(') + ')' * (' ' in happened)}@{bits}")
+        if ended and ended[0] == "sent":
+            heads[k] = None
+            told.append(f"{k + 1}.sent@{bits}")
+        if ended and ended[0] == "received": told.append(f"{k + 1}.received({ended[1].id:03x})@{bits}")
+
+    for word in words.split():
+        if "=" in word:
+            k, head = word.split("=")
+            heads[int(k) - 1] = head_of(head)
+        elif "+" in word:
+            k, count = map(int, word.split("+"))
+            for _ in range(count): sampled(k - 1, "r")
+        else:
+            for _ in range(int(word)):
+                bits += 1
+                level = "d" if any(drive(s, RULES) == "d" for s in at) else "r"
+                for k in range(len(at)): sampled(k, level)
+    failed = any("Error" in t or "Free" in t for t in told)
+    return " ".join(told + ["error" if failed else "no error"])
+
+
+def rows():
+    for line in sys.stdin.read().splitlines():
+        if not line or line[0] == "#": print(line)
+        else:
+            try: print(f"{line} = {row(line)}")
+            except ValueError: print(f"{line} = unread")
+
+
 def main():
+    if sys.argv[1] == "rows": return rows()
     word, count, seed = sys.argv[1], int((sys.argv[2:] or ["10000"])[0]), int((sys.argv[3:] or ["1"])[0])
     if word == "same": sys.exit(same(count, seed) > 0)
     if word == "edges": edges(count, seed)
