@@ -12,3 +12,4 @@ pub use frames::push_content;
 pub use laws::{clean_is_clean, extremes_are_extreme};
 pub use nodes::mode_word;
 pub use text::report;
+pub use verdict::{all_errors, all_unsent};

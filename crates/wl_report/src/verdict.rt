@@ -8,7 +8,7 @@ use std::alloc::AllocError;
 use wl_serial::NodeOutcome;
 
 /// The errors of all nodes together. The sum is exact: a slice has fewer than 2^64 nodes.
-fn all_errors(nodes: &[NodeOutcome]) -> u128
+pub fn all_errors(nodes: &[NodeOutcome]) -> u128
     ensures { result ≡ sum_by (λ n. n.errors) nodes.now }
 {
     let mut sum = 0u128;
@@ -19,7 +19,7 @@ fn all_errors(nodes: &[NodeOutcome]) -> u128
 }
 
 /// The unsent frames of all nodes together.
-fn all_unsent(nodes: &[NodeOutcome]) -> u128
+pub fn all_unsent(nodes: &[NodeOutcome]) -> u128
     ensures { result ≡ sum_by (λ n. n.unsent) nodes.now }
 {
     let mut sum = 0u128;

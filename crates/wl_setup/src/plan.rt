@@ -181,7 +181,7 @@ fn disturbances(alloc: Global, texts: &[DisturbanceText]) -> Result<Disturbances
 impl PlanText {
     /// The plan that the keys make, which can be run; or the first fault: node by node `NodeClock`, `NodeSegments` and, frame
     /// by frame, `NodeFrame`; then `Topology`; then `Plan`. `Memory` may be answered at any point.
-    fn plan(&self, alloc: Global) -> Result<Plan, SetupFault>
+    pub fn plan(&self, alloc: Global) -> Result<Plan, SetupFault>
         ensures answer { IsAnswer (plan_of_text self.now) result }
         ensures checked { IfOk result IsChecked }
     {
