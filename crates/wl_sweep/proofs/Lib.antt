@@ -1,0 +1,8 @@
+mod Found
+mod Frames
+mod Growing
+mod Joining
+mod Parts
+mod Placed
+mod Rows
+mod Working

@@ -1,0 +1,173 @@
+-- Worked rows: members, findings, tallies and lines of sweeps, computed.
+use Rattle.std.specs.Prelude.{◌≡◌, ℕ, pos, negsuc, Bool, true, false, List, [], ◌∷◌, codes, map, Some, refl}
+use Rattle.std.specs.List.{range_with_len}
+use Rattle.std.specs.Fmt.{digits}
+use Rattle.wl_confine.specs.Counts.{Counts, no_counts}
+use Rattle.wl_frame.specs.Same.{same_content}
+use Rattle.wl_node.specs.declared.setup.Passed.{Passed}
+use Rattle.wl_serial.specs.declared.outcome.NodeOutcome.{NodeOutcome}
+use Rattle.wl_setup.specs.declared.fault.SetupFault.TheVariants as fault
+use Rattle.wl_setup.specs.declared.plan_text.NodeText.{NodeText}
+use Rattle.wl_setup.specs.declared.plan_text.ClockText.{ClockText}
+use Rattle.wl_setup.specs.declared.plan_text.ClockText.TheVariants as text
+use Rattle.wl_sweep.specs.declared.change.SweptKey.TheVariants as key
+use Rattle.wl_sweep.specs.declared.draws.Draws.TheVariants.{Number, Words}
+use Rattle.wl_sweep.specs.declared.finding.Finding.TheVariants.{Clean, Faulty, Off, Early, Missed, Refused}
+use Rattle.wl_sweep.specs.declared.options.Options.{Options}
+use Rattle.wl_sweep.specs.declared.range.SweptRange.{SweptRange}
+use Rattle.wl_sweep.specs.Changes.{moved_node, negated_clock, node_set}
+use Rattle.wl_sweep.specs.Family.{choice_count, chosen, drawn, offset_count, run_seed, sign_count}
+use Rattle.wl_sweep.specs.Findings.{finding_of_outcome}
+use Rattle.wl_sweep.specs.Rows.{row_count}
+use Rattle.wl_sweep.specs.Tallies.{part_start, tally_of}
+use Rattle.wl_sweep.specs.Words.{choice_words, finding_words, members_line, row_line}
+
+-- a node of 500 kbit/s with ticks of 1 ns: 16 quanta of 125 ns, this deviation
+abbrev node : List ℕ → ClockText → NodeText
+node name clock = record {
+  name = name;
+  offset = 1000;
+  rates = (record { from = 0; clock = clock }) ∷ [];
+  prop = 8;
+  ps1 = 4;
+  ps2 = 3;
+  sjw = 3;
+  x = 0;
+  out_delay = 120;
+  in_delay = 130;
+  frame = [];
+}
+
+abbrev engine : NodeText
+engine = node (codes "engine") (text.Ppm 125 (pos 5000))
+
+abbrev probe : NodeText
+probe = node (codes "probe") (text.Ppm 125 (pos 0))
+
+abbrev options : Options
+options = record { step = 0; keep_offsets = false; keep_ppm = false; runs = 1000; seed = 1 }
+
+-- a bit of 2,000 ticks in steps of 25 has 80 offsets, but the first node has one
+offsets : offset_count options 25 (1, engine) ≡ 80
+offsets = refl
+
+first_offset : offset_count options 25 (0, engine) ≡ 1
+first_offset = refl
+
+kept_offset : offset_count (record options { keep_offsets = true }) 25 (1, engine) ≡ 1
+kept_offset = refl
+
+-- a step that doesn't divide the bit has its last offset before the bit's end: 0, 300 to 1,800
+uneven_offsets : offset_count options 300 (1, engine) ≡ 7
+uneven_offsets = refl
+
+both_signs : sign_count options engine ≡ 2
+both_signs = refl
+
+no_sign : sign_count options probe ≡ 1
+no_sign = refl
+
+-- the engine's two signs, by the probe's 80 offsets, by 80 offsets and two signs
+members : choice_count options 25 ((0, engine) ∷ (1, probe) ∷ (2, engine) ∷ []) ≡ 25600
+members = refl
+
+-- the digits of a number, the first one the fastest; nothing is taken below 2
+first_digit : drawn 3 (Number 7) ≡ (1, Number 2)
+first_digit = refl
+
+no_digit : drawn 1 (Number 7) ≡ (0, Number 7)
+no_digit = refl
+
+-- the first word of SplitMix64 from 1234567, as its author prints it, is 6457827717110365317: 350 thousandths of 2^64
+random_digit : drawn 1000 (Words 1234567) ≡ (350, Words 11400714819324433052)
+random_digit = refl
+
+seeds_differ : run_seed (record options { seed = 2 }) 3 ≡ 8589934595
+seeds_differ = refl
+
+-- member 161 of a node with 80 offsets and two signs: offset 1, and the second sign is taken by member 80 on
+third_choice : chosen options 25 (1, engine) (Number 161) ≡ (record { by = 25; negated = false }, Number 1)
+third_choice = refl
+
+second_sign : chosen options 25 (1, engine) (Number 81) ≡ (record { by = 25; negated = true }, Number 0)
+second_sign = refl
+
+-- a deviation is negated at all rates, and a rate in ticks has none
+negated : moved_node 25 true engine ≡ record (node (codes "engine") (text.Ppm 125 (negsuc 4999))) { offset = 1025 }
+negated = refl
+
+no_deviation : negated_clock (text.Rate 125 1) ≡ text.Rate 125 1
+no_deviation = refl
+
+-- a value of a clock's key is one of the rates that have it
+new_ppm : node_set key.Ppm (negsuc 99) engine ≡ node (codes "engine") (text.Ppm 125 (negsuc 99))
+new_ppm = refl
+
+no_num : node_set key.Num (pos 99) engine ≡ engine
+no_num = refl
+
+-- ten runs by three workers: four, four and two
+parts : map (part_start 0 10 4) (range_with_len 0 4) ≡ 0 ∷ 4 ∷ 8 ∷ 10 ∷ []
+parts = refl
+
+-- two values by three: the last range changes the fastest
+abbrev places : List SweptRange
+places =
+    (record { called = codes "x"; key = key.X; named = Some 2; values = pos 10 ∷ pos 20 ∷ [] })
+    ∷ (record { called = codes "engine.ppm"; key = key.Ppm; named = Some 0; values = negsuc 99 ∷ pos 0 ∷ pos 100 ∷ [] }) ∷ []
+
+six_rows : row_count places ≡ 6
+six_rows = refl
+
+fifth_row : row_line 4 places (tally_of (Clean ∷ Early 2 ∷ Refused fault.Size ∷ []))
+    ≡ codes "x 20 engine.ppm 0 clean in 1 of 3, too early in 1, refused in 1\n"
+unfolding digits
+fifth_row = refl
+
+-- a refused member isn't clean, and isn't the first that failed
+refused_apart : tally_of (Clean ∷ Refused fault.Size ∷ Off ∷ Missed ∷ [])
+    ≡ record { runs = 4; clean = 1; early = 0; refused = 1; first = Some 2; first_refused = Some 1 }
+refused_apart = refl
+
+all_run : members_line options 80 80 ≡ codes "all 80 members were run\n"
+unfolding digits
+all_run = refl
+
+part_run : members_line options 1000 25600 ≡ codes "1000 of 25600 members were run, drawn by seed 1\n"
+unfolding digits
+part_run = refl
+
+changed : choice_words engine (record { by = 25; negated = true }) ≡ codes ", engine.offset = 1025, engine.ppm negated"
+unfolding digits
+changed = refl
+
+-- what a node came to that no error met: these counters, these frames, so many left to send
+abbrev told : Counts → List Passed → ℕ → NodeOutcome
+told counters frames unsent =
+    record { changes = []; samples = []; frames = frames; counters = counters; phases = []; hards = 0; errors = 0; unsent = unsent }
+
+abbrev passed : Bool → ℕ → List Passed
+passed sent id = (record { sent = sent; quantum = 1; frame = record { extended = false; id = id; remote = false; dlc = 0; bytes = [] } }) ∷ []
+
+-- what one node sent the other received
+clean_bus : finding_of_outcome (record { nodes = told no_counts (passed true 5) 0 ∷ told no_counts (passed false 5) 0 ∷ []; end = 100 }) ≡ Clean
+unfolding same_content
+clean_bus = refl
+
+early_bus : finding_of_outcome (record { nodes = told no_counts (passed true 5) 3 ∷ told no_counts (passed false 5) 0 ∷ []; end = 100 }) ≡ Early 3
+early_bus = refl
+
+missed_frame : finding_of_outcome (record { nodes = told no_counts (passed true 5) 0 ∷ told no_counts [] 0 ∷ []; end = 100 }) ≡ Missed
+unfolding same_content
+missed_frame = refl
+
+-- a node that was off at the start of its history has found no error
+off_bus : finding_of_outcome (record { nodes = told (record { tec = 256; rec = 0 }) [] 1 ∷ []; end = 100 }) ≡ Off
+off_bus = refl
+
+errors_first : finding_of_outcome (record { nodes = record (told no_counts [] 2) { errors = 7 } ∷ []; end = 100 }) ≡ Faulty 7 2
+errors_first = refl
+
+its_words : finding_words (Faulty 7 2) ≡ codes "verdict faulty errors 7 unsent 2"
+unfolding digits
+its_words = refl

@@ -1,0 +1,12 @@
+use Rattle.std.proofs.Common.{◌≡◌, ◌-◌, ◌≤◌}
+use Rattle.wl_sweep.specs.Tallies.{findings_from, tally_of}
+use Rattle.wl_sweep.proofs.family.Family.tally.Given as goal
+
+abbrev pub invariant-loop-done : goal.invariant-loop-done
+invariant-loop-done g l = record {
+  below : l.done ≤ l.runs;
+  tally : l.tally ≡ tally_of (findings_from l.self.options l.self.text 0 (l.done - 0));
+}
+
+abbrev pub decreases-loop-done : goal.decreases-loop-done
+decreases-loop-done g l = l.runs - l.done

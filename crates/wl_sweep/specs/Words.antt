@@ -1,0 +1,85 @@
+-- The lines and words of a sweep (this project's profile).
+use Rattle.std.specs.Prelude.{ℕ, ◌+◌, ◌-◌, ◌^◌, ◌==◌, min, Bool, List, [], ◌∷◌, ◌++◌, codes, if◌then◌else◌}
+use Rattle.std.specs.List.{enumerate_from}
+use Rattle.std.specs.Fmt.{decimal, signed_decimal}
+use Rattle.wl_setup.specs.declared.plan_text.PlanText.{PlanText}
+use Rattle.wl_setup.specs.declared.plan_text.NodeText.{NodeText}
+use Rattle.wl_sweep.specs.declared.options.Options.{Options}
+use Rattle.wl_sweep.specs.declared.draws.Draws.{Draws}
+use Rattle.wl_sweep.specs.declared.family.Choice.{Choice}
+use Rattle.wl_sweep.specs.declared.finding.Finding.{Finding}
+use Rattle.wl_sweep.specs.declared.finding.Finding.TheVariants.{Clean, Faulty, Off, Early, Missed, Refused}
+use Rattle.wl_sweep.specs.declared.range.SweptRange.{SweptRange}
+use Rattle.wl_sweep.specs.declared.tally.Tally.{Tally}
+use Rattle.wl_sweep.specs.Family.{chosen, draws_of, member_count, offset_step}
+use Rattle.wl_sweep.specs.Rows.{row_count, value_in}
+
+-- a count of what isn't clean, where there is such
+abbrev pub count_words : List ℕ → ℕ → List ℕ
+count_words what n = if n == 0 then [] else codes ", " ++ what ++ codes " in " ++ decimal n
+
+abbrev pub tally_words : Tally → List ℕ
+tally_words t =
+    (codes "clean in " ++ (decimal t.clean ++ (codes " of " ++ decimal t.runs))) ++ count_words (codes "too early") t.early
+    ++ count_words (codes "refused") t.refused
+
+abbrev pub tally_line : Tally → List ℕ
+tally_line t = tally_words t ++ 10 ∷ []
+
+-- the values of the ranges in a row
+abbrev pub row_words : ℕ → List SweptRange → List ℕ
+row_words row [] = []
+row_words row (g ∷ gs) = (g.called ++ codes " " ++ signed_decimal (value_in g (row_count gs) row) ++ codes " ") ++ row_words row gs
+
+abbrev pub row_line : ℕ → List SweptRange → Tally → List ℕ
+row_line row ranges t = row_words row ranges ++ tally_line t
+
+abbrev pub least_word : ℕ → List ℕ
+least_word members = if members == 2 ^ 128 - 1 then codes "at least " else []
+
+-- how much of the family was run
+abbrev pub members_line : Options → ℕ → ℕ → List ℕ
+members_line options runs members =
+    if runs == members then codes "all " ++ decimal members ++ codes " members were run\n"
+    else codes "" ++ decimal runs ++ codes " of " ++ least_word members ++ decimal members ++ codes " members were run, drawn by seed " ++ decimal options.seed ++ codes "\n"
+
+-- what the ranges set in a row
+abbrev pub settings_words : ℕ → List SweptRange → List ℕ
+settings_words row [] = []
+settings_words row (g ∷ gs) = (codes ", " ++ g.called ++ codes " = " ++ signed_decimal (value_in g (row_count gs) row)) ++ settings_words row gs
+
+-- what a member changes of a node
+abbrev pub offset_words : NodeText → ℕ → List ℕ
+offset_words node by = if by == 0 then [] else codes ", " ++ node.name ++ codes ".offset = " ++ decimal (min (node.offset + by) (2 ^ 64 - 1))
+
+abbrev pub sign_words : NodeText → Bool → List ℕ
+sign_words node negated = if negated then codes ", " ++ node.name ++ codes ".ppm negated" else []
+
+abbrev pub choice_words : NodeText → Choice → List ℕ
+choice_words node choice = offset_words node choice.by ++ sign_words node choice.negated
+
+abbrev pub choices_words : Options → ℕ → Draws → List (ℕ × NodeText) → List ℕ
+choices_words options step draws [] = []
+choices_words options step draws (m ∷ ms) =
+    let made = chosen options step m draws in choice_words m.1 made.0 ++ choices_words options step made.1 ms
+
+abbrev pub faulty_words : ℕ → ℕ → List ℕ
+faulty_words errors unsent = codes "verdict faulty errors " ++ (decimal errors ++ (codes " unsent " ++ decimal unsent))
+
+abbrev pub early_words : ℕ → List ℕ
+early_words unsent = codes "ends too early, without an error: unsent " ++ decimal unsent
+
+abbrev pub finding_words : Finding → List ℕ
+finding_words Clean = codes "clean"
+finding_words (Faulty errors unsent) = faulty_words errors unsent
+finding_words Off = codes "a node is off the bus"
+finding_words (Early unsent) = early_words unsent
+finding_words Missed = codes "a node has not received every frame"
+finding_words (Refused fault) = codes "refused"
+
+-- what a member changes, and what is found of it
+abbrev pub member_words : ℕ → List SweptRange → Options → PlanText → ℕ → Finding → List ℕ
+member_words row ranges options plan run found =
+    settings_words row ranges
+    ++ choices_words options (offset_step options plan) (draws_of options (member_count options plan) run) (enumerate_from 0 plan.node)
+    ++ codes ": " ++ finding_words found ++ codes "\n"

@@ -1,0 +1,348 @@
+//! A plan text with other values.
+ghost use Rattle.std.specs.Prelude.{◌≡◌, IfOk, map};
+ghost use Rattle.std.specs.List.{enumerate_from};
+ghost use Rattle.wl_sweep.specs.Changes.{clock_with, moved_node, negated_clock, negated_rate, node_with, is_of, place_with, rate_moved, rate_with, set_at, text_with, top_with};
+
+use std::alloc::{AllocError, Global};
+use wl_level::Listed;
+use wl_setup::{ClockText, FrameText, NodeText, PlanText, RateText, Text};
+
+/// A key of a plan text that a sweep gives other values.
+#[derive(Clone, Copy, Debug, PartialEq, Eq)]
+pub enum SweptKey {
+    /// `end`, of the top table.
+    End,
+    /// `per`, of the top table.
+    Per,
+    /// `offset`
+    Offset,
+    /// `num`, of each rate that has it.
+    Num,
+    /// `den`, of each rate that has it.
+    Den,
+    /// `quantum`, of each rate that has it.
+    Quantum,
+    /// `ppm`, of each rate that has it.
+    Ppm,
+    /// `prop`
+    Prop,
+    /// `ps1`
+    Ps1,
+    /// `ps2`
+    Ps2,
+    /// `sjw`
+    Sjw,
+    /// `x`
+    X,
+    /// `out`
+    Out,
+    /// `in`
+    In,
+}
+
+/// A clock with another value of a key, if it has that key.
+fn clock_with(clock: ClockText, key: SweptKey, value: i64) -> ClockText
+    ensures { result ≡ clock_with key value clock }
+{
+    let size = value.unsigned_abs();
+    match clock {
+        ClockText::Rate { num, den } => match key {
+            SweptKey::Num => ClockText::Rate { num: size, den },
+            SweptKey::Den => ClockText::Rate { num, den: size },
+            _ => clock,
+        },
+        ClockText::Ppm { quantum, ppm } => match key {
+            SweptKey::Quantum => ClockText::Ppm { quantum: size, ppm },
+            SweptKey::Ppm => ClockText::Ppm {
+                quantum,
+                ppm: value,
+            },
+            _ => clock,
+        },
+    }
+}
+
+/// The rates with another value of a key, each that has it.
+fn rates_with(
+    alloc: Global,
+    rates: &[RateText],
+    key: SweptKey,
+    value: i64,
+) -> Result<Listed<RateText>, AllocError>
+    ensures { IfOk result (λ all. all ≡ map (rate_with key value) rates.now) }
+{
+    let mut all = Listed::new(alloc);
+    for rate in rates {
+        all.push(RateText {
+            from: rate.from,
+            clock: clock_with(rate.clock, key, value),
+        })?;
+    }
+    Ok(all)
+}
+
+/// A value as a place, 2^32 - 1 where it is greater.
+fn place_with(size: u64) -> u32
+    ensures { result ≡ place_with size }
+{
+    size.min(u64::from(u32::MAX)) as u32
+}
+
+/// A node with another value of a key that is no clock's.
+fn node_with(node: NodeText, key: SweptKey, value: i64) -> NodeText
+    ensures { result ≡ node_with key value node }
+{
+    let size = value.unsigned_abs();
+    match key {
+        SweptKey::Offset => NodeText {
+            offset: size,
+            ..node
+        },
+        SweptKey::Prop => NodeText { prop: size, ..node },
+        SweptKey::Ps1 => NodeText { ps1: size, ..node },
+        SweptKey::Ps2 => NodeText { ps2: size, ..node },
+        SweptKey::Sjw => NodeText { sjw: size, ..node },
+        SweptKey::X => NodeText {
+            x: place_with(size),
+            ..node
+        },
+        SweptKey::Out => NodeText {
+            out_delay: size,
+            ..node
+        },
+        SweptKey::In => NodeText {
+            in_delay: size,
+            ..node
+        },
+        _ => node,
+    }
+}
+
+/// An equal frame.
+fn frame_again(alloc: Global, frame: &FrameText) -> Result<FrameText, AllocError>
+    ensures { IfOk result (λ copy. copy ≡ frame.now) }
+{
+    Ok(FrameText {
+        id: frame.id,
+        dlc: frame.dlc,
+        remote: frame.remote,
+        bytes: frame.bytes.clone_in(alloc)?,
+        ready: frame.ready,
+        extended: frame.extended,
+    })
+}
+
+/// Equal frames.
+fn frames_again(alloc: Global, frames: &[FrameText]) -> Result<Listed<FrameText>, AllocError>
+    ensures { IfOk result (λ copies. copies ≡ frames.now) }
+{
+    let mut copies = Listed::new(alloc);
+    for frame in frames {
+        copies.push(frame_again(alloc, frame)?)?;
+    }
+    Ok(copies)
+}
+
+/// A node with another offset and other rates.
+fn node_again(
+    alloc: Global,
+    node: &NodeText,
+    offset: u64,
+    rates: Listed<RateText>,
+) -> Result<NodeText, AllocError>
+    ensures { IfOk result (λ copy. copy ≡ record node.now { offset = offset; rates = rates }) }
+{
+    Ok(NodeText {
+        name: Text::new(alloc, node.name.as_str())?,
+        offset,
+        rates,
+        prop: node.prop,
+        ps1: node.ps1,
+        ps2: node.ps2,
+        sjw: node.sjw,
+        x: node.x,
+        out_delay: node.out_delay,
+        in_delay: node.in_delay,
+        frame: frames_again(alloc, node.frame.as_slice())?,
+    })
+}
+
+/// Equal nodes.
+fn nodes_same(alloc: Global, nodes: &[NodeText]) -> Result<Listed<NodeText>, AllocError>
+    ensures { IfOk result (λ copies. copies ≡ nodes.now) }
+{
+    let mut copies = Listed::new(alloc);
+    for node in nodes {
+        let rates = node.rates.clone_in(alloc)?;
+        copies.push(node_again(alloc, node, node.offset, rates)?)?;
+    }
+    Ok(copies)
+}
+
+/// An equal text.
+pub(crate) fn text_same(alloc: Global, text: &PlanText) -> Result<PlanText, AllocError>
+    ensures { IfOk result (λ copy. copy ≡ text.now) }
+{
+    let nodes = nodes_same(alloc, text.node.as_slice())?;
+    text_again(alloc, text, nodes)
+}
+
+/// A text with other nodes.
+pub(crate) fn text_again(
+    alloc: Global,
+    text: &PlanText,
+    node: Listed<NodeText>,
+) -> Result<PlanText, AllocError>
+    ensures { IfOk result (λ copy. copy ≡ record text.now { node = node }) }
+{
+    Ok(PlanText {
+        version: text.version,
+        end: text.end,
+        per: text.per,
+        node,
+        disturbance: text.disturbance.clone_in(alloc)?,
+        sync: text.sync,
+    })
+}
+
+/// A clock that deviates as much to the other side.
+fn negated_clock(clock: ClockText) -> ClockText
+    ensures { result ≡ negated_clock clock }
+{
+    match clock {
+        ClockText::Ppm { quantum, ppm } => ClockText::Ppm {
+            quantum,
+            ppm: ppm.saturating_neg(),
+        },
+        ClockText::Rate { .. } => clock,
+    }
+}
+
+/// A rate, or where it is negated one that deviates as much to the other side.
+fn rate_moved(rate: &RateText, negated: bool) -> RateText
+    ensures { result ≡ rate_moved negated rate.now }
+{
+    let clock = if negated {
+        negated_clock(rate.clock)
+    } else {
+        rate.clock
+    };
+    RateText {
+        from: rate.from,
+        clock,
+    }
+}
+
+/// The rates, or where they are negated those that deviate as much to the other side.
+fn rates_moved(
+    alloc: Global,
+    rates: &[RateText],
+    negated: bool,
+) -> Result<Listed<RateText>, AllocError>
+    ensures { IfOk result (λ all. all ≡ map (rate_moved negated) rates.now) }
+{
+    let mut all = Listed::new(alloc);
+    for rate in rates {
+        all.push(rate_moved(rate, negated))?;
+    }
+    Ok(all)
+}
+
+/// A node that begins `by` ticks later, and whose clock, where it is negated, deviates as much to the other side.
+pub(crate) fn moved_node(
+    alloc: Global,
+    node: &NodeText,
+    by: u64,
+    negated: bool,
+) -> Result<NodeText, AllocError>
+    ensures { IfOk result (λ moved. moved ≡ moved_node by negated node.now) }
+{
+    let rates = rates_moved(alloc, node.rates.as_slice(), negated)?;
+    node_again(alloc, node, node.offset.saturating_add(by), rates)
+}
+
+/// A node with another value of a key, if it has that key.
+fn node_set(
+    alloc: Global,
+    node: &NodeText,
+    key: SweptKey,
+    value: i64,
+) -> Result<NodeText, AllocError>
+    ensures { IfOk result (λ n. n ≡ node_with key value (record node.now { rates = map (rate_with key value) node.now.rates })) }
+{
+    let rates = rates_with(alloc, node.rates.as_slice(), key, value)?;
+    let copy = node_again(alloc, node, node.offset, rates)?;
+    Ok(node_with(copy, key, value))
+}
+
+/// Whether a value is one of node `i`: each node's where no node is named.
+fn is_of(named: Option<usize>, i: usize) -> bool
+    ensures { result ≡ is_of named i }
+{
+    match named {
+        None => true,
+        Some(node) => node == i,
+    }
+}
+
+/// Node `i` with another value of a key, if the value is one of its own.
+fn node_at(
+    alloc: Global,
+    i: usize,
+    node: &NodeText,
+    key: SweptKey,
+    named: Option<usize>,
+    value: i64,
+) -> Result<NodeText, AllocError>
+    ensures { IfOk result (λ n. n ≡ set_at key named value (i, node.now)) }
+{
+    if is_of(named, i) {
+        node_set(alloc, node, key, value)
+    } else {
+        node_again(alloc, node, node.offset, node.rates.clone_in(alloc)?)
+    }
+}
+
+/// Nodes with another value of a key: of the node that is named, or of each that has it.
+fn nodes_set(
+    alloc: Global,
+    nodes: &[NodeText],
+    key: SweptKey,
+    named: Option<usize>,
+    value: i64,
+) -> Result<Listed<NodeText>, AllocError>
+    ensures { IfOk result (λ all. all ≡ map (set_at key named value) (enumerate_from 0 nodes.now)) }
+{
+    let mut all = Listed::new(alloc);
+    for (i, node) in nodes.iter().enumerate() {
+        all.push(node_at(alloc, i, node, key, named, value)?)?;
+    }
+    Ok(all)
+}
+
+/// A text with another value of a key: of the top table, of the node that is named, or of each node that has it.
+pub(crate) fn text_with(
+    alloc: Global,
+    text: &PlanText,
+    key: SweptKey,
+    named: Option<usize>,
+    value: i64,
+) -> Result<PlanText, AllocError>
+    ensures { IfOk result (λ t. t ≡ text_with key named value text.now) }
+{
+    let node = nodes_set(alloc, text.node.as_slice(), key, named, value)?;
+    let copy = text_again(alloc, text, node)?;
+    Ok(top_with(copy, key, value))
+}
+
+/// A text with another value of a key of the top table.
+fn top_with(text: PlanText, key: SweptKey, value: i64) -> PlanText
+    ensures { result ≡ top_with key value text }
+{
+    let size = value.unsigned_abs();
+    match key {
+        SweptKey::End => PlanText { end: size, ..text },
+        SweptKey::Per => PlanText { per: size, ..text },
+        _ => text,
+    }
+}

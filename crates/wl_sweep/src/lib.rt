@@ -1,0 +1,23 @@
+//! Sweeps: a plan run over phases, signs of deviations and values of keys, so that a verdict is about a bus and not about one power-up.
+//!
+//! A sweep is a family of plan texts, made of one text by a mixed radix. Each member is tested by the stages that a text goes through,
+//! and simulated. What a sweep says is a function of the text, the ranges and the options: no clause knows how many threads there are.
+#![tactic(auto)]
+
+mod change;
+mod draws;
+mod family;
+mod finding;
+mod options;
+mod range;
+mod runs;
+mod sweep;
+mod tally;
+mod text;
+
+pub use change::SweptKey;
+pub use finding::{Finding, clean_is_a_working_bus, finding_of};
+pub use options::Options;
+pub use range::{SweptRange, row_count};
+pub use sweep::{MOST_ROWS, Sweep, Workers};
+pub use tally::Tally;

@@ -1,0 +1,125 @@
+//! Runs of a family, side by side.
+ghost use Rattle.std.specs.Prelude.{◌≡◌, ◌-◌, ◌^◌, ◌<◌, ◌≤◌, IfOk};
+ghost use Rattle.wl_sweep.specs.Tallies.{ArePartTallies, IsPartTally, finding_at, findings_from, findings_of, part_start, tally_of};
+
+use crate::family::Family;
+use crate::finding::{Finding, finding_of_text};
+use crate::tally::Tally;
+use std::alloc::{AllocError, Global};
+use std::thread::{self, Threads};
+
+/// The most runs between two lines of progress.
+const BATCH: u32 = 512;
+
+/// The first run of part `w` of those from one on up to another, which are cut into parts of a size.
+fn part_start(from: u32, to: u32, size: u32, w: usize) -> u32
+    ensures { result ≡ part_start from to size w }
+{
+    let before = u64::from(size).saturating_mul(w as u64);
+    u64::from(from).saturating_add(before).min(u64::from(to)) as u32
+}
+
+impl Family {
+    /// What is found of the member that a run is of.
+    pub(crate) fn finding(&self, alloc: Global, run: u32) -> Result<Finding, AllocError>
+        ensures { IfOk result (λ found. found ≡ finding_at self.now.options self.now.text run) }
+    {
+        let text = self.member(alloc, run)?;
+        finding_of_text(alloc, &text)
+    }
+
+    /// The tally of the runs from one on, up to another.
+    fn part(&self, alloc: Global, from: u32, to: u32) -> Result<Tally, AllocError>
+        requires { from ≤ to }
+        ensures { IfOk result (λ tally. tally ≡ tally_of (findings_from self.now.options self.now.text from (to - from))) }
+    {
+        let mut tally = Tally::new();
+        for run in from..to {
+            let finding = self.finding(alloc, run)?;
+            tally = tally.then(Tally::of(&finding));
+        }
+        Ok(tally)
+    }
+
+    /// The tallies of the parts of some runs, each by a thread of its own.
+    fn parts<R: Threads + Sync>(
+        &self,
+        rt: &R,
+        alloc: Global,
+        from: u32,
+        to: u32,
+        size: u32,
+        workers: u8,
+    ) -> Result<Vec<Result<Tally, AllocError>>, AllocError>
+        requires { from ≤ to }
+        ensures { IfOk result (λ parts. ArePartTallies self.now.options self.now.text from to size workers parts.items) }
+    {
+        thread::map_indices(
+            rt,
+            alloc,
+            usize::from(workers),
+            &|w: usize| -> Result<Tally, AllocError>
+                requires { (from ≤ to) × (w < 2 ^ 8) }
+                ensures { IsPartTally self.entry.now.options self.entry.now.text from to size w result }
+            {
+                self.part(
+                    alloc,
+                    part_start(from, to, size, w),
+                    part_start(from, to, size, w + 1),
+                )
+            },
+        )
+    }
+
+    /// The tally of the runs from one on, up to another, by so many threads.
+    fn batch<R: Threads + Sync>(
+        &self,
+        rt: &R,
+        alloc: Global,
+        from: u32,
+        to: u32,
+        workers: u8,
+    ) -> Result<Tally, AllocError>
+        requires { from ≤ to }
+        ensures { IfOk result (λ tally. tally ≡ tally_of (findings_from self.now.options self.now.text from (to - from))) }
+    {
+        if workers < 2 || to - from < 2 {
+            return self.part(alloc, from, to);
+        }
+        let size = (to - from).div_ceil(u32::from(workers));
+        let parts = self.parts(rt, alloc, from, to, size, workers)?;
+        let mut tally = Tally::new();
+        for w in 0..parts.len() {
+            match &parts[w] {
+                Ok(part) => tally = tally.then(*part),
+                Err(_) => return Err(AllocError),
+            }
+        }
+        Ok(tally)
+    }
+
+    /// The tally of all runs of a text, by so many threads. Where it is asked, a line on standard error says after each batch how many are
+    /// done and how many of these are clean; no clause speaks of it.
+    pub(crate) fn tally<R: Threads + Sync + Eprint>(
+        &self,
+        rt: &R,
+        alloc: Global,
+        workers: u8,
+        progress: bool,
+    ) -> Result<Tally, AllocError>
+        ensures { IfOk result (λ tally. tally ≡ tally_of (findings_of self.now.options self.now.text)) }
+    {
+        let runs = self.runs();
+        let mut tally = Tally::new();
+        let mut done = 0;
+        while done < runs {
+            let next = done.saturating_add(BATCH).min(runs);
+            tally = tally.then(self.batch(rt, alloc, done, next, workers)?);
+            done = next;
+            if progress {
+                let _ = eprintln!(rt; "progress {done} {runs} {}", tally.clean);
+            }
+        }
+        Ok(tally)
+    }
+}
