@@ -40,13 +40,13 @@ fn tell_rows(alloc: Global, plan: &Plan, told: &mut String) -> Result<()>
     requires { IsChecked plan.now }
 {
     let mut all = group_of_all(alloc, plan)?;
-    let mut rows = 0;
+    let mut rows = 0u32;
     for _ in 0..MOST_ROWS {
         let Some(i) = all.ready() else {
             break;
         };
         if all.go(i)?.is_some() {
-            rows += 1;
+            rows = rows.saturating_add(1);
         }
     }
     let emitted = all.emitted().len();
