@@ -1,0 +1,159 @@
+//! Where a key of a plan's text is.
+ghost use Rattle.std.specs.Prelude.{◌≤◌, length, IfSome};
+
+use crate::scan::{element_at, is_key, key_end, member_at, skip_blanks, value_behind, value_end};
+use wl_setup::Spot;
+
+/// The table that the statements of a text are in, and how many of each kind came before.
+#[derive(Clone, Copy)]
+struct Tables {
+    here: Option<Spot>,
+    nodes: u64,
+    rates: u64,
+    frames: u64,
+    disturbances: u64,
+}
+
+impl Tables {
+    fn new() -> Tables {
+        Tables {
+            here: Some(Spot::Top),
+            nodes: 0,
+            rates: 0,
+            frames: 0,
+            disturbances: 0,
+        }
+    }
+
+    /// The tables behind the header `[[node]]`.
+    fn node(self) -> Tables {
+        Tables {
+            here: Some(Spot::Node(self.nodes)),
+            nodes: self.nodes.saturating_add(1),
+            rates: 0,
+            frames: 0,
+            disturbances: self.disturbances,
+        }
+    }
+
+    /// The tables behind a header.
+    fn behind(mut self, text: &[u8], from: usize, end: usize) -> Tables {
+        let node = self.nodes.saturating_sub(1);
+        if is_key(text, from, end, b"node") {
+            return self.node();
+        }
+        if is_key(text, from, end, b"node.rates") {
+            self.here = Some(Spot::Rate(node, self.rates));
+            self.rates = self.rates.saturating_add(1);
+        } else if is_key(text, from, end, b"node.frame") {
+            self.here = Some(Spot::Frame(node, self.frames));
+            self.frames = self.frames.saturating_add(1);
+        } else if is_key(text, from, end, b"disturbance") {
+            self.here = Some(Spot::Disturbance(self.disturbances));
+            self.disturbances = self.disturbances.saturating_add(1);
+        } else {
+            self.here = None;
+        }
+        self
+    }
+}
+
+/// The place of element `n` of the array at a key, where the key from one place to another is this word and its value an array.
+fn element_of(text: &[u8], key: usize, equals: usize, word: &[u8], n: u64) -> Option<usize> {
+    if is_key(text, key, equals, word) {
+        element_at(text, value_behind(text, equals), n)
+    } else {
+        None
+    }
+}
+
+/// The place of element `n` of the array at a key of the inline table at a place.
+fn element_in(text: &[u8], table: usize, word: &[u8], n: u64) -> Option<usize> {
+    let key = member_at(text, table, word)?;
+    element_at(text, value_behind(text, key_end(text, key)), n)
+}
+
+/// The place of a table that is written in line at a key of the table `here`.
+fn inline_table(text: &[u8], here: Spot, key: usize, equals: usize, wanted: Spot) -> Option<usize> {
+    match (here, wanted) {
+        (Spot::Top, Spot::Node(i)) => element_of(text, key, equals, b"node", i),
+        (Spot::Top, Spot::Disturbance(n)) => element_of(text, key, equals, b"disturbance", n),
+        (Spot::Top, Spot::Rate(i, n)) => {
+            let node = element_of(text, key, equals, b"node", i)?;
+            element_in(text, node, b"rates", n)
+        }
+        (Spot::Top, Spot::Frame(i, n)) => {
+            let node = element_of(text, key, equals, b"node", i)?;
+            element_in(text, node, b"frame", n)
+        }
+        (Spot::Node(j), Spot::Rate(i, n)) if i == j => element_of(text, key, equals, b"rates", n),
+        (Spot::Node(j), Spot::Frame(i, n)) if i == j => element_of(text, key, equals, b"frame", n),
+        _ => None,
+    }
+}
+
+/// The place of the key in a statement of the table `here` that begins at a place: its own, or one in a table in line.
+fn found_in(
+    text: &[u8],
+    here: Spot,
+    key: usize,
+    equals: usize,
+    wanted: Spot,
+    word: &[u8],
+) -> Option<usize> {
+    if here == wanted {
+        if is_key(text, key, equals, word) {
+            return Some(key);
+        }
+        return None;
+    }
+    let table = inline_table(text, here, key, equals, wanted)?;
+    match member_at(text, table, word) {
+        Some(at) => Some(at),
+        None => Some(table),
+    }
+}
+
+/// A place in a text: its end for one behind it.
+fn inside(text: &[u8], place: Option<usize>) -> Option<usize>
+    ensures { IfSome result (λ at. at ≤ length text.now) }
+{
+    match place {
+        Some(at) => Some(at.min(text.len())),
+        None => None,
+    }
+}
+
+/// The place of a key in a plan's text, by its table; that of the table where the table hasn't the key. `None` where neither is found, as
+/// the top table, or tables that are written with other headers than `[[..]]`.
+pub(crate) fn place_of(text: &[u8], wanted: Spot, word: &[u8]) -> Option<usize>
+    ensures { IfSome result (λ at. at ≤ length text.now) }
+{
+    let mut at = skip_blanks(text, 0);
+    let mut tables = Tables::new();
+    let mut header = None;
+    for _ in 0..text.len() {
+        if at >= text.len() {
+            return inside(text, header);
+        }
+        if text[at] == b'[' {
+            let name = at.saturating_add(2).min(text.len());
+            let end = key_end(text, name);
+            tables = tables.behind(text, name, end);
+            if tables.here == Some(wanted) {
+                header = Some(at);
+            }
+            at = skip_blanks(text, end.saturating_add(2).min(text.len()));
+        } else {
+            let equals = key_end(text, at);
+            if let Some(here) = tables.here {
+                let found = found_in(text, here, at, equals, wanted, word);
+                if found.is_some() {
+                    return inside(text, found);
+                }
+            }
+            at = skip_blanks(text, value_end(text, value_behind(text, equals)));
+        }
+    }
+    inside(text, header)
+}

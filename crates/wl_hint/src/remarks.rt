@@ -1,0 +1,181 @@
+//! What a plan's document tells beside the words of its explanation.
+ghost use Rattle.std.specs.Prelude.{◌≡◌};
+
+use std::alloc::{AllocError, Global};
+use toml::{Table, Value};
+use wl_clock::Clock;
+use wl_plan::{MOST_QUANTA, MOST_SHORT_QUANTA, PlanFault};
+use wl_segments::SegmentsFault;
+use wl_setup::{SetupFault, Spot, Text, table_at, value_named};
+
+/// The keys that plans have.
+#[rattlefmt::skip]
+const KNOWN: [&str; 29] = [
+    "version", "end", "per", "sync", "node", "disturbance", "name", "offset", "quantum", "ppm", "num", "den", "rates", "prop", "ps1",
+    "ps2", "sjw", "x", "out", "in", "frame", "id", "dlc", "remote", "extended", "bytes", "ready", "from", "to",
+];
+
+/// The most nodes among which a repeated name is looked for.
+const MOST_NAMED: u64 = 1_000;
+
+/// The name of node `i`.
+fn name_of(top: &Table, i: u64) -> Option<&str> {
+    value_named(table_at(top, Spot::Node(i))?, "name")?.as_str()
+}
+
+/// Whether an earlier node has the name of node `i`.
+fn is_repeated(top: &Table, i: u64) -> bool {
+    let name = name_of(top, i);
+    for j in 0..i {
+        if name.is_some() && name_of(top, j) == name {
+            return true;
+        }
+    }
+    false
+}
+
+/// The first node with the name of an earlier one.
+pub(crate) fn repeated_name(top: &Table) -> Option<u64> {
+    for i in 0..MOST_NAMED {
+        if is_repeated(top, i) {
+            return Some(i);
+        }
+    }
+    None
+}
+
+/// The first key of a table that no table of a plan has, which may be a misspelt one.
+fn strange_key(table: &Table) -> Option<&str> {
+    for key in table.keys() {
+        if !KNOWN.contains(&key.as_str()) {
+            return Some(key.as_str());
+        }
+    }
+    None
+}
+
+/// A whole number at a key.
+fn number(table: &Table, key: &str) -> Option<i64> {
+    value_named(table, key)?.as_integer()
+}
+
+/// The clock of a node with one rate.
+fn clock_of(node: &Table) -> Option<Clock> {
+    let offset = u64::try_from(number(node, "offset")?).ok()?;
+    match number(node, "quantum") {
+        Some(quantum) => {
+            let quantum = u64::try_from(quantum).ok()?;
+            Clock::from_ppm(offset, quantum, number(node, "ppm")?).ok()
+        }
+        None => {
+            let num = u64::try_from(number(node, "num")?).ok()?;
+            let den = u64::try_from(number(node, "den")?).ok()?;
+            Clock::new(offset, num, den).ok()
+        }
+    }
+}
+
+/// Whether a node's edges may make it sample each third quantum.
+fn is_short(top: &Table, node: &Table) -> bool {
+    let sync = value_named(top, "sync").and_then(Value::as_str);
+    let follows = match sync {
+        None | Some("after") => false,
+        Some(_) => true,
+    };
+    follows && number(node, "prop") == Some(1) && number(node, "ps1") == Some(1)
+}
+
+/// The greatest end that the clock of node `i` allows, where it has one rate.
+fn latest_end(top: &Table, i: u64) -> Option<u64> {
+    let node = table_at(top, Spot::Node(i))?;
+    let most = if is_short(top, node) {
+        MOST_SHORT_QUANTA
+    } else {
+        MOST_QUANTA
+    };
+    Some(clock_of(node)?.at(most))
+}
+
+/// What is remarked of a missing key.
+fn of_missing(alloc: Global, table: Option<&Table>) -> Result<String, AllocError> {
+    match table.and_then(strange_key) {
+        Some(key) => {
+            let key = Text::new(alloc, key)?;
+            format!(in alloc; " (is `{key}` meant for it?)")
+        }
+        None => Ok(String::new(alloc)),
+    }
+}
+
+/// What is remarked of an end that comes too late for node `i`.
+fn of_quanta(alloc: Global, top: &Table, i: u64) -> Result<String, AllocError> {
+    match latest_end(top, i) {
+        Some(end) => format!(in alloc; " (with this clock the end is at most {end})"),
+        None => Ok(String::new(alloc)),
+    }
+}
+
+/// The unit of a key of a table, whose value is a whole number.
+fn unit_of(key: &str, spot: Spot) -> &'static str {
+    match (key, spot) {
+        ("from", Spot::Rate(_, _)) => " (it is in quanta)",
+        ("end" | "offset" | "quantum" | "out" | "in" | "from" | "to", _) => " (it is in ticks)",
+        ("ready" | "prop" | "ps1" | "ps2" | "sjw", _) => " (it is in quanta)",
+        ("per", _) => " (it is in ticks a unit of length)",
+        ("x", _) => " (it is in units of length)",
+        _ => "",
+    }
+}
+
+/// Where a key belongs that is in another table.
+fn home_of(key: &str, spot: Spot) -> &'static str {
+    match (key, spot) {
+        (_, Spot::Top) => "",
+        ("version" | "end" | "per" | "sync", _) => " (it belongs above the first `[[node]]`)",
+        (_, Spot::Node(_) | Spot::Disturbance(_)) => "",
+        ("name" | "offset" | "prop" | "ps1" | "ps2" | "sjw" | "x" | "out" | "in", _) => {
+            " (it belongs right under `[[node]]`, above the tables in it)"
+        }
+        _ => "",
+    }
+}
+
+/// What is remarked of a segment: registers hold one quantum less, and a bit of too many quanta wants longer ones.
+fn of_segment(table: Option<&Table>, key: &str, least: i64) -> &'static str {
+    match table.and_then(|table| number(table, key)) {
+        Some(quanta) if quanta < least => " (a register may hold one less than the quanta)",
+        Some(_) => " (with a longer quantum there are fewer)",
+        None => "",
+    }
+}
+
+/// What is remarked of segments.
+fn of_segments(table: Option<&Table>, fault: SegmentsFault) -> &'static str {
+    match fault {
+        SegmentsFault::Prop => of_segment(table, "prop", 1),
+        SegmentsFault::Phase1 => of_segment(table, "ps1", 1),
+        SegmentsFault::Phase2 => of_segment(table, "ps2", 2),
+        SegmentsFault::Length => " (with a shorter quantum there are more)",
+        SegmentsFault::Jump => "",
+    }
+}
+
+/// What is remarked of a fault in the table where it is; nothing of most.
+pub(crate) fn remark(
+    alloc: Global,
+    top: &Table,
+    spot: Spot,
+    fault: &SetupFault,
+) -> Result<String, AllocError> {
+    let table = table_at(top, spot);
+    match fault {
+        SetupFault::Missing(_) => of_missing(alloc, table),
+        SetupFault::Plan(PlanFault::Quanta(i)) => of_quanta(alloc, top, *i),
+        SetupFault::Kind(key) => String::from_str(alloc, unit_of(key.as_str(), spot)),
+        SetupFault::Unknown(key) => String::from_str(alloc, home_of(key.as_str(), spot)),
+        SetupFault::NodeSegments(_, fault) => {
+            String::from_str(alloc, of_segments(table, *fault))
+        }
+        _ => Ok(String::new(alloc)),
+    }
+}
