@@ -6,8 +6,9 @@
 # - the explanation, the trace and the waveform of each of them as bench/plain.py gives them, and the explanation of a plan with every doubt, and of one whose clocks
 #   change their rates
 # - the log of one plan, as ticks of three lengths have it, and the waveform of one, as ticks of two have it
-# - two nodes with full queues, as bench/plain.py reports them, their log and their waveform
-# - each row of .ci/refused.txt: the status, the one line on standard error, and nothing on standard output but what explain says of it
+# - two nodes with full queues, as bench/plain.py reports them
+# - each row of .ci/refused.txt: the status, the one line on standard error, nothing on standard output but what explain says of it, and the hint
+# - files for input and output: what stands at the named place on each outcome; devices, rights, full disks, closed descriptors, odd names
 # - command lines that name no task, or are no text: status 2, and nothing on standard output
 # - a run that doesn't end in 300 seconds, as one whose workers wait for each other for ever, has failed
 # - a reader and a writer that fail, and threads that can't be made: status 3
@@ -102,16 +103,26 @@ runs "vcd --tick 10us" examples/one_megabit_25m.toml 0 "$room/wave" "$room/none"
 
 # a row: the command, the status, how the input is made, the fault's line, the input. 'text': with printf's escapes; 'sed': of examples/clean_500k.toml;
 # 'bash': of a command
-# Below it a line 'wrong: ..': what explain says of that input, before the change that the table of faults in docs/commands.md has
+# Below it a line 'wrong: ..' and one 'change: ..': what explain says of that input; and 'hint: ..', what `--hint` adds ('line #' for any line)
+wrong='' change=''
 while IFS= read -r line; do
   case "$line" in
-    '' | '#'* | 'hint: '*) continue ;;
-    'wrong: '*)
-      printf '%s\nchange: %s\n' "$line" "$(tools/hint.py "${fault#fault: }" | sed 's/^hint: //')" > "$room/explained"
+    '' | '#'*) continue ;;
+    'wrong: '*) wrong=$line && continue ;;
+    'change: '*)
+      change=$line
+      [ -n "$wrong" ] || continue
+      printf '%s\n%s\n' "$wrong" "$change" > "$room/explained"
       runs "explain, $fault" "$room/input" "$status" "$room/explained" "$room/fault" explain
       continue
       ;;
+    'hint: '*)
+      timeout 300 "$program" "$word" --hint "$room/input" > "$room/out" 2> "$room/err" < /dev/null
+      is "hint, $fault: $(tail -1 "$room/err")" cmp -s <(sed -E '2s/\bline [0-9]+/line #/g' "$room/err") <(printf '%s\n%s\n' "$fault" "$line")
+      continue
+      ;;
   esac
+  wrong='' change=''
   IFS='|' read -r word status how fault input <<< "$line"
   case "$how" in
     text) printf '%b' "$input" > "$room/input" ;;
@@ -125,6 +136,10 @@ while IFS= read -r line; do
     runs "run --workers 2 --link $link, $fault" "$room/input" "$status" "$room/none" "$room/fault" run --workers 2 --link "$link"
   done
 done < .ci/refused.txt
+.ci/faults.py > "$room/out"
+is "faults without a row: $(tr '\n' ' ' < "$room/out")" [ ! -s "$room/out" ]
+
+. .ci/files.sh
 
 while IFS= read -r words; do
   # shellcheck disable=SC2086
@@ -137,7 +152,12 @@ frobnicate
 help
 Merge
 runs
-run merge
+--version
+run one two
+run -o
+run -o one -o two
+run --hint --hint
+run --progress --progress
 run --workers
 run --workers 0
 run --workers 9
@@ -154,7 +174,6 @@ check --link hub
 run --tick 1ns
 explain --tick 1ns
 trace --tick 1ns
-explain run
 candump --tick
 candump --tick 1
 candump --tick 0ns
@@ -223,6 +242,7 @@ if command -v gcc > /dev/null; then
   is "the links (allocations by hub: $by_hub, by mail: $by_mail)" [ "${by_mail:-0}" -gt $((${by_hub:-999999} * 3 / 2)) ]
   is "merge, each allocation refused" bench/refuse.sh "$program" merge examples/records.txt
   is "horizon, each allocation refused" bench/refuse.sh "$program" horizon examples/records.txt
+  is "run FILE -o FILE, each allocation refused" refused_files
   is "run, each allocation refused" bench/refuse.sh "$program" run examples/clean_500k.toml
   is "run --workers 2, each allocation refused" bench/refuse.sh "$program" run examples/clean_500k.toml --workers 2
   [ ! -x "$world" ] || is "worlds, each allocation refused" python3 bench/worlds.py "$world" refused

@@ -1,8 +1,7 @@
 #!/usr/bin/env bash
 # Runs the script ./wireline as a user would, over a built program.
 # usage: wireline.sh PROGRAM
-# - files for standard input and output, words that name no command, a terminal, no build and no toolchain; that a build is kept
-# - the hints: each row of .ci/refused.txt with a line 'hint: ' below it; each fault of the table in docs/commands.md has such a row
+# - that it hands its words on, with --hint; help, a terminal, links to it, no build and no toolchain; that a build is kept, also by calls that meet
 # - sweeps with a known answer
 set -uo pipefail
 cd "$(dirname "$0")/.." || exit 1
@@ -26,60 +25,57 @@ says() { is "$1" grep -qF -- "$2" "$room/err"; } # says NAME TEXT
 script=(./wireline)
 plan=examples/clean_500k.toml report=examples/clean_500k.report
 
-# ---- Files and words
+# ---- Words
 ends 0 run "$plan"
-is "a file for standard input" cmp -s "$room/out" "$report"
+is "a file for input" cmp -s "$room/out" "$report"
 is "nothing is said beside a report" [ ! -s "$room/err" ]
 ends 0 run -o "$room/report" "$plan"
-is "a file for standard output" cmp -s "$room/report" "$report"
+is "a file for output" cmp -s "$room/report" "$report"
 is "nothing on standard output then" [ ! -s "$room/out" ]
 ends 0 run - < "$plan"
 is "standard input" cmp -s "$room/out" "$report"
 (cd "$room" && "$OLDPWD/wireline" run "$OLDPWD/$plan" > out)
 is "from another folder" cmp -s "$room/out" "$report"
-ends 2 run nofile && says "a file that isn't there" "there is no file 'nofile' here"
-ends 2 run examples && says "a folder" "can't be read"
-ends 2 run "$plan" "$report" && says "two files" "one file at a time"
-ends 2 run -o && says "-o alone" "-o needs the name of a file"
-ends 2 run "$plan" -o "$room/none/file" && says "an output that can't be made" "can't be written"
-cp "$plan" "$room/plan"
-ends 2 run "$room/plan" -o "$room/plan" && says "the input as output" "is the input itself"
-is "the input stays" cmp -s "$room/plan" "$plan"
-"$program" --help 2> "$room/help" > /dev/null < /dev/null
-is "tools/help.txt is the program's help" cmp -s "$room/help" tools/help.txt
-cat tools/help.txt tools/usage.txt > "$room/wanted"
-ends 2 --help
-is "help" cmp -s "$room/err" "$room/wanted"
-for word in frobnicate Run ''; do
+ln -s "$PWD/wireline" "$room/link" && ln -s link "$room/links"
+(cd "$room" && ./links run "$OLDPWD/$plan" > out)
+is "by a link" cmp -s "$room/out" "$report"
+ended=0
+timeout 20 ./wireline run <&- > "$room/out" 2> "$room/err" || ended=$?
+is "no standard input (status $ended)" [ "$ended" = 3 ]
+ended=0
+timeout 20 ./wireline run "$plan" >&- 2> "$room/err" || ended=$?
+is "no standard output (status $ended)" [ "$ended" = 3 ]
+ended=0
+timeout 20 ./wireline run nofile 2> /dev/full || ended=$?
+is "no standard error (status $ended)" [ "$ended" = 3 ]
+ends 3 run nofile && says "a file that isn't there" "file: nofile"
+sed 's/^sjw = 3/sjw = 5/' "$plan" > "$room/input"
+for words in "$room/input" "-- $room/input"; do
   # shellcheck disable=SC2086
-  "$program" $word 2> "$room/program" < /dev/null
-  cat "$room/program" tools/usage.txt > "$room/wanted"
+  ends 1 check $words
+  says "a hint" "hint: line $(grep -n -m1 '^sjw' "$plan" | cut -d: -f1), column 1, \`sjw = 5\`: node 0 engine"
+done
+ends 1 check < "$room/input" && says "a hint for standard input" "\`sjw = 5\`: node 0 engine"
+ended=0
+./wireline check < <(cat "$room/input") 2> "$room/err" || ended=$?
+is "a hint for a pipe (status $ended)" [ "$ended" = 1 ] && says "a hint for a pipe" "Set \`sjw\` from 1 to 4"
+for shell in bash zsh fish; do
+  ends 0 completions "$shell"
+  is "completions for $shell have each command" [ -z "$(sed -n 's/^  \([a-z]*\)  .*/\1/p' tools/help.txt | while read -r word; do grep -qw "$word" "$room/out" || echo "$word"; done)" ]
+done
+ends 2 completions && says "completions of no shell" "bash, zsh or fish"
+bash -c 'source <(./wireline completions bash) && COMP_WORDS=(wireline v) COMP_CWORD=1 && _wireline && echo "${COMPREPLY[@]}"' > "$room/out"
+is "a command is completed" [ "$(cat "$room/out")" = vcd ]
+ln -s "$program" "$room/wl_sim"
+"$room/wl_sim" --help 2> "$room/help" > /dev/null < /dev/null
+is "tools/help.txt is the program's help" cmp -s "$room/help" tools/help.txt
+for word in --help help frobnicate Run --version 'candump --tick' 'run --workers 9'; do
+  # shellcheck disable=SC2086
+  "$program" $word 2> "$room/wanted" < /dev/null
   # shellcheck disable=SC2086
   ends 2 $word
   is "the words '$word' are answered by the program" cmp -s "$room/err" "$room/wanted"
 done
-ends 0 explain .ci/doubts.toml
-is "an explanation" cmp -s "$room/out" .ci/doubts.explained
-ends 0 candump --tick 125ps "$plan"
-is "the option of candump" cmp -s "$room/out" <("$program" candump --tick 125ps < "$plan")
-ends 0 candump "$plan" --tick=1us
-is "its other form" cmp -s "$room/out" <("$program" candump --tick=1us < "$plan")
-ends 0 vcd --tick 125ps "$plan"
-is "the option of vcd" cmp -s "$room/out" <("$program" vcd --tick 125ps < "$plan")
-ends 2 candump --tick && is "no log without a time" [ ! -s "$room/out" ]
-ends 2 candump --tick 1 "$plan" && says "a time that is none" "--tick wants 1 to 999"
-ends 2 run --tick 1ns "$plan" && says "a tick of another command" "unexpected argument"
-ends 0 run --workers 2 "$plan"
-is "the option of run" cmp -s "$room/out" "$report"
-ends 0 run "$plan" --workers=3
-is "its other form" cmp -s "$room/out" "$report"
-ends 0 run --workers 2 --link mail "$plan"
-is "both options of run" cmp -s "$room/out" "$report"
-ends 2 run --link post "$plan" && says "a link that is none" "--link wants hub or mail"
-ends 2 check --link hub "$plan" && says "a link of another command" "unexpected argument"
-ends 2 run --workers && is "no report without a number" [ ! -s "$room/out" ]
-ends 2 run --workers 9 "$plan" && says "too many workers" "9 is not in 1..=8"
-ends 2 check --workers 2 "$plan" && says "workers of another command" "unexpected argument"
 python3 - > "$room/out" << 'PYTHON'
 import os, subprocess
 ours, theirs = os.openpty()
@@ -88,6 +84,15 @@ os.write(ours, b"\x04")
 print(ran.communicate(timeout=20)[1].decode(), ran.returncode)
 PYTHON
 is "a terminal is told" grep -q "reading from the terminal" "$room/out"
+printf '#!/bin/sh\necho "$@"\n' > "$room/echo" && chmod +x "$room/echo"
+is "what is added to the words" [ "$(WIRELINE_PROGRAM=$room/echo ./wireline run 'a b' -o c)" = "run --hint a b -o c" ]
+WIRELINE_PROGRAM=$room/echo python3 - > "$room/out" << 'PYTHON'
+import os, subprocess
+ours, theirs = os.openpty()
+print(subprocess.run(["./wireline", "vcd", "a b"], stdin=subprocess.DEVNULL, stdout=subprocess.PIPE, stderr=theirs).stdout.decode().strip())
+PYTHON
+is "what is added for a terminal" [ "$(cat "$room/out")" = "vcd --hint --progress a b" ]
+WIRELINE_PROGRAM=$room/none ends 2 run "$plan" && says "a program that isn't there" "is no program"
 
 # ---- Builds: a tree with a stub in the place of `rt`, which counts its calls
 unset WIRELINE_PROGRAM
@@ -100,8 +105,7 @@ script=(env "PATH=/usr/bin:/bin" "$tree/wireline")
 if ! env PATH=/usr/bin:/bin bash -c 'command -v rt' > /dev/null; then
   ends 1 run "$plan" && says "no toolchain" "building takes the Rattle kit"
 fi
-ends 2 help && is "help without a build" cmp -s "$room/err" <(cat tools/help.txt tools/usage.txt)
-ends 2 rnu && says "a typo without a build" "there is no command 'rnu'"
+ends 2 help && is "help without a build" cmp -s "$room/err" tools/help.txt
 cat > "$stub/rt" << 'STUB'
 #!/bin/sh
 [ -z "${FAILS-}" ] || { echo "error: $FAILS" >&2; exit 1; }
@@ -128,58 +132,20 @@ is "the first report" cmp -s "$room/out" "$report"
 ends 0 run "$plan"
 is "the second report" cmp -s "$room/out" "$report"
 is "the unproved build is kept" [ "$(cat "$room/calls")" = try ]
-ends 0 build && says "how far it is" "wl_x is proved (1 of at most"
+ends 0 build && says "how far it is" "wl_x is proved"
 ends 0 build && says "a second build" "up to date"
 is "the proved build is kept" [ "$(tr '\n' ' ' < "$room/calls")" = "try run " ]
-touch -d '1 minute' "$tree/crates/wl_sim/src/main.rt"
+touch -d '1 second' "$tree/crates/wl_sim/src/main.rt" && sleep 1.2
 ends 0 run "$plan"
 is "a source that changed is built" [ "$(tr '\n' ' ' < "$room/calls")" = "try run try " ]
+# First calls that meet: one builds, the others wait for it
+rm -rf "$tree/out" "$tree/crates/wl_sim/out" "$room/calls"
+for n in 1 2 3 4 5; do "${script[@]}" run "$plan" > "$room/out$n" 2> "$room/err$n" & done
+wait
+for n in 1 2 3 4 5; do is "call $n of five at once: $(tail -1 "$room/err$n")" cmp -s "$room/out$n" "$report"; done
+is "one build for five calls" [ "$(tr '\n' ' ' < "$room/calls")" = "try " ]
 export WIRELINE_PROGRAM=$program
 script=(./wireline)
-
-# ---- Hints
-row_input() { # row_input HOW INPUT: writes the input of a row of .ci/refused.txt
-  case "$1" in
-    text) printf '%b' "$2" ;;
-    sed) sed -E "$2" examples/clean_500k.toml ;;
-    bash) bash -c "$2" ;;
-  esac
-}
-: > "$room/seen"
-word='' how='' input='' fault='' status=''
-while IFS= read -r line; do
-  case "$line" in
-    'hint: '*)
-      row_input "$how" "$input" > "$room/input"
-      ends "$status" "$word" "$room/input"
-      printf '%s\n%s\n' "$fault" "$line" > "$room/wanted"
-      is "$fault: $(tail -1 "$room/err")" cmp -s <(sed -E '2s/\bline [0-9]+/line #/g' "$room/err") "$room/wanted"
-      printf '%s\n' "${fault#fault: }" >> "$room/seen"
-      ;;
-    '' | '#'* | 'wrong: '*) ;;
-    *) IFS='|' read -r word status how fault input <<< "$line" ;;
-  esac
-done < .ci/refused.txt
-sed 's/^sjw = 3/sjw = 5/' "$plan" > "$room/input"
-ends 1 check "$room/input"
-says "the line and the value" "node 0 \"engine\", line $(grep -n -m1 '^sjw' "$plan" | cut -d: -f1): sjw = 5."
-ends 1 check < "$room/input" && says "a hint for standard input" 'node 0 "engine"'
-ended=0
-./wireline check < <(cat "$room/input") 2> "$room/err" || ended=$?
-is "a hint for a pipe" [ "$ended" = 1 ] && says "a hint for a pipe" "hint: Set \`sjw\` from 1 to 4"
-printf '%s\n' Read Write Memory 'Worker(3)' >> "$room/seen"
-ends 3 merge < / && says "a reader that fails" "hint: Check that standard input"
-ended=0
-./wireline merge examples/records.txt > /dev/full 2> "$room/err" || ended=$?
-is "a writer that fails" [ "$ended" = 3 ] && says "a writer that fails" "hint: Check that standard output"
-is "memory" [ "$(tools/hint.py Memory)" = "hint: Free memory, or raise the limit that the program runs under." ]
-is "a worker" [ "$(tools/hint.py 'Worker(3)')" = "hint: Raise the limits on threads and memory, or run with fewer workers; without \`--workers\` the report is the same." ]
-tools/hint.py --without < "$room/seen" > "$room/out"
-is "faults without a row and a hint: $(tr '\n' ' ' < "$room/out")" [ ! -s "$room/out" ]
-
-awk '/^hint: / { hinted[row] = 1; next } /^wrong: / { said[row] = 1; next } { row = $0 }
-  END { for (row in hinted) if (!(row in said) && row !~ /^(merge|horizon)/) print row }' .ci/refused.txt > "$room/out"
-is "hints of plans without what explain says: $(cut -c1-200 "$room/out" | tr '\n' ' ')" [ ! -s "$room/out" ]
 
 # ---- A sweep
 ends 1 sweep examples/cable_too_long.toml sensor.x=20..40:10 --keep-offsets --keep-ppm

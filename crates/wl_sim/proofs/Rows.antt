@@ -1,9 +1,12 @@
 -- The definitions on words that name no task: in each of them clap finds a fault, so none of them enters a task.
 use Rattle.std.proofs.Common.{◌≡◌, ◌∙◌, refl, sym, ap, Bool, true, false, List, [], ◌∷◌, codes, Some, None}
+use Rattle.std.specs.Prelude.{ℕ, Option, option_and_then}
 use Rattle.clap.specs.Words.{Text, fault_of}
 use Rattle.clap.proofs.OnLiterals.{clap_on_literals}
-use Rattle.wl_sim.specs.CommandLine.{program, entered_tick, entered_workers, entered_link, Enters}
+use Rattle.wl_sim.specs.CommandLine.{program, entered, file_in, has_flag, rows_in, tick_among, workers_among, link_among, Enters}
+use Rattle.wl_worker.specs.declared.kinds.LinkKind.{LinkKind}
 use Rattle.wl_worker.specs.declared.kinds.LinkKind.TheVariants.{Hub, Mail}
+use Rattle.wl_views.specs.declared.tick.Tick.{Tick}
 use Rattle.wl_views.specs.declared.tick.TimeUnit.TheVariants.{Picosecond, Microsecond}
 use Rattle.wl_sim.specs.declared.command.Task.{Task}
 
@@ -13,10 +16,19 @@ is_faulty (x ∷ xs) = true
 
 enters_none : (words : List Text) → is_faulty (fault_of program words) ≡ true → (t : Task) → ¬ Enters t words
 unfolding is_faulty
-enters_none words faulty t enters = let no : false ≡ true = ap is_faulty (sym enters.4) ∙ faulty in cc
+enters_none words faulty t enters = let no : false ≡ true = ap is_faulty (sym enters.1) ∙ faulty in cc
 
 behind_name : List Text → List Text
 behind_name words = codes "wl_sim" ∷ words
+
+abbrev entered_tick : List Text → Option Tick
+entered_tick words = option_and_then tick_among (rows_in (entered words))
+
+abbrev entered_workers : List Text → Option ℕ
+entered_workers words = option_and_then workers_among (rows_in (entered words))
+
+abbrev entered_link : List Text → Option LinkKind
+entered_link words = option_and_then link_among (rows_in (entered words))
 
 no_word : is_faulty (fault_of program (behind_name [])) ≡ true
 unfolding clap_on_literals is_faulty behind_name
@@ -34,9 +46,46 @@ one_letter_more : is_faulty (fault_of program (behind_name (codes "runs" ∷ [])
 unfolding clap_on_literals is_faulty behind_name
 one_letter_more = refl
 
-two_tasks : is_faulty (fault_of program (behind_name (codes "run" ∷ codes "merge" ∷ []))) ≡ true
+two_files : is_faulty (fault_of program (behind_name (codes "run" ∷ codes "one" ∷ codes "two" ∷ []))) ≡ true
 unfolding clap_on_literals is_faulty behind_name
-two_tasks = refl
+two_files = refl
+
+no_name : is_faulty (fault_of program (behind_name (codes "run" ∷ codes "-o" ∷ []))) ≡ true
+unfolding clap_on_literals is_faulty behind_name
+no_name = refl
+
+-- files that are given, in front of options and behind them, and the standard streams
+given_input : file_in (codes "input") (entered (behind_name (codes "run" ∷ codes "plan.toml" ∷ codes "-o" ∷ codes "out" ∷ []))) ≡ Some (codes "plan.toml")
+unfolding clap_on_literals behind_name
+given_input = refl
+
+given_output : file_in (codes "output") (entered (behind_name (codes "merge" ∷ codes "-o" ∷ codes "out" ∷ []))) ≡ Some (codes "out")
+unfolding clap_on_literals behind_name
+given_output = refl
+
+standard_input : file_in (codes "input") (entered (behind_name (codes "check" ∷ codes "-" ∷ []))) ≡ None
+unfolding clap_on_literals behind_name
+standard_input = refl
+
+dashed_input : file_in (codes "input") (entered (behind_name (codes "check" ∷ codes "--" ∷ codes "-x" ∷ []))) ≡ Some (codes "-x")
+unfolding clap_on_literals behind_name
+dashed_input = refl
+
+given_hint : has_flag (codes "hint") (entered (behind_name (codes "check" ∷ codes "--hint" ∷ []))) ≡ true
+unfolding clap_on_literals behind_name
+given_hint = refl
+
+no_hint : has_flag (codes "hint") (entered (behind_name (codes "check" ∷ []))) ≡ false
+unfolding clap_on_literals behind_name
+no_hint = refl
+
+given_progress : has_flag (codes "progress") (entered (behind_name (codes "vcd" ∷ codes "--progress" ∷ []))) ≡ true
+unfolding clap_on_literals behind_name
+given_progress = refl
+
+other_flag : has_flag (codes "progress") (entered (behind_name (codes "vcd" ∷ codes "--hint" ∷ []))) ≡ false
+unfolding clap_on_literals behind_name
+other_flag = refl
 
 behind_two_dashes : is_faulty (fault_of program (behind_name (codes "--" ∷ codes "run" ∷ []))) ≡ true
 unfolding clap_on_literals is_faulty behind_name

@@ -1,8 +1,10 @@
 -- The words of the command line (this project's profile).
-use Rattle.std.specs.Prelude.{◌≡◌, ℕ, true, List, [], ◌∷◌, codes, pos, Option, Some, None, if◌then◌else◌, option_and_then, option_map}
+use Rattle.std.specs.Prelude.{◌≡◌, ℕ, Bool, true, false, List, [], ◌∷◌, codes, pos, Option, Some, None, if◌then◌else◌, option_and_then, option_map}
+use Rattle.std.specs.Option.{option_map_or}
 use Rattle.std.specs.Str.{bytes_eq}
 use Rattle.clap.specs.Words.{App, Row, Rule, Text, first_of, new_app, new_rule, with_rule, with_subcommand, subcommand_of, fault_of}
 use Rattle.clap.specs.Walk.{byte_or_zero}
+use Rattle.clap.specs.declared.builder.action.ArgAction.TheVariants.{SetTrue}
 use Rattle.clap.specs.declared.builder.value_parser.ValueParser.TheVariants.{Signed}
 use Rattle.clap.specs.Simple.{on_top}
 use Rattle.wl_worker.specs.declared.kinds.LinkKind.{LinkKind}
@@ -25,9 +27,26 @@ task_word Trace = codes "trace"
 task_word (Candump tick) = codes "candump"
 task_word (Vcd tick) = codes "vcd"
 
--- a command with one subcommand more, which has no arguments
+-- the argument that names the file to read
+abbrev pub input_rule : Rule
+input_rule = record (new_rule (codes "input")) { value_names = 1 }
+
+-- the option `-o` with the file to write
+abbrev pub output_rule : Rule
+output_rule = record (new_rule (codes "output")) { short = Some 111; value_names = 1 }
+
+-- a flag of this name
+abbrev pub flag_rule : Text → Rule
+flag_rule name = record (new_rule name) { long = Some name; action = Some SetTrue }
+
+-- a subcommand with what each has
+abbrev pub filed : Text → App
+filed word =
+    with_rule (with_rule (with_rule (with_rule (new_app word) input_rule) output_rule) (flag_rule (codes "hint"))) (flag_rule (codes "progress"))
+
+-- a command with one subcommand more, which has that alone
 abbrev pub with_task : App → Task → App
-with_task a t = with_subcommand a (new_app (task_word t)).top
+with_task a t = with_subcommand a (filed (task_word t)).top
 
 -- the option `--tick`, which is `1ns` where it isn't given
 abbrev pub tick_rule : Rule
@@ -35,7 +54,7 @@ tick_rule = record (new_rule (codes "tick")) { long = Some (codes "tick"); value
 
 -- a subcommand that has this option
 abbrev pub timed : Text → App
-timed word = with_rule (new_app word) tick_rule
+timed word = with_rule (filed word) tick_rule
 
 -- the option `--workers`, a number from 1 to 8, which is 1 where it isn't given
 abbrev pub workers_rule : Rule
@@ -48,30 +67,32 @@ link_rule = record (new_rule (codes "link")) { long = Some (codes "link"); value
 
 -- the subcommand `run`, with its options
 abbrev pub run_app : App
-run_app = with_rule (with_rule (new_app (codes "run")) workers_rule) link_rule
+run_app = with_rule (with_rule (filed (codes "run")) workers_rule) link_rule
 
 -- the command line of most tasks without a tick: one of the tasks has to be named
 abbrev pub untimed_program : App
 untimed_program =
     with_task (with_subcommand (with_task (with_task (with_task (with_task
-    (on_top (λ s. record s { subcommand_required = true }) (new_app (codes "wl_sim")))
+    (on_top (λ s. record s { subcommand_required = true }) (on_top (λ s. record s { has_version = true }) (new_app (codes "wl_sim"))))
     Merge) Horizon) Check) Records) run_app.top) Explain
 
 -- the program's command line: after those, the trace and the tasks with one
 abbrev pub program : App
 program = with_subcommand (with_subcommand (with_task untimed_program Trace) (timed (codes "candump")).top) (timed (codes "vcd")).top
 
--- the subcommand that clap enters at these words
-abbrev pub entered_word : List Text → Option Text
-entered_word words = option_map (λ p. p.0) (subcommand_of program words)
+-- the subcommand that clap enters at these words, with what it finds there
+abbrev pub entered : List Text → Option (Text × List Row)
+entered words = subcommand_of program words
+
+abbrev pub word_in : Option (Text × List Row) → Option Text
+word_in found = option_map (λ p. p.0) found
+
+abbrev pub rows_in : Option (Text × List Row) → Option (List Row)
+rows_in found = option_map (λ p. p.1) found
 
 -- the tick that a subcommand's option gives
 abbrev pub tick_among : List Row → Option Tick
 tick_among rows = option_and_then read_tick (first_of (codes "tick") rows)
-
--- that of the subcommand that clap enters at these words
-abbrev pub entered_tick : List Text → Option Tick
-entered_tick words = option_and_then tick_among (option_map (λ p. p.1) (subcommand_of program words))
 
 -- a task that has a tick has this one
 abbrev pub HasTick : Option Tick → Task → Type 0
@@ -89,10 +110,6 @@ HasTick given Trace = Unit {0}
 abbrev pub workers_among : List Row → Option ℕ
 workers_among rows = option_map byte_or_zero (first_of (codes "workers") rows)
 
--- that of the subcommand that clap enters at these words
-abbrev pub entered_workers : List Text → Option ℕ
-entered_workers words = option_and_then workers_among (option_map (λ p. p.1) (subcommand_of program words))
-
 -- a task that has workers has so many
 abbrev pub HasWorkers : Option ℕ → Task → Type 0
 HasWorkers given (Run workers kind) = given ≡ Some workers
@@ -106,20 +123,48 @@ read_link text = if bytes_eq text (codes "hub") then Some Hub else (if bytes_eq 
 abbrev pub link_among : List Row → Option LinkKind
 link_among rows = option_and_then read_link (first_of (codes "link") rows)
 
--- that of the subcommand that clap enters at these words
-abbrev pub entered_link : List Text → Option LinkKind
-entered_link words = option_and_then link_among (option_map (λ p. p.1) (subcommand_of program words))
-
 -- a task that has workers has this kind of link
 abbrev pub HasLink : Option LinkKind → Task → Type 0
 HasLink given (Run workers kind) = given ≡ Some kind
 HasLink given _ = Unit {0}
 
+-- the file that a text names in the place of a standard stream, which `-` means
+abbrev pub file_named : Text → Option Text
+file_named text = if bytes_eq text (codes "-") then None else Some text
+
+-- the file that an argument of a subcommand names
+abbrev pub file_among : Text → List Row → Option Text
+file_among id rows = option_and_then file_named (first_of id rows)
+
+-- that of the subcommand that was found
+abbrev pub file_in : Text → Option (Text × List Row) → Option Text
+file_in id found = option_and_then (file_among id) (rows_in found)
+
+-- whether a flag is set by its text
+abbrev pub is_set : Text → Bool
+is_set text = if bytes_eq text (codes "true") then true else false
+
+-- whether a flag of a subcommand is set
+abbrev pub is_flagged : Text → List Row → Bool
+is_flagged id rows = option_map_or is_set (first_of id rows) false
+
+-- whether that of the subcommand that was found is
+abbrev pub has_flag : Text → Option (Text × List Row) → Bool
+has_flag id found = option_map_or (λ p. is_flagged id p.1) found false
+
+-- this word, tick, number of workers and link make this task
+abbrev pub NamedTask : Option Text → Option Tick → Option ℕ → Option LinkKind → Task → Type 0
+NamedTask word tick workers link t = (word ≡ Some (task_word t)) × HasTick tick t × HasWorkers workers t × HasLink link t
+
+-- a subcommand with its rows makes this task
+abbrev pub FoundTask : Option (Text × List Row) → Task → Type 0
+FoundTask found t =
+    NamedTask (word_in found) (option_and_then tick_among (rows_in found)) (option_and_then workers_among (rows_in found))
+    (option_and_then link_among (rows_in found)) t
+
 -- clap enters the task's subcommand at these words, with the task's tick, or workers and their link, where it has them, and finds no fault in them
 abbrev pub Enters : Task → List Text → Type 0
-Enters t words =
-    (entered_word words ≡ Some (task_word t)) × HasTick (entered_tick words) t × HasWorkers (entered_workers words) t × HasLink (entered_link words) t
-    × (fault_of program words ≡ [])
+Enters t words = FoundTask (entered words) t × (fault_of program words ≡ [])
 
 -- a tick is a nanosecond where the words say nothing of it
 abbrev pub nanosecond : Tick

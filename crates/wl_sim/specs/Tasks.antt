@@ -1,6 +1,5 @@
 -- What the program does for its words, and the status that it ends with (this project's profile).
-use Rattle.std.specs.Prelude.{◌≡◌, ◌==◌, ℕ, MatchBool, if◌then◌else◌, List, Result, Ok, Err}
-use Rattle.clap.specs.Words.{Text}
+use Rattle.std.specs.Prelude.{◌≡◌, ◌==◌, ℕ, MatchBool, if◌then◌else◌, Result, Ok, Err}
 use Rattle.wl_device.specs.Devices.{Answer}
 use Rattle.wl_setup.specs.Check.{IsPlanCheck}
 use Rattle.wl_engines.specs.declared.fault.RunFault.{RunFault}
@@ -14,7 +13,6 @@ use Rattle.wl_sim.specs.declared.command.Refusal.{Refusal}
 use Rattle.wl_sim.specs.declared.command.Refusal.TheVariants.{Words, Memory}
 use Rattle.wl_sim.specs.declared.command.Task.{Task}
 use Rattle.wl_sim.specs.declared.command.Task.TheVariants.{Merge, Horizon, Check, Records, Run, Explain, Trace, Candump, Vcd}
-use Rattle.wl_sim.specs.CommandLine.{Enters}
 
 -- the status of a run: 0, 1 where the input was refused for what it says, 3 when out of memory or for a fault of reading, writing or workers
 abbrev pub run_status : Result (Unit {0}) RunFault → ℕ
@@ -25,12 +23,6 @@ run_status (Err fault) = if is_refusal fault then 1 else 3
 abbrev pub refusal_status : Refusal → ℕ
 refusal_status Words = 2
 refusal_status Memory = 3
-
--- what is read from the words: the task that they enter, or that they enter none; or memory was wanted
-abbrev pub ReadsTask : List Text → Result Task Refusal → Type 0
-ReadsTask words (Ok t) = Enters t words
-ReadsTask words (Err Words) = (t : Task) → ¬ Enters t words
-ReadsTask words (Err Memory) = Unit {0}
 
 module _ {S T : Type 0} (gives : S → Answer → S → Type 0) (takes : T → Answer → T → Type 0) (s s' : S) (t t' : T) where
   -- what was done for a task
@@ -48,16 +40,3 @@ module _ {S T : Type 0} (gives : S → Answer → S → Type 0) (takes : T → A
   -- the task was done, nothing else was read or written, and the status is that of what was answered
   abbrev pub EndsTask : Task → ℕ → Type 0
   EndsTask task status = (r : Result (Unit {0}) RunFault) × Does task r × (status ≡ run_status r)
-
-  -- neither device was called, and the status says why
-  abbrev pub EndsRefused : Refusal → ℕ → Type 0
-  EndsRefused refusal status = (s' ≡ s) × (t' ≡ t) × (status ≡ refusal_status refusal)
-
-  -- what came of what was read from the words
-  abbrev pub Ends : Result Task Refusal → ℕ → Type 0
-  Ends (Ok task) status = EndsTask task status
-  Ends (Err refusal) status = EndsRefused refusal status
-
-  -- the whole program, from its words to its status
-  abbrev pub RunsWords : List Text → ℕ → Type 0
-  RunsWords words status = (read : Result Task Refusal) × ReadsTask words read × Ends read status

@@ -1,19 +1,28 @@
 //! The command line.
-ghost use Rattle.std.specs.Prelude.{◌≡◌, ◌≢◌, ◌↔◌, map, string_bytes, IfOk, IfErr, false, Some, option_and_then, option_map};
+ghost use Rattle.std.specs.Prelude.{◌≡◌, ◌≢◌, ◌↔◌, map, string_bytes, codes, IfOk, IfErr, false, Some, option_and_then, option_map};
+ghost use Rattle.std.specs.Option.{option_map_or};
 ghost use Rattle.clap.specs.Words.{app_of, found_of, kind_of, new_app, rows_of, rule_of, subcommand_rows_of, with_rule};
 ghost use Rattle.clap.specs.declared.builder.command.Command.TheViews.{out-Command};
-ghost use Rattle.wl_sim.specs.CommandLine.{untimed_program, program, task_word, Enters};
+ghost use Rattle.wl_sim.specs.CommandLine.{untimed_program, program, Enters, FoundTask, NamedTask};
+ghost use Rattle.wl_sim.specs.CommandLine.{file_among, file_named, filed, flag_rule, input_rule, is_flagged, is_set, output_rule};
 ghost use Rattle.wl_sim.specs.CommandLine.{tick_among, tick_rule, HasTick, workers_among, workers_rule, HasWorkers};
 ghost use Rattle.wl_sim.specs.CommandLine.{link_among, link_rule, run_app, read_link, HasLink};
-ghost use Rattle.wl_sim.specs.Tasks.{ReadsTask};
+ghost use Rattle.wl_sim.specs.Orders.{FindsOrder, ReadsOrder};
 
 use clap::error::ErrorKind;
-use clap::{Arg, ArgMatches, Command, Error, value_parser};
+use clap::{Arg, ArgAction, ArgMatches, Command, Error, value_parser};
 use std::alloc::{AllocError, Global};
 use std::io;
 use std::rt::Env;
 use wl_engines::LinkKind;
+use wl_setup::Text;
 use wl_views::Tick;
+
+/// What the help says of the script that finds or makes a build.
+const SCRIPT: &str = "The script ./wireline hands its words to the program. It has two words more:
+  ./wireline sweep plan.toml ..  runs a plan over phases, clocks and values (./wireline sweep --help)
+  ./wireline build               proves and builds the program, once
+docs/first-hour.md leads from a data sheet to a report.";
 
 /// What the program is asked to do.
 #[derive(Clone, Copy, Debug, PartialEq, Eq)]
@@ -38,6 +47,21 @@ pub enum Task {
     Vcd(Tick),
 }
 
+/// What the words of the command line ask for.
+#[derive(Debug, Drop)]
+pub struct Order {
+    /// What is to be done.
+    pub task: Task,
+    /// The file to read in the place of standard input.
+    pub input: Option<Text>,
+    /// The name that a file with the output gets, in the place of standard output.
+    pub output: Option<Text>,
+    /// After a fault a line says what to change.
+    pub hint: bool,
+    /// A line each second says how long the run has taken.
+    pub progress: bool,
+}
+
 /// Why no task could be read from the command line.
 #[derive(Clone, Copy, Debug, PartialEq, Eq)]
 pub enum Refusal {
@@ -45,6 +69,61 @@ pub enum Refusal {
     Words,
     /// Out of memory.
     Memory,
+}
+
+/// The argument that names the file to read.
+fn input_argument<'a>(alloc: Global) -> Arg<'a>
+    ensures rule { rule_of result ≡ input_rule }
+    ensures local { result.global ≡ false }
+{
+    Arg::new(alloc, "input")
+        .value_name("FILE")
+        .help("The file to read; without it, or for -, standard input")
+}
+
+/// The option that names the file to write.
+fn output_option<'a>(alloc: Global) -> Arg<'a>
+    ensures rule { rule_of result ≡ output_rule }
+    ensures local { result.global ≡ false }
+{
+    Arg::new(alloc, "output").short('o').value_name("FILE").help(
+        "The file to write, which changes only when the output is whole; without it, or for -, standard output",
+    )
+}
+
+/// The option that asks for a hint after a fault.
+fn hint_option<'a>(alloc: Global) -> Arg<'a>
+    ensures rule { rule_of result ≡ flag_rule (codes "hint") }
+    ensures local { result.global ≡ false }
+{
+    Arg::new(alloc, "hint")
+        .long("hint")
+        .action(ArgAction::SetTrue)
+        .help("Says after a fault where in the input it is, and what to change")
+}
+
+/// The option that asks for lines on a run that takes long.
+fn progress_option<'a>(alloc: Global) -> Arg<'a>
+    ensures rule { rule_of result ≡ flag_rule (codes "progress") }
+    ensures local { result.global ≡ false }
+{
+    Arg::new(alloc, "progress")
+        .long("progress")
+        .action(ArgAction::SetTrue)
+        .help("Says each second how long the run has taken")
+}
+
+/// A subcommand with the arguments that each has.
+fn filed<'a>(alloc: Global, word: &'a str, about: &'a str) -> Result<Command<'a>, AllocError>
+    ensures app { IfOk result (λ sub. app_of sub ≡ filed word.now) }
+    ensures local { IfOk result (λ sub. (out-Command sub).has_globals ≡ false) }
+{
+    let named = Command::new(alloc, word).about(about);
+    let read = named.arg(input_argument(alloc))?;
+    let written = read.arg(output_option(alloc))?;
+    let hinted = written.arg(hint_option(alloc))?;
+    let told = hinted.arg(progress_option(alloc))?;
+    Ok(told)
 }
 
 /// The option that says how long a tick takes.
@@ -94,10 +173,11 @@ fn optioned<'a>(
     option: Arg<'a>,
 ) -> Result<Command<'a>, AllocError>
     requires { option.global ≡ false }
-    ensures app { IfOk result (λ sub. app_of sub ≡ with_rule (new_app word.now) (rule_of option.entry)) }
+    ensures app { IfOk result (λ sub. app_of sub ≡ with_rule (filed word.now) (rule_of option.entry)) }
     ensures local { IfOk result (λ sub. (out-Command sub).has_globals ≡ false) }
 {
-    Command::new(alloc, word).about(about).arg(option)
+    let sub = filed(alloc, word, about)?;
+    sub.arg(option)
 }
 
 /// The subcommand `run`, with its options.
@@ -118,24 +198,36 @@ fn run_command<'a>(alloc: Global) -> Result<Command<'a>, AllocError>
 fn untimed<'a>(alloc: Global) -> Result<Command<'a>, AllocError>
     ensures { IfOk result (λ all. app_of all ≡ untimed_program) }
 {
-    let merge = Command::new(alloc, "merge").about(
+    let merge = filed(
+        alloc,
+        "merge",
         "Writes the canonical text of the records that standard input has",
-    );
-    let horizon = Command::new(alloc, "horizon").about(
+    )?;
+    let horizon = filed(
+        alloc,
+        "horizon",
         "Writes what the records tell of each node, and up to which tick",
-    );
-    let check = Command::new(alloc, "check").about(
+    )?;
+    let check = filed(
+        alloc,
+        "check",
         "Tests the plan, and writes what its bit segments allow and how long its cable takes",
-    );
-    let records = Command::new(alloc, "records").about(
+    )?;
+    let records = filed(
+        alloc,
+        "records",
         "Simulates the plan, and writes each change of the line and the silence after it",
-    );
+    )?;
     let run = run_command(alloc)?;
-    let explain = Command::new(alloc, "explain").about(
+    let explain = filed(
+        alloc,
+        "explain",
         "Tests the plan, and writes what is wrong or doubtful and the figures of its nodes",
-    );
+    )?;
     let all = Command::new(alloc, "wl_sim")
+        .version("0.1.0")
         .about("Simulates CAN 2.0 buses at the level of time quanta")
+        .after_help(SCRIPT)
         .subcommand_required(true)
         .subcommand(merge)?
         .subcommand(horizon)?
@@ -150,9 +242,11 @@ fn untimed<'a>(alloc: Global) -> Result<Command<'a>, AllocError>
 fn command<'a>(alloc: Global) -> Result<Command<'a>, AllocError>
     ensures { IfOk result (λ all. app_of all ≡ program) }
 {
-    let trace = Command::new(alloc, "trace").about(
+    let trace = filed(
+        alloc,
+        "trace",
         "Simulates the plan, and writes what happened to each node: errors, flags, frames, modes",
-    );
+    )?;
     let candump = optioned(
         alloc,
         "candump",
@@ -243,6 +337,73 @@ fn link_of_subcommand(matches: &ArgMatches) -> Option<LinkKind>
     }
 }
 
+/// The file that a text names in the place of a standard stream, which `-` means.
+fn file_named(alloc: Global, text: &str) -> Result<Option<Text>, AllocError>
+    ensures { IfOk result (λ name. name ≡ file_named text.now) }
+{
+    match text {
+        "-" => Ok(None),
+        _ => Ok(Some(Text::new(alloc, text)?)),
+    }
+}
+
+/// The file that an argument of a subcommand names.
+#[tactic(auto, using(crate::proofs::Words::file_text))]
+fn file_in(alloc: Global, matches: &ArgMatches, id: &str) -> Result<Option<Text>, AllocError>
+    ensures { IfOk result (λ name. name ≡ file_among id.now (rows_of (found_of matches.now))) }
+{
+    match matches.get_str(id) {
+        Some(text) => file_named(alloc, text),
+        None => Ok(None),
+    }
+}
+
+/// The file that an argument of the subcommand names, where it has one.
+fn file_of_subcommand(
+    alloc: Global,
+    matches: &ArgMatches,
+    id: &str,
+) -> Result<Option<Text>, AllocError>
+    ensures { IfOk result (λ name. name
+        ≡ option_and_then (file_among id.now) (option_map (λ p. p.1) (subcommand_rows_of matches.now))) }
+{
+    match matches.subcommand() {
+        Some((_, sub)) => file_in(alloc, sub, id),
+        None => Ok(None),
+    }
+}
+
+/// Whether a flag is set, by its text.
+fn is_set(text: &str) -> bool
+    ensures { result ≡ is_set text.now }
+{
+    match text {
+        "true" => true,
+        _ => false,
+    }
+}
+
+/// Whether a flag of a subcommand is set.
+#[tactic(auto, using(crate::proofs::Words::flag_text))]
+fn flag_in(matches: &ArgMatches, id: &str) -> bool
+    ensures { result ≡ is_flagged id.now (rows_of (found_of matches.now)) }
+{
+    match matches.get_str(id) {
+        Some(text) => is_set(text),
+        None => false,
+    }
+}
+
+/// Whether a flag of the subcommand is set, where it has one.
+fn flag_of_subcommand(matches: &ArgMatches, id: &str) -> bool
+    ensures { result ≡ option_map_or (λ p. is_flagged id.now p.1) (subcommand_rows_of matches.now) false }
+{
+    match matches.subcommand() {
+        Some((_, sub)) => flag_in(sub, id),
+        None => false,
+    }
+}
+
 /// The task of a subcommand, by its name, and by its tick, or its workers and their link, where it has them.
 fn task_named(
     name: Option<&str>,
@@ -250,8 +411,8 @@ fn task_named(
     workers: Option<u8>,
     link: Option<LinkKind>,
 ) -> Option<Task>
-    ensures { (task : Task) → (result ≡ Some task) ↔ ((option_map (λ s. s.now) name.entry ≡ Some (task_word task))
-        × HasTick tick task × HasWorkers workers task × HasLink link task) }
+    ensures { (task : Task) → (result ≡ Some task)
+        ↔ NamedTask (option_map (λ s. s.now) name.entry) tick workers link task }
 {
     match name? {
         "merge" => Some(Task::Merge),
@@ -267,18 +428,37 @@ fn task_named(
     }
 }
 
-/// The task that these words name, the program's own name first; an error that isn't out of memory is what clap says to them.
-fn task_of(alloc: Global, words: &[String]) -> Result<Option<Task>, Error>
-    ensures task { IfOk result (λ found. (task : Task)
-        → (found ≡ Some task) ↔ Enters task (map string_bytes words.now)) }
+/// The task that a parse of these words found.
+fn task_in(matches: &ArgMatches) -> Option<Task>
+    ensures { (task : Task) → (result ≡ Some task) ↔ FoundTask (subcommand_rows_of matches.now) task }
+{
+    let tick = tick_of_subcommand(matches);
+    let workers = workers_of_subcommand(matches);
+    let link = link_of_subcommand(matches);
+    task_named(matches.subcommand_name(), tick, workers, link)
+}
+
+/// What these words ask for, the program's own name first; an error that isn't out of memory is what clap says to them.
+fn order_of(alloc: Global, words: &[String]) -> Result<Option<Order>, Error>
+    ensures order { IfOk result (FindsOrder (map string_bytes words.now)) }
     ensures memory { IfErr result (λ e. (task : Task) → Enters task (map string_bytes words.now)
         → kind_of e ≡ ErrorKind.OutOfMemory) }
 {
     let matches = command(alloc)?.try_get_matches_from(words)?;
-    let tick = tick_of_subcommand(&matches);
-    let workers = workers_of_subcommand(&matches);
-    let link = link_of_subcommand(&matches);
-    Ok(task_named(matches.subcommand_name(), tick, workers, link))
+    let input = file_of_subcommand(alloc, &matches, "input")?;
+    let output = file_of_subcommand(alloc, &matches, "output")?;
+    let hint = flag_of_subcommand(&matches, "hint");
+    let progress = flag_of_subcommand(&matches, "progress");
+    match task_in(&matches) {
+        Some(task) => Ok(Some(Order {
+            task,
+            input,
+            output,
+            hint,
+            progress,
+        })),
+        None => Ok(None),
+    }
 }
 
 /// Why words that clap refused with this kind of error name no task.
@@ -301,20 +481,43 @@ fn wanted(words: &[String]) -> &'static str {
     }
 }
 
+/// A text of several lines, with escapes for what could steer a terminal: words are said again as they came.
+fn shown_lines(alloc: Global, said: &str) -> Result<String, AllocError> {
+    let mut shown = String::new(alloc);
+    let mut is_first = true;
+    for line in said.split('\n') {
+        if !is_first {
+            shown.push_str("\n")?;
+        }
+        is_first = false;
+        let line = Text::new(alloc, line)?;
+        write!(shown, "{line}")?;
+    }
+    Ok(shown)
+}
+
+/// What clap finds wrong with words, or its help.
+fn said_of(alloc: Global, error: &Error) -> Result<String, AllocError> {
+    let said = format!(in alloc; "{error}")?;
+    shown_lines(alloc, said.as_str())
+}
+
 /// Says what clap finds wrong with words. Where memory ran out, the line of that fault is all that is said.
-fn say(rt: &impl Eprint, refusal: Refusal, error: Error) {
+fn say(rt: &impl Eprint, alloc: Global, refusal: Refusal, error: &Error) {
     if refusal == Refusal::Words {
-        let _ = rt.eprint(error);
+        if let Ok(said) = said_of(alloc, error) {
+            let _ = eprint!(rt; "{said}");
+        }
     }
 }
 
-/// The task that the words name, the program's own name first. What is wrong with them goes to standard error, help too;
+/// What the words ask for, the program's own name first. What is wrong with them goes to standard error, help too;
 /// that this text goes out is said by no clause, since none can speak of standard error.
-pub fn read(rt: &impl Eprint, alloc: Global, words: &[String]) -> Result<Task, Refusal>
-    ensures { ReadsTask (map string_bytes words.now) result }
+pub fn read(rt: &impl Eprint, alloc: Global, words: &[String]) -> Result<Order, Refusal>
+    ensures { ReadsOrder (map string_bytes words.now) result }
 {
-    match task_of(alloc, words) {
-        Ok(Some(task)) => Ok(task),
+    match order_of(alloc, words) {
+        Ok(Some(order)) => Ok(order),
         Ok(None) => {
             let said = wanted(words);
             let _ = eprintln!(rt; "error: {said}");
@@ -322,7 +525,7 @@ pub fn read(rt: &impl Eprint, alloc: Global, words: &[String]) -> Result<Task, R
         }
         Err(error) => {
             let refusal = refusal_of(error.kind());
-            say(rt, refusal, error);
+            say(rt, alloc, refusal, &error);
             Err(refusal)
         }
     }

@@ -1,7 +1,7 @@
 //! `wl_sim`: the program of Wireline.
 //!
-//! It reads one input from standard input, does what its one subcommand says, and writes the answer to standard
-//! output. `merge` and `horizon` read a record text: the one writes the canonical text of the replica that its records make, the
+//! It reads one input from standard input or from a file, does what its one subcommand says, and writes the answer to standard output or to
+//! a file. `merge` and `horizon` read a record text: the one writes the canonical text of the replica that its records make, the
 //! other what that replica tells of each node, and up to when. `check`, `records` and `run` read a plan text: the first writes what
 //! the bit segments allow and how long the cable takes, the second the records of the plan's simulation, the third its report.
 //! `candump` and `vcd` read a plan text too: the one writes the frames that were sent as can-utils logs them, the other the waveform.
@@ -9,12 +9,14 @@
 //! happened to each node, and where.
 #![tactic(auto)]
 
-ghost use Rattle.std.specs.Prelude.{◌≡◌, ◌≢◌, map, string_bytes, IfOk, IfErr};
+ghost use Rattle.std.specs.Prelude.{◌≡◌, ◌≢◌, map, string_bytes, IfOk, IfErr, Err, option_map};
 ghost use Rattle.std.specs.IoError.{error_kind};
 ghost use Rattle.std.specs.Process.{exit_status};
 ghost use Rattle.wl_sim.specs.declared.command.Task.{Task};
+ghost use Rattle.wl_files.specs.Files.{Keeps};
 ghost use Rattle.wl_sim.specs.CommandLine.{NamesTask};
-ghost use Rattle.wl_sim.specs.Tasks.{Does, EndsTask, EndsRefused, RunsWords, run_status, refusal_status};
+ghost use Rattle.wl_sim.specs.Orders.{Ends, EndsPlainly, MovesFile, Performs, RunsWords, WritesTo};
+ghost use Rattle.wl_sim.specs.Tasks.{Does, run_status, refusal_status};
 
 use std::alloc::Global;
 use std::io;
@@ -22,11 +24,16 @@ use std::io::ErrorKind;
 use std::process::ExitCode;
 use std::sync::Wait;
 use std::thread::Threads;
+use std::time::Clock;
 use wl_device::{Host, Sink, Source};
+use wl_files::{BeginFault, Folder, SystemFolder};
+use wl_setup::{SetupFault, Text};
 
 mod command;
+mod hints;
+mod progress;
 
-pub use command::{Refusal, Task};
+pub use command::{Order, Refusal, Task};
 pub use wl_engines::{
     LinkKind, RunFault, candump_run, check_run, explain_run, horizon_run, merge_run, merges_as_one,
     plan_run, records_run, trace_run, vcd_run, workers_run, workers_run_by,
@@ -39,32 +46,51 @@ const REFUSED_COMMAND: u8 = 2;
 
 const BROKEN: u8 = 3;
 
-/// Hands the words of the command line, standard input and standard output to `run_words`, whose answer is the program's status.
-/// That these are handed on, and that the answer is the status, is said by no clause: none can speak of a program's devices.
+/// Hands the words of the command line, standard input, standard output and the system's files to `run_words`, whose answer is the program's
+/// status. That these are handed on, and that the answer is the status, is said by no clause: none can speak of a program's devices.
 fn main(rt: HostRuntime) -> ExitCode {
     let words = command::words_of(&rt);
     let mut reader = Host::new(rt.stdin());
     let mut writer = Host::new(rt.stdout());
-    run_words(&rt, rt.alloc(), words, &mut reader, &mut writer)
+    let mut folder = SystemFolder::new(&rt);
+    run_words(
+        &rt,
+        rt.alloc(),
+        words,
+        &mut reader,
+        &mut writer,
+        &mut folder,
+    )
 }
 
-/// Does what the words ask for: runs the engine of the task that they name, over the reader and the writer. Words that name no
-/// task, or that the system doesn't give, call neither of the two. It may wait where the task is a run by several workers.
-fn run_words<H: Eprint + Threads + Wait + Sync, R: Source, W: Sink>(
+/// Does what the words ask for: runs the engine of the task that they name, over the reader and the writer, or over the files that they name
+/// in their place. Words that name no task, or that the system doesn't give, use none of these. It may wait where the task is a run by
+/// several workers.
+fn run_words<
+    H: Eprint + Threads + Wait + Clock + Clone + Drop + Send + Sync + 'static,
+    R: Source,
+    W: Sink,
+    F: Folder,
+>(
     rt: &H,
     alloc: Global,
     words: io::Result<Vec<String>>,
     reader: &mut R,
     writer: &mut W,
+    folder: &mut F,
 ) -> ExitCode
-    ensures words { IfOk words (λ given. RunsWords R.gives W.takes reader.old reader.new writer.old writer.new
+    ensures words { IfOk words (λ given. RunsWords R.gives W.takes F.Reader.gives F.Writer.takes F.opens F.stands
+        F.holds reader.old reader.new writer.old writer.new folder.old folder.new
         (map string_bytes given.items) (exit_status result)) }
     ensures named { IfOk words (λ given. (task : Task) → NamesTask task (map string_bytes given.items)
-        → EndsTask R.gives W.takes reader.old reader.new writer.old writer.new task (exit_status result)) }
+        → EndsPlainly R.gives W.takes F.Reader.gives F.Writer.takes F.opens F.stands F.holds
+        reader.old reader.new writer.old writer.new folder.old folder.new task (exit_status result)) }
     ensures memory { IfErr words (λ error. error_kind error ≡ ErrorKind.OutOfMemory
-        → EndsRefused R.gives W.takes reader.old reader.new writer.old writer.new Refusal.Memory (exit_status result)) }
+        → Ends R.gives W.takes F.Reader.gives F.Writer.takes F.opens F.stands F.holds
+        reader.old reader.new writer.old writer.new folder.old folder.new (Err Refusal.Memory) (exit_status result)) }
     ensures unread { IfErr words (λ error. error_kind error ≢ ErrorKind.OutOfMemory
-        → EndsRefused R.gives W.takes reader.old reader.new writer.old writer.new Refusal.Words (exit_status result)) }
+        → Ends R.gives W.takes F.Reader.gives F.Writer.takes F.opens F.stands F.holds
+        reader.old reader.new writer.old writer.new folder.old folder.new (Err Refusal.Words) (exit_status result)) }
 {
     let words = match words {
         Ok(words) => words,
@@ -75,8 +101,90 @@ fn run_words<H: Eprint + Threads + Wait + Sync, R: Source, W: Sink>(
         }
     };
     match command::read(rt, alloc, words.as_slice()) {
-        Ok(task) => ended(rt, run(rt, alloc, task, reader, writer)),
+        Ok(order) => {
+            let ticker = progress::begin(rt, alloc, &order);
+            let answer = perform(rt, alloc, &order, reader, writer, folder);
+            progress::end(rt, ticker);
+            if let Err(fault) = &answer {
+                hints::say_fault(rt, alloc, &order, fault, folder);
+            }
+            status_of(&answer)
+        }
         Err(refusal) => refused(rt, refusal),
+    }
+}
+
+/// Does the task of an order over the file to read that the order names, or over the reader where it names none. A file that can't be
+/// opened is answered as a reader that fails.
+fn perform<H: Threads + Wait + Sync, R: Source, W: Sink, F: Folder>(
+    rt: &H,
+    alloc: Global,
+    order: &Order,
+    reader: &mut R,
+    writer: &mut W,
+    folder: &mut F,
+) -> Result<(), RunFault>
+    ensures { Performs R.gives W.takes F.Reader.gives F.Writer.takes F.opens F.stands F.holds
+        reader.old reader.new writer.old writer.new folder.old folder.new order.now result }
+{
+    let (task, output) = (order.task, order.output.as_ref());
+    match &order.input {
+        None => write_to(rt, alloc, task, output, reader, writer, folder),
+        Some(name) => match folder.open(name.as_str()) {
+            Ok(mut file) => write_to(rt, alloc, task, output, &mut file, writer, folder),
+            Err(_) => Err(RunFault::Setup(SetupFault::Read)),
+        },
+    }
+}
+
+/// Does a task over a new file for its output, or over the writer where no file is named. Where the task is done the file is moved to
+/// its name; else it is given up, and what was at its name stays.
+fn write_to<H: Threads + Wait + Sync, R: Source, W: Sink, F: Folder>(
+    rt: &H,
+    alloc: Global,
+    task: Task,
+    output: Option<&Text>,
+    reader: &mut R,
+    writer: &mut W,
+    folder: &mut F,
+) -> Result<(), RunFault>
+    ensures { WritesTo R.gives W.takes F.Writer.takes F.stands F.holds
+        reader.old reader.new writer.old writer.new folder.old folder.new task (option_map (λ n. n.now) output.entry) result }
+{
+    match output {
+        None => run(rt, alloc, task, reader, writer),
+        Some(name) => match folder.begin(alloc, name.as_str()) {
+            Ok(mut file) => {
+                let answer = run(rt, alloc, task, reader, &mut file);
+                finish(folder, file, name.as_str(), answer)
+            }
+            Err(BeginFault::Refused) => Err(RunFault::Write),
+            Err(BeginFault::Memory) => Err(RunFault::Memory),
+        },
+    }
+}
+
+/// Moves a new file to its name where the task was done, and gives it up else.
+fn finish<F: Folder>(
+    folder: &mut F,
+    file: F::Writer,
+    name: &str,
+    answer: Result<(), RunFault>,
+) -> Result<(), RunFault>
+    ensures { MovesFile F.stands F.holds folder.old folder.new name.now file answer result }
+{
+    match answer {
+        Ok(()) => {
+            if folder.place(file, name) {
+                Ok(())
+            } else {
+                Err(RunFault::Write)
+            }
+        }
+        Err(fault) => {
+            folder.discard(file);
+            Err(fault)
+        }
     }
 }
 
@@ -123,20 +231,18 @@ fn run<H: Threads + Wait + Sync, R: Source, W: Sink>(
     }
 }
 
-/// The status of a run; a fault is said on standard error, in one line.
-fn ended(rt: &impl Eprint, answer: Result<(), RunFault>) -> ExitCode
-    ensures { exit_status result ≡ run_status answer }
+/// The status of a run.
+fn status_of(answer: &Result<(), RunFault>) -> ExitCode
+    ensures { exit_status result ≡ run_status answer.now }
 {
     match answer {
         Ok(()) => ExitCode::SUCCESS,
         Err(fault) => {
-            let status = if fault.is_refusal() {
-                REFUSED_INPUT
+            if fault.is_refusal() {
+                ExitCode::from(REFUSED_INPUT)
             } else {
-                BROKEN
-            };
-            let _ = eprintln!(rt; "fault: {fault}");
-            ExitCode::from(status)
+                ExitCode::from(BROKEN)
+            }
         }
     }
 }
@@ -147,6 +253,9 @@ fn refused(rt: &impl Eprint, refusal: Refusal) -> ExitCode
 {
     match refusal {
         Refusal::Words => ExitCode::from(REFUSED_COMMAND),
-        Refusal::Memory => ended(rt, Err(RunFault::Memory)),
+        Refusal::Memory => {
+            let _ = eprintln!(rt; "fault: Memory");
+            ExitCode::from(BROKEN)
+        }
     }
 }

@@ -1,12 +1,13 @@
 use Rattle.std.proofs.Common.{◌∙◌, ◌||◌, ap, ap₂, codes}
 use Rattle.std.proofs.lemmas.Result.{IfOk-weaker}
-use Rattle.clap.specs.Words.{new_app, with_rule}
+use Rattle.clap.specs.Words.{with_rule}
+use Rattle.wl_sim.specs.CommandLine.{filed}
 use Rattle.wl_sim.proofs.command.run_command.Goals as goal
 
 pub returns-clause-app : goal.returns-clause-app
 returns-clause-app c =
     IfOk-weaker c.arg.result _ _ (λ sub h. h.shape c.link_option.ensures.local
-    ∙ ap₂ with_rule (c.in_ok-run.ensures.app ∙ ap (with_rule (new_app (codes "run"))) c.workers_option.ensures.rule) c.link_option.ensures.rule) c.arg.ensures
+    ∙ ap₂ with_rule (c.in_ok-run.ensures.app ∙ ap (with_rule (filed (codes "run"))) c.workers_option.ensures.rule) c.link_option.ensures.rule) c.arg.ensures
 
 pub returns-clause-local : goal.returns-clause-local
 returns-clause-local c =

@@ -1,0 +1,117 @@
+# Files for input and output, of .ci/program.sh: what stands at the named place on each outcome.
+plan=$PWD/examples/clean_500k.toml report=$PWD/examples/clean_500k.report
+files=$room/files
+mkdir "$files"
+said() { # said NAME STATUS STDERR WORDS..: runs the program in the folder of the files, on no standard input
+  local name=$1 status=$2 err=$3 ended=0
+  shift 3
+  (cd "$files" && timeout 60 "$program" "$@") > "$room/out" 2> "$room/err" < /dev/null || ended=$?
+  is "$name (status $ended, wanted $status)" [ "$ended" = "$status" ]
+  [ "$err" = - ] || is "$name (standard error: $(head -c 200 "$room/err"))" cmp -s "$room/err" <(printf '%b' "$err")
+}
+holds() { is "$1: $2" cmp -s "$files/$2" "$3"; }                                     # holds NAME FILE WANTED
+clean() { is "$1: nothing new is left" [ -z "$(find "$files" -name '.wireline-*')" ]; } # clean NAME
+
+said 'a file for input' 0 '' run "$plan"
+is 'a file for input (standard output)' cmp -s "$room/out" "$report"
+said 'a file for output' 0 '' run "$plan" -o out
+holds 'a file for output' out "$report"
+is 'a file for output (standard output)' [ ! -s "$room/out" ]
+(cd "$files" && "$program" run -o dash - < "$plan") && holds 'standard input by a dash' dash "$report"
+echo old > "$files/old"
+for words in 'run none' 'run .' "vcd $plan --tick 5parsecs" "run --workers 9 $plan" "run $plan more" 'run /dev/null'; do
+  # shellcheck disable=SC2086
+  said "old output, $words" $(case $words in *none | *.) echo 3 ;; *null) echo 1 ;; *) echo 2 ;; esac) - $words -o old
+  holds "old output, $words" old <(echo old)
+done
+said 'a file that is not there' 3 'fault: Read\nfile: none\n' run none
+said 'with a hint' 3 'fault: Read\nfile: none\nhint: Check that there is such a file, and that it can be read.\n' run --hint none
+said 'a folder to read' 3 'fault: Read\nfile: .\n' check .
+said 'a folder to write' 3 'fault: Write\nfile: .\n' check "$plan" -o .
+said 'a folder that is not there' 3 'fault: Write\nfile: none/out\n' check "$plan" -o none/out
+said 'a full device' 3 'fault: Write\nfile: /dev/full\n' run "$plan" -o /dev/full
+said 'a device' 0 '' run "$plan" -o /dev/null
+is 'a device stays' [ -c /dev/null ]
+ln -s nowhere "$files/dangling" && said 'a link that leads nowhere' 3 'fault: Write\nfile: dangling\n' run "$plan" -o dangling
+is 'a link that leads nowhere stays' [ -L "$files/dangling" ]
+is 'a link that leads nowhere leads nowhere' [ ! -e "$files/nowhere" ]
+# The input as output: by its name, by links, by a descriptor
+cp "$plan" "$files/in" && said 'input as output' 0 '' run in -o in && holds 'input as output' in "$report"
+cp "$plan" "$files/in" && ln -sf in "$files/link" && said 'a link as output' 0 '' run in -o link && holds 'a link as output' in "$report"
+is 'a link stays' [ -L "$files/link" ]
+cp "$plan" "$files/in" && (cd "$files" && "$program" run -o in < in) && holds 'standard input as output' in "$report"
+cp "$plan" "$files/in" && (cd "$files" && "$program" run in -o /dev/stdin < in) && holds 'a descriptor as output' in "$report"
+chmod 640 "$files/in" && cp "$plan" "$files/plan" && said 'rights' 0 '' run plan -o in && is 'the rights stay' [ "$(stat -c %a "$files/in")" = 640 ]
+mkfifo "$files/pipe" && (cat "$files/pipe" > "$files/through" & "$program" run "$plan" -o "$files/pipe"; wait) && holds 'a pipe' through "$report"
+(cat "$plan" > "$files/pipe" & "$program" run "$files/pipe" > "$files/through"; wait) && holds 'a pipe to read' through "$report"
+# Names: a newline, an escape, a leading dash, 255 bytes, no UTF-8
+long=$(printf 'x%.0s' {1..255})
+for name in $'a\nb' $'\e[31mred' ./-x "$long" 'a b'; do
+  said "the name $(printf %q "$name")" 0 '' run "$plan" -o "$name" && holds "the name $(printf %q "$name")" "$name" "$report"
+done
+cp "$plan" "$files/-x" && said 'a name with a dash' 0 '' run -o again -- -x && holds 'a name with a dash' again "$report"
+said 'a name that is shown' 3 'fault: Read\nfile: a\\n\\u001B[31m\n' run $'a\n\e[31m'
+said 'a name that could steer a terminal' 3 'fault: Read\nfile: \\u009B31m\\u202Ex\\u2028\\u2066\n' run $'\u009b31m\u202ex\u2028\u2066'
+said 'a word that could steer a terminal' 2 - run "$plan" $'\e]0;x\a\u009b' && is 'a word that could steer a terminal is shown' grep -qF '\u001B]0;x\u0007\u009B' "$room/err"
+is 'a word that could steer a terminal stays off it' [ -z "$(tr -d '[:print:]\n' < "$room/err")" ]
+said 'a name without a letter' 3 'fault: Read\nfile: \n' run ''
+said 'a name that is no text' 2 - run $'\xff' && is 'a name that is no text is told' grep -q "can't be read" "$room/err"
+# What counts as a line: a newline, and no other separator
+{ printf '# a\u2028b\u0085c\n' && sed 's/^sjw = 3/sjw = 5/' "$plan"; } > "$files/lines"
+said 'a line of a hint' 1 - check --hint lines && is 'a line of a hint' grep -q "^hint: line $(($(grep -n -m1 '^sjw' "$plan" | cut -d: -f1) + 1)), column 1, " "$room/err"
+# Progress: a line a second from the first second on, and none of a run that takes less
+said 'progress of a short run' 0 '' run --progress "$plan"
+(sleep 2.5 && cat "$plan") | "$program" run --progress > "$room/out" 2> "$room/err"
+is 'progress' cmp -s "$room/err" <(printf 'progress: %s s\n' 1 2)
+is 'progress (standard output)' cmp -s "$room/out" "$report"
+# Closed descriptors, each combination: the output is whole and has nothing else in it
+sed 's/^sjw = 3/sjw = 9/' "$plan" > "$files/bad"
+for closed in '<&-' '>&-' '2>&-' '<&- >&-' '<&- 2>&-' '>&- 2>&-' '<&- >&- 2>&-'; do
+  rm -f "$files/out"
+  ended=0
+  eval "timeout 20 '$program' run '$plan' -o '$files/out' $closed" 2> /dev/null || ended=$?
+  is "closed: $closed (status $ended)" [ "$ended" = 0 ]
+  holds "closed: $closed" out "$report"
+  ended=0
+  eval "timeout 20 '$program' run --hint '$files/bad' -o '$files/out' $closed" 2> /dev/null || ended=$?
+  is "closed, refused: $closed (status $ended)" [ "$ended" = 1 ]
+  holds "closed, refused: $closed" out "$report"
+done
+for closed in '<&-' '<&- 2>&-'; do
+  ended=0
+  eval "timeout 20 '$program' run $closed > /dev/null" 2> /dev/null || ended=$?
+  is "no input: $closed (status $ended)" [ "$ended" = 3 ]
+done
+ended=0
+timeout 20 "$program" run "$plan" >&- 2> "$room/err" || ended=$?
+is "no output (status $ended)" [ "$ended" = 3 ] && is 'no output is told' grep -qx 'fault: Write' "$room/err"
+# A disk that fills in the middle, where this user may mount one; and rights, where this user hasn't all
+if mkdir "$files/small" && mount -t tmpfs -o size=64k none "$files/small" 2> /dev/null; then
+  head -c 60000 /dev/zero > "$files/small/out" && cp "$files/small/out" "$room/kept"
+  said 'a disk that fills' 3 'fault: Write\nfile: small/out\n' vcd "$PWD/examples/burst.toml" -o small/out
+  holds 'a disk that fills' small/out "$room/kept"
+  clean 'a disk that fills'
+  umount "$files/small"
+fi
+if [ "$(id -u)" != 0 ]; then
+  chmod 000 "$files/plan" && said 'a file without rights' 3 'fault: Read\nfile: plan\n' run plan
+  chmod 444 "$files/old" && said 'a file that may not be written' 3 'fault: Write\nfile: old\n' run "$plan" -o old && holds 'no rights' old <(echo old)
+fi
+clean 'at the end'
+
+# Each allocation refused in turn: the old file or the whole new one, and never another.
+refused_files() {
+  local calls n
+  echo old > "$files/old"
+  calls=$(cd "$files" && REFUSE=0 LD_PRELOAD="$room/refuse.so" "$program" run "$plan" -o old 2>&1 > /dev/null | sed -n 's/^calls //p')
+  [ "${calls:-0}" -gt 10 ] || { echo "the number of allocations did not come: $calls"; return 1; }
+  for ((n = 1; n <= calls; n++)); do
+    echo old > "$files/old"
+    (cd "$files" && REFUSE=$n LD_PRELOAD="$room/refuse.so" "$program" run --hint "$plan" -o old > /dev/null 2>&1)
+    case $? in
+      0) cmp -s "$files/old" "$report" || return 1 ;;
+      *) cmp -s "$files/old" <(echo old) || return 1 ;;
+    esac
+    [ -z "$(find "$files" -name '.wireline-*')" ] || return 1
+  done
+}

@@ -1,0 +1,36 @@
+use Rattle.std.proofs.Common.{◌≡◌, ◌∙◌, ap, sym, subst, map, codes, string_bytes, List, Option, Some, None}
+use Rattle.clap.specs.Words.{App, Text, fault_of, is_simple, is_simple_and_free, subcommand_of}
+use Rattle.clap.proofs.TakesLemmas.{passed_up}
+use Rattle.wl_sim.specs.CommandLine.{FoundTask, file_in, has_flag}
+use Rattle.wl_sim.specs.declared.command.Task.{Task}
+use Rattle.wl_sim.proofs.Words.{memory_alone, program_is_free, program_is_simple}
+use Rattle.wl_sim.proofs.command.order_of.Goals as goal
+
+pub returns-in-Some-clause-order : goal.returns-in-Some-clause-order
+returns-in-Some-clause-order c =
+    let words : List Text = map string_bytes c.args.words.now in
+    let is = c.in_ok-command.ensures in
+    let rows = (c.in_ok-matches.ensures.matches (ap is_simple is ∙ program_is_simple)).1 ∙ ap (λ (a : App). subcommand_of a words) is in
+    let clean = ap (λ (a : App). fault_of a words) (sym is) ∙ c.in_ok-matches.ensures.kinds (ap is_simple_and_free is ∙ program_is_free) in
+    let found = (c.task_in.ensures c.in-Some.task).0 c.in-Some.is in (
+      (subst (λ o. FoundTask o c.in-Some.task) rows found, clean),
+      c.in_ok-input.ensures ∙ ap (file_in (codes "input")) rows,
+      c.in_ok-output.ensures ∙ ap (file_in (codes "output")) rows,
+      c.flag_of_subcommand-hint.ensures ∙ ap (has_flag (codes "hint")) rows,
+      c.flag_of_subcommand-progress.ensures ∙ ap (has_flag (codes "progress")) rows,
+    )
+
+none_is_some : {A : Type 0} (o : Option A) (x : A) → o ≡ None → o ≡ Some x → ⊥
+none_is_some o x none some = let no : None ≡ Some x = sym none ∙ some in cc
+
+pub returns-clause-order : goal.returns-clause-order
+returns-clause-order c =
+    let words : List Text = map string_bytes c.args.words.now in
+    let is = c.in_ok-command.ensures in
+    let rows = (c.in_ok-matches.ensures.matches (ap is_simple is ∙ program_is_simple)).1 ∙ ap (λ (a : App). subcommand_of a words) is in
+    λ task enters. none_is_some c.task_in.result task c.in-None.is ((c.task_in.ensures task).1 (subst (λ o. FoundTask o task) (sym rows) enters.0))
+
+pub returns-in_err-matches-clause-memory : goal.returns-in_err-matches-clause-memory
+returns-in_err-matches-clause-memory c =
+    passed_up c.from_residual-in_err-matches.result c.in_err-matches.field-0.0 _ c.from_residual-in_err-matches.ensures.1
+    (memory_alone _ (map string_bytes c.args.words.now) c.in_err-matches.field-0.0 c.in_ok-command.ensures c.in_err-matches.ensures.kinds)

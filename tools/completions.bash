@@ -1,0 +1,18 @@
+# Completions of ./wireline for bash: source <(./wireline completions bash)
+_wireline() {
+  local word=${COMP_WORDS[COMP_CWORD]} before=${COMP_WORDS[COMP_CWORD - 1]} options='--hint --progress -o --help'
+  case $before in
+    --workers) mapfile -t COMPREPLY < <(compgen -W '1 2 3 4 5 6 7 8' -- "$word") && return ;;
+    --link) mapfile -t COMPREPLY < <(compgen -W 'hub mail' -- "$word") && return ;;
+    completions) mapfile -t COMPREPLY < <(compgen -W 'bash zsh fish' -- "$word") && return ;;
+  esac
+  case ${COMP_WORDS[1]} in
+    run) options+=' --workers --link' ;;
+    candump | vcd) options+=' --tick' ;;
+  esac
+  if [ "$COMP_CWORD" = 1 ]; then
+    mapfile -t COMPREPLY < <(compgen -W 'run check explain trace candump vcd records merge horizon sweep build completions help' -- "$word")
+  elif [[ $word = -* ]]; then mapfile -t COMPREPLY < <(compgen -W "$options" -- "$word")
+  else mapfile -t COMPREPLY < <(compgen -f -- "$word"); fi
+}
+complete -o filenames -F _wireline wireline ./wireline
