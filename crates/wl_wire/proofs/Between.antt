@@ -14,15 +14,15 @@ use Rattle.wl_machine.specs.Judged.{judged, stretch_after, drive_of, drive_by, h
 use Rattle.wl_machine.specs.Laws.{FoundSent}
 use Rattle.wl_machine.specs.States.{sample_of, stretch_by}
 use Rattle.wl_machine.proofs.Callers.{role_first}
-use Rattle.wl_wire.specs.Wire.{Wire, Handed, Bit, Own, stretch_at, bus, sampled, is_between, is_between_by, may_be_alone, happens}
-use Rattle.wl_wire.specs.InStep.{IsSound, AreBetween, AreInIntermission, AreInFrame, AreInStep, Sends, is_fine}
+use Rattle.wl_wire.specs.Wire.{Wire, Handed, Bit, Own, stretch_at, bus, sampled, is_between, is_between_by, may_be_alone, next_wire}
+use Rattle.wl_wire.specs.InStep.{AreSoundFrames, AreBetween, AreInIntermission, AreInFrame, AreInStep, IsSender, is_fine}
 use Rattle.wl_wire.specs.Outcome.{IsFree}
 use Rattle.wl_wire.proofs.Bus.{Drives, level_cases, bus_dominant, bus_recessive, bus_silent}
 use Rattle.wl_wire.proofs.Events.{OwnHeads, sample_at, at_bit, alone, none_alone}
 use Rattle.wl_wire.proofs.Quiet.{StaysQuiet, Begins, GoesOn, read_back, stays_quiet, begins_frame, goes_on}
 
 -- what a machine is to send is a frame
-heads_content : (w : Wire) → IsSound w.count w.frames → OwnHeads w → (k : ℕ) → k < w.count → (c : Content) → (stretch_at w k).sort ≡ Framing (Some c) → IsContent c
+heads_content : (w : Wire) → AreSoundFrames w.count w.frames → OwnHeads w → (k : ℕ) → k < w.count → (c : Content) → (stretch_at w k).sort ≡ Framing (Some c) → IsContent c
 heads_content w sound heads k lt c e = sound.content k c lt (heads k c (ap head_of e))
 
 -- who drives between frames is to send
@@ -42,7 +42,7 @@ due_by (Waiting flag role flagged) own h d = cc
 due_by (Delimiting role) own h d = cc
 due_by OffBus own h d = cc
 
-module _ (w : Wire) (sound : IsSound w.count w.frames) (heads : OwnHeads w) (b : AreBetween w) where
+module _ (w : Wire) (sound : AreSoundFrames w.count w.frames) (heads : OwnHeads w) (b : AreBetween w) where
   pub begun : (handed : ℕ → Handed) (k : ℕ) → k < w.count → bus w ≡ Dominant → Begins (stretch_at w k) (sample_at w handed k)
   begun handed k lt d =
       subst (λ l. Begins (stretch_at w k) (sample_of l (slice_get (w.frames k) (handed k).which) (handed k).mode)) (sym d)
@@ -72,18 +72,18 @@ module _ (w : Wire) (sound : IsSound w.count w.frames) (heads : OwnHeads w) (b :
       → is_fine (judged (stretch_at w k) (sampled Recessive (w.frames k) handed)).happened ≡ true
   alone_between_fine handed k lt may = (alone_quiet handed k lt may).fine
 
-  pub between_alone : (machine : ℕ) (handed : Handed) → AreBetween (happens w (Own machine handed))
+  pub between_alone : (machine : ℕ) (handed : Handed) → AreBetween (next_wire w (Own machine handed))
   between_alone machine handed k lt = elim (alone w machine handed k) [
     | inl e ↦ ap is_between e ∙ b k lt
     | inr a ↦ ap is_between a.next ∙ (alone_quiet handed k lt a.may).between
   ]
 
-  pub still_between : (handed : ℕ → Handed) → bus w ≡ Recessive → AreBetween (happens w (Bit handed))
+  pub still_between : (handed : ℕ → Handed) → bus w ≡ Recessive → AreBetween (next_wire w (Bit handed))
   still_between handed r k lt = ap is_between (at_bit w handed k) ∙ (quiet handed k lt r).between
 
   -- a frame begins
   framed : (handed : ℕ → Handed) (d : bus w ≡ Dominant) (k : ℕ) (lt : k < w.count)
-      → stretch_at (happens w (Bit handed)) k ≡ stretch_by (Framing (begun handed k lt d).head) (Dominant ∷ [])
+      → stretch_at (next_wire w (Bit handed)) k ≡ stretch_by (Framing (begun handed k lt d).head) (Dominant ∷ [])
   framed handed d k lt = at_bit w handed k ∙ (begun handed k lt d).next
 
   first_found : (c : Content) → IsContent c → FoundSent c (Dominant ∷ []) 1
@@ -94,13 +94,13 @@ module _ (w : Wire) (sound : IsSound w.count w.frames) (heads : OwnHeads w) (b :
   no_end = refl
 
   first_sends : (handed : ℕ → Handed) (dominant : bus w ≡ Dominant) (machine : ℕ) (lt : machine < w.count) (c : Content)
-      → (stretch_at w machine).sort ≡ Framing (Some c) → Sends (happens w (Bit handed)) (Dominant ∷ []) machine c
+      → (stretch_at w machine).sort ≡ Framing (Some c) → IsSender (next_wire w (Bit handed)) (Dominant ∷ []) machine c
   first_sends handed dominant machine lt c due = record {
     framing = framed handed dominant machine lt ∙ ap (λ o. stretch_by (Framing o) (Dominant ∷ [])) ((begun handed machine lt dominant).own_head c due);
     role = role_first c Dominant;
   }
 
-  pub frame_begins : (handed : ℕ → Handed) → OwnHeads (happens w (Bit handed)) → bus w ≡ Dominant → AreInFrame (happens w (Bit handed)) (Dominant ∷ [])
+  pub frame_begins : (handed : ℕ → Handed) → OwnHeads (next_wire w (Bit handed)) → bus w ≡ Dominant → AreInFrame (next_wire w (Bit handed)) (Dominant ∷ [])
   frame_begins handed new_heads dominant =
       let d : Drives w = bus_dominant w dominant in
       let due : (head : Content) × ((stretch_at w d.machine).sort ≡ Framing (Some head)) = due_by (stretch_at w d.machine).sort (stretch_at w d.machine).own (b d.machine d.inside) d.dominant in
@@ -115,7 +115,7 @@ module _ (w : Wire) (sound : IsSound w.count w.frames) (heads : OwnHeads w) (b :
       none_there : (end : ℕ) → None ≡ Some end → ⊥
       none_there end e = cc
 
-  pub between_bit : (handed : ℕ → Handed) → OwnHeads (happens w (Bit handed)) → AreInStep (happens w (Bit handed))
+  pub between_bit : (handed : ℕ → Handed) → OwnHeads (next_wire w (Bit handed)) → AreInStep (next_wire w (Bit handed))
   between_bit handed new_heads = elim (level_cases (bus w)) [
     | inl d ↦ inr (inr (Dominant ∷ [], frame_begins handed new_heads d))
     | inr r ↦ inl (still_between handed r)
@@ -149,16 +149,16 @@ module _ (w : Wire) (own : List Level) (f : AreInIntermission w own) where
       not_so true t f = cc
       not_so false t f = cc
 
-  pub intermission_alone : (machine : ℕ) (handed : Handed) → AreInIntermission (happens w (Own machine handed)) own
+  pub intermission_alone : (machine : ℕ) (handed : Handed) → AreInIntermission (next_wire w (Own machine handed)) own
   intermission_alone machine handed = record {
     each = λ k lt. ((f.each k lt).0, none_alone w machine handed k (not_alone k lt) ∙ (f.each k lt).1);
     short = f.short;
   }
 
-  pub longer : (handed : ℕ → Handed) (k : ℕ) (lt : k < w.count) → stretch_at (happens w (Bit handed)) k ≡ stretch_by (Intermission (f.each k lt).0) (own ++ Recessive ∷ [])
+  pub longer : (handed : ℕ → Handed) (k : ℕ) (lt : k < w.count) → stretch_at (next_wire w (Bit handed)) k ≡ stretch_by (Intermission (f.each k lt).0) (own ++ Recessive ∷ [])
   longer handed k lt = at_bit w handed k ∙ ap (λ s. stretch_after s (Sample (sample_at w handed k))) (f.each k lt).1 ∙ (on handed k lt).next
 
-  pub intermission_free : (handed : ℕ → Handed) → IsFree (happens w (Bit handed))
+  pub intermission_free : (handed : ℕ → Handed) → IsFree (next_wire w (Bit handed))
   intermission_free handed = elim (cases_eq (length own) 1) [
     | inl one ↦ inl (λ k lt. ap is_between (longer handed k lt) ∙ eq-eqb (length (own ++ Recessive ∷ [])) 2 (length-append own (Recessive ∷ []) ∙ ap (λ n. n + 1) one))
     | inr apart ↦ inr (
@@ -170,9 +170,9 @@ module _ (w : Wire) (own : List Level) (f : AreInIntermission w own) where
     )
   ]
 
-  pub intermission_bit : (handed : ℕ → Handed) → AreInStep (happens w (Bit handed))
+  pub intermission_bit : (handed : ℕ → Handed) → AreInStep (next_wire w (Bit handed))
   intermission_bit handed = in_step_by (intermission_free handed)
     where
-      in_step_by : IsFree (happens w (Bit handed)) → AreInStep (happens w (Bit handed))
+      in_step_by : IsFree (next_wire w (Bit handed)) → AreInStep (next_wire w (Bit handed))
       in_step_by (inl b) = inl b
       in_step_by (inr i) = inr (inl i)

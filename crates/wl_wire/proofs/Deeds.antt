@@ -17,10 +17,10 @@ use Rattle.wl_machine.specs.Stretch.Input.{Sample, SwitchedOff}
 use Rattle.wl_machine.specs.Stretch.Ended.{NoFrame, Sent, Received}
 use Rattle.wl_machine.specs.Judged.{judged, stretch_of, stretch_after}
 use Rattle.wl_machine.specs.States.{stretch_by}
-use Rattle.wl_wire.specs.Wire.{Wire, Event, Bit, Own, stretch_at, bus, sampled, may_be_alone, added, happens, wire_after, idle_wire}
-use Rattle.wl_wire.specs.InStep.{IsSound, FindsNoError, is_fine}
+use Rattle.wl_wire.specs.Wire.{Wire, Event, Bit, Own, stretch_at, bus, sampled, may_be_alone, added, next_wire, wire_after, idle_wire}
+use Rattle.wl_wire.specs.InStep.{AreSoundFrames, FindsNoError, is_fine}
 use Rattle.wl_wire.proofs.Quiet.{is_nothing, is_no_frame, is_plain}
-use Rattle.wl_wire.specs.Outcome.{judgements, stretches, judgements_of, counts_after_all, completed, frames_of, is_acked, acknowledged_by, is_start, begun_by}
+use Rattle.wl_wire.specs.Outcome.{judgements, stretches, judgements_of, counts_after_all, completed, frames_of, is_acked, acknowledged_by, is_start_of_frame, begun_by}
 
 judgements_more : (s : Stretch) (past : List Input) (x : Sampled) → judgements s (past ++ Sample x ∷ []) ≡ judgements s past ++ judged (fold stretch_after s past) x ∷ []
 judgements_more s [] x = refl
@@ -48,11 +48,11 @@ acknowledged_more past x =
     ∙ sum_by-append (λ j. cond (is_acked j.happened) 1 0) (judgements_of past) (judged (stretch_of past) x ∷ [])
     ∙ ap (λ n. acknowledged_by past + n) (none_more (cond (is_acked (judged (stretch_of past) x).happened) 1 0))
 
-pub begun_more : (past : List Input) (x : Sampled) → begun_by (past ++ Sample x ∷ []) ≡ begun_by past + cond (is_start (stretch_after (stretch_of past) (Sample x))) 1 0
+pub begun_more : (past : List Input) (x : Sampled) → begun_by (past ++ Sample x ∷ []) ≡ begun_by past + cond (is_start_of_frame (stretch_after (stretch_of past) (Sample x))) 1 0
 begun_more past x =
-    ap (λ ss. count_by is_start ss) (stretches_more (stretch_by Integration []) past x)
-    ∙ sum_by-append (λ s. cond (is_start s) 1 0) (stretches (stretch_by Integration []) past) (stretch_after (stretch_of past) (Sample x) ∷ [])
-    ∙ ap (λ n. begun_by past + n) (none_more (cond (is_start (stretch_after (stretch_of past) (Sample x))) 1 0))
+    ap (λ ss. count_by is_start_of_frame ss) (stretches_more (stretch_by Integration []) past x)
+    ∙ sum_by-append (λ s. cond (is_start_of_frame s) 1 0) (stretches (stretch_by Integration []) past) (stretch_after (stretch_of past) (Sample x) ∷ [])
+    ∙ ap (λ n. begun_by past + n) (none_more (cond (is_start_of_frame (stretch_after (stretch_of past) (Sample x))) 1 0))
 
 counts_more : (past : List Input) (x : Sampled) → counts_after_all (past ++ Sample x ∷ []) ≡ counts_after (counts_after_all past) (judged (stretch_of past) x).happened
 counts_more past x =
@@ -85,7 +85,7 @@ added_cases w (Own machine handed) k = by ((k == machine) && may_be_alone (stret
     by true = inr (sampled Recessive (w.frames k) handed, refl)
     by false = inl refl
 
-counts_next : (w : Wire) (event : Event) (k : ℕ) → FindsNoError w → k < w.count → counts_after_all (w.past k) ≡ no_counts → counts_after_all ((happens w event).past k) ≡ no_counts
+counts_next : (w : Wire) (event : Event) (k : ℕ) → FindsNoError w → k < w.count → counts_after_all (w.past k) ≡ no_counts → counts_after_all ((next_wire w event).past k) ≡ no_counts
 counts_next w event k fine lt zeros = elim (added_cases w event k) [
   | inl e ↦ ap (λ inputs. counts_after_all (w.past k ++ inputs)) e ∙ ap counts_after_all (append-nil (w.past k)) ∙ zeros
   | inr more ↦
@@ -96,14 +96,14 @@ counts_next w event k fine lt zeros = elim (added_cases w event k) [
 
 -- over all events, from the last one back
 module _ (count : ℕ) (frames : ℕ → List Content) (fine : (events : List Event) → FindsNoError (wire_after (idle_wire count frames) events)) where
-  wire_more : (w : Wire) (front : List Event) (event : Event) → wire_after w (front ++ event ∷ []) ≡ happens (wire_after w front) event
-  wire_more w front event = fold-append happens w front (event ∷ [])
+  wire_more : (w : Wire) (front : List Event) (event : Event) → wire_after w (front ++ event ∷ []) ≡ next_wire (wire_after w front) event
+  wire_more w front event = fold-append next_wire w front (event ∷ [])
 
   counts_along : (front rest : List Event) (k : ℕ) → k < (wire_after (idle_wire count frames) front).count → counts_after_all ((wire_after (idle_wire count frames) front).past k) ≡ no_counts
       → counts_after_all ((wire_after (wire_after (idle_wire count frames) front) rest).past k) ≡ no_counts
   counts_along front [] k lt zeros = zeros
   counts_along front (event ∷ rest) k lt zeros =
-      let next : wire_after (idle_wire count frames) (front ++ event ∷ []) ≡ happens (wire_after (idle_wire count frames) front) event = wire_more (idle_wire count frames) front event in
+      let next : wire_after (idle_wire count frames) (front ++ event ∷ []) ≡ next_wire (wire_after (idle_wire count frames) front) event = wire_more (idle_wire count frames) front event in
       subst (λ w. counts_after_all ((wire_after w rest).past k) ≡ no_counts) next
       (counts_along (front ++ event ∷ []) rest k (subst (λ w. k < w.count) (sym next) lt)
       (subst (λ w. counts_after_all (w.past k) ≡ no_counts) (sym next) (counts_next (wire_after (idle_wire count frames) front) event k (fine front) lt zeros)))
@@ -114,8 +114,8 @@ module _ (count : ℕ) (frames : ℕ → List Content) (fine : (events : List Ev
   all_zero : (events : List Event) (k : ℕ) → k < count → counts_after_all ((wire_after (idle_wire count frames) events).past k) ≡ no_counts
   all_zero events k lt = counts_along [] events k lt (zeros_at_first k)
 
-pub counts_stay : ((count : ℕ) (frames : ℕ → List Content) (events : List Event) → IsSound count frames → FindsNoError (wire_after (idle_wire count frames) events))
-    → (count : ℕ) (frames : ℕ → List Content) (events : List Event) → IsSound count frames → (k : ℕ) → k < count
+pub counts_stay : ((count : ℕ) (frames : ℕ → List Content) (events : List Event) → AreSoundFrames count frames → FindsNoError (wire_after (idle_wire count frames) events))
+    → (count : ℕ) (frames : ℕ → List Content) (events : List Event) → AreSoundFrames count frames → (k : ℕ) → k < count
     → counts_after_all ((wire_after (idle_wire count frames) events).past k) ≡ no_counts
 counts_stay fine count frames events sound k lt = all_zero count frames (λ front. fine count frames front sound) events k lt
 
@@ -159,8 +159,8 @@ plain_acknowledged past x p =
     (plain_acked (judged (stretch_of past) x).happened (and_parts (is_nothing (judged (stretch_of past) x).happened) (is_no_frame (judged (stretch_of past) x).ended) p).0)
     ∙ omega arith
 
-pub begun_same : (past : List Input) (x : Sampled) → is_start (stretch_after (stretch_of past) (Sample x)) ≡ false → begun_by (past ++ Sample x ∷ []) ≡ begun_by past
+pub begun_same : (past : List Input) (x : Sampled) → is_start_of_frame (stretch_after (stretch_of past) (Sample x)) ≡ false → begun_by (past ++ Sample x ∷ []) ≡ begun_by past
 begun_same past x h = begun_more past x ∙ ap (λ b. begun_by past + cond b 1 0) h ∙ omega arith
 
-pub begun_now : (past : List Input) (x : Sampled) → is_start (stretch_after (stretch_of past) (Sample x)) ≡ true → begun_by (past ++ Sample x ∷ []) ≡ suc (begun_by past)
+pub begun_now : (past : List Input) (x : Sampled) → is_start_of_frame (stretch_after (stretch_of past) (Sample x)) ≡ true → begun_by (past ++ Sample x ∷ []) ≡ suc (begun_by past)
 begun_now past x h = begun_more past x ∙ ap (λ b. begun_by past + cond b 1 0) h ∙ omega arith

@@ -10,7 +10,7 @@ use Rattle.wl_machine.specs.Judged.{judged, or_next, stretch_of, stretch_after, 
 use Rattle.wl_machine.specs.Laws.{HeadLaws}
 use Rattle.wl_machine.specs.States.{stretch_by}
 use Rattle.wl_machine.proofs.Callers.{stretch_next}
-use Rattle.wl_wire.specs.Wire.{Wire, Handed, Bit, Own, stretch_at, bus, sampled, may_be_alone, added, happens, wire_after, Event}
+use Rattle.wl_wire.specs.Wire.{Wire, Handed, Bit, Own, stretch_at, bus, sampled, may_be_alone, added, next_wire, wire_after, Event}
 use Rattle.wl_wire.specs.InStep.{Has, is_fine, FindsNoError}
 
 -- each frame that is sent is one of the machine's own
@@ -21,16 +21,16 @@ OwnHeads w = (k : ℕ) (c : Content) → head_of (stretch_at w k).sort ≡ Some 
 abbrev pub sample_at : Wire → (ℕ → Handed) → ℕ → Sampled
 sample_at w handed k = sampled (bus w) (w.frames k) (handed k)
 
-pub at_bit : (w : Wire) (handed : ℕ → Handed) (k : ℕ) → stretch_at (happens w (Bit handed)) k ≡ stretch_after (stretch_at w k) (Sample (sample_at w handed k))
+pub at_bit : (w : Wire) (handed : ℕ → Handed) (k : ℕ) → stretch_at (next_wire w (Bit handed)) k ≡ stretch_after (stretch_at w k) (Sample (sample_at w handed k))
 at_bit w handed k = stretch_next (w.past k) (Sample (sample_at w handed k))
 
 -- a bit by itself: nothing comes of it, or the machine may have one
 pub record IsAlone (w : Wire) (machine : ℕ) (handed : Handed) (k : ℕ) : Type 0 where
   pub may : may_be_alone (stretch_at w k) ≡ true
-  pub next : stretch_at (happens w (Own machine handed)) k ≡ stretch_after (stretch_at w k) (Sample (sampled Recessive (w.frames k) handed))
+  pub next : stretch_at (next_wire w (Own machine handed)) k ≡ stretch_after (stretch_at w k) (Sample (sampled Recessive (w.frames k) handed))
 
 alone_by : (w : Wire) (machine : ℕ) (handed : Handed) (k : ℕ) (b : Bool) → ((k == machine) && may_be_alone (stretch_at w k)) ≡ b
-    → (stretch_at (happens w (Own machine handed)) k ≡ stretch_at w k) ⊎ IsAlone w machine handed k
+    → (stretch_at (next_wire w (Own machine handed)) k ≡ stretch_at w k) ⊎ IsAlone w machine handed k
 alone_by w machine handed k true e =
     inr (record {
       may = (and_parts (k == machine) (may_be_alone (stretch_at w k)) e).1;
@@ -41,11 +41,11 @@ alone_by w machine handed k true e =
 alone_by w machine handed k false e =
     inl (ap (λ b. stretch_of (w.past k ++ cond b (Sample (sampled Recessive (w.frames k) handed) ∷ []) [])) e ∙ ap stretch_of (append-nil (w.past k)))
 
-pub alone : (w : Wire) (machine : ℕ) (handed : Handed) (k : ℕ) → (stretch_at (happens w (Own machine handed)) k ≡ stretch_at w k) ⊎ IsAlone w machine handed k
+pub alone : (w : Wire) (machine : ℕ) (handed : Handed) (k : ℕ) → (stretch_at (next_wire w (Own machine handed)) k ≡ stretch_at w k) ⊎ IsAlone w machine handed k
 alone w machine handed k = alone_by w machine handed k ((k == machine) && may_be_alone (stretch_at w k)) refl
 
 -- where no machine may have a bit by itself, nothing comes of it
-pub none_alone : (w : Wire) (machine : ℕ) (handed : Handed) (k : ℕ) → may_be_alone (stretch_at w k) ≡ false → stretch_at (happens w (Own machine handed)) k ≡ stretch_at w k
+pub none_alone : (w : Wire) (machine : ℕ) (handed : Handed) (k : ℕ) → may_be_alone (stretch_at w k) ≡ false → stretch_at (next_wire w (Own machine handed)) k ≡ stretch_at w k
 none_alone w machine handed k h = elim (alone w machine handed k) [
   | inl e ↦ e
   | inr a ↦ absurd (not_so (may_be_alone (stretch_at w k)) a.may h)
@@ -74,11 +74,11 @@ own_sent : (w : Wire) (laws : HeadLaws) (k : ℕ) (x : Sampled) (which : ℕ) �
     → (c : Content) → head_of (stretch_after (stretch_at w k) (Sample x)).sort ≡ Some c → Has w.frames k c
 own_sent w laws k x which given heads c h = sent_by (w.frames k) laws (stretch_at w k) c x which given (λ d. heads k d) (judged (stretch_at w k) x).next refl h
 
-pub heads_at_bit : (w : Wire) (handed : ℕ → Handed) → HeadLaws → OwnHeads w → OwnHeads (happens w (Bit handed))
+pub heads_at_bit : (w : Wire) (handed : ℕ → Handed) → HeadLaws → OwnHeads w → OwnHeads (next_wire w (Bit handed))
 heads_at_bit w handed laws heads k c h =
     own_sent w laws k (sample_at w handed k) (handed k).which refl heads c (ap (λ s. head_of s.sort) (sym (at_bit w handed k)) ∙ h)
 
-pub heads_alone : (w : Wire) (machine : ℕ) (handed : Handed) → HeadLaws → OwnHeads w → OwnHeads (happens w (Own machine handed))
+pub heads_alone : (w : Wire) (machine : ℕ) (handed : Handed) → HeadLaws → OwnHeads w → OwnHeads (next_wire w (Own machine handed))
 heads_alone w machine handed laws heads k c h = elim (alone w machine handed k) [
   | inl e ↦ heads k c (ap (λ s. head_of s.sort) (sym e) ∙ h)
   | inr a ↦ own_sent w laws k (sampled Recessive (w.frames k) handed) handed.which refl heads c (ap (λ s. head_of s.sort) (sym a.next) ∙ h)
@@ -114,4 +114,4 @@ finds_none w bits alones (Own machine handed) k x lt h =
 -- a wire keeps its machines
 pub count_after : (w : Wire) (events : List Event) → (wire_after w events).count ≡ w.count
 count_after w [] = refl
-count_after w (event ∷ events) = count_after (happens w event) events
+count_after w (event ∷ events) = count_after (next_wire w event) events

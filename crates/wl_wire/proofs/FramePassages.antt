@@ -20,9 +20,9 @@ use Rattle.wl_machine.specs.Frames.{stuffed_end, frame_role}
 use Rattle.wl_machine.specs.Judged.{judged, stretch_after, head_of, role_of}
 use Rattle.wl_machine.specs.States.{stretch_by}
 use Rattle.wl_machine.proofs.Callers.{ends_at, role_receives, tail_sends}
-use Rattle.wl_wire.specs.Wire.{Wire, Handed, Bit, stretch_at, bus, happens}
-use Rattle.wl_wire.specs.InStep.{Has, IsSound, AreInFrame, Sends}
-use Rattle.wl_wire.specs.Outcome.{frames_of, acknowledged_by, is_start, Passage, seen_by, is_received_by, HaveGot}
+use Rattle.wl_wire.specs.Wire.{Wire, Handed, Bit, stretch_at, bus, next_wire}
+use Rattle.wl_wire.specs.InStep.{Has, AreSoundFrames, AreInFrame, IsSender}
+use Rattle.wl_wire.specs.Outcome.{frames_of, acknowledged_by, is_start_of_frame, Passage, seen_by, is_received_by, HaveGot}
 use Rattle.wl_wire.proofs.Deeds.{none_more, frames_more, acknowledged_more, plain_frames, plain_acknowledged, begun_same}
 use Rattle.wl_wire.proofs.Events.{OwnHeads, sample_at, at_bit}
 use Rattle.wl_wire.proofs.Passages.{Progress, HaveGotIn, extra_acks, extra_frames}
@@ -43,20 +43,20 @@ no_acks_yet true Tx n = refl
 no_acks_yet true Rx n = ap (λ b. cond b 1 0) (lt-leb (n + 2) n (omega arith))
 no_acks_yet false role n = refl
 
-not_started : (head : Option Content) (own : List Level) (l : Level) → 0 < length own → is_start (stretch_by (Framing head) (own ++ l ∷ [])) ≡ false
+not_started : (head : Option Content) (own : List Level) (l : Level) → 0 < length own → is_start_of_frame (stretch_by (Framing head) (own ++ l ∷ [])) ≡ false
 not_started head own l some = let e : length (own ++ l ∷ []) ≡ length own + 1 = length_more own l in ne_eqb (length (own ++ l ∷ [])) 1 (λ one. omega (arith, one, e, some))
 
 -- in the stuffed part
-module _ (decides : ArbitrationDecides) (w : Wire) (own : List Level) (sound : IsSound w.count w.frames) (heads : OwnHeads w) (f : AreInFrame w own)
+module _ (decides : ArbitrationDecides) (w : Wire) (own : List Level) (sound : AreSoundFrames w.count w.frames) (heads : OwnHeads w) (f : AreInFrame w own)
     (none : stuffed_end own ≡ None) (passages : List Passage) (got : HaveGotIn w own passages) (handed : ℕ → Handed) where
   plain_there : (k : ℕ) → k < w.count → is_plain (judged (stretch_at w k) (sample_at w handed k)) ≡ true
   plain_there k lt = ap is_plain (stuffed_on decides w own sound heads f none (slice_get (w.frames k) (handed k).which) (handed k).mode k lt)
 
-  no_start_there : (k : ℕ) → k < w.count → is_start (stretch_after (stretch_at w k) (Sample (sample_at w handed k))) ≡ false
+  no_start_there : (k : ℕ) → k < w.count → is_start_of_frame (stretch_after (stretch_at w k) (Sample (sample_at w handed k))) ≡ false
   no_start_there k lt =
-      ap is_start (sym (at_bit w handed k) ∙ stuffing.next_stretch decides w own sound heads f none handed k lt) ∙ not_started (f.each k lt).0 own (bus w) f.begun
+      ap is_start_of_frame (sym (at_bit w handed k) ∙ stuffing.next_stretch decides w own sound heads f none handed k lt) ∙ not_started (f.each k lt).0 own (bus w) f.begun
 
-  pub got_stuffed : HaveGotIn (happens w (Bit handed)) (own ++ bus w ∷ []) passages
+  pub got_stuffed : HaveGotIn (next_wire w (Bit handed)) (own ++ bus w ∷ []) passages
   got_stuffed = record {
     senders = got.senders;
     begun = λ k lt. begun_same (w.past k) (sample_at w handed k) (no_start_there k lt) ∙ got.begun k lt;
@@ -64,14 +64,14 @@ module _ (decides : ArbitrationDecides) (w : Wire) (own : List Level) (sound : I
         plain_frames (w.past k) (sample_at w handed k) (plain_there k lt) ∙ got.frames k lt
         ∙ ap (λ o. map (seen_by k) passages ++ extra_frames o (role_of (stretch_at w k)) own) none
         ∙ ap (λ es. map (seen_by k) passages ++ es)
-        (sym (ap (λ o. extra_frames o (role_of (stretch_at (happens w (Bit handed)) k)) (own ++ bus w ∷ [])) (stuffing.end_next decides w own sound heads f none handed)
-        ∙ no_frames_yet (ends_at (own ++ bus w ∷ []) (length (own ++ bus w ∷ []))) (role_of (stretch_at (happens w (Bit handed)) k)) (own ++ bus w ∷ [])));
+        (sym (ap (λ o. extra_frames o (role_of (stretch_at (next_wire w (Bit handed)) k)) (own ++ bus w ∷ [])) (stuffing.end_next decides w own sound heads f none handed)
+        ∙ no_frames_yet (ends_at (own ++ bus w ∷ []) (length (own ++ bus w ∷ []))) (role_of (stretch_at (next_wire w (Bit handed)) k)) (own ++ bus w ∷ [])));
     acknowledged = λ k lt.
         plain_acknowledged (w.past k) (sample_at w handed k) (plain_there k lt) ∙ got.acknowledged k lt
         ∙ ap (λ o. count_by (is_received_by k) passages + extra_acks o (role_of (stretch_at w k)) (length own)) none
         ∙ ap (λ n. count_by (is_received_by k) passages + n)
-        (sym (ap (λ o. extra_acks o (role_of (stretch_at (happens w (Bit handed)) k)) (length (own ++ bus w ∷ []))) (stuffing.end_next decides w own sound heads f none handed)
-        ∙ no_acks_yet (ends_at (own ++ bus w ∷ []) (length (own ++ bus w ∷ []))) (role_of (stretch_at (happens w (Bit handed)) k)) (length (own ++ bus w ∷ []))));
+        (sym (ap (λ o. extra_acks o (role_of (stretch_at (next_wire w (Bit handed)) k)) (length (own ++ bus w ∷ []))) (stuffing.end_next decides w own sound heads f none handed)
+        ∙ no_acks_yet (ends_at (own ++ bus w ∷ []) (length (own ++ bus w ∷ []))) (role_of (stretch_at (next_wire w (Bit handed)) k)) (length (own ++ bus w ∷ []))));
   }
 
 -- one more of the ten bits
@@ -109,13 +109,13 @@ more_frames end own l Rx le small =
     ]
 
 -- in the ten bits after it
-module _ (w : Wire) (own : List Level) (sound : IsSound w.count w.frames) (heads : OwnHeads w) (f : AreInFrame w own)
+module _ (w : Wire) (own : List Level) (sound : AreSoundFrames w.count w.frames) (heads : OwnHeads w) (f : AreInFrame w own)
     (end : ℕ) (over : stuffed_end own ≡ Some end) (passages : List Passage) (got : HaveGotIn w own passages) (handed : ℕ → Handed) where
   abbrev place : ℕ
   place = length own - end
 
   abbrev new : Wire
-  new = happens w (Bit handed)
+  new = next_wire w (Bit handed)
 
   abbrev grown : List Level
   grown = own ++ bus w ∷ []
@@ -130,9 +130,9 @@ module _ (w : Wire) (own : List Level) (sound : IsSound w.count w.frames) (heads
   old_acks k lt = got.acknowledged k lt ∙ ap (λ o. count_by (is_received_by k) passages + extra_acks o (role_of (stretch_at w k)) (length own)) over
 
   module _ (apart : place ≢ 9) where
-    no_start_here : (k : ℕ) → k < w.count → is_start (stretch_after (stretch_at w k) (Sample (sample_at w handed k))) ≡ false
+    no_start_here : (k : ℕ) → k < w.count → is_start_of_frame (stretch_after (stretch_at w k) (Sample (sample_at w handed k))) ≡ false
     no_start_here k lt =
-        ap is_start (sym (at_bit w handed k) ∙ tail.next_stretch w own sound heads f end over handed apart k lt) ∙ not_started (f.each k lt).0 own (bus w) f.begun
+        ap is_start_of_frame (sym (at_bit w handed k) ∙ tail.next_stretch w own sound heads f end over handed apart k lt) ∙ not_started (f.each k lt).0 own (bus w) f.begun
 
     goes : (k : ℕ) → k < w.count → GoesOnBy (acked_in (role_of (stretch_at w k)) place) (got_in (role_of (stretch_at w k)) (destuffed_bits own end) place) (judged (stretch_at w k) (sample_at w handed k))
     goes k lt = tail.goes_on_there w own sound heads f end over handed apart k lt
@@ -199,7 +199,7 @@ module _ (w : Wire) (own : List Level) (sound : IsSound w.count w.frames) (heads
       frames : frames_of (new.past k) ≡ map (seen_by k) passages ++ seen_by k passage ∷ []
       acks : acknowledged_by (new.past k) ≡ count_by (is_received_by k) passages + cond (is_received_by k passage) 1 0
 
-    sender_has : (k : ℕ) (lt : k < w.count) (head : Content) → Sends w own k head → HasAll k
+    sender_has : (k : ℕ) (lt : k < w.count) (head : Content) → IsSender w own k head → HasAll k
     sender_has k lt head s =
         let role : role_of (stretch_at w k) ≡ Tx = ap role_of s.framing ∙ s.role in
         let ends : EndsBy Tx (Sent head ∷ []) (judged (stretch_at w k) (sample_at w handed k)) = tail.sender_ends w own sound heads f end over handed last k head s in
@@ -266,8 +266,8 @@ module _ (w : Wire) (own : List Level) (sound : IsSound w.count w.frames) (heads
     has_all : (k : ℕ) → k < w.count → HasAll k
     has_all k lt = has_by k lt (member w own f k lt)
 
-    no_start_after : (k : ℕ) → k < w.count → is_start (stretch_after (stretch_at w k) (Sample (sample_at w handed k))) ≡ false
-    no_start_after k lt = ap is_start (sym (at_bit w handed k) ∙ ((tail.frame_ends w own sound heads f end over handed last).each k lt).1)
+    no_start_after : (k : ℕ) → k < w.count → is_start_of_frame (stretch_after (stretch_at w k) (Sample (sample_at w handed k))) ≡ false
+    no_start_after k lt = ap is_start_of_frame (sym (at_bit w handed k) ∙ ((tail.frame_ends w own sound heads f end over handed last).each k lt).1)
 
     pub got_ended : HaveGot new (passages ++ passage ∷ [])
     got_ended = record {

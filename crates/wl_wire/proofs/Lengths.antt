@@ -14,7 +14,7 @@ use Rattle.wl_machine.specs.Frames.{stuffed_end}
 use Rattle.wl_machine.specs.Laws.{FoundSent}
 use Rattle.wl_machine.proofs.Callers.{ends_at, front_kept, kept_is_all, HasRest}
 use Rattle.wl_wire.specs.Wire.{Wire}
-use Rattle.wl_wire.specs.InStep.{IsSound, AreInFrame, or_all}
+use Rattle.wl_wire.specs.InStep.{AreSoundFrames, AreInFrame, or_all}
 use Rattle.wl_wire.proofs.Events.{OwnHeads}
 use Rattle.wl_wire.proofs.Stuffing.{sends_content}
 
@@ -83,7 +83,7 @@ few_by head own m is found front =
     omega arith
 
 -- and 157 with the ten bits after them
-module _ (w : Wire) (sound : IsSound w.count w.frames) (heads : OwnHeads w) (own : List Level) (f : AreInFrame w own) where
+module _ (w : Wire) (sound : AreSoundFrames w.count w.frames) (heads : OwnHeads w) (own : List Level) (f : AreInFrame w own) where
   content : IsContent f.sender.2
   content = sends_content w own f.sender.0 f.sender.2 sound heads f.sender.1 f.sender.3
 

@@ -15,8 +15,8 @@ use Rattle.wl_machine.specs.Judged.{head_of}
 use Rattle.wl_machine.specs.Laws.{HeadLaws}
 use Rattle.wl_machine.specs.States.{stretch_by}
 use Rattle.wl_machine.proofs.Callers.{role_first, tail_sends, ends_at}
-use Rattle.wl_wire.specs.Wire.{Wire, Handed, Bit, stretch_at, bus, is_between, happens}
-use Rattle.wl_wire.specs.InStep.{IsSound, AreBetween, AreInIntermission, AreInFrame, AreInStep, Sends}
+use Rattle.wl_wire.specs.Wire.{Wire, Handed, Bit, stretch_at, bus, is_between, next_wire}
+use Rattle.wl_wire.specs.InStep.{AreSoundFrames, AreBetween, AreInIntermission, AreInFrame, AreInStep, IsSender}
 use Rattle.wl_wire.proofs.Between.{frame_begins, still_between, longer}
 use Rattle.wl_wire.proofs.Bus.{level_cases}
 use Rattle.wl_wire.proofs.Events.{OwnHeads}
@@ -49,7 +49,7 @@ lost_first w f k head own lt e r =
     let here : (Dominant ∷ []) ≡ own = ap (λ s. s.own) (sym (f.each k lt).1 ∙ e) in
     absurd (not_both_roles (frame_role (Some head) (Dominant ∷ [])) (role_first head Dominant) (subst (λ o. frame_role (Some head) o ≡ Rx) (sym here) r))
 
-module _ (decides : ArbitrationDecides) (w : Wire) (own : List Level) (sound : IsSound w.count w.frames) (heads : OwnHeads w) (f : AreInFrame w own) (lost : LostSoFar w) where
+module _ (decides : ArbitrationDecides) (w : Wire) (own : List Level) (sound : AreSoundFrames w.count w.frames) (heads : OwnHeads w) (f : AreInFrame w own) (lost : LostSoFar w) where
   -- what a machine had, when it has this
   head_before : (k : ℕ) (lt : k < w.count) (head : Content) (o : Option Content) (more got : List Level) (s : Stretch) → (f.each k lt).0 ≡ o
       → s ≡ stretch_by (Framing o) more → s ≡ stretch_by (Framing (Some head)) got → stretch_at w k ≡ stretch_by (Framing (Some head)) own
@@ -58,7 +58,7 @@ module _ (decides : ArbitrationDecides) (w : Wire) (own : List Level) (sound : I
 
   -- in the stuffed part
   module _ (none : stuffed_end own ≡ None) (handed : ℕ → Handed) where
-    lost_now : (k : ℕ) (head : Content) → k < w.count → Sends w own k head → frame_role (Some head) (own ++ bus w ∷ []) ≡ Rx → LostAt head (own ++ bus w ∷ [])
+    lost_now : (k : ℕ) (head : Content) → k < w.count → IsSender w own k head → frame_role (Some head) (own ++ bus w ∷ []) ≡ Rx → LostAt head (own ++ bus w ∷ [])
     lost_now k head lt s r = elim (stuffing.fate decides w own sound heads f none k head lt s) [
       | inl e ↦
           absurd (not_both_roles (frame_role (Some head) (own ++ bus w ∷ [])) (stuffing.kept_role decides w own sound heads f none head s.role e) r)
@@ -81,12 +81,12 @@ module _ (decides : ArbitrationDecides) (w : Wire) (own : List Level) (sound : I
       | inr was ↦ lost_still head own (bus w) (lost k head own lt before was)
     ]
 
-    pub lost_stuffed : LostSoFar (happens w (Bit handed))
+    pub lost_stuffed : LostSoFar (next_wire w (Bit handed))
     lost_stuffed k head got lt e r =
-        let next : stretch_at (happens w (Bit handed)) k ≡ stretch_by (Framing (f.each k lt).0) (own ++ bus w ∷ []) = stuffing.next_stretch decides w own sound heads f none handed k lt in
+        let next : stretch_at (next_wire w (Bit handed)) k ≡ stretch_by (Framing (f.each k lt).0) (own ++ bus w ∷ []) = stuffing.next_stretch decides w own sound heads f none handed k lt in
         let same : (own ++ bus w ∷ []) ≡ got = ap (λ s. s.own) (sym next ∙ e) in
         subst (LostAt head) same
-        (lost_more k head lt (head_before k lt head (f.each k lt).0 (own ++ bus w ∷ []) got (stretch_at (happens w (Bit handed)) k) refl next e)
+        (lost_more k head lt (head_before k lt head (f.each k lt).0 (own ++ bus w ∷ []) got (stretch_at (next_wire w (Bit handed)) k) refl next e)
         (subst (λ o. frame_role (Some head) o ≡ Rx) (sym same) r))
 
   -- after it
@@ -100,26 +100,26 @@ module _ (decides : ArbitrationDecides) (w : Wire) (own : List Level) (sound : I
       | inr was ↦ lost_still head own (bus w) (lost k head own lt before was)
     ]
 
-    pub lost_tail : LostSoFar (happens w (Bit handed))
+    pub lost_tail : LostSoFar (next_wire w (Bit handed))
     lost_tail k head got lt e r = elim (cases_eq (length own - end) 9) [
-      | inl last ↦ lost_intermission (happens w (Bit handed)) [] (tail.frame_ends w own sound heads f end over handed last) k head got lt e r
+      | inl last ↦ lost_intermission (next_wire w (Bit handed)) [] (tail.frame_ends w own sound heads f end over handed last) k head got lt e r
       | inr apart ↦
-          (let next : stretch_at (happens w (Bit handed)) k ≡ stretch_by (Framing (f.each k lt).0) (own ++ bus w ∷ []) = tail.next_stretch w own sound heads f end over handed apart k lt in
+          (let next : stretch_at (next_wire w (Bit handed)) k ≡ stretch_by (Framing (f.each k lt).0) (own ++ bus w ∷ []) = tail.next_stretch w own sound heads f end over handed apart k lt in
           let same : (own ++ bus w ∷ []) ≡ got = ap (λ s. s.own) (sym next ∙ e) in
           subst (LostAt head) same
-          (lost_then k head lt (head_before k lt head (f.each k lt).0 (own ++ bus w ∷ []) got (stretch_at (happens w (Bit handed)) k) refl next e)
+          (lost_then k head lt (head_before k lt head (f.each k lt).0 (own ++ bus w ∷ []) got (stretch_at (next_wire w (Bit handed)) k) refl next e)
           (subst (λ o. frame_role (Some head) o ≡ Rx) (sym same) r)))
     ]
 
-  pub lost_in_frame : (handed : ℕ → Handed) (o : Option ℕ) → stuffed_end own ≡ o → LostSoFar (happens w (Bit handed))
+  pub lost_in_frame : (handed : ℕ → Handed) (o : Option ℕ) → stuffed_end own ≡ o → LostSoFar (next_wire w (Bit handed))
   lost_in_frame handed None e = lost_stuffed e handed
   lost_in_frame handed (Some end) e = lost_tail end e handed
 
-module _ (decides : ArbitrationDecides) (laws : HeadLaws) (w : Wire) (sound : IsSound w.count w.frames) (heads : OwnHeads w) where
-  pub lost_bit : AreInStep w → LostSoFar w → (handed : ℕ → Handed) → OwnHeads (happens w (Bit handed)) → LostSoFar (happens w (Bit handed))
+module _ (decides : ArbitrationDecides) (laws : HeadLaws) (w : Wire) (sound : AreSoundFrames w.count w.frames) (heads : OwnHeads w) where
+  pub lost_bit : AreInStep w → LostSoFar w → (handed : ℕ → Handed) → OwnHeads (next_wire w (Bit handed)) → LostSoFar (next_wire w (Bit handed))
   lost_bit (inl b) lost handed new_heads = elim (level_cases (bus w)) [
-    | inl d ↦ lost_first (happens w (Bit handed)) (frame_begins w sound heads b handed new_heads d)
-    | inr r ↦ lost_between (happens w (Bit handed)) (still_between w sound heads b handed r)
+    | inl d ↦ lost_first (next_wire w (Bit handed)) (frame_begins w sound heads b handed new_heads d)
+    | inr r ↦ lost_between (next_wire w (Bit handed)) (still_between w sound heads b handed r)
   ]
   lost_bit (inr (inl i)) lost handed new_heads = λ k head own lt e r.
       absurd (no_frame (i.1.each k lt).0 head own (i.0 ++ Recessive ∷ []) (sym (longer w i.0 i.1 handed k lt) ∙ e))

@@ -14,9 +14,9 @@ use Rattle.wl_machine.specs.Stretch.Ended.{Received}
 use Rattle.wl_machine.specs.Stretch.Input.{Sample}
 use Rattle.wl_machine.specs.Frames.{stuffed_end}
 use Rattle.wl_machine.specs.Judged.{judged, stretch_after, role_of}
-use Rattle.wl_wire.specs.Wire.{Wire, Handed, Event, Bit, Own, stretch_at, bus, sampled, is_between, is_between_by, may_be_alone, added, happens}
-use Rattle.wl_wire.specs.InStep.{Has, IsSound, AreBetween, AreInIntermission, AreInFrame}
-use Rattle.wl_wire.specs.Outcome.{frames_of, acknowledged_by, begun_by, is_start, is_start_by, Passage, seen_by, is_received_by, HaveGot, IsFree}
+use Rattle.wl_wire.specs.Wire.{Wire, Handed, Event, Bit, Own, stretch_at, bus, sampled, is_between, is_between_by, may_be_alone, added, next_wire}
+use Rattle.wl_wire.specs.InStep.{Has, AreSoundFrames, AreBetween, AreInIntermission, AreInFrame}
+use Rattle.wl_wire.specs.Outcome.{frames_of, acknowledged_by, begun_by, is_start_of_frame, is_start_of_frame_by, Passage, seen_by, is_received_by, HaveGot, IsFree}
 use Rattle.wl_wire.proofs.Between.{frame_begins, still_between, between_alone, longer, begun, quiet, alone_quiet, on, intermission_free, intermission_alone, none_alone_in_it}
 use Rattle.wl_wire.proofs.Bus.{level_cases}
 use Rattle.wl_wire.proofs.Deeds.{added_cases, plain_frames, plain_acknowledged, begun_same, begun_now}
@@ -55,22 +55,22 @@ record DidNothing (w new : Wire) (k : ℕ) : Type 0 where
   frames : frames_of (new.past k) ≡ frames_of (w.past k)
   acknowledged : acknowledged_by (new.past k) ≡ acknowledged_by (w.past k)
 
-nothing_added : (w : Wire) (event : Event) (k : ℕ) → added w event k ≡ [] → DidNothing w (happens w event) k
+nothing_added : (w : Wire) (event : Event) (k : ℕ) → added w event k ≡ [] → DidNothing w (next_wire w event) k
 nothing_added w event k e =
-    let same : (happens w event).past k ≡ w.past k = ap (λ inputs. w.past k ++ inputs) e ∙ append-nil (w.past k) in
+    let same : (next_wire w event).past k ≡ w.past k = ap (λ inputs. w.past k ++ inputs) e ∙ append-nil (w.past k) in
     record { begun = ap begun_by same; frames = ap frames_of same; acknowledged = ap acknowledged_by same }
 
 plain_added : (w : Wire) (event : Event) (k : ℕ) (x : Sampled) → added w event k ≡ Sample x ∷ [] → is_plain (judged (stretch_at w k) x) ≡ true
-    → is_start (stretch_after (stretch_at w k) (Sample x)) ≡ false → DidNothing w (happens w event) k
+    → is_start_of_frame (stretch_after (stretch_at w k) (Sample x)) ≡ false → DidNothing w (next_wire w event) k
 plain_added w event k x e p start =
-    let same : (happens w event).past k ≡ w.past k ++ Sample x ∷ [] = ap (λ inputs. w.past k ++ inputs) e in
+    let same : (next_wire w event).past k ≡ w.past k ++ Sample x ∷ [] = ap (λ inputs. w.past k ++ inputs) e in
     record {
       begun = ap begun_by same ∙ begun_same (w.past k) x start;
       frames = ap frames_of same ∙ plain_frames (w.past k) x p;
       acknowledged = ap acknowledged_by same ∙ plain_acknowledged (w.past k) x p;
     }
 
-got_on : (w : Wire) (event : Event) (passages : List Passage) → ((k : ℕ) → k < w.count → DidNothing w (happens w event) k) → HaveGot w passages → HaveGot (happens w event) passages
+got_on : (w : Wire) (event : Event) (passages : List Passage) → ((k : ℕ) → k < w.count → DidNothing w (next_wire w event) k) → HaveGot w passages → HaveGot (next_wire w event) passages
 got_on w event passages keeps got = record {
   senders = got.senders;
   begun = λ k lt. (keeps k lt).begun ∙ got.begun k lt;
@@ -79,7 +79,7 @@ got_on w event passages keeps got = record {
 }
 
 -- between frames no frame was just begun
-no_start_by : (sort : Sort) (own : List Level) → is_between_by sort own ≡ true → is_start_by sort own ≡ false
+no_start_by : (sort : Sort) (own : List Level) → is_between_by sort own ≡ true → is_start_of_frame_by sort own ≡ false
 no_start_by Idle own b = refl
 no_start_by Suspension own b = refl
 no_start_by (Intermission role) own b = refl
@@ -92,17 +92,17 @@ no_start_by (Waiting flag role flagged) own b = refl
 no_start_by (Delimiting role) own b = refl
 no_start_by OffBus own b = refl
 
-no_start : (s : Stretch) → is_between s ≡ true → is_start s ≡ false
+no_start : (s : Stretch) → is_between s ≡ true → is_start_of_frame s ≡ false
 no_start s b = no_start_by s.sort s.own b
 
 -- a bit by itself
 record IsQuiet (s : Stretch) (x : Sampled) : Type 0 where
   plain : is_plain (judged s x) ≡ true
-  start : is_start (stretch_after s (Sample x)) ≡ false
+  start : is_start_of_frame (stretch_after s (Sample x)) ≡ false
 
 own_did_nothing : (w : Wire) (machine : ℕ) (handed : Handed)
     → ((k : ℕ) → k < w.count → may_be_alone (stretch_at w k) ≡ true → IsQuiet (stretch_at w k) (sampled Recessive (w.frames k) handed))
-    → (k : ℕ) → k < w.count → DidNothing w (happens w (Own machine handed)) k
+    → (k : ℕ) → k < w.count → DidNothing w (next_wire w (Own machine handed)) k
 own_did_nothing w machine handed quiet_alone k lt = elim (added_cases w (Own machine handed) k) [
   | inl e ↦ nothing_added w (Own machine handed) k e
   | inr more ↦
@@ -110,18 +110,18 @@ own_did_nothing w machine handed quiet_alone k lt = elim (added_cases w (Own mac
       plain_added w (Own machine handed) k more.0 more.1 q.plain q.start)
 ]
 
-module _ (w : Wire) (sound : IsSound w.count w.frames) (heads : OwnHeads w) where
+module _ (w : Wire) (sound : AreSoundFrames w.count w.frames) (heads : OwnHeads w) where
   -- between frames
   module _ (b : AreBetween w) (passages : List Passage) (got : HaveGot w passages) where
-    quiet_did_nothing : (handed : ℕ → Handed) → bus w ≡ Recessive → (k : ℕ) → k < w.count → DidNothing w (happens w (Bit handed)) k
+    quiet_did_nothing : (handed : ℕ → Handed) → bus w ≡ Recessive → (k : ℕ) → k < w.count → DidNothing w (next_wire w (Bit handed)) k
     quiet_did_nothing handed r k lt =
         plain_added w (Bit handed) k (sample_at w handed k) refl (quiet w sound heads b handed k lt r).plain
         (no_start (stretch_after (stretch_at w k) (Sample (sample_at w handed k))) (quiet w sound heads b handed k lt r).between)
 
-    got_quiet : (handed : ℕ → Handed) → bus w ≡ Recessive → HaveGot (happens w (Bit handed)) passages
+    got_quiet : (handed : ℕ → Handed) → bus w ≡ Recessive → HaveGot (next_wire w (Bit handed)) passages
     got_quiet handed r = got_on w (Bit handed) passages (quiet_did_nothing handed r) got
 
-    got_alone : (machine : ℕ) (handed : Handed) → HaveGot (happens w (Own machine handed)) passages
+    got_alone : (machine : ℕ) (handed : Handed) → HaveGot (next_wire w (Own machine handed)) passages
     got_alone machine handed =
         got_on w (Own machine handed) passages
         (own_did_nothing w machine handed
@@ -130,43 +130,43 @@ module _ (w : Wire) (sound : IsSound w.count w.frames) (heads : OwnHeads w) wher
           start = no_start (stretch_after (stretch_at w k) (Sample (sampled Recessive (w.frames k) handed))) (alone_quiet w sound heads b handed k lt may).between;
         })) got
 
-    got_first : (handed : ℕ → Handed) → bus w ≡ Dominant → HaveGotIn (happens w (Bit handed)) (Dominant ∷ []) passages
+    got_first : (handed : ℕ → Handed) → bus w ≡ Dominant → HaveGotIn (next_wire w (Bit handed)) (Dominant ∷ []) passages
     got_first handed d = record {
       senders = got.senders;
-      begun = λ k lt. begun_now (w.past k) (sample_at w handed k) (ap is_start (begun w sound heads b handed k lt d).next) ∙ ap suc (got.begun k lt);
+      begun = λ k lt. begun_now (w.past k) (sample_at w handed k) (ap is_start_of_frame (begun w sound heads b handed k lt d).next) ∙ ap suc (got.begun k lt);
       frames = λ k lt. plain_frames (w.past k) (sample_at w handed k) (begun w sound heads b handed k lt d).plain ∙ got.frames k lt ∙ sym (append-nil (map (seen_by k) passages));
       acknowledged = λ k lt. plain_acknowledged (w.past k) (sample_at w handed k) (begun w sound heads b handed k lt d).plain ∙ got.acknowledged k lt ∙ omega arith;
     }
 
-    pub between_progress : (handed : ℕ → Handed) → OwnHeads (happens w (Bit handed)) → Progress (happens w (Bit handed))
+    pub between_progress : (handed : ℕ → Handed) → OwnHeads (next_wire w (Bit handed)) → Progress (next_wire w (Bit handed))
     between_progress handed new_heads = elim (level_cases (bus w)) [
       | inl d ↦ under_way passages (Dominant ∷ []) (frame_begins w sound heads b handed new_heads d) (got_first handed d)
       | inr r ↦ free passages (inl (still_between w sound heads b handed r)) (got_quiet handed r)
     ]
 
-    pub between_own_progress : (machine : ℕ) (handed : Handed) → Progress (happens w (Own machine handed))
+    pub between_own_progress : (machine : ℕ) (handed : Handed) → Progress (next_wire w (Own machine handed))
     between_own_progress machine handed = free passages (inl (between_alone w sound heads b machine handed)) (got_alone machine handed)
 
 -- in an intermission
 module _ (w : Wire) (own : List Level) (f : AreInIntermission w own) (passages : List Passage) (got : HaveGot w passages) where
-  pub intermission_progress : (handed : ℕ → Handed) → Progress (happens w (Bit handed))
+  pub intermission_progress : (handed : ℕ → Handed) → Progress (next_wire w (Bit handed))
   intermission_progress handed =
       free passages (intermission_free w own f handed)
       (got_on w (Bit handed) passages
       (λ k lt. plain_added w (Bit handed) k (sample_at w handed k) refl
       (ap (λ s. is_plain (judged s (sample_at w handed k))) (f.each k lt).1 ∙ (on w own f handed k lt).plain)
-      (ap is_start (sym (at_bit w handed k) ∙ longer w own f handed k lt))) got)
+      (ap is_start_of_frame (sym (at_bit w handed k) ∙ longer w own f handed k lt))) got)
 
-  pub intermission_own_progress : (machine : ℕ) (handed : Handed) → Progress (happens w (Own machine handed))
+  pub intermission_own_progress : (machine : ℕ) (handed : Handed) → Progress (next_wire w (Own machine handed))
   intermission_own_progress machine handed =
       free passages (inr (own, intermission_alone w own f machine handed))
       (got_on w (Own machine handed) passages (own_did_nothing w machine handed (λ k lt may. absurd (none_alone_in_it w own f k lt may))) got)
 
 -- in a frame no machine has a bit by itself
 pub got_in_alone : (w : Wire) (own : List Level) (passages : List Passage) (machine : ℕ) (handed : Handed) → ((k : ℕ) → k < w.count → may_be_alone (stretch_at w k) ≡ false)
-    → HaveGotIn w own passages → HaveGotIn (happens w (Own machine handed)) own passages
+    → HaveGotIn w own passages → HaveGotIn (next_wire w (Own machine handed)) own passages
 got_in_alone w own passages machine handed not_alone got =
-    let nothing : (k : ℕ) → k < w.count → DidNothing w (happens w (Own machine handed)) k =
+    let nothing : (k : ℕ) → k < w.count → DidNothing w (next_wire w (Own machine handed)) k =
     own_did_nothing w machine handed (λ k lt may. absurd (not_so (may_be_alone (stretch_at w k)) may (not_alone k lt))) in
     record {
       senders = got.senders;

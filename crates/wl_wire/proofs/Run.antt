@@ -9,10 +9,10 @@ use Rattle.wl_machine.specs.Frames.{stuffed_end}
 use Rattle.wl_machine.specs.Judged.{judged}
 use Rattle.wl_machine.specs.Laws.{HeadLaws}
 use Rattle.wl_machine.specs.States.{stretch_by}
-use Rattle.wl_wire.specs.Wire.{Wire, is_between, bus, Handed, Event, Bit, Own, stretch_at, may_be_alone, sampled, happens, wire_after, idle_wire}
+use Rattle.wl_wire.specs.Wire.{Wire, is_between, bus, Handed, Event, Bit, Own, stretch_at, may_be_alone, sampled, next_wire, wire_after, idle_wire}
 use Rattle.wl_wire.specs.Outcome.{Passage, HaveGot, IsFree}
 use Rattle.wl_wire.specs.Winner.{HasOneWinner}
-use Rattle.wl_wire.specs.InStep.{Has, IsSound, AreInFrame, AreInStep, FindsNoError, is_fine}
+use Rattle.wl_wire.specs.InStep.{Has, AreSoundFrames, AreInFrame, AreInStep, FindsNoError, is_fine}
 use Rattle.wl_wire.proofs.Between.{between_fine, alone_between_fine, between_alone, between_bit, intermission_fine, none_alone_in_it, intermission_alone, intermission_bit}
 use Rattle.wl_wire.proofs.Events.{OwnHeads, sample_at, heads_at_bit, heads_alone, none_alone, finds_none}
 use Rattle.wl_wire.proofs.Lengths.{short_frame}
@@ -37,8 +37,8 @@ not_so false t f = cc
 
 module _ (decides : ArbitrationDecides) (laws : HeadLaws) where
   -- in a frame
-  module _ (w : Wire) (own : List Level) (sound : IsSound w.count w.frames) (heads : OwnHeads w) (f : AreInFrame w own) where
-    frame_bit_by : (handed : ℕ → Handed) (o : Option ℕ) → stuffed_end own ≡ o → AreInStep (happens w (Bit handed))
+  module _ (w : Wire) (own : List Level) (sound : AreSoundFrames w.count w.frames) (heads : OwnHeads w) (f : AreInFrame w own) where
+    frame_bit_by : (handed : ℕ → Handed) (o : Option ℕ) → stuffed_end own ≡ o → AreInStep (next_wire w (Bit handed))
     frame_bit_by handed None e = inr (inr (own ++ _ ∷ [], stuffed_bit decides w own sound heads f e handed))
     frame_bit_by handed (Some end) e = tail_bit w own sound heads f end e handed
 
@@ -49,7 +49,7 @@ module _ (decides : ArbitrationDecides) (laws : HeadLaws) where
     frame_not_alone : (k : ℕ) → k < w.count → may_be_alone (stretch_at w k) ≡ false
     frame_not_alone k lt = ap may_be_alone (f.each k lt).1 ∙ in_frame own (f.each k lt).0 f.begun
 
-    frame_alone : (machine : ℕ) (handed : Handed) → AreInFrame (happens w (Own machine handed)) own
+    frame_alone : (machine : ℕ) (handed : Handed) → AreInFrame (next_wire w (Own machine handed)) own
     frame_alone machine handed = record {
       begun = f.begun;
       each = λ k lt. ((f.each k lt).0, stays k lt ∙ (f.each k lt).1);
@@ -58,7 +58,7 @@ module _ (decides : ArbitrationDecides) (laws : HeadLaws) where
       tail = f.tail;
     }
       where
-        stays : (k : ℕ) → k < w.count → stretch_at (happens w (Own machine handed)) k ≡ stretch_at w k
+        stays : (k : ℕ) → k < w.count → stretch_at (next_wire w (Own machine handed)) k ≡ stretch_at w k
         stays k lt = none_alone w machine handed k (frame_not_alone k lt)
 
   -- what holds of a wire, whatever has happened
@@ -68,40 +68,40 @@ module _ (decides : ArbitrationDecides) (laws : HeadLaws) where
     lost : LostSoFar w
     progress : Progress w
 
-  step_bit : (w : Wire) → IsSound w.count w.frames → OwnHeads w → AreInStep w → (handed : ℕ → Handed) → AreInStep (happens w (Bit handed))
+  step_bit : (w : Wire) → AreSoundFrames w.count w.frames → OwnHeads w → AreInStep w → (handed : ℕ → Handed) → AreInStep (next_wire w (Bit handed))
   step_bit w sound heads (inl b) handed = between_bit w sound heads b handed (heads_at_bit w handed laws heads)
   step_bit w sound heads (inr (inl i)) handed = intermission_bit w i.0 i.1 handed
   step_bit w sound heads (inr (inr f)) handed = frame_bit_by w f.0 sound heads f.1 handed (stuffed_end f.0) refl
 
-  step_alone : (w : Wire) → IsSound w.count w.frames → OwnHeads w → AreInStep w → (machine : ℕ) (handed : Handed) → AreInStep (happens w (Own machine handed))
+  step_alone : (w : Wire) → AreSoundFrames w.count w.frames → OwnHeads w → AreInStep w → (machine : ℕ) (handed : Handed) → AreInStep (next_wire w (Own machine handed))
   step_alone w sound heads (inl b) machine handed = inl (between_alone w sound heads b machine handed)
   step_alone w sound heads (inr (inl i)) machine handed = inr (inl (i.0, intermission_alone w i.0 i.1 machine handed))
   step_alone w sound heads (inr (inr f)) machine handed = inr (inr (f.0, frame_alone w f.0 sound heads f.1 machine handed))
 
-  lost_alone : (w : Wire) → IsSound w.count w.frames → OwnHeads w → AreInStep w → LostSoFar w → (machine : ℕ) (handed : Handed) → LostSoFar (happens w (Own machine handed))
-  lost_alone w sound heads (inl b) lost machine handed = lost_between (happens w (Own machine handed)) (between_alone w sound heads b machine handed)
-  lost_alone w sound heads (inr (inl i)) lost machine handed = lost_intermission (happens w (Own machine handed)) i.0 (intermission_alone w i.0 i.1 machine handed)
+  lost_alone : (w : Wire) → AreSoundFrames w.count w.frames → OwnHeads w → AreInStep w → LostSoFar w → (machine : ℕ) (handed : Handed) → LostSoFar (next_wire w (Own machine handed))
+  lost_alone w sound heads (inl b) lost machine handed = lost_between (next_wire w (Own machine handed)) (between_alone w sound heads b machine handed)
+  lost_alone w sound heads (inr (inl i)) lost machine handed = lost_intermission (next_wire w (Own machine handed)) i.0 (intermission_alone w i.0 i.1 machine handed)
   lost_alone w sound heads (inr (inr f)) lost machine handed = λ k head own lt e r.
       lost k head own lt (sym (none_alone w machine handed k (frame_not_alone w f.0 sound heads f.1 k lt)) ∙ e) r
 
-  progress_framed : (w : Wire) → IsSound w.count w.frames → OwnHeads w → (passages : List Passage) (own : List Level) (f : AreInFrame w own) → HaveGotIn w own passages
-      → (handed : ℕ → Handed) (o : Option ℕ) → stuffed_end own ≡ o → Progress (happens w (Bit handed))
+  progress_framed : (w : Wire) → AreSoundFrames w.count w.frames → OwnHeads w → (passages : List Passage) (own : List Level) (f : AreInFrame w own) → HaveGotIn w own passages
+      → (handed : ℕ → Handed) (o : Option ℕ) → stuffed_end own ≡ o → Progress (next_wire w (Bit handed))
   progress_framed w sound heads passages own f got handed None e =
       under_way passages (own ++ bus w ∷ []) (stuffed_bit decides w own sound heads f e handed) (got_stuffed decides w own sound heads f e passages got handed)
   progress_framed w sound heads passages own f got handed (Some end) e = tail_progress w own sound heads f end e passages got handed
 
-  progress_bit : (w : Wire) → IsSound w.count w.frames → OwnHeads w → Progress w → (handed : ℕ → Handed) → Progress (happens w (Bit handed))
+  progress_bit : (w : Wire) → AreSoundFrames w.count w.frames → OwnHeads w → Progress w → (handed : ℕ → Handed) → Progress (next_wire w (Bit handed))
   progress_bit w sound heads (free passages (inl b) got) handed = between_progress w sound heads b passages got handed (heads_at_bit w handed laws heads)
   progress_bit w sound heads (free passages (inr i) got) handed = intermission_progress w i.0 i.1 passages got handed
   progress_bit w sound heads (under_way passages own f got) handed = progress_framed w sound heads passages own f got handed (stuffed_end own) refl
 
-  progress_alone : (w : Wire) → IsSound w.count w.frames → OwnHeads w → Progress w → (machine : ℕ) (handed : Handed) → Progress (happens w (Own machine handed))
+  progress_alone : (w : Wire) → AreSoundFrames w.count w.frames → OwnHeads w → Progress w → (machine : ℕ) (handed : Handed) → Progress (next_wire w (Own machine handed))
   progress_alone w sound heads (free passages (inl b) got) machine handed = between_own_progress w sound heads b passages got machine handed
   progress_alone w sound heads (free passages (inr i) got) machine handed = intermission_own_progress w i.0 i.1 passages got machine handed
   progress_alone w sound heads (under_way passages own f got) machine handed =
       under_way passages own (frame_alone w own sound heads f machine handed) (got_in_alone w own passages machine handed (frame_not_alone w own sound heads f) got)
 
-  kept_on : (w : Wire) → IsSound w.count w.frames → IsKept w → (event : Event) → IsKept (happens w event)
+  kept_on : (w : Wire) → AreSoundFrames w.count w.frames → IsKept w → (event : Event) → IsKept (next_wire w event)
   kept_on w sound kept (Bit handed) = record {
     heads = heads_at_bit w handed laws kept.heads;
     step = step_bit w sound kept.heads kept.step handed;
@@ -115,13 +115,13 @@ module _ (decides : ArbitrationDecides) (laws : HeadLaws) where
     progress = progress_alone w sound kept.heads kept.progress machine handed;
   }
 
-  kept_after : (w : Wire) (events : List Event) → IsSound w.count w.frames → IsKept w → IsKept (wire_after w events)
+  kept_after : (w : Wire) (events : List Event) → AreSoundFrames w.count w.frames → IsKept w → IsKept (wire_after w events)
   kept_after w [] sound kept = kept
-  kept_after w (event ∷ events) sound kept = kept_after (happens w event) events sound (kept_on w sound kept event)
+  kept_after w (event ∷ events) sound kept = kept_after (next_wire w event) events sound (kept_on w sound kept event)
 
-  sound_after : (w : Wire) (events : List Event) → IsSound w.count w.frames → IsSound (wire_after w events).count (wire_after w events).frames
+  sound_after : (w : Wire) (events : List Event) → AreSoundFrames w.count w.frames → AreSoundFrames (wire_after w events).count (wire_after w events).frames
   sound_after w [] sound = sound
-  sound_after w (event ∷ events) sound = sound_after (happens w event) events sound
+  sound_after w (event ∷ events) sound = sound_after (next_wire w event) events sound
 
   at_first : (count : ℕ) (frames : ℕ → List Content) → IsKept (idle_wire count frames)
   at_first count frames = record {
@@ -139,33 +139,33 @@ module _ (decides : ArbitrationDecides) (laws : HeadLaws) where
       none_some : (c : Content) → None ≡ Some c → ⊥
       none_some c e = cc
 
-  kept : (count : ℕ) (frames : ℕ → List Content) (events : List Event) → IsSound count frames → IsKept (wire_after (idle_wire count frames) events)
+  kept : (count : ℕ) (frames : ℕ → List Content) (events : List Event) → AreSoundFrames count frames → IsKept (wire_after (idle_wire count frames) events)
   kept count frames events sound = kept_after (idle_wire count frames) events sound (at_first count frames)
 
   -- no error
-  fine_at_bit : (w : Wire) → IsSound w.count w.frames → OwnHeads w → AreInStep w → (handed : ℕ → Handed) (k : ℕ) → k < w.count
+  fine_at_bit : (w : Wire) → AreSoundFrames w.count w.frames → OwnHeads w → AreInStep w → (handed : ℕ → Handed) (k : ℕ) → k < w.count
       → is_fine (judged (stretch_at w k) (sample_at w handed k)).happened ≡ true
   fine_at_bit w sound heads (inl b) handed k lt = between_fine w sound heads b handed k lt
   fine_at_bit w sound heads (inr (inl i)) handed k lt = intermission_fine w i.0 i.1 handed k lt
   fine_at_bit w sound heads (inr (inr f)) handed k lt = frame_fine_by w f.0 sound heads f.1 handed k lt (stuffed_end f.0) refl
 
-  fine_alone : (w : Wire) → IsSound w.count w.frames → OwnHeads w → AreInStep w → (handed : Handed) (k : ℕ) → k < w.count → may_be_alone (stretch_at w k) ≡ true
+  fine_alone : (w : Wire) → AreSoundFrames w.count w.frames → OwnHeads w → AreInStep w → (handed : Handed) (k : ℕ) → k < w.count → may_be_alone (stretch_at w k) ≡ true
       → is_fine (judged (stretch_at w k) (sampled Recessive (w.frames k) handed)).happened ≡ true
   fine_alone w sound heads (inl b) handed k lt may = alone_between_fine w sound heads b handed k lt may
   fine_alone w sound heads (inr (inl i)) handed k lt may = absurd (none_alone_in_it w i.0 i.1 k lt may)
   fine_alone w sound heads (inr (inr f)) handed k lt may = absurd (not_so (may_be_alone (stretch_at w k)) may (frame_not_alone w f.0 sound heads f.1 k lt))
 
-  no_error : (w : Wire) → IsSound w.count w.frames → IsKept w → FindsNoError w
+  no_error : (w : Wire) → AreSoundFrames w.count w.frames → IsKept w → FindsNoError w
   no_error w sound kept = finds_none w (fine_at_bit w sound kept.heads kept.step) (fine_alone w sound kept.heads kept.step)
 
-  pub stay_in_step : (count : ℕ) (frames : ℕ → List Content) (events : List Event) → IsSound count frames → AreInStep (wire_after (idle_wire count frames) events)
+  pub stay_in_step : (count : ℕ) (frames : ℕ → List Content) (events : List Event) → AreSoundFrames count frames → AreInStep (wire_after (idle_wire count frames) events)
   stay_in_step count frames events sound = (kept count frames events sound).step
 
-  pub find_no_error : (count : ℕ) (frames : ℕ → List Content) (events : List Event) → IsSound count frames → FindsNoError (wire_after (idle_wire count frames) events)
+  pub find_no_error : (count : ℕ) (frames : ℕ → List Content) (events : List Event) → AreSoundFrames count frames → FindsNoError (wire_after (idle_wire count frames) events)
   find_no_error count frames events sound =
       no_error (wire_after (idle_wire count frames) events) (sound_after (idle_wire count frames) events sound) (kept count frames events sound)
 
-  pub have_one_winner : (count : ℕ) (frames : ℕ → List Content) (events : List Event) → IsSound count frames → HasOneWinner (wire_after (idle_wire count frames) events)
+  pub have_one_winner : (count : ℕ) (frames : ℕ → List Content) (events : List Event) → AreSoundFrames count frames → HasOneWinner (wire_after (idle_wire count frames) events)
   have_one_winner count frames events sound =
       let all : IsKept (wire_after (idle_wire count frames) events) = kept count frames events sound in
       one_winner (wire_after (idle_wire count frames) events) (sound_after (idle_wire count frames) events sound) all.heads all.step all.lost
@@ -178,12 +178,12 @@ module _ (decides : ArbitrationDecides) (laws : HeadLaws) where
   passages_by w (under_way passages own f got) (inr i) =
       absurd (no_frame (i.1.each f.sender.0 f.sender.1).0 f.sender.2 own i.0 (sym (i.1.each f.sender.0 f.sender.1).1 ∙ f.sender.3.framing))
 
-  pub all_got : (count : ℕ) (frames : ℕ → List Content) (events : List Event) → IsSound count frames → IsFree (wire_after (idle_wire count frames) events)
+  pub all_got : (count : ℕ) (frames : ℕ → List Content) (events : List Event) → AreSoundFrames count frames → IsFree (wire_after (idle_wire count frames) events)
       → (passages : List Passage) × HaveGot (wire_after (idle_wire count frames) events) passages
   all_got count frames events sound is = passages_by (wire_after (idle_wire count frames) events) (kept count frames events sound).progress is
 
   -- a frame comes to its end
-  pub frames_end : (count : ℕ) (frames : ℕ → List Content) (events : List Event) → IsSound count frames
+  pub frames_end : (count : ℕ) (frames : ℕ → List Content) (events : List Event) → AreSoundFrames count frames
       → (own : List Level) → AreInFrame (wire_after (idle_wire count frames) events) own → length own < 157
   frames_end count frames events sound own f =
       short_frame (wire_after (idle_wire count frames) events) (sound_after (idle_wire count frames) events sound) (kept count frames events sound).heads own f

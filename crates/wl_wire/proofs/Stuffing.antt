@@ -25,8 +25,8 @@ use Rattle.wl_machine.specs.Judged.{judged, or_next, stretch_after, drive_of, he
 use Rattle.wl_machine.specs.Laws.{FoundSent}
 use Rattle.wl_machine.specs.States.{sample_of, stretch_by}
 use Rattle.wl_machine.proofs.Callers.{end_more, role_next, role_receives, ends_at, front_kept, HasRest}
-use Rattle.wl_wire.specs.Wire.{Wire, Handed, Bit, stretch_at, bus, happens}
-use Rattle.wl_wire.specs.InStep.{IsSound, AreInFrame, Sends, or_all, stuffed_length, is_fine}
+use Rattle.wl_wire.specs.Wire.{Wire, Handed, Bit, stretch_at, bus, next_wire}
+use Rattle.wl_wire.specs.InStep.{AreSoundFrames, AreInFrame, IsSender, or_all, stuffed_length, is_fine}
 use Rattle.wl_wire.proofs.Events.{OwnHeads, sample_at, at_bit}
 use Rattle.wl_wire.proofs.Bus.{Drives, level_cases, not_both, bus_dominant, bus_recessive, bus_driven}
 
@@ -44,7 +44,7 @@ pub record Receives (w : Wire) (own : List Level) (k : ℕ) (head : Option Conte
 
 -- one of the two
 abbrev pub IsMember : Wire → List Level → ℕ → Type 0
-IsMember w own k = ((head : Content) × Sends w own k head) ⊎ ((head : Option Content) × Receives w own k head)
+IsMember w own k = ((head : Content) × IsSender w own k head) ⊎ ((head : Option Content) × Receives w own k head)
 
 pub role_cases : (role : Role) → (role ≡ Tx) ⊎ (role ≡ Rx)
 role_cases Tx = inl refl
@@ -68,15 +68,15 @@ pub some_same : (a b : Content) → Some a ≡ Some b → a ≡ b
 some_same a b e = cc
 
 -- a machine sends one frame
-pub one_head : (w : Wire) (own : List Level) (k : ℕ) (a b : Content) → Sends w own k a → Sends w own k b → a ≡ b
+pub one_head : (w : Wire) (own : List Level) (k : ℕ) (a b : Content) → IsSender w own k a → IsSender w own k b → a ≡ b
 one_head w own k a b p q = some_same a b (ap (λ s. head_of s.sort) (sym p.framing ∙ q.framing))
 
-pub sends_content : (w : Wire) (own : List Level) (k : ℕ) (head : Content) → IsSound w.count w.frames → OwnHeads w → k < w.count → Sends w own k head → IsContent head
+pub sends_content : (w : Wire) (own : List Level) (k : ℕ) (head : Content) → AreSoundFrames w.count w.frames → OwnHeads w → k < w.count → IsSender w own k head → IsContent head
 sends_content w own k head sound heads lt s = sound.content k head lt (heads k head (ap (λ t. head_of t.sort) s.framing))
 
 -- two machines send frames of which the arbitration can decide
-pub sends_apart : (w : Wire) (own : List Level) (j k : ℕ) (a b : Content) → IsSound w.count w.frames → OwnHeads w → j < w.count → k < w.count → j ≢ k
-    → Sends w own j a → Sends w own k b → ¬ HaveSameField a b
+pub sends_apart : (w : Wire) (own : List Level) (j k : ℕ) (a b : Content) → AreSoundFrames w.count w.frames → OwnHeads w → j < w.count → k < w.count → j ≢ k
+    → IsSender w own j a → IsSender w own k b → ¬ HaveSameField a b
 sends_apart w own j k a b sound heads lj lk ne p q =
     sound.apart j k a b lj lk ne (heads j a (ap (λ t. head_of t.sort) p.framing)) (heads k b (ap (λ t. head_of t.sort) q.framing))
 
@@ -121,7 +121,7 @@ end_is : (t : Bool) (n m : ℕ) → or_at None t n ≡ Some m → n ≡ m
 end_is true n m e = cc
 end_is false n m e = cc
 
-module _ (decides : ArbitrationDecides) (w : Wire) (own : List Level) (sound : IsSound w.count w.frames) (heads : OwnHeads w) (f : AreInFrame w own)
+module _ (decides : ArbitrationDecides) (w : Wire) (own : List Level) (sound : AreSoundFrames w.count w.frames) (heads : OwnHeads w) (f : AreInFrame w own)
     (none : stuffed_end own ≡ None) where
   abbrev place : ℕ
   place = length own
@@ -129,7 +129,7 @@ module _ (decides : ArbitrationDecides) (w : Wire) (own : List Level) (sound : I
   abbrev kept : List Level
   kept = destuffed_bits own (length own)
 
-  sends_drive : (k : ℕ) (head : Content) → Sends w own k head → drive_of (stretch_at w k) ≡ sent_at head own place
+  sends_drive : (k : ℕ) (head : Content) → IsSender w own k head → drive_of (stretch_at w k) ≡ sent_at head own place
   sends_drive k head s =
       ap drive_of s.framing ∙ ap (λ e. drive_up_to e (Some head) own) none ∙ ap (λ r. stuffed_drive r (Some head) own) s.role
 
@@ -142,7 +142,7 @@ module _ (decides : ArbitrationDecides) (w : Wire) (own : List Level) (sound : I
     machine : ℕ
     inside : machine < w.count
     head : Content
-    sends : Sends w own machine head
+    sends : IsSender w own machine head
     carries : sent_at head own place ≡ bus w
 
   dominant_carrier : bus w ≡ Dominant → (d : Drives w) → IsMember w own d.machine → Carrier
@@ -184,15 +184,15 @@ module _ (decides : ArbitrationDecides) (w : Wire) (own : List Level) (sound : I
     pub recessive : sent_at head own place ≡ Recessive
     pub dominant : bus w ≡ Dominant
 
-  pub found_here : (k : ℕ) (head : Content) → k < w.count → Sends w own k head → FoundSent head own place
+  pub found_here : (k : ℕ) (head : Content) → k < w.count → IsSender w own k head → FoundSent head own place
   found_here k head lt s = subst (FoundSent head own) (ap (λ e. or_all e (length own)) none) (f.found k head lt s)
 
-  rest_of_bits : (k : ℕ) (head : Content) → k < w.count → Sends w own k head → HasRest (bits_of head) kept
+  rest_of_bits : (k : ℕ) (head : Content) → k < w.count → IsSender w own k head → HasRest (bits_of head) kept
   rest_of_bits k head lt s =
       front_kept head own place (sends_content w own k head sound heads lt s) (λ j below. first_none (ends_at own) (suc place) none j (omega arith))
       (found_here k head lt s) place (omega arith)
 
-  other_machine : (k : ℕ) (head : Content) → Sends w own k head → sent_at head own place ≡ Recessive → bus w ≡ Dominant → k ≢ carrier.machine
+  other_machine : (k : ℕ) (head : Content) → IsSender w own k head → sent_at head own place ≡ Recessive → bus w ≡ Dominant → k ≢ carrier.machine
   other_machine k head s r d e =
       let same_head : head ≡ carrier.head =
       one_head w own carrier.machine head carrier.head (record { framing = ap (stretch_at w) (sym e) ∙ s.framing; role = s.role }) carrier.sends in
@@ -204,7 +204,7 @@ module _ (decides : ArbitrationDecides) (w : Wire) (own : List Level) (sound : I
     | inr free ↦ free
   ]
 
-  loses : (k : ℕ) (head : Content) → k < w.count → Sends w own k head → sent_at head own place ≡ Recessive → bus w ≡ Dominant → Loses head
+  loses : (k : ℕ) (head : Content) → k < w.count → IsSender w own k head → sent_at head own place ≡ Recessive → bus w ≡ Dominant → Loses head
   loses k head lt s r d =
       let free : is_stuff own place ≡ false = is_free_there head r d in
       let mine : HasRest (bits_of head) kept = rest_of_bits k head lt s in
@@ -221,7 +221,7 @@ module _ (decides : ArbitrationDecides) (w : Wire) (own : List Level) (sound : I
       }
 
   -- what becomes of a sender
-  pub fate : (k : ℕ) (head : Content) → k < w.count → Sends w own k head → (sent_at head own place ≡ bus w) ⊎ Loses head
+  pub fate : (k : ℕ) (head : Content) → k < w.count → IsSender w own k head → (sent_at head own place ≡ bus w) ⊎ Loses head
   fate k head lt s = elim (level_cases (sent_at head own place)) [
     | inl d ↦ inl (d ∙ sym (bus_driven w k lt (sends_drive k head s ∙ d)))
     | inr r ↦ elim (level_cases (bus w)) [
@@ -241,7 +241,7 @@ module _ (decides : ArbitrationDecides) (w : Wire) (own : List Level) (sound : I
         ∙ ap (λ e. framing_received own e found_level) none
         ∙ ap (λ b. cond b (fails Rx mode Stuff) (continues happens.Nothing)) no_sixth
 
-    sends_judged : (k : ℕ) (head : Content) → Sends w own k head
+    sends_judged : (k : ℕ) (head : Content) → IsSender w own k head
         → judged (stretch_at w k) found_level ≡ cond (same (sent_at head own place) (bus w)) (continues happens.Nothing) (differing head own found_level)
     sends_judged k head s =
         ap (λ t. judged t found_level) s.framing ∙ ap (λ role. framing_by role (Some head) own found_level) s.role
@@ -261,7 +261,7 @@ module _ (decides : ArbitrationDecides) (w : Wire) (own : List Level) (sound : I
         ∙ ap (λ s. cond s (cond (nat_le (length kept) (layout_of (bits_of head)).rtr) (begins happens.TxFree (Flagging (error_flag mode) Tx) []) (fails Tx mode Bit)) late) l.free
         ∙ ap (λ a. cond a (continues happens.Nothing) (fails Tx mode Bit)) l.arbitration
 
-    sends_on : (k : ℕ) (head : Content) → k < w.count → Sends w own k head → judged (stretch_at w k) found_level ≡ continues happens.Nothing
+    sends_on : (k : ℕ) (head : Content) → k < w.count → IsSender w own k head → judged (stretch_at w k) found_level ≡ continues happens.Nothing
     sends_on k head lt s = sends_judged k head s ∙ elim (fate k head lt s) [
       | inl e ↦ ap (λ b. cond b (continues happens.Nothing) (differing head own found_level)) (same_levels (sent_at head own place) (bus w) e)
       | inr l ↦ either (same (sent_at head own place) (bus w)) (continues happens.Nothing) (differing head own found_level) (differing_on head l)
@@ -300,7 +300,7 @@ module _ (decides : ArbitrationDecides) (w : Wire) (own : List Level) (sound : I
   -- all machines one bit later
   module _ (handed : ℕ → Handed) where
     abbrev later : Wire
-    later = happens w (Bit handed)
+    later = next_wire w (Bit handed)
 
     abbrev longer : List Level
     longer = own ++ bus w ∷ []
@@ -312,7 +312,7 @@ module _ (decides : ArbitrationDecides) (w : Wire) (own : List Level) (sound : I
         (ap (λ j. j.next) (stuffed_on (slice_get (w.frames k) (handed k).which) (handed k).mode k lt))
 
     -- who sends then sent before, and found what it sent
-    sent_before : (k : ℕ) (head : Content) → k < w.count → Sends later longer k head → Sends w own k head
+    sent_before : (k : ℕ) (head : Content) → k < w.count → IsSender later longer k head → IsSender w own k head
     sent_before k head lt s = record {
       framing = (f.each k lt).1 ∙ ap (λ o. stretch_by (Framing o) own) (ap (λ t. head_of t.sort) (sym (next_stretch k lt) ∙ s.framing));
       role = elim (role_cases (frame_role (Some head) own)) [
@@ -321,13 +321,13 @@ module _ (decides : ArbitrationDecides) (w : Wire) (own : List Level) (sound : I
       ];
     }
 
-    found_bit : (k : ℕ) (head : Content) → k < w.count → Sends later longer k head → sent_at head own place ≡ bus w
+    found_bit : (k : ℕ) (head : Content) → k < w.count → IsSender later longer k head → sent_at head own place ≡ bus w
     found_bit k head lt s = elim (fate k head lt (sent_before k head lt s)) [
       | inl e ↦ e
       | inr l ↦ absurd (not_both_roles (frame_role (Some head) longer) s.role (lost_role head l))
     ]
 
-    found_more : (k : ℕ) (head : Content) → k < w.count → Sends later longer k head → FoundSent head longer (suc place)
+    found_more : (k : ℕ) (head : Content) → k < w.count → IsSender later longer k head → FoundSent head longer (suc place)
     found_more k head lt s n below = elim (cases_lt n place) [
       | inl old ↦ found_old head own (bus w) place (omega arith) (found_here k head lt (sent_before k head lt s)) n old
       | inr new ↦

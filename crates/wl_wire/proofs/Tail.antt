@@ -21,8 +21,8 @@ use Rattle.wl_machine.specs.Judged.{judged, or_next, drive_of, head_of, role_of}
 use Rattle.wl_machine.specs.Laws.{FoundSent}
 use Rattle.wl_machine.specs.States.{IsTail, sample_of, stretch_by}
 use Rattle.wl_machine.proofs.Callers.{end_stays, role_receives, tail_sends, kept_is_all}
-use Rattle.wl_wire.specs.Wire.{Wire, Handed, Bit, stretch_at, bus, happens}
-use Rattle.wl_wire.specs.InStep.{IsSound, AreInIntermission, AreInFrame, AreInStep, Sends, or_all, stuffed_length, is_fine}
+use Rattle.wl_wire.specs.Wire.{Wire, Handed, Bit, stretch_at, bus, next_wire}
+use Rattle.wl_wire.specs.InStep.{AreSoundFrames, AreInIntermission, AreInFrame, AreInStep, IsSender, or_all, stuffed_length, is_fine}
 use Rattle.wl_wire.specs.Outcome.{completed, is_acked}
 use Rattle.wl_wire.proofs.Bus.{bus_driven, bus_silent}
 use Rattle.wl_wire.proofs.Events.{OwnHeads, sample_at, at_bit}
@@ -107,7 +107,7 @@ abbrev pub got_in : Role → List Level → ℕ → List Ended
 got_in Tx bits n = []
 got_in Rx bits n = got_at bits n
 
-module _ (w : Wire) (own : List Level) (sound : IsSound w.count w.frames) (heads : OwnHeads w) (f : AreInFrame w own)
+module _ (w : Wire) (own : List Level) (sound : AreSoundFrames w.count w.frames) (heads : OwnHeads w) (f : AreInFrame w own)
     (end : ℕ) (over : stuffed_end own ≡ Some end) where
   abbrev place : ℕ
   place = length own - end
@@ -115,21 +115,21 @@ module _ (w : Wire) (own : List Level) (sound : IsSound w.count w.frames) (heads
   abbrev kept : List Level
   kept = destuffed_bits own end
 
-  found_to_end : (k : ℕ) (head : Content) → k < w.count → Sends w own k head → FoundSent head own end
+  found_to_end : (k : ℕ) (head : Content) → k < w.count → IsSender w own k head → FoundSent head own end
   found_to_end k head lt s = subst (FoundSent head own) (ap (λ e. or_all e (length own)) over) (f.found k head lt s)
 
   -- what all have is what a sender sent
-  pub kept_is : (k : ℕ) (head : Content) → k < w.count → Sends w own k head → kept ≡ bits_of head
+  pub kept_is : (k : ℕ) (head : Content) → k < w.count → IsSender w own k head → kept ≡ bits_of head
   kept_is k head lt s = kept_is_all head own end (sends_content w own k head sound heads lt s) over (found_to_end k head lt s)
 
   -- so there is one
-  pub same_head : (j k : ℕ) (a b : Content) → j < w.count → k < w.count → Sends w own j a → Sends w own k b → a ≡ b
+  pub same_head : (j k : ℕ) (a b : Content) → j < w.count → k < w.count → IsSender w own j a → IsSender w own k b → a ≡ b
   same_head j k a b lj lk p q =
       sym (read_back a (sends_content w own j a sound heads lj p)).content
       ∙ ap content_of (sym (kept_is j a lj p) ∙ kept_is k b lk q)
       ∙ (read_back b (sends_content w own k b sound heads lk q)).content
 
-  pub one_sender : (j k : ℕ) (a b : Content) → j < w.count → k < w.count → Sends w own j a → Sends w own k b → j ≡ k
+  pub one_sender : (j k : ℕ) (a b : Content) → j < w.count → k < w.count → IsSender w own j a → IsSender w own k b → j ≡ k
   one_sender j k a b lj lk p q = elim (cases_eq j k) [
     | inl e ↦ e
     | inr apart ↦
@@ -161,7 +161,7 @@ module _ (w : Wire) (own : List Level) (sound : IsSound w.count w.frames) (heads
   crc = ap is_crc_right (kept_is f.sender.0 f.sender.2 f.sender.1 f.sender.3) ∙ (read_back f.sender.2 (sends_content w own f.sender.0 f.sender.2 sound heads f.sender.1 f.sender.3)).crc
 
   -- what each drives
-  sender_drives : (k : ℕ) (head : Content) → Sends w own k head → drive_of (stretch_at w k) ≡ Recessive
+  sender_drives : (k : ℕ) (head : Content) → IsSender w own k head → drive_of (stretch_at w k) ≡ Recessive
   sender_drives k head s =
       ap drive_of s.framing ∙ ap (λ e. drive_up_to e (Some head) own) over ∙ ap (λ r. tail_drive r kept place) s.role
 
@@ -192,7 +192,7 @@ module _ (w : Wire) (own : List Level) (sound : IsSound w.count w.frames) (heads
     abbrev mode : ℕ → Mode
     mode k = (handed k).mode
 
-    sends_judged : (k : ℕ) (head : Content) (l : Level) → Sends w own k head → bus w ≡ l
+    sends_judged : (k : ℕ) (head : Content) (l : Level) → IsSender w own k head → bus w ≡ l
         → judged (stretch_at w k) (sample_at w handed k) ≡ sent_tail head place (sample_of l (given k) (mode k))
     sends_judged k head l s e =
         ap (λ t. judged t (sample_at w handed k)) s.framing ∙ ap (λ role. framing_by role (Some head) own (sample_at w handed k)) s.role
@@ -238,7 +238,7 @@ module _ (w : Wire) (own : List Level) (sound : IsSound w.count w.frames) (heads
       | inr off ↦ elsewhere off apart k (member w own f k lt)
     ]
 
-    pub sender_ends : place ≡ 9 → (k : ℕ) (head : Content) → Sends w own k head → EndsBy Tx (Sent head ∷ []) (judged (stretch_at w k) (sample_at w handed k))
+    pub sender_ends : place ≡ 9 → (k : ℕ) (head : Content) → IsSender w own k head → EndsBy Tx (Sent head ∷ []) (judged (stretch_at w k) (sample_at w handed k))
     sender_ends last k head s =
         subst (EndsBy Tx (Sent head ∷ [])) (sym (sends_judged k head Recessive s (bus_elsewhere (ap (λ n. n == 1) last)))) (sent_end head place (given k) (mode k) last)
 
@@ -261,7 +261,7 @@ module _ (w : Wire) (own : List Level) (sound : IsSound w.count w.frames) (heads
 
     -- the frame goes on
     abbrev later : Wire
-    later = happens w (Bit handed)
+    later = next_wire w (Bit handed)
 
     abbrev longer : List Level
     longer = own ++ bus w ∷ []
@@ -271,7 +271,7 @@ module _ (w : Wire) (own : List Level) (sound : IsSound w.count w.frames) (heads
         at_bit w handed k
         ∙ after_none (stretch_at w k) (sample_at w handed k) (Framing (f.each k lt).0) own (f.each k lt).1 (goes_on_there apart k lt).next
 
-    sent_before : place ≢ 9 → (k : ℕ) (head : Content) → k < w.count → Sends later longer k head → Sends w own k head
+    sent_before : place ≢ 9 → (k : ℕ) (head : Content) → k < w.count → IsSender later longer k head → IsSender w own k head
     sent_before apart k head lt s = record {
       framing = (f.each k lt).1 ∙ ap (λ o. stretch_by (Framing o) own) (ap (λ t. head_of t.sort) (sym (next_stretch apart k lt) ∙ s.framing));
       role = elim (role_cases (frame_role (Some head) own)) [
@@ -293,7 +293,7 @@ module _ (w : Wire) (own : List Level) (sound : IsSound w.count w.frames) (heads
       below = (let a : end ≤ length own = inside.0 in let b : length own < end + 10 = inside.1 in omega arith);
     }
 
-    found_still : place ≢ 9 → (k : ℕ) (head : Content) → k < w.count → Sends later longer k head → FoundSent head longer (stuffed_length longer)
+    found_still : place ≢ 9 → (k : ℕ) (head : Content) → k < w.count → IsSender later longer k head → FoundSent head longer (stuffed_length longer)
     found_still apart k head lt s =
         subst (FoundSent head longer) (sym (ap (λ e. or_all e (length longer)) still_over))
         (found_old head own (bus w) end inside.0 (found_to_end k head lt (sent_before apart k head lt s)))

@@ -11,7 +11,7 @@ use Rattle.wl_machine.specs.Judged.{head_of}
 use Rattle.wl_machine.specs.States.{stretch_by}
 use Rattle.wl_machine.proofs.Callers.{ends_at}
 use Rattle.wl_wire.specs.Wire.{Wire, stretch_at, is_between}
-use Rattle.wl_wire.specs.InStep.{IsSound, AreInFrame, AreInStep, Sends, or_all, stuffed_length}
+use Rattle.wl_wire.specs.InStep.{AreSoundFrames, AreInFrame, AreInStep, IsSender, or_all, stuffed_length}
 use Rattle.wl_wire.specs.Winner.{Beats, Lost, HasOneWinner}
 use Rattle.wl_wire.proofs.Events.{OwnHeads}
 use Rattle.wl_wire.proofs.Losers.{LostAt, LostSoFar, beats_by}
@@ -48,8 +48,8 @@ in_frame_by w own k head lt some e (inl b) = absurd (begun_not_between head own 
 in_frame_by w own k head lt some e (inr (inl i)) = absurd (no_frame (i.1.each k lt).0 head own i.0 (sym (i.1.each k lt).1 ∙ e))
 in_frame_by w own k head lt some e (inr (inr f)) = subst (AreInFrame w) (same_own w own f.0 k head f.1 lt e) f.1
 
-module _ (w : Wire) (sound : IsSound w.count w.frames) (heads : OwnHeads w) (step : AreInStep w) (lost : LostSoFar w) where
-  beaten : (own : List Level) (j k : ℕ) (a b : Content) → j < w.count → k < w.count → Sends w own j a → Lost w own k b → Beats a b
+module _ (w : Wire) (sound : AreSoundFrames w.count w.frames) (heads : OwnHeads w) (step : AreInStep w) (lost : LostSoFar w) where
+  beaten : (own : List Level) (j k : ℕ) (a b : Content) → j < w.count → k < w.count → IsSender w own j a → Lost w own k b → Beats a b
   beaten own j k a b lj lk s l =
       let loss : LostAt b own = lost k b own lk l.framing l.role in
       let some : 0 < length own = (let lt : loss.place < length own = loss.inside in omega arith) in
@@ -71,7 +71,7 @@ module _ (w : Wire) (sound : IsSound w.count w.frames) (heads : OwnHeads w) (ste
   has_samples [] end e = absurd (no_end_of_nothing end e)
   has_samples (l ∷ own) end e = omega arith
 
-  alone : (own : List Level) (end j k : ℕ) (a b : Content) → j < w.count → k < w.count → stuffed_end own ≡ Some end → Sends w own j a → Sends w own k b → j ≡ k
+  alone : (own : List Level) (end j k : ℕ) (a b : Content) → j < w.count → k < w.count → stuffed_end own ≡ Some end → IsSender w own j a → IsSender w own k b → j ≡ k
   alone own end j k a b lj lk e p q =
       one_sender w own sound heads (in_frame_by w own j a lj (has_samples own end e) p.framing step) end e j k a b lj lk p q
 

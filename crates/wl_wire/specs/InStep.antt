@@ -22,7 +22,7 @@ Has frames k c = (n : ℕ) × (slice_get (frames k) n ≡ Some c)
 
 -- At least two machines take part, and frames of different ones differ in format, identifier or RTR bit; Bosch CAN 2.0 part B, section 3.1 (the latter
 -- is there a rule for whoever plans a bus)
-pub record IsSound (count : ℕ) (frames : ℕ → List Content) : Type 0 where
+pub record AreSoundFrames (count : ℕ) (frames : ℕ → List Content) : Type 0 where
   pub two : 2 ≤ count
   pub content : (k : ℕ) (c : Content) → k < count → Has frames k c → IsContent c
   pub apart : (j k : ℕ) (a b : Content) → j < count → k < count → j ≢ k → Has frames j a → Has frames k b → ¬ HaveSameField a b
@@ -45,7 +45,7 @@ abbrev pub stuffed_length : List Level → ℕ
 stuffed_length own = or_all (stuffed_end own) (length own)
 
 -- a machine sends this frame, in a stretch with these samples, and has not lost the arbitration
-pub record Sends (w : Wire) (own : List Level) (k : ℕ) (head : Content) : Type 0 where
+pub record IsSender (w : Wire) (own : List Level) (k : ℕ) (head : Content) : Type 0 where
   pub framing : stretch_at w k ≡ stretch_by (Framing (Some head)) own
   pub role : frame_role (Some head) own ≡ Tx
 
@@ -54,8 +54,8 @@ pub record Sends (w : Wire) (own : List Level) (k : ℕ) (head : Content) : Type
 pub record AreInFrame (w : Wire) (own : List Level) : Type 0 where
   pub begun : 0 < length own
   pub each : (k : ℕ) → k < w.count → (head : Option Content) × (stretch_at w k ≡ stretch_by (Framing head) own)
-  pub sender : (k : ℕ) × (k < w.count) × (head : Content) × Sends w own k head
-  pub found : (k : ℕ) (head : Content) → k < w.count → Sends w own k head → FoundSent head own (stuffed_length own)
+  pub sender : (k : ℕ) × (k < w.count) × (head : Content) × IsSender w own k head
+  pub found : (k : ℕ) (head : Content) → k < w.count → IsSender w own k head → FoundSent head own (stuffed_length own)
   pub tail : (end : ℕ) → stuffed_end own ≡ Some end → (end ≤ length own) × (length own < end + 10)
 
 -- idle, in the same bit of an intermission, or at the same place of the same frame

@@ -50,15 +50,15 @@ abbrev pub acknowledged_by : List Input → ℕ
 acknowledged_by inputs = count_by (λ j. is_acked j.happened) (judgements_of inputs)
 
 -- how many frames were begun: a start of frame is the first sample of its stretch; Bosch CAN 2.0 part B, section 3.2.1 (start of frame)
-abbrev pub is_start_by : Sort → List Level → Bool
-is_start_by (Framing head) own = length own == 1
-is_start_by sort own = false
+abbrev pub is_start_of_frame_by : Sort → List Level → Bool
+is_start_of_frame_by (Framing head) own = length own == 1
+is_start_of_frame_by sort own = false
 
-abbrev pub is_start : Stretch → Bool
-is_start s = is_start_by s.sort s.own
+abbrev pub is_start_of_frame : Stretch → Bool
+is_start_of_frame s = is_start_of_frame_by s.sort s.own
 
 abbrev pub begun_by : List Input → ℕ
-begun_by inputs = count_by is_start (stretches (stretch_by Integration []) inputs)
+begun_by inputs = count_by is_start_of_frame (stretches (stretch_by Integration []) inputs)
 
 -- a frame that was sent, and by which machine; this project's profile
 pub record Passage : Type 0 where

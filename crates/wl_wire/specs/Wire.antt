@@ -65,11 +65,11 @@ added w (Bit handed) k = Sample (sampled (bus w) (w.frames k) (handed k)) ∷ []
 added w (Own machine handed) k =
     if (k == machine) && may_be_alone (stretch_at w k) then Sample (sampled Recessive (w.frames k) handed) ∷ [] else []
 
-abbrev pub happens : Wire → Event → Wire
-happens w event = record { count = w.count; frames = w.frames; past = λ k. w.past k ++ added w event k }
+abbrev pub next_wire : Wire → Event → Wire
+next_wire w event = record { count = w.count; frames = w.frames; past = λ k. w.past k ++ added w event k }
 
 abbrev pub wire_after : Wire → List Event → Wire
-wire_after w events = fold happens w events
+wire_after w events = fold next_wire w events
 
 -- at first each machine has sampled eleven recessive bits, with nothing to send, so that the bus is idle to it; ISO 11898-1, bus integration
 abbrev pub idle_wire : ℕ → (ℕ → List Content) → Wire

@@ -4,7 +4,7 @@ ghost use Rattle.std.specs.Prelude.{◌≡◌, ◌<◌, ℕ, List, length};
 ghost use Rattle.wl_level.specs.declared.Level.{Level};
 ghost use Rattle.wl_confine.specs.Counts.{no_counts};
 ghost use Rattle.wl_frame.specs.Grammar.{Content};
-ghost use Rattle.wl_wire.specs.InStep.{IsSound, AreInFrame, AreInStep, FindsNoError};
+ghost use Rattle.wl_wire.specs.InStep.{AreSoundFrames, AreInFrame, AreInStep, FindsNoError};
 ghost use Rattle.wl_wire.specs.Outcome.{Passage, HaveGot, IsFree, counts_after_all};
 ghost use Rattle.wl_wire.specs.Winner.{HasOneWinner};
 ghost use Rattle.wl_wire.specs.Wire.{Event, Wire, idle_wire, wire_after};
@@ -12,9 +12,9 @@ ghost use Rattle.wl_wire.specs.Wire.{Event, Wire, idle_wire, wire_after};
 /// Law: two or more machines on one wire that are handed frames of different format, identifier or RTR stay in step, and none finds an
 /// error: whatever they are handed, in whatever modes, and however many recessive bits each samples by itself between frames.
 pub fn machines_stay_in_step()
-    ensures step { (count : ℕ) (frames : ℕ → List Content) (events : List Event) → IsSound count frames
+    ensures step { (count : ℕ) (frames : ℕ → List Content) (events : List Event) → AreSoundFrames count frames
         → AreInStep (wire_after (idle_wire count frames) events) }
-    ensures errors { (count : ℕ) (frames : ℕ → List Content) (events : List Event) → IsSound count frames
+    ensures errors { (count : ℕ) (frames : ℕ → List Content) (events : List Event) → AreSoundFrames count frames
         → FindsNoError (wire_after (idle_wire count frames) events) }
 {
     wl_machine::laws::a_sent_frame_is_the_head_that_began_its_stretch();
@@ -23,7 +23,7 @@ pub fn machines_stay_in_step()
 
 /// Law: the error counters of such machines stay 0.
 pub fn counters_stay_zero()
-    ensures { (count : ℕ) (frames : ℕ → List Content) (events : List Event) → IsSound count frames
+    ensures { (count : ℕ) (frames : ℕ → List Content) (events : List Event) → AreSoundFrames count frames
         → (k : ℕ) → k < count → counts_after_all ((wire_after (idle_wire count frames) events).past k) ≡ no_counts }
 {
     machines_stay_in_step();
@@ -32,7 +32,7 @@ pub fn counters_stay_zero()
 /// Law: of such machines that begin frames together, one that still sends has a lesser arbitration field than each that has lost, and after
 /// the stuffed part one sends alone.
 pub fn the_least_field_wins()
-    ensures { (count : ℕ) (frames : ℕ → List Content) (events : List Event) → IsSound count frames
+    ensures { (count : ℕ) (frames : ℕ → List Content) (events : List Event) → AreSoundFrames count frames
         → HasOneWinner (wire_after (idle_wire count frames) events) }
 {
     wl_machine::laws::a_sent_frame_is_the_head_that_began_its_stretch();
@@ -42,7 +42,7 @@ pub fn the_least_field_wins()
 /// Law: each frame that such machines begin gets through: as soon as none is under way, each that was begun is one that one machine
 /// has sent, one of its own, and that every other machine has acknowledged and received, in the same order at all of them.
 pub fn all_get_each_frame()
-    ensures { (count : ℕ) (frames : ℕ → List Content) (events : List Event) → IsSound count frames
+    ensures { (count : ℕ) (frames : ℕ → List Content) (events : List Event) → AreSoundFrames count frames
         → IsFree (wire_after (idle_wire count frames) events)
         → (passages : List Passage) × HaveGot (wire_after (idle_wire count frames) events) passages }
 {
@@ -53,7 +53,7 @@ pub fn all_get_each_frame()
 /// Law: a frame that such machines begin comes to its end. While it is under way each has fewer than 157 bits of it, so it ends with the
 /// 157th at the latest: 118 bits, 29 stuff bits, and the ten bits after them (Bosch CAN 2.0 part B, sections 3.2.1 and 6).
 pub fn a_frame_ends()
-    ensures { (count : ℕ) (frames : ℕ → List Content) (events : List Event) → IsSound count frames
+    ensures { (count : ℕ) (frames : ℕ → List Content) (events : List Event) → AreSoundFrames count frames
         → (own : List Level) → AreInFrame (wire_after (idle_wire count frames) events) own → length own < 157 }
 {
     wl_machine::laws::a_sent_frame_is_the_head_that_began_its_stretch();

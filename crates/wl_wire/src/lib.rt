@@ -12,7 +12,7 @@ ghost use Rattle.wl_machine.specs.Stretch.Input.{Sample};
 ghost use Rattle.wl_machine.specs.Judged.{judged, stretch_of, drive_of};
 ghost use Rattle.wl_machine.specs.Reached.{IsMachine};
 ghost use Rattle.wl_machine.specs.States.{sample_of, done_of};
-ghost use Rattle.wl_wire.specs.InStep.{IsSound, is_fine};
+ghost use Rattle.wl_wire.specs.InStep.{AreSoundFrames, is_fine};
 ghost use Rattle.wl_wire.specs.Wire.{Event, Wire, Handed, Bit, added, idle_wire, wire_after};
 
 use wl_confine::{Happened, Mode};
@@ -43,7 +43,7 @@ pub fn sample(machine: &mut Machine, level: Level, head: Option<&Frame>, mode: M
         → result.happened ≡ (judged (stretch_of past) (sample_of level (option_copied head.entry) mode)).happened }
     ensures done { (past : List Input) → IsMachine machine.old past
         → result.done ≡ done_of (judged (stretch_of past) (sample_of level (option_copied head.entry) mode)).ended }
-    ensures in_step { (count : ℕ) (frames : ℕ → List Content) (events : List Event) → IsSound count frames
+    ensures in_step { (count : ℕ) (frames : ℕ → List Content) (events : List Event) → AreSoundFrames count frames
         → (event : Event) (k : ℕ) → k < count → IsMachine machine.old ((wire_after (idle_wire count frames) events).past k)
         → added (wire_after (idle_wire count frames) events) event k ≡ Sample (sample_of level (option_copied head.entry) mode) ∷ []
         → is_fine result.happened ≡ true }
