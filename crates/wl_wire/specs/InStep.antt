@@ -20,12 +20,13 @@ use Rattle.wl_wire.specs.Wire.{Wire, Event, stretch_at, is_between, added}
 abbrev pub Has : (ℕ → List Content) → ℕ → Content → Type 0
 Has frames k c = (n : ℕ) × (slice_get (frames k) n ≡ Some c)
 
--- At least two machines take part, and frames of different ones differ in format, identifier or RTR bit; Bosch CAN 2.0 part B, section 3.1 (the latter
--- is there a rule for whoever plans a bus)
+-- At least two machines take part, and frames of different ones differ in format, identifier or RTR bit; Bosch CAN
+-- 2.0 part B, section 3.1 (the latter is there a rule for whoever plans a bus)
 pub record AreSoundFrames (count : ℕ) (frames : ℕ → List Content) : Type 0 where
   pub two : 2 ≤ count
   pub content : (k : ℕ) (c : Content) → k < count → Has frames k c → IsContent c
-  pub apart : (j k : ℕ) (a b : Content) → j < count → k < count → j ≢ k → Has frames j a → Has frames k b → ¬ HaveSameField a b
+  pub apart : (j k : ℕ) (a b : Content) → j < count → k < count → j ≢ k → Has frames j a → Has frames k b
+      → ¬ HaveSameField a b
 
 -- all are between frames
 abbrev pub AreBetween : Wire → Type 0
@@ -49,8 +50,8 @@ pub record IsSender (w : Wire) (own : List Level) (k : ℕ) (head : Content) : T
   pub framing : stretch_at w k ≡ stretch_by (Framing (Some head)) own
   pub role : frame_role (Some head) own ≡ Tx
 
--- All are in a frame, with the same samples: one or more send, and what was sampled up to the end of the stuffed part is what each of these sent. After it
--- come ten bits at most.
+-- All are in a frame, with the same samples: one or more send, and what was sampled up to the end of the stuffed part
+-- is what each of these sent. After it come ten bits at most.
 pub record AreInFrame (w : Wire) (own : List Level) : Type 0 where
   pub begun : 0 < length own
   pub each : (k : ℕ) → k < w.count → (head : Option Content) × (stretch_at w k ≡ stretch_by (Framing head) own)
@@ -71,4 +72,5 @@ is_fine happened = false
 
 -- whatever happens next, no machine finds an error
 abbrev pub FindsNoError : Wire → Type 0
-FindsNoError w = (event : Event) (k : ℕ) (x : Sampled) → k < w.count → added w event k ≡ Sample x ∷ [] → is_fine (judged (stretch_at w k) x).happened ≡ true
+FindsNoError w = (event : Event) (k : ℕ) (x : Sampled) → k < w.count → added w event k ≡ Sample x ∷ []
+    → is_fine (judged (stretch_at w k) x).happened ≡ true

@@ -1,4 +1,5 @@
--- What the machines of a wire did: what happened to each, its error counters, and the frames that it began and completed.
+-- What the machines of a wire did: what happened to each, its error counters, and the frames that it began and
+-- completed.
 use Rattle.std.specs.Prelude.{◌≡◌, ◌⊎◌, ◌<◌, ℕ, ◌==◌, Bool, true, false, not, List, [], ◌∷◌, length, map, count_by, if◌then◌else◌}
 use Rattle.std.specs.List.{All, flat_map}
 use Rattle.wl_level.specs.declared.Level.{Level}
@@ -41,7 +42,8 @@ completed (Received frame) = Received frame ∷ []
 abbrev pub frames_of : List Input → List Ended
 frames_of inputs = flat_map (λ j. completed j.ended) (judgements_of inputs)
 
--- how many frames were acknowledged, each by a dominant bit that was driven and found; Bosch CAN 2.0 part B, section 3.2.1 (ACK field)
+-- how many frames were acknowledged, each by a dominant bit that was driven and found; Bosch CAN 2.0 part B, section
+-- 3.2.1 (ACK field)
 abbrev pub is_acked : Happened → Bool
 is_acked Acked = true
 is_acked happened = false
@@ -49,7 +51,8 @@ is_acked happened = false
 abbrev pub acknowledged_by : List Input → ℕ
 acknowledged_by inputs = count_by (λ j. is_acked j.happened) (judgements_of inputs)
 
--- how many frames were begun: a start of frame is the first sample of its stretch; Bosch CAN 2.0 part B, section 3.2.1 (start of frame)
+-- how many frames were begun: a start of frame is the first sample of its stretch; Bosch CAN 2.0 part B, section
+-- 3.2.1 (start of frame)
 abbrev pub is_start_of_frame_by : Sort → List Level → Bool
 is_start_of_frame_by (Framing head) own = length own == 1
 is_start_of_frame_by sort own = false
@@ -73,8 +76,8 @@ seen_by k passage = if k == passage.sender then Sent passage.frame else Received
 abbrev pub is_received_by : ℕ → Passage → Bool
 is_received_by k passage = not (k == passage.sender)
 
--- The frames that were begun on a wire are these, one after another: each was sent by one machine, of whose frames it is one, and every other machine has
--- acknowledged and received it.
+-- The frames that were begun on a wire are these, one after another: each was sent by one machine, of whose frames it
+-- is one, and every other machine has acknowledged and received it.
 pub record HaveGot (w : Wire) (passages : List Passage) : Type 0 where
   pub senders : All (λ p. (p.sender < w.count) × Has w.frames p.sender p.frame) passages
   pub begun : (k : ℕ) → k < w.count → begun_by (w.past k) ≡ length passages

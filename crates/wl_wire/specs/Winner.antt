@@ -10,8 +10,8 @@ use Rattle.wl_machine.specs.States.{stretch_by}
 use Rattle.wl_wire.specs.Wire.{Wire, stretch_at}
 use Rattle.wl_wire.specs.InStep.{IsSender}
 
--- A frame has the lesser arbitration field: where the two differ first it has a dominant bit, and the other a recessive one of its arbitration; Bosch CAN
--- 2.0 part B, section 3.1 (arbitration)
+-- A frame has the lesser arbitration field: where the two differ first it has a dominant bit, and the other a
+-- recessive one of its arbitration; Bosch CAN 2.0 part B, section 3.1 (arbitration)
 pub record Beats (winner loser : Content) : Type 0 where
   pub front : List Level
   pub more : List Level
@@ -27,5 +27,7 @@ pub record Lost (w : Wire) (own : List Level) (k : ℕ) (head : Content) : Type 
 
 -- Who still sends has a lesser field than each that has lost, and after the stuffed part one sends alone.
 pub record HasOneWinner (w : Wire) : Type 0 where
-  pub beats : (own : List Level) (j k : ℕ) (a b : Content) → j < w.count → k < w.count → IsSender w own j a → Lost w own k b → Beats a b
-  pub alone : (own : List Level) (end j k : ℕ) (a b : Content) → j < w.count → k < w.count → stuffed_end own ≡ Some end → IsSender w own j a → IsSender w own k b → j ≡ k
+  pub beats : (own : List Level) (j k : ℕ) (a b : Content) → j < w.count → k < w.count → IsSender w own j a
+      → Lost w own k b → Beats a b
+  pub alone : (own : List Level) (end j k : ℕ) (a b : Content) → j < w.count → k < w.count
+      → stuffed_end own ≡ Some end → IsSender w own j a → IsSender w own k b → j ≡ k

@@ -1,4 +1,5 @@
--- Machines on one wire. There is no time here: a bit of the bus is one bit for all, but that each may sample recessive bits of its own between frames.
+-- Machines on one wire. There is no time here: a bit of the bus is one bit for all, but that each may sample
+-- recessive bits of its own between frames.
 use Rattle.std.specs.Prelude.{ℕ, ◌==◌, ◌&&◌, Bool, true, false, not, List, [], ◌∷◌, ◌++◌, length, Some, None, is_some, fold, replicate, slice_get, if◌then◌else◌}
 use Rattle.wl_level.specs.declared.Level.{Level}
 use Rattle.wl_level.specs.declared.Level.TheVariants.{Recessive}
@@ -19,7 +20,8 @@ pub record Wire : Type 0 where
   pub frames : ℕ → List Content
   pub past : ℕ → List Input
 
--- what a machine is handed with a sample: which of its frames is the head, or none of them where it has fewer, and the mode; this project's profile
+-- what a machine is handed with a sample: which of its frames is the head, or none of them where it has fewer, and
+-- the mode; this project's profile
 pub record Handed : Type 0 where
   pub which : ℕ
   pub mode : Mode
@@ -38,8 +40,8 @@ bus w = level_of (is_some (first_place (drives_dominant w) w.count))
 abbrev pub sampled : Level → List Content → Handed → Sampled
 sampled level frames handed = sample_of level (slice_get frames handed.which) handed.mode
 
--- A machine is between frames: the bus is idle to it, or it is suspended, or it has two bits of an intermission, or it is to begin a frame;
--- Bosch CAN 2.0 part B, section 3.2.5
+-- A machine is between frames: the bus is idle to it, or it is suspended, or it has two bits of an intermission, or
+-- it is to begin a frame; Bosch CAN 2.0 part B, section 3.2.5
 abbrev pub is_between_by : Sort → List Level → Bool
 is_between_by Idle own = true
 is_between_by Suspension own = true
@@ -54,7 +56,8 @@ is_between s = is_between_by s.sort s.own
 abbrev pub may_be_alone : Stretch → Bool
 may_be_alone s = is_between s && not (is_dominant (drive_of s))
 
--- what happens on a wire: a bit of the bus, which each machine samples, or a recessive bit that one machine samples by itself; this project's profile
+-- what happens on a wire: a bit of the bus, which each machine samples, or a recessive bit that one machine samples
+-- by itself; this project's profile
 pub data Event : Type 0 where
   Bit : (handed : ℕ → Handed) → Event
   Own : (machine : ℕ) → (handed : Handed) → Event
@@ -71,6 +74,7 @@ next_wire w event = record { count = w.count; frames = w.frames; past = λ k. w.
 abbrev pub wire_after : Wire → List Event → Wire
 wire_after w events = fold next_wire w events
 
--- at first each machine has sampled eleven recessive bits, with nothing to send, so that the bus is idle to it; ISO 11898-1, bus integration
+-- at first each machine has sampled eleven recessive bits, with nothing to send, so that the bus is idle to it; ISO
+-- 11898-1, bus integration
 abbrev pub idle_wire : ℕ → (ℕ → List Content) → Wire
 idle_wire count frames = record { count = count; frames = frames; past = λ k. replicate 11 (Sample (sample_of Recessive None Active)) }

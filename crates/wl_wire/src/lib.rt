@@ -1,4 +1,5 @@
-//! Machines on one wire: where all sample the same bits, none makes an error (Bosch CAN 2.0 part B, sections 3.1 and 3.2).
+//! Machines on one wire: where all sample the same bits, none makes an error (Bosch CAN 2.0 part B, sections 3.1 and
+//! 3.2).
 #![tactic(auto)]
 
 pub mod laws;
@@ -20,7 +21,8 @@ use wl_frame::frame::Frame;
 use wl_level::Level;
 use wl_machine::{Machine, Turn};
 
-/// True if nothing happened but that a frame was sent to its end, or acknowledged: no error, no flag (Bosch CAN 2.0 part B, section 8).
+/// True if nothing happened but that a frame was sent to its end, or acknowledged: no error, no flag (Bosch CAN 2.0
+/// part B, section 8).
 pub fn is_without_error(happened: Happened) -> bool
     ensures { result ≡ is_fine happened }
 {
@@ -32,8 +34,9 @@ pub fn is_without_error(happened: Happened) -> bool
 
 /// One sample of a machine on a wire, as [`Machine::bit`].
 ///
-/// The machine finds no error where it is one of two or more on a wire that are idle at first, with frames that differ in format, identifier
-/// or RTR bit, as long as it samples the level of the wire, or a recessive bit by itself between frames.
+/// The machine finds no error where it is one of two or more on a wire that are idle at first, with frames that
+/// differ in format, identifier or RTR bit, as long as it samples the level of the wire, or a recessive bit by itself
+/// between frames.
 pub fn sample(machine: &mut Machine, level: Level, head: Option<&Frame>, mode: Mode) -> Turn
     ensures machine { (past : List Input) → IsMachine machine.old past
         → IsMachine machine.new (past ++ Sample (sample_of level (option_copied head.entry) mode) ∷ []) }
@@ -44,7 +47,8 @@ pub fn sample(machine: &mut Machine, level: Level, head: Option<&Frame>, mode: M
     ensures done { (past : List Input) → IsMachine machine.old past
         → result.done ≡ done_of (judged (stretch_of past) (sample_of level (option_copied head.entry) mode)).ended }
     ensures in_step { (count : ℕ) (frames : ℕ → List Content) (events : List Event) → AreSoundFrames count frames
-        → (event : Event) (k : ℕ) → k < count → IsMachine machine.old ((wire_after (idle_wire count frames) events).past k)
+        → (event : Event) (k : ℕ) → k < count
+        → IsMachine machine.old ((wire_after (idle_wire count frames) events).past k)
         → added (wire_after (idle_wire count frames) events) event k ≡ Sample (sample_of level (option_copied head.entry) mode) ∷ []
         → is_fine result.happened ≡ true }
 {
