@@ -50,7 +50,11 @@ fn tell_rows(alloc: Global, plan: &Plan, told: &mut String) -> Result<()>
         }
     }
     let emitted = all.emitted().len();
-    writeln!(told, "in {rows} rows: {emitted} told, then {:?}", all.ready())?;
+    writeln!(
+        told,
+        "in {rows} rows: {emitted} told, then {:?}",
+        all.ready()
+    )?;
     for i in 0..plan.topology.nodes() {
         tell_node(alloc, &all, i, told)?;
     }

@@ -147,9 +147,9 @@ module _ (i : ℕ) (level before after : Level) (b : Bool) (ran quanta quiet : �
         ∙ (ap (λ t. if b then [] else Edge i m.changed t ∷ []) edge_is
         ∙ turned_list b (turns (line_of plan) i (passed m level n) level) (Edge i m.changed (next_tick (line_of plan) i (passed m level n)) ∷ []) turns_is))
         ∙ (ap (λ c. (if turns (line_of plan) i (passed m level n) level then Edge i m.changed (next_tick (line_of plan) i (passed m level n)) ∷ [] else [])
-            ++ Silence i c (tick_of (node_setup new.node).clock (quanta + ran + quiet)) ∷ []) changed_new
+        ++ Silence i c (tick_of (node_setup new.node).clock (quanta + ran + quiet)) ∷ []) changed_new
         ∙ ap (λ u. (if turns (line_of plan) i (passed m level n) level then Edge i m.changed (next_tick (line_of plan) i (passed m level n)) ∷ [] else [])
-            ++ Silence i (member_after_quantum (line_of plan) i (passed m level n) level).changed u ∷ []) promise_is))
+        ++ Silence i (member_after_quantum (line_of plan) i (passed m level n) level).changed u ∷ []) promise_is))
 
   pub has_gone : (most : ℕ) → ran ≤ most → HasGone i level most old new said
   has_gone most few = record {

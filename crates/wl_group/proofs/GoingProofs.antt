@@ -289,11 +289,11 @@ module _ (laws : ValueLaws) (groups : GroupLaws) (tables : TableLaws) (joins : S
         said_spoken
         ∙ (ap (λ b. (if b then Edge i m.changed (next_tick lin i m) ∷ [] else []) ++ Silence i (member_after_quantum lin i m here).changed (reach lin i (member_after_quantum lin i m here).saw) ∷ []) turn
         ∙ (ap (λ x. (if differs (lin.drives i new_m.saw) (lin.drives i (member_after lin i h.k).saw) then Edge i x (next_tick lin i m) ∷ [] else [])
-            ++ Silence i (member_after_quantum lin i m here).changed (reach lin i (member_after_quantum lin i m here).saw) ∷ []) h.may.changed
+        ++ Silence i (member_after_quantum lin i m here).changed (reach lin i (member_after_quantum lin i m here).saw) ∷ []) h.may.changed
         ∙ (ap (λ q. (if differs (lin.drives i new_m.saw) (lin.drives i (member_after lin i h.k).saw) then Edge i (member_after lin i h.k).changed (lin.instant i q) ∷ [] else [])
-            ++ Silence i (member_after_quantum lin i m here).changed (reach lin i (member_after_quantum lin i m here).saw) ∷ []) long
+        ++ Silence i (member_after_quantum lin i m here).changed (reach lin i (member_after_quantum lin i m here).saw) ∷ []) long
         ∙ ap (λ (x : Member). (if differs (lin.drives i new_m.saw) (lin.drives i (member_after lin i h.k).saw) then Edge i (member_after lin i h.k).changed (lin.instant i (h.k + suc h.n - 1)) ∷ [] else [])
-            ++ Silence i x.changed (reach lin i x.saw) ∷ []) after_is)))
+        ++ Silence i x.changed (reach lin i x.saw) ∷ []) after_is)))
 
     quanta_new : slice_set (slice_set old.ran i (Some (h.k + h.n))) i (Some (suc (h.k + h.n))) ≡ slice_set old.ran i (Some (h.k + suc h.n))
     quanta_new = set_there old.ran i (Some (h.k + h.n)) (Some (suc (h.k + h.n))) ∙ ap (λ m. slice_set old.ran i (Some m)) (omega arith)

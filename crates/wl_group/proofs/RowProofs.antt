@@ -65,7 +65,7 @@ module _ (laws : ValueLaws) (sims : SimulationLaws) (sound : CheckedIsSound) (g 
   module _ (until : ℕ) (may : may_run g i ≡ true) (before : (line_of g.plan).instant i k < until) (end first : ℕ) (past : end ≤ until) (stop : end ≤ g.plan.end)
       (far : end ≤ place_horizon (length g.plan.nodes) (line_of g.plan).delay (slots_of g.replica) i) (said : end ≤ horizon (slots_of g.replica) i + 1)
       (least : (t : ℕ) → t < until → t < g.plan.end → t < place_horizon (length g.plan.nodes) (line_of g.plan).delay (slots_of g.replica) i
-        → t < horizon (slots_of g.replica) i + 1 → t < end)
+      → t < horizon (slots_of g.replica) i + 1 → t < end)
       (reached : end ≤ (line_of g.plan).instant i first) (below : (m : ℕ) → m < first → (line_of g.plan).instant i m < end) where
     pub some_counted : k < first
     some_counted =
@@ -80,8 +80,8 @@ module _ (laws : ValueLaws) (sims : SimulationLaws) (sound : CheckedIsSound) (g 
 -- what was read of the list of setups
 pub setup_read : (plan : Plan) (xs : List NodeSetup) (i : ℕ) (x : NodeSetup) → xs ≡ plan.nodes → i < length plan.nodes → x ≡ get_or xs i x → get_or xs i x ≡ setup_at plan i
 setup_read plan xs i x same b r = (
-  sym r ∙ get_or_read plan.nodes i x b (r ∙ ap (λ ys. get_or ys i x) same) no_setup
-)
+    sym r ∙ get_or_read plan.nodes i x b (r ∙ ap (λ ys. get_or ys i x) same) no_setup
+    )
 
 -- ---- quanta in a stretch
 
@@ -185,10 +185,16 @@ module _ (laws : ValueLaws) (groups : GroupLaws) (sims : SimulationLaws) (sound 
 
   -- what it may say
   pub may_say : (p : Plan) × ((m : Member) × MaySay p i m cell s.level count replica.nodes)
-  may_say = (plan, (member_after (line_of plan) i (quanta_of cell.node), record {
-    at = at_here;
-    fits = λ n few stood. fits_there laws groups sims sound (group_value plan cells replica emitted) kept.value i (quanta_of cell.node) ran s stay from_here count within_here n few stood;
-  }))
+  may_say = (
+    plan,
+    (
+      member_after (line_of plan) i (quanta_of cell.node),
+      record {
+        at = at_here;
+        fits = λ n few stood. fits_there laws groups sims sound (group_value plan cells replica emitted) kept.value i (quanta_of cell.node) ran s stay from_here count within_here n few stood;
+      },
+    ),
+  )
 
   pub few_run : 0 < count → quanta_of cell.node + count ≤ most_quanta
   few_run some =

@@ -138,14 +138,7 @@ impl Group {
         group_laws();
         let tick = self.due(i);
         let heard = self.heard[i as usize];
-        let stretch = stretch_around(
-            &self.plan,
-            &self.replica,
-            &mut self.come,
-            heard,
-            i,
-            tick,
-        );
+        let stretch = stretch_around(&self.plan, &self.replica, &mut self.come, heard, i, tick);
         self.heard[i as usize] = stretch;
         let count = self.quanta_until(i, stretch.until).min(most);
         let Some(cell) = &mut self.cells[i as usize] else {
@@ -179,7 +172,10 @@ impl Group {
         let promised = self.replica.horizon(i) + 1;
         let end = until.min(self.plan.end).min(known).min(promised);
         let ran = self.node(i).quanta();
-        self.plan.nodes.as_slice()[i as usize].clock.first_not_before(end) - ran
+        self.plan.nodes.as_slice()[i as usize]
+            .clock
+            .first_not_before(end)
+            - ran
     }
 }
 

@@ -49,7 +49,7 @@ within : (c : In-Some) (k j : ℕ) → quanta_at c.args.self.now c.args.i ≡ So
 within c k j ran less =
     let few = (fewer c).0 in
     subst (λ (w : GroupValue). (k j : ℕ) → quanta_at w c.args.i ≡ Some k → j < c.quanta_until.result
-      → IsWithin w c.args.i c.stretch_around-stretch.result.until ((line_of w.plan).instant c.args.i (k + j))) c.self.view_is c.quanta_until.ensures.each
+    → IsWithin w c.args.i c.stretch_around-stretch.result.until ((line_of w.plan).instant c.args.i (k + j))) c.self.view_is c.quanta_until.ensures.each
     k j ran (omega (arith, less, few))
 
 pub run_cell-requires-clause-says : goal.run_cell-requires-clause-says
