@@ -1,13 +1,14 @@
 #!/usr/bin/env python3
 """Looks for what makes the sources hard to read: a search, not a verdict.
 
-usage: house.py [repeats|wide|names|unused|long]..     all of them where none is named
+usage: house.py [repeats|wide|names|unused|long|english]..     all of them if none is named
 
 repeats  lemma statements that stand more than once, up to the names of their variables (definitions and proofs are read, bodies not)
 wide     clauses of more than 120 columns
 names    words of specs/ that two crates define
 unused   definitions of specs/ that no clause and no other definition names, but for `most_x-is`: they belong into proofs/
 long     files of more than 800 lines, functions of more than 40
+english  of each page: sentences of more than 30 words, lines of more than 120 columns, and words that CONTRIBUTING asks not to use
 """
 import re
 import sys
@@ -132,6 +133,46 @@ def long():
     print("\n".join([*found, f"long: {len(found)} files or functions"]))
 
 
+AVOIDED = ["of which", "that one too", "anew", "so many", "behind", "stands", "comes to", "tells", "as many", "up to when"]
+
+
+def sentences(text):
+    """Yields line and words of each sentence of a page. Code, tables and headings are no sentences; a list's item ends one."""
+    said, begun, fenced = [], 1, False
+    for at, line in enumerate([*text.splitlines(), ""]):
+        if line.lstrip().startswith("```"):
+            fenced = not fenced
+        ends = fenced or not line.strip() or re.match(r"\s*([|#]|```|[-*] |\d+\. )", line)
+        if ends and said:
+            yield begun, said
+            said = []
+        if fenced or re.match(r"\s*([|#]|```)", line) or (line.startswith("    ") and not said):
+            continue
+        plain = re.sub(r"\]\([^)]*\)", "]", re.sub(r"`[^`]*`", "x", line))
+        for word in re.sub(r"^\s*([-*]|\d+\.) ", "", plain).split():
+            begun = begun if said else at + 1
+            said.append(word)
+            if re.search(r"[.:;?!][)*_\"']*$", word):
+                yield begun, said
+                said = []
+
+
+def english():
+    total = [0, 0, 0]
+    for path in sorted([*TOP.glob("*.md"), *TOP.glob("docs/**/*.md"), *TOP.glob("crates/*/README.md")]):
+        text = path.read_text(encoding="utf-8")
+        lengthy = [(line, len(words)) for line, words in sentences(text) if len(words) > 30]
+        wide = [at + 1 for at, line in enumerate(text.splitlines()) if len(line) > 120 and not line.lstrip().startswith("|")]
+        prose = " ".join(" ".join(words) for _, words in sentences(text))
+        avoided = {it: n for it in AVOIDED if (n := len(re.findall(rf"\b{it}\b", prose)))}
+        for at, n in enumerate((len(lengthy), len(wide), sum(avoided.values()))):
+            total[at] += n
+        if lengthy or wide or avoided:
+            print(f"  {path.relative_to(TOP)}: {len(lengthy)} long sentences {lengthy[:6]}, {len(wide)} wide lines, {avoided}")
+    print(f"english: {total[0]} sentences of more than 30 words, {total[1]} lines of more than 120 columns, {total[2]} words to avoid")
+
+
 if __name__ == "__main__":
-    for word in sys.argv[1:] or ["repeats", "wide", "names", "unused", "long"]:
-        {"repeats": repeats, "wide": wide, "names": names, "unused": unused, "long": long}[word]()
+    every = {it.__name__: it for it in (repeats, wide, names, unused, long, english)}
+    for word in sys.argv[1:] or every:
+        every[word]()
