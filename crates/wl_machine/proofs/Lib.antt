@@ -5,6 +5,7 @@ mod FlagSteps
 mod Framed
 mod Free
 mod Busy
+mod Sends
 mod FrameSteps
 mod Keeping
 mod Kept

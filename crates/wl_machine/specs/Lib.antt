@@ -11,3 +11,4 @@ pub mod Rest
 pub mod Roles
 pub mod Laws
 pub mod Doing
+pub mod Sending

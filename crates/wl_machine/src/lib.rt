@@ -11,6 +11,7 @@ use wl_confine::{Happened, Mode};
 use wl_frame::frame::{Frame, FrameBits};
 use wl_level::Level;
 
+mod copy;
 mod doing;
 mod flags;
 mod framing;

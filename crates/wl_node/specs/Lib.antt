@@ -1,7 +1,9 @@
+pub mod Ahead
 pub mod History
 pub mod Kept
 pub mod Laws
 pub mod Limits
+pub mod Marks
 pub mod Quiet
 pub mod Reached
 pub mod Rest

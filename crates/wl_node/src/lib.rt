@@ -1,9 +1,11 @@
 //! One node: clock, bit clock, machine and counters over the levels that it sees.
 #![tactic(auto)]
 
+mod ahead;
 mod go;
 mod laws;
 mod limits;
+mod mark;
 mod node;
 mod progress;
 mod quiet;
@@ -15,5 +17,6 @@ mod traffic;
 
 pub use laws::{drive_laws, node_laws};
 pub use limits::{MOST_QUIET, MOST_RUN_QUANTA};
+pub use mark::Mark;
 pub use node::{Node, NodeLists};
 pub use setup::{NodeSetup, Passed, Queue, Queued};

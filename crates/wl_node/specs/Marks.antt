@@ -1,0 +1,50 @@
+-- Where a node was, so that it can go back there: what it keeps beside its lists, and how long those were. This project's profile.
+-- For a reader who knows simulation: a checkpoint, as optimistic execution has it (Jefferson 1985); the lists of a history only grow.
+use Rattle.std.specs.Prelude.{◌≡◌, ℕ, List, ◌++◌, length, count_by, Some}
+use Rattle.std.specs.List.{flat_map}
+use Rattle.wl_level.specs.declared.Level.{Level}
+use Rattle.wl_sync.specs.Running.{clock_after}
+use Rattle.wl_confine.specs.Counts.{counts_of}
+use Rattle.wl_frame.specs.Grammar.{Content}
+use Rattle.wl_machine.specs.Judged.{stretch_of, drive_of, head_of}
+use Rattle.wl_machine.specs.Reached.{IsMachine}
+use Rattle.wl_node.specs.declared.setup.NodeSetup.{NodeSetup}
+use Rattle.wl_node.specs.declared.mark.Mark.{Mark}
+use Rattle.wl_node.specs.declared.node.Node.{Node}
+use Rattle.wl_node.specs.History.{History, history_of, is_sent, unsent_of, error_count, phase_of, is_hard}
+use Rattle.wl_node.specs.Kept.{first_frame}
+use Rattle.wl_node.specs.Reached.{IsNode, node_setup}
+
+-- a mark is of this history
+pub record FitsMark (setup : NodeSetup) (mark : Mark) (h : History) : Type 0 where
+  pub clock : mark.clock ≡ clock_after setup.segments h.seen
+  pub drive : mark.drive ≡ h.drive
+  pub quanta : mark.quanta ≡ length h.seen
+  pub hards : mark.hards ≡ count_by is_hard h.syncs
+  pub phases : mark.phases ≡ length (flat_map phase_of h.syncs)
+  pub machine : IsMachine mark.machine h.inputs
+  pub counters : mark.counters ≡ counts_of h.happened
+  pub pending : mark.pending ≡ drive_of (stretch_of h.inputs)
+  pub sent : mark.sent ≡ count_by is_sent h.frames
+  pub errors : mark.errors ≡ error_count h
+  pub samples : mark.samples ≡ length h.samples
+  pub frames : mark.frames ≡ length h.frames
+  pub sends : (frame : Content) → head_of (stretch_of h.inputs).sort ≡ Some frame → first_frame (unsent_of setup h) ≡ Some frame
+
+-- it marks where these levels put a node of this setup
+pub record IsMark (setup : NodeSetup) (levels : List Level) (mark : Mark) : Type 0 where
+  pub counted : length (history_of setup levels).seen ≡ length levels
+  pub place : FitsMark setup mark (history_of setup levels)
+
+-- after these levels the node was where the mark is, and some came since
+pub record HasGoneOn (mark : Mark) (levels more : List Level) (node : Node) : Type 0 where
+  pub marked : IsMark (node_setup node) levels mark
+  pub stands : IsNode (levels ++ more) node
+
+-- some levels after which the node was there
+abbrev pub HasPassed : Mark → Node → Type 0
+HasPassed mark node = ∥ ((levels : List Level) × (more : List Level) × HasGoneOn mark levels more node) ∥₁
+
+-- how many quanta the node had run
+abbrev pub quanta_marked : Mark → ℕ
+quanta_marked mark = mark.quanta

@@ -1,0 +1,97 @@
+//! A mark of where a node is, and the way back to it.
+
+ghost use Rattle.std.specs.Prelude.{◌≤◌};
+
+use crate::node::Node;
+use wl_confine::Counters;
+use wl_level::Level;
+use wl_machine::Machine;
+use wl_sync::BitClock;
+
+/// Where a node was: what it keeps beside its lists, and how many samples, frames and phase errors it had stored.
+#[derive(Drop)]
+pub struct Mark {
+    pub(crate) clock: BitClock,
+    pub(crate) drive: Level,
+    pub(crate) quanta: u64,
+    pub(crate) hards: u64,
+    pub(crate) phases: usize,
+    pub(crate) machine: Machine,
+    pub(crate) counters: Counters,
+    pub(crate) pending: Level,
+    pub(crate) sent: usize,
+    pub(crate) errors: u64,
+    pub(crate) samples: usize,
+    pub(crate) frames: usize,
+    ghost few_hards: { hards ≤ quanta },
+    ghost few_errors: { errors ≤ quanta },
+}
+
+impl Node {
+    ghost use Rattle.std.specs.Prelude.{◌≡◌, ◌++◌, List};
+    ghost use Rattle.wl_level.specs.declared.Level.{Level};
+    ghost use Rattle.wl_node.specs.Marks.{IsMark, HasGoneOn, HasPassed, quanta_marked};
+    ghost use Rattle.wl_node.specs.Reached.{IsNode, node_setup, quanta_of};
+
+    /// A mark of where the node is. It takes no memory.
+    pub fn keep(&self) -> Mark
+        ensures mark { (levels : List Level) → IsNode levels self.now → IsMark (node_setup self.now) levels result }
+        ensures quanta { quanta_marked result ≡ quanta_of self.now }
+    {
+        let traffic = &self.progress.traffic;
+        Mark {
+            clock: self.progress.clock,
+            drive: self.progress.drive,
+            quanta: self.progress.quanta,
+            hards: self.progress.syncs.hards,
+            phases: self.progress.syncs.phases.len(),
+            machine: traffic.machine.copy(),
+            counters: traffic.counters,
+            pending: traffic.pending,
+            sent: traffic.sent,
+            errors: traffic.errors,
+            samples: traffic.samples.len(),
+            frames: traffic.frames.len(),
+        }
+    }
+
+    /// Puts the node back to where it was at a mark: what it has stored since is dropped. It takes no memory, and none is given back.
+    pub fn back(&mut self, mark: &Mark)
+        requires { HasPassed mark.now self.old }
+        ensures node { (levels more : List Level) → HasGoneOn mark.now levels more self.old → IsNode levels self.new }
+        ensures setup { node_setup self.new ≡ node_setup self.old }
+        ensures quanta { quanta_of self.new ≡ quanta_marked mark.now }
+    {
+        self.progress.back(mark);
+    }
+}
+
+impl crate::progress::Progress {
+    ghost use Rattle.std.specs.Prelude.{◌≡◌, ◌++◌, List};
+    ghost use Rattle.wl_level.specs.declared.Level.{Level};
+    ghost use Rattle.wl_node.specs.declared.setup.NodeSetup.{NodeSetup};
+    ghost use Rattle.wl_node.specs.Kept.{IsProgress};
+    ghost use Rattle.wl_node.specs.Marks.{IsMark};
+
+    /// Puts a node's progress back to a mark.
+    fn back(&mut self, mark: &Mark)
+        ensures place { (setup : NodeSetup) (levels more : List Level) → IsMark setup levels mark.now
+            → IsProgress setup self.old (levels ++ more) → IsProgress setup self.new levels }
+        ensures quanta { self.new.quanta ≡ mark.now.quanta }
+        ensures hards { self.new.syncs.hards ≡ mark.now.hards }
+        ensures errors { self.new.traffic.errors ≡ mark.now.errors }
+    {
+        self.clock = mark.clock;
+        self.drive = mark.drive;
+        self.quanta = mark.quanta;
+        self.syncs.hards = mark.hards;
+        self.syncs.phases.truncate(mark.phases);
+        self.traffic.machine = mark.machine.copy();
+        self.traffic.counters = mark.counters;
+        self.traffic.pending = mark.pending;
+        self.traffic.sent = mark.sent;
+        self.traffic.errors = mark.errors;
+        self.traffic.samples.truncate(mark.samples);
+        self.traffic.frames.truncate(mark.frames);
+    }
+}
