@@ -79,7 +79,7 @@ def mutate(rng, text, pieces):
 
 
 KEYS = [b"version", b"end", b"per", b"sync", b"node", b"disturbance", b"name", b"offset", b"num", b"den", b"quantum", b"ppm", b"rates", b"from", b"prop", b"ps1", b"ps2", b"sjw",
-        b"x", b"out", b"in", b"frame", b"ready", b"id", b"extended", b"remote", b"dlc", b"bytes", b"to"]
+        b"x", b"out", b"in", b"frame", b"ready", b"id", b"extended", b"remote", b"dlc", b"bytes", b"to", b"tolerance"]
 VALUES = [b"true", b"false", b'"x"', b"1.5", b"[]", b"{}", b"-1", b"[1]", b"[256]", b"[[]]", b"0", b"1", b"2", b"9"]
 
 

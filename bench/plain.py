@@ -651,6 +651,7 @@ def array_of(kind):
 
 
 NUMBER, SMALL, BYTE, PPM = whole(0, NUMBER_END), whole(0, SMALL_END), whole(0, 256), whole(-10**9, 10**9 + 1)
+TOLERANCE = whole(0, 100_001)
 TABLES = array_of(lambda value: type(value) is dict)
 TRUTH = lambda value: type(value) is bool
 SYNC = lambda value: type(value) is str and value in ("after", "book")
@@ -699,7 +700,7 @@ def read_plan(text):
     test_keys(top, TOP, {"disturbance": TABLES, "sync": SYNC})
     for node in top["node"]:
         clock = {"rates": TABLES} if top["version"] == 2 else clock_keys(node)
-        test_keys(node, {"name": NAME, "offset": NUMBER} | clock | LENGTHS, {"frame": TABLES})
+        test_keys(node, {"name": NAME, "offset": NUMBER} | clock | LENGTHS, {"frame": TABLES, "tolerance": TOLERANCE})
         for rate in node.get("rates", []): test_keys(rate, {"from": NUMBER} | clock_keys(rate), {})
         for frame in node.get("frame", []): test_keys(frame, *FRAME)
     for disturbance in top.get("disturbance", []): test_keys(disturbance, *DISTURBANCE)

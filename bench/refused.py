@@ -43,7 +43,7 @@ def clock_pair(table):
 def node_keys(table, version):
     lengths = tuple((key, ANY) for key in ("prop", "ps1", "ps2", "sjw"))
     clock = clock_pair(table) if version == 1 else (("rates", TABLES),)
-    return (("name", NODE_NAME), ("offset", ANY)) + clock + lengths + (("x", PLACE), ("out", ANY), ("in", ANY)), (("frame", TABLES),)
+    return (("name", NODE_NAME), ("offset", ANY)) + clock + lengths + (("x", PLACE), ("out", ANY), ("in", ANY)), (("frame", TABLES), ("tolerance", is_number(0, 100_000)))
 
 
 def test_table(spot, table, keys):

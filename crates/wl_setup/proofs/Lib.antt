@@ -5,6 +5,7 @@ mod UnknownLemmas
 mod NameLemmas
 mod ReadLemmas
 mod PlanLemmas
+mod BusLemmas
 mod CheckLemmas
 mod FaultLemmas
 mod SpotLemmas

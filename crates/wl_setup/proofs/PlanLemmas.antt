@@ -3,12 +3,11 @@ use Rattle.std.proofs.Common.{◌≡◌, ◌≢◌, ℕ, ◌+◌, ◌<◌, ◌�
 use Rattle.std.specs.List.{enumerate_from}
 use Rattle.std.proofs.lemmas.List.{append-nil, drop_all}
 use Rattle.wl_device.specs.Devices.{Answer}
-use Rattle.wl_plan.specs.declared.plan.Plan.{Plan}
 use Rattle.wl_setup.specs.declared.fault.SetupFault.{SetupFault}
 use Rattle.wl_setup.specs.declared.fault.SetupFault.TheVariants.{Memory}
 use Rattle.wl_setup.specs.declared.plan_text.PlanText.{PlanText}
 use Rattle.wl_setup.specs.Reading.{ReadsPlan}
-use Rattle.wl_setup.specs.Plans.{after, each, named_plan_of, GivesPlan, IsAnswer}
+use Rattle.wl_setup.specs.Plans.{after, each, IsAnswer}
 use Rattle.wl_setup.proofs.Loops.{drop-at}
 
 -- these, and what is made of the rest after them
@@ -92,11 +91,14 @@ answered : {T : Type 0} (wanted answer : Result T SetupFault) → IsAnswer wante
 answered wanted (Ok x) given not_memory = sym given
 answered wanted (Err e) given not_memory = sym (given (λ memory. not_memory (ap (λ f. Err f) memory)))
 
-module _ {S : Type 0} (gives : S → Answer → S → Type 0) (s t : S) where
-  -- the plan of a text that was read
-  pub planned : (text : PlanText) (answer : Result (Plan × List (List ℕ)) SetupFault) → ReadsPlan gives s (Ok text) t → IsAnswer (named_plan_of text) answer → answer ≢ Err Memory → GivesPlan gives s answer t
-  planned text answer reads given not_memory = (Ok text, reads, answered (named_plan_of text) answer given not_memory)
+module _ {S A : Type 0} (gives : S → Answer → S → Type 0) (make : PlanText → Result A SetupFault) (s t : S) where
+  -- what is made of a text that was read
+  abbrev pub Gives : Result A SetupFault → Type 0
+  Gives answer = (read : Result PlanText SetupFault) × ReadsPlan gives s read t × (answer ≡ after read make)
+
+  pub planned : (text : PlanText) (answer : Result A SetupFault) → ReadsPlan gives s (Ok text) t → IsAnswer (make text) answer → answer ≢ Err Memory → Gives answer
+  planned text answer reads given not_memory = (Ok text, reads, answered (make text) answer given not_memory)
 
   -- a fault of the text itself
-  pub not_planned : (e : SetupFault) (answer : Result (Plan × List (List ℕ)) SetupFault) → (e ≢ Memory → ReadsPlan gives s (Err e) t) → answer ≡ Err e → answer ≢ Err Memory → GivesPlan gives s answer t
+  pub not_planned : (e : SetupFault) (answer : Result A SetupFault) → (e ≢ Memory → ReadsPlan gives s (Err e) t) → answer ≡ Err e → answer ≢ Err Memory → Gives answer
   not_planned e answer reads is not_memory = (Err e, reads (λ same. not_memory (is ∙ ap (λ f. Err f) same)), is)

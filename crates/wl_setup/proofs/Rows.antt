@@ -1,5 +1,5 @@
 -- The worked rows of a text's plan, as the definition gives them.
-use Rattle.std.proofs.Common.{◌≡◌, ℕ, List, [], ◌∷◌, true, false, Ok, Err, refl}
+use Rattle.std.proofs.Common.{◌≡◌, ℕ, List, [], ◌∷◌, true, false, Some, Ok, Err, refl}
 use Rattle.std.specs.Prelude.{codes}
 use Rattle.wl_clock.specs.Timing.{tick_of}
 use Rattle.wl_frame.specs.declared.frame.FrameFault.TheVariants.{Id, Dlc, ExtendedId}
@@ -19,7 +19,7 @@ use Rattle.wl_setup.specs.declared.plan_text.NodeText.{NodeText}
 use Rattle.wl_setup.specs.declared.plan_text.FrameText.{FrameText}
 use Rattle.wl_setup.specs.declared.plan_text.ClockText.TheVariants.{Rate}
 use Rattle.wl_segments.specs.declared.SyncRules.TheVariants.{After}
-use Rattle.wl_setup.specs.Limits.{most_bytes, largest_number, largest_small, largest_ppm, largest_byte, longest_name, first_version, version_of_rates}
+use Rattle.wl_setup.specs.Limits.{most_bytes, largest_number, largest_small, largest_ppm, largest_tolerance, largest_byte, longest_name, first_version, version_of_rates}
 use Rattle.wl_setup.specs.Plans.{plan_of_text, queued_of}
 
 abbrev frame_text : ℕ → FrameText
@@ -38,6 +38,7 @@ node_text name x in_delay frames = record {
   out_delay = 0;
   in_delay = in_delay;
   frame = frames;
+  tolerance = Some 250;
 }
 
 -- two nodes 50 ticks apart, the first with a frame; its identifier, its way from the cable and the end differ from row to row
@@ -119,6 +120,9 @@ small_are = refl
 ppm_are : largest_ppm ≡ 1000000000
 unfolding largest_ppm
 ppm_are = refl
+
+tolerance_is : largest_tolerance ≡ 100000
+tolerance_is = refl
 
 byte_is : largest_byte ≡ 255
 byte_is = refl

@@ -1,7 +1,7 @@
 -- The keys of a plan's tables (this project's profile).
 use Rattle.std.specs.Prelude.{ℕ, List, [], ◌∷◌, codes}
 use Rattle.wl_setup.specs.declared.keys.Key.{Key}
-use Rattle.wl_setup.specs.declared.keys.Key.TheVariants.{Version, End, Per, Node, Disturbance, Sync, Name, Offset, Num, Den, Quantum, Ppm, Rates, Prop, Ps1, Ps2, Sjw, X, Out, In, Frame, Id, Dlc, Remote, Bytes, Ready, Extended, From, To}
+use Rattle.wl_setup.specs.declared.keys.Key.TheVariants.{Version, End, Per, Node, Disturbance, Sync, Name, Offset, Num, Den, Quantum, Ppm, Rates, Prop, Ps1, Ps2, Sjw, X, Out, In, Frame, Id, Dlc, Remote, Bytes, Ready, Extended, From, To, Tolerance}
 use Rattle.wl_setup.specs.declared.keys.Kind.{Kind}
 use Rattle.wl_setup.specs.declared.keys.Kind.TheVariants as kind
 
@@ -36,6 +36,7 @@ key_text Ready = codes "ready"
 key_text Extended = codes "extended"
 key_text From = codes "from"
 key_text To = codes "to"
+key_text Tolerance = codes "tolerance"
 
 -- what its value has to be
 abbrev pub kind_of : Key → Kind
@@ -52,6 +53,7 @@ kind_of Remote = kind.Truth
 kind_of Extended = kind.Truth
 kind_of Bytes = kind.Bytes
 kind_of Sync = kind.Sync
+kind_of Tolerance = kind.Tolerance
 kind_of _ = kind.Number
 
 -- the keys of a table, in the order in which they are tested
@@ -66,21 +68,21 @@ top_keys = record { required = Version ∷ End ∷ Per ∷ Node ∷ []; optional
 abbrev pub node_keys_by_rate : TableKeys
 node_keys_by_rate = record {
   required = Name ∷ Offset ∷ Num ∷ Den ∷ Prop ∷ Ps1 ∷ Ps2 ∷ Sjw ∷ X ∷ Out ∷ In ∷ [];
-  optional = Frame ∷ [];
+  optional = Frame ∷ Tolerance ∷ [];
 }
 
 -- of a node whose rate is written as a whole number of ticks and an error in parts per million
 abbrev pub node_keys_by_ppm : TableKeys
 node_keys_by_ppm = record {
   required = Name ∷ Offset ∷ Quantum ∷ Ppm ∷ Prop ∷ Ps1 ∷ Ps2 ∷ Sjw ∷ X ∷ Out ∷ In ∷ [];
-  optional = Frame ∷ [];
+  optional = Frame ∷ Tolerance ∷ [];
 }
 
 -- of a node whose rates are tables of their own
 abbrev pub node_keys_by_rates : TableKeys
 node_keys_by_rates = record {
   required = Name ∷ Offset ∷ Rates ∷ Prop ∷ Ps1 ∷ Ps2 ∷ Sjw ∷ X ∷ Out ∷ In ∷ [];
-  optional = Frame ∷ [];
+  optional = Frame ∷ Tolerance ∷ [];
 }
 
 -- of a rate that is written as a fraction, and of one that is a whole number of ticks and an error in parts per million

@@ -9,7 +9,7 @@ use Rattle.wl_setup.specs.declared.keys.Key.{Key}
 use Rattle.wl_setup.specs.declared.keys.Kind.{Kind}
 use Rattle.wl_setup.specs.declared.keys.Kind.TheVariants as kind
 use Rattle.wl_setup.specs.Keys.{key_text}
-use Rattle.wl_setup.specs.Limits.{largest_number, largest_small, largest_ppm, largest_byte, longest_name}
+use Rattle.wl_setup.specs.Limits.{largest_number, largest_small, largest_ppm, largest_tolerance, largest_byte, longest_name}
 
 -- a whole number from 0 to the greatest
 abbrev pub number_in : ℕ → Data → Option ℕ
@@ -61,6 +61,7 @@ has_kind kind.Name d = holds is_name (as_str d)
 has_kind kind.Bytes d = holds (list_all (λ e. is_some (byte_in e))) (elements_of d)
 has_kind kind.Tables d = holds (list_all (λ e. is_some (as_table e))) (elements_of d)
 has_kind kind.Sync d = is_some (sync_in d)
+has_kind kind.Tolerance d = is_some (number_in largest_tolerance d)
 
 -- the value of a key
 abbrev pub value_at : Key → Members → Option Data
@@ -81,6 +82,10 @@ truth_at key table = unwrap_or (option_and_then as_bool (value_at key table)) fa
 
 abbrev pub sync_choice_at : Key → Members → SyncRules
 sync_choice_at key table = unwrap_or (option_and_then sync_in (value_at key table)) After
+
+-- a tolerance has no default
+abbrev pub tolerance_at : Key → Members → Option ℕ
+tolerance_at key table = option_and_then (number_in largest_tolerance) (value_at key table)
 
 abbrev pub name_at : Key → Members → List ℕ
 name_at key table = unwrap_or (option_and_then as_str (value_at key table)) []

@@ -9,4 +9,5 @@ pub mod Names
 pub mod Document
 pub mod Reading
 pub mod Plans
+pub mod Buses
 pub mod Check

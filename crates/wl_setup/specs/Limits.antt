@@ -1,6 +1,6 @@
 -- The limits of a plan's text (this project's profile), each that of the constant of its name.
 use Rattle.std.specs.Prelude.{◌≡◌, ℕ, refl}
-use Rattle.wl_setup.specs.declared.limits.TheConstants.{MOST_BYTES, LARGEST_NUMBER, LARGEST_SMALL, LARGEST_PPM, LARGEST_BYTE, LONGEST_NAME, FIRST_VERSION, VERSION_OF_RATES}
+use Rattle.wl_setup.specs.declared.limits.TheConstants.{MOST_BYTES, LARGEST_NUMBER, LARGEST_SMALL, LARGEST_PPM, LARGEST_TOLERANCE, LARGEST_BYTE, LONGEST_NAME, FIRST_VERSION, VERSION_OF_RATES}
 
 -- the most bytes of a plan's text
 unfoldable pub most_bytes : ℕ
@@ -17,6 +17,10 @@ largest_small = LARGEST_SMALL
 -- the greatest rate error either way, in parts per million
 unfoldable pub largest_ppm : ℕ
 largest_ppm = LARGEST_PPM
+
+-- the greatest tolerance of a node's rate, in parts per million
+abbrev pub largest_tolerance : ℕ
+largest_tolerance = LARGEST_TOLERANCE
 
 -- the greatest byte of a frame
 abbrev pub largest_byte : ℕ

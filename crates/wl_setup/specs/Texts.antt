@@ -10,7 +10,7 @@ use Rattle.wl_setup.specs.declared.plan_text.RateText.{RateText}
 use Rattle.wl_setup.specs.declared.plan_text.ClockText.{ClockText}
 use Rattle.wl_setup.specs.declared.plan_text.ClockText.TheVariants.{Rate, Ppm}
 use Rattle.wl_setup.specs.Limits.{version_of_rates}
-use Rattle.wl_setup.specs.Kinds.{value_at, number_at, small_at, ppm_at, truth_at, name_at, bytes_at, tables_at, sync_choice_at}
+use Rattle.wl_setup.specs.Kinds.{value_at, number_at, small_at, tolerance_at, ppm_at, truth_at, name_at, bytes_at, tables_at, sync_choice_at}
 
 abbrev pub frame_of : Members → FrameText
 frame_of table = record {
@@ -57,6 +57,7 @@ node_text_of version table = record {
   out_delay = number_at key.Out table;
   in_delay = number_at key.In table;
   frame = map frame_of (tables_at key.Frame table);
+  tolerance = tolerance_at key.Tolerance table;
 }
 
 abbrev pub plan_of : Members → PlanText

@@ -13,7 +13,8 @@ use crate::names::Names;
 use crate::plan_text::{ClockText, DisturbanceText, FrameText, NodeText, PlanText, RateText};
 use crate::tables::{check_required, check_table};
 use crate::values::{
-    bytes_at, elements_at, name_at, number_at, ppm_at, small_at, sync_choice_at, truth_at, value_at,
+    bytes_at, elements_at, name_at, number_at, ppm_at, small_at, sync_choice_at, tolerance_at,
+    truth_at, value_at,
 };
 use std::alloc::Global;
 use toml::{Table, Value};
@@ -159,6 +160,7 @@ impl Row for NodeText {
             out_delay: number_at(table, Key::Out),
             in_delay: number_at(table, Key::In),
             frame,
+            tolerance: tolerance_at(table, Key::Tolerance),
         })
     }
 }

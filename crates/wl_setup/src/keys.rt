@@ -27,6 +27,8 @@ pub enum Kind {
     Tables,
     /// `"after"` or `"book"`.
     Sync,
+    /// A whole number from 0 to 100,000.
+    Tolerance,
 }
 
 /// A key of one of the tables of a plan.
@@ -61,6 +63,7 @@ pub enum Key {
     Extended,
     From,
     To,
+    Tolerance,
 }
 
 impl Key {
@@ -98,6 +101,7 @@ impl Key {
             Key::Extended => "extended",
             Key::From => "from",
             Key::To => "to",
+            Key::Tolerance => "tolerance",
         }
     }
 
@@ -113,6 +117,7 @@ impl Key {
             Key::Remote | Key::Extended => Kind::Truth,
             Key::Bytes => Kind::Bytes,
             Key::Sync => Kind::Sync,
+            Key::Tolerance => Kind::Tolerance,
             _ => Kind::Number,
         }
     }
@@ -155,7 +160,7 @@ fn node_keys_by_rate() -> Keys
             Key::Out,
             Key::In,
         ],
-        optional: &[Key::Frame],
+        optional: &[Key::Frame, Key::Tolerance],
     }
 }
 
@@ -178,7 +183,7 @@ fn node_keys_by_ppm() -> Keys
             Key::Out,
             Key::In,
         ],
-        optional: &[Key::Frame],
+        optional: &[Key::Frame, Key::Tolerance],
     }
 }
 
@@ -200,7 +205,7 @@ fn node_keys_by_rates() -> Keys
             Key::Out,
             Key::In,
         ],
-        optional: &[Key::Frame],
+        optional: &[Key::Frame, Key::Tolerance],
     }
 }
 

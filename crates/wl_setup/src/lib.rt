@@ -1,6 +1,7 @@
 //! Plans from TOML, and what a check of a plan prints.
 #![tactic(auto)]
 
+mod bus;
 mod check;
 mod document;
 mod fault;
@@ -16,10 +17,11 @@ mod tables;
 mod text;
 mod values;
 
+pub use bus::{Bus, Deviation, bus_of_bytes, read_bus};
 pub use check::check_plan;
 pub use fault::SetupFault;
 pub use keys::Key;
-pub use laws::faults_of_texts;
+pub use laws::{buses_of_plans, faults_of_texts};
 pub use names::Names;
 pub use plan::{plan_of_bytes, read_plan};
 pub use plan_text::{ClockText, DisturbanceText, FrameText, NodeText, PlanText, RateText};

@@ -69,7 +69,7 @@ impl RateText {
 }
 
 /// The rates of node `i`, or the first that is none.
-fn rates(alloc: Global, i: u64, texts: &[RateText]) -> Result<Listed<Rate>, SetupFault>
+pub(crate) fn rates(alloc: Global, i: u64, texts: &[RateText]) -> Result<Listed<Rate>, SetupFault>
     ensures { IsAnswer (each (rate_in i) texts.now) result }
 {
     let mut rates = Listed::new(alloc);

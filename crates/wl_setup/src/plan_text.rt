@@ -66,6 +66,8 @@ pub struct NodeText {
     pub in_delay: u64,
     /// The frames that wait at the node, in the order of their tables, none where the key is absent.
     pub frame: Listed<FrameText>,
+    /// By how many parts per million each rate may deviate either way from what it is without `ppm`: at most 100,000. No run uses it.
+    pub tolerance: Option<u32>,
 }
 
 /// A frame that waits at a node, as it is written.

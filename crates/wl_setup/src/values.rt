@@ -3,10 +3,12 @@ ghost use Rattle.std.specs.Prelude.{◌≡◌, ◌≤◌, ◌^◌, ◌<◌, Some
 ghost use Rattle.std.specs.List.{list_all};
 ghost use Rattle.toml.specs.Data.{as_table, get_member};
 ghost use Rattle.toml.specs.View.{view, table_view, items_view};
-ghost use Rattle.wl_setup.specs.Kinds.{number_in, byte_in, is_name, is_name_letter, is_ppm, has_kind, value_at, number_at, small_at, ppm_at, truth_at, name_at, elements_of, elements_at, bytes_at, sync_named, sync_in, sync_choice_at};
+ghost use Rattle.wl_setup.specs.Kinds.{number_in, byte_in, is_name, is_name_letter, is_ppm, has_kind, value_at, number_at, small_at, tolerance_at, ppm_at, truth_at, name_at, elements_of, elements_at, bytes_at, sync_named, sync_in, sync_choice_at};
 
 use crate::keys::{Key, Kind};
-use crate::limits::{LARGEST_BYTE, LARGEST_NUMBER, LARGEST_PPM, LARGEST_SMALL, LONGEST_NAME};
+use crate::limits::{
+    LARGEST_BYTE, LARGEST_NUMBER, LARGEST_PPM, LARGEST_SMALL, LARGEST_TOLERANCE, LONGEST_NAME,
+};
 use crate::text::Text;
 use std::alloc::{AllocError, Global};
 use toml::{Table, Value};
@@ -124,6 +126,7 @@ pub(crate) fn has_kind(kind: Kind, value: &Value) -> bool
             None => false,
         },
         Kind::Sync => sync_in(value).is_some(),
+        Kind::Tolerance => number_in(LARGEST_TOLERANCE, value).is_some(),
         Kind::Tables => match elements_of(value) {
             Some(values) => are_tables(values),
             None => false,
@@ -163,6 +166,16 @@ pub(crate) fn ppm_at(table: &Table, key: Key) -> i64
     match value_at(table, key) {
         Some(value) => value.as_integer().unwrap_or(0),
         None => 0,
+    }
+}
+
+/// Returns the tolerance at a key in parts per million, if it has one.
+pub(crate) fn tolerance_at(table: &Table, key: Key) -> Option<u32>
+    ensures { result ≡ tolerance_at key (table_view table.now) }
+{
+    match number_in(LARGEST_TOLERANCE, value_at(table, key)?) {
+        Some(ppm) => Some(ppm as u32),
+        None => None,
     }
 }
 

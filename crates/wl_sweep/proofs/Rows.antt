@@ -36,6 +36,7 @@ node name clock = record {
   out_delay = 120;
   in_delay = 130;
   frame = [];
+  tolerance = Some 250;
 }
 
 abbrev engine : NodeText

@@ -164,6 +164,7 @@ fn node_again(
         out_delay: node.out_delay,
         in_delay: node.in_delay,
         frame: frames_again(alloc, node.frame.as_slice())?,
+        tolerance: node.tolerance,
     })
 }
 
