@@ -181,6 +181,11 @@ def value_words(value):
     return str(value) if isinstance(value, int) else "a table" if isinstance(value, dict) else "a number with a fraction" if isinstance(value, float) else "a date or a time"
 
 
+def beside(word, value):
+    """What is said beside an identifier: its hexadecimal digits."""
+    return f" (0x{value:X})" if word == "id" and type(value) is int and value >= 0 else ""
+
+
 def table_at(top, kind, *numbers):
     if kind == "plan": return top
     if kind == "disturbance": return top["disturbance"][numbers[0]]
@@ -203,7 +208,7 @@ def about(top, fault, words):
             said.append(spot_words(top, *word))
             table = table_at(top, *word)
         elif fault.startswith("Missing"): said[-1] += f", no {shown(word)}"
-        elif word in table: said[-1] += f", {shown(word)} = {value_words(table[word])}"
+        elif word in table: said[-1] += f", {shown(word)} = {value_words(table[word])}{beside(word, table[word])}"
     return "; ".join(said)
 
 

@@ -1,7 +1,8 @@
 -- The text on a plan that is refused: what is wrong, with its place, keys and values, and what to change (this project's profile).
-use Rattle.std.specs.Prelude.{◌≡◌, ◌≤◌, ◌==◌, ◌+◌, ◌||◌, nat_lt, nat_le, ℕ, Bool, true, false, List, [], ◌∷◌, ◌++◌, codes, length, take, filter, if◌then◌else◌, Option, Some, None, unwrap_or, option_and_then}
-use Rattle.std.specs.Fmt.{decimal, signed_decimal}
+use Rattle.std.specs.Prelude.{◌≡◌, ◌≤◌, ◌==◌, ◌+◌, ◌||◌, nat_lt, nat_le, ℕ, ℤ, pos, negsuc, Bool, true, false, List, [], ◌∷◌, ◌++◌, codes, length, take, filter, if◌then◌else◌, Option, Some, None, unwrap_or, option_and_then}
+use Rattle.std.specs.Fmt.{decimal, digits, signed_decimal}
 use Rattle.std.specs.List.{flat_map, list_any}
+use Rattle.std.specs.Str.{bytes_eq}
 use Rattle.toml.specs.Data.{Data, string, integer, float, boolean, datetime, array, table, Members, get_member}
 use Rattle.wl_clock.specs.declared.ClockFault.{ClockFault}
 use Rattle.wl_clock.specs.declared.ClockFault.TheVariants as clock
@@ -40,13 +41,22 @@ value_words (datetime t) = codes "a date or a time"
 value_words (array items) = codes "an array of " ++ decimal (length (list_of items))
 value_words (table ms) = codes "a table"
 
+-- beside the value of an identifier, its hexadecimal digits: a document doesn't tell in which base a number was written
+abbrev pub hexadecimal_words : ℤ → List ℕ
+hexadecimal_words (pos n) = codes " (0x" ++ digits 16 true n ++ codes ")"
+hexadecimal_words (negsuc n) = []
+
+abbrev pub beside_words : List ℕ → Data → List ℕ
+beside_words label (integer z) = if bytes_eq label (key_text key.Id) then hexadecimal_words z else []
+beside_words label _ = []
+
 -- a key with its value, where it is there
-abbrev pub valued : List ℕ → List ℕ → List ℕ
-valued label said = codes ", " ++ label ++ codes " = " ++ said
+abbrev pub valued : List ℕ → List ℕ → List ℕ → List ℕ
+valued label said beside = codes ", " ++ label ++ codes " = " ++ said ++ beside
 
 abbrev pub key_words : List ℕ → Option Data → List ℕ
 key_words label None = []
-key_words label (Some d) = valued label (value_words d)
+key_words label (Some d) = valued label (value_words d) (beside_words label d)
 
 abbrev pub keys_words : List Key → Option Members → List ℕ
 keys_words keys None = []

@@ -22,7 +22,7 @@ pub use doubts::{
     round_trip, wanted_bits,
 };
 pub use laws::figures_of_the_run;
-pub use refusal::{explain_fault, explain_size};
+pub use refusal::{column_number, explain_fault, explain_size, line_number};
 use std::marker::Model;
 use wl_clock::Clock;
 use wl_plan::MOST_QUANTA;

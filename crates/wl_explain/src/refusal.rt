@@ -5,7 +5,7 @@ ghost use Rattle.toml.specs.View.{array_view, view, table_view};
 ghost use Rattle.wl_setup.specs.Kinds.{list_of, value_at};
 ghost use Rattle.wl_setup.specs.Shown.{shown};
 ghost use Rattle.wl_setup.specs.Spots.{table_at};
-ghost use Rattle.wl_explain.specs.Refusals.{IsRefusal, begins_letter, keys_of_clock, column_behind, column_number, fault_spot, keys_of_frame, frame_called, lacking, rate_called, valued, is_newline, key_words, keys_words, line_number, lines, missing_words, name_words, named_words, node_called, two_nodes, place_words, plan_subject, quanta_words, refusal_words, keys_of_segments, size_words, spot_words, subject, subject_words, toml_words, topology_subject, value_words};
+ghost use Rattle.wl_explain.specs.Refusals.{IsRefusal, begins_letter, beside_words, hexadecimal_words, keys_of_clock, column_behind, column_number, fault_spot, keys_of_frame, frame_called, lacking, rate_called, valued, is_newline, key_words, keys_words, line_number, lines, missing_words, name_words, named_words, node_called, two_nodes, place_words, plan_subject, quanta_words, refusal_words, keys_of_segments, size_words, spot_words, subject, subject_words, toml_words, topology_subject, value_words};
 
 use crate::remedies::{CORRECT, NO_TOML, SHORTEN, TOO_LONG, cause, remedy};
 use std::alloc::{AllocError, Global};
@@ -53,10 +53,30 @@ fn many_of(items: &Array) -> usize
 }
 
 /// Adds a key and what its value is.
-fn push_key(text: &mut String, label: &str, said: &str) -> Result<(), AllocError>
-    ensures { OnOk result (string_bytes text.new ≡ string_bytes text.old ++ valued label.now said.now) }
+fn push_key(text: &mut String, label: &str, said: &str, beside: &str) -> Result<(), AllocError>
+    ensures { OnOk result (string_bytes text.new ≡ string_bytes text.old ++ valued label.now said.now beside.now) }
 {
-    write!(text, ", {label} = {said}")
+    write!(text, ", {label} = {said}{beside}")
+}
+
+/// A number in hexadecimal digits, in brackets, where it is none below 0.
+fn hexadecimal_words(alloc: Global, number: i64) -> Result<String, AllocError>
+    ensures { IfOk result (λ text. string_bytes text ≡ hexadecimal_words number) }
+{
+    match u64::try_from(number) {
+        Ok(number) => format!(in alloc; " (0x{number:X})"),
+        Err(_) => Ok(String::new(alloc)),
+    }
+}
+
+/// What is said beside the value of a key: of an identifier its hexadecimal digits.
+fn beside_words(alloc: Global, label: &str, value: &Value) -> Result<String, AllocError>
+    ensures { IfOk result (λ text. string_bytes text ≡ beside_words label.now (view value.now)) }
+{
+    match value {
+        Value::Integer(number) if label == Key::Id.text() => hexadecimal_words(alloc, *number),
+        _ => Ok(String::new(alloc)),
+    }
 }
 
 /// A key with its value, where it is there.
@@ -66,7 +86,8 @@ fn key_words(alloc: Global, label: &str, value: Option<&Value>) -> Result<String
     let mut text = String::new(alloc);
     if let Some(value) = value {
         let said = value_words(alloc, value)?;
-        push_key(&mut text, label, said.as_str())?;
+        let beside = beside_words(alloc, label, value)?;
+        push_key(&mut text, label, said.as_str(), beside.as_str())?;
     }
     Ok(text)
 }
@@ -380,8 +401,8 @@ fn begins_letter(byte: u8) -> bool
     byte < 128 || 192 <= byte
 }
 
-/// The line of the place behind some bytes, from 1.
-fn line_number(before: &[u8]) -> u64
+/// Returns the line, from 1, of the place after these bytes of a text. A newline byte ends a line, and nothing else does.
+pub fn line_number(before: &[u8]) -> u64
     ensures { result ≡ line_number before.now }
 {
     let _ = before.len();
@@ -409,8 +430,8 @@ fn next_column(column: u64, byte: u8) -> u64
     }
 }
 
-/// Its column, in characters, from 1.
-fn column_number(before: &[u8]) -> u64
+/// Returns the column of that place in its line, from 1, in characters.
+pub fn column_number(before: &[u8]) -> u64
     ensures { result ≡ column_number before.now }
 {
     let _ = before.len();
