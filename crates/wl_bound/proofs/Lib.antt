@@ -1,0 +1,6 @@
+mod Rows
+pub mod Greatest
+pub mod Lengths
+pub mod Clocks
+pub mod Nodes
+pub mod Sound

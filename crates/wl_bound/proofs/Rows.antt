@@ -1,0 +1,127 @@
+-- Worked buses: two or three nodes in a row, 120 ns out and 130 ns in, 5 ns a metre. A tick is a nanosecond.
+use Rattle.std.proofs.Common.{◌≡◌, ℕ, Bool, true, false, [], ◌∷◌, Some, None, refl}
+use Rattle.wl_clock.specs.declared.Rate.{Rate}
+use Rattle.wl_topology.specs.declared.Place.{Place}
+use Rattle.wl_segments.specs.declared.SyncRules.TheVariants.{Book}
+use Rattle.wl_segments.specs.Lengths.{Lengths}
+use Rattle.wl_bound.specs.declared.family.Member.{Member}
+use Rattle.wl_bound.specs.declared.condition.Failure.{Failure}
+use Rattle.wl_bound.specs.declared.condition.Inequality.{Inequality}
+use Rattle.wl_bound.specs.declared.condition.Inequality.TheVariants.{DriftFitsJump, BitIsThereAtSample, NoBitTooEarly}
+use Rattle.wl_bound.specs.declared.condition.Senders.TheVariants.{Any, One}
+use Rattle.wl_bound.specs.Oscillators.{Pace, longest_of, oscillator_of, shortest_of}
+use Rattle.wl_bound.specs.Families.{Buses, delay_in, lengths_in, longest_in, sends_in, shortest_in}
+use Rattle.wl_bound.specs.Terms.{apart, chase, drift, early, edges, jump, late, look, lost, several, strays, tour, trip, way}
+use Rattle.wl_bound.specs.Conditions.{first_failure_of, left_of, plain, right_of}
+
+abbrev rate : ℕ → ℕ → Rate
+rate num den = record { from = 0; num = num; den = den }
+
+-- whole quanta, and a tolerance
+abbrev pace : ℕ → ℕ → Pace
+pace quantum tolerance = record { fastest = rate quantum 1; slowest = rate quantum 1; tolerance = tolerance }
+
+abbrev lengths : ℕ → ℕ → ℕ → ℕ → Lengths
+lengths prop ps1 ps2 sjw = record { prop = prop; ps1 = ps1; ps2 = ps2; sjw = sjw; sync = Book }
+
+abbrev place : ℕ → Place
+place x = record { x = x; out_delay = 120; in_delay = 130 }
+
+abbrev member : Lengths → Pace → Bool → Member
+member l p sends = record { oscillator = p; segments = l; sends = sends }
+
+-- two nodes, of which the first sends, or both
+abbrev one_way : Lengths → Pace → ℕ → Buses
+one_way l p x = record { members = member l p true ∷ member l p false ∷ []; cable = record { places = place 0 ∷ place x ∷ []; per = 5 } }
+
+abbrev both_ways : Lengths → Pace → ℕ → Buses
+both_ways l p x = record { members = member l p true ∷ member l p true ∷ []; cable = record { places = place 0 ∷ place x ∷ []; per = 5 } }
+
+-- three nodes that all send, the third one beside the second
+abbrev three : Lengths → Pace → ℕ → Buses
+three l p x = record {
+  members = member l p true ∷ member l p true ∷ member l p true ∷ [];
+  cable = record { places = place 0 ∷ place x ∷ place x ∷ []; per = 5 };
+}
+
+abbrev failing : Inequality → ℕ → ℕ → Failure
+failing inequality left right = record { inequality = inequality; node = 0; other = 1; sides = record { left = left; right = right } }
+
+-- ---- Quanta
+
+-- 125 ticks at 7000 ppm
+short : shortest_of (pace 125 7000) 0 ≡ 124125000
+short = refl
+
+long : longest_of (pace 125 7000) 0 ≡ 125875000
+long = refl
+
+-- a third of a millionth goes down and up
+uneven : longest_of (record { fastest = rate 4 3; slowest = rate 4 3; tolerance = 0 }) 0 ≡ 1333334
+uneven = refl
+
+uneven_short : shortest_of (record { fastest = rate 4 3; slowest = rate 4 3; tolerance = 0 }) 0 ≡ 1333333
+uneven_short = refl
+
+-- of several rates the fastest and the slowest
+warming : oscillator_of (rate 126 1 ∷ record { from = 100; num = 249; den = 2 } ∷ record { from = 200; num = 125; den = 1 } ∷ []) 50
+    ≡ Some (record { fastest = record { from = 100; num = 249; den = 2 }; slowest = rate 126 1; tolerance = 50 })
+warming = refl
+
+too_wide : oscillator_of (rate 125 1 ∷ []) 100001 ≡ None
+too_wide = refl
+
+no_rate : oscillator_of [] 100 ≡ None
+no_rate = refl
+
+no_clock : oscillator_of (rate 125 0 ∷ []) 100 ≡ None
+no_clock = refl
+
+-- ---- 500 kbit/s over 98 m, with no doubt by either figure alone: 1480 ns there and back, and eleven bits of drift, are beyond the sample
+both_at_once : first_failure_of (one_way (lengths 8 4 3 3) (pace 125 7000) 98) plain One
+    ≡ Some (failing BitIsThereAtSample 1788000000 1613625000)
+unfolding first_failure_of left_of right_of shortest_in longest_in delay_in sends_in drift jump look trip way several early lost edges chase apart tour late strays lengths_in
+both_at_once = refl
+
+cable_alone : first_failure_of (one_way (lengths 8 4 3 3) (pace 125 0) 98) plain One ≡ None
+unfolding first_failure_of left_of right_of shortest_in longest_in delay_in sends_in drift jump look trip way several early lost edges chase apart tour late strays lengths_in
+cable_alone = refl
+
+drift_alone : first_failure_of (one_way (lengths 8 4 3 3) (pace 125 7000) 0) plain One ≡ None
+unfolding first_failure_of left_of right_of shortest_in longest_in delay_in sends_in drift jump look trip way several early lost edges chase apart tour late strays lengths_in
+drift_alone = refl
+
+-- ---- 500 kbit/s over 100 m, sample point 75 %: there and back is just the sample with perfect clocks, for both senders at once too
+to_the_metre : first_failure_of (both_ways (lengths 7 4 4 3) (pace 125 0) 100) plain Any ≡ None
+unfolding first_failure_of left_of right_of shortest_in longest_in delay_in sends_in drift jump look trip way several early lost edges chase apart tour late strays lengths_in
+to_the_metre = refl
+
+beyond_by_drift : first_failure_of (both_ways (lengths 7 4 4 3) (pace 125 100) 100) plain Any
+    ≡ Some (failing BitIsThereAtSample 1504400000 1499850000)
+unfolding first_failure_of left_of right_of shortest_in longest_in delay_in sends_in drift jump look trip way several early lost edges chase apart tour late strays lengths_in
+beyond_by_drift = refl
+
+a_metre_less : first_failure_of (both_ways (lengths 7 4 4 3) (pace 125 100) 99) plain Any ≡ None
+unfolding first_failure_of left_of right_of shortest_in longest_in delay_in sends_in drift jump look trip way several early lost edges chase apart tour late strays lengths_in
+a_metre_less = refl
+
+-- ---- 800 kbit/s over 50 m, the same
+fifty_metres : first_failure_of (both_ways (lengths 3 4 2 1) (pace 125 0) 50) plain Any ≡ None
+unfolding first_failure_of left_of right_of shortest_in longest_in delay_in sends_in drift jump look trip way several early lost edges chase apart tour late strays lengths_in
+fifty_metres = refl
+
+-- ---- ten bits of drift and a jump of one quantum: 3115 ppm, and no more
+fits : first_failure_of (one_way (lengths 6 7 2 1) (pace 125 3115) 5) plain One ≡ None
+unfolding first_failure_of left_of right_of shortest_in longest_in delay_in sends_in drift jump look trip way several early lost edges chase apart tour late strays lengths_in
+fits = refl
+
+fits_no_more : first_failure_of (one_way (lengths 6 7 2 1) (pace 125 3116) 5) plain One
+    ≡ Some (failing DriftFitsJump 124640000 124610500)
+unfolding first_failure_of left_of right_of shortest_in longest_in delay_in sends_in drift jump look trip way several early lost edges chase apart tour late strays lengths_in
+fits_no_more = refl
+
+-- ---- a jump as wide as PHASE_SEG2: the next bit comes too early first
+too_early : first_failure_of (one_way (lengths 8 4 4 4) (pace 120 11610) 0) plain One
+    ≡ Some (failing NoBitTooEarly 474688000 474427200)
+unfolding first_failure_of left_of right_of shortest_in longest_in delay_in sends_in drift jump look trip way several early lost edges chase apart tour late strays lengths_in
+too_early = refl

@@ -1,0 +1,117 @@
+-- Families of buses: what of a plan the condition for a sound bus is about. This project's.
+use Rattle.std.specs.Prelude.{◌≡◌, ℕ, ◌+◌, ◌-◌, ◌*◌, ◌==◌, nat_lt, Bool, false, List, [], ◌∷◌, length, Option, Some, None, Result, Ok, Err, slice_index_or}
+use Rattle.std.specs.Int.{abs_diff}
+use Rattle.wl_segments.specs.declared.SegmentsFault.{SegmentsFault}
+use Rattle.wl_segments.specs.Lengths.{Lengths, segments_of}
+use Rattle.wl_topology.specs.Delays.{Cable, delay_of, place_at}
+use Rattle.wl_node.specs.declared.setup.NodeSetup.{NodeSetup}
+use Rattle.wl_plan.specs.declared.plan.Plan.{Plan}
+use Rattle.wl_plan.specs.PlanLine.{no_setup}
+use Rattle.wl_bound.specs.Oscillators.{Pace, shortest_of, longest_of}
+use Rattle.wl_bound.specs.declared.family.Change.{Change}
+use Rattle.wl_bound.specs.declared.family.Change.TheVariants.{WiderJump, NarrowerJump, LaterSample, EarlierSample}
+use Rattle.wl_bound.specs.declared.family.Member.{Member}
+use Rattle.wl_bound.specs.declared.family.Setting.{Setting}
+use Rattle.wl_bound.specs.declared.family.Source.{Source}
+use Rattle.wl_bound.specs.declared.family.Source.TheVariants.{Together, Alone}
+
+-- the nodes and the cable
+pub record Buses : Type 0 where
+  pub members : List Member
+  pub cable : Cable
+
+-- each node has its place
+abbrev pub IsFamily : Buses → Type 0
+IsFamily f = length f.members ≡ length f.cable.places
+
+abbrev pub no_member : Member
+no_member = record {
+  oscillator = record {
+    fastest = record { from = 0; num = 1; den = 1 };
+    slowest = record { from = 0; num = 1; den = 1 };
+    tolerance = 0;
+  };
+  segments = no_setup.segments;
+  sends = false;
+}
+
+abbrev pub member_at : Buses → ℕ → Member
+member_at f i = slice_index_or f.members i no_member
+
+-- a node and its oscillator: it sends if frames wait at it
+abbrev pub member_of : NodeSetup → Pace → Member
+member_of node pace = record { oscillator = pace; segments = node.segments; sends = nat_lt 0 (length node.queue) }
+
+abbrev pub members_of : List NodeSetup → List Pace → List Member
+members_of [] paces = []
+members_of (node ∷ nodes) [] = []
+members_of (node ∷ nodes) (pace ∷ paces) = member_of node pace ∷ members_of nodes paces
+
+abbrev pub family_of : Plan → List Pace → Buses
+family_of plan paces = record { members = members_of plan.nodes paces; cable = plan.topology }
+
+-- One of the buses that are asked about. Times are counted in units, so many to a tick that all of them are whole.
+pub record Bus : Type 0 where
+  pub nodes : ℕ
+  pub tick : ℕ
+  pub shortest : ℕ → ℕ
+  pub longest : ℕ → ℕ
+  pub lengths : ℕ → Lengths
+  pub sends : ℕ → Bool
+  pub delay : ℕ → ℕ → ℕ
+
+-- how many ticks a level takes along the cable between two nodes, without the nodes' own
+abbrev pub way_between : Cable → ℕ → ℕ → ℕ
+way_between cable i j = abs_diff (place_at cable i).x (place_at cable j).x * cable.per
+
+-- who sends
+abbrev pub sends_by : Source → Bool → ℕ → Bool
+sends_by Together sends i = sends
+sends_by (Alone k) sends i = k == i
+
+-- A tick has 1,000,000 units for each tick of `length`.
+abbrev pub units : Setting → ℕ
+units s = 1000000 * s.length
+
+unfoldable pub shortest_in : Buses → Setting → ℕ → ℕ
+shortest_in f s i = s.length * shortest_of (member_at f i).oscillator s.wider
+
+unfoldable pub longest_in : Buses → Setting → ℕ → ℕ
+longest_in f s i = s.length * longest_of (member_at f i).oscillator s.wider
+
+-- On a cable of `length` ticks that becomes longer by `longer` ticks each way along it becomes longer by the same factor.
+unfoldable pub delay_in : Buses → Setting → ℕ → ℕ → ℕ
+delay_in f s i j = 1000000 * (s.length * delay_of f.cable i j + s.longer * way_between f.cable i j)
+
+-- The segments with one of them a quantum wider or narrower: the jump width; or PHASE_SEG1 instead of PHASE_SEG2, so that the bit keeps its length.
+abbrev pub changed : Change → Lengths → Result Lengths SegmentsFault
+changed WiderJump l = segments_of l.prop l.ps1 l.ps2 (l.sjw + 1)
+changed NarrowerJump l = segments_of l.prop l.ps1 l.ps2 (l.sjw - 1)
+changed LaterSample l = segments_of l.prop (l.ps1 + 1) (l.ps2 - 1) l.sjw
+changed EarlierSample l = segments_of l.prop (l.ps1 - 1) (l.ps2 + 1) l.sjw
+
+-- no change if it is refused
+abbrev pub or_same : Lengths → Result Lengths SegmentsFault → Lengths
+or_same l (Ok other) = other
+or_same l (Err fault) = l
+
+abbrev pub lengths_by : Option Change → Lengths → Lengths
+lengths_by None l = l
+lengths_by (Some change) l = or_same l (changed change l)
+
+unfoldable pub lengths_in : Buses → Setting → ℕ → Lengths
+lengths_in f s i = lengths_by s.change (member_at f i).segments
+
+unfoldable pub sends_in : Buses → Setting → ℕ → Bool
+sends_in f s i = sends_by s.source (member_at f i).sends i
+
+abbrev pub bus_of : Buses → Setting → Bus
+bus_of f s = record {
+  nodes = length f.members;
+  tick = units s;
+  shortest = shortest_in f s;
+  longest = longest_in f s;
+  lengths = lengths_in f s;
+  sends = sends_in f s;
+  delay = delay_in f s;
+}

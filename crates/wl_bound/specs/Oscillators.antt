@@ -1,0 +1,52 @@
+-- The shortest and the longest quantum of an oscillator within its tolerance.
+use Rattle.std.specs.Prelude.{ℕ, ◌+◌, ◌-◌, ◌*◌, ◌/◌, ◌≤◌, ◌||◌, not, nat_lt, Bool, List, [], ◌∷◌, Option, Some, None, if◌then◌else◌}
+use Rattle.std.specs.Int.{div_ceil}
+use Rattle.std.specs.Result.{is_ok}
+use Rattle.wl_clock.specs.declared.Rate.{Rate}
+use Rattle.wl_clock.specs.Timing.{IsRate, timing_of_rates}
+
+-- the greatest tolerance, in parts per million: a clock deviates by a tenth at most (this project's profile)
+abbrev pub greatest_tolerance : ℕ
+greatest_tolerance = 100000
+
+-- the fastest and the slowest nominal rate of an oscillator, and by how many parts per million it may deviate from them either way
+pub record Pace : Type 0 where
+  pub fastest : Rate
+  pub slowest : Rate
+  pub tolerance : ℕ
+
+-- what holds of every oscillator
+pub record IsPace (p : Pace) : Type 0 where
+  pub fastest : IsRate p.fastest
+  pub slowest : IsRate p.slowest
+  pub small : p.tolerance ≤ greatest_tolerance
+
+-- a quantum of the first rate is shorter
+abbrev pub is_faster : Rate → Rate → Bool
+is_faster a b = nat_lt (a.num * b.den) (b.num * a.den)
+
+-- the first of the fastest of some rates, and of the slowest
+abbrev pub fastest_of : Rate → List Rate → Rate
+fastest_of r [] = r
+fastest_of r (next ∷ later) = fastest_of (if is_faster next r then next else r) later
+
+abbrev pub slowest_of : Rate → List Rate → Rate
+slowest_of r [] = r
+slowest_of r (next ∷ later) = slowest_of (if is_faster r next then next else r) later
+
+-- the oscillator of the rates of a clock and of a tolerance, if the rates make a clock and the tolerance is small
+abbrev pub pace_of : List Rate → ℕ → Option Pace
+pace_of [] tolerance = None
+pace_of (r ∷ later) tolerance = Some (record { fastest = fastest_of r later; slowest = slowest_of r later; tolerance = tolerance })
+
+abbrev pub oscillator_of : List Rate → ℕ → Option Pace
+oscillator_of rates tolerance =
+    if not (is_ok (timing_of_rates 0 rates)) || nat_lt greatest_tolerance tolerance then None else pace_of rates tolerance
+
+-- the shortest quantum with a tolerance wider by some parts per million, in millionths of a tick, rounded down
+abbrev pub shortest_of : Pace → ℕ → ℕ
+shortest_of p wider = p.fastest.num * (1000000 - (p.tolerance + wider)) / p.fastest.den
+
+-- the longest one, rounded up
+abbrev pub longest_of : Pace → ℕ → ℕ
+longest_of p wider = div_ceil (p.slowest.num * (1000000 + (p.tolerance + wider))) p.slowest.den

@@ -1,0 +1,86 @@
+-- The terms of the condition for a sound bus, in units of time. Nodes are i, j, k, and w is a node between others. All of it is this project's;
+-- what is taken from public texts is named.
+use Rattle.std.specs.Prelude.{ℕ, zero, suc, ◌+◌, ◌-◌, ◌*◌, ◌==◌, ◌&&◌, nat_lt, nat_le, not, min, max, Bool, if◌then◌else◌}
+use Rattle.std.specs.Int.{div_ceil}
+use Rattle.wl_level.specs.Places.{count_places}
+use Rattle.wl_topology.specs.Driven.{any_below}
+use Rattle.wl_segments.specs.Lengths.{bit_quanta}
+use Rattle.wl_bound.specs.Families.{Bus}
+
+-- the greatest of the numbers below n that pass a test, by f; 0 if there is none
+abbrev pub greatest : ℕ → (ℕ → Bool) → (ℕ → ℕ) → ℕ
+greatest zero test f = 0
+greatest (suc n) test f = max (greatest n test f) (if test n then f n else 0)
+
+-- a sender but for one node, and but for two
+abbrev pub sends_but : Bus → ℕ → ℕ → Bool
+sends_but b i k = b.sends k && not (k == i)
+
+abbrev pub sends_third : Bus → ℕ → ℕ → ℕ → Bool
+sends_third b i j k = sends_but b i k && not (k == j)
+
+-- a node but for two
+abbrev pub is_third : ℕ → ℕ → ℕ → Bool
+is_third i j w = not (w == i) && not (w == j)
+
+-- by how much a bit of node i can last longer than one of node j
+unfoldable pub drift : Bus → ℕ → ℕ → ℕ
+drift b i j = bit_quanta (b.lengths i) * b.longest i - bit_quanta (b.lengths j) * b.shortest j
+
+-- what one edge puts right at node i (Bosch CAN 2.0 part B, section 10: the resynchronisation jump width)
+unfoldable pub jump : Bus → ℕ → ℕ
+jump b i = (b.lengths i).sjw * b.shortest i
+
+-- By how much node i can begin a bit ahead of the edge that it follows, since it looks at the line once a quantum: nothing if its own loop takes a
+-- quantum and a tick.
+unfoldable pub look : Bus → ℕ → ℕ
+look b i = b.longest i + b.tick - b.delay i i
+
+-- How late a bit of node j can be at node i after an edge of node k that both follow; k may be i itself.
+unfoldable pub trip : Bus → ℕ → ℕ → ℕ → ℕ
+trip b i j k =
+    if k == i then b.delay i j + b.delay j i + (if nat_lt 2 b.nodes then look b i else 0)
+    else b.delay k j + b.delay j i + b.longest i + b.tick - b.delay k i
+
+-- how late a bit of node j can be at node i: over the sender that began, and with the look of a third node, which may move i forward
+unfoldable pub way : Bus → ℕ → ℕ → ℕ
+way b i j = greatest b.nodes (sends_but b j) (trip b i j) + greatest b.nodes (is_third i j) (look b)
+
+-- two nodes at least send
+unfoldable pub several : Bus → Bool
+several b = nat_lt 1 (count_places b.sends b.nodes)
+
+-- how early node i can be for the bits of the sender that wins the arbitration
+unfoldable pub early : Bus → ℕ → ℕ
+early b i = if several b then greatest b.nodes (sends_but b i) (λ a. way b i a + 10 * drift b a i) else 0
+
+-- what ten bits of drift from a sender take from a jump of node i
+unfoldable pub lost : Bus → ℕ → ℕ
+lost b i = 10 * greatest b.nodes (sends_but b i) (λ a. drift b a i)
+
+-- how many edges node i takes to catch up with that sender: a frame of 8 bytes has 14 edges at least ten bits apart
+unfoldable pub edges : Bus → ℕ → ℕ
+edges b i =
+    if nat_le (early b i) (b.shortest i) then 0
+    else if nat_le (jump b i) (lost b i) then 14
+    else min 14 (div_ceil (early b i - b.shortest i) (jump b i - lost b i))
+
+-- in how many of them nodes i and j both catch up with a third
+unfoldable pub chase : Bus → ℕ → ℕ → ℕ
+chase b i j = if any_below b.nodes (sends_third b i j) then min (edges b i) (edges b j) else 0
+
+-- how much later j can get for i meanwhile
+unfoldable pub apart : Bus → ℕ → ℕ → ℕ
+apart b i j = chase b i j * (10 * drift b j i + ((b.lengths j).sjw * b.longest j - jump b i))
+
+-- how late it can be for i at most, since the edges of a third sender reach it too
+unfoldable pub tour : Bus → ℕ → ℕ → ℕ
+tour b i j = greatest b.nodes (sends_third b i j) (λ a. way b i a + 10 * drift b a i + b.delay a j + b.delay j i - b.delay a i)
+
+-- how late a bit of j can be at i, catching up counted
+unfoldable pub late : Bus → ℕ → ℕ → ℕ
+late b i j = way b i j + min (apart b i j) (tour b i j - way b i j)
+
+-- the most that a bit of node j can last longer than one of another node
+unfoldable pub strays : Bus → ℕ → ℕ
+strays b j = greatest b.nodes (λ w. not (w == j)) (λ w. drift b j w)

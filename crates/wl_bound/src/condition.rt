@@ -1,0 +1,276 @@
+//! The condition for a sound bus.
+ghost use Rattle.std.specs.Prelude.{◌≡◌, ◌^◌, ◌<◌, length, IfSome};
+ghost use Rattle.wl_level.specs.Places.{first_place};
+ghost use Rattle.wl_topology.specs.Driven.{any_below};
+ghost use Rattle.wl_bound.specs.Families.{bus_of, member_at};
+ghost use Rattle.wl_bound.specs.declared.condition.Senders.TheVariants.{One};
+ghost use Rattle.wl_bound.specs.Conditions.{failure_of, fails, fails_at, first_failure_of, is_asked, left_by, left_of, plain, right_of, sides_in};
+
+use crate::family::{Family, Setting, Source};
+
+/// One of the three inequalities that are asked of each pair of nodes, in this order.
+#[derive(Clone, Copy, Debug, PartialEq, Eq)]
+pub enum Inequality {
+    /// Ten bits of drift are within the jump width of both nodes. Else an edge doesn't put right what has gathered since the one before.
+    DriftFitsJump,
+    /// There and back, the looks and eleven bits of drift are within the way to the sample. Else a node samples before the other's bit has come.
+    BitIsThereAtSample,
+    /// The look, ten bits of drift and a tick are within PHASE_SEG2. Else the other's next bit, or its acknowledgement, comes before the sample of the
+    /// bit in front of it.
+    NoBitTooEarly,
+}
+
+/// How many nodes send at once.
+#[derive(Clone, Copy, Debug, PartialEq, Eq)]
+pub enum Senders {
+    /// Any of the nodes with frames, in any number.
+    Any,
+    /// One of them at a time.
+    One,
+}
+
+/// The two sides of an inequality, in millionths of a tick. It holds if the left one is at most the right one.
+#[derive(Clone, Copy, Debug, PartialEq, Eq)]
+pub struct Sides {
+    /// What takes time.
+    pub left: u128,
+    /// The time that there is.
+    pub right: u128,
+}
+
+/// An inequality that fails for a pair of nodes.
+#[derive(Clone, Copy, Debug, PartialEq, Eq)]
+pub struct Failure {
+    /// Which one.
+    pub inequality: Inequality,
+    /// The node that the other's bit comes to, i: its jump, its sample, its PHASE_SEG2.
+    pub node: u8,
+    /// The other node, j. It is the same one if its own bit isn't back at its sample.
+    pub other: u8,
+    /// Both sides.
+    pub sides: Sides,
+}
+
+/// The plan's own cable and tolerances.
+pub(crate) const PLAIN: Setting = Setting {
+    source: Source::Together,
+    change: None,
+    wider: 0,
+    length: 1,
+    longer: 0,
+};
+
+impl Family {
+    /// Both sides of an inequality for nodes `i` and `j`, in millionths of a tick. For one sender at a time the left side is the greatest over the
+    /// senders.
+    pub fn sides(&self, senders: Senders, inequality: Inequality, i: u8, j: u8) -> Sides
+        requires one { i < length self.now.members }
+        requires other { j < length self.now.members }
+        ensures { result ≡ sides_in self.now plain senders inequality i j }
+    {
+        self.sides_by(PLAIN, senders, inequality, i, j)
+    }
+
+    /// The first inequality that fails: in their order, and then by the first node and by the second. None if the condition holds.
+    pub fn first_failure(&self, senders: Senders) -> Option<Failure>
+        ensures { result ≡ first_failure_of self.now plain senders }
+    {
+        self.first_failure_by(PLAIN, senders)
+    }
+
+    /// What takes time.
+    #[tactic(auto, unfolding(crate::specs::Conditions::left_of))]
+    fn left(&self, setting: Setting, inequality: Inequality, i: u8, j: u8) -> u128
+        requires one { i < length self.now.members }
+        requires other { j < length self.now.members }
+        ensures value { result ≡ left_of (bus_of self.now setting) inequality i j }
+        ensures most { result < 2 ^ 100 }
+    {
+        match inequality {
+            Inequality::DriftFitsJump => 10 * self.drift(setting, i, j),
+            Inequality::BitIsThereAtSample => {
+                if i == j {
+                    return self.delay(setting, i, i);
+                }
+                self.late(setting, i, j) + 11 * self.strays(setting, j)
+            }
+            Inequality::NoBitTooEarly => {
+                let ahead = self
+                    .early(setting, j)
+                    .saturating_sub(self.delay(setting, j, j));
+                let gained = self.apart(setting, j, i).min(ahead);
+                self.look(setting, j) + 10 * self.drift(setting, i, j) + gained + self.tick(setting)
+            }
+        }
+    }
+
+    /// The time that there is.
+    #[tactic(auto, unfolding(crate::specs::Conditions::right_of))]
+    fn right(&self, setting: Setting, inequality: Inequality, i: u8, j: u8) -> u128
+        requires one { i < length self.now.members }
+        requires other { j < length self.now.members }
+        ensures { result ≡ right_of (bus_of self.now setting) inequality i j }
+    {
+        let segments = self.segments(setting, i);
+        match inequality {
+            Inequality::DriftFitsJump => self.jump(setting, i).min(self.jump(setting, j)),
+            Inequality::BitIsThereAtSample => segments.sample_at() as u128
+                * self.shortest(setting, i),
+            Inequality::NoBitTooEarly => segments.ps2() as u128 * self.shortest(setting, i),
+        }
+    }
+
+    /// The greatest left side over the senders, each of them alone.
+    fn left_alone(&self, setting: Setting, inequality: Inequality, i: u8, j: u8) -> u128
+        requires one { i < length self.now.members }
+        requires other { j < length self.now.members }
+        ensures { result ≡ left_by self.now setting One inequality i j }
+    {
+        let mut greatest = 0;
+        for a in 0..self.nodes() {
+            if self.member(a).sends {
+                let source = Source::Alone(a);
+                greatest = greatest.max(self.left(Setting { source, ..setting }, inequality, i, j));
+            }
+        }
+        greatest
+    }
+
+    /// The left side for so many senders.
+    fn left_by(
+        &self,
+        setting: Setting,
+        senders: Senders,
+        inequality: Inequality,
+        i: u8,
+        j: u8,
+    ) -> u128
+        requires one { i < length self.now.members }
+        requires other { j < length self.now.members }
+        ensures { result ≡ left_by self.now setting senders inequality i j }
+    {
+        match senders {
+            Senders::Any => self.left(setting, inequality, i, j),
+            Senders::One => self.left_alone(setting, inequality, i, j),
+        }
+    }
+
+    /// Both sides.
+    pub(crate) fn sides_by(
+        &self,
+        setting: Setting,
+        senders: Senders,
+        inequality: Inequality,
+        i: u8,
+        j: u8,
+    ) -> Sides
+        requires one { i < length self.now.members }
+        requires other { j < length self.now.members }
+        ensures { result ≡ sides_in self.now setting senders inequality i j }
+    {
+        Sides {
+            left: self.left_by(setting, senders, inequality, i, j),
+            right: self.right(setting, inequality, i, j),
+        }
+    }
+
+    /// Whether an inequality fails for a pair.
+    fn fails(
+        &self,
+        setting: Setting,
+        senders: Senders,
+        inequality: Inequality,
+        i: u8,
+        j: u8,
+    ) -> bool
+        requires one { i < length self.now.members }
+        requires other { j < length self.now.members }
+        ensures { result ≡ fails self.now setting senders inequality i j }
+    {
+        if !is_asked(inequality, i, j) {
+            return false;
+        }
+        let sides = self.sides_by(setting, senders, inequality, i, j);
+        sides.right < sides.left
+    }
+
+    /// The first node with which it fails for node `i`.
+    fn first_other(
+        &self,
+        setting: Setting,
+        senders: Senders,
+        inequality: Inequality,
+        i: u8,
+    ) -> Option<u8>
+        requires { i < length self.now.members }
+        ensures first { result ≡ first_place (fails self.now setting senders inequality i) (length self.now.members) }
+        ensures inside { IfSome result (λ j. j < length self.now.members) }
+    {
+        let mut first = None;
+        for j in 0..self.nodes() {
+            if first.is_none() && self.fails(setting, senders, inequality, i, j) {
+                first = Some(j);
+            }
+        }
+        first
+    }
+
+    /// The first node for which it fails with some other.
+    fn first_node(&self, setting: Setting, senders: Senders, inequality: Inequality) -> Option<u8>
+        ensures first { result ≡ first_place (fails_at self.now setting senders inequality) (length self.now.members) }
+        ensures inside { IfSome result (λ i. i < length self.now.members) }
+    {
+        let mut first = None;
+        for i in 0..self.nodes() {
+            if first.is_none() && self.first_other(setting, senders, inequality, i).is_some() {
+                first = Some(i);
+            }
+        }
+        first
+    }
+
+    /// The first pair for which it fails.
+    fn failure(&self, setting: Setting, senders: Senders, inequality: Inequality) -> Option<Failure>
+        ensures { result ≡ failure_of self.now setting senders inequality }
+    {
+        let node = match self.first_node(setting, senders, inequality) {
+            Some(node) => node,
+            None => return None,
+        };
+        let other = match self.first_other(setting, senders, inequality, node) {
+            Some(other) => other,
+            None => return None,
+        };
+        let sides = self.sides_by(setting, senders, inequality, node, other);
+        Some(Failure {
+            inequality,
+            node,
+            other,
+            sides,
+        })
+    }
+
+    /// The first failure.
+    #[tactic(auto, unfolding(crate::specs::Conditions::first_failure_of))]
+    pub(crate) fn first_failure_by(&self, setting: Setting, senders: Senders) -> Option<Failure>
+        ensures { result ≡ first_failure_of self.now setting senders }
+    {
+        if let Some(failure) = self.failure(setting, senders, Inequality::DriftFitsJump) {
+            return Some(failure);
+        }
+        if let Some(failure) = self.failure(setting, senders, Inequality::BitIsThereAtSample) {
+            return Some(failure);
+        }
+        self.failure(setting, senders, Inequality::NoBitTooEarly)
+    }
+}
+
+/// Whether an inequality is asked of a pair: of a node and itself only whether its own bit is back.
+pub(crate) fn is_asked(inequality: Inequality, i: u8, j: u8) -> bool
+    ensures { result ≡ is_asked inequality i j }
+{
+    match inequality {
+        Inequality::BitIsThereAtSample => true,
+        Inequality::DriftFitsJump | Inequality::NoBitTooEarly => i != j,
+    }
+}

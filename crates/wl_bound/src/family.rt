@@ -1,0 +1,254 @@
+//! Families of buses: what of a plan the condition is about.
+ghost use Rattle.std.specs.Prelude.{◌≡◌, ◌^◌, ◌<◌, ◌≤◌, ◌++◌, length, IfOk, OnOk};
+ghost use Rattle.wl_plan.specs.Checked.{IsChecked};
+ghost use Rattle.wl_bound.specs.Families.{Buses, IsFamily, bus_of, changed, delay_in, family_of, lengths_in, longest_in, member_at, member_of, members_of, sends_in, shortest_in, units, way_between};
+
+use crate::oscillator::Oscillator;
+use std::alloc::{AllocError, Global};
+use std::marker::Model;
+use wl_level::Listed;
+use wl_node::NodeSetup;
+use wl_plan::Plan;
+use wl_segments::{Segments, SegmentsFault};
+use wl_topology::Topology;
+
+/// A node of a family.
+#[derive(Clone, Copy, Debug)]
+pub struct Member {
+    /// Its rates and its tolerance.
+    pub oscillator: Oscillator,
+    /// The segments of its bits.
+    pub segments: Segments,
+    /// Whether frames wait at it.
+    pub sends: bool,
+}
+
+/// Who sends.
+#[derive(Clone, Copy, Debug)]
+pub(crate) enum Source {
+    /// Each node with frames.
+    Together,
+    /// This node alone.
+    Alone(u8),
+}
+
+/// A change of the segments at every node by one quantum.
+#[derive(Clone, Copy, Debug, PartialEq, Eq)]
+pub enum Change {
+    /// The jump width a quantum wider.
+    WiderJump,
+    /// A quantum narrower.
+    NarrowerJump,
+    /// The sample a quantum later: PHASE_SEG1 is longer, PHASE_SEG2 shorter.
+    LaterSample,
+    /// A quantum earlier.
+    EarlierSample,
+}
+
+impl Change {
+    /// The changed segments, or why they are refused.
+    pub fn of(self, segments: &Segments) -> Result<Segments, SegmentsFault>
+        ensures { result ≡ changed self segments.now }
+    {
+        let (prop, ps1, ps2, sjw) = (
+            segments.prop(),
+            segments.ps1(),
+            segments.ps2(),
+            segments.sjw(),
+        );
+        match self {
+            Change::WiderJump => Segments::new(prop, ps1, ps2, sjw + 1),
+            Change::NarrowerJump => Segments::new(prop, ps1, ps2, sjw - 1),
+            Change::LaterSample => Segments::new(prop, ps1 + 1, ps2 - 1, sjw),
+            Change::EarlierSample => Segments::new(prop, ps1 - 1, ps2 + 1, sjw),
+        }
+    }
+}
+
+/// Which bus of a family is asked about.
+#[derive(Clone, Copy, Debug)]
+pub(crate) struct Setting {
+    /// Who sends.
+    pub(crate) source: Source,
+    /// What is changed at every node, unless the segments there refuse it.
+    pub(crate) change: Option<Change>,
+    /// By how many ppm each tolerance is wider.
+    pub(crate) wider: u32,
+    /// So many ticks of cable become `length + longer`.
+    pub(crate) length: u32,
+    /// See `length`.
+    pub(crate) longer: u32,
+}
+
+/// The buses of a plan, whose oscillators may deviate.
+#[derive(Debug, Drop)]
+pub struct Family {
+    members: Listed<Member>,
+    cable: Topology,
+}
+
+impl Model for Family {
+    ghost Value = { Buses };
+
+    ghost view = { λ f. record { members = f.members; cable = f.cable } };
+
+    ghost invariant = { λ f. IsFamily (record { members = f.members; cable = f.cable }) };
+}
+
+impl Family {
+    /// The family of a plan and of the oscillators of its nodes. Refused only when out of memory.
+    pub fn of_plan(
+        alloc: Global,
+        plan: &Plan,
+        oscillators: &[Oscillator],
+    ) -> Result<Family, AllocError>
+        requires checked { IsChecked plan.now }
+        requires one_each { length oscillators.now ≡ length plan.now.nodes }
+        ensures { IfOk result (λ family. family ≡ family_of plan.now oscillators.now) }
+    {
+        let mut members = Listed::new(alloc);
+        push_members(&mut members, plan.nodes.as_slice(), oscillators)?;
+        Ok(Family {
+            members,
+            cable: plan.topology,
+        })
+    }
+
+    /// How many nodes there are: 1 to 16.
+    pub fn nodes(&self) -> u8
+        ensures { result ≡ length self.now.members }
+    {
+        self.cable.nodes()
+    }
+
+    /// Node `i`.
+    pub fn member(&self, i: u8) -> Member
+        requires { i < length self.now.members }
+        ensures { result ≡ member_at self.now i }
+    {
+        let members = self.members.as_slice();
+        let place = i as usize;
+        members[place]
+    }
+
+    /// The ticks that a level takes along one unit of length.
+    pub(crate) fn per(&self) -> u128
+        ensures { result ≡ self.now.cable.per }
+    {
+        let _nodes = self.cable.nodes();
+        let from_end = self.cable.place_delay(0, 0);
+        from_end.abs_diff(self.cable.place_delay(1, 0))
+    }
+
+    /// Whether node `i` sends.
+    #[tactic(auto, unfolding(crate::specs::Families::sends_in))]
+    pub(crate) fn sends(&self, setting: Setting, i: u8) -> bool
+        requires { i < length self.now.members }
+        ensures { result ≡ sends_in self.now setting i }
+    {
+        match setting.source {
+            Source::Together => self.member(i).sends,
+            Source::Alone(k) => k == i,
+        }
+    }
+
+    /// The segments of node `i`.
+    #[tactic(auto, unfolding(crate::specs::Families::lengths_in))]
+    pub(crate) fn segments(&self, setting: Setting, i: u8) -> Segments
+        requires { i < length self.now.members }
+        ensures { result ≡ lengths_in self.now setting i }
+    {
+        let segments = self.member(i).segments;
+        match setting.change {
+            None => segments,
+            Some(change) => match change.of(&segments) {
+                Ok(other) => other,
+                Err(_) => segments,
+            },
+        }
+    }
+
+    /// A tick, in units.
+    pub(crate) fn tick(&self, setting: Setting) -> u128
+        ensures value { result ≡ units setting }
+        ensures most { result < 2 ^ 52 }
+    {
+        1_000_000 * setting.length as u128
+    }
+
+    /// The shortest quantum of node `i`, in units.
+    #[tactic(auto, unfolding(crate::specs::Families::shortest_in))]
+    pub(crate) fn shortest(&self, setting: Setting, i: u8) -> u128
+        requires { i < length self.now.members }
+        ensures value { result ≡ shortest_in self.now setting i }
+        ensures most { result < 2 ^ 73 }
+    {
+        setting.length as u128 * self.member(i).oscillator.shortest_by(setting.wider)
+    }
+
+    /// The longest quantum of node `i`, in units.
+    #[tactic(auto, unfolding(crate::specs::Families::longest_in))]
+    pub(crate) fn longest(&self, setting: Setting, i: u8) -> u128
+        requires { i < length self.now.members }
+        ensures value { result ≡ longest_in self.now setting i }
+        ensures most { result < 2 ^ 86 }
+    {
+        setting.length as u128 * self.member(i).oscillator.longest_by(setting.wider)
+    }
+
+    /// How many ticks a level takes along the cable from node `i` to node `j`, without the nodes' own.
+    pub(crate) fn way_between(&self, i: u8, j: u8) -> u64
+        requires one { i < length self.now.members }
+        requires other { j < length self.now.members }
+        ensures value { result ≡ way_between self.now.cable i j }
+        ensures most { result ≤ 2 ^ 20 }
+    {
+        let there_and_back = self.cable.delay(i, j) + self.cable.delay(j, i);
+        let own = self.cable.delay(i, i) + self.cable.delay(j, j);
+        (there_and_back - own) / 2
+    }
+
+    /// How long a level takes from node `i` to node `j`, in units.
+    #[tactic(auto, unfolding(crate::specs::Families::delay_in))]
+    pub(crate) fn delay(&self, setting: Setting, i: u8, j: u8) -> u128
+        requires one { i < length self.now.members }
+        requires other { j < length self.now.members }
+        ensures value { result ≡ delay_in self.now setting i j }
+        ensures most { result < 2 ^ 73 }
+    {
+        let nominal = setting.length as u128 * self.cable.delay(i, j) as u128;
+        let more = setting.longer as u128 * self.way_between(i, j) as u128;
+        1_000_000 * (nominal + more)
+    }
+}
+
+/// A node and its oscillator.
+fn with_oscillator(node: &NodeSetup, oscillator: Oscillator) -> Member
+    ensures { result ≡ member_of node.now oscillator }
+{
+    Member {
+        oscillator,
+        segments: node.segments,
+        sends: !node.queue.is_empty(),
+    }
+}
+
+/// The nodes with their oscillators, after the members. Refused only when out of memory.
+fn push_members(
+    members: &mut Listed<Member>,
+    nodes: &[NodeSetup],
+    oscillators: &[Oscillator],
+) -> Result<(), AllocError>
+    ensures { OnOk result (members.new ≡ members.old ++ members_of nodes.now oscillators.now) }
+{
+    match nodes {
+        [] => Ok(()),
+        [node, later @ ..] => match oscillators {
+            [] => Ok(()),
+            [oscillator, others @ ..] => {
+                members.push(with_oscillator(node, *oscillator))?;
+                push_members(members, later, others)
+            }
+        },
+    }
+}

@@ -1,0 +1,21 @@
+//! Whether a bus is sound, and with how much to spare: the condition under which every power-up of a plan is free of errors, with any
+//! offsets and any deviation of its clocks within their tolerance.
+//!
+//! The condition is three inequalities for each pair of nodes, in exact integers. They take drift and cable together. That they suffice is
+//! shown by search, and not proved.
+#![tactic(auto)]
+
+mod condition;
+mod family;
+mod help;
+mod laws;
+mod oscillator;
+mod search;
+mod terms;
+mod verdict;
+
+pub use condition::{Failure, Inequality, Senders, Sides};
+pub use family::{Change, Family, Member};
+pub use laws::condition_laws;
+pub use oscillator::Oscillator;
+pub use verdict::{Outside, Verdict, cause_outside, judge};

@@ -1,0 +1,162 @@
+//! What an oscillator may do.
+ghost use Rattle.std.specs.Prelude.{◌≡◌, ◌^◌, ◌<◌, ◌≤◌, ◌∷◌, All, if◌then◌else◌};
+ghost use Rattle.std.specs.Bool.{OnTrue};
+ghost use Rattle.std.specs.Result.{is_ok};
+ghost use Rattle.wl_clock.specs.Timing.{IsRate, timing_of_rates};
+ghost use Rattle.wl_bound.specs.Oscillators.{Pace, IsPace, fastest_of, is_faster, longest_of, oscillator_of, shortest_of, slowest_of};
+
+use std::marker::Model;
+use wl_clock::{Clock, Rate};
+
+/// The greatest tolerance, in parts per million.
+pub(crate) const GREATEST_TOLERANCE: u32 = 100_000;
+
+const MILLION: u128 = 1_000_000;
+
+/// The rates of an oscillator, and its tolerance: by how many parts per million it may deviate from each of them, either way.
+#[derive(Clone, Copy, Debug)]
+pub struct Oscillator {
+    fastest: Rate,
+    slowest: Rate,
+    tolerance: u32,
+}
+
+impl Model for Oscillator {
+    ghost Value = { Pace };
+
+    ghost view = { λ o. record { fastest = o.fastest; slowest = o.slowest; tolerance = o.tolerance } };
+
+    ghost inverse = { λ p. record { fastest = p.fastest; slowest = p.slowest; tolerance = p.tolerance } };
+
+    ghost invariant = { λ o. IsPace (record { fastest = o.fastest; slowest = o.slowest; tolerance = o.tolerance }) };
+}
+
+impl Oscillator {
+    /// The oscillator of the rates of a clock and a tolerance of 0 to 100,000 ppm.
+    ///
+    /// `None` if the tolerance is above, or if the rates make no clock (`Clock::with_rates`).
+    pub fn new(rates: &[Rate], tolerance: u32) -> Option<Oscillator>
+        ensures { result ≡ oscillator_of rates.now tolerance }
+    {
+        if !make_a_clock(rates) || tolerance > GREATEST_TOLERANCE {
+            return None;
+        }
+        match rates {
+            [] => None,
+            [first, later @ ..] => Some(Oscillator {
+                fastest: fastest(*first, later),
+                slowest: slowest(*first, later),
+                tolerance,
+            }),
+        }
+    }
+
+    /// The shortest quantum, in millionths of a tick, rounded down.
+    pub fn shortest(&self) -> u128
+        ensures { result ≡ shortest_of self.now 0 }
+    {
+        self.shortest_by(0)
+    }
+
+    /// The longest quantum, in millionths of a tick, rounded up.
+    pub fn longest(&self) -> u128
+        ensures { result ≡ longest_of self.now 0 }
+    {
+        self.longest_by(0)
+    }
+
+    /// The tolerance, in parts per million: 0 to 100,000.
+    pub fn tolerance(&self) -> u32
+        ensures value { result ≡ self.now.tolerance }
+        ensures small { result ≤ 100000 }
+    {
+        self.tolerance
+    }
+
+    /// The shortest quantum with a tolerance wider by some ppm, in millionths of a tick, rounded down.
+    pub(crate) fn shortest_by(&self, wider: u32) -> u128
+        ensures value { result ≡ shortest_of self.now wider }
+        ensures most { result < 2 ^ 41 }
+    {
+        let parts = MILLION.saturating_sub(self.tolerance as u128 + wider as u128);
+        self.fastest.num * parts / self.fastest.den as u128
+    }
+
+    /// The longest one, rounded up.
+    pub(crate) fn longest_by(&self, wider: u32) -> u128
+        ensures value { result ≡ longest_of self.now wider }
+        ensures most { result < 2 ^ 54 }
+    {
+        let parts = MILLION + (self.tolerance as u128 + wider as u128);
+        (self.slowest.num * parts).div_ceil(self.slowest.den as u128)
+    }
+}
+
+/// Whether the rates make a clock.
+fn make_a_clock(rates: &[Rate]) -> bool
+    ensures value { result ≡ is_ok (timing_of_rates 0 rates.now) }
+    ensures rates { OnTrue result (All IsRate rates.now) }
+{
+    match Clock::with_rates(0, rates) {
+        Ok(clock) => {
+            let _start = clock.at(0);
+            true
+        }
+        Err(_) => false,
+    }
+}
+
+/// Whether a quantum of the first rate is shorter.
+fn is_faster(one: &Rate, other: &Rate) -> bool
+    requires one { IsRate one.now }
+    requires other { IsRate other.now }
+    ensures { result ≡ is_faster one.now other.now }
+{
+    one.num * (other.den as u128) < other.num * one.den as u128
+}
+
+/// The second rate if its quanta are shorter, else the first.
+fn faster(one: Rate, other: Rate) -> Rate
+    requires one { IsRate one }
+    requires other { IsRate other }
+    ensures value { result ≡ (if is_faster other one then other else one) }
+    ensures rate { IsRate result }
+{
+    if is_faster(&other, &one) { other } else { one }
+}
+
+/// The second rate if its quanta are longer, else the first.
+fn slower(one: Rate, other: Rate) -> Rate
+    requires one { IsRate one }
+    requires other { IsRate other }
+    ensures value { result ≡ (if is_faster one other then other else one) }
+    ensures rate { IsRate result }
+{
+    if is_faster(&one, &other) { other } else { one }
+}
+
+/// The first of the fastest.
+fn fastest(first: Rate, later: &[Rate]) -> Rate
+    requires first { IsRate first }
+    requires later { All IsRate later.now }
+    ensures value { result ≡ fastest_of first later.now }
+    ensures rate { IsRate result }
+{
+    match later {
+        [] => first,
+        [next, rest @ ..] => fastest(faster(first, *next), rest),
+    }
+}
+
+/// The first of the slowest.
+fn slowest(first: Rate, later: &[Rate]) -> Rate
+    requires first { IsRate first }
+    requires later { All IsRate later.now }
+    ensures value { result ≡ slowest_of first later.now }
+    ensures rate { IsRate result }
+{
+    match later {
+        [] => first,
+        [next, rest @ ..] => slowest(slower(first, *next), rest),
+    }
+}

@@ -1,0 +1,139 @@
+//! How much longer the cable may be, and how much wider the tolerances.
+ghost use Rattle.std.specs.Prelude.{◌≡◌, ◌*◌, ◌^◌, ◌<◌, ◌≤◌, length};
+ghost use Rattle.wl_topology.specs.Limits.{longest_delay};
+ghost use Rattle.wl_bound.specs.Families.{way_between};
+ghost use Rattle.wl_bound.specs.Searches.{GrowsTo, IsBorderOf, IsLongerCable, cable_ticks, each, grown_by, holds_grown, holds_in, longest_growth, widest_growth};
+ghost use Rattle.wl_bound.specs.Terms.{greatest};
+ghost use Rattle.wl_bound.specs.declared.search.Growth.TheVariants.{Wider};
+
+use crate::condition::Senders;
+use crate::family::{Family, Setting, Source};
+use crate::oscillator::GREATEST_TOLERANCE;
+use wl_topology::LONGEST_DELAY;
+
+/// What grows.
+#[derive(Clone, Copy, Debug)]
+enum Growth {
+    /// A cable of so many ticks, in units of length of so many ticks.
+    Longer(u32, u32),
+    /// Every tolerance, in ppm.
+    Wider,
+}
+
+impl Family {
+    /// By how many units of length the cable may be longer, all places moved apart by one factor: the condition holds with so many, and with one more it
+    /// doesn't, or the cable would take more than 1,048,576 ticks.
+    ///
+    /// `None` if the condition doesn't hold as it is, if all nodes sit at one place, or if a level takes no time along the cable.
+    pub fn longer_cable(&self, senders: Senders) -> Option<u32>
+        ensures { IsLongerCable self.now senders result }
+    {
+        let length = self.cable_ticks();
+        if length == 0 {
+            return None;
+        }
+        let per = self.per() as u32;
+        let limit = (LONGEST_DELAY as u32 - length) / per;
+        self.border(senders, Growth::Longer(length, per), limit)
+    }
+
+    /// By how many ppm every tolerance may grow: the condition holds with so many, and with one more it doesn't, or some tolerance would be above
+    /// 100,000 ppm. `None` if the condition doesn't hold as it is.
+    pub fn wider_tolerance(&self, senders: Senders) -> Option<u32>
+        ensures { IsBorderOf (holds_grown self.now senders Wider) (widest_growth self.now) result }
+    {
+        self.border(senders, Growth::Wider, self.widest_growth())
+    }
+
+    /// Whether the condition holds.
+    fn holds(&self, setting: Setting, senders: Senders) -> bool
+        ensures { result ≡ holds_in self.now setting senders }
+    {
+        self.first_failure_by(setting, senders).is_none()
+    }
+
+    /// By halving, how far something may grow.
+    fn border(&self, senders: Senders, growth: Growth, limit: u32) -> Option<u32>
+        requires { GrowsTo growth limit }
+        ensures { IsBorderOf (holds_grown self.now senders growth) limit result }
+    {
+        if !self.holds(grown_by(growth, 0), senders) {
+            return None;
+        }
+        if self.holds(grown_by(growth, limit), senders) {
+            return Some(limit);
+        }
+        let mut low = 0;
+        let mut high = limit;
+        while high - low > 1 {
+            let middle = low + (high - low) / 2;
+            if self.holds(grown_by(growth, middle), senders) {
+                low = middle;
+            } else {
+                high = middle;
+            }
+        }
+        Some(low)
+    }
+
+    /// The ticks that a level takes along the cable between the two nodes that are furthest apart.
+    fn cable_ticks(&self) -> u32
+        ensures value { result ≡ cable_ticks self.now }
+        ensures most { result ≤ 2 ^ 20 }
+    {
+        let mut longest = 0;
+        for i in 0..self.nodes() {
+            longest = longest.max(self.furthest_from(i));
+        }
+        longest
+    }
+
+    /// The ticks along the cable from node `i` to the furthest one.
+    fn furthest_from(&self, i: u8) -> u32
+        requires { i < length self.now.members }
+        ensures value { result ≡ greatest (length self.now.members) each (way_between self.now.cable i) }
+        ensures most { result ≤ 2 ^ 20 }
+    {
+        let mut furthest = 0;
+        for j in 0..self.nodes() {
+            furthest = furthest.max(self.way_between(i, j) as u32);
+        }
+        furthest
+    }
+
+    /// By how many ppm every tolerance can grow and stay one.
+    fn widest_growth(&self) -> u32
+        ensures value { result ≡ widest_growth self.now }
+        ensures most { result ≤ 100000 }
+    {
+        let mut greatest = 0;
+        for i in 0..self.nodes() {
+            greatest = greatest.max(self.member(i).oscillator.tolerance());
+        }
+        GREATEST_TOLERANCE - greatest
+    }
+}
+
+/// The setting that grew by `n`.
+fn grown_by(growth: Growth, n: u32) -> Setting
+    requires { GrowsTo growth n }
+    ensures { result ≡ grown_by growth n }
+{
+    let source = Source::Together;
+    match growth {
+        Growth::Longer(length, per) => Setting {
+            source,
+            change: None,
+            wider: 0,
+            length,
+            longer: n * per,
+        },
+        Growth::Wider => Setting {
+            source,
+            change: None,
+            wider: n,
+            length: 1,
+            longer: 0,
+        },
+    }
+}

@@ -1,0 +1,296 @@
+//! The terms of the condition, in units of time.
+ghost use Rattle.std.specs.Prelude.{◌≡◌, ◌+◌, ◌-◌, ◌*◌, ◌^◌, ◌<◌, ◌≤◌, length};
+ghost use Rattle.wl_topology.specs.Driven.{any_below};
+ghost use Rattle.wl_level.specs.Places.{count_places};
+ghost use Rattle.wl_bound.specs.Families.{bus_of};
+ghost use Rattle.wl_bound.specs.Terms.{apart, chase, drift, early, edges, greatest, is_third, jump, late, look, lost, sends_but, sends_third, several, strays, tour, trip, way};
+
+use crate::family::{Family, Setting};
+
+/// The edges of a frame of 8 bytes that are ten bits apart: the most in which a node catches up.
+const MOST_EDGES: u128 = 14;
+
+impl Family {
+    /// By how much a bit of node `i` can last longer than one of node `j`.
+    #[tactic(auto, unfolding(crate::specs::Terms::drift))]
+    pub(crate) fn drift(&self, setting: Setting, i: u8, j: u8) -> u128
+        requires one { i < length self.now.members }
+        requires other { j < length self.now.members }
+        ensures value { result ≡ drift (bus_of self.now setting) i j }
+        ensures most { result < 2 ^ 91 }
+    {
+        let longest = self.segments(setting, i).bit_quanta() as u128 * self.longest(setting, i);
+        let shortest = self.segments(setting, j).bit_quanta() as u128 * self.shortest(setting, j);
+        longest.saturating_sub(shortest)
+    }
+
+    /// What one edge puts right at node `i`.
+    #[tactic(auto, unfolding(crate::specs::Terms::jump))]
+    pub(crate) fn jump(&self, setting: Setting, i: u8) -> u128
+        requires { i < length self.now.members }
+        ensures value { result ≡ jump (bus_of self.now setting) i }
+        ensures most { result < 2 ^ 75 }
+    {
+        self.segments(setting, i).sjw() as u128 * self.shortest(setting, i)
+    }
+
+    /// By how much node `i` can begin a bit ahead of the edge that it follows.
+    #[tactic(auto, unfolding(crate::specs::Terms::look))]
+    pub(crate) fn look(&self, setting: Setting, i: u8) -> u128
+        requires { i < length self.now.members }
+        ensures value { result ≡ look (bus_of self.now setting) i }
+        ensures most { result < 2 ^ 87 }
+    {
+        (self.longest(setting, i) + self.tick(setting)).saturating_sub(self.delay(setting, i, i))
+    }
+
+    /// How late a bit of node `j` can be at node `i` after an edge of node `k`.
+    #[tactic(auto, unfolding(crate::specs::Terms::trip))]
+    fn trip(&self, setting: Setting, i: u8, j: u8, k: u8) -> u128
+        requires one { i < length self.now.members }
+        requires other { j < length self.now.members }
+        requires first { k < length self.now.members }
+        ensures value { result ≡ trip (bus_of self.now setting) i j k }
+        ensures most { result < 2 ^ 88 }
+    {
+        let back = self.delay(setting, j, i);
+        if k == i {
+            let look = if self.nodes() > 2 {
+                self.look(setting, i)
+            } else {
+                0
+            };
+            return self.delay(setting, i, j) + back + look;
+        }
+        let comes = self.delay(setting, k, j)
+            + back
+            + self.longest(setting, i)
+            + self.tick(setting);
+        comes.saturating_sub(self.delay(setting, k, i))
+    }
+
+    /// The greatest of these over the senders.
+    fn longest_trip(&self, setting: Setting, i: u8, j: u8) -> u128
+        requires one { i < length self.now.members }
+        requires other { j < length self.now.members }
+        ensures value { result ≡ greatest (length self.now.members) (sends_but (bus_of self.now setting) j) (trip (bus_of self.now setting) i j) }
+        ensures most { result < 2 ^ 88 }
+    {
+        let mut longest = 0;
+        for k in 0..self.nodes() {
+            if self.sends(setting, k) && k != j {
+                longest = longest.max(self.trip(setting, i, j, k));
+            }
+        }
+        longest
+    }
+
+    /// The greatest look of a node that is neither `i` nor `j`.
+    fn look_of_third(&self, setting: Setting, i: u8, j: u8) -> u128
+        requires one { i < length self.now.members }
+        requires other { j < length self.now.members }
+        ensures value { result ≡ greatest (length self.now.members) (is_third i j) (look (bus_of self.now setting)) }
+        ensures most { result < 2 ^ 87 }
+    {
+        let mut greatest = 0;
+        for w in 0..self.nodes() {
+            if w != i && w != j {
+                greatest = greatest.max(self.look(setting, w));
+            }
+        }
+        greatest
+    }
+
+    /// How late a bit of node `j` can be at node `i`.
+    #[tactic(auto, unfolding(crate::specs::Terms::way))]
+    pub(crate) fn way(&self, setting: Setting, i: u8, j: u8) -> u128
+        requires one { i < length self.now.members }
+        requires other { j < length self.now.members }
+        ensures value { result ≡ way (bus_of self.now setting) i j }
+        ensures most { result < 2 ^ 89 }
+    {
+        self.longest_trip(setting, i, j) + self.look_of_third(setting, i, j)
+    }
+
+    /// Whether two nodes at least send.
+    #[tactic(auto, unfolding(crate::specs::Terms::several))]
+    fn several(&self, setting: Setting) -> bool
+        ensures { result ≡ several (bus_of self.now setting) }
+    {
+        let mut senders: u8 = 0;
+        for i in 0..self.nodes() {
+            if self.sends(setting, i) {
+                senders += 1;
+            }
+        }
+        senders > 1
+    }
+
+    /// How late the bits of a sender but `i` can be at node `i`, with ten bits of drift.
+    fn latest_sender(&self, setting: Setting, i: u8) -> u128
+        requires { i < length self.now.members }
+        ensures value { result ≡ greatest (length self.now.members) (sends_but (bus_of self.now setting) i)
+            (λ a. way (bus_of self.now setting) i a + 10 * drift (bus_of self.now setting) a i) }
+        ensures most { result < 2 ^ 95 }
+    {
+        let mut latest = 0;
+        for a in 0..self.nodes() {
+            if self.sends(setting, a) && a != i {
+                latest = latest.max(self.way(setting, i, a) + 10 * self.drift(setting, a, i));
+            }
+        }
+        latest
+    }
+
+    /// How early node `i` can be for the bits of the sender that wins the arbitration.
+    #[tactic(auto, unfolding(crate::specs::Terms::early))]
+    pub(crate) fn early(&self, setting: Setting, i: u8) -> u128
+        requires { i < length self.now.members }
+        ensures value { result ≡ early (bus_of self.now setting) i }
+        ensures most { result < 2 ^ 95 }
+    {
+        if self.several(setting) {
+            self.latest_sender(setting, i)
+        } else {
+            0
+        }
+    }
+
+    /// What ten bits of drift from a sender take from a jump of node `i`.
+    #[tactic(auto, unfolding(crate::specs::Terms::lost))]
+    fn lost(&self, setting: Setting, i: u8) -> u128
+        requires { i < length self.now.members }
+        ensures value { result ≡ lost (bus_of self.now setting) i }
+        ensures most { result < 2 ^ 95 }
+    {
+        let mut greatest = 0;
+        for a in 0..self.nodes() {
+            if self.sends(setting, a) && a != i {
+                greatest = greatest.max(self.drift(setting, a, i));
+            }
+        }
+        10 * greatest
+    }
+
+    /// How many edges node `i` takes to catch up with that sender.
+    #[tactic(auto, unfolding(crate::specs::Terms::edges))]
+    fn edges(&self, setting: Setting, i: u8) -> u128
+        requires { i < length self.now.members }
+        ensures value { result ≡ edges (bus_of self.now setting) i }
+        ensures most { result ≤ 14 }
+    {
+        let early = self.early(setting, i);
+        let quantum = self.shortest(setting, i);
+        if early <= quantum {
+            return 0;
+        }
+        let jump = self.jump(setting, i);
+        let lost = self.lost(setting, i);
+        if jump <= lost {
+            return MOST_EDGES;
+        }
+        MOST_EDGES.min((early - quantum).div_ceil(jump - lost))
+    }
+
+    /// Whether some third node sends.
+    fn third_sends(&self, setting: Setting, i: u8, j: u8) -> bool
+        requires one { i < length self.now.members }
+        requires other { j < length self.now.members }
+        ensures { result ≡ any_below (length self.now.members) (sends_third (bus_of self.now setting) i j) }
+    {
+        let mut sends = false;
+        for a in 0..self.nodes() {
+            sends = sends || self.sends(setting, a) && a != i && a != j;
+        }
+        sends
+    }
+
+    /// In how many edges nodes `i` and `j` both catch up with a third.
+    #[tactic(auto, unfolding(crate::specs::Terms::chase))]
+    fn chase(&self, setting: Setting, i: u8, j: u8) -> u128
+        requires one { i < length self.now.members }
+        requires other { j < length self.now.members }
+        ensures value { result ≡ chase (bus_of self.now setting) i j }
+        ensures most { result ≤ 14 }
+    {
+        if self.third_sends(setting, i, j) {
+            self.edges(setting, i).min(self.edges(setting, j))
+        } else {
+            0
+        }
+    }
+
+    /// How much later node `j` can get for node `i` meanwhile.
+    #[tactic(auto, unfolding(crate::specs::Terms::apart))]
+    pub(crate) fn apart(&self, setting: Setting, i: u8, j: u8) -> u128
+        requires one { i < length self.now.members }
+        requires other { j < length self.now.members }
+        ensures value { result ≡ apart (bus_of self.now setting) i j }
+        ensures most { result < 2 ^ 99 }
+    {
+        let jumps = self.segments(setting, j).sjw() as u128 * self.longest(setting, j);
+        let unlike = jumps.saturating_sub(self.jump(setting, i));
+        self.chase(setting, i, j) * (10 * self.drift(setting, j, i) + unlike)
+    }
+
+    /// How late node `j` can be for node `i` by the edges of sender `a`.
+    fn tour_by(&self, setting: Setting, i: u8, j: u8, a: u8) -> u128
+        requires one { i < length self.now.members }
+        requires other { j < length self.now.members }
+        requires sender { a < length self.now.members }
+        ensures value { let b = bus_of self.now setting in
+            result ≡ way b i a + 10 * drift b a i + b.delay a j + b.delay j i - b.delay a i }
+        ensures most { result < 2 ^ 96 }
+    {
+        let comes = self.way(setting, i, a) + 10 * self.drift(setting, a, i);
+        let there = comes + self.delay(setting, a, j) + self.delay(setting, j, i);
+        there.saturating_sub(self.delay(setting, a, i))
+    }
+
+    /// How late it can be at most, since the edges of a third sender reach it too.
+    #[tactic(auto, unfolding(crate::specs::Terms::tour))]
+    fn tour(&self, setting: Setting, i: u8, j: u8) -> u128
+        requires one { i < length self.now.members }
+        requires other { j < length self.now.members }
+        ensures value { result ≡ tour (bus_of self.now setting) i j }
+        ensures most { result < 2 ^ 96 }
+    {
+        let mut longest = 0;
+        for a in 0..self.nodes() {
+            if self.sends(setting, a) && a != i && a != j {
+                longest = longest.max(self.tour_by(setting, i, j, a));
+            }
+        }
+        longest
+    }
+
+    /// How late a bit of node `j` can be at node `i`, catching up counted.
+    #[tactic(auto, unfolding(crate::specs::Terms::late))]
+    pub(crate) fn late(&self, setting: Setting, i: u8, j: u8) -> u128
+        requires one { i < length self.now.members }
+        requires other { j < length self.now.members }
+        ensures value { result ≡ late (bus_of self.now setting) i j }
+        ensures most { result < 2 ^ 97 }
+    {
+        let way = self.way(setting, i, j);
+        way + self
+            .apart(setting, i, j)
+            .min(self.tour(setting, i, j).saturating_sub(way))
+    }
+
+    /// The most that a bit of node `j` can last longer than one of another node.
+    #[tactic(auto, unfolding(crate::specs::Terms::strays))]
+    pub(crate) fn strays(&self, setting: Setting, j: u8) -> u128
+        requires { j < length self.now.members }
+        ensures value { result ≡ strays (bus_of self.now setting) j }
+        ensures most { result < 2 ^ 91 }
+    {
+        let mut greatest = 0;
+        for w in 0..self.nodes() {
+            if w != j {
+                greatest = greatest.max(self.drift(setting, j, w));
+            }
+        }
+        greatest
+    }
+}

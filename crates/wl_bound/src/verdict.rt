@@ -1,0 +1,262 @@
+//! What is said of a plan.
+ghost use Rattle.std.specs.Prelude.{◌≡◌, ◌<◌, ◌≤◌, ◌^◌, IsTrue, length, IfSome};
+ghost use Rattle.std.specs.List.{list_any};
+ghost use Rattle.wl_level.specs.Places.{first_place};
+ghost use Rattle.wl_topology.specs.Driven.{any_below};
+ghost use Rattle.wl_plan.specs.Checked.{IsChecked};
+ghost use Rattle.wl_plan.specs.PlanLine.{setup_at};
+ghost use Rattle.wl_bound.specs.Verdicts.{finds_nobody_idle, finds_one_idle, has_frames, has_same_field, idle_at, is_after, is_ready_from, outside_of, pair_in, sends_something, share_field, shares, shares_with, verdict_of, without_book};
+
+use crate::condition::{Failure, Senders};
+use crate::family::Family;
+use wl_frame::frame::Frame;
+use wl_node::NodeSetup;
+use wl_plan::Plan;
+use wl_segments::SyncRules;
+
+/// Why the condition says nothing of a plan: the first that applies, in this order.
+#[derive(Clone, Copy, Debug, PartialEq, Eq)]
+pub enum Outside {
+    /// There is one node alone: nobody acknowledges its frames.
+    FewNodes,
+    /// No frame waits at any node.
+    NoFrames,
+    /// This node's rules of synchronisation are `After`. No such condition is known for them: a node that has decided to send isn't moved by another's
+    /// start of frame beyond its jump width, and an edge in the sample's quantum is lost.
+    NotByTheBook(u8),
+    /// Two frames of these nodes have one identifier, format and RTR bit, so no arbitration parts them.
+    SameIdentifier(u8, u8),
+    /// The first frame of this node becomes ready before any other node has seen the 11 recessive bits that make it idle: nobody may be there to
+    /// acknowledge it.
+    NobodyIdle(u8),
+}
+
+/// What is said of a plan.
+#[derive(Clone, Copy, Debug, PartialEq, Eq)]
+pub enum Verdict {
+    /// The condition holds for any senders.
+    ForAny,
+    /// It holds for one sender at a time.
+    ForOne,
+    /// It doesn't hold for one sender at a time either, by this failure.
+    DoesNotHold(Failure),
+    /// It says nothing of this plan.
+    NoBound(Outside),
+}
+
+/// What the condition says of a plan and its family (`Family::of_plan`).
+pub fn judge(plan: &Plan, family: &Family) -> Verdict
+    requires { IsChecked plan.now }
+    ensures { result ≡ verdict_of plan.now family.now }
+{
+    if let Some(cause) = cause_outside(plan) {
+        return Verdict::NoBound(cause);
+    }
+    if family.first_failure(Senders::Any).is_none() {
+        return Verdict::ForAny;
+    }
+    match family.first_failure(Senders::One) {
+        None => Verdict::ForOne,
+        Some(failure) => Verdict::DoesNotHold(failure),
+    }
+}
+
+/// Why the condition says nothing of a plan, whatever its cable and its clocks; `None` if it does.
+///
+/// The ticks at which nodes are idle and frames become ready are those of the plan as it stands, with its offsets.
+pub fn cause_outside(plan: &Plan) -> Option<Outside>
+    requires { IsChecked plan.now }
+    ensures { result ≡ outside_of plan.now }
+{
+    if plan.nodes.len() < 2 {
+        return Some(Outside::FewNodes);
+    }
+    if !any_frames(plan) {
+        return Some(Outside::NoFrames);
+    }
+    if let Some(i) = first_without_book(plan) {
+        return Some(Outside::NotByTheBook(i));
+    }
+    if let Some(cause) = first_shared(plan) {
+        return Some(cause);
+    }
+    match first_unheard(plan) {
+        Some(i) => Some(Outside::NobodyIdle(i)),
+        None => None,
+    }
+}
+
+/// Node `i` of a plan.
+fn setup(plan: &Plan, i: u8) -> &NodeSetup
+    requires { i < length plan.now.nodes }
+    ensures { result.now ≡ setup_at plan.now i }
+{
+    let nodes = plan.nodes.as_slice();
+    let place = i as usize;
+    &nodes[place]
+}
+
+/// Whether some frame waits at some node.
+fn any_frames(plan: &Plan) -> bool
+    requires { IsChecked plan.now }
+    ensures { result ≡ any_below (length plan.now.nodes) (sends_something plan.now) }
+{
+    let mut any = false;
+    for i in 0..plan.topology.nodes() {
+        any = any || has_frames(setup(plan, i));
+    }
+    any
+}
+
+/// Whether frames wait at a node.
+fn has_frames(node: &NodeSetup) -> bool
+    ensures { result ≡ has_frames node.now }
+{
+    node.queue.len() > 0
+}
+
+/// The first node whose rules of synchronisation aren't the book's.
+fn first_without_book(plan: &Plan) -> Option<u8>
+    requires { IsChecked plan.now }
+    ensures { result ≡ first_place (without_book plan.now) (length plan.now.nodes) }
+{
+    let mut first = None;
+    for i in 0..plan.topology.nodes() {
+        if first.is_none() && is_after(setup(plan, i)) {
+            first = Some(i);
+        }
+    }
+    first
+}
+
+/// Whether the rules of a node are `After`.
+fn is_after(node: &NodeSetup) -> bool
+    ensures { result ≡ is_after node.now.segments.sync }
+{
+    match node.segments.sync() {
+        SyncRules::After => true,
+        SyncRules::Book => false,
+    }
+}
+
+/// Whether no arbitration parts two frames.
+fn has_same_field(one: &Frame, other: &Frame) -> bool
+    ensures { result ≡ has_same_field one.now other.now }
+{
+    one.id() == other.id()
+        && one.is_extended() == other.is_extended()
+        && one.remote() == other.remote()
+}
+
+/// Whether there are two such frames in these queues.
+fn share_field(one: &NodeSetup, other: &NodeSetup) -> bool
+    ensures { result ≡ share_field one.now other.now }
+{
+    one.queue
+        .as_slice()
+        .iter()
+        .any(|waiting| has_field_of(other, &waiting.frame))
+}
+
+/// Whether no arbitration parts some frame of a node from this one.
+fn has_field_of(other: &NodeSetup, frame: &Frame) -> bool
+    ensures { result ≡ list_any (λ b. has_same_field frame.now b.frame) other.now.queue }
+{
+    other
+        .queue
+        .as_slice()
+        .iter()
+        .any(|waiting| has_same_field(frame, &waiting.frame))
+}
+
+/// The first node that shares an identifier with node `i`.
+fn first_sharing(plan: &Plan, i: u8) -> Option<u8>
+    requires checked { IsChecked plan.now }
+    requires node { i < length plan.now.nodes }
+    ensures { result ≡ first_place (shares_with plan.now i) (length plan.now.nodes) }
+{
+    let mut first = None;
+    for j in 0..plan.topology.nodes() {
+        if first.is_none() && i != j && share_field(setup(plan, i), setup(plan, j)) {
+            first = Some(j);
+        }
+    }
+    first
+}
+
+/// The first node that shares an identifier with some other.
+fn first_sharer(plan: &Plan) -> Option<u8>
+    requires { IsChecked plan.now }
+    ensures first { result ≡ first_place (shares plan.now) (length plan.now.nodes) }
+    ensures inside { IfSome result (λ i. i < length plan.now.nodes) }
+{
+    let mut first = None;
+    for i in 0..plan.topology.nodes() {
+        if first.is_none() && first_sharing(plan, i).is_some() {
+            first = Some(i);
+        }
+    }
+    first
+}
+
+/// The first pair of nodes that share an identifier.
+fn first_shared(plan: &Plan) -> Option<Outside>
+    requires { IsChecked plan.now }
+    ensures { result ≡ pair_in plan.now (first_place (shares plan.now) (length plan.now.nodes)) }
+{
+    let i = match first_sharer(plan) {
+        Some(i) => i,
+        None => return None,
+    };
+    match first_sharing(plan, i) {
+        Some(j) => Some(Outside::SameIdentifier(i, j)),
+        None => None,
+    }
+}
+
+/// The tick at which a node has counted the 11 bits that it waits for (Bosch CAN 2.0 part B, section 9).
+fn idle_at(node: &NodeSetup) -> u64
+    ensures value { result ≡ idle_at node.now }
+    ensures soon { result < 2 ^ 40 }
+{
+    node.clock.at(11 * node.segments.bit_quanta())
+}
+
+/// Whether no frame of a node becomes ready before tick `t`.
+fn is_ready_from(node: &NodeSetup, t: u64) -> bool
+    requires { t < 2 ^ 48 }
+    ensures { result ≡ is_ready_from node.now node.now.queue t }
+{
+    wl_clock::ticks_increase();
+    match node.queue.as_slice() {
+        [] => true,
+        [first, ..] => node.clock.first_not_before(t) <= first.ready,
+    }
+}
+
+/// Whether some other node is idle if the first frame of node `i` becomes ready.
+fn finds_one_idle(plan: &Plan, i: u8) -> bool
+    requires checked { IsChecked plan.now }
+    requires node { i < length plan.now.nodes }
+    ensures { result ≡ finds_one_idle plan.now i }
+{
+    let mut finds = false;
+    for j in 0..plan.topology.nodes() {
+        finds = finds || j != i && is_ready_from(setup(plan, i), idle_at(setup(plan, j)));
+    }
+    finds
+}
+
+/// The first node whose first frame may find nobody idle.
+fn first_unheard(plan: &Plan) -> Option<u8>
+    requires { IsChecked plan.now }
+    ensures { result ≡ first_place (finds_nobody_idle plan.now) (length plan.now.nodes) }
+{
+    let mut first = None;
+    for i in 0..plan.topology.nodes() {
+        if first.is_none() && !finds_one_idle(plan, i) {
+            first = Some(i);
+        }
+    }
+    first
+}
