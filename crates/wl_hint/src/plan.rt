@@ -1,6 +1,8 @@
 //! Hints on plan texts.
-ghost use Rattle.std.specs.Prelude.{◌≤◌, length};
+ghost use Rattle.std.specs.Prelude.{◌≤◌, IfOk, IfSome, length, None, Some, option_map};
+ghost use Rattle.wl_hint.specs.Hints.{PointsInto};
 
+use crate::hint::{Hint, Place};
 use crate::place::place_of;
 use crate::remarks::{remark, repeated_name};
 use crate::scan::{key_end, value_behind, value_end};
@@ -109,44 +111,20 @@ fn key_in(fault: &SetupFault) -> &str {
 }
 
 /// What is written at the place of a key, up to the end of its line; nothing at that of a table.
-fn written(alloc: Global, text: &[u8], at: usize) -> Result<String, AllocError>
-    requires { at ≤ length text.now }
-{
+fn written(alloc: Global, text: &[u8], at: usize) -> Result<String, AllocError> {
     let equals = key_end(text, at);
     let end = value_end(text, value_behind(text, equals)).min(at.saturating_add(MOST_SHOWN));
     let said = text.get(at..end).unwrap_or(b"");
     if said.starts_with(b"[") || said.starts_with(b"{") {
-        return Ok(String::new(alloc));
+        return String::from_str(alloc, ": ");
     }
     match str::from_utf8(said) {
         Ok(said) => {
-            let said = Text::new(alloc, said.split('\n').next().unwrap_or("").trim_end())?;
-            format!(in alloc; ", `{said}`")
+            let said = said.split('\n').next().unwrap_or("").trim_end();
+            format!(in alloc; ", `{said}`: ")
         }
-        Err(_) => Ok(String::new(alloc)),
+        Err(_) => String::from_str(alloc, ": "),
     }
-}
-
-/// How many letters a line has, by its bytes.
-fn letters(line: &[u8]) -> usize {
-    line.iter()
-        .filter(|byte| **byte < 128 || 192 <= **byte)
-        .count()
-}
-
-/// A place by its line and column, from 1, with what is written there.
-fn place_words(alloc: Global, text: &[u8], at: usize) -> Result<String, AllocError>
-    requires { at ≤ length text.now }
-{
-    let before = &text[..at];
-    let newlines = before.iter().filter(|byte| **byte == b'\n').count();
-    let begun = match before.iter().rposition(|byte| *byte == b'\n') {
-        Some(newline) => before.get(newline.saturating_add(1)..).unwrap_or(before),
-        None => before,
-    };
-    let (line, column) = (newlines.saturating_add(1), letters(begun).saturating_add(1));
-    let said = written(alloc, text, at)?;
-    format!(in alloc; "line {line}, column {column}{said}: ")
 }
 
 /// What an explanation says is wrong, and what to change.
@@ -159,52 +137,104 @@ fn parts(said: &str) -> (&str, &str) {
 }
 
 /// The hint on a text that isn't at hand.
-fn without_text(alloc: Global, fault: &SetupFault) -> Result<String, AllocError> {
+fn without_text(alloc: Global, fault: &SetupFault) -> Result<Hint, AllocError>
+    ensures { IfOk result (PointsInto None) }
+{
     let said = explain_fault(alloc, b"", fault)?;
     let (wrong, change) = parts(said.as_str());
     let cause = match wrong.rsplit_once(": ") {
         Some((_, cause)) => cause,
         None => wrong,
     };
-    format!(in alloc; "{cause}. {change}")
+    let said = format!(in alloc; "{cause}. {change}")?;
+    Hint::anywhere(alloc, said.as_str())
+}
+
+/// Where in a text a fault is, and what is remarked of it.
+#[derive(Drop)]
+struct Found {
+    at: Option<usize>,
+    remark: String,
 }
 
 /// The place of a fault in a document, and what is remarked of it.
-fn place_and_remark(
+fn found_in(
     alloc: Global,
     text: &[u8],
     top: &Table,
     fault: &SetupFault,
-) -> Result<(String, String), AllocError> {
-    let Some(spot) = spot_in(top, fault) else {
-        return Ok((String::new(alloc), String::new(alloc)));
-    };
-    let key = key_in(fault);
-    let said = remark(alloc, top, spot, fault)?;
-    match place_of(text, spot, key.as_bytes()) {
-        Some(at) => Ok((place_words(alloc, text, at)?, said)),
-        None => Ok((String::new(alloc), said)),
+) -> Result<Found, AllocError>
+    ensures { IfOk result (λ found. IfSome found.at (λ at. at ≤ length text.now)) }
+{
+    match spot_in(top, fault) {
+        Some(spot) => Ok(Found {
+            at: place_of(text, spot, key_in(fault).as_bytes()),
+            remark: remark(alloc, top, spot, fault)?,
+        }),
+        None => Ok(Found {
+            at: None,
+            remark: String::new(alloc),
+        }),
     }
 }
 
-/// The hint on a text.
-fn with_text(alloc: Global, text: &[u8], fault: &SetupFault) -> Result<String, AllocError> {
-    let (place, remark) = match document_or_place(alloc, text) {
-        Ok(top) => place_and_remark(alloc, text, &top, fault)?,
-        Err(_) => (String::new(alloc), String::new(alloc)),
-    };
-    let said = explain_fault(alloc, text, fault)?;
-    let (wrong, change) = parts(said.as_str());
-    format!(in alloc; "{place}{wrong}{remark}. {change}")
+/// The same of a text, which may be no TOML.
+fn found_of(alloc: Global, text: &[u8], fault: &SetupFault) -> Result<Found, AllocError>
+    ensures { IfOk result (λ found. IfSome found.at (λ at. at ≤ length text.now)) }
+{
+    match document_or_place(alloc, text) {
+        Ok(top) => found_in(alloc, text, &top, fault),
+        Err(_) => Ok(Found {
+            at: None,
+            remark: String::new(alloc),
+        }),
+    }
 }
 
-/// What to change of a plan's text that is refused by this fault, its first: the place in the text, what is wrong there, and what to change; of
-/// a text that isn't at hand no place. Refused out of memory alone.
+/// The hint on a text, with what is written in front of what is wrong.
+fn hint_at(
+    alloc: Global,
+    text: &[u8],
+    fault: &SetupFault,
+    found: &Found,
+    written: &str,
+) -> Result<Text, AllocError> {
+    let said = explain_fault(alloc, text, fault)?;
+    let (wrong, change) = parts(said.as_str());
+    let remark = found.remark.as_str();
+    let said = format!(in alloc; "{written}{wrong}{remark}. {change}")?;
+    Text::new(alloc, said.as_str())
+}
+
+/// The hint on a text.
+fn with_text(alloc: Global, text: &[u8], fault: &SetupFault) -> Result<Hint, AllocError>
+    ensures { IfOk result (PointsInto (Some text.now)) }
+{
+    let found = found_of(alloc, text, fault)?;
+    match found.at {
+        Some(at) => {
+            let written = written(alloc, text, at)?;
+            Ok(Hint {
+                place: Some(Place::of(text, at)),
+                said: hint_at(alloc, text, fault, &found, written.as_str())?,
+            })
+        }
+        None => Ok(Hint {
+            place: None,
+            said: hint_at(alloc, text, fault, &found, "")?,
+        }),
+    }
+}
+
+/// Returns what to change of a plan's text that is refused by this fault, its first: the place in the text, what is wrong there, and what to
+/// change; of a text that isn't at hand no place. Refused out of memory alone.
 pub fn hint_of_plan(
     alloc: Global,
     text: Option<&[u8]>,
     fault: &SetupFault,
-) -> Result<String, AllocError> {
+) -> Result<Hint, AllocError>
+    ensures { IfOk result (PointsInto (option_map (λ t. t.now) text.entry)) }
+{
     match text {
         Some(text) => with_text(alloc, text, fault),
         None => without_text(alloc, fault),

@@ -1,9 +1,11 @@
 //! Hints on record texts.
+ghost use Rattle.std.specs.Prelude.{IfOk, None};
+ghost use Rattle.wl_hint.specs.Hints.{PointsInto};
 
+use crate::hint::Hint;
 use std::alloc::{AllocError, Global};
 use std::str;
 use wl_record::TextFault;
-use wl_setup::Text;
 
 /// The most bytes of a line that a hint shows.
 const MOST_SHOWN: usize = 80;
@@ -22,10 +24,7 @@ fn line_of(text: &[u8], n: u64) -> Option<&[u8]> {
 /// A line as it is shown: nothing where it is no UTF-8.
 fn shown(alloc: Global, line: &[u8]) -> Result<String, AllocError> {
     match str::from_utf8(line) {
-        Ok(line) => {
-            let line = Text::new(alloc, line)?;
-            format!(in alloc; " is `{line}`")
-        }
+        Ok(line) => format!(in alloc; " is `{line}`"),
         Err(_) => Ok(String::new(alloc)),
     }
 }
@@ -39,13 +38,8 @@ fn line_words(alloc: Global, text: Option<&[u8]>, n: u64) -> Result<String, Allo
     format!(in alloc; "line {n}{said}. ")
 }
 
-/// What to change of a record text that is refused by this fault, its first; `text` is the text or its front, where it is at hand. Refused out of
-/// memory alone.
-pub fn hint_of_records(
-    alloc: Global,
-    text: Option<&[u8]>,
-    fault: TextFault,
-) -> Result<String, AllocError> {
+/// What is said of a record text.
+fn said_of(alloc: Global, text: Option<&[u8]>, fault: TextFault) -> Result<String, AllocError> {
     match fault {
         TextFault::Line(n) => {
             let place = line_words(alloc, text, n)?;
@@ -68,4 +62,17 @@ pub fn hint_of_records(
         TextFault::Read => String::from_str(alloc, crate::READ),
         TextFault::Memory => String::from_str(alloc, crate::FREE_MEMORY),
     }
+}
+
+/// Returns what to change of a record text that is refused by this fault, its first; `text` is the text or its front, if it is at hand. The line
+/// is the fault's own, so the hint has no place. Refused out of memory alone.
+pub fn hint_of_records(
+    alloc: Global,
+    text: Option<&[u8]>,
+    fault: TextFault,
+) -> Result<Hint, AllocError>
+    ensures { IfOk result (PointsInto None) }
+{
+    let said = said_of(alloc, text, fault)?;
+    Hint::anywhere(alloc, said.as_str())
 }

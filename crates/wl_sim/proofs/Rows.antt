@@ -129,6 +129,15 @@ workers_taken : is_faulty (fault_of program (behind_name (codes "run" ∷ codes 
 unfolding clap_on_literals is_faulty behind_name
 workers_taken = refl
 
+-- a plus and zeros in front are part of a whole number, as clap reads it
+workers_with_a_plus : entered_workers (behind_name (codes "run" ∷ codes "--workers" ∷ codes "+2" ∷ [])) ≡ Some 2
+unfolding clap_on_literals behind_name
+workers_with_a_plus = refl
+
+workers_with_a_zero : is_faulty (fault_of program (behind_name (codes "run" ∷ codes "--workers" ∷ codes "02" ∷ []))) ≡ false
+unfolding clap_on_literals is_faulty behind_name
+workers_with_a_zero = refl
+
 no_workers : is_faulty (fault_of program (behind_name (codes "run" ∷ codes "--workers" ∷ codes "0" ∷ []))) ≡ true
 unfolding clap_on_literals is_faulty behind_name
 no_workers = refl

@@ -6,7 +6,7 @@ use wl_device::read_up_to;
 use wl_engines::RunFault;
 use wl_files::Folder;
 use wl_hint::{
-    FREE_MEMORY, READ, READ_FILE, THREADS, WRITE, WRITE_FILE, hint_of_plan, hint_of_records,
+    FREE_MEMORY, Hint, READ, READ_FILE, THREADS, WRITE, WRITE_FILE, hint_of_plan, hint_of_records,
 };
 use wl_record::TextFault;
 use wl_setup::{SetupFault, Text};
@@ -42,20 +42,22 @@ fn input_again<F: Folder>(
     }
 }
 
-/// What to change after a fault of the input.
+/// What to change after a fault of the input; `None` after another.
 fn input_hint<F: Folder>(
     alloc: Global,
     order: &Order,
     fault: &RunFault,
     folder: &F,
-) -> Result<String, AllocError> {
+) -> Result<Option<Hint>, AllocError> {
     let text = input_again(alloc, order, folder)?;
     let text = text.as_ref().map(|text| text.as_slice());
     match fault {
-        RunFault::Setup(SetupFault::Size) => hint_of_plan(alloc, None, &SetupFault::Size),
-        RunFault::Setup(fault) => hint_of_plan(alloc, text, fault),
-        RunFault::Text(fault) => hint_of_records(alloc, text, *fault),
-        _ => Ok(String::new(alloc)),
+        RunFault::Setup(SetupFault::Size) => {
+            Ok(Some(hint_of_plan(alloc, None, &SetupFault::Size)?))
+        }
+        RunFault::Setup(fault) => Ok(Some(hint_of_plan(alloc, text, fault)?)),
+        RunFault::Text(fault) => Ok(Some(hint_of_records(alloc, text, *fault)?)),
+        _ => Ok(None),
     }
 }
 
@@ -80,7 +82,7 @@ fn say_hint<F: Folder>(
     folder: &F,
 ) {
     if fault.is_refusal() {
-        if let Ok(hint) = input_hint(alloc, order, fault, folder) {
+        if let Ok(Some(hint)) = input_hint(alloc, order, fault, folder) {
             let _ = eprintln!(rt; "hint: {hint}");
         }
     } else {
