@@ -56,9 +56,23 @@ said 'a word that could steer a terminal' 2 - run "$plan" $'\e]0;x\a\u009b' && i
 is 'a word that could steer a terminal stays off it' [ -z "$(tr -d '[:print:]\n' < "$room/err")" ]
 said 'a name without a letter' 3 'fault: Read\nfile: \n' run ''
 said 'a name that is no text' 2 - run $'\xff' && is 'a name that is no text is told' grep -q "can't be read" "$room/err"
+said 'a name for output that is no text' 2 - run "$plan" -o $'\xff' && is 'no file of it' [ ! -e "$files/"$'\xff' ]
+said 'an option that is misspelt' 2 - run "$plan" --workres 2 && is 'it is the one that is named' grep -q "unexpected argument '--workres'" "$room/err"
 # What counts as a line: a newline, and no other separator
 { printf '# a\u2028b\u0085c\n' && sed 's/^sjw = 3/sjw = 5/' "$plan"; } > "$files/lines"
 said 'a line of a hint' 1 - check --hint lines && is 'a line of a hint' grep -q "^hint: line $(($(grep -n -m1 '^sjw' "$plan" | cut -d: -f1) + 1)), column 1, " "$room/err"
+# Record texts longer than what a hint reads: no place that isn't one, and no line that is cut off
+{ yes 'E 0 0 12345' | head -n 104857; printf 'E 0 1 12345x\n'; } > "$files/cut"
+said 'a line at the cut of a hint' 1 - merge --hint cut && is "a line at the cut of a hint: $(tail -1 "$room/err")" grep -q '^hint: line 104858\. Write it as' "$room/err"
+{ yes 'E 0 0 12345' | head -n 170000; printf 'E 0 1 1'; } > "$files/long"
+said 'a long text that is cut off' 1 'fault: Truncated\nhint: End the last line with a newline.\n' merge --hint long
+# A hint on a plan near the limit is made in less than the time of ten refusals, or in half a second of processor time
+python3 -c 'print("version = 1\nend = 1\nper = 0\n" + "[[node]]\n" * 100_000)' > "$files/tables"
+python3 -c 'print("version = 1\nend = 1\nper = 0\n" + "".join(f"a.b{i} = 1\n" for i in range(60_000)))' > "$files/dotted"
+for name in tables dotted; do
+  used=$( (TIMEFORMAT='%U %S'; time "$program" check --hint "$files/$name" > /dev/null 2> "$room/err") 2>&1 | awk '{ print int(1000 * ($1 + $2)) }')
+  is "the hint on $name takes $used ms: $(tail -1 "$room/err" | head -c 80)" [ "$used" -lt 1500 ]
+done
 # Progress: a line a second from the first second on, and none of a run that takes less
 said 'progress of a short run' 0 '' run --progress "$plan"
 (sleep 2.5 && cat "$plan") | "$program" run --progress > "$room/out" 2> "$room/err"
@@ -77,14 +91,28 @@ for closed in '<&-' '>&-' '2>&-' '<&- >&-' '<&- 2>&-' '>&- 2>&-' '<&- >&- 2>&-';
   is "closed, refused: $closed (status $ended)" [ "$ended" = 1 ]
   holds "closed, refused: $closed" out "$report"
 done
-for closed in '<&-' '<&- 2>&-'; do
+# Without -o: no input, or no output, is a fault whatever else is closed
+for closed in '<&-' '>&-' '2>&-' '<&- >&-' '<&- 2>&-' '>&- 2>&-' '<&- >&- 2>&-'; do
+  case $closed in *'>&-'*' 2>&-' | '>&-' | '<&- >&-') wanted=3 ;; *) wanted=0 ;; esac
   ended=0
-  eval "timeout 20 '$program' run $closed > /dev/null" 2> /dev/null || ended=$?
+  eval "timeout 20 '$program' run '$plan' > '$room/out' $closed" 2> "$room/err" || ended=$?
+  is "closed, standard output: $closed (status $ended)" [ "$ended" = "$wanted" ]
+  [ "$wanted" = 3 ] || is "closed, the report: $closed" cmp -s "$room/out" "$report"
+  case $closed in *'<&-'*) ;; *) continue ;; esac
+  ended=0
+  eval "timeout 20 '$program' run > '$room/out' $closed" 2> /dev/null || ended=$?
   is "no input: $closed (status $ended)" [ "$ended" = 3 ]
 done
 ended=0
 timeout 20 "$program" run "$plan" >&- 2> "$room/err" || ended=$?
 is "no output (status $ended)" [ "$ended" = 3 ] && is 'no output is told' grep -qx 'fault: Write' "$room/err"
+# A descriptor that is there and is for the other way
+ended=0
+timeout 20 "$program" run 0> "$files/other" > "$room/out" 2> "$room/err" || ended=$?
+is "a descriptor for writing as input (status $ended)" [ "$ended" = 3 ] && is 'it is told' grep -qx 'fault: Read' "$room/err"
+ended=0
+timeout 20 "$program" run "$plan" 1< "$plan" 2> "$room/err" || ended=$?
+is "a descriptor for reading as output (status $ended)" [ "$ended" = 3 ] && is 'that is told' grep -qx 'fault: Write' "$room/err"
 # A disk that fills in the middle, where this user may mount one; and rights, where this user hasn't all
 if mkdir "$files/small" && mount -t tmpfs -o size=64k none "$files/small" 2> /dev/null; then
   head -c 60000 /dev/zero > "$files/small/out" && cp "$files/small/out" "$room/kept"
@@ -93,9 +121,25 @@ if mkdir "$files/small" && mount -t tmpfs -o size=64k none "$files/small" 2> /de
   clean 'a disk that fills'
   umount "$files/small"
 fi
-if [ "$(id -u)" != 0 ]; then
-  chmod 000 "$files/plan" && said 'a file without rights' 3 'fault: Read\nfile: plan\n' run plan
-  chmod 444 "$files/old" && said 'a file that may not be written' 3 'fault: Write\nfile: old\n' run "$plan" -o old && holds 'no rights' old <(echo old)
+# A file without rights, as a user who hasn't all: this one, or the user of no files
+as_user=()
+[ "$(id -u)" != 0 ] || as_user=(setpriv --reuid=65534 --regid=65534 --clear-groups)
+if [ "$(id -u)" != 0 ] || command -v setpriv > /dev/null; then
+  mkdir "$files/rights" && cp "$plan" "$files/rights/plan" && cp "$files/old" "$files/rights/old" && cp "$program" "$files/rights/program"
+  chmod 755 "$room" "$files" "$files/rights/program" && chmod 000 "$files/rights/plan" && chmod 444 "$files/rights/old"
+  [ "$(id -u)" != 0 ] || chown -R 65534 "$files/rights"
+  as_other() { # as_other NAME STDERR WORDS..: status 3
+    local name=$1 err=$2 ended=0
+    shift 2
+    (cd "$files/rights" && "${as_user[@]}" ./program "$@" > /dev/null 2> "$room/err" < /dev/null) || ended=$?
+    is "$name (status $ended)" [ "$ended" = 3 ] && is "$name (standard error: $(head -c 200 "$room/err"))" cmp -s "$room/err" <(printf '%b' "$err")
+  }
+  as_other 'a file without rights' 'fault: Read\nfile: plan\n' run plan
+  chmod 644 "$files/rights/plan"
+  as_other 'a file that may not be written' 'fault: Write\nfile: old\n' run plan -o old && holds 'no rights' rights/old <(echo old)
+  chmod 555 "$files/rights"
+  as_other 'a folder that may not be written' 'fault: Write\nfile: new\n' run plan -o new && is 'no file came' [ ! -e "$files/rights/new" ]
+  chmod 755 "$files/rights"
 fi
 clean 'at the end'
 

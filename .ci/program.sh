@@ -80,8 +80,12 @@ for report in examples/*.report; do
     done
   done
 done
+# Letters are kept up to the end of a run, but share its plan and its records.
+peak() { python3 -c 'import resource, subprocess, sys; subprocess.run(sys.argv[1:], stdout=subprocess.DEVNULL); print(resource.getrusage(resource.RUSAGE_CHILDREN).ru_maxrss)' "$@"; }
+by_mail=$(peak "$program" run --workers 8 --link mail examples/sixteen_nodes.toml)
+is "memory of eight workers by letters, $by_mail KiB" [ "$by_mail" -lt 300000 ]
 name=clean_500k
-for words in '--workers 1' '--workers 2' '--workers 1 --link mail' '--link mail' '--link=hub'; do
+for words in '--workers 1' '--workers 2' '--workers +2' '--workers 02' '--workers 1 --link mail' '--link mail' '--link=hub'; do
   # shellcheck disable=SC2086
   runs "run $words of $name" "examples/$name.toml" 0 "examples/$name.report" "$room/none" run $words
 done
@@ -162,6 +166,12 @@ run --workers
 run --workers 0
 run --workers 9
 run --workers 1.5
+run --workers 2.
+run --workers 0x2
+run --workers 256
+run --workers ++2
+run --workers=-2
+run --workers=
 run --workers two
 run --workers 2 --workers 2
 check --workers 2

@@ -94,6 +94,17 @@ PYTHON
 is "what is added for a terminal" [ "$(cat "$room/out")" = "vcd --hint --progress a b" ]
 WIRELINE_PROGRAM=$room/none ends 2 run "$plan" && says "a program that isn't there" "is no program"
 
+# A signal to the script is one to the program, since it is that one: nothing runs on
+mkfifo "$room/never" && exec 8<> "$room/never"
+./wireline run "$room/never" > /dev/null 2>&1 &
+for ((tries = 0; tries < 100; tries++)); do [ "$(readlink "/proc/$!/exe")" != "$program" ] || break; sleep 0.1; done
+is "the script becomes the program" [ "$(readlink "/proc/$!/exe")" = "$program" ]
+kill -TERM $!
+ended=0
+wait $! || ended=$?
+exec 8>&-
+is "a signal ends it (status $ended)" [ "$ended" = 143 ]
+
 # ---- Builds: a tree with a stub in the place of `rt`, which counts its calls
 unset WIRELINE_PROGRAM
 tree=$room/tree stub=$room/stub
@@ -118,7 +129,7 @@ else
   mkdir "$TMPDIR/deep"
   cp "$PROGRAM" "$TMPDIR/deep/program"
   echo "case=1" >&2
-  sleep 0.3
+  sleep "${SLEEPS-0.3}"
   rm -r "$TMPDIR/deep"
 fi
 STUB
@@ -144,6 +155,34 @@ for n in 1 2 3 4 5; do "${script[@]}" run "$plan" > "$room/out$n" 2> "$room/err$
 wait
 for n in 1 2 3 4 5; do is "call $n of five at once: $(tail -1 "$room/err$n")" cmp -s "$room/out$n" "$report"; done
 is "one build for five calls" [ "$(tr '\n' ' ' < "$room/calls")" = "try " ]
+# A kill amid a build: nothing of it stays outside the tree, and the next call builds
+rm -rf "$tree/out" "$room/calls"
+mkdir "$room/temporary"
+export TMPDIR=$room/temporary
+SLEEPS=20 setsid "${script[@]}" run "$plan" > /dev/null 2>&1 &
+killed=$!
+for ((tries = 0; tries < 100; tries++)); do [ ! -e "$room/calls" ] || break; sleep 0.1; done
+kill -KILL -- "-$killed"
+wait "$killed" 2> /dev/null
+is "a call was killed" [ ! -x "$tree/out/wireline/wl_sim" ]
+is "nothing of a killed build is in TMPDIR" [ -z "$(ls -A "$room/temporary")" ]
+ends 0 run "$plan"
+is "the report after a kill" cmp -s "$room/out" "$report"
+is "a build after a kill" [ "$(tr '\n' ' ' < "$room/calls")" = "try try " ]
+is "nothing else is left of a kill" [ "$(ls -A "$tree/out/wireline" | sort | tr '\n' ' ')" = "begun lock wl_sim " ]
+# A TMPDIR that isn't there
+rm -rf "$tree/out" "$room/calls"
+TMPDIR=$room/none ends 0 run "$plan"
+is "the report without a TMPDIR" cmp -s "$room/out" "$report"
+is "nothing is said of a TMPDIR" [ "$(grep -c . "$room/err")" = "$(grep -c '^wireline: compiling' "$room/err")" ]
+TMPDIR=$room/none ends 0 run "$plan" && is "nothing at all the next time" [ ! -s "$room/err" ]
+unset TMPDIR
+# By a link the build is the tree's
+rm -rf "$tree/out" && mkdir "$room/elsewhere" && ln -s "$tree/wireline" "$room/elsewhere/w"
+(cd "$room/elsewhere" && "${script[@]:0:4}" ./w run "$OLDPWD/$plan" > "$room/out" 2> "$room/err")
+is "a build by a link" cmp -s "$room/out" "$report"
+is "the build is in the tree" [ -x "$tree/out/wireline/wl_sim" ]
+is "and nothing beside the link" [ "$(ls -A "$room/elsewhere")" = w ]
 export WIRELINE_PROGRAM=$program
 script=(./wireline)
 
