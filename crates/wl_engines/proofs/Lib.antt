@@ -3,3 +3,4 @@ mod MergeLaws
 mod RowTexts
 mod Working
 mod Viewing
+mod PageProofs

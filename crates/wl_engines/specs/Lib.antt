@@ -6,3 +6,5 @@ pub mod Merge
 pub mod Plans
 pub mod Explained
 pub mod Workers
+pub mod Keeping
+pub mod Paged

@@ -5,7 +5,7 @@
 //! writes what the bit segments allow and how long the cable takes, the second the records of the plan's simulation, the third its
 //! report, which `workers_run` writes too, by workers in threads. `candump_run` and `vcd_run` read a plan text too: the one writes the
 //! log of the frames that were sent, the other the waveform. `explain_run` writes what is doubtful of a plan, and the figures of its
-//! nodes; of a plan that is refused, what is wrong and what to change.
+//! nodes; of a plan that is refused, what is wrong and what to change. `page_run` writes one page of HTML that shows a run.
 #![tactic(auto)]
 
 mod check;
@@ -13,10 +13,12 @@ mod explain;
 mod fault;
 mod gather;
 mod horizon;
+mod kept;
 mod laws;
 mod merge;
 mod plan;
 mod records;
+mod run_page;
 mod views;
 mod workers;
 
@@ -28,6 +30,7 @@ pub use laws::merges_as_one;
 pub use merge::merge_run;
 pub use plan::plan_run;
 pub use records::records_run;
+pub use run_page::page_run;
 pub use views::{candump_run, trace_run, vcd_run};
 pub use wl_worker::LinkKind;
 pub use workers::{workers_run, workers_run_by};

@@ -27,7 +27,7 @@ use Rattle.wl_sim.specs.declared.command.Order.{Order}
 use Rattle.wl_sim.specs.declared.command.Refusal.{Refusal}
 use Rattle.wl_sim.specs.declared.command.Refusal.TheVariants.{Words, Memory}
 use Rattle.wl_sim.specs.declared.command.Task.{Task}
-use Rattle.wl_sim.specs.declared.command.Task.TheVariants.{Merge, Horizon, Check, Records, Run, Explain, Trace, Candump, Vcd}
+use Rattle.wl_sim.specs.declared.command.Task.TheVariants.{Merge, Horizon, Check, Records, Run, Explain, Trace, Candump, Vcd, Page}
 
 pub program_is_simple : is_simple program ≡ true
 unfolding clap_on_literals
@@ -49,6 +49,7 @@ word_enters Explain name h w l = ((refl, tt, tt, tt), refl)
 word_enters Trace name h w l = ((refl, tt, tt, tt), refl)
 word_enters (Candump tick) name h w l = ((refl, h, tt, tt), refl)
 word_enters (Vcd tick) name h w l = ((refl, h, tt, tt), refl)
+word_enters (Page tick) name h w l = ((refl, h, tt, tt), refl)
 
 -- and names no file
 word_names_none : (t : Task) (name : Text) → (file_in (codes "input") (entered (name ∷ task_word t ∷ [])) ≡ None)
@@ -63,6 +64,7 @@ word_names_none Explain name = (refl, refl)
 word_names_none Trace name = (refl, refl)
 word_names_none (Candump tick) name = (refl, refl)
 word_names_none (Vcd tick) name = (refl, refl)
+word_names_none (Page tick) name = (refl, refl)
 
 names_none : (t : Task) (words : List Text) → NamesTask t words → (file_in (codes "input") (entered words) ≡ None) × (file_in (codes "output") (entered words) ≡ None)
 names_none t words n =
@@ -107,16 +109,16 @@ file_text f id = ap (option_and_then file_named) (sym (first_value-rows f id))
 pub flag_text : (f : Found) (id : Text) → is_flagged id (rows_of f) ≡ option_map_or is_set (first_value f id) false
 flag_text f id = ap (λ o. option_map_or is_set o false) (sym (first_value-rows f id))
 
--- which task has a word, by its first letter and twice its length, and a tick, or workers and their link
+-- which task has a word, by its first two letters, and a tick, or workers and their link
 task_by : Tick → ℕ → LinkKind → ℕ → Task
 task_by tick workers kind n =
-    if n == 119 then Merge else (if n == 118 then Horizon else (if n == 109 then Check else (if n == 128 then Records else
-    (if n == 115 then Explain else (if n == 113 then Candump tick else (if n == 124 then Vcd tick else
-    (if n == 126 then Trace else Run workers kind)))))))
+    if n == 412 then Merge else (if n == 437 then Horizon else (if n == 411 then Check else (if n == 417 then Records else
+    (if n == 461 then Explain else (if n == 390 then Candump tick else (if n == 415 then Vcd tick else
+    (if n == 458 then Trace else (if n == 403 then Page tick else Run workers kind))))))))
 
 task_at : Option Tick → Option ℕ → Option LinkKind → Option Text → Task
 task_at given many by None = Merge
-task_at given many by (Some w) = task_by (unwrap_or given nanosecond) (unwrap_or many 1) (unwrap_or by Hub) (slice_index w 0 + 2 * length w)
+task_at given many by (Some w) = task_by (unwrap_or given nanosecond) (unwrap_or many 1) (unwrap_or by Hub) (slice_index w 0 + 3 * slice_index w 1)
 
 task_at_word : (given : Option Tick) (many : Option ℕ) (by : Option LinkKind) (t : Task) → HasTick given t → HasWorkers many t → HasLink by t
     → task_at given many by (Some (task_word t)) ≡ t
@@ -130,6 +132,7 @@ task_at_word given many by Explain h w l = refl
 task_at_word given many by Trace h w l = refl
 task_at_word given many by (Candump tick) h w l = ap (λ o. Candump (unwrap_or o nanosecond)) h
 task_at_word given many by (Vcd tick) h w l = ap (λ o. Vcd (unwrap_or o nanosecond)) h
+task_at_word given many by (Page tick) h w l = ap (λ o. Page (unwrap_or o nanosecond)) h
 
 -- what was found makes at most one task
 one_found : (t u : Task) (word : Option Text) (tick : Option Tick) (workers : Option ℕ) (link : Option LinkKind)
@@ -159,6 +162,7 @@ module _ {S T : Type 0} (gives : S → Answer → S → Type 0) (takes : T → A
   does_nothing s s' t t' Trace h = h
   does_nothing s s' t t' (Candump tick) h = h
   does_nothing s s' t t' (Vcd tick) h = h
+  does_nothing s s' t t' (Page tick) h = h
 
 -- what is done over an order without files is done over the standard devices
 module _ {S T F R W : Type 0} (gives : S → Answer → S → Type 0) (takes : T → Answer → T → Type 0)

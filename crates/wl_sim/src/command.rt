@@ -45,6 +45,8 @@ pub enum Task {
     Candump(Tick),
     /// The waveform of a plan's simulation, at ticks that take so long.
     Vcd(Tick),
+    /// One page of HTML that shows a plan's simulation, at ticks that take so long.
+    Page(Tick),
 }
 
 /// What the words of the command line ask for.
@@ -259,10 +261,17 @@ fn command<'a>(alloc: Global) -> Result<Command<'a>, AllocError>
         "Simulates the plan, and writes the waveform of its nodes as a Value Change Dump",
         tick_option(alloc),
     )?;
+    let page = optioned(
+        alloc,
+        "page",
+        "Simulates the plan, and writes one page of HTML that shows all of it in a browser",
+        tick_option(alloc),
+    )?;
     let all = untimed(alloc)?
         .subcommand(trace)?
         .subcommand(candump)?
-        .subcommand(vcd)?;
+        .subcommand(vcd)?
+        .subcommand(page)?;
     Ok(all)
 }
 
@@ -424,6 +433,7 @@ fn task_named(
         "trace" => Some(Task::Trace),
         "candump" => Some(Task::Candump(tick?)),
         "vcd" => Some(Task::Vcd(tick?)),
+        "page" => Some(Task::Page(tick?)),
         _ => None,
     }
 }

@@ -4,7 +4,8 @@
 //! a file. `merge` and `horizon` read a record text: the one writes the canonical text of the replica that its records make, the
 //! other what that replica tells of each node, and up to when. `check`, `records` and `run` read a plan text: the first writes what
 //! the bit segments allow and how long the cable takes, the second the records of the plan's simulation, the third its report.
-//! `candump` and `vcd` read a plan text too: the one writes the frames that were sent as can-utils logs them, the other the waveform.
+//! `candump`, `vcd` and `page` read a plan text too: the first writes the frames that were sent as can-utils logs them, the second the
+//! waveform, the third one page of HTML that shows all of it.
 //! `explain` writes what is doubtful of a plan, and the figures of its nodes, or what is wrong with a plan that is refused; `trace` what
 //! happened to each node, and where.
 #![tactic(auto)]
@@ -36,7 +37,7 @@ mod progress;
 pub use command::{Order, Refusal, Task};
 pub use wl_engines::{
     LinkKind, RunFault, candump_run, check_run, explain_run, horizon_run, merge_run, merges_as_one,
-    plan_run, records_run, trace_run, vcd_run, workers_run, workers_run_by,
+    page_run, plan_run, records_run, trace_run, vcd_run, workers_run, workers_run_by,
 };
 
 /// The statuses that the program ends with beside 0.
@@ -228,6 +229,7 @@ fn run<H: Threads + Wait + Sync, R: Source, W: Sink>(
         Task::Trace => trace_run(alloc, reader, writer),
         Task::Candump(tick) => candump_run(alloc, tick, reader, writer),
         Task::Vcd(tick) => vcd_run(alloc, tick, reader, writer),
+        Task::Page(tick) => page_run(alloc, tick, reader, writer),
     }
 }
 

@@ -1,0 +1,56 @@
+-- The page of a run goes out (this project's profile).
+use Rattle.std.specs.Prelude.{◌≡◌, ◌≢◌, ℕ, List, Result, Ok, Err}
+use Rattle.wl_device.specs.Bounded.{ReadsUpTo}
+use Rattle.wl_device.specs.Devices.{Answer, Writes}
+use Rattle.wl_device.specs.declared.bounded.Ended.{Ended}
+use Rattle.wl_device.specs.declared.bounded.Ended.TheVariants as ended
+use Rattle.wl_device.specs.declared.device.WriteFault.{WriteFault}
+use Rattle.wl_explain.specs.Words.{explain_text}
+use Rattle.wl_page.specs.Page.{page_of}
+use Rattle.wl_plan.specs.declared.plan.Plan.{Plan}
+use Rattle.wl_report.specs.Report.{report_text}
+use Rattle.wl_serial.specs.Outcome.{outcome_of}
+use Rattle.wl_setup.specs.Check.{IsPlanCheck}
+use Rattle.wl_setup.specs.Limits.{most_bytes}
+use Rattle.wl_setup.specs.declared.fault.SetupFault.TheVariants as setup
+use Rattle.wl_views.specs.declared.tick.Tick.{Tick}
+use Rattle.wl_views.specs.Trace.{trace_text}
+use Rattle.wl_views.specs.Vcd.{vcd_text}
+use Rattle.wl_engines.specs.Explained.{named_answer}
+use Rattle.wl_engines.specs.Ran.{Ran}
+use Rattle.wl_engines.specs.declared.fault.RunFault.{RunFault}
+use Rattle.wl_engines.specs.declared.fault.RunFault.TheVariants.{Setup, Memory}
+
+-- the page of a plan with its text: what the other commands write of it, each once and whole, and the text itself
+abbrev pub IsPage : Tick → List ℕ → Plan → List (List ℕ) → List ℕ → Type 0
+IsPage tick text plan names whole =
+    (settings : List ℕ) × IsPlanCheck plan names settings
+    × (whole ≡ page_of (explain_text plan names) settings (report_text (outcome_of plan)) text (trace_text plan names) (vcd_text tick plan names))
+
+module _ {T : Type 0} (takes : T → Answer → T → Type 0) (tick : Tick) (text : List ℕ) (t t' : T) where
+  -- the page of the text's plan went out, as far as it went
+  abbrev pub WritesPage : Result (Unit {0}) WriteFault → Type 0
+  WritesPage r =
+      (plan : Plan) × (names : List (List ℕ)) × (whole : List ℕ)
+      × (named_answer text ≡ Ok (plan, names)) × IsPage tick text plan names whole × Writes takes t whole r t'
+
+  -- the first fault of the text, which is not out of memory
+  abbrev pub RefusesText : RunFault → Type 0
+  RefusesText (Setup fault) = (fault ≢ setup.Memory) × (named_answer text ≡ Err fault)
+  RefusesText _ = ⊥
+
+  -- what was done with a whole text
+  abbrev pub PagesText : Result (Unit {0}) RunFault → Type 0
+  PagesText = Ran RefusesText WritesPage t t'
+
+-- what was done with what was read, by how the reading ended
+abbrev pub PagesReading : {T : Type 0} → (T → Answer → T → Type 0) → Tick → Ended → List ℕ → T → T → Result (Unit {0}) RunFault → Type 0
+PagesReading takes tick ended.End text t t' r = PagesText takes tick text t t' r
+PagesReading takes tick ended.Broken text t t' r = (r ≡ Err (Setup setup.Read)) × (t' ≡ t)
+PagesReading takes tick ended.Full text t t' r = (r ≡ Err (Setup setup.Size)) × (t' ≡ t)
+
+-- what a page's run did: memory ran out and the writer wasn't called, or that with what the reader gave in one reading
+abbrev pub Pages : {S T : Type 0} → (S → Answer → S → Type 0) → (T → Answer → T → Type 0) → Tick → S → S → T → T → Result (Unit {0}) RunFault → Type 0
+Pages gives takes tick s s' t t' (Err Memory) = t' ≡ t
+Pages gives takes tick s s' t t' r =
+    (text : List ℕ) × (e : Ended) × ReadsUpTo gives s most_bytes text e s' × PagesReading takes tick e text t t' r

@@ -1,0 +1,103 @@
+//! A run of a plan as one page.
+ghost use Rattle.std.specs.Prelude.{◌≡◌, IfOk};
+ghost use Rattle.wl_plan.specs.Checked.{IsChecked};
+ghost use Rattle.wl_serial.specs.Outcome.{outcome_of};
+ghost use Rattle.wl_views.specs.Vcd.{vcd_text};
+ghost use Rattle.wl_engines.specs.Paged.{IsPage, Pages, PagesText};
+
+use crate::fault::RunFault;
+use crate::kept::Kept;
+use std::alloc::{AllocError, Global};
+use wl_device::{Ended, Sink, Source, write_all};
+use wl_explain::explain_plan;
+use wl_page::{Texts, page};
+use wl_plan::Plan;
+use wl_report::report;
+use wl_serial::{Outcome, run_serial};
+use wl_setup::{Names, SetupFault, check_plan, plan_of_bytes, read_bytes};
+use wl_views::{Tick, trace, vcd};
+
+/// The waveform of a plan's simulation, whole.
+fn wave_of(
+    alloc: Global,
+    tick: Tick,
+    plan: &Plan,
+    names: &Names,
+    outcome: &Outcome,
+) -> Result<Vec<u8>, AllocError>
+    requires checked { IsChecked plan.now }
+    requires outcome { outcome.now ≡ outcome_of plan.now }
+    ensures { IfOk result (λ text. text.items ≡ vcd_text tick plan.now names.now) }
+{
+    let mut kept = Kept::new(alloc);
+    match vcd(alloc, tick, plan, names, outcome, &mut kept) {
+        Ok(()) => Ok(kept.bytes),
+        Err(_) => Err(AllocError),
+    }
+}
+
+/// The page of a plan, whose text is given: its simulation is run once.
+fn page_of_plan(
+    alloc: Global,
+    tick: Tick,
+    text: &[u8],
+    plan: &Plan,
+    names: &Names,
+) -> Result<Vec<u8>, AllocError>
+    requires { IsChecked plan.now }
+    ensures { IfOk result (λ whole. IsPage tick text.now plan.now names.now whole.items) }
+{
+    let figures = explain_plan(alloc, plan, names)?;
+    let settings = check_plan(alloc, plan, names)?;
+    let outcome = run_serial(alloc, plan)?;
+    let report = report(alloc, &outcome)?;
+    let trace = trace(alloc, plan, names, &outcome)?;
+    let wave = wave_of(alloc, tick, plan, names, &outcome)?;
+    page(
+        alloc,
+        &Texts {
+            figures: figures.as_bytes(),
+            settings: settings.as_bytes(),
+            report: &report,
+            plan: text,
+            trace: &trace,
+            wave: &wave,
+        },
+    )
+}
+
+/// Writes the page of a plan's text that was read whole.
+fn page_text<W: Sink>(
+    alloc: Global,
+    tick: Tick,
+    text: &[u8],
+    writer: &mut W,
+) -> Result<(), RunFault>
+    ensures { PagesText W.takes tick text.now writer.old writer.new result }
+{
+    let (plan, names) = plan_of_bytes(alloc, text)?;
+    let whole = page_of_plan(alloc, tick, text, &plan, &names)?;
+    write_all(&whole, writer)?;
+    Ok(())
+}
+
+/// Reads a plan's text, simulates the plan, and writes one page of HTML. The page has the plan, its figures and settings, its report,
+/// trace and waveform, and a script that draws them; a tick of the plan takes as long as `tick` says.
+///
+/// The whole output is made before the first write. If the input is refused, or memory runs out, the writer isn't called;
+/// if the writer fails, a prefix of the output has been written.
+pub fn page_run<R: Source, W: Sink>(
+    alloc: Global,
+    tick: Tick,
+    reader: &mut R,
+    writer: &mut W,
+) -> Result<(), RunFault>
+    ensures { Pages R.gives W.takes tick reader.old reader.new writer.old writer.new result }
+{
+    let (text, ended) = read_bytes(alloc, reader)?;
+    match ended {
+        Ended::End => page_text(alloc, tick, &text, writer),
+        Ended::Broken => Err(RunFault::Setup(SetupFault::Read)),
+        Ended::Full => Err(RunFault::Setup(SetupFault::Size)),
+    }
+}

@@ -1,0 +1,49 @@
+//! The page of a run.
+ghost use Rattle.std.specs.Prelude.{◌≡◌, IfOk, OnOk};
+ghost use Rattle.wl_page.specs.Page.{page_of_texts, with_part};
+
+use crate::escape::push_escaped;
+use crate::template::{HEAD, SCRIPT, TO_PLAN, TO_REPORT, TO_SETTINGS, TO_TRACE, TO_WAVE};
+use std::alloc::{AllocError, Global};
+
+/// The texts of a run that a page shows, as the program's commands write them.
+#[derive(Clone, Copy, Debug)]
+pub struct Texts<'a> {
+    /// What is doubtful of the plan, and the figures of its nodes.
+    pub figures: &'a [u8],
+    /// The settings of the nodes, and the delays between them.
+    pub settings: &'a [u8],
+    /// The report.
+    pub report: &'a [u8],
+    /// The plan itself.
+    pub plan: &'a [u8],
+    /// What happened to each node, and where.
+    pub trace: &'a [u8],
+    /// The waveform, as value changes.
+    pub wave: &'a [u8],
+}
+
+/// Adds a part of the page and a text after it.
+fn push_part(page: &mut Vec<u8>, part: &str, text: &[u8]) -> Result<(), AllocError>
+    ensures { OnOk result (page.new.items ≡ with_part page.old.items part.now text.now) }
+{
+    page.extend_from_slice(part.as_bytes())?;
+    push_escaped(page, text)
+}
+
+/// Returns the page of a run: its texts, each once and whole, within the layout and beside the script that draws them.
+///
+/// Refused only when out of memory.
+pub fn page(alloc: Global, texts: &Texts) -> Result<Vec<u8>, AllocError>
+    ensures { IfOk result (λ page. page.items ≡ page_of_texts texts.now) }
+{
+    let mut page = Vec::new(alloc);
+    push_part(&mut page, HEAD, texts.figures)?;
+    push_part(&mut page, TO_SETTINGS, texts.settings)?;
+    push_part(&mut page, TO_REPORT, texts.report)?;
+    push_part(&mut page, TO_PLAN, texts.plan)?;
+    push_part(&mut page, TO_TRACE, texts.trace)?;
+    push_part(&mut page, TO_WAVE, texts.wave)?;
+    page.extend_from_slice(SCRIPT.as_bytes())?;
+    Ok(page)
+}
