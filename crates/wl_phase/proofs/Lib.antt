@@ -1,0 +1,6 @@
+mod Edges
+mod Floors
+mod Phases
+mod Rows
+mod Runs
+mod Steps
