@@ -1,5 +1,7 @@
 mod Rows
 pub mod Greatest
+pub mod Grown
+pub mod Harder
 pub mod Lengths
 pub mod Clocks
 pub mod Nodes

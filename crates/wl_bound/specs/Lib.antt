@@ -4,5 +4,6 @@ pub mod Terms
 pub mod Conditions
 pub mod ConditionLaws
 pub mod Helps
+pub mod SearchLaws
 pub mod Searches
 pub mod Verdicts

@@ -29,13 +29,23 @@ holds_in f s senders = not (is_some (first_failure_of f s senders))
 abbrev pub holds_grown : Buses → Senders → Growth → ℕ → Bool
 holds_grown f senders growth n = holds_in f (grown_by growth n) senders
 
--- A test passes at n, which is within a limit, and no more one further, unless n is the limit.
+-- n is the greatest number up to a limit for which a test passes.
+pub record IsGreatest (test : ℕ → Bool) (limit n : ℕ) : Type 0 where
+  pub within : n ≤ limit
+  pub passes : test n ≡ true
+  pub greatest : (m : ℕ) → m ≤ limit → test m ≡ true → m ≤ n
+
+-- the same of an answer, which is none if the test fails at 0
+abbrev pub IsGreatestOf : (ℕ → Bool) → ℕ → Option ℕ → Type 0
+IsGreatestOf test limit None = test 0 ≡ false
+IsGreatestOf test limit (Some n) = IsGreatest test limit n
+
+-- A test passes at n, and no more one further, unless n is the limit: what halving finds.
 pub record IsBorder (test : ℕ → Bool) (limit n : ℕ) : Type 0 where
   pub within : n ≤ limit
   pub passes : test n ≡ true
   pub no_further : n < limit → test (n + 1) ≡ false
 
--- the border, if the test passes at 0
 abbrev pub IsBorderOf : (ℕ → Bool) → ℕ → Option ℕ → Type 0
 IsBorderOf test limit None = test 0 ≡ false
 IsBorderOf test limit (Some n) = IsBorder test limit n
@@ -52,7 +62,7 @@ longest_growth f = (longest_delay - cable_ticks f) / f.cable.per
 abbrev pub IsLongerCable : Buses → Senders → Option ℕ → Type 0
 IsLongerCable f senders None = (cable_ticks f ≡ 0) ⊎ (holds_grown f senders (Longer (cable_ticks f) f.cable.per) 0 ≡ false)
 IsLongerCable f senders (Some n) =
-    (0 < cable_ticks f) × IsBorder (holds_grown f senders (Longer (cable_ticks f) f.cable.per)) (longest_growth f) n
+    (0 < cable_ticks f) × IsGreatest (holds_grown f senders (Longer (cable_ticks f) f.cable.per)) (longest_growth f) n
 
 -- every tolerance stays a tolerance
 abbrev pub widest_growth : Buses → ℕ

@@ -1,7 +1,13 @@
 //! Laws of the condition, as contracts of functions with an empty body.
 ghost use Rattle.wl_bound.specs.ConditionLaws.{ConditionLaws};
+ghost use Rattle.wl_bound.specs.SearchLaws.{SearchLaws};
 
 /// Law: no inequality fails exactly if the three hold for each pair of nodes, for any senders and for each sender alone.
 pub fn condition_laws()
     ensures { ConditionLaws }
+{}
+
+/// Law: if the condition holds with some growth of the cable or of the tolerances, it holds with each lesser one.
+pub fn search_laws()
+    ensures { SearchLaws }
 {}

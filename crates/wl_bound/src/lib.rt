@@ -16,6 +16,6 @@ mod verdict;
 
 pub use condition::{Failure, Inequality, Senders, Sides};
 pub use family::{Change, Family, Member};
-pub use laws::condition_laws;
+pub use laws::{condition_laws, search_laws};
 pub use oscillator::Oscillator;
 pub use verdict::{Outside, Verdict, cause_outside, judge};

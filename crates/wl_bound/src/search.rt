@@ -2,7 +2,7 @@
 ghost use Rattle.std.specs.Prelude.{◌≡◌, ◌*◌, ◌^◌, ◌<◌, ◌≤◌, length};
 ghost use Rattle.wl_topology.specs.Limits.{longest_delay};
 ghost use Rattle.wl_bound.specs.Families.{way_between};
-ghost use Rattle.wl_bound.specs.Searches.{GrowsTo, IsBorderOf, IsLongerCable, cable_ticks, each, grown_by, holds_grown, holds_in, longest_growth, widest_growth};
+ghost use Rattle.wl_bound.specs.Searches.{GrowsTo, IsBorderOf, IsGreatestOf, IsLongerCable, cable_ticks, each, grown_by, holds_grown, holds_in, longest_growth, widest_growth};
 ghost use Rattle.wl_bound.specs.Terms.{greatest};
 ghost use Rattle.wl_bound.specs.declared.search.Growth.TheVariants.{Wider};
 
@@ -21,8 +21,8 @@ enum Growth {
 }
 
 impl Family {
-    /// By how many units of length the cable may be longer, all places moved apart by one factor: the condition holds with so many, and with one more it
-    /// doesn't, or the cable would take more than 1,048,576 ticks.
+    /// By how many units of length the cable may be longer, all places moved apart by one factor: the greatest number with which the condition holds and
+    /// the cable takes at most 1,048,576 ticks.
     ///
     /// `None` if the condition doesn't hold as it is, if all nodes sit at one place, or if a level takes no time along the cable.
     pub fn longer_cable(&self, senders: Senders) -> Option<u32>
@@ -34,15 +34,15 @@ impl Family {
         }
         let per = self.per() as u32;
         let limit = (LONGEST_DELAY as u32 - length) / per;
-        self.border(senders, Growth::Longer(length, per), limit)
+        self.greatest(senders, Growth::Longer(length, per), limit)
     }
 
-    /// By how many ppm every tolerance may grow: the condition holds with so many, and with one more it doesn't, or some tolerance would be above
-    /// 100,000 ppm. `None` if the condition doesn't hold as it is.
+    /// By how many ppm every tolerance may grow: the greatest number with which the condition holds and no tolerance is above 100,000 ppm. `None` if the
+    /// condition doesn't hold as it is.
     pub fn wider_tolerance(&self, senders: Senders) -> Option<u32>
-        ensures { IsBorderOf (holds_grown self.now senders Wider) (widest_growth self.now) result }
+        ensures { IsGreatestOf (holds_grown self.now senders Wider) (widest_growth self.now) result }
     {
-        self.border(senders, Growth::Wider, self.widest_growth())
+        self.greatest(senders, Growth::Wider, self.widest_growth())
     }
 
     /// Whether the condition holds.
@@ -50,6 +50,14 @@ impl Family {
         ensures { result ≡ holds_in self.now setting senders }
     {
         self.first_failure_by(setting, senders).is_none()
+    }
+
+    /// The most by which something may grow, up to a limit.
+    fn greatest(&self, senders: Senders, growth: Growth, limit: u32) -> Option<u32>
+        requires { GrowsTo growth limit }
+        ensures { IsGreatestOf (holds_grown self.now senders growth) limit result }
+    {
+        self.border(senders, growth, limit)
     }
 
     /// By halving, how far something may grow.

@@ -1,0 +1,118 @@
+#!/usr/bin/env python3
+"""The tables of docs/margins.md: longest cable and greatest tolerance of some settings, by the condition for a sound bus and by the classical rules.
+
+A plain copy of the definition (crates/wl_bound/specs), in whole numbers: millionths of a nanosecond. The nodes sit at 0, X and X metres, 5 ns a
+metre, and each takes 120 ns out and 130 ns in.
+"""
+
+TICK = 1_000_000
+SETTINGS = [(2, 3, 2, 1, 125), (2, 3, 2, 2, 125), (5, 6, 4, 1, 62), (7, 7, 5, 1, 50), (7, 7, 5, 4, 50), (6, 7, 2, 1, 125), (6, 7, 2, 2, 125),
+            (7, 4, 4, 1, 125), (7, 4, 4, 3, 125), (1, 4, 4, 4, 200), (3, 4, 4, 4, 83), (8, 4, 3, 3, 125), (6, 7, 2, 1, 250), (2, 3, 2, 1, 1000)]
+
+
+def down(a, b):
+    return max(0, a - b)
+
+
+def greatest(nodes, test, number):
+    return max([number(k) for k in nodes if test(k)], default=0)
+
+
+class Bus:
+    def __init__(self, setting, places, ppm, senders):
+        prop, ps1, self.ps2, self.sjw, quantum = setting
+        self.sample = 1 + prop + ps1
+        self.bit = self.sample + self.ps2
+        self.prop, self.ps1, self.places = prop, ps1, places
+        self.nodes, self.senders = range(len(places)), senders
+        self.short, self.long = quantum * (TICK - ppm), quantum * (TICK + ppm)
+        self.drift = down(self.bit * self.long, self.bit * self.short)
+        self.jump = self.sjw * self.short
+        self.look = down(self.long + TICK, self.delay(0, 0))
+
+    def delay(self, i, j):
+        return TICK * (250 + 5 * abs(self.places[i] - self.places[j]))
+
+    def sends_but(self, *others):
+        return lambda k: k in self.senders and k not in others
+
+    def trip(self, i, j, k):
+        if k == i:
+            return self.delay(i, j) + self.delay(j, i) + (self.look if len(self.nodes) > 2 else 0)
+        return down(self.delay(k, j) + self.delay(j, i) + self.long + TICK, self.delay(k, i))
+
+    def way(self, i, j):
+        third = greatest(self.nodes, lambda w: w not in (i, j), lambda w: self.look)
+        return greatest(self.nodes, self.sends_but(j), lambda k: self.trip(i, j, k)) + third
+
+    def early(self, i):
+        if len(self.senders) < 2:
+            return 0
+        return greatest(self.nodes, self.sends_but(i), lambda a: self.way(i, a) + 10 * self.drift)
+
+    def edges(self, i):
+        early, lost = self.early(i), 10 * greatest(self.nodes, self.sends_but(i), lambda a: self.drift)
+        if early <= self.short:
+            return 0
+        return 14 if self.jump <= lost else min(14, -((early - self.short) // -(self.jump - lost)))
+
+    def apart(self, i, j):
+        chase = min(self.edges(i), self.edges(j)) if any(map(self.sends_but(i, j), self.nodes)) else 0
+        return chase * (10 * self.drift + down(self.sjw * self.long, self.jump))
+
+    def late(self, i, j):
+        way = self.way(i, j)
+        tour = greatest(self.nodes, self.sends_but(i, j), lambda a: down(
+            self.way(i, a) + 10 * self.drift + self.delay(a, j) + self.delay(j, i), self.delay(a, i)))
+        return way + min(self.apart(i, j), down(tour, way))
+
+    def holds(self):
+        return all(
+            self.delay(i, i) <= self.sample * self.short if i == j else
+            10 * self.drift <= self.jump
+            and self.late(i, j) + 11 * self.drift <= self.sample * self.short
+            and self.look + 10 * self.drift + min(self.apart(j, i), down(self.early(j), self.delay(j, j))) + TICK <= self.ps2 * self.short
+            for i in self.nodes for j in self.nodes)
+
+    def classical(self):
+        """Ten bits' drift within the jump width, 13 bits' but for PHASE_SEG2 within the lesser phase, the round trip within PROP_SEG."""
+        flagged = 13 * self.bit - self.ps2
+        return (10 * self.drift <= self.jump and flagged * (self.long - self.short) <= min(self.ps1, self.ps2) * self.short
+                and self.delay(0, 1) + self.delay(1, 0) <= self.prop * self.short)
+
+
+def most(holds, limit):
+    """The greatest number up to a limit for which the condition holds; it is none for greater ones if it fails for one."""
+    if not holds(0):
+        return None
+    low, high = 0, limit + 1
+    while high - low > 1:
+        middle = (low + high) // 2
+        low, high = (middle, high) if holds(middle) else (low, middle)
+    return low
+
+
+def places(nodes, x):
+    return [0] + [x] * (nodes - 1)
+
+
+def row(setting, bus, limit):
+    kinds = [(2, [0]), (3, [0]), (2, [0, 1]), (3, [0, 1, 2])]
+    found = [most(lambda n: bus(setting, 2, n, [0]).classical(), limit)]
+    found += [most(lambda n, k=k: bus(setting, k[0], n, k[1]).holds(), limit) for k in kinds]
+    words = ["none" if n is None else str(n) for n in found]
+    print("| " + ", ".join(map(str, setting[:4])) + f" | {setting[4]} | " + " | ".join(words) + " |")
+
+
+def main():
+    head = "| prop, ps1, ps2, sjw | quantum, ns | classical | 2 nodes, one sends | 3, one | 2, both | 3, all |\n|---|---|---|---|---|---|---|"
+    print("Longest cable in metres, 100 ppm\n\n" + head)
+    for setting in SETTINGS:
+        row(setting, lambda s, nodes, x, senders: Bus(s, places(nodes, x), 100, senders), 5000)
+    print("\nGreatest tolerance in ppm, 5 m\n\n" + head)
+    for setting in SETTINGS:
+        row(setting, lambda s, nodes, ppm, senders: Bus(s, places(nodes, 5), ppm, senders), 50_000)
+
+
+if __name__ == "__main__":
+    main()

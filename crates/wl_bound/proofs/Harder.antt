@@ -1,0 +1,238 @@
+-- A bus that is no easier in any respect: if the condition holds for it, it holds for the other.
+use Rattle.std.proofs.Common.{◌≡◌, ℕ, zero, suc, ◌+◌, ◌-◌, ◌*◌, ◌<◌, ◌≤◌, ◌==◌, ◌&&◌, ◌∙◌, ◌⊎◌, nat_lt, nat_le, not, min, max, Bool, true, false, cond, inl, inr, refl, ap, subst, arith}
+use Rattle.std.specs.Int.{div_ceil}
+use Rattle.std.proofs.lemmas.Bool.{cases_lt, le-leb, lt-leb}
+use Rattle.std.proofs.lemmas.Grind.{div_ceil_times}
+use Rattle.std.proofs.Math.Nat.{mul-le-mul, mul-le-mul_left, mul-le-mul_right}
+use Rattle.wl_segments.specs.Lengths.{Lengths, bit_quanta, sample_at}
+use Rattle.wl_level.specs.Places.{count_places}
+use Rattle.wl_topology.specs.Driven.{any_below}
+use Rattle.wl_bound.specs.declared.condition.Inequality.{Inequality}
+use Rattle.wl_bound.specs.declared.condition.Inequality.TheVariants.{DriftFitsJump, BitIsThereAtSample, NoBitTooEarly}
+use Rattle.wl_bound.specs.Families.{Bus}
+use Rattle.wl_bound.specs.Terms.{apart, chase, drift, early, edges, greatest, is_third, jump, late, look, lost, sends_but, sends_third, several, strays, tour, trip, way}
+use Rattle.wl_bound.specs.Conditions.{IsSound, left_of, right_of}
+
+-- c is no easier than b: the same nodes, segments and senders, quanta that may be shorter and longer, the same own loops, longer delays and detours
+pub record IsHarder (b c : Bus) : Type 0 where
+  pub nodes : b.nodes ≡ c.nodes
+  pub tick : b.tick ≡ c.tick
+  pub lengths : (i : ℕ) → b.lengths i ≡ c.lengths i
+  pub sends : (i : ℕ) → b.sends i ≡ c.sends i
+  pub shorter : (i : ℕ) → c.shortest i ≤ b.shortest i
+  pub longer : (i : ℕ) → b.longest i ≤ c.longest i
+  pub own : (i : ℕ) → b.delay i i ≡ c.delay i i
+  pub delays : (i j : ℕ) → b.delay i j ≤ c.delay i j
+  pub detours : (k j i : ℕ) → b.delay k j + b.delay j i + c.delay k i ≤ c.delay k j + c.delay j i + b.delay k i
+
+-- the greatest of greater numbers is greater
+pick_le : (t u : Bool) (x y : ℕ) → t ≡ u → x ≤ y → cond t x 0 ≤ cond u y 0
+pick_le true true x y e h = h
+pick_le true false x y e h = absurd (cc)
+pick_le false u x y e h = omega arith
+
+max_le : (a b x y : ℕ) → a ≤ b → x ≤ y → max a x ≤ max b y
+max_le a b x y h k = omega arith
+
+pub greatest_le : (n : ℕ) (t u : ℕ → Bool) (f g : ℕ → ℕ) → ((k : ℕ) → t k ≡ u k) → ((k : ℕ) → f k ≤ g k) → greatest n t f ≤ greatest n u g
+greatest_le zero t u f g e h = omega arith
+greatest_le (suc n) t u f g e h =
+    max_le (greatest n t f) (greatest n u g) _ _ (greatest_le n t u f g e h) (pick_le (t n) (u n) (f n) (g n) (e n) (h n))
+
+count_same : (n : ℕ) (t u : ℕ → Bool) → ((k : ℕ) → t k ≡ u k) → count_places t n ≡ count_places u n
+count_same zero t u e = refl
+count_same (suc n) t u e = (let rest = count_same n t u e in let here = e n in cc)
+
+any_same : (n : ℕ) (t u : ℕ → Bool) → ((k : ℕ) → t k ≡ u k) → any_below n t ≡ any_below n u
+any_same zero t u e = refl
+any_same (suc n) t u e = (let rest = any_same n t u e in let here = e n in cc)
+
+-- division rounded up
+pub ceil_le : (x y p q : ℕ) → 0 < q → q ≤ p → x ≤ y → div_ceil x p ≤ div_ceil y q
+ceil_le x y p q low less more =
+    elim (cases_lt (div_ceil y q) (div_ceil x p)) [
+      | inl above ↦
+          (let upper = (div_ceil_times y q low).0 in
+          let lower = (div_ceil_times x p (omega arith)).1 in
+          let wide : div_ceil y q * q ≤ div_ceil y q * p = mul-le-mul_left (div_ceil y q) less in
+          let step : suc (div_ceil y q) * p ≤ div_ceil x p * p = mul-le-mul_right p above in
+          absurd (omega arith))
+      | inr within ↦ within
+    ]
+
+sends_but_same : (b c : Bus) → IsHarder b c → (i k : ℕ) → sends_but b i k ≡ sends_but c i k
+sends_but_same b c h i k = ap (λ v. v && not (k == i)) (h.sends k)
+
+sends_third_same : (b c : Bus) → IsHarder b c → (i j k : ℕ) → sends_third b i j k ≡ sends_third c i j k
+sends_third_same b c h i j k = ap (λ v. (v && not (k == i)) && not (k == j)) (h.sends k)
+
+-- over the nodes of both
+over : (b c : Bus) → IsHarder b c → (t u : ℕ → Bool) (f g : ℕ → ℕ) → ((k : ℕ) → t k ≡ u k) → ((k : ℕ) → f k ≤ g k)
+    → greatest b.nodes t f ≤ greatest c.nodes u g
+over b c h t u f g e k =
+    let P : ℕ → Type 0 = λ n. greatest b.nodes t f ≤ greatest n u g in
+    subst P h.nodes (greatest_le b.nodes t u f g e k)
+
+drift_le : (b c : Bus) → IsHarder b c → (i j : ℕ) → drift b i j ≤ drift c i j
+unfolding drift
+drift_le b c h i j =
+    let Q : Lengths → Lengths → Type 0 = λ l m. bit_quanta (b.lengths i) * b.longest i - bit_quanta (b.lengths j) * b.shortest j
+    ≤ bit_quanta l * c.longest i - bit_quanta m * c.shortest j in
+    let first : bit_quanta (b.lengths i) * b.longest i ≤ bit_quanta (b.lengths i) * c.longest i =
+    mul-le-mul_left (bit_quanta (b.lengths i)) (h.longer i) in
+    let second : bit_quanta (b.lengths j) * c.shortest j ≤ bit_quanta (b.lengths j) * b.shortest j =
+    mul-le-mul_left (bit_quanta (b.lengths j)) (h.shorter j) in
+    let both : Q (b.lengths i) (b.lengths j) = omega arith in
+    subst (λ l. Q l (c.lengths j)) (h.lengths i) (subst (λ m. Q (b.lengths i) m) (h.lengths j) both)
+
+jump_le : (b c : Bus) → IsHarder b c → (i : ℕ) → jump c i ≤ jump b i
+unfolding jump
+jump_le b c h i =
+    subst (λ (l : Lengths). l.sjw * c.shortest i ≤ (b.lengths i).sjw * b.shortest i) (h.lengths i)
+    (mul-le-mul_left (b.lengths i).sjw (h.shorter i))
+
+look_le : (b c : Bus) → IsHarder b c → (i : ℕ) → look b i ≤ look c i
+unfolding look
+look_le b c h i = (let a = h.longer i in let d = h.own i in let t = h.tick in omega arith)
+
+trip_le : (b c : Bus) → IsHarder b c → (i j k : ℕ) → trip b i j k ≤ trip c i j k
+unfolding trip
+trip_le b c h i j k = pick (k == i)
+  where
+    two : (n m : ℕ) (x y : ℕ) → n ≡ m → x ≤ y → cond (nat_lt 2 n) x 0 ≤ cond (nat_lt 2 m) y 0
+    two n m x y e less = pick_le (nat_lt 2 n) (nat_lt 2 m) x y (ap (λ v. nat_lt 2 v) e) less
+
+    pick : (v : Bool)
+        → cond v (b.delay i j + b.delay j i + cond (nat_lt 2 b.nodes) (look b i) 0) (b.delay k j + b.delay j i + b.longest i + b.tick - b.delay k i)
+        ≤ cond v (c.delay i j + c.delay j i + cond (nat_lt 2 c.nodes) (look c i) 0) (c.delay k j + c.delay j i + c.longest i + c.tick - c.delay k i)
+    pick true =
+        (let there = h.delays i j in let back = h.delays j i in let ahead = two b.nodes c.nodes (look b i) (look c i) h.nodes (look_le b c h i) in
+        omega arith)
+    pick false = (let round = h.detours k j i in let long = h.longer i in let t = h.tick in let away = h.delays k i in omega arith)
+
+way_le : (b c : Bus) → IsHarder b c → (i j : ℕ) → way b i j ≤ way c i j
+unfolding way
+way_le b c h i j =
+    let first = over b c h (sends_but b j) (sends_but c j) (trip b i j) (trip c i j) (sends_but_same b c h j) (trip_le b c h i j) in
+    let second = over b c h (is_third i j) (is_third i j) (look b) (look c) (λ k. refl) (look_le b c h) in
+    omega arith
+
+late_sender_le : (b c : Bus) → IsHarder b c → (i a : ℕ) → way b i a + 10 * drift b a i ≤ way c i a + 10 * drift c a i
+late_sender_le b c h i a = (let w = way_le b c h i a in let d = drift_le b c h a i in omega arith)
+
+several_same : (b c : Bus) → IsHarder b c → several b ≡ several c
+unfolding several
+several_same b c h =
+    ap (λ n. nat_lt 1 n) (count_same b.nodes b.sends c.sends h.sends ∙ ap (count_places c.sends) h.nodes)
+
+early_le : (b c : Bus) → IsHarder b c → (i : ℕ) → early b i ≤ early c i
+unfolding early
+early_le b c h i =
+    pick_le (several b) (several c) _ _ (several_same b c h)
+    (over b c h (sends_but b i) (sends_but c i) (λ a. way b i a + 10 * drift b a i) (λ a. way c i a + 10 * drift c a i)
+    (sends_but_same b c h i) (late_sender_le b c h i))
+
+lost_le : (b c : Bus) → IsHarder b c → (i : ℕ) → lost b i ≤ lost c i
+unfolding lost
+lost_le b c h i =
+    let most = over b c h (sends_but b i) (sends_but c i) (λ a. drift b a i) (λ a. drift c a i) (sends_but_same b c h i) (λ a. drift_le b c h a i) in
+    omega arith
+
+-- the edges, by their numbers alone
+edges_by : ℕ → ℕ → ℕ → ℕ → ℕ
+edges_by e q j l = cond (nat_le e q) 0 (cond (nat_le j l) 14 (min 14 (div_ceil (e - q) (j - l))))
+
+few : (v : Bool) (n : ℕ) → cond v 14 (min 14 n) ≤ 14
+few true n = omega arith
+few false n = omega arith
+
+edges_by_le : (e q j l f r k m : ℕ) → e ≤ f → r ≤ q → k ≤ j → l ≤ m → edges_by e q j l ≤ edges_by f r k m
+unfolding edges_by
+edges_by_le e q j l f r k m he hq hj hl =
+    elim (cases_lt q e) [
+      | inr soon ↦ rw (le-leb e q soon) (omega arith)
+      | inl far ↦ rw (lt-leb e q far, lt-leb f r (omega arith)) (later (cases_lt m k))
+    ]
+  where
+    later : (m < k) ⊎ (k ≤ m)
+        → cond (nat_le j l) 14 (min 14 (div_ceil (e - q) (j - l))) ≤ cond (nat_le k m) 14 (min 14 (div_ceil (f - r) (k - m)))
+    later (inr slow) = rw (le-leb k m slow) (few (nat_le j l) (div_ceil (e - q) (j - l)))
+    later (inl quick) =
+        rw (lt-leb k m quick, lt-leb j l (omega arith))
+        (let less = ceil_le (e - q) (f - r) (j - l) (k - m) (omega arith) (omega arith) (omega arith) in omega arith)
+
+edges_le : (b c : Bus) → IsHarder b c → (i : ℕ) → edges b i ≤ edges c i
+unfolding edges edges_by
+edges_le b c h i =
+    edges_by_le (early b i) (b.shortest i) (jump b i) (lost b i) (early c i) (c.shortest i) (jump c i) (lost c i)
+    (early_le b c h i) (h.shorter i) (jump_le b c h i) (lost_le b c h i)
+
+third_same : (b c : Bus) → IsHarder b c → (i j : ℕ) → any_below b.nodes (sends_third b i j) ≡ any_below c.nodes (sends_third c i j)
+third_same b c h i j =
+    any_same b.nodes (sends_third b i j) (sends_third c i j) (sends_third_same b c h i j) ∙ ap (λ n. any_below n (sends_third c i j)) h.nodes
+
+chase_le : (b c : Bus) → IsHarder b c → (i j : ℕ) → chase b i j ≤ chase c i j
+unfolding chase
+chase_le b c h i j =
+    let one = edges_le b c h i in
+    let other = edges_le b c h j in
+    pick_le (any_below b.nodes (sends_third b i j)) (any_below c.nodes (sends_third c i j)) _ _ (third_same b c h i j) (omega arith)
+
+apart_le : (b c : Bus) → IsHarder b c → (i j : ℕ) → apart b i j ≤ apart c i j
+unfolding apart
+apart_le b c h i j =
+    let moves : (b.lengths j).sjw * b.longest j ≤ (c.lengths j).sjw * c.longest j =
+    subst (λ (l : Lengths). (b.lengths j).sjw * b.longest j ≤ l.sjw * c.longest j) (h.lengths j)
+    (mul-le-mul_left (b.lengths j).sjw (h.longer j)) in
+    let jumps = jump_le b c h i in
+    let drifts = drift_le b c h j i in
+    mul-le-mul (chase_le b c h i j) (omega arith)
+
+tour_le : (b c : Bus) → IsHarder b c → (i j : ℕ) → tour b i j ≤ tour c i j
+unfolding tour
+tour_le b c h i j =
+    over b c h (sends_third b i j) (sends_third c i j) _ _ (sends_third_same b c h i j)
+    (λ a. (let comes = late_sender_le b c h i a in let round = h.detours a j i in let away = h.delays a i in omega arith))
+
+late_le : (b c : Bus) → IsHarder b c → (i j : ℕ) → late b i j ≤ late c i j
+unfolding late
+late_le b c h i j = (let w = way_le b c h i j in let a = apart_le b c h i j in let t = tour_le b c h i j in omega arith)
+
+strays_le : (b c : Bus) → IsHarder b c → (j : ℕ) → strays b j ≤ strays c j
+unfolding strays
+strays_le b c h j = over b c h (λ w. not (w == j)) (λ w. not (w == j)) (drift b j) (drift c j) (λ k. refl) (drift_le b c h j)
+
+pub left_le : (b c : Bus) → IsHarder b c → (e : Inequality) (i j : ℕ) → left_of b e i j ≤ left_of c e i j
+unfolding left_of
+left_le b c h DriftFitsJump i j = (let d = drift_le b c h i j in omega arith)
+left_le b c h BitIsThereAtSample i j = pick (i == j)
+  where
+    pick : (v : Bool) → cond v (b.delay i i) (late b i j + 11 * strays b j) ≤ cond v (c.delay i i) (late c i j + 11 * strays c j)
+    pick true = h.delays i i
+    pick false = (let l = late_le b c h i j in let s = strays_le b c h j in omega arith)
+left_le b c h NoBitTooEarly i j =
+    (let l = look_le b c h j in let d = drift_le b c h i j in let a = apart_le b c h j i in let y = early_le b c h j in let o = h.own j in
+    let t = h.tick in omega arith)
+
+pub right_le : (b c : Bus) → IsHarder b c → (e : Inequality) (i j : ℕ) → right_of c e i j ≤ right_of b e i j
+unfolding right_of
+right_le b c h DriftFitsJump i j = (let one = jump_le b c h i in let other = jump_le b c h j in omega arith)
+right_le b c h BitIsThereAtSample i j =
+    subst (λ (l : Lengths). sample_at l * c.shortest i ≤ sample_at (b.lengths i) * b.shortest i) (h.lengths i)
+    (mul-le-mul_left (sample_at (b.lengths i)) (h.shorter i))
+right_le b c h NoBitTooEarly i j =
+    subst (λ (l : Lengths). l.ps2 * c.shortest i ≤ (b.lengths i).ps2 * b.shortest i) (h.lengths i)
+    (mul-le-mul_left (b.lengths i).ps2 (h.shorter i))
+
+pub sound_le : (b c : Bus) → IsHarder b c → IsSound c → IsSound b
+sound_le b c h s = record {
+  drift_fits_jump = λ i j bi bj ne.
+      (let l = left_le b c h DriftFitsJump i j in let r = right_le b c h DriftFitsJump i j in let n = h.nodes in
+      let m = s.drift_fits_jump i j (omega arith) (omega arith) ne in omega arith);
+  bit_is_there_at_sample = λ i j bi bj.
+      (let l = left_le b c h BitIsThereAtSample i j in let r = right_le b c h BitIsThereAtSample i j in let n = h.nodes in
+      let m = s.bit_is_there_at_sample i j (omega arith) (omega arith) in omega arith);
+  no_bit_too_early = λ i j bi bj ne.
+      (let l = left_le b c h NoBitTooEarly i j in let r = right_le b c h NoBitTooEarly i j in let n = h.nodes in
+      let m = s.no_bit_too_early i j (omega arith) (omega arith) ne in omega arith);
+}
