@@ -217,7 +217,8 @@ impl Family {
 
     /// The first node for which it fails with some other.
     fn first_node(&self, setting: Setting, senders: Senders, inequality: Inequality) -> Option<u8>
-        ensures first { result ≡ first_place (fails_at self.now setting senders inequality) (length self.now.members) }
+        ensures first { result ≡ first_place (fails_at self.now setting senders inequality)
+            (length self.now.members) }
         ensures inside { IfSome result (λ i. i < length self.now.members) }
     {
         let mut first = None;

@@ -73,7 +73,8 @@ impl Family {
     fn longest_trip(&self, setting: Setting, i: u8, j: u8) -> u128
         requires one { i < length self.now.members }
         requires other { j < length self.now.members }
-        ensures value { result ≡ greatest (length self.now.members) (sends_but (bus_of self.now setting) j) (trip (bus_of self.now setting) i j) }
+        ensures value { result ≡ greatest (length self.now.members) (sends_but (bus_of self.now setting) j)
+            (trip (bus_of self.now setting) i j) }
         ensures most { result < 2 ^ 88 }
     {
         let mut longest = 0;
