@@ -68,6 +68,10 @@ IsLongerCable f senders (Some n) =
 abbrev pub widest_growth : Buses → ℕ
 widest_growth f = greatest_tolerance - greatest (length f.members) each (λ i. (member_at f i).oscillator.tolerance)
 
+-- by how many parts per million every tolerance may grow
+abbrev pub IsWiderTolerance : Buses → Senders → Option ℕ → Type 0
+IsWiderTolerance f senders found = IsGreatestOf (holds_grown f senders Wider) (widest_growth f) found
+
 -- n units of length fit a number of 32 bits
 abbrev pub GrowsTo : Growth → ℕ → Type 0
 GrowsTo (Longer length per) n = n * per < 4294967296

@@ -2,9 +2,8 @@
 ghost use Rattle.std.specs.Prelude.{◌≡◌, ◌*◌, ◌^◌, ◌<◌, ◌≤◌, length};
 ghost use Rattle.wl_topology.specs.Limits.{longest_delay};
 ghost use Rattle.wl_bound.specs.Families.{way_between};
-ghost use Rattle.wl_bound.specs.Searches.{GrowsTo, IsBorderOf, IsGreatestOf, IsLongerCable, cable_ticks, each, grown_by, holds_grown, holds_in, longest_growth, widest_growth};
+ghost use Rattle.wl_bound.specs.Searches.{GrowsTo, IsBorderOf, IsGreatestOf, IsLongerCable, IsWiderTolerance, cable_ticks, each, grown_by, holds_grown, holds_in, longest_growth, widest_growth};
 ghost use Rattle.wl_bound.specs.Terms.{greatest};
-ghost use Rattle.wl_bound.specs.declared.search.Growth.TheVariants.{Wider};
 
 use crate::condition::Senders;
 use crate::family::{Family, Setting, Source};
@@ -40,7 +39,7 @@ impl Family {
     /// By how many ppm every tolerance may grow: the greatest number with which the condition holds and no tolerance is above 100,000 ppm. `None` if the
     /// condition doesn't hold as it is.
     pub fn wider_tolerance(&self, senders: Senders) -> Option<u32>
-        ensures { IsGreatestOf (holds_grown self.now senders Wider) (widest_growth self.now) result }
+        ensures { IsWiderTolerance self.now senders result }
     {
         self.greatest(senders, Growth::Wider, self.widest_growth())
     }
