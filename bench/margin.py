@@ -1,0 +1,264 @@
+#!/usr/bin/env python3
+"""The margin of a bus, by an independent program: what `margin` has to write of a plan, from the three inequalities as docs/explain.md has them.
+
+usage: margin.py [--tick TIME] < PLAN
+
+It reads the plan by plain.py, and takes one sender at a time and any senders by trying all of them.
+"""
+import sys
+from fractions import Fraction
+from itertools import product
+from math import ceil, floor
+
+import plain
+
+T = 1_000_000
+UNITS = {"ps": 1, "ns": 1_000, "us": 1_000_000}
+DRIFT, LATE, EARLY = "drift", "late", "early"
+KINDS = DRIFT, LATE, EARLY
+
+
+class Bus:
+    """Times are millionths of a tick, as fractions. `wider` is added to each tolerance, `stretch` is a factor of the cable, `changes` are added to
+    ps1, ps2 and sjw of each node."""
+
+    def __init__(self, plan, clocks, senders, wider=0, stretch=Fraction(1), changes=(0, 0, 0)):
+        self.plan, self.n = plan, len(plan.nodes)
+        self.sends = senders
+        self.low, self.high = [], []
+        for rates, tolerance in clocks:
+            self.low.append(min(num * (T - tolerance - wider) // den for num, den in rates))
+            self.high.append(max(-(num * -(T + tolerance + wider) // den) for num, den in rates))
+        ps1, ps2, sjw = changes
+        own = [node.segments for node in plan.nodes]
+        self.bit = [1 + s.prop + s.ps1 + ps1 + s.ps2 + ps2 for s in own]
+        self.sample = [1 + s.prop + s.ps1 + ps1 for s in own]
+        self.ps2 = [s.ps2 + ps2 for s in own]
+        self.sjw = [s.sjw + sjw for s in own]
+        self.jump = [self.sjw[i] * self.low[i] for i in range(self.n)]
+        self.stretch = stretch
+        self.look = [max(0, self.high[i] + T - self.delay(i, i)) for i in range(self.n)]
+        self.early = [self.most_early(i) for i in range(self.n)]
+        self.edges = [self.edges_of(i) for i in range(self.n)]
+
+    def delay(self, i, j):
+        a, b = self.plan.places[i], self.plan.places[j]
+        return T * (a.out_delay + abs(a.x - b.x) * self.plan.per * self.stretch + b.in_delay)
+
+    def drift(self, i, j):
+        return max(0, self.bit[i] * self.high[i] - self.bit[j] * self.low[j])
+
+    def others(self, *left_out):
+        return [k for k in range(self.n) if k not in left_out]
+
+    def way(self, i, j):
+        d, trips = self.delay, [0]
+        for k in self.others(j):
+            if k not in self.sends: continue
+            if k == i: trips.append(d(i, j) + d(j, i) + (self.look[i] if self.n > 2 else 0))
+            else: trips.append(max(0, d(k, j) + d(j, i) + self.high[i] + T - d(k, i)))
+        return max(trips) + max([0] + [self.look[w] for w in self.others(i, j)])
+
+    def most_early(self, i):
+        if len(self.sends) < 2: return 0
+        return max([0] + [self.way(i, a) + 10 * self.drift(a, i) for a in self.others(i) if a in self.sends])
+
+    def edges_of(self, i):
+        ahead = self.early[i] - self.low[i]
+        step = self.jump[i] - 10 * max([0] + [self.drift(a, i) for a in self.others(i) if a in self.sends])
+        if ahead <= 0: return 0
+        return 14 if step <= 0 else min(14, ceil(Fraction(ahead) / Fraction(step)))
+
+    def apart(self, i, j):
+        third = any(a in self.sends for a in self.others(i, j))
+        edges = min(self.edges[i], self.edges[j]) if third else 0
+        return edges * (10 * self.drift(j, i) + max(0, self.sjw[j] * self.high[j] - self.jump[i]))
+
+    def tour(self, i, j):
+        d = self.delay
+        return max([0] + [max(0, self.way(i, a) + 10 * self.drift(a, i) + d(a, j) + d(j, i) - d(a, i)) for a in self.others(i, j) if a in self.sends])
+
+    def left(self, kind, i, j):
+        if kind == DRIFT: return 10 * self.drift(i, j)
+        if kind == LATE and i == j: return self.delay(i, i)
+        if kind == LATE:
+            way = self.way(i, j)
+            return way + min(self.apart(i, j), max(0, self.tour(i, j) - way)) + 11 * max(self.drift(j, w) for w in self.others(j))
+        return self.look[j] + 10 * self.drift(i, j) + min(self.apart(j, i), max(0, self.early[j] - self.delay(j, j))) + T
+
+    def right(self, kind, i, j):
+        if kind == DRIFT: return min(self.jump[i], self.jump[j])
+        return (self.sample[i] if kind == LATE else self.ps2[i]) * self.low[i]
+
+
+class Family:
+    def __init__(self, plan, clocks):
+        self.plan, self.clocks = plan, clocks
+        self.senders = [i for i, node in enumerate(plan.nodes) if node.queue]
+
+    def buses(self, one, **changes):
+        return [Bus(self.plan, self.clocks, senders, **changes) for senders in ([[a] for a in self.senders] if one else [self.senders])]
+
+    def sides(self, buses, kind, i, j):
+        return max(bus.left(kind, i, j) for bus in buses), buses[0].right(kind, i, j)
+
+    def failures(self, one, **changes):
+        buses = self.buses(one, **changes)
+        for kind, i, j in product(KINDS, range(buses[0].n), range(buses[0].n)):
+            if i == j and kind != LATE: continue
+            left, right = self.sides(buses, kind, i, j)
+            if left > right: yield kind, i, j, left, right
+
+    def reserve(self, one, **changes):
+        """Returns the least that is to spare, below 0 if an inequality fails."""
+        buses = self.buses(one, **changes)
+        pairs = [(kind, i, j) for kind, i, j in product(KINDS, range(buses[0].n), range(buses[0].n)) if i != j or kind == LATE]
+        return min(right - left for left, right in (self.sides(buses, *pair) for pair in pairs))
+
+    def holds(self, one, **changes):
+        return next(self.failures(one, **changes), None) is None
+
+
+def clocks_of(top):
+    """Returns of each node its rates, as (num, den), without `ppm` if it has a tolerance, and the tolerance."""
+    clocks = []
+    for node in top["node"]:
+        rates = []
+        for rate in node.get("rates", [node]):
+            ppm = 0 if "tolerance" in node else rate.get("ppm", 0)
+            rates.append((rate["quantum"] * (T + ppm), T) if "quantum" in rate else (rate["num"], rate["den"]))
+        clocks.append((rates, node.get("tolerance", 0)))
+    return clocks
+
+
+def outside(plan):
+    """Returns the words of what lies outside of the inequalities, or None."""
+    names = [node.name for node in plan.nodes]
+    if len(names) < 2: return "does not hold: there is one node, and nobody acknowledges its frames"
+    if not any(node.queue for node in plan.nodes): return "no bound is known: no node has a frame to send"
+    for node in plan.nodes:
+        if not node.segments.book:
+            return (f"no bound is known: {node.name} synchronises after an edge, so it can miss a start of frame or an edge at its sample; "
+                    'for sync = "book" one is known')
+    fields = [{(queued.frame.extended, queued.frame.id, queued.frame.remote) for queued in node.queue} for node in plan.nodes]
+    for i, j in product(range(len(names)), repeat=2):
+        if i != j and fields[i] & fields[j]:
+            return f"does not hold: {names[i]} and {names[j]} have frames of one identifier, which no arbitration parts"
+    idle = [node.clock.at(11 * node.segments.bit_quanta()) for node in plan.nodes]
+    for i, node in enumerate(plan.nodes):
+        if node.queue and not any(node.clock.at(node.queue[0].ready) >= idle[j] for j in range(len(names)) if j != i):
+            return f"does not hold: the first frame of {names[i]} becomes ready before any other node is idle, and nobody may acknowledge it"
+    return None
+
+
+def point(number, digits):
+    return f"{number // 10**digits}.{number % 10**digits:0{digits}}"
+
+
+class Text:
+    def __init__(self, family, tick):
+        self.family, self.tick = family, tick
+        self.names = [node.name for node in family.plan.nodes]
+        self.quanta = family.buses(False)[0].low
+
+    def amount(self, time, i, whole, sign=""):
+        nanoseconds, quanta = whole(Fraction(time * self.tick, T)), whole(Fraction(100 * time, self.quanta[i]))
+        return f"{sign}{point(nanoseconds, 3)} ns ({sign}{point(quanta, 2)} quanta)"
+
+    def spare(self, left, right, i):
+        return self.amount(right - left, i, floor) if left <= right else self.amount(left - right, i, ceil, "-")
+
+    def failure(self, kind, i, j, left, right):
+        a, b = self.names[i], self.names[j]
+        taken, there = self.amount(left, i, ceil), self.amount(right, i, floor)
+        if kind == DRIFT: return f"in ten bits {a} falls behind {b} by up to {taken}, and an edge puts right {there}"
+        if kind == EARLY: return f"the next bit of {b} comes to {a} up to {taken} too early, and its PHASE_SEG2 has {there}"
+        if i == j: return f"a bit of {a} comes back to it {taken} after it began, and it samples after {there}"
+        return f"a bit of {b} comes to {a} up to {taken} after its own began, and {a} samples after {there}"
+
+    def pairs(self, one):
+        buses = self.family.buses(one)
+        for i, j in product(range(len(self.names)), repeat=2):
+            if i == j: continue
+            late, early, drift = (self.spare(*self.family.sides(buses, kind, i, j), i) for kind in (LATE, EARLY, DRIFT))
+            yield f"pair {self.names[i]} {self.names[j]}: late {late}, early {early}, drift {drift}"
+
+    def lines(self):
+        of_any, of_one = (next(self.family.failures(one), None) for one in (False, True))
+        if of_any is None:
+            yield "holds for any senders, shown by search, not proved"
+        elif of_one is None:
+            yield "holds for one sender at a time, shown by search, not proved"
+            yield f"any senders: {self.failure(*of_any)}"
+        else:
+            yield f"does not hold: {self.failure(*of_one)}"
+        yield from self.pairs(of_any is not None)
+        yield from self.searches()
+
+    def searches(self):
+        for name, unit, find in ("cable", " units longer", longer_cable), ("tolerance", " ppm wider", wider_tolerance), ("help", "", first_help):
+            one, other = (find(self.family, one) for one in (True, False))
+            yield f"{name}: one sender at a time {figure(one, unit)}, any senders {figure(other, unit)}"
+
+
+def figure(number, unit):
+    return "none" if number is None else f"{number}{unit}"
+
+
+def greatest(holds, limit):
+    """Returns the greatest number up to a limit for which it holds, if it does for 0: it holds up to some number and no further."""
+    if not holds(0): return None
+    low, high = 0, limit + 1
+    while high - low > 1:
+        middle = (low + high) // 2
+        low, high = (middle, high) if holds(middle) else (low, middle)
+    return low
+
+
+def longer_cable(family, one):
+    places = [place.x for place in family.plan.places]
+    length = max(places) - min(places)
+    if not length or not family.plan.per: return None
+    return greatest(lambda n: family.holds(one, stretch=Fraction(length + n, length)), 2**20)
+
+
+def wider_tolerance(family, one):
+    return greatest(lambda ppm: family.holds(one, wider=ppm), T - 1)
+
+
+CHANGES = {
+    "a jump width wider by a quantum": (0, 0, 1), "a jump width narrower by a quantum": (0, 0, -1),
+    "a sample point later by a quantum": (1, -1, 0), "a sample point earlier by a quantum": (-1, 1, 0),
+}
+
+
+def first_help(family, one):
+    """Returns the first change that raises the least margin most, of those that every node's segments allow; or None."""
+    best = None, family.reserve(one)
+    for words, (ps1, ps2, sjw) in CHANGES.items():
+        own = [node.segments for node in family.plan.nodes]
+        if any(s._replace(ps1=s.ps1 + ps1, ps2=s.ps2 + ps2, sjw=s.sjw + sjw).fault() for s in own): continue
+        reserve = family.reserve(one, changes=(ps1, ps2, sjw))
+        if reserve > best[1]: best = words, reserve
+    return best[0]
+
+
+def margin_text(text, tick):
+    plan = plain.read_plan(text)
+    said = outside(plan)
+    return said + "\n" if said else "".join(line + "\n" for line in Text(Family(plan, clocks_of(plain.read_toml(text))), tick).lines())
+
+
+def main():
+    words, tick = sys.argv[1:], 1_000
+    if words[:1] == ["--tick"]:
+        tick = int(words[1][:-2]) * UNITS[words[1][-2:]]
+    try:
+        sys.stdout.write(margin_text(sys.stdin.buffer.read(), tick))
+    except plain.Fault as fault:
+        sys.stderr.write(f"fault: {fault}\n")
+        sys.exit(1)
+
+
+if __name__ == "__main__":
+    main()

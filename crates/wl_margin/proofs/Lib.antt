@@ -1,0 +1,4 @@
+mod UnitLemmas
+mod PaceLemmas
+mod Said
+mod Rows

@@ -1,0 +1,148 @@
+-- The text of a bus's margin: whether it works, what is to spare, how much longer and wider it may be (this project's profile).
+use Rattle.std.specs.Prelude.{◌≡◌, ℕ, ◌==◌, List, [], ◌∷◌, ◌++◌, codes, length, if◌then◌else◌, Option, Some, None, option_map, option_and_then}
+use Rattle.std.specs.Fmt.{decimal}
+use Rattle.wl_plan.specs.declared.plan.Plan.{Plan}
+use Rattle.wl_setup.specs.declared.bus.Bus.{Bus}
+use Rattle.wl_setup.specs.declared.bus.Deviation.{Deviation}
+use Rattle.wl_setup.specs.Names.{name_of}
+use Rattle.wl_bound.specs.Families.{Buses, family_of}
+use Rattle.wl_bound.specs.Oscillators.{Pace, oscillator_of}
+use Rattle.wl_bound.specs.Conditions.{plain, sides_in, first_failure_of}
+use Rattle.wl_bound.specs.Helps.{best_change}
+use Rattle.wl_bound.specs.declared.family.Change.{Change}
+use Rattle.wl_bound.specs.declared.family.Change.TheVariants.{WiderJump, NarrowerJump, LaterSample, EarlierSample}
+use Rattle.wl_bound.specs.Searches.{IsLongerCable, IsWiderTolerance}
+use Rattle.wl_bound.specs.Verdicts.{verdict_of}
+use Rattle.wl_bound.specs.declared.condition.Inequality.{Inequality}
+use Rattle.wl_bound.specs.declared.condition.Inequality.TheVariants.{DriftFitsJump, BitIsThereAtSample, NoBitTooEarly}
+use Rattle.wl_bound.specs.declared.condition.Failure.{Failure}
+use Rattle.wl_bound.specs.declared.condition.Senders.{Senders}
+use Rattle.wl_bound.specs.declared.condition.Senders.TheVariants.{Any, One}
+use Rattle.wl_bound.specs.declared.verdict.Outside.{Outside}
+use Rattle.wl_bound.specs.declared.verdict.Outside.TheVariants.{FewNodes, NoFrames, NotByTheBook, SameIdentifier, NobodyIdle}
+use Rattle.wl_bound.specs.declared.verdict.Verdict.{Verdict}
+use Rattle.wl_bound.specs.declared.verdict.Verdict.TheVariants.{ForAny, ForOne, DoesNotHold, NoBound}
+use Rattle.wl_explain.specs.Words.{joined, each_below}
+use Rattle.wl_margin.specs.declared.found.Found.{Found}
+use Rattle.wl_margin.specs.declared.found.Reach.{Reach}
+use Rattle.wl_margin.specs.Sentences.{measure_of, spare_words, failure_words}
+
+-- the oscillators of the nodes, if each has rates that make a clock
+abbrev pub paces_of : List Deviation → Option (List Pace)
+paces_of [] = Some []
+paces_of (d ∷ later) = option_and_then (λ p. option_map (λ ps. p ∷ ps) (paces_of later)) (oscillator_of d.rates d.tolerance)
+
+-- frames of one identifier, and a frame that nobody may acknowledge
+abbrev pub shared_words : List ℕ → List ℕ → List ℕ
+shared_words a b =
+    joined (codes "does not hold: " ∷ a ∷ codes " and " ∷ b ∷ codes " have frames of one identifier, which no arbitration parts\n" ∷ [])
+
+abbrev pub unheard_words : List ℕ → List ℕ
+unheard_words a =
+    joined (codes "does not hold: the first frame of " ∷ a
+    ∷ codes " becomes ready before any other node is idle, and nobody may acknowledge it\n" ∷ [])
+
+-- why the condition says nothing of a plan
+abbrev pub outside_words : List (List ℕ) → Outside → List ℕ
+outside_words names FewNodes = codes "does not hold: there is one node, and nobody acknowledges its frames\n"
+outside_words names NoFrames = codes "no bound is known: no node has a frame to send\n"
+outside_words names (NotByTheBook i) =
+    joined (codes "no bound is known: " ∷ name_of names i
+    ∷ codes " synchronises after an edge, so it can miss a start of frame or an edge at its sample; for sync = \"book\" one is known\n" ∷ [])
+outside_words names (SameIdentifier i j) = shared_words (name_of names i) (name_of names j)
+outside_words names (NobodyIdle i) = unheard_words (name_of names i)
+
+-- what is to spare for nodes i and j, by the quantum of node i
+abbrev pub spare_of : ℕ → Buses → Senders → Inequality → ℕ → ℕ → List ℕ
+spare_of tick f senders inequality i j = spare_words (measure_of tick f i) (sides_in f plain senders inequality i j)
+
+module _ (tick : ℕ) (f : Buses) (names : List (List ℕ)) where
+  abbrev pub pair_line : Senders → ℕ → ℕ → List ℕ
+  pair_line senders i j =
+      joined (codes "pair " ∷ name_of names i ∷ codes " " ∷ name_of names j ∷ codes ": late " ∷ spare_of tick f senders BitIsThereAtSample i j
+      ∷ codes ", early " ∷ spare_of tick f senders NoBitTooEarly i j ∷ codes ", drift " ∷ spare_of tick f senders DriftFitsJump i j ∷ codes "\n" ∷ [])
+
+  -- a node is no pair
+  abbrev pub pair_words : Senders → ℕ → ℕ → List ℕ
+  pair_words senders i j = if i == j then [] else pair_line senders i j
+
+  abbrev pub pairs_of : Senders → ℕ → List ℕ
+  pairs_of senders i = each_below (pair_words senders i) (length f.members)
+
+  abbrev pub all_pairs : Senders → List ℕ
+  all_pairs senders = each_below (pairs_of senders) (length f.members)
+
+  -- what goes wrong, after some words
+  abbrev pub failure_line : List ℕ → Failure → List ℕ
+  failure_line lead failure = joined (lead ∷ failure_words tick f names failure ∷ codes "\n" ∷ [])
+
+  -- why the condition doesn't hold for any senders
+  abbrev pub any_failure : Option Failure → List ℕ
+  any_failure None = []
+  any_failure (Some failure) = failure_line (codes "any senders: ") failure
+
+  -- the first lines, and what is to spare
+  abbrev pub verdict_words : Verdict → List ℕ
+  verdict_words ForAny = codes "holds for any senders, shown by search, not proved\n" ++ all_pairs Any
+  verdict_words ForOne =
+      codes "holds for one sender at a time, shown by search, not proved\n" ++ any_failure (first_failure_of f plain Any) ++ all_pairs One
+  verdict_words (DoesNotHold failure) = failure_line (codes "does not hold: ") failure ++ all_pairs One
+  verdict_words (NoBound cause) = outside_words names cause
+
+-- how far something may grow, for one sender at a time and for any
+abbrev pub figure_words : List ℕ → Option ℕ → List ℕ
+figure_words unit None = codes "none"
+figure_words unit (Some n) = decimal n ++ unit
+
+abbrev pub growth_words : List ℕ → List ℕ → Reach → List ℕ
+growth_words what unit reach =
+    joined (what ∷ codes ": one sender at a time " ∷ figure_words unit reach.one ∷ codes ", any senders " ∷ figure_words unit reach.any
+    ∷ codes "\n" ∷ [])
+
+-- what a change by a quantum is
+abbrev pub change_words : Option Change → List ℕ
+change_words None = codes "none"
+change_words (Some WiderJump) = codes "a jump width wider by a quantum"
+change_words (Some NarrowerJump) = codes "a jump width narrower by a quantum"
+change_words (Some LaterSample) = codes "a sample point later by a quantum"
+change_words (Some EarlierSample) = codes "a sample point earlier by a quantum"
+
+abbrev pub help_line : List ℕ → List ℕ → List ℕ
+help_line one any = joined (codes "help: one sender at a time " ∷ one ∷ codes ", any senders " ∷ any ∷ codes "\n" ∷ [])
+
+abbrev pub help_words : Option Change → Option Change → List ℕ
+help_words one any = help_line (change_words one) (change_words any)
+
+-- how much longer the cable may be, in units of length, how much wider every tolerance, and which change helps most
+abbrev pub found_words : Found → List ℕ
+found_words found =
+    growth_words (codes "cable") (codes " units longer") found.longer ++ growth_words (codes "tolerance") (codes " ppm wider") found.wider
+    ++ help_words found.help_one found.help_any
+
+-- the searches found these
+pub record IsFound (f : Buses) (found : Found) : Type 0 where
+  pub longer_one : IsLongerCable f One found.longer.one
+  pub longer_any : IsLongerCable f Any found.longer.any
+  pub wider_one : IsWiderTolerance f One found.wider.one
+  pub wider_any : IsWiderTolerance f Any found.wider.any
+  pub help_one : found.help_one ≡ (best_change f One).change
+  pub help_any : found.help_any ≡ (best_change f Any).change
+
+-- the text of a family: of a plan of which the condition says nothing there is nothing to search
+abbrev pub IsTextAfter : Verdict → List ℕ → Buses → List ℕ → Type 0
+IsTextAfter (NoBound cause) said f text = text ≡ said
+IsTextAfter verdict said f text = (found : Found) × IsFound f found × (text ≡ said ++ found_words found)
+
+abbrev pub IsFamilyText : ℕ → Plan → List (List ℕ) → Buses → List ℕ → Type 0
+IsFamilyText tick plan names f text = IsTextAfter (verdict_of plan f) (verdict_words tick f names (verdict_of plan f)) f text
+
+abbrev pub no_clock_words : List ℕ
+no_clock_words = codes "no bound is known: without its ppm a quantum takes less than a tick or more than 1,048,576\n"
+
+abbrev pub IsTextOfPaces : ℕ → Bus → Option (List Pace) → List ℕ → Type 0
+IsTextOfPaces tick bus None text = text ≡ no_clock_words
+IsTextOfPaces tick bus (Some paces) text = IsFamilyText tick bus.plan bus.names (family_of bus.plan paces) text
+
+-- the whole text, for ticks of so many picoseconds
+abbrev pub IsMarginText : ℕ → Bus → List ℕ → Type 0
+IsMarginText tick bus text = IsTextOfPaces tick bus (paces_of bus.deviations) text

@@ -1,0 +1,125 @@
+//! What the searches over a family find, and its text.
+ghost use Rattle.std.specs.Prelude.{◌≡◌, ◌++◌, string_bytes, OnOk};
+ghost use Rattle.wl_margin.specs.Margins.{IsFound, change_words, figure_words, found_words, growth_words, help_line, help_words};
+
+use std::alloc::AllocError;
+use std::fmt;
+use wl_bound::{Change, Family, Senders};
+
+/// How far something may grow; `None` if it may not.
+#[derive(Clone, Copy, Debug)]
+pub(crate) struct Reach {
+    /// For one sender at a time.
+    one: Option<u32>,
+    /// For any senders.
+    any: Option<u32>,
+}
+
+/// What the searches find.
+#[derive(Clone, Copy, Debug)]
+pub(crate) struct Found {
+    /// How much longer the cable may be, in units of length.
+    longer: Reach,
+    /// How much wider every tolerance, in parts per million.
+    wider: Reach,
+    /// Which change helps most for one sender at a time.
+    help_one: Option<Change>,
+    /// And for any senders.
+    help_any: Option<Change>,
+}
+
+/// Returns what the searches over a family find.
+pub(crate) fn search(family: &Family) -> Found
+    ensures { IsFound family.now result }
+{
+    Found {
+        longer: Reach {
+            one: family.longer_cable(Senders::One),
+            any: family.longer_cable(Senders::Any),
+        },
+        wider: Reach {
+            one: family.wider_tolerance(Senders::One),
+            any: family.wider_tolerance(Senders::Any),
+        },
+        help_one: family.first_help(Senders::One),
+        help_any: family.first_help(Senders::Any),
+    }
+}
+
+/// A figure with its unit, or `none`.
+#[derive(Clone, Copy)]
+struct Figure<'a> {
+    number: Option<u32>,
+    unit: &'a str,
+}
+
+impl fmt::Display for Figure<'_> {
+    ghost use Rattle.std.specs.Prelude.{Some};
+    ghost use Rattle.wl_margin.specs.Margins.{figure_words};
+
+    ghost output = { λ f. Some (figure_words f.unit.now f.number) };
+
+    fn fmt<W: fmt::Write>(&self, f: &mut fmt::Formatter<W>) -> fmt::Result {
+        match self.number {
+            Some(number) => {
+                let unit = self.unit;
+                write!(f, "{number}{unit}")
+            }
+            None => f.write_str("none"),
+        }
+    }
+}
+
+/// Adds the line of what may grow.
+fn push_growth(text: &mut String, what: &str, unit: &str, reach: Reach) -> Result<(), AllocError>
+    ensures { OnOk result (string_bytes text.new ≡ string_bytes text.old ++ growth_words what.now unit.now reach) }
+{
+    let one = Figure {
+        number: reach.one,
+        unit,
+    };
+    let any = Figure {
+        number: reach.any,
+        unit,
+    };
+    writeln!(
+        text,
+        "{what}: one sender at a time {one}, any senders {any}"
+    )
+}
+
+/// Returns what a change by a quantum is.
+fn change_words(change: Option<Change>) -> &'static str
+    ensures { result.now ≡ change_words change }
+{
+    match change {
+        None => "none",
+        Some(Change::WiderJump) => "a jump width wider by a quantum",
+        Some(Change::NarrowerJump) => "a jump width narrower by a quantum",
+        Some(Change::LaterSample) => "a sample point later by a quantum",
+        Some(Change::EarlierSample) => "a sample point earlier by a quantum",
+    }
+}
+
+/// Adds the line of two changes.
+fn push_help_line(text: &mut String, one: &str, any: &str) -> Result<(), AllocError>
+    ensures { OnOk result (string_bytes text.new ≡ string_bytes text.old ++ help_line one.now any.now) }
+{
+    writeln!(text, "help: one sender at a time {one}, any senders {any}")
+}
+
+/// Adds the line of what helps most.
+fn push_help(text: &mut String, one: Option<Change>, any: Option<Change>) -> Result<(), AllocError>
+    ensures { OnOk result (string_bytes text.new ≡ string_bytes text.old ++ help_words one any) }
+{
+    push_help_line(text, change_words(one), change_words(any))
+}
+
+/// Adds what the searches found.
+pub(crate) fn push_found(text: &mut String, found: Found) -> Result<(), AllocError>
+    ensures { OnOk result (string_bytes text.new ≡ string_bytes text.old ++ found_words found) }
+{
+    push_growth(text, "cable", " units longer", found.longer)?;
+    push_growth(text, "tolerance", " ppm wider", found.wider)?;
+    push_help(text, found.help_one, found.help_any)
+}

@@ -1,0 +1,332 @@
+//! The text of a bus's margin.
+ghost use Rattle.std.specs.Prelude.{◌≡◌, ◌++◌, ◌<◌, ◌^◌, string_bytes, length, IfOk, OnOk};
+ghost use Rattle.wl_plan.specs.Checked.{IsChecked};
+ghost use Rattle.wl_bound.specs.Conditions.{first_failure_of, plain};
+ghost use Rattle.wl_bound.specs.Families.{member_at};
+ghost use Rattle.wl_bound.specs.Oscillators.{shortest_of};
+ghost use Rattle.wl_bound.specs.declared.condition.Senders.TheVariants.{Any};
+ghost use Rattle.wl_margin.specs.Sentences.{failure_words, measure_of, signed_words};
+ghost use Rattle.wl_explain.specs.Words.{each_below};
+ghost use Rattle.wl_margin.specs.Margins.{IsFamilyText, IsMarginText, all_pairs, any_failure, failure_line, outside_words, paces_of, pair_line, pair_words, pairs_of, shared_words, spare_of, unheard_words, verdict_words};
+
+use crate::found::{push_found, search};
+use crate::sentences::{Spare, push_failure};
+use crate::units::Units;
+use std::alloc::{AllocError, Global};
+use wl_bound::{Failure, Family, Inequality, Oscillator, Outside, Senders, Verdict, judge};
+use wl_level::Listed;
+use wl_plan::Plan;
+use wl_setup::{Bus, Deviation, Names};
+
+/// Returns the oscillators of the nodes, if each has rates that make a clock.
+fn oscillators(
+    alloc: Global,
+    deviations: &[Deviation],
+) -> Result<Option<Listed<Oscillator>>, AllocError>
+    ensures { IfOk result (λ all. all ≡ paces_of deviations.now) }
+{
+    let mut all = Listed::new(alloc);
+    for deviation in deviations {
+        match Oscillator::new(deviation.rates.as_slice(), deviation.tolerance) {
+            Some(oscillator) => all.push(oscillator)?,
+            None => return Ok(None),
+        }
+    }
+    Ok(Some(all))
+}
+
+/// Adds the line of two nodes with frames of one identifier.
+fn push_shared(text: &mut String, a: &str, b: &str) -> Result<(), AllocError>
+    ensures { OnOk result (string_bytes text.new ≡ string_bytes text.old ++ shared_words a.now b.now) }
+{
+    writeln!(
+        text,
+        "does not hold: {a} and {b} have frames of one identifier, which no arbitration parts"
+    )
+}
+
+/// Adds the line of a frame that nobody may acknowledge.
+fn push_unheard(text: &mut String, a: &str) -> Result<(), AllocError>
+    ensures { OnOk result (string_bytes text.new ≡ string_bytes text.old ++ unheard_words a.now) }
+{
+    writeln!(
+        text,
+        "does not hold: the first frame of {a} becomes ready before any other node is idle, and nobody may acknowledge it"
+    )
+}
+
+/// Adds why the condition says nothing of a plan.
+fn push_outside(text: &mut String, names: &Names, cause: Outside) -> Result<(), AllocError>
+    ensures { OnOk result (string_bytes text.new ≡ string_bytes text.old ++ outside_words names.now cause) }
+{
+    match cause {
+        Outside::FewNodes => text.push_str(
+            "does not hold: there is one node, and nobody acknowledges its frames\n",
+        ),
+        Outside::NoFrames => text.push_str("no bound is known: no node has a frame to send\n"),
+        Outside::NotByTheBook(i) => {
+            let a = names.name_of(i as usize);
+            writeln!(
+                text,
+                "no bound is known: {a} synchronises after an edge, so it can miss a start of frame or an edge at its sample; for sync = \"book\" one is known"
+            )
+        }
+        Outside::SameIdentifier(i, j) => {
+            push_shared(text, names.name_of(i as usize), names.name_of(j as usize))
+        }
+        Outside::NobodyIdle(i) => { push_unheard(text, names.name_of(i as usize)) }
+    }
+}
+
+/// Returns the shortest quantum of node `i` in millionths of a tick; a tick for a node that isn't there.
+fn shortest(family: &Family, i: u8) -> u128
+    ensures { result ≡ shortest_of (member_at family.now i).oscillator 0 }
+{
+    if i < family.nodes() {
+        family.member(i).oscillator.shortest()
+    } else {
+        1_000_000
+    }
+}
+
+/// Returns the units in which times at node `i` are said.
+fn units(family: &Family, tick: u64, i: u8) -> Units
+    requires { tick < 2 ^ 36 }
+    ensures { result ≡ measure_of tick family.now i }
+{
+    Units::new(tick, shortest(family, i).max(1))
+}
+
+/// Returns what is to spare of an inequality for nodes `i` and `j`.
+fn spare(
+    family: &Family,
+    tick: u64,
+    senders: Senders,
+    inequality: Inequality,
+    i: u8,
+    j: u8,
+) -> Spare
+    requires tick { tick < 2 ^ 36 }
+    requires one { i < length family.now.members }
+    requires other { j < length family.now.members }
+    ensures { signed_words result.is_below result.amount.picoseconds result.amount.quanta
+        ≡ spare_of tick family.now senders inequality i j }
+{
+    Spare::between(
+        units(family, tick, i),
+        family.sides(senders, inequality, i, j),
+    )
+}
+
+/// Adds what is to spare for nodes `i` and `j`.
+fn push_pair_line(
+    text: &mut String,
+    family: &Family,
+    names: &Names,
+    tick: u64,
+    senders: Senders,
+    i: u8,
+    j: u8,
+) -> Result<(), AllocError>
+    requires tick { tick < 2 ^ 36 }
+    requires one { i < length family.now.members }
+    requires other { j < length family.now.members }
+    ensures { OnOk result (string_bytes text.new ≡ string_bytes text.old
+        ++ pair_line tick family.now names.now senders i j) }
+{
+    let a = names.name_of(i as usize);
+    let b = names.name_of(j as usize);
+    let late = spare(family, tick, senders, Inequality::BitIsThereAtSample, i, j);
+    let early = spare(family, tick, senders, Inequality::NoBitTooEarly, i, j);
+    let drift = spare(family, tick, senders, Inequality::DriftFitsJump, i, j);
+    writeln!(
+        text,
+        "pair {a} {b}: late {late}, early {early}, drift {drift}"
+    )
+}
+
+/// Adds what is to spare for nodes `i` and `j`, if they are two.
+fn push_pair(
+    text: &mut String,
+    family: &Family,
+    names: &Names,
+    tick: u64,
+    senders: Senders,
+    i: u8,
+    j: u8,
+) -> Result<(), AllocError>
+    requires tick { tick < 2 ^ 36 }
+    requires one { i < length family.now.members }
+    requires other { j < length family.now.members }
+    ensures { OnOk result (string_bytes text.new ≡ string_bytes text.old
+        ++ pair_words tick family.now names.now senders i j) }
+{
+    if i == j {
+        return Ok(());
+    }
+    push_pair_line(text, family, names, tick, senders, i, j)
+}
+
+/// Adds what is to spare for node `i` and each other.
+fn push_pairs_of(
+    text: &mut String,
+    family: &Family,
+    names: &Names,
+    tick: u64,
+    senders: Senders,
+    i: u8,
+) -> Result<(), AllocError>
+    requires tick { tick < 2 ^ 36 }
+    requires node { i < length family.now.members }
+    ensures { OnOk result (string_bytes text.new ≡ string_bytes text.old
+        ++ pairs_of tick family.now names.now senders i) }
+{
+    for j in 0..family.nodes() {
+        push_pair(text, family, names, tick, senders, i, j)?;
+    }
+    Ok(())
+}
+
+/// Adds what is to spare for all pairs.
+fn push_pairs(
+    text: &mut String,
+    family: &Family,
+    names: &Names,
+    tick: u64,
+    senders: Senders,
+) -> Result<(), AllocError>
+    requires { tick < 2 ^ 36 }
+    ensures { OnOk result (string_bytes text.new ≡ string_bytes text.old
+        ++ all_pairs tick family.now names.now senders) }
+{
+    for i in 0..family.nodes() {
+        push_pairs_of(text, family, names, tick, senders, i)?;
+    }
+    Ok(())
+}
+
+/// Adds what goes wrong.
+fn push_told(
+    text: &mut String,
+    family: &Family,
+    names: &Names,
+    tick: u64,
+    failure: Failure,
+) -> Result<(), AllocError>
+    requires { tick < 2 ^ 36 }
+    ensures { OnOk result (string_bytes text.new ≡ string_bytes text.old
+        ++ failure_words tick family.now names.now failure) }
+{
+    push_failure(text, units(family, tick, failure.node), names, failure)
+}
+
+/// Adds some words, and after them what goes wrong.
+fn push_failure_line(
+    text: &mut String,
+    family: &Family,
+    names: &Names,
+    tick: u64,
+    lead: &str,
+    failure: Failure,
+) -> Result<(), AllocError>
+    requires { tick < 2 ^ 36 }
+    ensures { OnOk result (string_bytes text.new ≡ string_bytes text.old
+        ++ failure_line tick family.now names.now lead.now failure) }
+{
+    text.push_str(lead)?;
+    push_told(text, family, names, tick, failure)?;
+    text.push_str("\n")
+}
+
+/// Adds why the condition doesn't hold for any senders.
+fn push_any_failure(
+    text: &mut String,
+    family: &Family,
+    names: &Names,
+    tick: u64,
+) -> Result<(), AllocError>
+    requires { tick < 2 ^ 36 }
+    ensures { OnOk result (string_bytes text.new ≡ string_bytes text.old
+        ++ any_failure tick family.now names.now (first_failure_of family.now plain Any)) }
+{
+    match family.first_failure(Senders::Any) {
+        Some(failure) => push_failure_line(text, family, names, tick, "any senders: ", failure),
+        None => Ok(()),
+    }
+}
+
+/// Adds what a verdict says, and what is to spare.
+fn push_verdict(
+    text: &mut String,
+    family: &Family,
+    names: &Names,
+    tick: u64,
+    verdict: Verdict,
+) -> Result<(), AllocError>
+    requires { tick < 2 ^ 36 }
+    ensures { OnOk result (string_bytes text.new ≡ string_bytes text.old
+        ++ verdict_words tick family.now names.now verdict) }
+{
+    match verdict {
+        Verdict::ForAny => {
+            text.push_str("holds for any senders, shown by search, not proved\n")?;
+            push_pairs(text, family, names, tick, Senders::Any)
+        }
+        Verdict::ForOne => {
+            text.push_str("holds for one sender at a time, shown by search, not proved\n")?;
+            push_any_failure(text, family, names, tick)?;
+            push_pairs(text, family, names, tick, Senders::One)
+        }
+        Verdict::DoesNotHold(failure) => {
+            push_failure_line(text, family, names, tick, "does not hold: ", failure)?;
+            push_pairs(text, family, names, tick, Senders::One)
+        }
+        Verdict::NoBound(cause) => push_outside(text, names, cause),
+    }
+}
+
+/// Returns the text of a family.
+fn family_text(
+    alloc: Global,
+    family: &Family,
+    names: &Names,
+    tick: u64,
+    plan: &Plan,
+) -> Result<String, AllocError>
+    requires tick { tick < 2 ^ 36 }
+    requires checked { IsChecked plan.now }
+    ensures { IfOk result (λ text. IsFamilyText tick plan.now names.now family.now (string_bytes text)) }
+{
+    let mut text = String::new(alloc);
+    let verdict = judge(plan, family);
+    push_verdict(&mut text, family, names, tick, verdict)?;
+    if let Verdict::NoBound(_) = verdict {
+        return Ok(text);
+    }
+    push_found(&mut text, search(family))?;
+    Ok(text)
+}
+
+/// Returns the margin of a bus as text, for ticks of so many picoseconds, below 2^36.
+///
+/// The first line says whether the condition for a sound bus holds for any senders, for one sender at a time, or not, and then which
+/// inequality fails, for which nodes and by how much; or that no condition is known for the plan. Then follow what is to spare for
+/// each node and each other, how much longer the cable and wider the tolerances may be, and which change by a quantum helps most.
+/// Refused out of memory alone.
+pub fn margin_text(alloc: Global, tick: u64, bus: &Bus) -> Result<String, AllocError>
+    requires tick { tick < 2 ^ 36 }
+    requires checked { IsChecked bus.now.plan }
+    requires deviations { length bus.now.deviations ≡ length bus.now.plan.nodes }
+    ensures { IfOk result (λ text. IsMarginText tick bus.now (string_bytes text)) }
+{
+    match oscillators(alloc, bus.deviations.as_slice())? {
+        Some(oscillators) => {
+            let family = Family::of_plan(alloc, &bus.plan, oscillators.as_slice())?;
+            family_text(alloc, &family, &bus.names, tick, &bus.plan)
+        }
+        None => String::from_str(
+            alloc,
+            "no bound is known: without its ppm a quantum takes less than a tick or more than 1,048,576\n",
+        ),
+    }
+}
