@@ -34,6 +34,7 @@ kind_remedy key =
     else if bytes_eq key (codes "sync") then codes "Set `sync = \"after\"` or `sync = \"book\"`, or leave it out."
     else if bytes_eq key (codes "dlc") then codes "Give `dlc` as a whole number from 0 to 15."
     else if bytes_eq key (codes "ppm") then codes "Give `ppm` as a whole number from -100,000 to 100,000."
+    else if bytes_eq key (codes "tolerance") then codes "Give `tolerance` as a whole number of ppm from 0 to 100,000, without a sign."
     else if bytes_eq key (codes "remote") then codes "Write `remote = true`, or leave the key out."
     else if bytes_eq key (codes "extended") then codes "Write `extended = true`, or leave the key out."
     else if bytes_eq key (codes "bytes") then codes "Give `bytes` as an array of numbers from 0 to 255."

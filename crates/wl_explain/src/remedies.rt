@@ -47,6 +47,8 @@ fn kind_remedy(key: &str) -> &'static str
         "sync" => "Set `sync = \"after\"` or `sync = \"book\"`, or leave it out.",
         "dlc" => "Give `dlc` as a whole number from 0 to 15.",
         "ppm" => "Give `ppm` as a whole number from -100,000 to 100,000.",
+        "tolerance" =>
+            "Give `tolerance` as a whole number of ppm from 0 to 100,000, without a sign.",
         "remote" => "Write `remote = true`, or leave the key out.",
         "extended" => "Write `extended = true`, or leave the key out.",
         "bytes" => "Give `bytes` as an array of numbers from 0 to 255.",

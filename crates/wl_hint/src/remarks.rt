@@ -10,9 +10,10 @@ use wl_setup::{SetupFault, Spot, Text, table_at, value_named};
 
 /// The keys that plans have.
 #[rattlefmt::skip]
-const KNOWN: [&str; 29] = [
+const KNOWN: [&str; 30] = [
     "version", "end", "per", "sync", "node", "disturbance", "name", "offset", "quantum", "ppm", "num", "den", "rates", "prop", "ps1",
     "ps2", "sjw", "x", "out", "in", "frame", "id", "dlc", "remote", "extended", "bytes", "ready", "from", "to",
+    "tolerance",
 ];
 
 /// The most nodes among which a repeated name is looked for.
@@ -133,9 +134,10 @@ fn home_of(key: &str, spot: Spot) -> &'static str {
         (_, Spot::Top) => "",
         ("version" | "end" | "per" | "sync", _) => " (it belongs above the first `[[node]]`)",
         (_, Spot::Node(_) | Spot::Disturbance(_)) => "",
-        ("name" | "offset" | "prop" | "ps1" | "ps2" | "sjw" | "x" | "out" | "in", _) => {
-            " (it belongs right under `[[node]]`, above the tables in it)"
-        }
+        (
+            "name" | "offset" | "prop" | "ps1" | "ps2" | "sjw" | "x" | "out" | "in" | "tolerance",
+            _,
+        ) => { " (it belongs right under `[[node]]`, above the tables in it)" }
         _ => "",
     }
 }

@@ -1,6 +1,6 @@
 use Rattle.std.proofs.Common.{◌≡◌, ◌∙◌, ◌++◌, ap₂, subst, string_bytes, OnOk}
 use Rattle.wl_explain.specs.Words.{apart_words, unlike_words}
-use Rattle.wl_explain.proofs.Growth.{apart_chosen, unlike_chosen}
+use Rattle.wl_explain.proofs.Choices.{apart_chosen, unlike_chosen}
 use Rattle.wl_explain.proofs.words.push_clocks.Goals as goal
 
 pub returns-then-apart-gt-GREATEST_DIFFERENCE : goal.returns-then-apart-gt-GREATEST_DIFFERENCE
