@@ -5,6 +5,7 @@ pub mod Horizon
 pub mod Merge
 pub mod Plans
 pub mod Explained
+pub mod Margin
 pub mod Workers
 pub mod Keeping
 pub mod Paged

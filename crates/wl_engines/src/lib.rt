@@ -5,7 +5,8 @@
 //! writes what the bit segments allow and how long the cable takes, the second the records of the plan's simulation, the third its
 //! report, which `workers_run` writes too, by workers in threads. `candump_run` and `vcd_run` read a plan text too: the one writes the
 //! log of the frames that were sent, the other the waveform. `explain_run` writes what is doubtful of a plan, and the figures of its
-//! nodes; of a plan that is refused, what is wrong and what to change. `page_run` writes one page of HTML that shows a run.
+//! nodes; of a plan that is refused, what is wrong and what to change. `margin_run` writes whether the plan's bus works, with how much to
+//! spare. `page_run` writes one page of HTML that shows a run.
 #![tactic(auto)]
 
 mod check;
@@ -15,6 +16,7 @@ mod gather;
 mod horizon;
 mod kept;
 mod laws;
+mod margin;
 mod merge;
 mod plan;
 mod records;
@@ -27,6 +29,7 @@ pub use explain::explain_run;
 pub use fault::RunFault;
 pub use horizon::horizon_run;
 pub use laws::merges_as_one;
+pub use margin::margin_run;
 pub use merge::merge_run;
 pub use plan::plan_run;
 pub use records::records_run;

@@ -1,0 +1,31 @@
+-- Runs over a plan's text that ask for its bus: the bus is read, and its margin goes out (this project's profile).
+use Rattle.std.specs.Prelude.{◌≡◌, ◌≢◌, ℕ, List, Result, Ok, Err}
+use Rattle.wl_device.specs.Devices.{Answer, Writes}
+use Rattle.wl_device.specs.declared.device.WriteFault.{WriteFault}
+use Rattle.wl_views.specs.declared.tick.Tick.{Tick}
+use Rattle.wl_views.specs.Ticks.{tick_picoseconds}
+use Rattle.wl_setup.specs.declared.bus.Bus.{Bus}
+use Rattle.wl_setup.specs.declared.fault.SetupFault.TheVariants as setup
+use Rattle.wl_setup.specs.Buses.{GivesBus}
+use Rattle.wl_margin.specs.Margins.{IsMarginText}
+use Rattle.wl_engines.specs.declared.fault.RunFault.{RunFault}
+use Rattle.wl_engines.specs.declared.fault.RunFault.TheVariants.{Setup}
+use Rattle.wl_engines.specs.Ran.{Ran}
+
+-- the margin of the bus, at ticks that last so long
+abbrev pub IsMarginOutput : Tick → Bus → List ℕ → Type 0
+IsMarginOutput tick bus text = IsMarginText (tick_picoseconds tick) bus text
+
+module _ {S T : Type 0} (gives : S → Answer → S → Type 0) (takes : T → Answer → T → Type 0) (IsOutput : Bus → List ℕ → Type 0) (s s' : S) (t t' : T) where
+  -- the output of the bus that was read went out, as far as it went
+  abbrev pub WritesOfBus : Result (Unit {0}) WriteFault → Type 0
+  WritesOfBus r = (bus : Bus) × (text : List ℕ) × GivesBus gives s (Ok bus) s' × IsOutput bus text × Writes takes t text r t'
+
+  -- the first fault of what was read, which is not out of memory
+  abbrev pub RefusesBus : RunFault → Type 0
+  RefusesBus (Setup fault) = (fault ≢ setup.Memory) × GivesBus gives s (Err fault) s'
+  RefusesBus _ = ⊥
+
+  -- what a run over a bus did
+  abbrev pub RunsBus : Result (Unit {0}) RunFault → Type 0
+  RunsBus = Ran RefusesBus WritesOfBus t t'

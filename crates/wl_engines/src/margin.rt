@@ -1,0 +1,28 @@
+//! The margin of a bus.
+ghost use Rattle.wl_engines.specs.Margin.{IsMarginOutput, RunsBus};
+
+use crate::fault::RunFault;
+use std::alloc::Global;
+use wl_device::{Sink, Source, write_all};
+use wl_margin::margin_text;
+use wl_setup::read_bus;
+use wl_views::Tick;
+
+/// Reads a plan's text, tests whether the plan can be run, and writes whether its bus works at all offsets and clocks within their tolerance, with
+/// how much to spare, and how much longer its cable and wider its tolerances may be; a tick of the plan takes as long as `tick` says.
+///
+/// The whole output is made before the first write. Where the input is refused, or memory runs out, the writer isn't called;
+/// where the writer fails, a prefix of the output has been written.
+pub fn margin_run<R: Source, W: Sink>(
+    alloc: Global,
+    tick: Tick,
+    reader: &mut R,
+    writer: &mut W,
+) -> Result<(), RunFault>
+    ensures { RunsBus R.gives W.takes (IsMarginOutput tick) reader.old reader.new writer.old writer.new result }
+{
+    let bus = read_bus(alloc, reader)?;
+    let text = margin_text(alloc, tick.picoseconds(), &bus)?;
+    write_all(text.as_bytes(), writer)?;
+    Ok(())
+}
