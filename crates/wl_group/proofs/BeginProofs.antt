@@ -8,14 +8,13 @@ use Rattle.std.proofs.lemmas.List.FromFn.{map-range_with_len_more, length-map-ra
 use Rattle.wl_record_core.specs.declared.record.Record.{Record}
 use Rattle.wl_record_core.specs.declared.record.Record.TheVariants.{Edge, Clash, Silence}
 use Rattle.wl_record_core.specs.Truth.{count_below, IsTrueOf}
-use Rattle.wl_node.specs.declared.setup.NodeSetup.{NodeSetup}
 use Rattle.wl_node.specs.declared.node.Node.{Node}
 use Rattle.wl_node.specs.Reached.{IsNode, node_setup, quanta_of}
 use Rattle.wl_replica.specs.State.{State, state_of, state_with_record, states_joined, slots_of, Fits, IsOfRecords}
 use Rattle.wl_replica.specs.Slots.{HoldsTrue}
 use Rattle.wl_plan.specs.declared.plan.Plan.{Plan}
 use Rattle.wl_plan.specs.Line.{Line, reach}
-use Rattle.wl_plan.specs.PlanLine.{no_setup, setup_at, line_of, table_of, IsTrueOfPlan}
+use Rattle.wl_plan.specs.PlanLine.{setup_at, line_of, table_of, IsTrueOfPlan}
 use Rattle.wl_plan.specs.Simulation.{seen}
 use Rattle.wl_plan.specs.Sound.{IsSound}
 use Rattle.wl_plan.specs.SimulationLaws.{SimulationLaws}

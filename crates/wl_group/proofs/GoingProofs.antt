@@ -11,19 +11,18 @@ use Rattle.wl_record_core.specs.declared.record.Record.{Record}
 use Rattle.wl_record_core.specs.declared.record.Record.TheVariants.{Edge, Silence}
 use Rattle.wl_record_core.specs.Truth.{count_below, AreTrueOf}
 use Rattle.wl_record_core.specs.TableLaws.{TableLaws}
-use Rattle.wl_replica.specs.State.{State, state_of, slots_of, state_with_records}
-use Rattle.wl_replica.specs.Slots.{slots_joined, slots_of_records, IsBelow}
+use Rattle.wl_replica.specs.State.{state_of, slots_of, state_with_records}
+use Rattle.wl_replica.specs.Slots.{IsBelow}
 use Rattle.wl_replica.specs.SlotsOf.{SlotsOfStates}
 use Rattle.wl_replica.specs.Known.{horizon, place_horizon}
 use Rattle.wl_replica.specs.KnownLaws.{SlotsLaws, KnownLaws}
-use Rattle.wl_plan.specs.Limits.{most_quanta}
 use Rattle.wl_plan.specs.Line.{Line, found, reach}
 use Rattle.wl_plan.specs.PlanLine.{line_of, table_of}
 use Rattle.wl_plan.specs.Simulation.{level, seen, differs, changes, AreInside}
 use Rattle.wl_plan.specs.SimulationLaws.{SimulationLaws}
 use Rattle.wl_plan.specs.Sound.{IsSound}
 use Rattle.wl_plan.specs.Checked.{CheckedIsSound}
-use Rattle.wl_group.specs.Member.{Member, next_tick, can_run, turns, member_after_quantum, emission, level_read}
+use Rattle.wl_group.specs.Member.{Member, next_tick, can_run, turns, member_after_quantum, emission}
 use Rattle.wl_group.specs.Party.{Party}
 use Rattle.wl_group.specs.Holds.{IsMember}
 use Rattle.wl_group.specs.GroupLaws.{GroupLaws}
@@ -31,7 +30,7 @@ use Rattle.wl_group.specs.Running.{passed, Stood, HasRunNext, Ran, quanta_to_com
 use Rattle.wl_group.specs.Running as runs_of
 use Rattle.wl_group.specs.ValueLaws.{ValueLaws}
 use Rattle.wl_group.specs.GroupValue.{GroupValue, IsGroupValue, Matches, quanta_at, belongs, member_after, member_at, members_now, may_run, reads_at, emission_at, run_on}
-use Rattle.wl_group.specs.Going.{told_by, at_quantum, gone_on, AdvancesTo, HasGoneOn, MayGo, HasRunSome}
+use Rattle.wl_group.specs.Going.{told_by, at_quantum, gone_on, AdvancesTo, HasGoneOn, HasRunSome}
 use Rattle.wl_group.proofs.CellProofs.{one_longer}
 use Rattle.wl_group.proofs.GroupProofs.{place_keeps}
 use Rattle.wl_group.proofs.RunProofs.{some_there, set_own, set_there}

@@ -21,7 +21,7 @@ use Rattle.wl_plan.specs.Simulation.{level, changes}
 use Rattle.wl_plan.specs.Sound.{IsSound}
 use Rattle.wl_group.specs.GroupLaws.{WaveIsLevel}
 use Rattle.wl_group.specs.declared.heard.Stretch.{Stretch}
-use Rattle.wl_group.specs.Heard.{AreNotAfter, IsStretch, IsStill, no_stretch, AreStretches}
+use Rattle.wl_group.specs.Heard.{AreNotAfter, IsDrive, IsShaken, IsStretch, IsStill, no_stretch, AreStretches, AreShaken, AreDrives}
 
 -- ---- one node
 
@@ -32,6 +32,14 @@ pub level_stays : KnownLaws → WaveIsLevel → (l : Line) → IsSound l → (w 
 level_stays knows agree l sound w truth i b s t count are from early before =
     sym (agree l sound w truth i t b early)
     ∙ knows.wave_counted w i t count are.few early (λ some. (let c = are.come some in omega arith)) before
+
+-- as many had come by their last one
+pub by_the_last : (w : Contents) (i m t count last : ℕ) → AreNotAfter w i m t count → last ≤ t → (0 < count → tick_in (w.edge i (count - 1)) ≤ last) → AreNotAfter w i m last count
+by_the_last w i m t count last are early come = record {
+  few = are.few;
+  come = come;
+  others = λ some. (let later = are.others some in omega arith);
+}
 
 -- a delay later it is heard
 pub heard_after : (delay t : ℕ) (b : Bool) (wave : Level) → delay ≤ t → level_of b ≡ wave → level_of (nat_le delay t && b) ≡ wave
@@ -81,6 +89,11 @@ with_disturbance b d e = ap (λ v. level_of (b || v)) e ∙ ap level_of (or_true
 pub without_disturbance : (b d : Bool) → d ≡ false → level_of (b || d) ≡ level_of b
 without_disturbance b d e = ap (λ v. level_of (b || v)) e ∙ ap level_of (or_false b)
 
+-- no disturbance is there where they don't make the line dominant
+pub not_shaken : (d : Bool) (here : Level) → level_of d ≡ here → (here ≡ Dominant → ⊥) → d ≡ false
+not_shaken true here e other = absurd (other (sym e))
+not_shaken false here e other = refl
+
 -- ---- the stretches that a group keeps
 
 nothing_at : (n i : ℕ) → slice_index_or (replicate n no_stretch) i no_stretch ≡ no_stretch
@@ -91,16 +104,39 @@ nothing_at (suc n) (suc i) = nothing_at n i
 empty_stretch : (l : Line) (j : ℕ) → IsStretch l j no_stretch
 empty_stretch l j t from until = absurd (omega arith)
 
+empty_shaken : (plan : Plan) (j : ℕ) → IsShaken plan j no_stretch
+empty_shaken plan j t from until = absurd (omega arith)
+
+empty_drive : (l : Line) (i : ℕ) → IsDrive l i no_stretch
+empty_drive l i t from until = absurd (omega arith)
+
 pub nothing_heard : (l : Line) (n : ℕ) → AreStretches l (replicate n no_stretch)
 nothing_heard l n j = subst (IsStretch l j) (sym (nothing_at n j)) (empty_stretch l j)
 
-pub one_more_heard : (l : Line) (heard : List Stretch) (i : ℕ) (new : Stretch) → AreStretches l heard → IsStretch l i new → AreStretches l (slice_set heard i new)
-one_more_heard l heard i new are is j = elim (cases_eq j i) [
-  | inl same ↦ subst (λ n. IsStretch l n (slice_index_or (slice_set heard i new) n no_stretch)) (sym same) (elim (cases_lt i (length heard)) [
-    | inl there ↦ subst (IsStretch l i) (sym (get_or-set_same heard i new no_stretch there)) is
+pub nothing_shaken : (plan : Plan) (n : ℕ) → AreShaken plan (replicate n no_stretch)
+nothing_shaken plan n j = subst (IsShaken plan j) (sym (nothing_at n j)) (empty_shaken plan j)
+
+pub nothing_driven : (l : Line) (n : ℕ) → AreDrives l (replicate n no_stretch)
+nothing_driven l n i = subst (IsDrive l i) (sym (nothing_at n i)) (empty_drive l i)
+
+-- with another stretch at one place
+one_set : (P : ℕ → Stretch → Type 0) → ((j : ℕ) → P j no_stretch) → (xs : List Stretch) (i : ℕ) (new : Stretch)
+    → ((j : ℕ) → P j (slice_index_or xs j no_stretch)) → P i new → (j : ℕ) → P j (slice_index_or (slice_set xs i new) j no_stretch)
+one_set P empty xs i new are is j = elim (cases_eq j i) [
+  | inl same ↦ subst (λ n. P n (slice_index_or (slice_set xs i new) n no_stretch)) (sym same) (elim (cases_lt i (length xs)) [
+    | inl there ↦ subst (P i) (sym (get_or-set_same xs i new no_stretch there)) is
     | inr past ↦
-        let e = length-set heard i new in
-        subst (IsStretch l i) (sym (get_or_past (slice_set heard i new) i no_stretch (omega arith))) (empty_stretch l i)
+        let e = length-set xs i new in
+        subst (P i) (sym (get_or_past (slice_set xs i new) i no_stretch (omega arith))) (empty i)
   ])
-  | inr other ↦ subst (IsStretch l j) (sym (get_or-set_other heard i j new no_stretch other)) (are j)
+  | inr other ↦ subst (P j) (sym (get_or-set_other xs i j new no_stretch other)) (are j)
 ]
+
+pub one_more_heard : (l : Line) (heard : List Stretch) (i : ℕ) (new : Stretch) → AreStretches l heard → IsStretch l i new → AreStretches l (slice_set heard i new)
+one_more_heard l heard i new are is = one_set (IsStretch l) (empty_stretch l) heard i new are is
+
+pub one_more_shaken : (plan : Plan) (shaken : List Stretch) (i : ℕ) (new : Stretch) → AreShaken plan shaken → IsShaken plan i new → AreShaken plan (slice_set shaken i new)
+one_more_shaken plan shaken i new are is = one_set (IsShaken plan) (empty_shaken plan) shaken i new are is
+
+pub one_more_drive : (l : Line) (drives : List Stretch) (i : ℕ) (new : Stretch) → AreDrives l drives → IsDrive l i new → AreDrives l (slice_set drives i new)
+one_more_drive l drives i new are is = one_set (IsDrive l) (empty_drive l) drives i new are is

@@ -1,21 +1,21 @@
 -- A row of quanta at which the line stays, below a node's promise: what the group comes to by it, from what it keeps to what its contracts see.
-use Rattle.std.proofs.Common.{◌≡◌, ℕ, suc, ◌+◌, ◌-◌, ◌<◌, ◌≤◌, ◌++◌, true, inl, inr, List, length, get_or, All, Option, Some, None, is_some, nat_lt, sym, ◌∙◌, ap, subst, arith}
+use Rattle.std.proofs.Common.{◌≡◌, ℕ, suc, ◌+◌, ◌-◌, ◌<◌, ◌≤◌, ◌++◌, ◌&&◌, Bool, true, false, inl, inr, List, length, get_or, All, Option, Some, None, is_some, nat_lt, sym, ◌∙◌, ap, subst, arith}
 use Rattle.std.proofs.Math.ListN.{set}
-use Rattle.std.proofs.lemmas.Bool.{cases_lt, and_parts, ltb-true}
+use Rattle.std.proofs.lemmas.Bool.{cases_lt, and_parts, and_right, le-ltb, ltb-true}
 use Rattle.std.proofs.lemmas.List.{get_or_read}
-use Rattle.wl_level.specs.declared.Level.{Level}
 use Rattle.wl_level.specs.Levels.{level_of}
 use Rattle.wl_record_core.specs.declared.record.Record.{Record}
-use Rattle.wl_record_core.specs.Truth.{AreTrueOf}
+use Rattle.wl_topology.specs.Delays.{delay_of}
 use Rattle.wl_replica.specs.State.{State, slots_of, state_with_records, Fits}
 use Rattle.wl_replica.specs.Known.{place_horizon, horizon}
+use Rattle.wl_replica.specs.KnownLaws.{KnownLaws}
 use Rattle.wl_node.specs.declared.setup.NodeSetup.{NodeSetup}
 use Rattle.wl_node.specs.Reached.{quanta_of}
 use Rattle.wl_plan.specs.declared.plan.Plan.{Plan}
 use Rattle.wl_plan.specs.Limits.{most_quanta}
-use Rattle.wl_plan.specs.Line.{Line, found}
+use Rattle.wl_plan.specs.Line.{found}
 use Rattle.wl_plan.specs.PlanLine.{no_setup, setup_at, line_of, table_of}
-use Rattle.wl_plan.specs.Simulation.{level, AreInside}
+use Rattle.wl_plan.specs.Simulation.{level}
 use Rattle.wl_plan.specs.SimulationLaws.{SimulationLaws}
 use Rattle.wl_plan.specs.Checked.{CheckedIsSound}
 use Rattle.wl_group.specs.declared.cell.Cell.{Cell}
@@ -26,7 +26,7 @@ use Rattle.wl_group.specs.GroupLaws.{GroupLaws}
 use Rattle.wl_group.specs.GroupValue.{GroupValue, IsGroupValue, quanta_at, belongs, member_after, member_at, members_now, may_run, reads_at, emission_at}
 use Rattle.wl_group.specs.Kept.{group_value, IsKept}
 use Rattle.wl_group.specs.Running.{IsCellOf, MaySay, passed, Stood, HasGone}
-use Rattle.wl_group.specs.Going.{at_quantum, IsWithin, MayGo, HasRunSome}
+use Rattle.wl_group.specs.Going.{at_quantum, IsKnownAt, IsWithin, MayGo, HasRunSome}
 use Rattle.wl_group.specs.ValueLaws.{ValueLaws}
 use Rattle.wl_group.proofs.GoingProofs.{Finds, passed_is, here_at, node, may_at, spoken_is, inside_all, value_on}
 use Rattle.wl_group.proofs.RunProofs.{true_fits, ran_is, own, kept_runs, has_run}
@@ -233,3 +233,31 @@ module _ (laws : ValueLaws) (groups : GroupLaws) (sims : SimulationLaws) (sound 
     pub has_run_row : (most : ℕ) → count ≤ most → HasRunSome i most now (group_value plan (set cells i (Some new)) replica_new emitted_new) said
     has_run_row most fewer =
         has_run laws sound plan cells replica emitted kept now view i cell is new gone.n go may s.level read said says gone.quanta after replica_new emitted_new taken appended most (omega (arith, gone.few))
+
+-- ---- what is known at a place
+
+-- where the line isn't known, nothing may run
+not_known_yet : (b : Bool) (t stop known : ℕ) → known ≤ t → (b && (nat_lt t stop && nat_lt t known)) ≡ false
+not_known_yet b t stop known h = and_right b (nat_lt t stop && nat_lt t known) (and_right (nat_lt t stop) (nat_lt t known) (le-ltb t known h))
+
+-- what a replica answers is of the group
+pub known_at : (g now : GroupValue) → IsGroupValue g → g ≡ now → (i known : ℕ) → known ≡ place_horizon g.replica.nodes (delay_of g.plan.topology) (slots_of g.replica) i
+    → IsKnownAt now i known
+known_at g now v view i known e =
+    subst (λ (w : GroupValue). IsKnownAt w i known) view (e ∙ ap (λ n. place_horizon n (delay_of g.plan.topology) (slots_of g.replica) i) v.of_all)
+
+-- what comes from one node only later isn't known before
+behind : KnownLaws → (g : GroupValue) (i j tick h d : ℕ) → i < length g.plan.nodes → h ≡ horizon (slots_of g.replica) i → d ≡ delay_of g.plan.topology i j → h + d ≤ tick
+    → place_horizon (length g.plan.nodes) (delay_of g.plan.topology) (slots_of g.replica) j ≤ tick
+behind knows g i j tick h d b eh ed le = elim (cases_lt tick (place_horizon (length g.plan.nodes) (delay_of g.plan.topology) (slots_of g.replica) j)) [
+  | inl less ↦
+      let k = knows.place_known (length g.plan.nodes) (delay_of g.plan.topology) (slots_of g.replica) i j tick b less in
+      absurd (omega (arith, k, eh, ed, le))
+  | inr past ↦ past
+]
+
+pub stuck_behind : KnownLaws → (g : GroupValue) (i j tick h d : ℕ) → i < length g.plan.nodes → tick ≡ next_tick (line_of g.plan) j (members_now g j)
+    → h ≡ horizon (slots_of g.replica) i → d ≡ delay_of g.plan.topology i j → h + d ≤ tick → may_run g j ≡ false
+stuck_behind knows g i j tick h d b et eh ed le =
+    not_known_yet (belongs g j) (next_tick (line_of g.plan) j (members_now g j)) g.plan.end (place_horizon (length g.plan.nodes) (delay_of g.plan.topology) (slots_of g.replica) j)
+    (subst (λ t. place_horizon (length g.plan.nodes) (delay_of g.plan.topology) (slots_of g.replica) j ≤ t) et (behind knows g i j tick h d b eh ed le))

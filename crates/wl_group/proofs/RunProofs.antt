@@ -1,27 +1,24 @@
 -- One quantum of a member, from what a group keeps to what its contracts see.
 use Rattle.std.proofs.Common.{◌≡◌, ℕ, zero, suc, ◌+◌, ◌<◌, ◌≤◌, true, inl, inr, List, [], ◌∷◌, ◌++◌, length, get_or, All, Option, Some, None, is_some, refl, sym, ◌∙◌, ap, subst, arith, nat_lt}
 use Rattle.std.proofs.Math.ListN.{set}
-use Rattle.std.proofs.lemmas.Bool.{cases_lt, cases_eq, and_parts}
+use Rattle.std.proofs.lemmas.Bool.{cases_lt, cases_eq}
 use Rattle.std.proofs.lemmas.List.{get_or_read, get_or_past, get_or-set_same, get_or-set_other}
 use Rattle.std.proofs.lemmas.List.Elements.{All-from_recursion, All-weaker}
 use Rattle.std.proofs.lemmas.List.Sums.{count_by-le-length}
 use Rattle.wl_level.specs.declared.Level.{Level}
-use Rattle.wl_level.specs.Levels.{level_of}
 use Rattle.wl_record_core.specs.declared.record.Record.{Record}
 use Rattle.wl_record_core.specs.declared.record.Record.TheVariants.{Edge, Clash, Silence}
 use Rattle.wl_record_core.specs.Limits.{most_edges}
 use Rattle.wl_record_core.specs.Truth.{IsTrueOf, AreTrueOf}
-use Rattle.wl_replica.specs.State.{State, slots_of, state_with_records, Fits}
+use Rattle.wl_replica.specs.State.{State, state_with_records, Fits}
 use Rattle.wl_node.specs.Reached.{quanta_of}
 use Rattle.wl_plan.specs.declared.plan.Plan.{Plan}
 use Rattle.wl_plan.specs.Limits.{most_quanta}
-use Rattle.wl_plan.specs.Line.{found}
 use Rattle.wl_plan.specs.PlanLine.{line_of, table_of}
-use Rattle.wl_plan.specs.Simulation.{level, AreInside}
+use Rattle.wl_plan.specs.Simulation.{AreInside}
 use Rattle.wl_plan.specs.Checked.{CheckedIsSound}
 use Rattle.wl_group.specs.declared.cell.Cell.{Cell}
-use Rattle.wl_group.specs.Member.{Member, next_tick, can_run, member_after_quantum, emission}
-use Rattle.wl_group.specs.GroupLaws.{GroupLaws}
+use Rattle.wl_group.specs.Member.{member_after_quantum, emission}
 use Rattle.wl_group.specs.GroupValue.{GroupValue, IsGroupValue, quanta_at, belongs, member_after, member_at, members_now, may_run, reads_at, emission_at, run_on}
 use Rattle.wl_group.specs.Kept.{quanta_kept, ran_of, group_value, IsCell, AreCells, IsKept}
 use Rattle.wl_group.specs.Running.{IsCellOf, HasNotGone, quanta_to_come, quanta_left, HasRunNext}

@@ -4,7 +4,7 @@ use Rattle.std.specs.Prelude.{◌≡◌, ℕ, ◌+◌, ◌-◌, ◌<◌, ◌≤�
 use Rattle.wl_record_core.specs.declared.record.Record.{Record}
 use Rattle.wl_record_core.specs.declared.record.Record.TheVariants.{Edge, Silence}
 use Rattle.wl_record_core.specs.Truth.{AreTrueOf}
-use Rattle.wl_replica.specs.State.{State, slots_of, state_with_records}
+use Rattle.wl_replica.specs.State.{slots_of, state_with_records}
 use Rattle.wl_replica.specs.Known.{place_horizon, horizon}
 use Rattle.wl_plan.specs.Line.{reach}
 use Rattle.wl_plan.specs.PlanLine.{line_of, table_of}
@@ -55,6 +55,10 @@ pub record HasGoneOn (i : ℕ) (old new : GroupValue) (said : List Record) : Typ
   pub advances : (p : Party) → Matches p old → AdvancesTo old new said p
   pub said_true : AreTrueOf (length old.plan.nodes) (table_of old.plan) said
   pub fewer : quanta_left new < quanta_left old
+
+-- the tick below which the line at node i's place is known
+abbrev pub IsKnownAt : GroupValue → ℕ → ℕ → Type 0
+IsKnownAt g i known = known ≡ place_horizon (length g.plan.nodes) (line_of g.plan).delay (slots_of g.replica) i
 
 -- A tick is before another one, before the end, below what is known at node i's place, and not after what is promised of node i.
 pub record IsWithin (g : GroupValue) (i until tick : ℕ) : Type 0 where

@@ -9,7 +9,7 @@ use Rattle.wl_replica.specs.Known.{tick_in}
 use Rattle.wl_replica.specs.State.{State, slots_of}
 use Rattle.wl_plan.specs.declared.plan.Disturbance.{Disturbance}
 use Rattle.wl_plan.specs.declared.plan.Plan.{Plan}
-use Rattle.wl_plan.specs.PlanLine.{line_of, is_at}
+use Rattle.wl_plan.specs.PlanLine.{line_of, is_at, disturbed}
 use Rattle.wl_plan.specs.Line.{Line, found}
 use Rattle.wl_plan.specs.Simulation.{level}
 use Rattle.wl_group.specs.declared.cell.Cell.{Cell}
@@ -30,6 +30,10 @@ edge_tick replica node count = tick_in ((slots_of replica).edge node count)
 abbrev pub IsStay : (ℕ → Bool) → Stretch → Type 0
 IsStay dominant s = (t : ℕ) → s.from ≤ t → t < s.until → level_of (dominant t) ≡ s.level
 
+-- node i drives this level
+abbrev pub IsDrive : Line → ℕ → Stretch → Type 0
+IsDrive l i s = IsStay (level l i) s
+
 -- node j finds this level of node i alone
 abbrev pub IsHeardOf : Line → ℕ → ℕ → Stretch → Type 0
 IsHeardOf l i j s = IsStay (λ t. nat_le (l.delay i j) t && level l i (t - l.delay i j)) s
@@ -41,6 +45,10 @@ IsDriven l j s = IsStay (driven l.nodes l.delay (level l) j) s
 -- and this level of the line
 abbrev pub IsStretch : Line → ℕ → Stretch → Type 0
 IsStretch l j s = IsStay (found l (level l) j) s
+
+-- and this level of the disturbances alone
+abbrev pub IsShaken : Plan → ℕ → Stretch → Type 0
+IsShaken plan j s = IsStay (disturbed plan j) s
 
 -- from tick t on and below another one the disturbance neither comes to place j nor is over there
 abbrev pub IsStill : Plan → ℕ → ℕ → ℕ → Disturbance → Type 0
@@ -54,7 +62,15 @@ no_stretch = record { from = 0; until = 0; level = Dominant }
 abbrev pub AreStretches : Line → List Stretch → Type 0
 AreStretches l heard = (j : ℕ) → IsStretch l j (slice_index_or heard j no_stretch)
 
+abbrev pub AreShaken : Plan → List Stretch → Type 0
+AreShaken plan shaken = (j : ℕ) → IsShaken plan j (slice_index_or shaken j no_stretch)
+
+abbrev pub AreDrives : Line → List Stretch → Type 0
+AreDrives l drives = (i : ℕ) → IsDrive l i (slice_index_or drives i no_stretch)
+
 -- What a group keeps, with what its members found last.
-pub record IsKeptWithStretches (plan : Plan) (cells : List (Option Cell)) (replica : State) (emitted : List Record) (heard : List Stretch) : Type 0 where
+pub record IsKeptWithStretches (plan : Plan) (cells : List (Option Cell)) (replica : State) (emitted : List Record) (heard shakes driving : List Stretch) : Type 0 where
   pub kept : IsKept plan cells replica emitted
   pub stretches : AreStretches (line_of plan) heard
+  pub shaken : AreShaken plan shakes
+  pub drives : AreDrives (line_of plan) driving

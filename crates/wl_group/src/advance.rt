@@ -1,6 +1,6 @@
 //! The advances of a group: quanta of its members, one at a time, several in a row, or all that may run.
 
-ghost use Rattle.std.specs.Prelude.{◌≡◌, ℕ, ◌+◌, ◌<◌, ◌≤◌, ◌++◌, true, false, List, IfOk, IsOk, OnOk, OnErr, IfSome, IfNone, Some, length, vec_len, vec_capacity};
+ghost use Rattle.std.specs.Prelude.{◌≡◌, ℕ, ◌+◌, ◌<◌, ◌≤◌, ◌++◌, true, false, List, IfOk, IsOk, OnOk, OnErr, IfSome, IfNone, IsTrue, Some, length, vec_len, vec_capacity};
 ghost use Rattle.wl_record_core.specs.Limits.{most_edges};
 ghost use Rattle.wl_replica.specs.State.{state_with_records};
 ghost use Rattle.wl_node.specs.Reached.{quanta_of};
@@ -13,7 +13,7 @@ ghost use Rattle.wl_group.specs.Running.{HasGone, HasNotGone, MaySay};
 use crate::answer::{Advance, Emission};
 use crate::cell::Cell;
 use crate::group::Group;
-use crate::heard::stretch_around;
+use crate::heard::{shaken_around, stretch_around};
 use crate::laws::{group_laws, value_laws};
 use std::alloc::{AllocError, Global};
 use std::mem;
@@ -25,7 +25,7 @@ impl Group {
     ghost use Rattle.wl_record_core.specs.declared.record.Record.{Record};
     ghost use Rattle.wl_group.specs.GroupValue.{belongs, quanta_at, may_run};
     ghost use Rattle.wl_group.specs.Running.{HasRunNext, HasReplied, Ran};
-    ghost use Rattle.wl_group.specs.Going.{HasGoneOn, HasRunSome, IsWithin};
+    ghost use Rattle.wl_group.specs.Going.{HasGoneOn, HasRunSome, IsWithin, IsKnownAt};
     ghost use Rattle.wl_group.specs.Said.{reply_of_answer, HasAnswered};
 
     /// Runs the next quantum of a node, if it may run. Any number may be asked. Refused out of
@@ -73,11 +73,80 @@ impl Group {
         wl_plan::checked_is_sound();
         // (reading a part gives the proof what the type keeps)
         let _ = self.plan();
-        if !self.can_advance(node) {
+        let Some(known) = self.known_for(node) else {
             return Ok(None);
-        }
-        let said = self.run_some(node, ALL_QUANTA)?;
+        };
+        let said = self.run_some(node, known, ALL_QUANTA)?;
         Ok(Some(said))
+    }
+
+    /// The tick below which the line is known at a node's place, if the node may run its next quantum. Any number may be asked.
+    ///
+    /// It looks first at the node that this one waited for last.
+    fn known_for(&mut self, node: u8) -> Option<u64>
+        ensures may { IfSome result (λ _. may_run self.old node ≡ true) }
+        ensures known { IfSome result (IsKnownAt self.old node) }
+        ensures stuck { IfNone result (may_run self.old node ≡ false) }
+        ensures same { self.new ≡ self.old }
+    {
+        value_laws();
+        wl_plan::checked_is_sound();
+        wl_plan::simulation_laws();
+        if !self.has(node) {
+            return None;
+        }
+        if self.waits_for(self.awaited[node as usize], node) {
+            return None;
+        }
+        let known = self.known_at(node);
+        if self.is_before(node, known) {
+            return Some(known);
+        }
+        self.awaited[node as usize] = self.first_awaited(node);
+        None
+    }
+
+    /// The tick below which the line is known at a member's place.
+    fn known_at(&self, node: u8) -> u64
+        requires { belongs self.now node ≡ true }
+        ensures { IsKnownAt self.now node result }
+    {
+        value_laws();
+        self.replica.place_horizon(&self.plan.topology, node)
+    }
+
+    /// Whether a member's next quantum is before the end and before what is known at its place, which is known up to this tick.
+    fn is_before(&self, node: u8, known: u64) -> bool
+        requires member { belongs self.now node ≡ true }
+        requires known { IsKnownAt self.now node known }
+        ensures { result ≡ may_run self.now node }
+    {
+        let due = self.due(node);
+        due < self.plan().end && due < known
+    }
+
+    /// True if what node `i` drives isn't known yet at a member's place at its next quantum; false of a number that is no node.
+    fn waits_for(&self, i: u8, node: u8) -> bool
+        requires { belongs self.now node ≡ true }
+        ensures { IsTrue result → may_run self.now node ≡ false }
+    {
+        value_laws();
+        wl_replica::known_laws();
+        wl_plan::checked_is_sound();
+        i < self.replica.nodes()
+            && self.replica.horizon(i) + self.plan.topology.delay(i, node) <= self.due(node)
+    }
+
+    /// The first node that a member waits for, or else the number of nodes.
+    fn first_awaited(&self, node: u8) -> u8
+        requires { belongs self.now node ≡ true }
+    {
+        for i in 0..self.replica.nodes() {
+            if self.waits_for(i, node) {
+                return i;
+            }
+        }
+        self.replica.nodes()
     }
 
     /// Advances the members until none can, and answers what they emitted, in order. Refused out
@@ -121,13 +190,16 @@ impl Group {
         ensures ran { IfOk result (λ emission. HasRunNext i self.old self.new emission.items) }
         ensures err { OnErr result (self.new ≡ self.old) }
     {
-        self.run_some(i, 1)
+        value_laws();
+        let known = self.known_at(i);
+        self.run_some(i, known, 1)
     }
 
     /// Runs quanta of a member in a row: one at least, `most` at most, none after one that changes its drive. It takes what the
     /// member says after them. Refused out of memory, the group is as it was.
-    fn run_some(&mut self, i: u8, most: u64) -> Result<Emission, AllocError>
+    fn run_some(&mut self, i: u8, known: u64, most: u64) -> Result<Emission, AllocError>
         requires may { may_run self.old i ≡ true }
+        requires known { IsKnownAt self.old i known }
         requires some { 0 < most }
         ensures ran { IfOk result (λ said. HasRunSome i most self.old self.new said.items) }
         ensures err { OnErr result (self.new ≡ self.old) }
@@ -137,10 +209,20 @@ impl Group {
         wl_plan::simulation_laws();
         group_laws();
         let tick = self.due(i);
-        let heard = self.heard[i as usize];
-        let stretch = stretch_around(&self.plan, &self.replica, &mut self.come, heard, i, tick);
+        let shaken = shaken_around(&self.plan, self.shaken[i as usize], i, tick);
+        self.shaken[i as usize] = shaken;
+        let stretch = stretch_around(
+            &self.plan,
+            &self.replica,
+            &mut self.come,
+            &mut self.drives,
+            self.heard[i as usize],
+            shaken,
+            i,
+            tick,
+        );
         self.heard[i as usize] = stretch;
-        let count = self.quanta_until(i, stretch.until).min(most);
+        let count = self.quanta_until(i, stretch.until, known).min(most);
         let Some(cell) = &mut self.cells[i as usize] else {
             unreachable!()
         };
@@ -158,8 +240,9 @@ impl Group {
 
     /// How many quanta of a member that may run come before a tick, before the end, below what is known at its place, and not
     /// after its promise.
-    fn quanta_until(&self, i: u8, until: u64) -> u64
+    fn quanta_until(&self, i: u8, until: u64, known: u64) -> u64
         requires may { may_run self.now i ≡ true }
+        requires known { IsKnownAt self.now i known }
         requires due { (k : ℕ) → quanta_at self.now i ≡ Some k → (line_of self.now.plan).instant i k < until }
         ensures some { 0 < result }
         ensures each { (k j : ℕ) → quanta_at self.now i ≡ Some k → j < result
@@ -168,7 +251,6 @@ impl Group {
         value_laws();
         wl_plan::checked_is_sound();
         wl_plan::simulation_laws();
-        let known = self.replica.place_horizon(&self.plan.topology, i);
         let promised = self.replica.horizon(i) + 1;
         let end = until.min(self.plan.end).min(known).min(promised);
         let ran = self.node(i).quanta();

@@ -26,8 +26,12 @@ pub struct Group {
     pub(crate) cells: Vec<Option<Cell>>,
     pub(crate) replica: Replica,
     pub(crate) emitted: Vec<Record>,
+    // For each node the number of one that it waited for last: a guess, which decides nothing.
+    pub(crate) awaited: [u8; MOST_NODES],
     pub(crate) come: Come,
     pub(crate) heard: Heard,
+    pub(crate) shaken: Heard,
+    pub(crate) drives: Heard,
 }
 
 impl Model for Group {
@@ -43,7 +47,7 @@ impl Model for Group {
 
     ghost view = { λ g. group_value g.plan g.cells.items g.replica g.emitted.items };
 
-    ghost invariant = { λ g. IsKeptWithStretches g.plan g.cells.items g.replica g.emitted.items g.heard };
+    ghost invariant = { λ g. IsKeptWithStretches g.plan g.cells.items g.replica g.emitted.items g.heard g.shaken g.drives };
 }
 
 impl Group {
@@ -80,8 +84,11 @@ impl Group {
             cells,
             replica,
             emitted: Vec::new(alloc),
+            awaited: [0; MOST_NODES],
             come: [0; MOST_NODES],
             heard: nothing_heard(),
+            shaken: nothing_heard(),
+            drives: nothing_heard(),
         })
     }
 

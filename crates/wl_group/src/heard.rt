@@ -10,7 +10,8 @@ ghost use Rattle.wl_replica.specs.Slots.{HoldsTrue};
 ghost use Rattle.wl_plan.specs.Line.{Line};
 ghost use Rattle.wl_plan.specs.Checked.{IsChecked};
 ghost use Rattle.wl_plan.specs.PlanLine.{line_of, table_of, disturbed};
-ghost use Rattle.wl_group.specs.Heard.{AreNotAfter, edge_tick, AreStretches, IsHeardOf, IsDriven, IsStretch, IsStill};
+ghost use Rattle.wl_plan.specs.declared.plan.Plan.{Plan as GivenPlan};
+ghost use Rattle.wl_group.specs.Heard.{AreNotAfter, edge_tick, AreStretches, AreShaken, AreDrives, IsDrive, IsHeardOf, IsDriven, IsShaken, IsStretch, IsStill};
 
 use crate::laws::true_replicas_agree;
 use wl_lattice::FlatWord;
@@ -32,12 +33,14 @@ pub(crate) struct Stretch {
     pub(crate) level: Level,
 }
 
-/// For each node the stretch in which it read the line last.
+/// For each node a stretch: of the line where it read it last, of the disturbances there, or of what it drives itself.
 pub(crate) type Heard = [Stretch; MOST_NODES];
 
 /// No place has heard anything.
 pub(crate) fn nothing_heard() -> Heard
-    ensures { (l : Line) → AreStretches l result }
+    ensures heard { (l : Line) → AreStretches l result }
+    ensures shaken { (plan : GivenPlan) → AreShaken plan result }
+    ensures drives { (l : Line) → AreDrives l result }
 {
     [Stretch {
         from: 0,
@@ -107,8 +110,80 @@ fn kept_until(replica: &Replica, node: u8, run: u32, count: u32, known: u64) -> 
     known
 }
 
-/// What node `j` finds of node `i` alone from tick `t` on, at which that is known.
-fn stretch_of(plan: &Plan, replica: &Replica, i: u8, j: u8, t: u64, come: &mut u32) -> Stretch
+/// The tick of the last of a node's first changes, so many of which have come by tick `t`; 0 where none has.
+fn last_until(replica: &Replica, node: u8, count: u32, t: u64) -> u64
+    requires { 0 < count → tick_in ((slots_of replica.now).edge node (count - 1)) ≤ t }
+    ensures early { result ≤ t }
+    ensures come { 0 < count → tick_in ((slots_of replica.now).edge node (count - 1)) ≤ result }
+{
+    if count == 0 {
+        return 0;
+    }
+    change_at(replica, node, count - 1)
+}
+
+/// What node `i` drives around tick `t`, at which that is known: from its last change on, up to the next one or as far as it is known.
+fn drive_at(plan: &Plan, replica: &Replica, i: u8, t: u64, come: &mut u32) -> Stretch
+    requires checked { IsChecked plan.now }
+    requires nodes { replica.now.nodes ≡ length plan.now.nodes }
+    requires truth { HoldsTrue (length plan.now.nodes) (table_of plan.now) (slots_of replica.now) }
+    requires from { i < length plan.now.nodes }
+    requires early { t < horizon (slots_of replica.now) i }
+    ensures from { result.from ≤ t }
+    ensures until { t < result.until }
+    ensures drive { IsDrive (line_of plan.now) i result }
+{
+    wl_plan::checked_is_sound();
+    wl_plan::simulation_laws();
+    wl_record_core::table_laws();
+    wl_replica::known_laws();
+    true_replicas_agree();
+    let _ = plan;
+    let run = replica.run_length(i);
+    let count = changes_until(replica, i, run, t, *come);
+    *come = count;
+    Stretch {
+        from: last_until(replica, i, count, t),
+        until: kept_until(replica, i, run, count, replica.horizon(i)),
+        level: level_after(count),
+    }
+}
+
+/// What node `i` drives around tick `t`: this, unless more is known by now, or what is found anew.
+fn drive_around(
+    plan: &Plan,
+    replica: &Replica,
+    i: u8,
+    t: u64,
+    come: &mut u32,
+    drive: Stretch,
+) -> Stretch
+    requires checked { IsChecked plan.now }
+    requires nodes { replica.now.nodes ≡ length plan.now.nodes }
+    requires truth { HoldsTrue (length plan.now.nodes) (table_of plan.now) (slots_of replica.now) }
+    requires from { i < length plan.now.nodes }
+    requires early { t < horizon (slots_of replica.now) i }
+    requires drive { IsDrive (line_of plan.now) i drive }
+    ensures from { result.from ≤ t }
+    ensures until { t < result.until }
+    ensures drive { IsDrive (line_of plan.now) i result }
+{
+    if drive.from <= t && t < drive.until && replica.horizon(i) <= drive.until {
+        return drive;
+    }
+    drive_at(plan, replica, i, t, come)
+}
+
+/// What node `j` finds of node `i` alone from tick `t` on, at which that is known, and what is kept of that node's drive then.
+fn stretch_of(
+    plan: &Plan,
+    replica: &Replica,
+    i: u8,
+    j: u8,
+    t: u64,
+    come: &mut u32,
+    drive: Stretch,
+) -> (Stretch, Stretch)
     requires checked { IsChecked plan.now }
     requires nodes { replica.now.nodes ≡ length plan.now.nodes }
     requires truth { HoldsTrue (length plan.now.nodes) (table_of plan.now) (slots_of replica.now) }
@@ -116,42 +191,49 @@ fn stretch_of(plan: &Plan, replica: &Replica, i: u8, j: u8, t: u64, come: &mut u
     requires to { j < length plan.now.nodes }
     requires places { length plan.now.topology.places ≡ length plan.now.nodes }
     requires early { t < horizon (slots_of replica.now) i + (line_of plan.now).delay i j }
-    ensures from { result.from ≡ t }
-    ensures until { t < result.until }
-    ensures heard { IsHeardOf (line_of plan.now) i j result }
+    requires short { t < 2 ^ 64 - 1 }
+    requires drive { IsDrive (line_of plan.now) i drive }
+    ensures from { result.0.from ≡ t }
+    ensures until { t < result.0.until }
+    ensures heard { IsHeardOf (line_of plan.now) i j result.0 }
+    ensures drive { IsDrive (line_of plan.now) i result.1 }
 {
-    wl_plan::checked_is_sound();
-    wl_plan::simulation_laws();
-    wl_record_core::table_laws();
-    wl_replica::known_laws();
-    true_replicas_agree();
     let delay = plan.topology.delay(i, j);
     if t < delay {
-        return Stretch {
+        let silence = Stretch {
             from: t,
             until: delay,
             level: Level::Recessive,
         };
+        return (silence, drive);
     }
-    let run = replica.run_length(i);
-    let count = changes_until(replica, i, run, t - delay, *come);
-    *come = count;
-    let until = kept_until(replica, i, run, count, replica.horizon(i));
-    Stretch {
+    let own = drive_around(plan, replica, i, t - delay, come, drive);
+    let heard = Stretch {
         from: t,
-        until: until + delay,
-        level: level_after(count),
-    }
+        until: own.until.saturating_add(delay),
+        level: own.level,
+    };
+    (heard, own)
 }
 
 /// What node `j` finds of all nodes from tick `t` on, at which that is known.
-fn driven_from(plan: &Plan, replica: &Replica, come: &mut Come, j: u8, t: u64) -> Stretch
+fn driven_from(
+    plan: &Plan,
+    replica: &Replica,
+    come: &mut Come,
+    drives: &mut Heard,
+    j: u8,
+    t: u64,
+) -> Stretch
     requires checked { IsChecked plan.now }
     requires nodes { replica.now.nodes ≡ length plan.now.nodes }
     requires truth { HoldsTrue (length plan.now.nodes) (table_of plan.now) (slots_of replica.now) }
     requires place { j < length plan.now.nodes }
     requires places { length plan.now.topology.places ≡ length plan.now.nodes }
     requires known { let l = line_of plan.now in t < place_horizon l.nodes l.delay (slots_of replica.now) j }
+    requires early { t < 2 ^ 64 - 1 }
+    requires drives { AreDrives (line_of plan.now) drives.old }
+    ensures drives { AreDrives (line_of plan.now) drives.new }
     ensures from { result.from ≡ t }
     ensures until { t < result.until }
     ensures driven { IsDriven (line_of plan.now) j result }
@@ -159,9 +241,11 @@ fn driven_from(plan: &Plan, replica: &Replica, come: &mut Come, j: u8, t: u64) -
     wl_replica::known_laws();
     wl_topology::driven_laws();
     wl_plan::checked_is_sound();
-    let mut until = replica.place_horizon(&plan.topology, j);
+    let mut until = u64::MAX;
     for i in 0..plan.topology.nodes() {
-        let one = stretch_of(plan, replica, i, j, t, &mut come[i as usize]);
+        let drive = drives[i as usize];
+        let (one, own) = stretch_of(plan, replica, i, j, t, &mut come[i as usize], drive);
+        drives[i as usize] = own;
         match one.level {
             Level::Dominant => return one,
             Level::Recessive => until = until.min(one.until),
@@ -188,16 +272,15 @@ fn first_after(edge: u64, t: u64, until: u64) -> u64
     until
 }
 
-/// The tick after `t` at which the next disturbance comes to node `j`, or is over there, if that is before another one.
-fn undisturbed_until(plan: &Plan, j: u8, t: u64, latest: u64) -> u64
+/// The tick after `t` at which the next disturbance comes to node `j`, or is over there; 2^64 - 1 where there is none.
+fn undisturbed_until(plan: &Plan, j: u8, t: u64) -> u64
     requires checked { IsChecked plan.now }
     requires node { j < length plan.now.nodes }
-    requires later { t < latest }
+    requires early { t < 2 ^ 64 - 1 }
     ensures later { t < result }
-    ensures few { result ≤ latest }
     ensures still { All (IsStill plan.now j t result) plan.now.disturbances }
 {
-    let mut until = latest;
+    let mut until = u64::MAX;
     for i in 0..plan.disturbances.len() {
         let d = plan.disturbances.as_slice()[i];
         let delay = plan.topology.place_delay(d.x, j) as u64;
@@ -207,40 +290,55 @@ fn undisturbed_until(plan: &Plan, j: u8, t: u64, latest: u64) -> u64
     until
 }
 
-/// The level of the line at node `j` from tick `t` on, at which it is known there.
-fn found_from(plan: &Plan, replica: &Replica, come: &mut Come, j: u8, t: u64) -> Stretch
+/// What the disturbances make at node `j` from tick `t` on.
+fn shaken_from(plan: &Plan, j: u8, t: u64) -> Stretch
     requires checked { IsChecked plan.now }
-    requires nodes { replica.now.nodes ≡ length plan.now.nodes }
-    requires truth { HoldsTrue (length plan.now.nodes) (table_of plan.now) (slots_of replica.now) }
-    requires place { j < length plan.now.nodes }
-    requires places { length plan.now.topology.places ≡ length plan.now.nodes }
-    requires known { let l = line_of plan.now in t < place_horizon l.nodes l.delay (slots_of replica.now) j }
+    requires node { j < length plan.now.nodes }
+    requires early { t < 2 ^ 64 - 1 }
     ensures from { result.from ≡ t }
     ensures until { t < result.until }
-    ensures found { IsStretch (line_of plan.now) j result }
+    ensures shaken { IsShaken plan.now j result }
 {
-    if plan.disturbed(j, t) {
-        let known = replica.place_horizon(&plan.topology, j);
-        return Stretch {
-            from: t,
-            until: undisturbed_until(plan, j, t, known),
-            level: Level::Dominant,
-        };
-    }
-    let driven = driven_from(plan, replica, come, j, t);
     Stretch {
         from: t,
-        until: undisturbed_until(plan, j, t, driven.until),
-        level: driven.level,
+        until: undisturbed_until(plan, j, t),
+        level: level_where(plan.disturbed(j, t)),
     }
 }
 
-/// The stretch in which node `j` finds the line at tick `t`: this one, or one that is found anew.
-pub(crate) fn stretch_around(
+/// Dominant where something drives so.
+fn level_where(dominant: bool) -> Level
+    ensures { result ≡ level_of dominant }
+{
+    if dominant {
+        return Level::Dominant;
+    }
+    Level::Recessive
+}
+
+/// The stretch of the disturbances at node `j` in which tick `t` is: this one, or one that is found anew.
+pub(crate) fn shaken_around(plan: &Plan, shaken: Stretch, j: u8, t: u64) -> Stretch
+    requires checked { IsChecked plan.now }
+    requires node { j < length plan.now.nodes }
+    requires early { t < 2 ^ 64 - 1 }
+    requires shaken { IsShaken plan.now j shaken }
+    ensures from { result.from ≤ t }
+    ensures until { t < result.until }
+    ensures shaken { IsShaken plan.now j result }
+{
+    if shaken.from <= t && t < shaken.until {
+        return shaken;
+    }
+    shaken_from(plan, j, t)
+}
+
+/// The level of the line at node `j` from tick `t` on, at which it is known there, where the disturbances stay in a stretch.
+fn found_from(
     plan: &Plan,
     replica: &Replica,
     come: &mut Come,
-    heard: Stretch,
+    drives: &mut Heard,
+    shaken: Stretch,
     j: u8,
     t: u64,
 ) -> Stretch
@@ -250,7 +348,55 @@ pub(crate) fn stretch_around(
     requires place { j < length plan.now.nodes }
     requires places { length plan.now.topology.places ≡ length plan.now.nodes }
     requires known { let l = line_of plan.now in t < place_horizon l.nodes l.delay (slots_of replica.now) j }
+    requires early { t < 2 ^ 64 - 1 }
+    requires shaken { IsShaken plan.now j shaken }
+    requires shaken_from { shaken.from ≤ t }
+    requires shaken_until { t < shaken.until }
+    requires drives { AreDrives (line_of plan.now) drives.old }
+    ensures drives { AreDrives (line_of plan.now) drives.new }
+    ensures from { result.from ≡ t }
+    ensures until { t < result.until }
+    ensures found { IsStretch (line_of plan.now) j result }
+{
+    if let Level::Dominant = shaken.level {
+        return Stretch {
+            from: t,
+            until: shaken.until,
+            level: Level::Dominant,
+        };
+    }
+    let driven = driven_from(plan, replica, come, drives, j, t);
+    Stretch {
+        from: t,
+        until: driven.until.min(shaken.until),
+        level: driven.level,
+    }
+}
+
+/// The stretch in which node `j` finds the line at tick `t`: this one, or one that is found anew, where the disturbances stay in a stretch.
+pub(crate) fn stretch_around(
+    plan: &Plan,
+    replica: &Replica,
+    come: &mut Come,
+    drives: &mut Heard,
+    heard: Stretch,
+    shaken: Stretch,
+    j: u8,
+    t: u64,
+) -> Stretch
+    requires checked { IsChecked plan.now }
+    requires nodes { replica.now.nodes ≡ length plan.now.nodes }
+    requires truth { HoldsTrue (length plan.now.nodes) (table_of plan.now) (slots_of replica.now) }
+    requires place { j < length plan.now.nodes }
+    requires places { length plan.now.topology.places ≡ length plan.now.nodes }
+    requires known { let l = line_of plan.now in t < place_horizon l.nodes l.delay (slots_of replica.now) j }
+    requires early { t < 2 ^ 64 - 1 }
     requires heard { IsStretch (line_of plan.now) j heard }
+    requires shaken { IsShaken plan.now j shaken }
+    requires shaken_from { shaken.from ≤ t }
+    requires shaken_until { t < shaken.until }
+    requires drives { AreDrives (line_of plan.now) drives.old }
+    ensures drives { AreDrives (line_of plan.now) drives.new }
     ensures from { result.from ≤ t }
     ensures until { t < result.until }
     ensures found { IsStretch (line_of plan.now) j result }
@@ -258,5 +404,5 @@ pub(crate) fn stretch_around(
     if heard.from <= t && t < heard.until {
         return heard;
     }
-    found_from(plan, replica, come, j, t)
+    found_from(plan, replica, come, drives, shaken, j, t)
 }

@@ -1,4 +1,4 @@
-use Rattle.std.proofs.Common.{◌%◌, ◌==◌, ◌∙◌, sym, ap}
+use Rattle.std.proofs.Common.{◌%◌, ◌∙◌, sym, ap}
 use Rattle.std.proofs.lemmas.Bool.{eq-eqb, ne_eqb}
 use Rattle.wl_level.specs.Levels.{level_of}
 use Rattle.wl_record_core.proofs.Callers.{odd_is}

@@ -7,7 +7,7 @@ use Rattle.wl_node.specs.Reached.{node_setup}
 use Rattle.wl_record_core.specs.Limits.{most_edges-is}
 use Rattle.wl_node.specs.Limits.{most_quiet-is}
 use Rattle.wl_plan.specs.Limits.{most_quanta-is}
-use Rattle.wl_group.proofs.CellProofs.{Went, has_gone}
+use Rattle.wl_group.proofs.CellProofs.{has_gone}
 use Rattle.wl_group.proofs.cell.Cell.go.Goals as goal
 
 pub run_some-requires-clause-short : goal.run_some-requires-clause-short

@@ -11,7 +11,9 @@ invariant_of-result c =
       kept = begun_kept c.value_laws.ensures c.args.plan.now c.in_ok-clone_in.field-0 (is_chosen c.chosen_of-chosen.result) (names c.args.members.now)
           c.in_ok-cells.cells.items c.in_ok-replica.replica c.new.result.items c.requires.checked c.in_ok-clone_in.ensures c.chosen_of-chosen.ensures
           c.in_ok-cells.ensures.ran c.in_ok-cells.ensures.cells c.in_ok-replica.ensures c.new.ensures.items;
-      stretches = c.nothing_heard.ensures (line_of c.in_ok-clone_in.field-0);
+      stretches = c.nothing_heard.ensures.heard (line_of c.in_ok-clone_in.field-0);
+      shaken = c.nothing_heard-2.ensures.shaken c.in_ok-clone_in.field-0;
+      drives = c.nothing_heard-3.ensures.drives (line_of c.in_ok-clone_in.field-0);
     }
 
 pub returns-clause-value : goal.returns-clause-value

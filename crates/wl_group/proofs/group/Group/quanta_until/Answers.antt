@@ -1,12 +1,11 @@
 -- The quanta that begin before the least of four ticks, less those that were run.
-use Rattle.std.proofs.Common.{◌≡◌, ℕ, ◌+◌, ◌<◌, ◌≤◌, length, slice_index_or, sym, ◌∙◌, ap, subst, arith}
+use Rattle.std.proofs.Common.{◌≡◌, ℕ, ◌<◌, ◌≤◌, length, slice_index_or, sym, ◌∙◌, ap, subst, arith}
 use Rattle.wl_record_core.specs.Limits.{tick_end-is}
 use Rattle.wl_clock.specs.Timing.{tick_of}
 use Rattle.wl_replica.specs.State.{slots_of}
 use Rattle.wl_replica.specs.Known.{place_horizon, horizon}
 use Rattle.wl_node.specs.declared.setup.NodeSetup.{NodeSetup}
 use Rattle.wl_node.specs.Reached.{quanta_of}
-use Rattle.wl_topology.specs.Delays.{delay_of}
 use Rattle.wl_plan.specs.PlanLine.{setup_at, line_of}
 use Rattle.wl_group.specs.GroupValue.{GroupValue}
 use Rattle.wl_group.proofs.RowProofs.{setup_read, some_counted, each_within}
@@ -26,11 +25,8 @@ element c =
     ∙ ap (λ (v : GroupValue). setup_at v.plan c.args.i) c.self.view_is
 
 known_is : (c : After-first_not_before)
-    → c.place_horizon-known.result ≡ place_horizon (length c.args.self.now.plan.nodes) (line_of c.args.self.now.plan).delay (slots_of c.args.self.now.replica) c.args.i
-known_is c =
-    c.place_horizon-known.ensures
-    ∙ (ap (λ (v : GroupValue). place_horizon v.replica.nodes (delay_of v.plan.topology) (slots_of v.replica) c.args.i) c.self.view_is
-    ∙ ap (λ n. place_horizon n (delay_of c.args.self.now.plan.topology) (slots_of c.args.self.now.replica) c.args.i) c.node.ensures.holds.of_all)
+    → c.args.known ≡ place_horizon (length c.args.self.now.plan.nodes) (line_of c.args.self.now.plan).delay (slots_of c.args.self.now.replica) c.args.i
+known_is c = c.requires.known
 
 promise_is : (c : After-first_not_before) → c.horizon-promised.result ≡ horizon (slots_of c.args.self.now.replica) c.args.i
 promise_is c = c.horizon-promised.ensures.tick ∙ ap (λ (v : GroupValue). horizon (slots_of v.replica) c.args.i) c.self.view_is
