@@ -63,7 +63,7 @@ python3 -Bc 'import sys; sys.path.insert(0, "bench"); import worst; print(worst.
 python3 bench/plain.py run < "$room/full.toml" > "$room/full"
 is "frames of full queues" [ "$(grep -c '^frame 0' "$room/full")" = 128 ]
 runs "run of full queues" "$room/full.toml" 0 "$room/full" "$room/none" run
-for word in candump vcd page; do
+for word in candump vcd page margin; do
   "$program" "$word" < "$room/full.toml" > "$room/$word" 2> "$room/err"
   is "$word of full queues" [ $? = 0 -a -s "$room/$word" -a ! -s "$room/err" ]
 done
@@ -204,18 +204,18 @@ WORDS
 printf 'error: --link wants hub or mail\n' > "$room/fault"
 runs "a link that is none" examples/clean_500k.toml 2 "$room/none" "$room/fault" run --link post
 printf 'error: --tick wants 1 to 999 and ps, ns or us, as 125ps\n' > "$room/fault"
-for word in candump vcd page; do
+for word in candump vcd page margin; do
   runs "a tick that is none, $word" examples/clean_500k.toml 2 "$room/none" "$room/fault" "$word" --tick 1ms
 done
 
 printf "error: the arguments can't be read\n" > "$room/fault"
 runs "words that are no text" examples/clean_500k.toml 2 "$room/none" "$room/fault" run $'\xff'
 
-for word in merge horizon check records run explain trace candump vcd page; do
+for word in merge horizon check records run explain trace candump vcd page margin; do
   printf 'fault: Read\n' > "$room/fault"
   runs "$word of a reader that fails" / 3 "$room/none" "$room/fault" "$word"
 done
-for word in merge horizon check records run explain trace candump vcd page; do
+for word in merge horizon check records run explain trace candump vcd page margin; do
   input=examples/clean_500k.toml
   case "$word" in merge | horizon) input=examples/records.txt ;; esac
   printf 'fault: Write\n' > "$room/fault"

@@ -8,10 +8,10 @@ _wireline() {
   esac
   case ${COMP_WORDS[1]} in
     run) options+=' --workers --link' ;;
-    candump | vcd | page) options+=' --tick' ;;
+    candump | vcd | page | margin) options+=' --tick' ;;
   esac
   if [ "$COMP_CWORD" = 1 ]; then
-    mapfile -t COMPREPLY < <(compgen -W 'run check explain trace candump vcd page records merge horizon sweep build completions help' -- "$word")
+    mapfile -t COMPREPLY < <(compgen -W 'run check explain trace candump vcd page margin records merge horizon sweep build completions help' -- "$word")
   elif [[ $word = -* ]]; then mapfile -t COMPREPLY < <(compgen -W "$options" -- "$word")
   else mapfile -t COMPREPLY < <(compgen -f -- "$word"); fi
 }

@@ -3,12 +3,12 @@
 _wireline() {
   local -a options=('--hint[what to change after a fault]' '--progress[how long the run has taken]' '-o[the file to write]:file:_files' '--help' '*:file:_files')
   if (( CURRENT == 2 )); then
-    compadd run check explain trace candump vcd page records merge horizon sweep build completions help
+    compadd run check explain trace candump vcd page margin records merge horizon sweep build completions help
     return
   fi
   case $words[2] in
     run) options+=('--workers[how many threads]:number:(1 2 3 4 5 6 7 8)' '--link[what they hand records over by]:link:(hub mail)') ;;
-    candump | vcd | page) options+=('--tick[how long a tick takes]:time:') ;;
+    candump | vcd | page | margin) options+=('--tick[how long a tick takes]:time:') ;;
     completions) compadd bash zsh fish && return ;;
   esac
   shift words

@@ -27,7 +27,7 @@ use Rattle.wl_sim.specs.declared.command.Order.{Order}
 use Rattle.wl_sim.specs.declared.command.Refusal.{Refusal}
 use Rattle.wl_sim.specs.declared.command.Refusal.TheVariants.{Words, Memory}
 use Rattle.wl_sim.specs.declared.command.Task.{Task}
-use Rattle.wl_sim.specs.declared.command.Task.TheVariants.{Merge, Horizon, Check, Records, Run, Explain, Trace, Candump, Vcd, Page}
+use Rattle.wl_sim.specs.declared.command.Task.TheVariants.{Merge, Horizon, Check, Records, Run, Explain, Trace, Candump, Vcd, Page, Margin}
 
 pub program_is_simple : is_simple program ≡ true
 unfolding clap_on_literals
@@ -50,6 +50,7 @@ word_enters Trace name h w l = ((refl, tt, tt, tt), refl)
 word_enters (Candump tick) name h w l = ((refl, h, tt, tt), refl)
 word_enters (Vcd tick) name h w l = ((refl, h, tt, tt), refl)
 word_enters (Page tick) name h w l = ((refl, h, tt, tt), refl)
+word_enters (Margin tick) name h w l = ((refl, h, tt, tt), refl)
 
 -- and names no file
 word_names_none : (t : Task) (name : Text) → (file_in (codes "input") (entered (name ∷ task_word t ∷ [])) ≡ None)
@@ -65,6 +66,7 @@ word_names_none Trace name = (refl, refl)
 word_names_none (Candump tick) name = (refl, refl)
 word_names_none (Vcd tick) name = (refl, refl)
 word_names_none (Page tick) name = (refl, refl)
+word_names_none (Margin tick) name = (refl, refl)
 
 names_none : (t : Task) (words : List Text) → NamesTask t words → (file_in (codes "input") (entered words) ≡ None) × (file_in (codes "output") (entered words) ≡ None)
 names_none t words n =
@@ -114,7 +116,7 @@ task_by : Tick → ℕ → LinkKind → ℕ → Task
 task_by tick workers kind n =
     if n == 412 then Merge else (if n == 437 then Horizon else (if n == 411 then Check else (if n == 417 then Records else
     (if n == 461 then Explain else (if n == 390 then Candump tick else (if n == 415 then Vcd tick else
-    (if n == 458 then Trace else (if n == 403 then Page tick else Run workers kind))))))))
+    (if n == 458 then Trace else (if n == 403 then Page tick else (if n == 400 then Margin tick else Run workers kind)))))))))
 
 task_at : Option Tick → Option ℕ → Option LinkKind → Option Text → Task
 task_at given many by None = Merge
@@ -133,6 +135,7 @@ task_at_word given many by Trace h w l = refl
 task_at_word given many by (Candump tick) h w l = ap (λ o. Candump (unwrap_or o nanosecond)) h
 task_at_word given many by (Vcd tick) h w l = ap (λ o. Vcd (unwrap_or o nanosecond)) h
 task_at_word given many by (Page tick) h w l = ap (λ o. Page (unwrap_or o nanosecond)) h
+task_at_word given many by (Margin tick) h w l = ap (λ o. Margin (unwrap_or o nanosecond)) h
 
 -- what was found makes at most one task
 one_found : (t u : Task) (word : Option Text) (tick : Option Tick) (workers : Option ℕ) (link : Option LinkKind)
@@ -163,6 +166,7 @@ module _ {S T : Type 0} (gives : S → Answer → S → Type 0) (takes : T → A
   does_nothing s s' t t' (Candump tick) h = h
   does_nothing s s' t t' (Vcd tick) h = h
   does_nothing s s' t t' (Page tick) h = h
+  does_nothing s s' t t' (Margin tick) h = h
 
 -- what is done over an order without files is done over the standard devices
 module _ {S T F R W : Type 0} (gives : S → Answer → S → Type 0) (takes : T → Answer → T → Type 0)

@@ -10,7 +10,7 @@ use Rattle.clap.specs.Simple.{on_top}
 use Rattle.wl_worker.specs.declared.kinds.LinkKind.{LinkKind}
 use Rattle.wl_worker.specs.declared.kinds.LinkKind.TheVariants.{Hub, Mail}
 use Rattle.wl_sim.specs.declared.command.Task.{Task}
-use Rattle.wl_sim.specs.declared.command.Task.TheVariants.{Merge, Horizon, Check, Records, Run, Explain, Trace, Candump, Vcd, Page}
+use Rattle.wl_sim.specs.declared.command.Task.TheVariants.{Merge, Horizon, Check, Records, Run, Explain, Trace, Candump, Vcd, Page, Margin}
 use Rattle.wl_views.specs.declared.tick.Tick.{Tick}
 use Rattle.wl_views.specs.declared.tick.TimeUnit.TheVariants.{Nanosecond}
 use Rattle.wl_views.specs.Ticks.{read_tick}
@@ -27,6 +27,7 @@ task_word Trace = codes "trace"
 task_word (Candump tick) = codes "candump"
 task_word (Vcd tick) = codes "vcd"
 task_word (Page tick) = codes "page"
+task_word (Margin tick) = codes "margin"
 
 -- the argument that names the file to read
 abbrev pub input_rule : Rule
@@ -80,8 +81,8 @@ untimed_program =
 -- the program's command line: after those, the trace and the tasks with one
 abbrev pub program : App
 program =
-    with_subcommand (with_subcommand (with_subcommand (with_task untimed_program Trace) (timed (codes "candump")).top) (timed (codes "vcd")).top)
-    (timed (codes "page")).top
+    with_subcommand (with_subcommand (with_subcommand (with_subcommand (with_task untimed_program Trace)
+    (timed (codes "candump")).top) (timed (codes "vcd")).top) (timed (codes "page")).top) (timed (codes "margin")).top
 
 -- the subcommand that clap enters at these words, with what it finds there
 abbrev pub entered : List Text → Option (Text × List Row)
@@ -102,6 +103,7 @@ abbrev pub HasTick : Option Tick → Task → Type 0
 HasTick given (Candump tick) = given ≡ Some tick
 HasTick given (Vcd tick) = given ≡ Some tick
 HasTick given (Page tick) = given ≡ Some tick
+HasTick given (Margin tick) = given ≡ Some tick
 HasTick given Merge = Unit {0}
 HasTick given Horizon = Unit {0}
 HasTick given Check = Unit {0}

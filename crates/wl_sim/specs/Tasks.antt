@@ -6,6 +6,7 @@ use Rattle.wl_engines.specs.declared.fault.RunFault.{RunFault}
 use Rattle.wl_engines.specs.Explained.{Explains}
 use Rattle.wl_engines.specs.Faults.{is_refusal}
 use Rattle.wl_engines.specs.Horizon.{TellsHorizons}
+use Rattle.wl_engines.specs.Margin.{IsMarginOutput, RunsBus}
 use Rattle.wl_engines.specs.Merge.{Merges}
 use Rattle.wl_engines.specs.Paged.{Pages}
 use Rattle.wl_engines.specs.Plans.{RunsPlan, IsRecordsOutput, IsRunOutput, IsTraceOutput, IsCandumpOutput, IsVcdOutput}
@@ -13,7 +14,7 @@ use Rattle.wl_engines.specs.Workers.{RunsByWorkers}
 use Rattle.wl_sim.specs.declared.command.Refusal.{Refusal}
 use Rattle.wl_sim.specs.declared.command.Refusal.TheVariants.{Words, Memory}
 use Rattle.wl_sim.specs.declared.command.Task.{Task}
-use Rattle.wl_sim.specs.declared.command.Task.TheVariants.{Merge, Horizon, Check, Records, Run, Explain, Trace, Candump, Vcd, Page}
+use Rattle.wl_sim.specs.declared.command.Task.TheVariants.{Merge, Horizon, Check, Records, Run, Explain, Trace, Candump, Vcd, Page, Margin}
 
 -- the status of a run: 0, 1 where the input was refused for what it says, 3 when out of memory or for a fault of reading, writing or workers
 abbrev pub run_status : Result (Unit {0}) RunFault → ℕ
@@ -38,6 +39,7 @@ module _ {S T : Type 0} (gives : S → Answer → S → Type 0) (takes : T → A
   Does (Candump tick) r = RunsPlan gives takes (IsCandumpOutput tick) s s' t t' r
   Does (Vcd tick) r = RunsPlan gives takes (IsVcdOutput tick) s s' t t' r
   Does (Page tick) r = Pages gives takes tick s s' t t' r
+  Does (Margin tick) r = RunsBus gives takes (IsMarginOutput tick) s s' t t' r
 
   -- the task was done, nothing else was read or written, and the status is that of what was answered
   abbrev pub EndsTask : Task → ℕ → Type 0

@@ -47,6 +47,8 @@ pub enum Task {
     Vcd(Tick),
     /// One page of HTML that shows a plan's simulation, at ticks that take so long.
     Page(Tick),
+    /// Whether a plan's bus works, and with how much to spare, at ticks that take so long.
+    Margin(Tick),
 }
 
 /// What the words of the command line ask for.
@@ -267,11 +269,18 @@ fn command<'a>(alloc: Global) -> Result<Command<'a>, AllocError>
         "Simulates the plan, and writes one page of HTML that shows all of it in a browser",
         tick_option(alloc),
     )?;
+    let margin = optioned(
+        alloc,
+        "margin",
+        "Tests the plan, and writes whether its bus works at all phases and clocks, and with how much to spare",
+        tick_option(alloc),
+    )?;
     let all = untimed(alloc)?
         .subcommand(trace)?
         .subcommand(candump)?
         .subcommand(vcd)?
-        .subcommand(page)?;
+        .subcommand(page)?
+        .subcommand(margin)?;
     Ok(all)
 }
 
@@ -434,6 +443,7 @@ fn task_named(
         "candump" => Some(Task::Candump(tick?)),
         "vcd" => Some(Task::Vcd(tick?)),
         "page" => Some(Task::Page(tick?)),
+        "margin" => Some(Task::Margin(tick?)),
         _ => None,
     }
 }

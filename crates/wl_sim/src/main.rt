@@ -5,7 +5,7 @@
 //! other what that replica tells of each node, and up to when. `check`, `records` and `run` read a plan text: the first writes what
 //! the bit segments allow and how long the cable takes, the second the records of the plan's simulation, the third its report.
 //! `candump`, `vcd` and `page` read a plan text too: the first writes the frames that were sent as can-utils logs them, the second the
-//! waveform, the third one page of HTML that shows all of it.
+//! waveform, the third one page of HTML that shows all of it. `margin` writes whether the plan's bus works, and with how much to spare.
 //! `explain` writes what is doubtful of a plan, and the figures of its nodes, or what is wrong with a plan that is refused; `trace` what
 //! happened to each node, and where.
 #![tactic(auto)]
@@ -36,8 +36,9 @@ mod progress;
 
 pub use command::{Order, Refusal, Task};
 pub use wl_engines::{
-    LinkKind, RunFault, candump_run, check_run, explain_run, horizon_run, merge_run, merges_as_one,
-    page_run, plan_run, records_run, trace_run, vcd_run, workers_run, workers_run_by,
+    LinkKind, RunFault, candump_run, check_run, explain_run, horizon_run, margin_run, merge_run,
+    merges_as_one, page_run, plan_run, records_run, trace_run, vcd_run, workers_run,
+    workers_run_by,
 };
 
 /// The statuses that the program ends with beside 0.
@@ -230,6 +231,7 @@ fn run<H: Threads + Wait + Sync, R: Source, W: Sink>(
         Task::Candump(tick) => candump_run(alloc, tick, reader, writer),
         Task::Vcd(tick) => vcd_run(alloc, tick, reader, writer),
         Task::Page(tick) => page_run(alloc, tick, reader, writer),
+        Task::Margin(tick) => margin_run(alloc, tick, reader, writer),
     }
 }
 
