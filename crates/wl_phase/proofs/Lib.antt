@@ -1,6 +1,11 @@
+mod Drift
 mod Edges
 mod Floors
+mod Fronts
+mod Instants
+mod Listening
 mod Phases
 mod Rows
 mod Runs
+mod Starting
 mod Steps

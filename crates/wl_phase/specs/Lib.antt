@@ -1,2 +1,3 @@
 pub mod Clocks
 pub mod Ways
+pub mod InStep

@@ -1,8 +1,14 @@
 //! Laws of clocks and their edges, each proved as the contract of a function that does nothing.
 
-ghost use Rattle.std.specs.Prelude.{◌≡◌, ℕ, ◌+◌, ◌*◌, ◌/◌, ◌<◌};
+ghost use Rattle.std.specs.Prelude.{◌≡◌, ℕ, ◌+◌, ◌*◌, ◌/◌, ◌<◌, List, ◌++◌, length};
+ghost use Rattle.wl_level.specs.declared.Level.{Level};
+ghost use Rattle.wl_segments.specs.Lengths.{Lengths};
+ghost use Rattle.wl_sync.specs.Edges.{Seen};
+ghost use Rattle.wl_frame.specs.Laws.{up_to_ack};
+ghost use Rattle.wl_frame.specs.Stuffing.{Stuffs};
 ghost use Rattle.wl_phase.specs.Clocks.{Steady, IsSteady, instant, steady_tick};
-ghost use Rattle.wl_phase.specs.Ways.{PhaseLaws, WayLaws};
+ghost use Rattle.wl_phase.specs.InStep.{ClocksAreNear, FindsTheFirst, HaveEdges, Listener, Listens, SamplesBit, Sender, SyncsHard};
+ghost use Rattle.wl_phase.specs.Ways.{ByTheBook, PhaseLaws, WayLaws};
 
 /// Law: of a clock with `num / den` ticks per quantum, quantum `k` begins at its instant, rounded down to a tick. So any
 /// `n` quanta take `n * num / den` ticks, by less than one more or less.
@@ -31,4 +37,36 @@ pub fn an_edge_moves_the_phase()
 {
     quanta_take_their_ticks();
     an_edge_moves_the_sample();
+}
+
+/// Law: the first edge that a node finds after its power-up on a silent line synchronises it hard, if it awaits a start of
+/// frame then and drives recessive.
+pub fn the_first_edge_synchronises_hard()
+    ensures { (l : Lengths) (seen : ℕ → Seen) (found : ℕ) → ByTheBook l → FindsTheFirst seen found
+        → SyncsHard l seen found }
+{
+    wl_sync::clock_goes_on();
+}
+
+/// Law: a listener stays in step with a sender whose bits nothing moves, for as many bits as there are, if ten bits in a row
+/// always have an edge and both clocks are near enough. Then the n-th sample after the edge of the start of frame is that
+/// of bit n, and it comes while that bit is there.
+pub fn a_listener_stays_in_step()
+    ensures { (s : Sender) (j : Listener) (seen : ℕ → Seen) (found : ℕ) → IsSteady s.clock → IsSteady j.clock
+        → ByTheBook j.lengths → ClocksAreNear s j → HaveEdges s.bits → Listens s j seen found
+        → (b : ℕ) → b < length s.bits → (k : ℕ) × SamplesBit s j seen found b k }
+{
+    an_edge_moves_the_sample();
+    wl_sync::clock_goes_on();
+}
+
+/// Law: so it is if the sender's bits are a front of those of a frame, up to an ACK slot that is acknowledged.
+pub fn a_listener_samples_each_frame()
+    ensures { (s : Sender) (j : Listener) (seen : ℕ → Seen) (found : ℕ) → IsSteady s.clock → IsSteady j.clock
+        → ByTheBook j.lengths → ClocksAreNear s j → Listens s j seen found
+        → (x y rest : List Level) → Stuffs y x → s.bits ++ rest ≡ up_to_ack y
+        → (b : ℕ) → b < length s.bits → (k : ℕ) × SamplesBit s j seen found b k }
+{
+    a_listener_stays_in_step();
+    wl_frame::laws::ten_bits_have_an_edge();
 }

@@ -7,7 +7,9 @@
 
 pub mod laws;
 
-ghost use Rattle.std.specs.Prelude.{◌≡◌};
+ghost use Rattle.std.specs.Prelude.{◌≡◌, ◌<◌, ◌≤◌, ◌^◌, ◌*◌, ◌↔◌, IsTrue};
+ghost use Rattle.wl_segments.specs.Lengths.{bit_quanta};
+ghost use Rattle.wl_phase.specs.InStep.{AreNear};
 ghost use Rattle.wl_phase.specs.Ways as ways;
 
 use wl_segments::Segments;
@@ -32,4 +34,45 @@ pub fn way_after(segments: &Segments, way: u8, sync: Option<Sync>) -> u64
             way.saturating_sub(jump).max((way + jump).min(aim)) - 1
         }
     }
+}
+
+/// How long a node's quanta take: `num / den` ticks each.
+#[derive(Clone, Copy, Debug, PartialEq, Eq)]
+pub struct Pace {
+    /// The numerator, in ticks.
+    pub num: u64,
+    /// The denominator, in quanta.
+    pub den: u32,
+}
+
+/// Returns whether a listener with these segments and this pace stays in step with a sender whose bits nothing moves.
+///
+/// By ten bits of either the other is off by the jump width at most, and if the sender is the faster one, a tick more doesn't
+/// bring its next bit before the listener's sample. By the rules of the book that is enough:
+/// [`a_listener_stays_in_step`](laws::a_listener_stays_in_step).
+pub fn are_near(
+    sender: &Segments,
+    sender_pace: Pace,
+    listener: &Segments,
+    listener_pace: Pace,
+) -> bool
+    ensures { IsTrue result ↔ AreNear (listener_pace.den * (bit_quanta sender.now * sender_pace.num))
+        (sender_pace.den * listener_pace.num) (sender_pace.den * listener_pace.den) listener.now }
+{
+    let bit = parts(listener_pace.den, sender.bit_quanta(), sender_pace.num);
+    let quantum = parts(sender_pace.den, 1, listener_pace.num);
+    let tick = parts(sender_pace.den, 1, listener_pace.den as u64);
+    let ten = 10 * listener.bit_quanta() as u128 * quantum;
+    let jump = listener.sjw() as u128 * quantum;
+    let rest = listener.ps2() as u128 * quantum;
+    10 * bit <= ten + jump && ten <= 10 * bit + jump && ten + tick <= 10 * bit + rest
+}
+
+/// Returns the parts of a tick that so many quanta take, 25 at most, of `num` parts by another denominator each.
+fn parts(den: u32, quanta: u64, num: u64) -> u128
+    requires { quanta ≤ 25 }
+    ensures parts { result ≡ den * (quanta * num) }
+    ensures small { result < 2 ^ 102 }
+{
+    den as u128 * (quanta as u128 * num as u128)
 }
