@@ -1,13 +1,11 @@
--- What is listed of a kept map is what it shows.
+-- What is listed of entries is what they show.
 use Rattle.std.specs.Prelude.{◌≡◌, ℕ, ◌+◌, ◌==◌, Bool, true, false, cond, not, List, [], ◌∷◌, ◌++◌, Option, None, filter, refl}
 use Rattle.std.specs.List.{filter_map, cons_option, flat_map, range_with_len}
 use Rattle.std.specs.List.Sorted.{IsStrictlySortedBy}
 use Rattle.std.specs.Map.{keys_of}
-use Rattle.std.specs.BTreeMap.{BTreeMap, IsOrdered}
 use Rattle.std.specs.FinMap.{entries-from_sorted}
-use Rattle.std.proofs.Common.{sym, ap, ◌∙◌, arith, append_assoc}
+use Rattle.std.proofs.Common.{sym, ap, ◌∙◌, arith}
 use Rattle.std.proofs.lemmas.List.{append-nil}
-use Rattle.std.proofs.lemmas.List.Elements.{filter_map-append}
 use Rattle.std.proofs.lemmas.Grind.{flat_map-append}
 use Prim.Native.Nat.{zero, suc}
 use Rattle.wl_lattice.specs.declared.FlatWord.{FlatWord}
@@ -15,9 +13,9 @@ use Rattle.wl_lattice.specs.declared.FlatWord.TheVariants as flat
 use Rattle.wl_lattice.specs.declared.MaxWord.{MaxWord}
 use Rattle.wl_record_core.specs.declared.record.Record.{Record}
 use Rattle.wl_replica.specs.Keys.{Key, key_cmp}
-use Rattle.wl_replica.specs.Kept.{words_shown}
+use Rattle.wl_replica.specs.Dense.{words_shown}
 use Rattle.wl_replica.specs.Canonical.{edge_record, silence_record, of_node, records_of_node, canonical}
-use Rattle.wl_replica.specs.Kept.{holds_edge, holds_silence}
+use Rattle.wl_replica.specs.Dense.{holds_edge, holds_silence}
 use Rattle.wl_replica.proofs.Shown.{sorted_filter}
 
 -- an entry that holds nothing is no record
@@ -33,12 +31,6 @@ module _ {W : Type 0} (holds : W → Bool) (told : Key × W → Option Record) (
   pub told_filtered : (node : ℕ) (es : List (Key × W)) → filter_map told (of_node node (filter (λ f. holds f.1) es)) ≡ filter_map told (of_node node es)
   told_filtered node [] = refl
   told_filtered node (e ∷ es) = one (holds e.1) (e.0.0 == node) e node es refl refl (told_filtered node es)
-
--- the record of one entry more, and of those that are left
-pub one_entry_more : (all more : List Record) (e : Key × FlatWord) (es : List (Key × FlatWord)) → more ≡ all ++ filter_map edge_record (e ∷ []) → more ++ filter_map edge_record es ≡ all ++ filter_map edge_record (e ∷ es)
-one_entry_more all more e es is =
-    ap (λ rs. rs ++ filter_map edge_record es) is
-    ∙ (append_assoc all (filter_map edge_record (e ∷ [])) (filter_map edge_record es) ∙ ap (λ rs. all ++ rs) (sym (filter_map-append edge_record (e ∷ []) es)))
 
 pub no_edge : (e : Key × FlatWord) → holds_edge e.1 ≡ false → edge_record e ≡ None
 no_edge (k, flat.Nothing) h = refl
@@ -64,11 +56,6 @@ canonical_of_entries nodes edges silences h k =
     same_of_each _ _ (λ node.
     (λ i. sym (told_filtered holds_edge edge_record no_edge node edges) i ++ sym (told_filtered holds_silence silence_record no_silence node silences) i)
     ∙ (λ i. records_of_node (sym es i) (sym ss i) node)) (range_with_len 0 nodes)
-
-pub canonical_of_kept : (nodes : ℕ) (edges : BTreeMap Key FlatWord) (silences : BTreeMap Key MaxWord) → IsOrdered key_cmp edges → IsOrdered key_cmp silences
-    → flat_map (records_of_node edges.entries silences.entries) (range_with_len 0 nodes)
-    ≡ canonical (record { nodes = nodes; edges = words_shown holds_edge edges.entries; silences = words_shown holds_silence silences.entries })
-canonical_of_kept nodes edges silences h k = canonical_of_entries nodes edges.entries silences.entries h k
 
 pub range_last : (a n : ℕ) → range_with_len a (suc n) ≡ range_with_len a n ++ (a + n) ∷ []
 range_last a zero = ap (λ k. k ∷ []) (omega arith)

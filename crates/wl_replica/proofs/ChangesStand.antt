@@ -1,23 +1,18 @@
 -- The changes below a horizon stand in their slots, and no wave ends past the last tick.
 use Rattle.std.specs.Prelude.{◌≡◌, ℕ, zero, suc, ◌<◌, ◌≤◌, List, [], ◌∷◌, ◌++◌, IfSome, refl}
 use Rattle.std.specs.List.{AllByRecursion}
-use Rattle.std.specs.BTreeMap.{BTreeMap}
 use Rattle.std.proofs.Common.{sym, ap, ◌∙◌, arith}
 use Rattle.wl_lattice.specs.declared.FlatWord.{FlatWord}
 use Rattle.wl_lattice.specs.declared.FlatWord.TheVariants as flat
-use Rattle.wl_lattice.specs.declared.MaxWord.{MaxWord}
 use Rattle.wl_intervals.specs.Pairs.{last_end}
 use Rattle.wl_record_core.specs.Limits.{tick_end, tick_end-is}
 use Rattle.wl_record_core.specs.Truth.{IsIncreasing, count_below}
 use Rattle.wl_record_core.specs.TableLaws.{TableLaws}
 use Rattle.wl_replica.proofs.SmallFacts.{some_is, tick_is}
-use Rattle.wl_replica.specs.Keys.{Key}
 use Rattle.wl_replica.specs.Slots.{Contents, HoldsTrue}
 use Rattle.wl_replica.specs.SlotsOf.{ChangesStand}
-use Rattle.wl_replica.specs.Known.{tick_in, ticks, intervals, after_edges, known_by, horizon}
+use Rattle.wl_replica.specs.Known.{tick_in, ticks, intervals, after_edges, horizon}
 use Rattle.wl_replica.specs.KnownLaws.{KnownLaws}
-use Rattle.wl_replica.specs.Kept.{edges_in, silences_in, AreKept}
-use Rattle.wl_replica.proofs.KeptFits.{ticks_within, silence_within, promise_within}
 
 -- ---- changes
 
@@ -58,10 +53,9 @@ tick_within (flat.Value t) h = h t refl
 tick_within flat.Nothing h = omega (arith, tick_end-is)
 tick_within flat.Clash h = omega (arith, tick_end-is)
 
-pub wave_within : (nodes : ℕ) (edges : BTreeMap Key FlatWord) (silences : BTreeMap Key MaxWord) → AreKept nodes edges silences → (node m : ℕ)
-    → IfSome (last_end (intervals (ticks (edges_in edges node) m) (known_by (edges_in edges node) (silences_in silences node) m))) (λ end. end ≤ tick_end)
-wave_within nodes edges silences h node m =
-    let low : (n : ℕ) → tick_in (edges_in edges node n) < tick_end = λ n. tick_within (edges_in edges node n) (λ t e. (ticks_within nodes edges silences h (node, n) t e).1) in
-    let after = after_within (edges_in edges node) tick_end m low in
-    let promise = promise_within (silences_in silences node) m (silence_within nodes edges silences h node) in
-    last_within tick_end (ticks (edges_in edges node) m) (known_by (edges_in edges node) (silences_in silences node) m) (all_ticks (edges_in edges node) tick_end m low) (omega arith)
+-- a run's wave ends no later than its horizon, which is that of some slots within limits
+pub wave_within : (e : ℕ → FlatWord) (m h : ℕ) → ((n t : ℕ) → e n ≡ flat.Value t → t < tick_end) → h ≤ tick_end → IfSome (last_end (intervals (ticks e m) h)) (λ end. end ≤ tick_end)
+wave_within e m h within early = last_within tick_end (ticks e m) h (all_ticks e tick_end m (λ n. tick_within (e n) (within n))) early
+
+pub end_within : (e : ℕ → FlatWord) (m : ℕ) → ((n t : ℕ) → e n ≡ flat.Value t → t < tick_end) → after_edges e m ≤ tick_end
+end_within e m within = after_within e tick_end m (λ n. tick_within (e n) (within n))

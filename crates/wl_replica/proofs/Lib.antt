@@ -18,7 +18,7 @@ mod KnownProofs
 mod KnownRows
 mod TrueSlots
 mod SlotsOfProofs
-mod KeptFits
+mod Keeps
 mod OfRecords
 mod ChangesStand
 mod WalkLemmas
@@ -28,11 +28,10 @@ mod PlaceLemmas
 mod HalvingLemmas
 mod WaveAfter
 mod RunsKept
-mod BatchLemmas
+mod RunsTaken
 mod DenseLemmas
 mod DenseShown
 mod DenseWalks
+mod RowSteps
+mod Telling
 pub mod Callers
-mod FirstsEntries
-mod EdgesSeen
-mod JoinedEdges

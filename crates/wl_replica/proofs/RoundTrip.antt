@@ -22,7 +22,7 @@ use Rattle.wl_record_core.specs.Slots.{node_of}
 use Rattle.wl_replica.specs.Keys.{Key, key_cmp}
 use Rattle.wl_replica.specs.State.{State, edge_word, silence_word, state_of, states_joined}
 use Rattle.wl_replica.specs.Canonical.{edge_record, silence_record, of_node, records_of_node, canonical}
-use Rattle.wl_replica.specs.Kept.{holds_edge, holds_silence}
+use Rattle.wl_replica.specs.Dense.{holds_edge, holds_silence}
 use Rattle.wl_replica.specs.Laws.{CanonicalDeterminesTheState, MergingIsAppending, JoinsSlotBySlot}
 use Rattle.wl_replica.proofs.SlotBySlot.{edge_at-joined, silence_at-joined, edge_at-none, silence_at-none}
 use Rattle.wl_replica.proofs.KeyLaws.{key_cmp_total, exact_keys}

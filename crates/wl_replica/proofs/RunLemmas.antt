@@ -1,25 +1,24 @@
 -- A run that is kept: what it tells, and what stands of it after a word came in.
-use Rattle.std.proofs.Common.{◌≡◌, ℕ, zero, suc, ◌+◌, ◌<◌, ◌≤◌, max, Bool, true, false, cond, ◌==◌, ◌&&◌, inl, inr, List, [], ◌∷◌, length, slice_index_or, slice_set, refl, sym, ◌∙◌, ap, subst, arith, nat_lt, nat_le}
-use Rattle.std.proofs.lemmas.Bool.{cases_eq, and_parts, and_from, false≢true, leb-true, le-leb}
+use Rattle.std.specs.Prelude.{if◌then◌else◌}
+use Rattle.std.proofs.Common.{◌≡◌, ◌⊎◌, ℕ, zero, suc, ◌+◌, ◌<◌, ◌≤◌, max, Bool, true, false, cond, ◌==◌, ◌&&◌, inl, inr, List, length, slice_index_or, slice_set, refl, sym, ◌∙◌, ap, subst, arith, nat_lt, nat_le}
+use Rattle.std.proofs.lemmas.Bool.{cases_eq, eq-eqb, ne_eqb, and_parts, and_from, false≢true, leb-true, le-leb}
 use Rattle.std.proofs.lemmas.List.{get_or-set_same, get_or-set_other}
-use Rattle.std.specs.Ordering.{eq_by_cmp}
-use Rattle.std.specs.Cmp.{eq_by_cmp_equiv}
-use Rattle.std.specs.BTreeMap.{BTreeMap}
 use Rattle.wl_intervals.specs.Pairs.{covers}
 use Rattle.wl_lattice.specs.declared.FlatWord.{FlatWord}
 use Rattle.wl_lattice.specs.declared.FlatWord.TheVariants as flat
-use Rattle.wl_lattice.specs.declared.MaxWord.{MaxWord}
 use Rattle.wl_lattice.specs.Words.{joined_flat}
 use Rattle.wl_lattice.specs.SlotContents.{IsRaised}
-use Rattle.wl_record_core.specs.Limits.{most_edges}
+use Rattle.wl_record_core.specs.declared.record.Record.{Record}
+use Rattle.wl_record_core.specs.declared.record.Record.TheVariants.{Edge, Clash, Silence}
+use Rattle.wl_record_core.specs.Slots.{node_of}
+use Rattle.wl_record_core.specs.Limits.{most_edges, tick_end}
+use Rattle.wl_record_core.specs.Within.{IsWithin}
 use Rattle.wl_replica.specs.declared.known_run.KnownRun.{KnownRun}
-use Rattle.wl_replica.specs.Keys.{Key, key_cmp}
-use Rattle.wl_replica.specs.Kept.{word_in, joined_all, edges_in, silences_in, TicksAreWithin}
+use Rattle.wl_replica.specs.Dense.{edges_of_row, HasTicksWithin}
+use Rattle.wl_replica.specs.Slots.{Contents, slots_joined, slots_only}
 use Rattle.wl_replica.specs.Known.{is_tick, tick_in, run_goes_on, is_run, greatest_passing, after_edges, longest_promise, known_by, ticks, intervals}
-use Rattle.wl_replica.specs.declared.walks.Run.{Run}
-use Rattle.wl_replica.specs.Runs.{IsRunOf, WasRunBeforeEdge, WasRunBeforeSilence, WereRunsBeforeEdge, WereRunsBeforeSilence}
-use Rattle.wl_replica.proofs.KeyLaws.{key_cmp_total}
-use Rattle.wl_replica.proofs.KeptLemmas.{same_key}
+use Rattle.wl_replica.specs.declared.known_run.Run.{Run}
+use Rattle.wl_replica.specs.Runs.{IsRunOf, WasRunBeforeEdge, WasRunBeforeSilence, WasRunBefore, AreInLimits, AreRuns}
 use Rattle.wl_replica.proofs.SmallFacts.{run_part}
 use Rattle.wl_replica.proofs.WalkLemmas.{longest_run, no_value, no_more}
 use Rattle.wl_replica.proofs.WaveLemmas.{goes_above, run_ticks, flips, level_is}
@@ -123,8 +122,8 @@ same_value (flat.Value x) (flat.Value y) t is e = at (x == y) e where
 
 -- ---- what is kept after a word came in
 module _ (e : ℕ → FlatWord) (s : ℕ → ℕ) where
-  pub past_all : (edges : BTreeMap Key FlatWord) (node m : ℕ) → TicksAreWithin edges → e ≡ edges_in edges node → most_edges ≤ m → run_goes_on e s m ≡ false
-  past_all edges node m within is le = no_more e s m (ap (λ (f : ℕ → FlatWord). is_tick (f m)) is ∙ no_value (edges_in edges node m) (λ t has. (let w = within (node, m) t has in omega (arith, w.0))))
+  pub past_all : (row : List ℕ) (m : ℕ) → HasTicksWithin row → e ≡ edges_of_row row → most_edges ≤ m → run_goes_on e s m ≡ false
+  past_all row m within is le = no_more e s m (ap (λ (f : ℕ → FlatWord). is_tick (f m)) is ∙ no_value (edges_of_row row m) (λ t has. (let w = within m t has in omega (arith, w.0))))
 
   -- what is made of a run of n changes
   pub made_of : (n : ℕ) → n ≤ most_edges → is_run e s n ≡ true → run_goes_on e s n ≡ false
@@ -230,29 +229,132 @@ one_run_set P xs n r lt here i d others = elim (cases_eq i n) [
   | inr other ↦ subst (P i) (sym (get_or-set_other xs n i r d other)) (others other)
 ]
 
-module _ (edges : BTreeMap Key FlatWord) (silences : BTreeMap Key MaxWord) (node n : ℕ) (runs : List KnownRun) where
-  pub other_edge_runs : WereRunsBeforeEdge edges silences (node, n) runs → (i : ℕ) (d : KnownRun) → ¬ (i ≡ node) → i < length runs → IsRunOf (edges_in edges i) (silences_in silences i) (slice_index_or runs i d)
-  other_edge_runs were i d other lt =
-      subst (λ (e : ℕ → FlatWord). IsRunOf e (silences_in silences i) (slice_index_or runs i d)) (λ j m. sym (were.3.others (i, m) (λ same. other (ap (λ (k : Key). k.0) same))) j) (were.2 i d lt)
+-- ---- a record of a node, slot by slot
+here_edge : (i n : ℕ) (w : FlatWord) → (if i == i && (n == n) then w else flat.Nothing) ≡ w
+here_edge i n w = λ j. if eq-eqb i i refl j && eq-eqb n n refl j then w else flat.Nothing
 
-  pub other_silence_runs : (until : ℕ) → WereRunsBeforeSilence edges silences (node, n) until runs → (i : ℕ) (d : KnownRun) → ¬ (i ≡ node) → i < length runs → IsRunOf (edges_in edges i) (silences_in silences i) (slice_index_or runs i d)
-  other_silence_runs until were i d other lt =
-      subst (λ (s : ℕ → ℕ). IsRunOf (edges_in edges i) s (slice_index_or runs i d)) (λ j m. (sym (were.2.others (i, m) (λ same. other (ap (λ (k : Key). k.0) same))) j).word) (were.1 i d lt)
+other_number : (i n m : ℕ) (w : FlatWord) → ¬ (m ≡ n) → (if i == i && (m == n) then w else flat.Nothing) ≡ flat.Nothing
+other_number i n m w apart = λ j. if eq-eqb i i refl j && ne_eqb m n apart j then w else flat.Nothing
+
+other_edge_node : (k i n m : ℕ) (w : FlatWord) → ¬ (k ≡ i) → (if k == i && (m == n) then w else flat.Nothing) ≡ flat.Nothing
+other_edge_node k i n m w apart = λ j. if ne_eqb k i apart j && (m == n) then w else flat.Nothing
+
+here_silence : (i n u : ℕ) → (if i == i && (n == n) then u else 0) ≡ u
+here_silence i n u = λ j. if eq-eqb i i refl j && eq-eqb n n refl j then u else 0
+
+other_count : (i n m u : ℕ) → ¬ (m ≡ n) → (if i == i && (m == n) then u else 0) ≡ 0
+other_count i n m u apart = λ j. if eq-eqb i i refl j && ne_eqb m n apart j then u else 0
+
+other_silence_node : (k i n m u : ℕ) → ¬ (k ≡ i) → (if k == i && (m == n) then u else 0) ≡ 0
+other_silence_node k i n m u apart = λ j. if ne_eqb k i apart j && (m == n) then u else 0
+
+nothing_more : (w : FlatWord) → joined_flat w flat.Nothing ≡ w
+nothing_more flat.Nothing = refl
+nothing_more (flat.Value t) = refl
+nothing_more flat.Clash = refl
+
+no_further : (a : ℕ) → max a 0 ≡ a
+no_further a = omega arith
+
+value_from : (a b : FlatWord) (t : ℕ) → joined_flat a b ≡ flat.Value t → (a ≡ flat.Value t) ⊎ (b ≡ flat.Value t)
+value_from flat.Nothing b t is = inr is
+value_from (flat.Value x) flat.Nothing t is = inl is
+value_from (flat.Value x) (flat.Value y) t is = at (x == y) is where
+  at : (c : Bool) → (if c then flat.Value x else flat.Clash) ≡ flat.Value t → (flat.Value x ≡ flat.Value t) ⊎ (flat.Value y ≡ flat.Value t)
+  at true e = inl e
+  at false e = absurd (false≢true (ap is_tick e))
+value_from (flat.Value x) flat.Clash t is = absurd (false≢true (ap is_tick is))
+value_from flat.Clash b t is = absurd (false≢true (ap is_tick is))
+
+pub limits_joined : (a b : Contents) → AreInLimits a → AreInLimits b → AreInLimits (slots_joined a b)
+limits_joined a b h k = record {
+  edges = λ i n t is. elim (value_from (a.edge i n) (b.edge i n) t is) [ inl mine ↦ h.edges i n t mine | inr theirs ↦ k.edges i n t theirs ];
+  silences = λ i n. omega (arith, h.silences i n, k.silences i n);
+}
+
+told_edge : (b : Bool) (w : FlatWord) (t : ℕ) → (if b then w else flat.Nothing) ≡ flat.Value t → w ≡ flat.Value t
+told_edge true w t is = is
+told_edge false w t is = absurd (false≢true (ap is_tick is))
+
+told_silence : (b : Bool) (u top : ℕ) → u ≤ top → (if b then u else 0) ≤ top
+told_silence true u top le = le
+told_silence false u top le = omega arith
+
+limits_of : (r : Record) → IsWithin r → AreInLimits (slots_only r)
+limits_of (Edge i n t) fits = record {
+  edges = λ j m u is. (let same = told_edge (j == i && (m == n)) (flat.Value t) u is in let less = fits.2 in subst (λ k. k < tick_end) (ap tick_in same) less);
+  silences = λ j m. omega arith;
+}
+limits_of (Clash i n) fits = record {
+  edges = λ j m u is. absurd (false≢true (ap is_tick (told_edge (j == i && (m == n)) flat.Clash u is)));
+  silences = λ j m. omega arith;
+}
+limits_of (Silence i n u) fits = record {
+  edges = λ j m t is. absurd (false≢true (ap is_tick is));
+  silences = λ j m. told_silence (j == i && (m == n)) u tick_end (omega (arith, fits.2));
+}
+
+module _ (w : Contents) where
+  abbrev pub after : Record → Contents
+  after r = slots_joined w (slots_only r)
+
+  edge_raised : (r : Record) (i n : ℕ) (word : FlatWord) → ((k m : ℕ) → (slots_only r).edge k m ≡ (if k == i && (m == n) then word else flat.Nothing))
+      → IsRaised joined_flat (w.edge i) n word ((after r).edge i)
+  edge_raised r i n word is = record {
+    here = ap (joined_flat (w.edge i n)) (is i n ∙ here_edge i n word);
+    others = λ m apart. ap (joined_flat (w.edge i m)) (is i m ∙ other_number i n m word apart) ∙ nothing_more (w.edge i m);
+  }
+
+  silence_raised : (i n u : ℕ) → IsRaised max (w.silence i) n u ((after (Silence i n u)).silence i)
+  silence_raised i n u = record {
+    here = ap (max (w.silence i n)) (here_silence i n u);
+    others = λ m apart. ap (max (w.silence i m)) (other_count i n m u apart) ∙ no_further (w.silence i m);
+  }
+
+  -- it was the run before the record was taken
+  pub was_before : (r : Record) (k : KnownRun) → IsRunOf (w.edge (node_of r)) (w.silence (node_of r)) k → WasRunBefore r ((after r).edge (node_of r)) ((after r).silence (node_of r)) k
+  was_before (Edge i n t) k h =
+      (w.edge i, flat.Value t, subst (λ (s : ℕ → ℕ). IsRunOf (w.edge i) s k) (λ j m. sym (no_further (w.silence i m)) j) h, edge_raised (Edge i n t) i n (flat.Value t) (λ k m. refl))
+  was_before (Clash i n) k h =
+      (w.edge i, flat.Clash, subst (λ (s : ℕ → ℕ). IsRunOf (w.edge i) s k) (λ j m. sym (no_further (w.silence i m)) j) h, edge_raised (Clash i n) i n flat.Clash (λ k m. refl))
+  was_before (Silence i n u) k h =
+      (w.silence i, subst (λ (e : ℕ → FlatWord). IsRunOf e (w.silence i) k) (λ j m. sym (nothing_more (w.edge i m)) j) h, silence_raised i n u)
+
+  -- and what it says of other nodes is nothing
+  other_edges_stay : (r : Record) (i m : ℕ) → ¬ (i ≡ node_of r) → (after r).edge i m ≡ w.edge i m
+  other_edges_stay (Edge k n t) i m apart = ap (joined_flat (w.edge i m)) (other_edge_node i k n m (flat.Value t) apart) ∙ nothing_more (w.edge i m)
+  other_edges_stay (Clash k n) i m apart = ap (joined_flat (w.edge i m)) (other_edge_node i k n m flat.Clash apart) ∙ nothing_more (w.edge i m)
+  other_edges_stay (Silence k n u) i m apart = nothing_more (w.edge i m)
+
+  other_silences_stay : (r : Record) (i m : ℕ) → ¬ (i ≡ node_of r) → (after r).silence i m ≡ w.silence i m
+  other_silences_stay (Edge k n t) i m apart = no_further (w.silence i m)
+  other_silences_stay (Clash k n) i m apart = no_further (w.silence i m)
+  other_silences_stay (Silence k n u) i m apart = ap (max (w.silence i m)) (other_silence_node i k n m u apart) ∙ no_further (w.silence i m)
+
+  -- it stays within limits
+  limits_after : (r : Record) → AreInLimits w → IsWithin r → AreInLimits (after r)
+  limits_after r h fits = limits_joined w (slots_only r) h (limits_of r fits)
+
+  -- the runs of all nodes, once that of its node was brought up to date
+  pub runs_after : (r : Record) (nodes : ℕ) (runs new : List KnownRun) (e : ℕ → FlatWord) (s : ℕ → ℕ) → AreRuns nodes w runs → IsWithin r → length new ≡ length runs
+      → e ≡ (after r).edge (node_of r) → s ≡ (after r).silence (node_of r)
+      → ((d : KnownRun) → IsRunOf e s (slice_index_or new (node_of r) d))
+      → ((i : ℕ) (d : KnownRun) → ¬ (i ≡ node_of r) → slice_index_or new i d ≡ slice_index_or runs i d) → AreRuns nodes (after r) new
+  runs_after r nodes runs new e s h fits count p q own others = record {
+    count = count ∙ h.count;
+    limits = limits_after r h.limits fits;
+    known = λ i d lt. elim (cases_eq i (node_of r)) [
+      | inl same ↦ subst (λ j. IsRunOf ((after r).edge j) ((after r).silence j) (slice_index_or new j d)) (sym same)
+          (subst (λ (f : ℕ → FlatWord). IsRunOf f ((after r).silence (node_of r)) (slice_index_or new (node_of r) d)) p
+          (subst (λ (g : ℕ → ℕ). IsRunOf e g (slice_index_or new (node_of r) d)) q (own d)))
+      | inr apart ↦ subst (λ (k : KnownRun). IsRunOf ((after r).edge i) ((after r).silence i) k) (sym (others i d apart))
+          (subst (λ (f : ℕ → FlatWord). IsRunOf f ((after r).silence i) (slice_index_or runs i d)) (λ j m. sym (other_edges_stay r i m apart) j)
+          (subst (λ (g : ℕ → ℕ). IsRunOf (w.edge i) g (slice_index_or runs i d)) (λ j m. sym (other_silences_stay r i m apart) j) (h.known i d lt)))
+    ];
+  }
 
 -- the level that a run tells
 pub level_of_run : (e : ℕ → FlatWord) (s : ℕ → ℕ) (k : KnownRun) → IsRunOf e s k → (t : ℕ) → t < k.horizon → flips (ticks e k.run.length) t ≡ covers (intervals (ticks e k.run.length) k.horizon) t
 level_of_run e s k h t lt =
     let is = horizon_is e s k h in
     level_is e s k.run.length t h.run (omega (arith, is)) ∙ ap (λ u. covers (intervals (ticks e k.run.length) u) t) (sym is)
-
--- a word that is joined in at one key of a map
-pub raised_by : {W : Type 0} (least : W) (join : W → W → W) (m n : BTreeMap Key W) (key : Key) (word : W)
-    → ((q : Key) → word_in least n q ≡ joined_all join (word_in least m q) ((key, word) ∷ []) q) → IsRaised join (word_in least m) key word (word_in least n)
-raised_by {W} least join m n key word h = record {
-  here = h key ∙ ap (λ b. cond b (join (word_in least m key) word) (word_in least m key)) ((eq_by_cmp_equiv key_cmp_total).refl key);
-  others = λ q other. h q ∙ apart q other (eq_by_cmp key_cmp q key) refl;
-}
-  where
-    apart : (q : Key) → ¬ (q ≡ key) → (b : Bool) → eq_by_cmp key_cmp q key ≡ b → cond b (join (word_in least m q) word) (word_in least m q) ≡ word_in least m q
-    apart q other true is = absurd (other (same_key q key is))
-    apart q other false is = refl

@@ -1,12 +1,11 @@
--- What a kept map shows, key by key.
+-- What entries show, key by key.
 use Rattle.std.specs.Prelude.{◌≡◌, Bool, true, false, cond, T, ◌&&◌, ◌||◌, Option, List, [], ◌∷◌, Some, None, unwrap_or, filter, refl, Result, Ok, Err, OnErr}
-use Rattle.std.specs.declared.cmp.Ordering.TheVariants.{Less, Equal}
-use Rattle.std.specs.Ordering.{eq_by_cmp, is_eq, is_lt}
+use Rattle.std.specs.declared.cmp.Ordering.TheVariants.{Less}
+use Rattle.std.specs.Ordering.{eq_by_cmp, is_lt}
 use Rattle.std.specs.Cmp.{eq_by_cmp_equiv}
 use Rattle.std.specs.List.{AllByRecursion}
 use Rattle.std.specs.List.Sorted.{IsStrictlySortedBy}
 use Rattle.std.specs.Map.{lookup, keys_of}
-use Rattle.std.specs.BTreeMap.{BTreeMap, IsOrdered}
 use Rattle.std.specs.FinMap.{FinMap, get, get-from_sorted, same_map}
 use Rattle.std.specs.FinMap.Entries.{find, is_sorted, below_all}
 use Rattle.std.proofs.lemmas.Map.Entries.{lookup-filter-values, option_filter}
@@ -16,8 +15,7 @@ use Rattle.wl_lattice.specs.Maps.{joined_options, joined_maps, map_of, words_at,
 use Rattle.wl_replica.proofs.SmallFacts.{nothing_more}
 use Rattle.wl_replica.specs.Keys.{Key, key_cmp}
 use Rattle.wl_replica.proofs.KeyLaws.{key_cmp_total, exact_keys}
-use Rattle.wl_replica.specs.Kept.{word_in, joined_all, words_shown}
-use Rattle.wl_lattice.specs.KeyByKey.{tied_by}
+use Rattle.wl_replica.specs.Dense.{words_shown}
 use Rattle.wl_replica.proofs.KeptLemmas.{found}
 
 both : (a b : Bool) → T a → T b → T (a && b)
@@ -65,17 +63,10 @@ module _ {W : Type 0} {least : W} {join : W → W → W} {holds : W → Bool} (l
       ∙ (lookup-filter-values (eq_by_cmp_equiv key_cmp_total) holds q es (IsDistinct-from_sorted key_cmp (keys_of es) h)
       ∙ filtered (lookup (eq_by_cmp key_cmp q) es)))
 
-  pub get-shown : (m : BTreeMap Key W) → IsOrdered key_cmp m → (q : Key) → get (words_shown holds m.entries) q ≡ seen (word_in least m q)
-  get-shown m h q = get-listed m.entries h q
-
   -- entries that have the same words show the same
   pub listed_same : (es fs : List (Key × W)) → IsStrictlySortedBy key_cmp (keys_of es) → IsStrictlySortedBy key_cmp (keys_of fs)
       → ((q : Key) → unwrap_or (found fs q) least ≡ unwrap_or (found es q) least) → words_shown holds fs ≡ words_shown holds es
   listed_same es fs h k same = same_map key_cmp_total exact_keys _ _ (λ q. get-listed fs k q ∙ (ap seen (same q) ∙ sym (get-listed es h q)))
-
-  -- and so do maps
-  pub shown_same : (m n : BTreeMap Key W) → IsOrdered key_cmp m → IsOrdered key_cmp n → ((q : Key) → word_in least n q ≡ word_in least m q) → words_shown holds n.entries ≡ words_shown holds m.entries
-  shown_same m n h k same = listed_same m.entries n.entries h k same
 
   seen_both : (a b : Bool) (v w : W) → holds v ≡ a → holds w ≡ b → seen (join v w) ≡ joined_options join (cond a (Some v) None) (cond b (Some w) None)
   seen_both true true v w p q = ap (λ c. cond c (Some (join v w)) None) (tells.over v w ∙ (λ i. p i || q i))
@@ -86,37 +77,17 @@ module _ {W : Type 0} {least : W} {join : W → W → W} {holds : W → Bool} (l
   pub seen-join : (v w : W) → seen (join v w) ≡ joined_options join (seen v) (seen w)
   seen-join v w = seen_both (holds v) (holds w) v w refl refl
 
-  nothing_below : (x q : Key) (es : List (Key × W)) (v : W) → key_cmp q x ≡ Equal → AllByRecursion (λ y. key_cmp x y ≡ Less) (keys_of es) → (lookup (eq_by_cmp key_cmp q) es ≡ None) × (joined_all join v es q ≡ v)
-  nothing_below x q [] v e h = (refl, refl)
-  nothing_below x q (f ∷ es) v e h =
-      let apart : eq_by_cmp key_cmp q f.0 ≡ false = ap is_eq (key_cmp_total.congr q x f.0 e ∙ h.0) in
-      let rest = nothing_below x q es v e h.1 in (
-        ap (λ b. cond b (Some f.1) (lookup (eq_by_cmp key_cmp q) es)) apart ∙ rest.0,
-        ap (λ b. joined_all join (cond b (join v f.1) v) es q) apart ∙ rest.1,
-      )
-
-  -- a list in order has one word at most at a key
-  pub joined_all-is : (es : List (Key × W)) → IsStrictlySortedBy key_cmp (keys_of es) → (v : W) (q : Key) → joined_all join v es q ≡ join v (unwrap_or (lookup (eq_by_cmp key_cmp q) es) least)
-  unfolding IsStrictlySortedBy
-  joined_all-is [] h v q = sym (tells.right v)
-  joined_all-is (e ∷ es) h v q =
-      let rest = joined_all-is es h.1 v q in
-      elim (eq_by_cmp key_cmp q e.0) as (λ b. eq_by_cmp key_cmp q e.0 ≡ b → joined_all join (cond b (join v e.1) v) es q ≡ join v (unwrap_or (cond b (Some e.1) (lookup (eq_by_cmp key_cmp q) es)) least)) [
-        | true ↦ λ is. (nothing_below e.0 q es (join v e.1) (tied_by (key_cmp q e.0) is) h.0).1
-        | false ↦ λ is. rest
-      ] refl
-
-  -- a map with another's words joined in shows both, joined
-  pub shown_joined : (m n other : BTreeMap Key W) → IsOrdered key_cmp m → IsOrdered key_cmp n → IsOrdered key_cmp other
-      → ((q : Key) → word_in least n q ≡ joined_all join (word_in least m q) other.entries q)
-      → words_shown holds n.entries ≡ joined_maps join (words_shown holds m.entries) (words_shown holds other.entries)
-  shown_joined m n other h k l is = same_map key_cmp_total exact_keys _ _ (λ q.
-      get-shown n k q ∙ (ap seen (is q ∙ joined_all-is other.entries l (word_in least m q) q) ∙ (seen-join (word_in least m q) (word_in least other q)
-      ∙ ((λ i. joined_options join (sym (get-shown m h q) i) (sym (get-shown other l q) i)) ∙ sym (laws.key_by_key (words_shown holds m.entries) (words_shown holds other.entries) q)))))
+  -- entries that have the words of two others, joined, show both, joined
+  pub listed_joined : (es fs os : List (Key × W)) → IsStrictlySortedBy key_cmp (keys_of es) → IsStrictlySortedBy key_cmp (keys_of fs) → IsStrictlySortedBy key_cmp (keys_of os)
+      → ((q : Key) → unwrap_or (found fs q) least ≡ join (unwrap_or (found es q) least) (unwrap_or (found os q) least))
+      → words_shown holds fs ≡ joined_maps join (words_shown holds es) (words_shown holds os)
+  listed_joined es fs os h k l is = same_map key_cmp_total exact_keys _ _ (λ q.
+      get-listed fs k q ∙ (ap seen (is q) ∙ (seen-join (unwrap_or (found es q) least) (unwrap_or (found os q) least)
+      ∙ ((λ i. joined_options join (sym (get-listed es h q) i) (sym (get-listed os l q) i)) ∙ sym (laws.key_by_key (words_shown holds es) (words_shown holds os) q)))))
 
   -- with one word raised
   single : (b c : Bool) (k q : Key) (v w : W) → eq_by_cmp key_cmp q k ≡ b → holds w ≡ c
-      → seen (joined_all join v ((k, w) ∷ []) q) ≡ joined_options join (seen v) (words_at key_cmp join (cond c ((k, w) ∷ []) []) q)
+      → seen (cond (eq_by_cmp key_cmp q k) (join v w) v) ≡ joined_options join (seen v) (words_at key_cmp join (cond c ((k, w) ∷ []) []) q)
   single true true k q v w e f =
       ap (λ x. seen (cond x (join v w) v)) e ∙ (seen-join v w ∙ (ap (λ x. joined_options join (seen v) (cond x (Some w) None)) f ∙ sym (ap (λ x. joined_options join (seen v) (cond x (Some w) None)) e)))
   single true false k q v w e f = ap (λ x. seen (cond x (join v w) v)) e ∙ (seen-join v w ∙ ap (λ x. joined_options join (seen v) (cond x (Some w) None)) f)
@@ -124,16 +95,11 @@ module _ {W : Type 0} {least : W} {join : W → W → W} {holds : W → Bool} (l
   single false false k q v w e f = ap (λ x. seen (cond x (join v w) v)) e ∙ sym (nothing_more join (seen v))
 
   pub listed_raised : (es fs : List (Key × W)) (k : Key) (w : W) → IsStrictlySortedBy key_cmp (keys_of es) → IsStrictlySortedBy key_cmp (keys_of fs)
-      → ((q : Key) → unwrap_or (found fs q) least ≡ joined_all join (unwrap_or (found es q) least) ((k, w) ∷ []) q)
+      → ((q : Key) → unwrap_or (found fs q) least ≡ cond (eq_by_cmp key_cmp q k) (join (unwrap_or (found es q) least) w) (unwrap_or (found es q) least))
       → words_shown holds fs ≡ joined_maps join (words_shown holds es) (map_of key_cmp join (cond (holds w) ((k, w) ∷ []) []))
   listed_raised es fs k w h l is = same_map key_cmp_total exact_keys _ _ (λ q.
       get-listed fs l q ∙ (ap seen (is q) ∙ (single _ _ k q (unwrap_or (found es q) least) w refl refl
       ∙ ((λ i. joined_options join (sym (get-listed es h q) i) (sym (laws.of_entries (cond (holds w) ((k, w) ∷ []) []) q) i)) ∙ sym (laws.key_by_key (words_shown holds es) _ q)))))
-
-  pub shown_raised : (m n : BTreeMap Key W) (k : Key) (w : W) → IsOrdered key_cmp m → IsOrdered key_cmp n
-      → ((q : Key) → word_in least n q ≡ joined_all join (word_in least m q) ((k, w) ∷ []) q)
-      → words_shown holds n.entries ≡ joined_maps join (words_shown holds m.entries) (map_of key_cmp join (cond (holds w) ((k, w) ∷ []) []))
-  shown_raised m n k w h l is = listed_raised m.entries n.entries k w h l is
 
   pub joined_nothing : (m : FinMap key_cmp W) → joined_maps join m (map_of key_cmp join []) ≡ m
   joined_nothing m = same_map key_cmp_total exact_keys _ _ (λ q. laws.key_by_key m _ q ∙ (ap (joined_options join (get m q)) (laws.of_entries [] q) ∙ nothing_more join (get m q)))
@@ -149,9 +115,6 @@ module _ {W : Type 0} {least : W} {join : W → W → W} {holds : W → Bool} (l
   -- the word that is shown is the one kept
   pub word_listed : (es : List (Key × W)) → IsStrictlySortedBy key_cmp (keys_of es) → (q : Key) → unwrap_or (get (words_shown holds es) q) least ≡ unwrap_or (found es q) least
   word_listed es h q = ap (λ o. unwrap_or o least) (get-listed es h q) ∙ held (holds (unwrap_or (found es q) least)) (unwrap_or (found es q) least) refl
-
-  pub word_shown : (m : BTreeMap Key W) → IsOrdered key_cmp m → (q : Key) → unwrap_or (get (words_shown holds m.entries) q) least ≡ word_in least m q
-  word_shown m h q = word_listed m.entries h q
 
 -- a fact that holds anyway holds at an error
 pub at_error : {A E : Type 0} (r : Result A E) (P : Type 0) → P → OnErr r P

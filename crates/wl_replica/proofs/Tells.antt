@@ -1,5 +1,5 @@
 -- The two tests tell the words that hold something.
-use Rattle.std.specs.Prelude.{◌≡◌, ℕ, max, Bool, true, false, not, ◌||◌, ◌==◌, if◌then◌else◌, cond, None, Some, List, [], ◌∷◌, refl}
+use Rattle.std.specs.Prelude.{◌≡◌, ℕ, suc, max, Bool, true, false, not, ◌||◌, ◌==◌, if◌then◌else◌, cond, None, Some, List, [], ◌∷◌, refl}
 use Rattle.std.specs.List.{cons_option}
 use Rattle.std.proofs.Common.{ap, sym, ◌∙◌, arith}
 use Rattle.std.proofs.lemmas.Bool.Decides.{nat_tests}
@@ -7,10 +7,10 @@ use Rattle.wl_lattice.specs.declared.FlatWord.{FlatWord}
 use Rattle.wl_lattice.specs.declared.FlatWord.TheVariants.{Nothing, Value, Clash}
 use Rattle.wl_lattice.specs.Words.{joined_flat, joined_max, max_word}
 use Rattle.std.specs.FinMap.{empty, same_map, get-from_sorted, get-empty}
-use Rattle.wl_replica.specs.Kept.{words_shown}
+use Rattle.wl_replica.specs.Dense.{words_shown}
 use Rattle.wl_replica.specs.Keys.{Key, key_cmp}
 use Rattle.wl_replica.proofs.KeyLaws.{key_cmp_total, exact_keys}
-use Rattle.wl_replica.specs.Kept.{holds_edge, holds_silence}
+use Rattle.wl_replica.specs.Dense.{holds_edge, holds_silence}
 use Rattle.wl_replica.proofs.Shown.{Tells}
 
 two_values : (b : Bool) (x : ℕ) → holds_edge (if b then Value x else Clash) ≡ true
@@ -29,10 +29,21 @@ empty_edge Nothing e = refl
 empty_edge (Value x) e = cc
 empty_edge Clash e = cc
 
-right_edge : (w : FlatWord) → joined_flat w Nothing ≡ w
+pub right_edge : (w : FlatWord) → joined_flat w Nothing ≡ w
 right_edge Nothing = refl
 right_edge (Value x) = refl
 right_edge Clash = refl
+
+same_value : (x : ℕ) → (x == x) ≡ true
+same_value x = grind (arith, nat_tests)
+
+pub flat_same : (w : FlatWord) → joined_flat w w ≡ w
+flat_same Nothing = refl
+flat_same (Value x) = ap (λ b. if b then Value x else Clash) (same_value x)
+flat_same Clash = refl
+
+pub next_false : (a b : ℕ) → (suc a == suc b) ≡ false → (a == b) ≡ false
+next_false a b h = grind (arith, nat_tests)
 
 pub tells_edge : Tells Nothing joined_flat holds_edge
 tells_edge = record { none = refl; over = over_edge; empty = empty_edge; left = λ w. refl; right = right_edge }

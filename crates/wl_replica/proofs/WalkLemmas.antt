@@ -1,15 +1,11 @@
 -- Where a run of changes ends, and the entries of one node.
-use Rattle.std.proofs.Common.{◌≡◌, ℕ, zero, suc, ◌+◌, ◌<◌, ◌≤◌, ◌==◌, Bool, true, false, cond, inl, inr, List, [], ◌∷◌, refl, sym, ◌∙◌, ap, subst, arith, nat_lt, nat_le}
-use Rattle.std.specs.Prelude.{filter}
-use Rattle.std.specs.declared.ops.Bound.TheVariants.{Included, Excluded}
+use Rattle.std.proofs.Common.{◌≡◌, ℕ, zero, suc, ◌+◌, ◌<◌, ◌≤◌, Bool, true, false, cond, inl, inr, refl, sym, ◌∙◌, ap, subst, arith, nat_lt, nat_le}
 use Rattle.std.specs.BTreeMap.{is_at}
-use Rattle.std.specs.BTreeMap.Range.{range_contains, entries_between}
 use Rattle.std.proofs.lemmas.Bool.{cases_eq, cond-true, cond-false, and_left, and_right, and_from}
 use Rattle.std.proofs.lemmas.Bool.Decides.{nat_tests}
 use Rattle.wl_lattice.specs.declared.FlatWord.{FlatWord}
 use Rattle.wl_lattice.specs.declared.FlatWord.TheVariants as flat
 use Rattle.wl_replica.specs.Keys.{Key, key_cmp}
-use Rattle.wl_replica.specs.Canonical.{of_node}
 use Rattle.wl_replica.specs.Known.{is_tick, tick_in, run_goes_on, is_run, greatest_passing, after_edges}
 
 -- ---- the greatest number that passes
@@ -98,14 +94,3 @@ number_after node n k h = grind (arith, nat_tests)
 
 pub number_at_is : (node n : ℕ) (k : Key) → k.0 ≡ node → k.1 ≡ n → is_at (key_cmp (node, n)) k ≡ true
 number_at_is node n k p q = grind (arith, nat_tests)
-
--- the range of a node has its entries
-pub same_test : {W : Type 0} (p q : Key → Bool) → ((k : Key) → p k ≡ q k) → (es : List (Key × W)) → filter (λ f. p f.0) es ≡ filter (λ f. q f.0) es
-same_test p q h [] = refl
-same_test p q h (e ∷ es) = λ i. cond (h e.0 i) (e ∷ same_test p q h es i) (same_test p q h es i)
-
-node_is : (node : ℕ) (k : Key) → range_contains key_cmp (Included (node, 0)) (Excluded (node + 1, 0)) k ≡ (k.0 == node)
-node_is node k = grind (arith, nat_tests)
-
-pub of_node_range : {W : Type 0} (node : ℕ) (es : List (Key × W)) → entries_between key_cmp (Included (node, 0)) (Excluded (node + 1, 0)) es ≡ of_node node es
-of_node_range node es = same_test (range_contains key_cmp (Included (node, 0)) (Excluded (node + 1, 0))) (λ k. k.0 == node) (node_is node) es

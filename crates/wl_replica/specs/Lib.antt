@@ -3,7 +3,6 @@ pub mod State
 pub mod Words
 pub mod Canonical
 pub mod Laws
-pub mod Kept
 pub mod Runs
 pub mod Stored
 pub mod Prepared
@@ -12,4 +11,3 @@ pub mod KnownLaws
 pub mod Slots
 pub mod SlotsOf
 pub mod Dense
-pub mod Firsts

@@ -1,16 +1,14 @@
 -- What is kept of each node: its run, and the tick below which it is known. This project's profile.
-use Rattle.std.specs.Prelude.{◌≡◌, ◌<◌, ◌≤◌, ℕ, max, true, false, List, length, slice_index_or}
-use Rattle.std.specs.BTreeMap.{BTreeMap}
+use Rattle.std.specs.Prelude.{◌≡◌, ℕ, ◌<◌, ◌≤◌, max, true, false, List, length, slice_index_or}
 use Rattle.wl_lattice.specs.declared.FlatWord.{FlatWord}
 use Rattle.wl_lattice.specs.declared.FlatWord.TheVariants as flat
-use Rattle.wl_lattice.specs.declared.MaxWord.{MaxWord}
-use Rattle.wl_lattice.specs.Words.{joined_flat, joined_max, max_word}
+use Rattle.wl_lattice.specs.Words.{joined_flat}
 use Rattle.wl_lattice.specs.SlotContents.{IsRaised}
-use Rattle.wl_record_core.specs.declared.record.Slot.{Slot}
-use Rattle.wl_record_core.specs.Limits.{most_edges}
+use Rattle.wl_record_core.specs.declared.record.Record.{Record}
+use Rattle.wl_record_core.specs.declared.record.Record.TheVariants.{Edge, Clash, Silence}
+use Rattle.wl_record_core.specs.Limits.{most_edges, tick_end}
 use Rattle.wl_replica.specs.declared.known_run.KnownRun.{KnownRun}
-use Rattle.wl_replica.specs.Keys.{Key}
-use Rattle.wl_replica.specs.Kept.{word_in, edges_in, silences_in, AreKept, HasSlots}
+use Rattle.wl_replica.specs.Slots.{Contents}
 use Rattle.wl_replica.specs.Known.{is_run, run_goes_on, after_edges}
 
 -- Of edge words e and ends of silences s: a run that the next edge does not carry on, and how far it tells all.
@@ -25,10 +23,6 @@ pub record IsRunOf (e : ℕ → FlatWord) (s : ℕ → ℕ) (k : KnownRun) : Typ
 abbrev pub IsRunOfEdges : (ℕ → FlatWord) → KnownRun → Type 0
 IsRunOfEdges e k = (s : ℕ → ℕ) × IsRunOf e s k
 
--- the run of each node
-abbrev pub AreRunsOf : BTreeMap Key FlatWord → BTreeMap Key MaxWord → List KnownRun → Type 0
-AreRunsOf edges silences runs = (i : ℕ) (d : KnownRun) → i < length runs → IsRunOf (edges_in edges i) (silences_in silences i) (slice_index_or runs i d)
-
 -- it was the run before a word was joined in at an edge, or the end of a silence after so many changes
 abbrev pub WasRunBeforeEdge : (ℕ → FlatWord) → (ℕ → ℕ) → ℕ → KnownRun → Type 0
 WasRunBeforeEdge e s seq k = (before : ℕ → FlatWord) × (word : FlatWord) × IsRunOf before s k × IsRaised joined_flat before seq word e
@@ -36,22 +30,19 @@ WasRunBeforeEdge e s seq k = (before : ℕ → FlatWord) × (word : FlatWord) ×
 abbrev pub WasRunBeforeSilence : (ℕ → FlatWord) → (ℕ → ℕ) → ℕ → ℕ → KnownRun → Type 0
 WasRunBeforeSilence e s count until k = (before : ℕ → ℕ) × IsRunOf e before k × IsRaised max before count until s
 
--- the runs of all nodes were so
-abbrev pub WereRunsBeforeEdge : BTreeMap Key FlatWord → BTreeMap Key MaxWord → Key → List KnownRun → Type 0
-WereRunsBeforeEdge edges silences key runs =
-    (before : BTreeMap Key FlatWord) × (word : FlatWord) × AreRunsOf before silences runs × IsRaised joined_flat (word_in flat.Nothing before) key word (word_in flat.Nothing edges)
+-- it was the run before a record of the node was taken
+abbrev pub WasRunBefore : Record → (ℕ → FlatWord) → (ℕ → ℕ) → KnownRun → Type 0
+WasRunBefore (Edge i n t) e s k = WasRunBeforeEdge e s n k
+WasRunBefore (Clash i n) e s k = WasRunBeforeEdge e s n k
+WasRunBefore (Silence i n u) e s k = WasRunBeforeSilence e s n u k
 
-abbrev pub WereRunsBeforeSilence : BTreeMap Key FlatWord → BTreeMap Key MaxWord → Key → ℕ → List KnownRun → Type 0
-WereRunsBeforeSilence edges silences key until runs =
-    (before : BTreeMap Key MaxWord) × AreRunsOf edges before runs × IsRaised joined_max (word_in (max_word 0) before) key (max_word until) (word_in (max_word 0) silences)
+-- What slots hold is within the limits of ticks.
+pub record AreInLimits (w : Contents) : Type 0 where
+  pub edges : (i n t : ℕ) → w.edge i n ≡ flat.Value t → t < tick_end
+  pub silences : (i n : ℕ) → w.silence i n ≤ tick_end
 
--- What a replica keeps: its maps, and for each node its run.
-pub record AreKeptWithRuns (nodes : ℕ) (edges : BTreeMap Key FlatWord) (silences : BTreeMap Key MaxWord) (runs : List KnownRun) : Type 0 where
-  pub kept : AreKept nodes edges silences
+-- What is kept of so many nodes: for each its run.
+pub record AreRuns (nodes : ℕ) (w : Contents) (runs : List KnownRun) : Type 0 where
   pub count : length runs ≡ nodes
-  pub known : AreRunsOf edges silences runs
-
--- What a prepared replica keeps: that of a replica, with a key for each slot.
-pub record ArePrepared (nodes : ℕ) (edges : BTreeMap Key FlatWord) (silences : BTreeMap Key MaxWord) (runs : List KnownRun) (slots : List Slot) : Type 0 where
-  pub kept : AreKeptWithRuns nodes edges silences runs
-  pub room : HasSlots edges silences slots
+  pub known : (i : ℕ) (d : KnownRun) → i < nodes → IsRunOf (w.edge i) (w.silence i) (slice_index_or runs i d)
+  pub limits : AreInLimits w

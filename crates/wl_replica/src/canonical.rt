@@ -1,92 +1,102 @@
-// The records that a kept map tells of one node.
-ghost use Rattle.std.specs.Prelude.{◌≡◌, ◌<◌, ◌∷◌, ◌++◌, [], OnOk};
-ghost use Rattle.std.specs.List.{filter_map};
-ghost use Rattle.wl_replica.specs.Canonical.{edge_record, silence_record, of_node};
-ghost use Rattle.wl_replica.specs.Dense.{edge_of_number, row_entries};
-ghost use Rattle.wl_replica.specs.Firsts.{from_number};
+// The walk over what rows know, record by record.
+ghost use Rattle.std.specs.Prelude.{◌≡◌, ◌≤◌, ◌∷◌, ◌++◌, [], List, length, OnOk};
+ghost use Rattle.std.specs.List.{filter_map, flat_map};
+ghost use Rattle.wl_lattice.specs.Words.{max_word};
+ghost use Rattle.wl_record_core.specs.declared.record.Record.{Record};
+ghost use Rattle.wl_replica.specs.Canonical.{edge_record, silence_record};
+ghost use Rattle.wl_replica.specs.Dense.{edge_of_number, row_entries, most_row_places};
 
-use crate::edges::Edges;
-use crate::node_row::{Row, edge_of_number};
+use crate::node_row::CLASH;
 use std::alloc::AllocError;
-use std::collections::BTreeMap;
-use wl_lattice::{FlatWord, MaxWord};
 use wl_record_core::Record;
 
-/// Appends the edge or clash that a word tells, if it tells one.
-fn push_edge(all: &mut Vec<Record>, key: (u8, u32), word: &FlatWord) -> Result<(), AllocError>
-    ensures { OnOk result (all.new.items ≡ all.old.items ++ filter_map edge_record ((key, word.now) ∷ [])) }
-{
-    let (node, seq) = key;
-    match *word {
-        FlatWord::Nothing => {}
-        FlatWord::Value(tick) => all.push(Record::Edge { node, seq, tick })?,
-        FlatWord::Clash => all.push(Record::Clash { node, seq })?,
-    }
-    Ok(())
+/// What records are added to, one behind the other: a list of them, or a text.
+pub trait RecordSink {
+    /// What it consists of: records of a list, bytes of a text.
+    ghost Part: { Type 0 };
+
+    /// All of it.
+    ghost parts: { Self → List Part };
+
+    /// What one record adds.
+    ghost line: { Record → List Part };
+
+    /// Adds a record. Refused when out of memory.
+    fn push_record(&mut self, told: &Record) -> Result<(), AllocError>
+        ensures { OnOk result (parts self.new ≡ parts self.old ++ line told.now) };
 }
 
-/// Appends the edges and clashes of a node's row, by number.
-fn push_row(all: &mut Vec<Record>, row: &Row, node: u8) -> Result<(), AllocError>
-    ensures { OnOk result (all.new.items
-        ≡ all.old.items ++ filter_map edge_record (row_entries edge_of_number node 0 row.now [])) }
-{
-    for place in 0..row.len() {
-        let seq = place as u32;
-        push_edge(all, (node, seq), &edge_of_number(row.number(seq)))?;
+/// A list of records.
+impl RecordSink for Vec<Record> {
+    ghost Part = { Record };
+
+    ghost parts = { λ all. all.items };
+
+    ghost line = { λ r. r ∷ [] };
+
+    fn push_record(&mut self, told: &Record) -> Result<(), AllocError> {
+        self.push(*told)?;
+        Ok(())
     }
-    Ok(())
 }
 
-/// Appends the edges and clashes of a node that a rest has from a number on, by number.
-fn push_rest(
-    all: &mut Vec<Record>,
-    rest: &BTreeMap<(u8, u32), FlatWord>,
+/// Adds the record of an edge's number, if it says something.
+#[inline(always)]
+fn tell_edge<S: RecordSink>(sink: &mut S, node: u8, seq: u32, number: u64) -> Result<(), AllocError>
+    ensures { OnOk result (S.parts sink.new ≡ S.parts sink.old
+        ++ flat_map S.line (filter_map edge_record (((node, seq), edge_of_number number) ∷ []))) }
+{
+    if number == 0 {
+        return Ok(());
+    }
+    if number == CLASH {
+        return sink.push_record(&Record::Clash { node, seq });
+    }
+    let tick = number - 1;
+    sink.push_record(&Record::Edge { node, seq, tick })
+}
+
+/// Adds the record of a silence, if it reaches past tick 0.
+#[inline(always)]
+fn tell_silence<S: RecordSink>(
+    sink: &mut S,
     node: u8,
-    from: u32,
+    count: u32,
+    until: u64,
 ) -> Result<(), AllocError>
-    requires { node < 255 }
-    ensures { OnOk result (all.new.items
-        ≡ all.old.items ++ filter_map edge_record (from_number node from rest.now.entries)) }
+    ensures { OnOk result (S.parts sink.new ≡ S.parts sink.old
+        ++ flat_map S.line (filter_map silence_record (((node, count), max_word until) ∷ []))) }
 {
-    for (key, word) in rest.range((node, from)..(node + 1, 0)) {
-        push_edge(all, *key, word)?;
+    if until == 0 {
+        return Ok(());
+    }
+    sink.push_record(&Record::Silence { node, count, until })
+}
+
+/// Adds a node's edges and clashes, by number.
+pub fn tell_edges<S: RecordSink>(sink: &mut S, node: u8, numbers: &[u64]) -> Result<(), AllocError>
+    requires { length numbers.now ≤ most_row_places }
+    ensures { OnOk result (S.parts sink.new ≡ S.parts sink.old
+        ++ flat_map S.line (filter_map edge_record (row_entries edge_of_number node 0 numbers.now []))) }
+{
+    for (seq, number) in numbers.iter().enumerate() {
+        tell_edge(sink, node, seq as u32, *number)?;
     }
     Ok(())
 }
 
-/// Appends the edges and clashes of a node, by number: those of its row, and those of the rest behind it.
-pub fn push_edges(all: &mut Vec<Record>, edges: &Edges, node: u8) -> Result<(), AllocError>
-    requires { node < 255 }
-    ensures { OnOk result (all.new.items ≡ all.old.items ++ filter_map edge_record (of_node node edges.now.entries)) }
-{
-    let from = match edges.firsts.get(node as usize) {
-        Some(row) => {
-            push_row(all, row, node)?;
-            row.len() as u32
-        }
-        None => 0,
-    };
-    push_rest(all, &edges.rest, node, from)
-}
-
-/// Appends the silences of a node, by count.
-pub fn push_silences(
-    all: &mut Vec<Record>,
-    silences: &BTreeMap<(u8, u32), MaxWord>,
+/// Adds a node's silences, by count.
+pub fn tell_silences<S: RecordSink>(
+    sink: &mut S,
     node: u8,
+    numbers: &[u64],
 ) -> Result<(), AllocError>
-    requires { node < 255 }
-    ensures { OnOk result (all.new.items
-        ≡ all.old.items ++ filter_map silence_record (of_node node silences.now.entries)) }
+    requires { length numbers.now ≤ most_row_places }
+    ensures { OnOk result (S.parts sink.new ≡ S.parts sink.old
+        ++ flat_map S.line (filter_map silence_record (row_entries max_word node 0 numbers.now []))) }
 {
-    for (key, word) in silences.range((node, 0)..(node + 1, 0)) {
-        if word.word != 0 {
-            all.push(Record::Silence {
-                node: key.0,
-                count: key.1,
-                until: word.word,
-            })?;
-        }
+    for (count, until) in numbers.iter().enumerate() {
+        tell_silence(sink, node, count as u32, *until)?;
     }
     Ok(())
 }

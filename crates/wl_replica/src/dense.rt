@@ -1,24 +1,27 @@
-// Rows: what is known of all nodes, kept densely, for records of any order.
-ghost use Rattle.std.specs.Prelude.{◌≡◌, ◌<◌, ◌∷◌, ◌++◌, [], List, ℕ, length, replicate, IfOk, OnOk, OnErr};
+// Rows: what is known of all nodes, with a place for each slot.
+ghost use Rattle.std.specs.Prelude.{◌≡◌, ◌<◌, ◌≤◌, ◌∷◌, ◌++◌, [], List, ℕ, length, IfOk, IfErr, OnOk, OnErr};
+ghost use Rattle.std.specs.List.{AllByRecursion};
+ghost use Rattle.wl_lattice.specs.SlotContents.{IsRaised};
+ghost use Rattle.wl_lattice.specs.Words.{joined_flat, joined_max, max_word};
+ghost use Rattle.wl_record_core.specs.Limits.{most_edges};
+ghost use Rattle.wl_record_core.specs.Slots.{slot_of};
+ghost use Rattle.wl_replica.specs.Keys.{Key};
+ghost use Rattle.wl_replica.specs.State.{Fits};
+ghost use Rattle.wl_replica.specs.Dense.{slot_number, row_of, edge_of_number, edge_words, silence_words, HasNumber};
+ghost use Rattle.wl_replica.specs.Dense.{HasRoomAt, IsGrown, IsToldTo};
 
-use crate::dense_walks::{promise_in, run_in, wave_in};
+use crate::canonical::{RecordSink, tell_edges, tell_silences};
+use crate::known_run::known_of;
 use crate::node_row::{CLASH, Row, edge_of_number};
+use crate::node_rows::{
+    empty_rows, join_edge_rows, join_silence_rows, make_room_at, make_room_for, numbers_of,
+};
+use crate::waves::wave_of;
 use std::alloc::{AllocError, Global};
 use std::marker::Model;
 use wl_intervals::Intervals;
 use wl_lattice::{FlatWord, Join, MaxWord, Slots};
-use wl_record_core::Record;
-
-/// So many empty rows.
-pub fn empty_rows(alloc: Global, nodes: u8) -> Result<Vec<Row>, AllocError>
-    ensures { IfOk result (λ rows. rows.items ≡ replicate nodes []) }
-{
-    let mut rows = Vec::with_capacity(alloc, nodes as usize)?;
-    for _ in 0..nodes {
-        rows.push(Row::new(alloc))?;
-    }
-    Ok(rows)
-}
+use wl_record_core::{Record, Slot};
 
 /// The edges of some nodes: for each node a row of numbers.
 #[derive(Drop)]
@@ -32,9 +35,133 @@ pub struct SilenceRows {
     rows: Vec<Row>,
 }
 
-ghost use Rattle.wl_replica.specs.Keys.{Key};
-ghost use Rattle.wl_replica.specs.Dense.{slot_number, edge_of_number, HasNumber};
-ghost use Rattle.wl_lattice.specs.Words.{max_word};
+impl EdgeRows {
+    /// Joins in the number of a word that says something. Refused when out of memory; no number is then seen to change.
+    #[inline(always)]
+    fn raise_number(&mut self, node: u8, seq: u32, number: u64) -> Result<(), AllocError>
+        requires node { node < length self.old.rows.items }
+        requires some { 0 < number }
+        ensures count { length self.new.rows.items ≡ length self.old.rows.items }
+        ensures ok { OnOk result (IsRaised joined_flat (edge_words self.old.rows.items) (node, seq)
+            (edge_of_number number) (edge_words self.new.rows.items)) }
+        ensures err { OnErr result ((q : Key) → edge_words self.new.rows.items q ≡ edge_words self.old.rows.items q) }
+    {
+        self.rows[node as usize].raise_edge(seq, number)
+    }
+
+    /// Joins in the number of a word that says something, where there is room.
+    #[inline(always)]
+    fn join_number(&mut self, node: u8, seq: u32, number: u64)
+        requires node { node < length self.old.rows.items }
+        requires some { 0 < number }
+        requires room { seq < length (row_of self.old.rows.items node) }
+        ensures count { length self.new.rows.items ≡ length self.old.rows.items }
+        ensures places { (i : ℕ) → length (row_of self.new.rows.items i) ≡ length (row_of self.old.rows.items i) }
+        ensures joined { IsRaised joined_flat (edge_words self.old.rows.items) (node, seq)
+            (edge_of_number number) (edge_words self.new.rows.items) }
+    {
+        self.rows[node as usize].join_edge(seq, number);
+    }
+}
+
+impl SilenceRows {
+    /// Joins in the end of a silence. Refused when out of memory; no number is then seen to change.
+    #[inline(always)]
+    fn raise_number(&mut self, node: u8, count: u32, until: u64) -> Result<(), AllocError>
+        requires { node < length self.old.rows.items }
+        ensures count { length self.new.rows.items ≡ length self.old.rows.items }
+        ensures ok { OnOk result (IsRaised joined_max (silence_words self.old.rows.items) (node, count)
+            (max_word until) (silence_words self.new.rows.items)) }
+        ensures err { OnErr result ((q : Key)
+            → silence_words self.new.rows.items q ≡ silence_words self.old.rows.items q) }
+    {
+        self.rows[node as usize].raise_silence(count, until)
+    }
+
+    /// Joins in the end of a silence, where there is room.
+    #[inline(always)]
+    fn join_number(&mut self, node: u8, count: u32, until: u64)
+        requires node { node < length self.old.rows.items }
+        requires room { count < length (row_of self.old.rows.items node) }
+        ensures count { length self.new.rows.items ≡ length self.old.rows.items }
+        ensures places { (i : ℕ) → length (row_of self.new.rows.items i) ≡ length (row_of self.old.rows.items i) }
+        ensures joined { IsRaised joined_max (silence_words self.old.rows.items) (node, count)
+            (max_word until) (silence_words self.new.rows.items) }
+    {
+        self.rows[node as usize].join_silence(count, until);
+    }
+}
+
+/// Joins in what a record says. Refused when out of memory; no word is then seen to change.
+#[inline(always)]
+fn raise_told(
+    edges: &mut EdgeRows,
+    silences: &mut SilenceRows,
+    told: Record,
+) -> Result<(), AllocError>
+    requires edges { Fits (length edges.old.rows.items) told }
+    requires silences { Fits (length silences.old.rows.items) told }
+    ensures edge_rows { length edges.new.rows.items ≡ length edges.old.rows.items }
+    ensures silence_rows { length silences.new.rows.items ≡ length silences.old.rows.items }
+    ensures ok { OnOk result (IsToldTo told edges.old.rows.items silences.old.rows.items
+        edges.new.rows.items silences.new.rows.items) }
+    ensures err { OnErr result (((q : Key) → edge_words edges.new.rows.items q ≡ edge_words edges.old.rows.items q)
+        × ((q : Key) → silence_words silences.new.rows.items q ≡ silence_words silences.old.rows.items q)) }
+{
+    match told {
+        Record::Edge { node, seq, tick } => edges.raise_number(node, seq, tick + 1),
+        Record::Clash { node, seq } => edges.raise_number(node, seq, CLASH),
+        Record::Silence { node, count, until } => silences.raise_number(node, count, until),
+    }
+}
+
+/// Joins in what a record says, where there is room.
+fn join_told(edges: &mut EdgeRows, silences: &mut SilenceRows, told: &Record)
+    requires edges { Fits (length edges.old.rows.items) told.now }
+    requires silences { Fits (length silences.old.rows.items) told.now }
+    requires room { HasRoomAt edges.old.rows.items silences.old.rows.items (slot_of told.now) }
+    ensures edge_rows { length edges.new.rows.items ≡ length edges.old.rows.items }
+    ensures silence_rows { length silences.new.rows.items ≡ length silences.old.rows.items }
+    ensures edge_places { (i : ℕ) → length (row_of edges.new.rows.items i) ≡ length (row_of edges.old.rows.items i) }
+    ensures silence_places { (i : ℕ)
+        → length (row_of silences.new.rows.items i) ≡ length (row_of silences.old.rows.items i) }
+    ensures told { IsToldTo told.now edges.old.rows.items silences.old.rows.items
+        edges.new.rows.items silences.new.rows.items }
+{
+    match *told {
+        Record::Edge { node, seq, tick } => edges.join_number(node, seq, tick + 1),
+        Record::Clash { node, seq } => edges.join_number(node, seq, CLASH),
+        Record::Silence { node, count, until } => silences.join_number(node, count, until),
+    }
+}
+
+/// Makes room in a slot, where there is a row for it and a record can name it. No number is seen to change.
+fn make_slot(edges: &mut EdgeRows, silences: &mut SilenceRows, slot: Slot) -> Result<(), AllocError>
+    ensures edges { IsGrown edges.old.rows.items edges.new.rows.items }
+    ensures silences { IsGrown silences.old.rows.items silences.new.rows.items }
+    ensures room { OnOk result (HasRoomAt edges.new.rows.items silences.new.rows.items slot) }
+{
+    match slot {
+        Slot::EdgeAt { node, seq } => make_room_at(&mut edges.rows, node, seq),
+        Slot::SilenceAt { node, count } => make_room_at(&mut silences.rows, node, count),
+    }
+}
+
+/// Makes room in each slot. No number is seen to change.
+fn make_slots(
+    edges: &mut EdgeRows,
+    silences: &mut SilenceRows,
+    slots: &[Slot],
+) -> Result<(), AllocError>
+    ensures edges { IsGrown edges.old.rows.items edges.new.rows.items }
+    ensures silences { IsGrown silences.old.rows.items silences.new.rows.items }
+    ensures room { OnOk result (AllByRecursion (HasRoomAt edges.new.rows.items silences.new.rows.items) slots.now) }
+{
+    for slot in slots {
+        make_slot(edges, silences, *slot)?;
+    }
+    Ok(())
+}
 
 /// A key can hold a word where there is a row for its node; a tick has to be below 2^64 - 2.
 impl Slots for EdgeRows {
@@ -59,8 +186,8 @@ impl Slots for EdgeRows {
         let (node, seq) = key;
         match *word {
             FlatWord::Nothing => Ok(()),
-            FlatWord::Value(tick) => self.rows[node as usize].raise_edge(seq, tick + 1),
-            FlatWord::Clash => self.rows[node as usize].raise_edge(seq, CLASH),
+            FlatWord::Value(tick) => self.raise_number(node, seq, tick + 1),
+            FlatWord::Clash => self.raise_number(node, seq, CLASH),
         }
     }
 }
@@ -88,13 +215,14 @@ impl Slots for SilenceRows {
     #[inline(always)]
     fn raise(&mut self, key: (u8, u32), word: &MaxWord) -> Result<(), AllocError> {
         let (node, count) = key;
-        self.rows[node as usize].raise_silence(count, word.word)
+        self.raise_number(node, count, word.word)
     }
 }
 
-/// What is known of so many nodes, as [`Replica`](crate::Replica) knows it, with a place for each slot up to the
-/// greatest that was named. It takes records in any order at the same cost, and memory for the greatest
-/// number of each node, so it is for texts and not for worlds.
+/// What is known of so many nodes, as [`Replica`](crate::Replica) knows it, without a run that is kept up to date.
+///
+/// It has a place for each slot of a node up to the greatest that was named, of 8 bytes: it takes records in any order
+/// at the same cost, and 2 MiB for a record of the last change of a node.
 #[derive(Drop)]
 pub struct Rows {
     nodes: u8,
@@ -118,7 +246,7 @@ impl Model for Rows {
 
 impl Rows {
     ghost use Rattle.wl_record_core.specs.declared.record.Record.{Record};
-    ghost use Rattle.wl_replica.specs.State.{state_of, state_with_record, Fits};
+    ghost use Rattle.wl_replica.specs.State.{state_of, state_with_record, states_joined, IsOfRecords};
 
     /// Rows of so many nodes that know nothing. Refused only when out of memory.
     pub fn new(alloc: Global, nodes: u8) -> Result<Rows, AllocError>
@@ -135,9 +263,10 @@ impl Rows {
         })
     }
 
-    /// The number of nodes that they know of.
+    /// The number of nodes that they know of. What they know of them is what some records say.
     pub fn nodes(&self) -> u8
-        ensures { result ≡ self.now.nodes }
+        ensures value { result ≡ self.now.nodes }
+        ensures records { IsOfRecords self.now }
     {
         self.nodes
     }
@@ -159,7 +288,7 @@ impl Rows {
         ensures records { filter_map edge_record (row_entries edge_of_number node 0 result.now [])
             ≡ filter_map edge_record (of_node node (entries self.now.edges)) }
     {
-        self.edges.rows[node as usize].as_slice()
+        numbers_of(&self.edges.rows, node)
     }
 
     /// How far a node's silences reach, one for each count from 0 on: 0 for none. Past their end nothing is known.
@@ -170,7 +299,7 @@ impl Rows {
         ensures records { filter_map silence_record (row_entries max_word node 0 result.now [])
             ≡ filter_map silence_record (of_node node (entries self.now.silences)) }
     {
-        self.silences.rows[node as usize].as_slice()
+        numbers_of(&self.silences.rows, node)
     }
 
     ghost use Rattle.wl_record_core.specs.Limits.{most_edges};
@@ -184,7 +313,9 @@ impl Rows {
         ensures length { result ≡ run_length (slots_of self.now) node }
         ensures few { result ≤ most_edges }
     {
-        run_in(self.edge_numbers(node), self.silence_numbers(node)).length
+        known_of(self.edge_numbers(node), self.silence_numbers(node))
+            .run
+            .length
     }
 
     /// The tick below which the node's level is known, if all that was taken is true: past the last change of its
@@ -193,9 +324,7 @@ impl Rows {
         requires { node < self.now.nodes }
         ensures { result ≡ horizon (slots_of self.now) node }
     {
-        let silences = self.silence_numbers(node);
-        let run = run_in(self.edge_numbers(node), silences);
-        run.end.max(promise_in(silences, run.length))
+        known_of(self.edge_numbers(node), self.silence_numbers(node)).horizon
     }
 
     /// The ticks below the node's horizon at which it drives dominant, as far as its run tells: from each first to
@@ -204,7 +333,8 @@ impl Rows {
         requires { node < self.now.nodes }
         ensures { IfOk result (λ set. set ≡ wave (slots_of self.now) node) }
     {
-        wave_in(alloc, self.edge_numbers(node), self.silence_numbers(node))
+        let edges = self.edge_numbers(node);
+        wave_of(alloc, edges, known_of(edges, self.silence_numbers(node)), 0)
     }
 
     /// Takes a record that fits: joins what it says into its slot. Refused when out of memory; the rows
@@ -218,15 +348,144 @@ impl Rows {
             → self.new ≡ state_of self.old.nodes (before ++ told ∷ [])) }
         ensures err { OnErr result (self.new ≡ self.old) }
     {
-        match told {
-            Record::Edge { node, seq, tick } => {
-                self.edges.raise((node, seq), &FlatWord::Value(tick))?
-            }
-            Record::Clash { node, seq } => self.edges.raise((node, seq), &FlatWord::Clash)?,
-            Record::Silence { node, count, until } => self
-                .silences
-                .raise((node, count), &MaxWord { word: until })?,
+        raise_told(&mut self.edges, &mut self.silences, told)?;
+        Ok(())
+    }
+
+    /// Joins in what other rows, of as many nodes, know. It makes room for every slot that it lacks, and then joins;
+    /// so when out of memory, the rows are as they were.
+    pub fn join(&mut self, other: &Rows) -> Result<(), AllocError>
+        requires { self.old.nodes ≡ other.now.nodes }
+        ensures ok { OnOk result (self.new ≡ states_joined self.old other.now) }
+        ensures err { OnErr result (self.new ≡ self.old) }
+    {
+        make_room_for(&mut self.edges.rows, &other.edges.rows, self.nodes)?;
+        make_room_for(&mut self.silences.rows, &other.silences.rows, self.nodes)?;
+        join_edge_rows(&mut self.edges.rows, &other.edges.rows, self.nodes);
+        join_silence_rows(&mut self.silences.rows, &other.silences.rows, self.nodes);
+        Ok(())
+    }
+
+    /// Makes room in these slots, so that records of them can be taken without memory. Refused when out of memory; it
+    /// then gives the rows back as they were.
+    pub fn prepare(self, slots: [Slot; PREPARED_SLOTS]) -> Result<PreparedRows, Rows>
+        ensures known { IfOk result (λ prepared. prepared.known ≡ self) }
+        ensures slots { IfOk result (λ prepared. prepared.slots ≡ slots) }
+        ensures err { IfErr result (λ rows. rows ≡ self) }
+    {
+        let mut rows = self;
+        match make_slots(&mut rows.edges, &mut rows.silences, &slots) {
+            Ok(()) => Ok(PreparedRows {
+                nodes: rows.nodes,
+                edges: rows.edges,
+                silences: rows.silences,
+                slots,
+            }),
+            Err(_) => Err(rows),
+        }
+    }
+
+    /// The word of a change.
+    pub fn edge(&self, node: u8, seq: u32) -> FlatWord
+        ensures { result ≡ edge_at self.now (node, seq) }
+    {
+        self.edges.word(&(node, seq))
+    }
+
+    /// The word of a silence after so many changes.
+    pub fn silence(&self, node: u8, count: u32) -> MaxWord
+        ensures { result ≡ silence_at self.now (node, count) }
+    {
+        self.silences.word(&(node, count))
+    }
+
+    ghost use Rattle.std.specs.Prelude.{All};
+    ghost use Rattle.std.specs.Prelude.{All};
+    ghost use Rattle.std.specs.Prelude.{All};
+    ghost use Rattle.std.specs.Prelude.{All};
+    ghost use Rattle.std.specs.List.{flat_map};
+    ghost use Rattle.wl_replica.specs.Canonical.{canonical};
+
+    /// Adds the records that make these rows to a sink, each slot once: node by node, the changes by number and then
+    /// the silences by count. Refused if the sink refuses one.
+    pub fn tell<S: RecordSink>(&self, sink: &mut S) -> Result<(), AllocError>
+        ensures told { OnOk result (S.parts sink.new ≡ S.parts sink.old ++ flat_map S.line (canonical self.now)) }
+        ensures fits { All (Fits self.now.nodes) (canonical self.now) }
+    {
+        for node in 0..self.nodes() {
+            tell_edges(sink, node, self.edge_numbers(node))?;
+            tell_silences(sink, node, self.silence_numbers(node))?;
         }
         Ok(())
+    }
+}
+
+/// In how many slots a replica is prepared to take records: as many as a node's next quantum may be
+/// about, which are its next change, and the silence without it and with it.
+pub const PREPARED_SLOTS: usize = 3;
+
+/// Rows that have room in some slots: they take records of those without memory.
+#[derive(Drop)]
+pub struct PreparedRows {
+    nodes: u8,
+    edges: EdgeRows,
+    silences: SilenceRows,
+    slots: [Slot; PREPARED_SLOTS],
+}
+
+impl Model for PreparedRows {
+    ghost use Rattle.wl_replica.specs.Prepared.{PreparedState, coded_prepared};
+    ghost use Rattle.wl_replica.specs.Dense.{shown_by_rows, ArePreparedRows};
+
+    ghost Value = { PreparedState };
+
+    ghost coded = { coded_prepared };
+
+    ghost view = { λ p. record { known = shown_by_rows p.nodes p.edges.rows.items p.silences.rows.items; slots = p.slots } };
+
+    ghost invariant = { λ p. ArePreparedRows p.nodes p.edges.rows.items p.silences.rows.items p.slots };
+}
+
+impl PreparedRows {
+    ghost use Rattle.std.specs.Prelude.{Contains};
+    ghost use Rattle.wl_replica.specs.Dense.{row_number, HasTicksWithin};
+    ghost use Rattle.wl_replica.specs.State.{edge_at, silence_at, state_with_record};
+
+    /// Takes a record that fits, of one of the slots: joins what it says into it. It takes no memory.
+    pub fn take(&mut self, told: &Record)
+        requires fits { Fits self.old.known.nodes told.now }
+        requires room { Contains self.old.slots (slot_of told.now) }
+        ensures known { self.new.known ≡ state_with_record self.old.known told.now }
+        ensures slots { self.new.slots ≡ self.old.slots }
+    {
+        join_told(&mut self.edges, &mut self.silences, told);
+    }
+
+    /// The numbers of a node's edges, as [`Rows::edge_numbers`] gives them.
+    pub fn edge_numbers(&self, node: u8) -> &[u64]
+        requires { node < self.now.known.nodes }
+        ensures within { HasTicksWithin result.now }
+        ensures words { (n : ℕ) → edge_of_number (row_number result.now n) ≡ edge_at self.now.known (node, n) }
+    {
+        numbers_of(&self.edges.rows, node)
+    }
+
+    /// How far a node's silences reach, as [`Rows::silence_numbers`] gives it.
+    pub fn silence_numbers(&self, node: u8) -> &[u64]
+        requires { node < self.now.known.nodes }
+        ensures { (n : ℕ) → row_number result.now n ≡ (silence_at self.now.known (node, n)).word }
+    {
+        numbers_of(&self.silences.rows, node)
+    }
+
+    /// The rows, which know the same.
+    pub fn into_rows(self) -> Rows
+        ensures { result ≡ self.known }
+    {
+        Rows {
+            nodes: self.nodes,
+            edges: self.edges,
+            silences: self.silences,
+        }
     }
 }

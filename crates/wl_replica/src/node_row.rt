@@ -1,6 +1,7 @@
 // The words of one node as a row of numbers, by the number of the slot.
-ghost use Rattle.std.specs.Prelude.{◌≡◌, ◌<◌, ◌≤◌, ◌∷◌, ◌++◌, [], ℕ, length, max, OnOk, OnErr};
-ghost use Rattle.wl_replica.specs.Dense.{row_number, joined_edge_numbers, IsRowRaised, most_row_places, edge_of_number, HasNumber};
+ghost use Rattle.std.specs.Prelude.{◌≡◌, ◌<◌, ◌≤◌, [], ℕ, length, max, OnOk, OnErr};
+ghost use Rattle.wl_replica.specs.Dense.{row_number, joined_edge_numbers, both_edge_numbers, IsRowRaised};
+ghost use Rattle.wl_replica.specs.Dense.{most_row_places, edge_of_number};
 
 use std::alloc::{AllocError, Global};
 use std::marker::Model;
@@ -19,18 +20,6 @@ pub fn edge_of_number(number: u64) -> FlatWord
         FlatWord::Clash
     } else {
         FlatWord::Value(number - 1)
-    }
-}
-
-/// The number of an edge's word, whose tick has to be below 2^64 - 2.
-pub fn number_of_edge(word: &FlatWord) -> u64
-    requires { HasNumber word.now }
-    ensures { edge_of_number result ≡ word.now }
-{
-    match *word {
-        FlatWord::Nothing => 0,
-        FlatWord::Value(tick) => tick + 1,
-        FlatWord::Clash => CLASH,
     }
 }
 
@@ -56,20 +45,20 @@ impl Model for Row {
     ghost invariant = { λ r. length r.numbers.items ≤ most_row_places };
 }
 
-/// Makes a row long enough for a place, and then some. No number is seen to change.
+/// Makes a row at least so long, and then some. No number is seen to change.
 #[cold]
 #[inline(never)]
-fn grow(numbers: &mut Vec<u64>, place: usize) -> Result<(), AllocError>
-    requires place { place < most_row_places }
-    requires few { length numbers.old.items ≤ most_row_places }
+fn grow(numbers: &mut Vec<u64>, places: usize) -> Result<(), AllocError>
+    requires places { places ≤ most_row_places }
+    requires short { length numbers.old.items < places }
     ensures few { length numbers.new.items ≤ most_row_places }
-    ensures room { OnOk result (place < length numbers.new.items) }
+    ensures longer { length numbers.old.items ≤ length numbers.new.items }
+    ensures room { OnOk result (places ≤ length numbers.new.items) }
     ensures same { (n : ℕ) → row_number numbers.new.items n ≡ row_number numbers.old.items n }
     ensures err { OnErr result (numbers.new.items ≡ numbers.old.items) }
 {
     let twice = numbers.len().saturating_mul(2).min(MOST_PLACES);
-    let wanted = twice.max(place + 1);
-    numbers.resize(wanted, 0)
+    numbers.resize(twice.max(places), 0)
 }
 
 impl Row {
@@ -90,13 +79,18 @@ impl Row {
         self.numbers.len()
     }
 
-    /// Adds a place with a number. Refused when out of memory; the row is then as it was.
-    pub fn push(&mut self, number: u64) -> Result<(), AllocError>
-        requires { length self.old < most_row_places }
-        ensures ok { OnOk result (self.new ≡ self.old ++ number ∷ []) }
+    /// Makes it at least so long. No number is seen to change. Refused when out of memory; the row is then as it was.
+    #[inline(always)]
+    pub fn lengthen(&mut self, places: usize) -> Result<(), AllocError>
+        requires { places ≤ most_row_places }
+        ensures longer { length self.old ≤ length self.new }
+        ensures same { (n : ℕ) → row_number self.new n ≡ row_number self.old n }
+        ensures ok { OnOk result (places ≤ length self.new) }
         ensures err { OnErr result (self.new ≡ self.old) }
     {
-        self.numbers.push(number)?;
+        if self.numbers.len() < places {
+            grow(&mut self.numbers, places)?;
+        }
         Ok(())
     }
 
@@ -131,16 +125,60 @@ impl Row {
         }
     }
 
+    /// Joins the end of a silence in at a place that there is.
+    #[inline(always)]
+    pub fn join_silence(&mut self, place: u32, until: u64)
+        requires { place < length self.old }
+        ensures value { IsRowRaised max self.old place until self.new }
+        ensures same { length self.new ≡ length self.old }
+    {
+        let at = place as usize;
+        self.numbers[at] = self.numbers[at].max(until);
+    }
+
+    /// Joins a number in at a place that there is; 0 changes nothing.
+    fn join_number(&mut self, place: u32, number: u64)
+        requires { place < length self.old }
+        ensures value { IsRowRaised both_edge_numbers self.old place number self.new }
+        ensures same { length self.new ≡ length self.old }
+    {
+        if number != 0 {
+            self.join_edge(place, number);
+        }
+    }
+
+    /// Joins in each number of another row of edges, which is no longer.
+    pub fn join_edges(&mut self, other: &Row)
+        requires { length other.now ≤ length self.old }
+        ensures joined { (n : ℕ) → row_number self.new n
+            ≡ both_edge_numbers (row_number self.old n) (row_number other.now n) }
+        ensures same { length self.new ≡ length self.old }
+    {
+        for at in 0..other.len() {
+            let place = at as u32;
+            self.join_number(place, other.number(place));
+        }
+    }
+
+    /// Joins in each end of another row of silences, which is no longer.
+    pub fn join_silences(&mut self, other: &Row)
+        requires { length other.now ≤ length self.old }
+        ensures joined { (n : ℕ) → row_number self.new n ≡ max (row_number self.old n) (row_number other.now n) }
+        ensures same { length self.new ≡ length self.old }
+    {
+        for at in 0..other.len() {
+            let place = at as u32;
+            self.join_silence(place, other.number(place));
+        }
+    }
+
     /// Joins the number of an edge's word in at a place. Refused when out of memory; the row is then as it was.
     #[inline(always)]
     pub fn raise_edge(&mut self, place: u32, number: u64) -> Result<(), AllocError>
         ensures ok { OnOk result (IsRowRaised joined_edge_numbers self.old place number self.new) }
         ensures err { OnErr result (self.new ≡ self.old) }
     {
-        let at = place as usize;
-        if at >= self.numbers.len() {
-            grow(&mut self.numbers, at)?;
-        }
+        self.lengthen(place as usize + 1)?;
         self.join_edge(place, number);
         Ok(())
     }
@@ -151,11 +189,8 @@ impl Row {
         ensures ok { OnOk result (IsRowRaised max self.old place until self.new) }
         ensures err { OnErr result (self.new ≡ self.old) }
     {
-        let at = place as usize;
-        if at >= self.numbers.len() {
-            grow(&mut self.numbers, at)?;
-        }
-        self.numbers[at] = self.numbers[at].max(until);
+        self.lengthen(place as usize + 1)?;
+        self.join_silence(place, until);
         Ok(())
     }
 }

@@ -1,18 +1,17 @@
 // A replica: what is known of all nodes.
-ghost use Rattle.std.specs.Prelude.{◌≡◌, ◌↔◌, ℕ, IsTrue, IfOk, IfErr, OnOk, OnErr};
+ghost use Rattle.std.specs.Prelude.{◌≡◌, ◌↔◌, ℕ, length, Contains, IsTrue, IfOk, IfErr, OnOk, OnErr};
+ghost use Rattle.wl_record_core.specs.Slots.{slot_of};
+ghost use Rattle.wl_replica.specs.State.{slots_of, state_with_record, Fits};
+ghost use Rattle.wl_replica.specs.Runs.{AreInLimits, AreRuns};
 
-use crate::batch::{join_slots, make_slots};
-use crate::canonical::{push_edges, push_silences};
-use crate::edges::Edges;
-use crate::known_run::{KnownRun, NOTHING, all_came, edge_came, silence_came};
+use crate::dense::{PREPARED_SLOTS, PreparedRows, Rows};
+use crate::known_run::{KnownRun, NOTHING, known_of, record_came};
 use crate::laws::known_laws;
 use crate::waves::{is_dominant_at, wave_after_of, wave_of};
-use crate::words::{join_in, make_room, raise};
 use std::alloc::{AllocError, Global};
-use std::collections::BTreeMap;
 use std::marker::Model;
 use wl_intervals::Intervals;
-use wl_lattice::{FlatWord, MaxWord, Slots};
+use wl_lattice::{FlatWord, MaxWord};
 use wl_level::Level;
 use wl_record_core::{Record, Slot};
 use wl_topology::Topology;
@@ -31,27 +30,27 @@ pub enum Word {
 ///
 /// A slot that holds nothing counts as a slot that is absent. What is taken is joined in, so it
 /// doesn't matter in what order records come, nor how often.
+///
+/// It has a place for each slot of a node up to the greatest that was named, of 8 bytes. Where records are true of a
+/// plan these are as many as its changes; a stranger's record of the last change of a node takes 2 MiB.
 #[derive(Drop)]
 pub struct Replica {
-    nodes: u8,
-    edges: Edges,
-    silences: BTreeMap<(u8, u32), MaxWord>,
+    rows: Rows,
     runs: Vec<KnownRun>,
 }
 
 impl Model for Replica {
-    ghost use Rattle.wl_replica.specs.State.{State};
+    ghost use Rattle.wl_replica.specs.State.{State, slots_of};
     ghost use Rattle.wl_replica.specs.Stored.{coded_state};
-    ghost use Rattle.wl_replica.specs.Kept.{words_shown, holds_edge, holds_silence};
-    ghost use Rattle.wl_replica.specs.Runs.{AreKeptWithRuns};
+    ghost use Rattle.wl_replica.specs.Runs.{AreRuns};
 
     ghost Value = { State };
 
     ghost coded = { coded_state };
 
-    ghost view = { λ r. record { nodes = r.nodes; edges = words_shown holds_edge r.edges.entries; silences = words_shown holds_silence r.silences.entries } };
+    ghost view = { λ r. r.rows };
 
-    ghost invariant = { λ r. AreKeptWithRuns r.nodes r.edges r.silences r.runs.items };
+    ghost invariant = { λ r. AreRuns r.rows.nodes (slots_of r.rows) r.runs.items };
 }
 
 impl Replica {
@@ -73,9 +72,7 @@ impl Replica {
         let mut runs = Vec::new(alloc);
         runs.resize(nodes as usize, NOTHING)?;
         Ok(Replica {
-            nodes,
-            edges: Edges::new(alloc, nodes)?,
-            silences: BTreeMap::new(alloc),
+            rows: Rows::new(alloc, nodes)?,
             runs,
         })
     }
@@ -85,7 +82,7 @@ impl Replica {
         ensures value { result ≡ self.now.nodes }
         ensures records { IsOfRecords self.now }
     {
-        self.nodes
+        self.rows.nodes()
     }
 
     /// Whether the replica can take a record: its node is one of the replica's, and its numbers
@@ -94,7 +91,7 @@ impl Replica {
         ensures { IsTrue result ↔ Fits self.now.nodes told.now }
     {
         let node = told.node();
-        node < self.nodes && told.within()
+        node < self.rows.nodes() && told.within()
     }
 
     /// Takes a record that fits: joins what it says into its slot. Refused when out of memory;
@@ -110,27 +107,15 @@ impl Replica {
             → HoldsTrue self.old.nodes table (slots_of self.old) → IsTrueOf self.old.nodes table told → NoHorizonFalls self.old self.new) }
     {
         known_laws();
-        match told {
-            Record::Edge { node, seq, tick } => {
-                self.edges.raise_at((node, seq), &FlatWord::Value(tick))?;
-                edge_came(&mut self.runs, &self.edges, &self.silences, node, seq);
-            }
-            Record::Clash { node, seq } => {
-                self.edges.raise_at((node, seq), &FlatWord::Clash)?;
-                edge_came(&mut self.runs, &self.edges, &self.silences, node, seq);
-            }
-            Record::Silence { node, count, until } => {
-                raise(&mut self.silences, (node, count), &MaxWord { word: until })?;
-                silence_came(
-                    &mut self.runs,
-                    &self.edges,
-                    &self.silences,
-                    node,
-                    count,
-                    until,
-                );
-            }
-        }
+        self.rows.take(told)?;
+        let node = told.node();
+        let edges = self.rows.edge_numbers(node);
+        record_came(
+            &mut self.runs,
+            edges,
+            self.rows.silence_numbers(node),
+            &told,
+        );
         Ok(())
     }
 
@@ -141,20 +126,14 @@ impl Replica {
         ensures slots { IfOk result (λ prepared. prepared.slots ≡ slots) }
         ensures err { IfErr result (λ replica. replica ≡ self) }
     {
-        let mut replica = self;
-        match make_slots(&mut replica.edges, &mut replica.silences, &slots) {
-            Ok(()) => Ok(Prepared {
-                nodes: replica.nodes,
-                edges: replica.edges,
-                silences: replica.silences,
-                runs: replica.runs,
-                slots,
-            }),
-            Err(_) => Err(replica),
+        let Replica { rows, runs } = self;
+        match rows.prepare(slots) {
+            Ok(rows) => Ok(Prepared { rows, runs }),
+            Err(rows) => Err(Replica { rows, runs }),
         }
     }
 
-    /// Joins in what the other replica, of as many nodes, knows. It puts nothing at every slot that it
+    /// Joins in what the other replica, of as many nodes, knows. It makes room for every slot that it
     /// lacks, and then joins; so when out of memory, the replica is as it was.
     pub fn join(&mut self, other: &Replica) -> Result<(), AllocError>
         requires { self.old.nodes ≡ other.now.nodes }
@@ -167,11 +146,8 @@ impl Replica {
             → HoldsTrue self.old.nodes table (slots_of self.old) → HoldsTrue self.old.nodes table (slots_of other.now) → NoHorizonFalls self.old self.new) }
     {
         known_laws();
-        self.edges.make_room(&other.edges)?;
-        make_room(&mut self.silences, &other.silences)?;
-        self.edges.join_in(&other.edges);
-        join_in(&mut self.silences, &other.silences);
-        all_came(&mut self.runs, &self.edges, &self.silences, self.nodes);
+        self.rows.join(&other.rows)?;
+        all_came(&mut self.runs, &self.rows);
         Ok(())
     }
 
@@ -180,13 +156,8 @@ impl Replica {
         ensures { result ≡ word_at self.now slot }
     {
         match slot {
-            Slot::EdgeAt { node, seq } => Word::Edge(self.edges.word(&(node, seq))),
-            Slot::SilenceAt { node, count } => Word::Silence(
-                self.silences
-                    .get(&(node, count))
-                    .copied()
-                    .unwrap_or(MaxWord { word: 0 }),
-            ),
+            Slot::EdgeAt { node, seq } => Word::Edge(self.rows.edge(node, seq)),
+            Slot::SilenceAt { node, count } => Word::Silence(self.rows.silence(node, count)),
         }
     }
 
@@ -194,7 +165,7 @@ impl Replica {
     pub fn clone_in(&self, alloc: Global) -> Result<Replica, AllocError>
         ensures { IfOk result (λ other. other ≡ self.now) }
     {
-        let mut other = Replica::new(alloc, self.nodes)?;
+        let mut other = Replica::new(alloc, self.rows.nodes())?;
         other.join(self)?;
         Ok(other)
     }
@@ -206,10 +177,7 @@ impl Replica {
         ensures fits { IfOk result (λ all. All (Fits self.now.nodes) all.items) }
     {
         let mut all = Vec::new(alloc);
-        for node in 0..self.nodes {
-            push_edges(&mut all, &self.edges, node)?;
-            push_silences(&mut all, &self.silences, node)?;
-        }
+        self.rows.tell(&mut all)?;
         Ok(all)
     }
 
@@ -257,7 +225,12 @@ impl Replica {
         ensures set { IfOk result (λ set. set ≡ wave (slots_of self.now) node) }
         ensures early { IfOk result (λ set. IfSome (last_end set) (λ end. end ≤ tick_end)) }
     {
-        wave_of(alloc, &self.edges, node, self.runs[node as usize], 0)
+        wave_of(
+            alloc,
+            self.rows.edge_numbers(node),
+            self.runs[node as usize],
+            0,
+        )
     }
 
     /// Of the wave, the intervals that end after a tick, without a walk over the changes before it: from that tick
@@ -267,7 +240,12 @@ impl Replica {
         ensures set { IfOk result (λ set. set ≡ wave_after (slots_of self.now) node tick) }
         ensures level { IfOk result (λ set. (t : ℕ) → tick ≤ t → covers set t ≡ wave_at (slots_of self.now) node t) }
     {
-        wave_after_of(alloc, &self.edges, node, self.runs[node as usize], tick)
+        wave_after_of(
+            alloc,
+            self.rows.edge_numbers(node),
+            self.runs[node as usize],
+            tick,
+        )
     }
 
     /// The tick below which the line at node `j` is known: the least horizon of a node, later by its
@@ -278,7 +256,7 @@ impl Replica {
         ensures { result ≡ place_horizon self.now.nodes (delay_of topology.now) (slots_of self.now) j }
     {
         let mut least = self.known_until(topology, 0, j);
-        for i in 1..self.nodes {
+        for i in 1..self.rows.nodes() {
             least = least.min(self.known_until(topology, i, j));
         }
         least
@@ -303,7 +281,7 @@ impl Replica {
         requires known { t < place_horizon self.now.nodes (delay_of topology.now) (slots_of self.now) j }
         ensures { result ≡ level_of (driven self.now.nodes (delay_of topology.now) (wave_at (slots_of self.now)) j t) }
     {
-        for i in 0..self.nodes {
+        for i in 0..self.rows.nodes() {
             if self.drove(topology, i, j, t) {
                 return Level::Dominant;
             }
@@ -321,13 +299,20 @@ impl Replica {
             result ≡ (nat_le delay t && wave_at (slots_of self.now) i (t - delay)) }
     {
         let delay = topology.delay(i, j);
-        delay <= t && is_dominant_at(&self.edges, i, self.runs[i as usize], t - delay)
+        delay <= t && is_dominant_at(self.rows.edge_numbers(i), self.runs[i as usize], t - delay)
     }
 }
 
-/// In how many slots a replica is prepared to take records: as many as a node's next quantum may be
-/// about, which are its next change, and the silence without it and with it.
-pub const PREPARED_SLOTS: usize = 3;
+/// Works the run of each node out anew.
+fn all_came(runs: &mut Vec<KnownRun>, rows: &Rows)
+    requires count { length runs.old.items ≡ rows.now.nodes }
+    requires limits { AreInLimits (slots_of rows.now) }
+    ensures { AreRuns rows.now.nodes (slots_of rows.now) runs.new.items }
+{
+    for node in 0..rows.nodes() {
+        runs[node as usize] = known_of(rows.edge_numbers(node), rows.silence_numbers(node));
+    }
+}
 
 /// A replica that has room in some slots, made by [`Replica::prepare`]: it takes records of those
 /// without memory, and gives the replica.
@@ -336,25 +321,41 @@ pub const PREPARED_SLOTS: usize = 3;
 /// before that happens.
 #[derive(Drop)]
 pub struct Prepared {
-    nodes: u8,
-    edges: Edges,
-    silences: BTreeMap<(u8, u32), MaxWord>,
+    rows: PreparedRows,
     runs: Vec<KnownRun>,
-    slots: [Slot; PREPARED_SLOTS],
 }
 
 impl Model for Prepared {
+    ghost use Rattle.wl_replica.specs.State.{slots_of};
     ghost use Rattle.wl_replica.specs.Prepared.{PreparedState, coded_prepared};
-    ghost use Rattle.wl_replica.specs.Kept.{words_shown, holds_edge, holds_silence};
-    ghost use Rattle.wl_replica.specs.Runs.{ArePrepared};
+    ghost use Rattle.wl_replica.specs.Runs.{AreRuns};
 
     ghost Value = { PreparedState };
 
     ghost coded = { coded_prepared };
 
-    ghost view = { λ p. record { known = record { nodes = p.nodes; edges = words_shown holds_edge p.edges.entries; silences = words_shown holds_silence p.silences.entries }; slots = p.slots } };
+    ghost view = { λ p. p.rows };
 
-    ghost invariant = { λ p. ArePrepared p.nodes p.edges p.silences p.runs.items p.slots };
+    ghost invariant = { λ p. AreRuns p.rows.known.nodes (slots_of p.rows.known) p.runs.items };
+}
+
+/// Takes a record into the rows, and brings the run of its node up to date.
+fn take_one(rows: &mut PreparedRows, runs: &mut Vec<KnownRun>, told: &Record)
+    requires fits { Fits rows.old.known.nodes told.now }
+    requires room { Contains rows.old.slots (slot_of told.now) }
+    requires runs { AreRuns rows.old.known.nodes (slots_of rows.old.known) runs.old.items }
+    ensures known { rows.new.known ≡ state_with_record rows.old.known told.now }
+    ensures slots { rows.new.slots ≡ rows.old.slots }
+    ensures runs { AreRuns rows.new.known.nodes (slots_of rows.new.known) runs.new.items }
+{
+    rows.take(told);
+    let node = told.node();
+    record_came(
+        runs,
+        rows.edge_numbers(node),
+        rows.silence_numbers(node),
+        told,
+    );
 }
 
 impl Prepared {
@@ -380,18 +381,15 @@ impl Prepared {
             → NoHorizonFalls self.known result }
     {
         known_laws();
-        let mut prepared = self;
-        join_slots(
-            &mut prepared.edges,
-            &mut prepared.silences,
-            &mut prepared.runs,
-            told,
-        );
+        let Prepared { rows, runs } = self;
+        let mut rows = rows;
+        let mut runs = runs;
+        for record in told {
+            take_one(&mut rows, &mut runs, record);
+        }
         Replica {
-            nodes: prepared.nodes,
-            edges: prepared.edges,
-            silences: prepared.silences,
-            runs: prepared.runs,
+            rows: rows.into_rows(),
+            runs,
         }
     }
 }

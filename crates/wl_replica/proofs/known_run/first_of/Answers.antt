@@ -4,5 +4,5 @@ use Rattle.wl_replica.proofs.known_run.first_of.Goals as goal
 
 pub overflow_add-end : goal.overflow_add-end
 overflow_add-end c =
-    let within = c.requires (c.args.node, c.args.count - 1) c.in-Value.tick (sym c.word.ensures ∙ c.in-Value.is) in
+    let within = c.requires (c.args.count - 1) c.in-Value.tick (sym c.edge_at.ensures ∙ c.in-Value.is) in
     omega (arith, within.1, tick_end-is)

@@ -1,11 +1,11 @@
 use Rattle.std.proofs.Common.{◌+◌, ◌-◌, ◌/◌, arith}
-use Rattle.wl_replica.specs.Kept.{edges_in}
+use Rattle.wl_replica.specs.Dense.{edges_of_row}
 use Rattle.wl_replica.proofs.HalvingLemmas.{run_climbs, middle_below}
 use Rattle.wl_replica.proofs.waves.changes_up_to.Goals as goal
 
 pub loop-low-preserved-then-tick_at-tick : goal.loop-low-preserved-then-tick_at-tick
 loop-low-preserved-then-tick_at-tick c =
-    let e = edges_in c.args.edges.now c.args.node in
+    let e = edges_of_row c.args.edges.now in
     let inv = c.loop-low.invariant in
     let m = c.loop-low.low + (c.loop-low.high - c.loop-low.low) / 2 in
     let below = middle_below c.loop-low.low c.loop-low.high c.loop-low-test.true in
@@ -18,7 +18,7 @@ loop-low-preserved-then-tick_at-tick c =
 
 pub loop-low-preserved : goal.loop-low-preserved
 loop-low-preserved c =
-    let e = edges_in c.args.edges.now c.args.node in
+    let e = edges_of_row c.args.edges.now in
     let inv = c.loop-low.invariant in
     let m = c.loop-low.low + (c.loop-low.high - c.loop-low.low) / 2 in
     let below = middle_below c.loop-low.low c.loop-low.high c.loop-low-test.true in

@@ -1,5 +1,5 @@
 use Rattle.std.proofs.Common.{◌-◌, ◌≤◌, ◌<◌, ℕ}
-use Rattle.wl_replica.specs.Kept.{edges_in}
+use Rattle.wl_replica.specs.Dense.{edges_of_row}
 use Rattle.wl_replica.specs.Known.{tick_in}
 use Rattle.wl_replica.proofs.waves.changes_up_to.Given as goal
 
@@ -8,8 +8,8 @@ abbrev pub invariant-loop-low : goal.invariant-loop-low
 invariant-loop-low l = record {
   order : l.low ≤ l.high;
   few : l.high ≤ l.fn.known.run.length;
-  before : (n : ℕ) → n < l.low → tick_in (edges_in l.fn.edges l.fn.node n) ≤ l.fn.tick;
-  after : (n : ℕ) → l.high ≤ n → n < l.fn.known.run.length → l.fn.tick < tick_in (edges_in l.fn.edges l.fn.node n);
+  before : (n : ℕ) → n < l.low → tick_in (edges_of_row l.fn.edges n) ≤ l.fn.tick;
+  after : (n : ℕ) → l.high ≤ n → n < l.fn.known.run.length → l.fn.tick < tick_in (edges_of_row l.fn.edges n);
 }
 
 abbrev pub decreases-loop-low : goal.decreases-loop-low

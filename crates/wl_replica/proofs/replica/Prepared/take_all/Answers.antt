@@ -1,40 +1,48 @@
-use Rattle.std.proofs.Common.{◌≡◌, ℕ, List, All, Contains, length, slice_index_or, ap, subst, sym, ◌∙◌}
-use Rattle.std.proofs.lemmas.List.Elements.{All-from_recursion, recursion_from_All}
+use Rattle.std.proofs.Common.{◌≡◌, ◌+◌, ◌∷◌, [], List, suc, get_or, take, ap, subst, sym, ◌∙◌, arith}
+use Rattle.std.specs.Prelude.{Contains}
+use Rattle.std.proofs.Math.Seq.{take-suc}
+use Rattle.std.proofs.lemmas.List.{take_all}
+use Rattle.wl_record_core.specs.declared.record.Record.TheVariants.{Edge}
 use Rattle.wl_record_core.specs.declared.record.Slot.{Slot}
 use Rattle.wl_record_core.specs.Slots.{slot_of}
-use Rattle.wl_replica.specs.Kept.{HasSlot}
 use Rattle.wl_replica.specs.Prepared.{PreparedState}
-use Rattle.wl_replica.specs.State.{Fits}
-use Rattle.wl_replica.specs.Runs.{AreKeptWithRuns}
-use Rattle.wl_replica.proofs.BatchLemmas.{all_shown}
-use Rattle.wl_replica.proofs.KeptFits.{taken_keeps}
-use Rattle.wl_replica.proofs.States.{taken_after}
+use Rattle.wl_replica.specs.State.{State, Fits, state_with_record, state_with_records}
+use Rattle.wl_replica.proofs.Keeps.{taken_keeps}
+use Rattle.wl_replica.proofs.States.{joining, taking, taken_after}
 use Rattle.wl_replica.proofs.replica.Prepared.take_all.Goals as goal
 
-pub join_slots-requires : goal.join_slots-requires
-join_slots-requires c =
-    let P : Slot → Type 0 = HasSlot c.prepared.inside.edges c.prepared.inside.silences in
-    let slots : c.args.self.slots ≡ c.prepared.inside.slots = sym (ap (λ (p : PreparedState). p.slots) c.prepared.view_is) in
-    let nodes : c.args.self.known.nodes ≡ length c.prepared.inside.runs.items = sym (c.prepared.invariant.kept.count ∙ ap (λ (p : PreparedState). p.known.nodes) c.prepared.view_is) in
-    let each = All-from_recursion P c.prepared.inside.slots c.prepared.invariant.room in
+pub take_one-requires-clause-fits : goal.take_one-requires-clause-fits
+take_one-requires-clause-fits c =
+    subst (λ (s : State). Fits s.nodes (get_or c.args.told.now c.loop-record.record-index (Edge 0 0 0))) (sym c.loop-record.invariant.known) (c.requires.fits c.loop-record.record-index (Edge 0 0 0) c.loop-record-test.true)
+
+pub take_one-requires-clause-room : goal.take_one-requires-clause-room
+take_one-requires-clause-room c =
+    subst (λ (slots : List Slot). Contains slots (slot_of (get_or c.args.told.now c.loop-record.record-index (Edge 0 0 0)))) (sym c.loop-record.invariant.slots) (c.requires.room c.loop-record.record-index (Edge 0 0 0) c.loop-record-test.true)
+
+pub loop-record-preserved : goal.loop-record-preserved
+loop-record-preserved c =
+    let told = c.args.told.now in
+    let i = c.loop-record.record-index in
+    let s = c.args.self.known in
+    let r = get_or told i (Edge 0 0 0) in
+    let next : take (suc i) told ≡ take (i + 1) told = ap (λ k. take k told) (let same : suc i ≡ i + 1 = omega arith in same) in
     record {
-      room = recursion_from_All (λ r. P (slot_of r)) c.args.told.now (λ k d b.
-          let slot = slot_of (slice_index_or c.args.told.now k d) in
-          let there = subst (λ (slots : List Slot). Contains slots slot) slots (c.requires.room k d b) in
-          subst P there.2 (each there.0 slot there.1));
-      kept = subst (λ n. AreKeptWithRuns n c.prepared.inside.edges c.prepared.inside.silences c.prepared.inside.runs.items) (sym c.prepared.invariant.kept.count) c.prepared.invariant.kept;
-      fits = recursion_from_All (Fits (length c.prepared.inside.runs.items)) c.args.told.now (subst (λ (n : ℕ). All (Fits n) c.args.told.now) nodes c.requires.fits);
+      known = c.take_one.ensures.known ∙ (ap (λ (t : State). state_with_record t r) c.loop-record.invariant.known
+          ∙ (taking.in_parts s (take i told) (r ∷ []) ∙ ap (state_with_records s) (sym (take-suc told i (Edge 0 0 0) c.loop-record-test.true) ∙ next)));
+      slots = c.take_one.ensures.slots ∙ c.loop-record.invariant.slots;
+      runs = c.take_one.ensures.runs;
     }
 
-pub invariant_of-result : goal.invariant_of-result
-invariant_of-result c =
-    subst (λ n. AreKeptWithRuns n c.join_slots.new.edges c.join_slots.new.silences c.join_slots.new.runs.items) c.prepared.invariant.kept.count c.join_slots.ensures.kept
+pub loop-record-init : goal.loop-record-init
+loop-record-init c = record {
+  known = ap (λ (p : PreparedState). p.known) c.self.view_is ∙ sym (joining.neutral c.args.self.known);
+  slots = ap (λ (p : PreparedState). p.slots) c.self.view_is;
+  runs = c.self.invariant;
+}
 
 pub returns-clause-value : goal.returns-clause-value
 returns-clause-value c =
-    all_shown c.prepared.inside.nodes c.prepared.inside.edges c.join_slots.new.edges c.prepared.inside.silences c.join_slots.new.silences c.args.told.now c.prepared.invariant.kept.kept
-    c.join_slots.ensures.edges_ordered c.join_slots.ensures.silences_ordered c.join_slots.ensures.edges_joined.words c.join_slots.ensures.silences_joined.words
-    c.args.self.known (ap (λ (p : PreparedState). p.known) c.prepared.view_is)
+    c.into_rows.ensures ∙ (c.loop-record.invariant.known ∙ ap (state_with_records c.args.self.known) (take_all c.loop-record.record-index c.args.told.now c.loop-record-test.false))
 
 pub returns-clause-after : goal.returns-clause-after
 returns-clause-after c = taken_after c.args.self.known _ c.args.told.now (returns-clause-value c)

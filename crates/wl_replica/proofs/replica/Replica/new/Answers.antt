@@ -1,8 +1,10 @@
-use Rattle.std.proofs.Common.{refl}
-use Rattle.wl_replica.proofs.Tells.{shown_nothing}
-use Rattle.wl_replica.proofs.States.{same_parts}
-use Rattle.wl_replica.specs.Kept.{holds_edge, holds_silence}
+use Rattle.std.proofs.Common.{◌≡◌, length, refl, rules, arith}
+use Rattle.std.proofs.lemmas.Grind.{common_steps}
+use Rattle.wl_replica.proofs.RunsTaken.{nothing_runs}
 use Rattle.wl_replica.proofs.replica.Replica.new.Goals as goal
 
-pub returns : goal.returns
-returns c = same_parts c.args.nodes _ _ _ _ _ refl (shown_nothing holds_edge c.in_ok-new.field-0.entries c.in_ok-new.ensures) (shown_nothing holds_silence c.new-2.result.entries c.new-2.ensures.empty)
+pub invariant_of-result : goal.invariant_of-result
+invariant_of-result c =
+    let count : length c.resize.new.self.items ≡ c.args.nodes = first_of (search rules, grind (arith, common_steps)) in
+    nothing_runs c.args.nodes c.in_ok-new.field-0 c.in_ok-new.ensures c.resize.new.self.items count
+    (λ i d lt. c.in_ok-resize.ensures.by_index.1 i d refl (omega (arith, c.new-runs.ensures.len)) lt)

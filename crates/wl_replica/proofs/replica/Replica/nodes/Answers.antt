@@ -1,5 +1,6 @@
-use Rattle.wl_replica.proofs.OfRecords.{of_records}
+use Rattle.std.proofs.Common.{subst}
+use Rattle.wl_replica.specs.State.{IsOfRecords}
 use Rattle.wl_replica.proofs.replica.Replica.nodes.Goals as goal
 
 pub returns-clause-records : goal.returns-clause-records
-returns-clause-records c = of_records c.self.inside.nodes c.self.inside.edges c.self.inside.silences c.self.invariant.kept c.args.self.now c.self.view_is
+returns-clause-records c = subst IsOfRecords c.self.view_is c.nodes.ensures.records

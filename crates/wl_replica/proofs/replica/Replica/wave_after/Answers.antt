@@ -3,22 +3,27 @@ use Rattle.std.specs.Prelude.{IfOk, filter}
 use Rattle.std.proofs.lemmas.Result.{IfOk-weaker}
 use Rattle.wl_intervals.specs.Pairs.{covers}
 use Rattle.wl_replica.specs.State.{State, slots_of}
+use Rattle.wl_replica.specs.Dense.{edges_of_row}
 use Rattle.wl_replica.specs.Known.{wave, wave_after, wave_at}
-use Rattle.wl_replica.proofs.RunsKept.{run_held, wave_told}
+use Rattle.wl_replica.proofs.RunsKept.{run_held, run_read, wave_read}
 use Rattle.wl_replica.proofs.WaveAfter.{covers_after}
 use Rattle.wl_replica.proofs.replica.Replica.wave_after.Goals as goal
 
 pub wave_after_of-requires : goal.wave_after_of-requires
 wave_after_of-requires c =
-    let same : c.self.inside.nodes ≡ c.args.self.now.nodes = ap (λ (s : State). s.nodes) c.self.view_is in
-    (_, run_held c.self.inside.nodes c.self.inside.edges c.self.inside.silences c.self.inside.runs.items c.self.invariant c.args.node c.index.result.now c.index.ensures (omega (arith, c.requires, same)))
+    let same : c.self.inside.rows.nodes ≡ c.args.self.now.nodes = ap (λ (s : State). s.nodes) c.self.view_is in
+    let w = slots_of c.self.inside.rows in
+    let run = run_held w c.self.inside.rows.nodes c.self.inside.runs.items c.self.invariant c.args.node c.index.result.now c.index.ensures (omega (arith, c.requires, same)) in
+    run_read w c.args.node c.index.result.now run (edges_of_row c.edge_numbers.result.now) c.edge_numbers.ensures.words
 
 pub returns-clause-set : goal.returns-clause-set
 returns-clause-set c =
-    let same : c.self.inside.nodes ≡ c.args.self.now.nodes = ap (λ (s : State). s.nodes) c.self.view_is in
-    let run = run_held c.self.inside.nodes c.self.inside.edges c.self.inside.silences c.self.inside.runs.items c.self.invariant c.args.node c.index.result.now c.index.ensures (omega (arith, c.requires, same)) in
+    let same : c.self.inside.rows.nodes ≡ c.args.self.now.nodes = ap (λ (s : State). s.nodes) c.self.view_is in
+    let w = slots_of c.self.inside.rows in
+    let run = run_held w c.self.inside.rows.nodes c.self.inside.runs.items c.self.invariant c.args.node c.index.result.now c.index.ensures (omega (arith, c.requires, same)) in
     subst (λ (ps : List (ℕ × ℕ)). IfOk c.wave_after_of.result (λ set. set ≡ filter (λ p. nat_lt c.args.tick p.1) ps))
-    (wave_told c.self.inside.nodes c.self.inside.edges c.self.inside.silences c.self.inside.runs.items c.self.invariant c.args.self.now c.self.view_is c.args.node c.index.result.now run) c.wave_after_of.ensures
+    (wave_read w c.args.node c.index.result.now run (edges_of_row c.edge_numbers.result.now) c.edge_numbers.ensures.words
+    ∙ ap (λ (s : State). wave (slots_of s) c.args.node) c.self.view_is) c.wave_after_of.ensures
 
 pub returns-clause-level : goal.returns-clause-level
 returns-clause-level c =

@@ -1,0 +1,7 @@
+use Rattle.std.proofs.Common.{max}
+use Rattle.wl_replica.proofs.RowSteps.{IsJoinedTo}
+use Rattle.wl_replica.proofs.node_row.Row.join_silences.Given as goal
+
+-- what is joined in so far
+abbrev pub invariant-loop-at : goal.invariant-loop-at
+invariant-loop-at l = IsJoinedTo max l.fn.self l.fn.other l.self l.at
