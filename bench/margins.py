@@ -2,7 +2,7 @@
 """The tables of docs/margins.md: longest cable and greatest tolerance of some settings, by the condition for a sound bus and by the classical rules.
 
 A plain copy of the definition (crates/wl_bound/specs), in whole numbers: millionths of a nanosecond. The nodes sit at 0, X and X metres, 5 ns a
-metre, and each takes 120 ns out and 130 ns in.
+metre, and each takes 250 ns out and in, if nothing else is said.
 """
 
 TICK = 1_000_000
@@ -19,11 +19,11 @@ def greatest(nodes, test, number):
 
 
 class Bus:
-    def __init__(self, setting, places, ppm, senders):
+    def __init__(self, setting, places, ppm, senders, own=250):
         prop, ps1, self.ps2, self.sjw, quantum = setting
         self.sample = 1 + prop + ps1
         self.bit = self.sample + self.ps2
-        self.prop, self.ps1, self.places = prop, ps1, places
+        self.prop, self.ps1, self.places, self.own = prop, ps1, places, own
         self.nodes, self.senders = range(len(places)), senders
         self.short, self.long = quantum * (TICK - ppm), quantum * (TICK + ppm)
         self.drift = down(self.bit * self.long, self.bit * self.short)
@@ -31,7 +31,7 @@ class Bus:
         self.look = down(self.long + TICK, self.delay(0, 0))
 
     def delay(self, i, j):
-        return TICK * (250 + 5 * abs(self.places[i] - self.places[j]))
+        return TICK * (self.own + 5 * abs(self.places[i] - self.places[j]))
 
     def sends_but(self, *others):
         return lambda k: k in self.senders and k not in others
@@ -104,6 +104,29 @@ def row(setting, bus, limit):
     print("| " + ", ".join(map(str, setting[:4])) + f" | {setting[4]} | " + " | ".join(words) + " |")
 
 
+# kbit/s, metres, settings: the rates and lengths of CiA 301, with settings that can-utils' can-calc-bit-timing proposes
+CIA = [(1000, 25, (2, 3, 2, 1, 125)), (800, 50, (3, 4, 2, 1, 125)), (500, 100, (6, 7, 2, 1, 125)), (250, 250, (6, 7, 2, 1, 250)),
+       (125, 500, (6, 7, 2, 1, 500)), (50, 1000, (6, 7, 2, 1, 1250)), (20, 2500, (6, 7, 2, 1, 3125)), (10, 5000, (6, 7, 2, 1, 6250))]
+
+
+def cia():
+    print("\nCiA 301, two nodes that both send, crystals of 100 ppm: longest cable in metres\n\n| kbit/s | length, m | prop, ps1, ps2, sjw | quantum, ns "
+          "| loop 250 ns | loop 420 ns |\n|---|---|---|---|---|---|")
+    for rate, length, setting in CIA:
+        found = [most(lambda x: Bus(setting, [0, x], 100, [0, 1], own).holds(), 20_000) for own in (250, 420)]
+        words = ["none" if n is None else str(n) for n in found]
+        print(f"| {rate} | {length} | " + ", ".join(map(str, setting[:4])) + f" | {setting[4]} | " + " | ".join(words) + " |")
+
+
+def examples():
+    """The two worked examples of Hartwich and Bassemir, from memory: 40 m take 220 ns, with 80 and 280 ns out and in."""
+    print("\nHartwich and Bassemir's examples: greatest tolerance in ppm\n\n| prop, ps1, ps2, sjw | quantum, ns | theirs | one sender | both send |\n"
+          "|---|---|---|---|---|")
+    for setting, own, theirs in [((6, 1, 2, 1, 100), 80, 3906), ((1, 4, 4, 4, 1000), 280, 15_873)]:
+        found = [most(lambda n: Bus(setting, [0, 44], n, senders, own).holds(), 50_000) for senders in ([0], [0, 1])]
+        print("| " + ", ".join(map(str, setting[:4])) + f" | {setting[4]} | {theirs} | {found[0]} | {found[1]} |")
+
+
 def main():
     head = "| prop, ps1, ps2, sjw | quantum, ns | classical | 2 nodes, one sends | 3, one | 2, both | 3, all |\n|---|---|---|---|---|---|---|"
     print("Longest cable in metres, 100 ppm\n\n" + head)
@@ -112,6 +135,8 @@ def main():
     print("\nGreatest tolerance in ppm, 5 m\n\n" + head)
     for setting in SETTINGS:
         row(setting, lambda s, nodes, ppm, senders: Bus(s, places(nodes, 5), ppm, senders), 50_000)
+    cia()
+    examples()
 
 
 if __name__ == "__main__":

@@ -50,7 +50,7 @@ members_of (node ∷ nodes) (pace ∷ paces) = member_of node pace ∷ members_o
 abbrev pub family_of : Plan → List Pace → Buses
 family_of plan paces = record { members = members_of plan.nodes paces; cable = plan.topology }
 
--- One of the buses that are asked about. Times are counted in units, so many to a tick that all of them are whole.
+-- One of the buses that are asked about. Times are counted in units. A tick has enough of them that all are whole.
 pub record Bus : Type 0 where
   pub nodes : ℕ
   pub tick : ℕ

@@ -43,7 +43,7 @@ pub struct Sides {
 pub struct Failure {
     /// Which one.
     pub inequality: Inequality,
-    /// The node that the other's bit comes to, i: its jump, its sample, its PHASE_SEG2.
+    /// The node at which the other's bit arrives, i: its jump, its sample, its PHASE_SEG2.
     pub node: u8,
     /// The other node, j. It is the same one if its own bit isn't back at its sample.
     pub other: u8,
@@ -136,7 +136,7 @@ impl Family {
         greatest
     }
 
-    /// The left side for so many senders.
+    /// The left side, for any senders or for one at a time.
     fn left_by(
         &self,
         setting: Setting,

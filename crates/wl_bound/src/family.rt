@@ -74,9 +74,9 @@ pub(crate) struct Setting {
     pub(crate) change: Option<Change>,
     /// By how many ppm each tolerance is wider.
     pub(crate) wider: u32,
-    /// So many ticks of cable become `length + longer`.
+    /// The cable takes `length` ticks from end to end, and is asked about with `longer` ticks more.
     pub(crate) length: u32,
-    /// See `length`.
+    /// In ticks, on top of `length`.
     pub(crate) longer: u32,
 }
 

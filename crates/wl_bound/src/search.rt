@@ -13,7 +13,7 @@ use wl_topology::LONGEST_DELAY;
 /// What grows.
 #[derive(Clone, Copy, Debug)]
 enum Growth {
-    /// A cable of so many ticks, in units of length of so many ticks.
+    /// A cable: its ticks from end to end, and the ticks of a unit of length.
     Longer(u32, u32),
     /// Every tolerance, in ppm.
     Wider,

@@ -63,7 +63,7 @@ pub fn judge(plan: &Plan, family: &Family) -> Verdict
 
 /// Why the condition says nothing of a plan, whatever its cable and its clocks; `None` if it does.
 ///
-/// The ticks at which nodes are idle and frames become ready are those of the plan as it stands, with its offsets.
+/// The ticks at which nodes are idle and frames become ready are the plan's own, with its offsets.
 pub fn cause_outside(plan: &Plan) -> Option<Outside>
     requires { IsChecked plan.now }
     ensures { result ≡ outside_of plan.now }
