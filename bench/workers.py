@@ -3,6 +3,8 @@
 
 usage: workers.py same PROGRAM [SEED [COUNT]]    PROGRAM is the built wl_sim: random plans of bench/differ.py by 2, 3 and 8 workers and either link; the
                                                  bytes, the fault and the status have to be those of one thread; status 1 where one differs
+       workers.py table PROGRAM [ROUNDS]         whole processes, one thread and workers in turns on the same three plans: wall and processor time (the median of
+                                                 the rounds) beside one thread's, and peak memory; the table of docs/speed.md
        workers.py speed ROWS [ROUNDS]            ROWS is the built worker_rows: three plans of 16 nodes with 60,000 quanta each, by one thread and by
                                                  1, 2 and 4 workers and either link in turns; the table of docs/workers.md
 
@@ -13,6 +15,7 @@ are voluntary context switches (getrusage) beyond those of one thread, the media
 import os
 import random
 import re
+import resource
 import statistics
 import subprocess
 import sys
@@ -104,8 +107,44 @@ def speed(rows, rounds):
     print(f"\n{model}, {os.cpu_count()} processors, load {os.getloadavg()[0]:.1f}, {rounds} rounds, {date.today()}")
 
 
+SPENT = [0.0]  # the processor time of all children so far
+ASKED = [
+    ("busy", ["--workers", "2"]), ("busy", ["--workers", "4"]), ("busy", ["--workers", "4", "--link", "mail"]), ("delays of 400 quanta", ["--workers", "2"]),
+    ("delays of 400 quanta", ["--workers", "4"]), ("mostly idle", ["--workers", "2"]), ("busy", ["--workers", "8"]),
+]
+
+
+def whole(words, text):
+    """One process: wall and processor time in seconds, peak memory in MiB (GNU time starts it, so that it isn't that of this Python), and what it wrote."""
+    start = time.monotonic()
+    ran = subprocess.run(["/usr/bin/time", "-f", "%M", *words], input=text.encode(), capture_output=True, timeout=600)
+    wall = time.monotonic() - start
+    usage = resource.getrusage(resource.RUSAGE_CHILDREN)
+    spent, SPENT[0] = usage.ru_utime + usage.ru_stime - SPENT[0], usage.ru_utime + usage.ru_stime
+    if ran.returncode: sys.exit(f"{words}: status {ran.returncode}")
+    return wall, spent, int(ran.stderr.split()[-1]) / 1024, ran.stdout
+
+
+def table(program, rounds):
+    inputs = plans()
+    whole(["true"], "")
+    print("| Plan | Run | Wall, ms: one thread, workers | Ratio | Processor, ms: one thread, workers | Ratio | Peak, MiB |\n|---|---|---|---|---|---|---|")
+    for name, options in ASKED:
+        one = ["taskset", "-c", "0"] if "8" in options else []
+        alone, many = [], []
+        for _ in range(rounds):
+            alone.append(whole([*one, program, "run"], inputs[name]))
+            many.append(whole([*one, program, "run", *options], inputs[name]))
+        if len({ran[3] for ran in alone + many}) != 1: sys.exit(f"{name} {options}: the reports differ")
+        (wall, cpu), (wall2, cpu2) = [[statistics.median(ran[k] for ran in runs) for k in (0, 1)] for runs in (alone, many)]
+        print(f"| {name} | {' '.join(options)}{', one processor' if one else ''} | {wall * 1e3:.0f}, {wall2 * 1e3:.0f} | {wall2 / wall:.1f} |",
+              f"{cpu * 1e3:.0f}, {cpu2 * 1e3:.0f} | {cpu2 / cpu:.1f} | {max(ran[2] for ran in many):.0f} |", flush=True)
+    print(f"\n{os.cpu_count()} processors, load {os.getloadavg()[0]:.1f}, the median of {rounds} rounds, {date.today()}")
+
+
 def main():
     words = sys.argv[1:]
+    if len(words) in (2, 3) and words[0] == "table": return table(words[1], int(words[2]) if len(words) == 3 else 9)
     if len(words) in (2, 3, 4) and words[0] == "same":
         seed, count = map(int, words[2:] + ["1", "500"][len(words) - 2:])
         sys.exit(0 if same(words[1], seed, count) else 1)
