@@ -1,13 +1,11 @@
 //! The forms in which what is known of all nodes is kept, under one trait.
-ghost use Rattle.std.specs.Prelude.{◌≡◌, ◌<◌, ◌≤◌, ℕ, IfOk, OnOk, length};
-ghost use Rattle.wl_replica.specs.Dense.{most_row_places};
+ghost use Rattle.std.specs.Prelude.{◌≡◌, ◌<◌, ℕ, IfOk, OnOk};
 ghost use Rattle.wl_replica.specs.State.{Fits};
 
 use std::alloc::{AllocError, Global};
 use wl_intervals::Intervals;
-use wl_lattice::FlatWord;
 use wl_record_core::Record;
-use wl_replica::{Replica, Rows, edge_of_number};
+use wl_replica::{Replica, Rows};
 
 /// What is known of so many nodes, however it is kept.
 pub trait Form {
@@ -77,7 +75,7 @@ impl Form for Replica {
     }
 }
 
-/// As texts are read into it. It takes the other's records one by one, since it has no join.
+/// As texts are read into it: each answer is worked out anew.
 impl Form for Rows {
     ghost count = { λ r. r.nodes };
 
@@ -89,13 +87,14 @@ impl Form for Rows {
         self.take(told)
     }
 
-    fn learn_from(&mut self, alloc: Global, other: &Rows) -> Result<(), AllocError> {
-        let all = records_of(alloc, other)?;
-        take_each(self, all.as_slice())
+    fn learn_from(&mut self, _alloc: Global, other: &Rows) -> Result<(), AllocError> {
+        self.join(other)
     }
 
     fn records(&self, alloc: Global) -> Result<Vec<Record>, AllocError> {
-        records_of(alloc, self)
+        let mut all = Vec::new(alloc);
+        self.tell(&mut all)?;
+        Ok(all)
     }
 
     fn run_of(&self, node: u8) -> u32 {
@@ -109,57 +108,4 @@ impl Form for Rows {
     fn wave_of(&self, alloc: Global, node: u8) -> Result<Intervals, AllocError> {
         self.wave(alloc, node)
     }
-}
-
-/// Takes each of the records that fits.
-fn take_each(rows: &mut Rows, all: &[Record]) -> Result<(), AllocError>
-    ensures { OnOk result (rows.new.nodes ≡ rows.old.nodes) }
-{
-    for told in all {
-        if told.node() < rows.nodes() && told.within() {
-            rows.take(*told)?;
-        }
-    }
-    Ok(())
-}
-
-/// The records of rows, node by node.
-fn records_of(alloc: Global, rows: &Rows) -> Result<Vec<Record>, AllocError> {
-    let mut all = Vec::new(alloc);
-    for node in 0..rows.nodes() {
-        push_edges(&mut all, node, rows.edge_numbers(node))?;
-        push_silences(&mut all, node, rows.silence_numbers(node))?;
-    }
-    Ok(all)
-}
-
-/// Adds the edges and clashes of a node, by number.
-fn push_edges(all: &mut Vec<Record>, node: u8, numbers: &[u64]) -> Result<(), AllocError>
-    requires { length numbers.now ≤ most_row_places }
-{
-    for (seq, number) in numbers.iter().enumerate() {
-        let seq = seq as u32;
-        match edge_of_number(*number) {
-            FlatWord::Nothing => {}
-            FlatWord::Value(tick) => all.push(Record::Edge { node, seq, tick })?,
-            FlatWord::Clash => all.push(Record::Clash { node, seq })?,
-        }
-    }
-    Ok(())
-}
-
-/// Adds the silences of a node, by count.
-fn push_silences(all: &mut Vec<Record>, node: u8, numbers: &[u64]) -> Result<(), AllocError>
-    requires { length numbers.now ≤ most_row_places }
-{
-    for (count, until) in numbers.iter().enumerate() {
-        if *until != 0 {
-            all.push(Record::Silence {
-                node,
-                count: count as u32,
-                until: *until,
-            })?;
-        }
-    }
-    Ok(())
 }

@@ -6,7 +6,7 @@
 //! wave: `H 0 1 21`, `D 0 20 21`.
 //!
 //! The row is written back, and behind it what all forms tell: a replica, which groups and worlds keep, rows, into which texts are read, and
-//! ordered maps, the plain form. Where two differ, what each form tells stands on a line of its own. Lines that are empty or begin with `#` are written back as they are.
+//! ordered maps of this program's own, the plain form. Where two differ, what each form tells stands on a line of its own. Lines that are empty or begin with `#` are written back as they are.
 #![tactic(auto)]
 
 mod form;
