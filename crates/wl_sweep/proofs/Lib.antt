@@ -1,3 +1,4 @@
+mod Counted
 mod Found
 mod Frames
 mod Growing
@@ -5,4 +6,5 @@ mod Joining
 mod Parts
 mod Placed
 mod Rows
+mod Varied
 mod Working

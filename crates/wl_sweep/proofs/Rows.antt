@@ -1,5 +1,5 @@
 -- Worked rows: members, findings, tallies and lines of sweeps, computed.
-use Rattle.std.specs.Prelude.{◌≡◌, ℕ, pos, negsuc, Bool, true, false, List, [], ◌∷◌, codes, map, Some, refl}
+use Rattle.std.specs.Prelude.{◌≡◌, ℕ, pos, negsuc, Bool, true, false, List, [], ◌∷◌, codes, map, Some, None, Ok, Err, refl}
 use Rattle.std.specs.List.{range_with_len}
 use Rattle.std.specs.Fmt.{digits}
 use Rattle.wl_confine.specs.Counts.{Counts, no_counts}
@@ -20,6 +20,10 @@ use Rattle.wl_sweep.specs.Family.{choice_count, chosen, drawn, offset_count, run
 use Rattle.wl_sweep.specs.Findings.{finding_of_outcome}
 use Rattle.wl_sweep.specs.Rows.{row_count}
 use Rattle.wl_sweep.specs.Tallies.{part_start, tally_of}
+use Rattle.wl_setup.specs.declared.plan_text.PlanText.{PlanText}
+use Rattle.wl_sweep.specs.declared.vary.RangeFault.TheVariants as range
+use Rattle.wl_sweep.specs.Vary.{ends_of, number_of, step_of, values_of}
+use Rattle.wl_sweep.specs.Worst.{last_ready, later_end, next_id}
 use Rattle.wl_sweep.specs.Words.{choice_words, finding_words, members_line, row_line}
 
 -- a node of 500 kbit/s with ticks of 1 ns: 16 quanta of 125 ns, this deviation
@@ -46,7 +50,7 @@ abbrev probe : NodeText
 probe = node (codes "probe") (text.Ppm 125 (pos 0))
 
 abbrev options : Options
-options = record { step = 0; keep_offsets = false; keep_ppm = false; runs = 1000; seed = 1 }
+options = record { step = None; keep_offsets = false; keep_ppm = false; runs = 1000; seed = 1 }
 
 -- a bit of 2,000 ticks in steps of 25 has 80 offsets, but the first node has one
 offsets : offset_count options 25 (1, engine) ≡ 80
@@ -172,3 +176,49 @@ errors_first = refl
 its_words : finding_words (Faulty 7 2) ≡ codes "verdict faulty errors 7 unsent 2"
 unfolding digits
 its_words = refl
+
+-- numbers of a range: whole, below 2^48, with no more than a minus in front
+negative_number : number_of (codes "-50") ≡ Some (negsuc 49)
+negative_number = refl
+
+no_plus_sign : number_of (codes "+5") ≡ None
+no_plus_sign = refl
+
+no_float : ends_of (codes "1..2.5") ≡ None
+no_float = refl
+
+stepped_ends : ends_of (codes "16..4:2") ≡ Some (record { low = pos 16; high = pos 4; step = Some (pos 2) })
+stepped_ends = refl
+
+-- the step is the first of 1, 2, 5, 10 .. by which there are at most twenty values
+round_step : step_of 100 None ≡ Ok 10
+round_step = refl
+
+four_values : values_of key.Sjw (record { low = pos 1; high = pos 4; step = None }) ≡ Ok (pos 1 ∷ pos 2 ∷ pos 3 ∷ pos 4 ∷ [])
+four_values = refl
+
+last_not_reached : values_of key.Ppm (record { low = negsuc 0; high = pos 4; step = Some (pos 2) }) ≡ Ok (negsuc 0 ∷ pos 1 ∷ pos 3 ∷ [])
+last_not_reached = refl
+
+reversed : values_of key.X (record { low = pos 40; high = pos 30; step = None }) ≡ Err range.Order
+reversed = refl
+
+too_many : values_of key.Offset (record { low = pos 0; high = pos 10000; step = Some (pos 1) }) ≡ Err range.Rows
+too_many = refl
+
+-- frames that test the clocks have identifiers of their own, and come after the frames that wait
+abbrev sender : NodeText
+sender = record engine { frame = (record { id = 2031; dlc = 0; remote = false; bytes = []; ready = 480; extended = false }) ∷ [] }
+
+new_id : next_id (sender ∷ probe ∷ []) 2032 sender ≡ 2030
+new_id = refl
+
+silent_id : next_id (sender ∷ probe ∷ []) 2030 probe ≡ 2030
+silent_id = refl
+
+new_ready : last_ready sender.frame ≡ 480
+new_ready = refl
+
+-- a bit of 16 quanta of 125 ticks, 160 of these for each sender
+new_end : (plan : PlanText) → later_end (record plan { end = 600000; node = sender ∷ probe ∷ [] }) ≡ 920000
+new_end plan = refl

@@ -45,9 +45,13 @@ bit_in node = min (quantum_in node * (1 + node.prop + node.ps1 + node.ps2)) (2 ^
 abbrev pub least_quantum : List NodeText → ℕ
 least_quantum nodes = fold (λ least node. min least (quantum_in node)) (2 ^ 64 - 1) nodes
 
--- the ticks between two offsets: those of the options, or a fifth of the shortest quantum, at least one
+-- the ticks between two offsets: those that are given, or a fifth of the shortest quantum, at least one
+abbrev pub step_or : Option ℕ → ℕ → ℕ
+step_or None quantum = max (quantum / 5) 1
+step_or (Some step) quantum = step
+
 abbrev pub offset_step : Options → PlanText → ℕ
-offset_step options plan = if options.step == 0 then max (least_quantum plan.node / 5) 1 else options.step
+offset_step options plan = step_or options.step (least_quantum plan.node)
 
 -- how many offsets a numbered node has: those over one bit, but one of the first node, and where they are kept
 abbrev pub offset_count : Options → ℕ → ℕ × NodeText → ℕ

@@ -5,3 +5,5 @@ pub mod Tallies
 pub mod Rows
 pub mod Words
 pub mod Sweeps
+pub mod Vary
+pub mod Worst

@@ -1,5 +1,5 @@
 -- What a sweep finds and says (this project's profile).
-use Rattle.std.specs.Prelude.{ℕ, ◌+◌, ◌-◌, nat_lt, nat_le, Bool, List, [], ◌∷◌, ◌++◌, fold, codes, Option, Some, None, if◌then◌else◌}
+use Rattle.std.specs.Prelude.{ℕ, ◌+◌, ◌-◌, nat_lt, nat_le, Bool, List, [], ◌∷◌, ◌++◌, fold, codes, Option, Some, None, option_map, if◌then◌else◌}
 use Rattle.std.specs.List.{flat_map, range_with_len}
 use Rattle.std.specs.Fmt.{decimal}
 use Rattle.wl_setup.specs.declared.plan_text.PlanText.{PlanText}
@@ -7,10 +7,10 @@ use Rattle.wl_sweep.specs.declared.finding.Finding.{Finding}
 use Rattle.wl_sweep.specs.declared.range.SweptRange.{SweptRange}
 use Rattle.wl_sweep.specs.declared.sweep.Sweep.{Sweep}
 use Rattle.wl_sweep.specs.declared.sweep.TheConstants.{MOST_ROWS}
-use Rattle.wl_sweep.specs.Family.{member_count, run_count, widely_capped}
+use Rattle.wl_sweep.specs.Family.{member_count, member_of, run_count, widely_capped}
 use Rattle.wl_sweep.specs.Rows.{row_count, row_text}
 use Rattle.wl_sweep.specs.Tallies.{finding_at, findings_of, tally_of}
-use Rattle.wl_sweep.specs.Words.{member_words, members_line, row_line, tally_line}
+use Rattle.wl_sweep.specs.Words.{change_words, member_words, members_line, row_line, tally_line}
 
 -- the rows are few enough
 abbrev pub is_small : Sweep → Bool
@@ -63,6 +63,14 @@ place_words s label n (Some (row, run)) =
 abbrev pub first_line : Sweep → List ℕ → Option ℕ → List ℕ
 first_line s label None = []
 first_line s label (Some n) = place_words s label n (located s (all_rows s) n)
+
+-- a member by its number: what it changes, and its plan's text
+abbrev pub member_in_row : Sweep → ℕ × ℕ → List ℕ × PlanText
+member_in_row s place =
+    (change_words place.0 s.ranges s.options (text_in s place.0) place.1, member_of s.options (text_in s place.0) place.1)
+
+abbrev pub member_at : Sweep → ℕ → Option (List ℕ × PlanText)
+member_at s n = option_map (member_in_row s) (located s (all_rows s) n)
 
 -- all that a sweep says
 abbrev pub sweep_text : Sweep → List ℕ

@@ -77,9 +77,13 @@ finding_words (Early unsent) = early_words unsent
 finding_words Missed = codes "a node has not received every frame"
 finding_words (Refused fault) = codes "refused"
 
--- what a member changes, and what is found of it
-abbrev pub member_words : ℕ → List SweptRange → Options → PlanText → ℕ → Finding → List ℕ
-member_words row ranges options plan run found =
+-- what a member changes
+abbrev pub change_words : ℕ → List SweptRange → Options → PlanText → ℕ → List ℕ
+change_words row ranges options plan run =
     settings_words row ranges
     ++ choices_words options (offset_step options plan) (draws_of options (member_count options plan) run) (enumerate_from 0 plan.node)
-    ++ codes ": " ++ finding_words found ++ codes "\n"
+
+-- and what is found of it
+abbrev pub member_words : ℕ → List SweptRange → Options → PlanText → ℕ → Finding → List ℕ
+member_words row ranges options plan run found =
+    change_words row ranges options plan run ++ codes ": " ++ finding_words found ++ codes "\n"

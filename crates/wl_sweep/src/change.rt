@@ -144,7 +144,7 @@ fn frames_again(alloc: Global, frames: &[FrameText]) -> Result<Listed<FrameText>
 }
 
 /// A node with another offset and other rates.
-fn node_again(
+pub(crate) fn node_again(
     alloc: Global,
     node: &NodeText,
     offset: u64,

@@ -36,8 +36,8 @@ fn quantum_in(node: &NodeText) -> u64
     }
 }
 
-/// The ticks of a node's bit, at most 2^48.
-fn bit_in(node: &NodeText) -> u64
+/// Returns the ticks of a node's bit at its first rate, at most 2^48.
+pub fn bit_in(node: &NodeText) -> u64
     ensures { result ≡ bit_in node.now }
 {
     let (prop, ps1, ps2) = (node.prop, node.ps1, node.ps2);
@@ -61,10 +61,9 @@ fn least_quantum(nodes: &[NodeText]) -> u64
 fn offset_step(options: Options, text: &PlanText) -> u64
     ensures { result ≡ offset_step options text.now }
 {
-    if options.step == 0 {
-        (least_quantum(text.node.as_slice()) / 5).max(1)
-    } else {
-        options.step
+    match options.step {
+        None => (least_quantum(text.node.as_slice()) / 5).max(1),
+        Some(step) => step,
     }
 }
 

@@ -14,10 +14,15 @@ mod runs;
 mod sweep;
 mod tally;
 mod text;
+mod vary;
+mod worst;
 
 pub use change::SweptKey;
+pub use family::bit_in;
 pub use finding::{Finding, clean_is_a_working_bus, finding_of};
 pub use options::Options;
 pub use range::{SweptRange, row_count};
 pub use sweep::{MOST_ROWS, Sweep, Workers};
 pub use tally::Tally;
+pub use vary::{RangeFault, read_range};
+pub use worst::worst_text;

@@ -3,8 +3,8 @@
 /// What a sweep varies beside its ranges, and how many members of each row it runs.
 #[derive(Clone, Copy, Debug, PartialEq, Eq)]
 pub struct Options {
-    /// Ticks between two offsets of a node; 0 for a fifth of the shortest quantum, at least 1.
-    pub step: u64,
+    /// Ticks between two offsets of a node; a fifth of the shortest quantum, at least 1, if none is given.
+    pub step: Option<u64>,
     /// Whether each offset stays as the plan has it.
     pub keep_offsets: bool,
     /// Whether each deviation keeps its sign.

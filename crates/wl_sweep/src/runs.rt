@@ -11,6 +11,25 @@ use std::thread::{self, Threads};
 /// The most runs between two lines of progress.
 const BATCH: u32 = 512;
 
+/// Which row of a sweep is run, for the lines of progress.
+#[derive(Clone, Copy, Debug, PartialEq, Eq)]
+pub(crate) struct Stage {
+    /// The row, counted from 1.
+    pub(crate) row: u64,
+    /// How many rows there are.
+    pub(crate) rows: u64,
+}
+
+impl Stage {
+    /// Writes a line of progress to standard error; one that can't be written is left out.
+    fn report<R: Eprint>(self, rt: &R, done: u32, runs: u32, clean: u64) {
+        let Stage { row, rows } = self;
+        let _ = eprintln!(rt;
+            "progress: row {row} of {rows}, {done} of {runs} runs, {clean} clean"
+        );
+    }
+}
+
 /// The first run of part `w` of those from one on up to another, which are cut into parts of a size.
 fn part_start(from: u32, to: u32, size: u32, w: usize) -> u32
     ensures { result ≡ part_start from to size w }
@@ -98,14 +117,14 @@ impl Family {
         Ok(tally)
     }
 
-    /// The tally of all runs of a text, by so many threads. Where it is asked, a line on standard error says after each batch how many are
-    /// done and how many of these are clean; no clause speaks of it.
+    /// The tally of all runs of a text, by so many threads. If a stage is named, a line on standard error says after each batch how many runs
+    /// are done and how many of these are clean; no clause speaks of it.
     pub(crate) fn tally<R: Threads + Sync + Eprint>(
         &self,
         rt: &R,
         alloc: Global,
         workers: u8,
-        progress: bool,
+        stage: Option<Stage>,
     ) -> Result<Tally, AllocError>
         ensures { IfOk result (λ tally. tally ≡ tally_of (findings_of self.now.options self.now.text)) }
     {
@@ -116,8 +135,8 @@ impl Family {
             let next = done.saturating_add(BATCH).min(runs);
             tally = tally.then(self.batch(rt, alloc, done, next, workers)?);
             done = next;
-            if progress {
-                let _ = eprintln!(rt; "progress {done} {runs} {}", tally.clean);
+            if let Some(stage) = stage {
+                stage.report(rt, done, runs, tally.clean);
             }
         }
         Ok(tally)

@@ -5,17 +5,18 @@ ghost use Rattle.wl_report.specs.Lines.{GrowsBy};
 ghost use Rattle.wl_sweep.specs.Family.{member_count};
 ghost use Rattle.wl_sweep.specs.Rows.{row_count, row_text};
 ghost use Rattle.wl_sweep.specs.Tallies.{findings_of, tally_of};
-ghost use Rattle.wl_sweep.specs.Sweeps.{all_findings, first_line, is_small, located, members_in, row_findings, rows_findings, rows_lines, rows_members, sweep_text};
+ghost use Rattle.wl_sweep.specs.Sweeps.{all_findings, first_line, is_small, located, member_at, member_in_row, members_in, row_findings, rows_findings, rows_lines, rows_members, sweep_text};
 
 use crate::family::Family;
 use crate::options::Options;
 use crate::range::{SweptRange, row_count, row_text};
+use crate::runs::Stage;
 use crate::tally::Tally;
-use crate::text::{push_member, push_members, push_row, push_tally_line};
+use crate::text::{push_change, push_member, push_members, push_row, push_tally_line};
 use std::alloc::{AllocError, Global};
 use std::thread::Threads;
 use wl_level::Listed;
-use wl_setup::PlanText;
+use wl_setup::{PlanText, Text};
 
 /// The most rows of a sweep.
 pub const MOST_ROWS: u64 = 10_000;
@@ -64,6 +65,18 @@ impl Sweep {
         Family::new(alloc, text, self.options)
     }
 
+    /// What the lines of progress of a row begin with, if there are such.
+    fn stage(&self, workers: Workers, row: u64) -> Option<Stage> {
+        if workers.progress {
+            Some(Stage {
+                row: row.saturating_add(1),
+                rows: row_count(self.ranges.as_slice()),
+            })
+        } else {
+            None
+        }
+    }
+
     /// Runs one row, by so many threads, and adds its line where there are ranges.
     fn run_row<R: Threads + Sync + Eprint>(
         &self,
@@ -78,7 +91,7 @@ impl Sweep {
         ensures text { OnOk result (GrowsBy text.old text.new (rows_lines self.now (row ∷ []))) }
     {
         let family = self.family(alloc, row)?;
-        let tally = family.tally(rt, alloc, workers.count, workers.progress)?;
+        let tally = family.tally(rt, alloc, workers.count, self.stage(workers, row))?;
         if !self.ranges.is_empty() {
             push_row(text, self.ranges.as_slice(), row, tally)?;
         }
@@ -151,6 +164,35 @@ impl Sweep {
             push_member(text, self.ranges.as_slice(), row, &family, run, &finding)?;
         }
         Ok(())
+    }
+
+    /// Returns what a member changes, and its plan's text, by the number that the member has in what a sweep says; none if the sweep has no such
+    /// member. Refused only out of memory.
+    pub fn member(&self, alloc: Global, number: u64) -> Result<Option<(Text, PlanText)>, AllocError>
+        ensures { IfOk result (λ member. member ≡ member_at self.now number) }
+    {
+        match self.locate(alloc, number)? {
+            None => Ok(None),
+            Some((row, run)) => Ok(Some(self.member_in_row(alloc, row, run)?)),
+        }
+    }
+
+    /// What a member changes, and its plan's text.
+    fn member_in_row(
+        &self,
+        alloc: Global,
+        row: u64,
+        run: u32,
+    ) -> Result<(Text, PlanText), AllocError>
+        ensures { IfOk result (λ member. member ≡ member_in_row self.now (row, run)) }
+    {
+        let family = self.family(alloc, row)?;
+        let mut change = String::new(alloc);
+        push_change(&mut change, self.ranges.as_slice(), row, &family, run)?;
+        Ok((
+            Text::new(alloc, change.as_str())?,
+            family.member(alloc, run)?,
+        ))
     }
 
     /// What a sweep says, and its tally, by so many threads.

@@ -1,6 +1,8 @@
 //! How many members are clean, and which is the first that isn't.
 ghost use Rattle.std.specs.Prelude.{◌≡◌, ◌+◌, ◌^◌, ◌<◌, List, [], ◌∷◌, ◌++◌, length, option_map};
+ghost use Rattle.std.specs.List.{list_all};
 ghost use Rattle.wl_sweep.specs.Family.{capped};
+ghost use Rattle.wl_sweep.specs.Findings.{is_clean};
 ghost use Rattle.wl_sweep.specs.declared.finding.Finding.{Finding as AFinding};
 ghost use Rattle.wl_sweep.specs.Tallies.{tally_of};
 
@@ -60,6 +62,13 @@ impl Tally {
             first: if finding.is_unclean() { Some(0) } else { None },
             first_refused: if finding.is_refused() { Some(0) } else { None },
         }
+    }
+
+    /// True if every member is clean: none is refused, and none that was run is anything else.
+    pub fn all_clean(self) -> bool
+        ensures { (xs : List AFinding) → self ≡ tally_of xs → result ≡ list_all is_clean xs }
+    {
+        self.clean == self.runs
     }
 
     /// Of these members, and after them those of another tally.

@@ -4,7 +4,7 @@ ghost use Rattle.std.specs.List.{enumerate_from};
 ghost use Rattle.wl_report.specs.Lines.{GrowsBy};
 ghost use Rattle.wl_sweep.specs.Family.{chosen};
 ghost use Rattle.wl_sweep.specs.Rows.{row_text};
-ghost use Rattle.wl_sweep.specs.Words.{count_words, choice_words, choices_words, early_words, faulty_words, finding_words, members_line, row_line, row_words, settings_words, tally_line, tally_words, member_words};
+ghost use Rattle.wl_sweep.specs.Words.{change_words, count_words, choice_words, choices_words, early_words, faulty_words, finding_words, members_line, row_line, row_words, settings_words, tally_line, tally_words, member_words};
 
 use crate::draws::Draws;
 use crate::family::{Choice, Family, choose};
@@ -172,7 +172,27 @@ fn push_finding(text: &mut String, finding: &Finding) -> Result<(), AllocError>
     }
 }
 
-/// Adds a member: its number, what it changes, and what is found of it.
+/// Adds what a member changes.
+pub(crate) fn push_change(
+    text: &mut String,
+    ranges: &[SweptRange],
+    row: u64,
+    family: &Family,
+    run: u32,
+) -> Result<(), AllocError>
+    ensures { OnOk result (GrowsBy text.old text.new (change_words row ranges.now family.now.options family.now.text run)) }
+{
+    push_settings(text, ranges, row)?;
+    push_choices(
+        text,
+        family.options,
+        family.step(),
+        family.draws(run),
+        family.text.node.as_slice(),
+    )
+}
+
+/// Adds what a member changes, and what is found of it.
 pub(crate) fn push_member(
     text: &mut String,
     ranges: &[SweptRange],
@@ -183,14 +203,7 @@ pub(crate) fn push_member(
 ) -> Result<(), AllocError>
     ensures { OnOk result (GrowsBy text.old text.new (member_words row ranges.now family.now.options family.now.text run finding.now)) }
 {
-    push_settings(text, ranges, row)?;
-    push_choices(
-        text,
-        family.options,
-        family.step(),
-        family.draws(run),
-        family.text.node.as_slice(),
-    )?;
+    push_change(text, ranges, row, family, run)?;
     text.push_str(": ")?;
     push_finding(text, finding)?;
     text.push_str("\n")

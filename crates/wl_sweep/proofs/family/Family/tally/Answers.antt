@@ -2,8 +2,8 @@ use Rattle.std.proofs.Common.{arith}
 use Rattle.wl_sweep.proofs.Found.{tally_up}
 use Rattle.wl_sweep.proofs.family.Family.tally.Goals as goal
 
-pub loop-done-preserved-then-progress : goal.loop-done-preserved-then-progress
-loop-done-preserved-then-progress g c = record {
+pub loop-done-preserved-in-Some : goal.loop-done-preserved-in-Some
+loop-done-preserved-in-Some g c = record {
   below = omega arith;
   tally =
       tally_up c.args.self.now.options c.args.self.now.text 0 c.loop-done.done c.min-next.result c.loop-done.tally c.in_ok-batch.field-0 c.then-tally.result

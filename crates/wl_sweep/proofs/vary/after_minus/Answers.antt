@@ -1,0 +1,7 @@
+use Rattle.std.proofs.Common.{arith}
+use Rattle.std.proofs.lemmas.Str.Pattern.{strip_prefix_char}
+use Rattle.wl_sweep.proofs.Varied.{after_is}
+use Rattle.wl_sweep.proofs.vary.after_minus.Goals as goal
+
+pub returns : goal.returns
+returns c = after_is 45 c.args.text.now c.strip_prefix.result (strip_prefix_char 45 c.args.text.now c.strip_prefix.result c.strip_prefix.ensures.cases (omega arith))

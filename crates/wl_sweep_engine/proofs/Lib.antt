@@ -1,0 +1,4 @@
+mod Edges
+mod Ranging
+mod Refusing
+mod Rows

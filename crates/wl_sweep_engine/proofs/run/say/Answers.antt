@@ -1,0 +1,20 @@
+use Rattle.std.proofs.Common.{◌≡◌, ◌∙◌, ◌++◌, ap, sym, subst, List, ℕ}
+use Rattle.wl_sweep_engine.specs.Payload.{NoneTests}
+use Rattle.wl_sweep_engine.specs.Said.{IsSaid, added_words, untested_words}
+use Rattle.wl_sweep_engine.proofs.Edges.{true_unless}
+use Rattle.wl_sweep_engine.proofs.run.say.Goals as goal
+
+pub returns-clause-text : goal.returns-clause-text
+returns-clause-text g c =
+    let b = c.none_tests.result in
+    let nodes = c.args.plan.now.nodes in
+    record {
+      untested = b;
+      none = (
+        (λ is. subst NoneTests c.as_slice.ensures (c.none_tests.ensures.yes is)),
+        (λ all. true_unless (NoneTests nodes) b (λ none p. c.none_tests.ensures.no none (subst NoneTests (sym c.as_slice.ensures) p)) all),
+      );
+      whole =
+          c.in_ok-push_untested.ensures
+          ∙ ap (λ (t : List ℕ). t ++ untested_words b) (c.in_ok-push_added.ensures ∙ ap (λ (t : List ℕ). t ++ added_words c.args.worst) c.in_ok-text.ensures.text);
+    }

@@ -1,0 +1,48 @@
+use Rattle.std.proofs.Common.{◌≡◌, ◌∙◌, sym, subst, map, string_bytes, refl, List, ℕ, Ok, Err, inl, inr}
+use Rattle.wl_device.specs.Devices.{Writes}
+use Rattle.wl_sweep_engine.specs.Asked.{checked_workers, sweep_of}
+use Rattle.wl_sweep_engine.specs.Sweeping.{RefusesSweep, WritesSweep}
+use Rattle.wl_sweep_engine.proofs.Refusing.{fine_here, refused_by, sweep_fine, wrote_by}
+use Rattle.wl_sweep_engine.proofs.run.sweep_run.Goals as goal
+
+pub returns-in_err-plan : goal.returns-in_err-plan
+returns-in_err-plan g c =
+    let gives = g.R.Source.gives in
+    let takes = g.W.Sink.takes in
+    let words = map string_bytes c.args.words.now in
+    let asked = c.args.asked in
+    let s = c.args.reader.now in
+    let after = c.read_text.new.reader in
+    let t = c.args.writer.now in
+    let checked = checked_workers asked.options c.args.workers.count in
+    let text = c.in_ok-text.text in
+    let e = c.in_err-plan.field-0.0 in
+    refused_by (RefusesSweep gives takes words asked s after t t checked) (WritesSweep gives takes words asked s after t t c.args.workers.count) t t refl e
+    (λ n. fine_here (sweep_of text words asked) e (sweep_fine text words asked) (c.in_err-plan.ensures.answer n))
+    (λ n. inr (inr (sym c.check_workers.ensures ∙ c.in_ok-check_workers.was, (text, c.in_ok-text.ensures (λ h. cc), c.in_err-plan.ensures.answer n))))
+    c.from_residual-in_err-plan.result c.from_residual-in_err-plan.ensures.1
+
+pub returns-in_err-write_all : goal.returns-in_err-write_all
+returns-in_err-write_all g c =
+    let gives = g.R.Source.gives in
+    let takes = g.W.Sink.takes in
+    let words = map string_bytes c.args.words.now in
+    let asked = c.args.asked in
+    let s = c.args.reader.now in
+    let after = c.read_text.new.reader in
+    let t = c.args.writer.now in
+    let t' = c.write_all.new.writer in
+    let checked = checked_workers asked.options c.args.workers.count in
+    let fault = c.in_err-write_all.field-0.0 in
+    wrote_by (RefusesSweep gives takes words asked s after t t' checked) (WritesSweep gives takes words asked s after t t' c.args.workers.count) t t' c.in_ok-said.tally
+    fault (
+      sym c.check_workers.ensures ∙ c.in_ok-check_workers.was,
+      c.in_ok-plan.plan,
+      c.in_ok-plan.sweep,
+      string_bytes c.in_ok-said.said,
+      (c.in_ok-text.text, c.in_ok-text.ensures (λ h. cc), c.in_ok-plan.ensures.answer),
+      c.in_ok-said.ensures.text,
+      c.in_ok-said.ensures.tally,
+      subst (λ (bytes : List ℕ). Writes takes t bytes (Err fault) t') c.as_bytes.ensures.value c.in_err-write_all.ensures,
+    )
+    c.from_residual-in_err-write_all.result c.from_residual-in_err-write_all.ensures.1

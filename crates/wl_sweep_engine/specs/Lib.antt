@@ -1,0 +1,8 @@
+pub mod Faults
+pub mod Asked
+pub mod Payload
+pub mod Said
+pub mod Written
+pub mod Printed
+pub mod Ran
+pub mod Sweeping

@@ -1,0 +1,100 @@
+-- A plan text as TOML, key by key (this project's profile; the keys are those of a plan's text).
+use Rattle.std.specs.Prelude.{ℕ, ◌/◌, ◌%◌, ◌==◌, Bool, true, false, List, [], ◌∷◌, ◌++◌, codes, if◌then◌else◌}
+use Rattle.std.specs.List.{flat_map}
+use Rattle.std.specs.Fmt.{decimal, digits, digit_glyph, signed_decimal}
+use Rattle.wl_segments.specs.declared.SyncRules.{SyncRules}
+use Rattle.wl_segments.specs.declared.SyncRules.TheVariants as sync
+use Rattle.wl_setup.specs.declared.plan_text.PlanText.{PlanText}
+use Rattle.wl_setup.specs.declared.plan_text.NodeText.{NodeText}
+use Rattle.wl_setup.specs.declared.plan_text.RateText.{RateText}
+use Rattle.wl_setup.specs.declared.plan_text.FrameText.{FrameText}
+use Rattle.wl_setup.specs.declared.plan_text.DisturbanceText.{DisturbanceText}
+use Rattle.wl_setup.specs.declared.plan_text.ClockText.{ClockText}
+use Rattle.wl_setup.specs.declared.plan_text.ClockText.TheVariants as text
+
+abbrev pub sync_word : SyncRules → List ℕ
+sync_word sync.After = codes "after"
+sync_word sync.Book = codes "book"
+
+-- the top table
+unfoldable pub top_lines : PlanText → List ℕ
+top_lines p =
+    codes "version = " ++ decimal p.version ++ codes "\nend = " ++ decimal p.end ++ codes "\nper = " ++ decimal p.per
+    ++ codes "\nsync = \"" ++ sync_word p.sync ++ codes "\"\n"
+
+-- the two keys of a clock
+unfoldable pub clock_lines : ClockText → List ℕ
+clock_lines (text.Rate num den) = codes "num = " ++ decimal num ++ codes "\nden = " ++ decimal den ++ codes "\n"
+clock_lines (text.Ppm quantum ppm) = codes "quantum = " ++ decimal quantum ++ codes "\nppm = " ++ signed_decimal ppm ++ codes "\n"
+
+abbrev pub rate_clock_lines : RateText → List ℕ
+rate_clock_lines r = clock_lines r.clock
+
+-- the line that begins a table
+unfoldable pub header_line : List ℕ → List ℕ
+header_line name = codes "\n[[" ++ name ++ codes "]]\n"
+
+unfoldable pub from_line : ℕ → List ℕ
+from_line from = codes "from = " ++ decimal from ++ codes "\n"
+
+abbrev pub rate_lines : RateText → List ℕ
+rate_lines r = header_line (codes "node.rates") ++ from_line r.from ++ clock_lines r.clock
+
+-- the clock keys of a node are its own in version 1, and from version 2 on those of tables
+abbrev pub own_clock_lines : ℕ → List RateText → List ℕ
+own_clock_lines version rates = if version == 1 then flat_map rate_clock_lines rates else []
+
+abbrev pub rate_tables : ℕ → List RateText → List ℕ
+rate_tables version rates = if version == 1 then [] else flat_map rate_lines rates
+
+unfoldable pub segment_lines : NodeText → List ℕ
+segment_lines n =
+    codes "prop = " ++ decimal n.prop ++ codes "\nps1 = " ++ decimal n.ps1 ++ codes "\nps2 = " ++ decimal n.ps2
+    ++ codes "\nsjw = " ++ decimal n.sjw ++ codes "\n"
+
+unfoldable pub place_lines : NodeText → List ℕ
+place_lines n =
+    codes "x = " ++ decimal n.x ++ codes "\nout = " ++ decimal n.out_delay ++ codes "\nin = " ++ decimal n.in_delay ++ codes "\n"
+
+-- a byte in two hexadecimal digits
+abbrev pub byte_words : ℕ → List ℕ
+byte_words byte = codes "0x" ++ digit_glyph false (byte / 16) ∷ digit_glyph false (byte % 16) ∷ []
+
+abbrev pub later_words : ℕ → List ℕ
+later_words byte = codes ", " ++ byte_words byte
+
+-- the data of a frame, if it has any
+unfoldable pub data_line : List ℕ → List ℕ
+data_line [] = []
+data_line (byte ∷ bytes) = codes "bytes = [" ++ byte_words byte ++ flat_map later_words bytes ++ codes "]\n"
+
+-- a key that is false if it is left out
+unfoldable pub flag_line : List ℕ → Bool → List ℕ
+flag_line key true = key ++ codes " = true\n"
+flag_line key false = []
+
+-- the identifier in hexadecimal digits
+unfoldable pub frame_keys : FrameText → List ℕ
+frame_keys f = codes "id = 0x" ++ digits 16 false f.id ++ codes "\ndlc = " ++ decimal f.dlc ++ codes "\nready = " ++ decimal f.ready ++ codes "\n"
+
+abbrev pub frame_lines : FrameText → List ℕ
+frame_lines f =
+    header_line (codes "node.frame") ++ frame_keys f ++ flag_line (codes "extended") f.extended ++ flag_line (codes "remote") f.remote ++ data_line f.bytes
+
+unfoldable pub name_lines : NodeText → List ℕ
+name_lines n = codes "name = \"" ++ n.name ++ codes "\"\noffset = " ++ decimal n.offset ++ codes "\n"
+
+abbrev pub node_lines : ℕ → NodeText → List ℕ
+node_lines version n =
+    header_line (codes "node") ++ name_lines n ++ own_clock_lines version n.rates ++ segment_lines n ++ place_lines n
+    ++ rate_tables version n.rates ++ flat_map frame_lines n.frame
+
+unfoldable pub interval_lines : DisturbanceText → List ℕ
+interval_lines d = codes "x = " ++ decimal d.x ++ codes "\nfrom = " ++ decimal d.from ++ codes "\nto = " ++ decimal d.to ++ codes "\n"
+
+abbrev pub disturbance_lines : DisturbanceText → List ℕ
+disturbance_lines d = header_line (codes "disturbance") ++ interval_lines d
+
+-- the whole text
+abbrev pub plan_words : PlanText → List ℕ
+plan_words p = top_lines p ++ flat_map (node_lines p.version) p.node ++ flat_map disturbance_lines p.disturbance

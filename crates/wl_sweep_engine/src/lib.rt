@@ -1,0 +1,16 @@
+//! The engines of sweeps: each reads a plan's text. One runs the members of its family and writes what it finds of them, the other writes one
+//! member as a plan text.
+#![tactic(auto)]
+
+mod asked;
+mod fault;
+mod payload;
+mod print;
+mod run;
+mod written;
+
+pub use asked::Asked;
+pub use fault::SweepFault;
+pub use print::print_run;
+pub use run::sweep_run;
+pub use wl_sweep::{Options, RangeFault, Tally, Workers};

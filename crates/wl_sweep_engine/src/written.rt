@@ -1,0 +1,283 @@
+//! A plan text as TOML.
+ghost use Rattle.std.specs.Prelude.{◌≡◌, OnOk};
+ghost use Rattle.std.specs.List.{flat_map};
+ghost use Rattle.wl_report.specs.Lines.{GrowsBy};
+ghost use Rattle.wl_sweep_engine.specs.Written.{byte_words, clock_lines, data_line, disturbance_lines, flag_line, frame_keys, frame_lines, from_line, header_line, interval_lines, later_words, name_lines, node_lines, own_clock_lines, place_lines, plan_words, rate_clock_lines, rate_lines, rate_tables, segment_lines, sync_word, top_lines};
+
+use std::alloc::AllocError;
+use wl_segments::SyncRules;
+use wl_setup::{ClockText, DisturbanceText, FrameText, NodeText, PlanText, RateText};
+
+/// The word of a choice of rules.
+fn sync_word(sync: SyncRules) -> &'static str
+    ensures { result.now ≡ sync_word sync }
+{
+    match sync {
+        SyncRules::After => "after",
+        SyncRules::Book => "book",
+    }
+}
+
+/// Adds the keys of the top table.
+#[tactic(auto, unfolding(crate::specs::Written::top_lines))]
+fn push_top(text: &mut String, plan: &PlanText) -> Result<(), AllocError>
+    ensures { OnOk result (GrowsBy text.old text.new (top_lines plan.now)) }
+{
+    let (version, end, per) = (plan.version, plan.end, plan.per);
+    let sync = sync_word(plan.sync);
+    write!(
+        text,
+        "version = {version}\nend = {end}\nper = {per}\nsync = \"{sync}\"\n"
+    )
+}
+
+/// Adds the two keys of a clock.
+#[tactic(auto, unfolding(crate::specs::Written::clock_lines))]
+fn push_clock(text: &mut String, clock: ClockText) -> Result<(), AllocError>
+    ensures { OnOk result (GrowsBy text.old text.new (clock_lines clock)) }
+{
+    match clock {
+        ClockText::Rate { num, den } => write!(text, "num = {num}\nden = {den}\n"),
+        ClockText::Ppm { quantum, ppm } => write!(text, "quantum = {quantum}\nppm = {ppm}\n"),
+    }
+}
+
+/// Adds the line that begins a table.
+#[tactic(auto, unfolding(crate::specs::Written::header_line))]
+fn push_header(text: &mut String, name: &str) -> Result<(), AllocError>
+    ensures { OnOk result (GrowsBy text.old text.new (header_line name.now)) }
+{
+    write!(text, "\n[[{name}]]\n")
+}
+
+/// Adds the quantum from which on a rate is.
+#[tactic(auto, unfolding(crate::specs::Written::from_line))]
+fn push_from(text: &mut String, from: u64) -> Result<(), AllocError>
+    ensures { OnOk result (GrowsBy text.old text.new (from_line from)) }
+{
+    write!(text, "from = {from}\n")
+}
+
+/// Adds a rate's table.
+fn push_rate(text: &mut String, rate: &RateText) -> Result<(), AllocError>
+    ensures { OnOk result (GrowsBy text.old text.new (rate_lines rate.now)) }
+{
+    push_header(text, "node.rates")?;
+    push_from(text, rate.from)?;
+    push_clock(text, rate.clock)
+}
+
+/// Adds the tables of rates.
+fn push_rates(text: &mut String, rates: &[RateText]) -> Result<(), AllocError>
+    ensures { OnOk result (GrowsBy text.old text.new (flat_map rate_lines rates.now)) }
+{
+    for rate in rates {
+        push_rate(text, rate)?;
+    }
+    Ok(())
+}
+
+/// Adds the clock keys of rates whose tables aren't written.
+fn push_clocks(text: &mut String, rates: &[RateText]) -> Result<(), AllocError>
+    ensures { OnOk result (GrowsBy text.old text.new (flat_map rate_clock_lines rates.now)) }
+{
+    for rate in rates {
+        push_clock(text, rate.clock)?;
+    }
+    Ok(())
+}
+
+/// Adds the keys of a node's segments.
+#[tactic(auto, unfolding(crate::specs::Written::segment_lines))]
+fn push_segments(text: &mut String, node: &NodeText) -> Result<(), AllocError>
+    ensures { OnOk result (GrowsBy text.old text.new (segment_lines node.now)) }
+{
+    let (prop, ps1, ps2, sjw) = (node.prop, node.ps1, node.ps2, node.sjw);
+    write!(
+        text,
+        "prop = {prop}\nps1 = {ps1}\nps2 = {ps2}\nsjw = {sjw}\n"
+    )
+}
+
+/// Adds the keys of a node's place.
+#[tactic(auto, unfolding(crate::specs::Written::place_lines))]
+fn push_place(text: &mut String, node: &NodeText) -> Result<(), AllocError>
+    ensures { OnOk result (GrowsBy text.old text.new (place_lines node.now)) }
+{
+    let (x, out, into) = (node.x, node.out_delay, node.in_delay);
+    write!(text, "x = {x}\nout = {out}\nin = {into}\n")
+}
+
+/// Adds a byte in two hexadecimal digits.
+#[tactic(auto, using(std::proofs::lemmas::Fmt::hex_byte))]
+fn push_byte(text: &mut String, byte: u8) -> Result<(), AllocError>
+    ensures { OnOk result (GrowsBy text.old text.new (byte_words byte)) }
+{
+    write!(text, "0x{byte:02x}")
+}
+
+/// Adds a byte after others.
+fn push_later(text: &mut String, byte: u8) -> Result<(), AllocError>
+    ensures { OnOk result (GrowsBy text.old text.new (later_words byte)) }
+{
+    text.push_str(", ")?;
+    push_byte(text, byte)
+}
+
+/// Adds bytes after others.
+fn push_later_bytes(text: &mut String, bytes: &[u8]) -> Result<(), AllocError>
+    ensures { OnOk result (GrowsBy text.old text.new (flat_map later_words bytes.now)) }
+{
+    for byte in bytes {
+        push_later(text, *byte)?;
+    }
+    Ok(())
+}
+
+/// Adds the key of a frame's data, if it has any.
+#[tactic(auto, unfolding(crate::specs::Written::data_line))]
+fn push_data(text: &mut String, bytes: &[u8]) -> Result<(), AllocError>
+    ensures { OnOk result (GrowsBy text.old text.new (data_line bytes.now)) }
+{
+    match bytes {
+        [] => Ok(()),
+        [first, rest @ ..] => {
+            text.push_str("bytes = [")?;
+            push_byte(text, *first)?;
+            push_later_bytes(text, rest)?;
+            text.push_str("]\n")
+        }
+    }
+}
+
+/// Adds a key that is false if it is left out.
+#[tactic(auto, unfolding(crate::specs::Written::flag_line))]
+fn push_flag(text: &mut String, key: &str, is_set: bool) -> Result<(), AllocError>
+    ensures { OnOk result (GrowsBy text.old text.new (flag_line key.now is_set)) }
+{
+    if is_set {
+        write!(text, "{key} = true\n")
+    } else {
+        Ok(())
+    }
+}
+
+/// Adds the keys of a frame that are numbers.
+#[tactic(auto, unfolding(crate::specs::Written::frame_keys))]
+fn push_frame_keys(text: &mut String, frame: &FrameText) -> Result<(), AllocError>
+    ensures { OnOk result (GrowsBy text.old text.new (frame_keys frame.now)) }
+{
+    let (id, dlc, ready) = (frame.id, frame.dlc, frame.ready);
+    write!(text, "id = 0x{id:x}\ndlc = {dlc}\nready = {ready}\n")
+}
+
+/// Adds the table of a frame.
+fn push_frame(text: &mut String, frame: &FrameText) -> Result<(), AllocError>
+    ensures { OnOk result (GrowsBy text.old text.new (frame_lines frame.now)) }
+{
+    push_header(text, "node.frame")?;
+    push_frame_keys(text, frame)?;
+    push_flag(text, "extended", frame.extended)?;
+    push_flag(text, "remote", frame.remote)?;
+    push_data(text, frame.bytes.as_slice())
+}
+
+/// Adds the tables of frames.
+fn push_frames(text: &mut String, frames: &[FrameText]) -> Result<(), AllocError>
+    ensures { OnOk result (GrowsBy text.old text.new (flat_map frame_lines frames.now)) }
+{
+    for frame in frames {
+        push_frame(text, frame)?;
+    }
+    Ok(())
+}
+
+/// Adds the clock keys of a node, if they are its own: in version 1.
+fn push_own_clocks(text: &mut String, version: u64, rates: &[RateText]) -> Result<(), AllocError>
+    ensures { OnOk result (GrowsBy text.old text.new (own_clock_lines version rates.now)) }
+{
+    if version == 1 {
+        push_clocks(text, rates)
+    } else {
+        Ok(())
+    }
+}
+
+/// Adds the tables of a node's rates, if it has such: from version 2 on.
+fn push_rate_tables(text: &mut String, version: u64, rates: &[RateText]) -> Result<(), AllocError>
+    ensures { OnOk result (GrowsBy text.old text.new (rate_tables version rates.now)) }
+{
+    if version == 1 {
+        Ok(())
+    } else {
+        push_rates(text, rates)
+    }
+}
+
+/// Adds the name and the offset of a node.
+#[tactic(auto, unfolding(crate::specs::Written::name_lines))]
+fn push_name(text: &mut String, node: &NodeText) -> Result<(), AllocError>
+    ensures { OnOk result (GrowsBy text.old text.new (name_lines node.now)) }
+{
+    let (name, offset) = (node.name.as_str(), node.offset);
+    write!(text, "name = \"{name}\"\noffset = {offset}\n")
+}
+
+/// Adds the table of a node.
+fn push_node(text: &mut String, version: u64, node: &NodeText) -> Result<(), AllocError>
+    ensures { OnOk result (GrowsBy text.old text.new (node_lines version node.now)) }
+{
+    push_header(text, "node")?;
+    push_name(text, node)?;
+    push_own_clocks(text, version, node.rates.as_slice())?;
+    push_segments(text, node)?;
+    push_place(text, node)?;
+    push_rate_tables(text, version, node.rates.as_slice())?;
+    push_frames(text, node.frame.as_slice())
+}
+
+/// Adds the tables of nodes.
+fn push_nodes(text: &mut String, version: u64, nodes: &[NodeText]) -> Result<(), AllocError>
+    ensures { OnOk result (GrowsBy text.old text.new (flat_map (node_lines version) nodes.now)) }
+{
+    for node in nodes {
+        push_node(text, version, node)?;
+    }
+    Ok(())
+}
+
+/// Adds the keys of a disturbance.
+#[tactic(auto, unfolding(crate::specs::Written::interval_lines))]
+fn push_interval(text: &mut String, disturbance: &DisturbanceText) -> Result<(), AllocError>
+    ensures { OnOk result (GrowsBy text.old text.new (interval_lines disturbance.now)) }
+{
+    let (x, from, to) = (disturbance.x, disturbance.from, disturbance.to);
+    write!(text, "x = {x}\nfrom = {from}\nto = {to}\n")
+}
+
+/// Adds the table of a disturbance.
+fn push_disturbance(text: &mut String, disturbance: &DisturbanceText) -> Result<(), AllocError>
+    ensures { OnOk result (GrowsBy text.old text.new (disturbance_lines disturbance.now)) }
+{
+    push_header(text, "disturbance")?;
+    push_interval(text, disturbance)
+}
+
+/// Adds the tables of disturbances.
+fn push_disturbances(text: &mut String, disturbances: &[DisturbanceText]) -> Result<(), AllocError>
+    ensures { OnOk result (GrowsBy text.old text.new (flat_map disturbance_lines disturbances.now)) }
+{
+    for disturbance in disturbances {
+        push_disturbance(text, disturbance)?;
+    }
+    Ok(())
+}
+
+/// Adds a plan text as TOML.
+pub(crate) fn push_plan(text: &mut String, plan: &PlanText) -> Result<(), AllocError>
+    ensures { OnOk result (GrowsBy text.old text.new (plan_words plan.now)) }
+{
+    push_top(text, plan)?;
+    push_nodes(text, plan.version, plan.node.as_slice())?;
+    push_disturbances(text, plan.disturbance.as_slice())
+}
