@@ -1,31 +1,31 @@
 -- What the changes of the nodes tell of the line at a place, while one of them tells more.
-use Rattle.std.proofs.Common.{◌≡◌, ℕ, ◌+◌, ◌-◌, ◌<◌, ◌≤◌, ◌≢◌, false, ◌&&◌, inl, inr, List, [], ◌∷◌, ◌++◌, length, get_or, sym, ◌∙◌, ap, subst, arith, nat_le}
+use Rattle.std.proofs.Common.{◌≡◌, ℕ, ◌+◌, ◌-◌, ◌<◌, ◌≤◌, ◌≢◌, false, ◌&&◌, ◌||◌, inl, inr, List, [], ◌∷◌, ◌++◌, length, get_or, sym, ◌∙◌, ap, subst, arith, nat_le}
 use Rattle.std.proofs.Math.ListN.{set, length-set}
 use Rattle.std.proofs.lemmas.Bool.{cases_lt, cases_eq, lt-leb}
 use Rattle.std.proofs.lemmas.List.{get_or-set_same, get_or-set_other}
+use Rattle.wl_level.specs.Levels.{level_of}
 use Rattle.wl_topology.specs.Delays.{delay_of}
 use Rattle.wl_topology.proofs.Callers.{any_same}
 use Rattle.wl_record_core.specs.Truth.{count_below, odd}
 use Rattle.wl_record_core.specs.TableLaws.{TableLaws}
 use Rattle.wl_plan.specs.declared.plan.Plan.{Plan}
-use Rattle.wl_plan.specs.PlanLine.{line_of}
+use Rattle.wl_plan.specs.PlanLine.{line_of, disturbed}
 use Rattle.wl_plan.specs.SimulationLaws.{SimulationLaws}
 use Rattle.wl_plan.specs.Sound.{IsSound}
 use Rattle.wl_serial.specs.declared.ear.Ear.{Ear}
-use Rattle.wl_serial.specs.declared.pulse.Pulse.{Pulse}
 use Rattle.wl_serial.specs.declared.running_node.Running.{Running}
-use Rattle.wl_serial.specs.Heard.{comes, drove, IsPulseTold, IsHeard, AreHeard, AreSooner, AreSources, HasChanged, AreMade}
-use Rattle.wl_serial.specs.Running.{AreRunning, KnowsOthers}
+use Rattle.wl_serial.specs.Heard.{comes, drove, IsPulseTold, IsHeard, AreHeard, AreSooner, AreSources, HasChanged, sees}
+use Rattle.wl_serial.specs.Running.{AreRunning, KnowsOthers, OwnIsTold, finds}
 use Rattle.wl_serial.proofs.Found.{makes}
 
--- below the horizon that is what the nodes make
-pub made : (plan : Plan) (rs : List Running) (j horizon : ℕ) (heard p : Pulse) → SimulationLaws → TableLaws → IsSound (line_of plan) → AreRunning plan rs
-    → KnowsOthers plan j horizon rs → IsPulseTold plan rs j heard → heard.from ≤ p.from → p.until ≤ heard.until → p.until ≤ horizon → p.dominant ≡ heard.dominant → AreMade plan rs j p
-made plan rs j horizon heard p laws table sound running known is from until below same d t after before told =
+-- below the horizon what the nodes have told is what they make
+pub sees_it : (plan : Plan) (rs : List Running) (j horizon t : ℕ) (d : Running) → SimulationLaws → TableLaws → IsSound (line_of plan) → AreRunning plan rs
+    → KnowsOthers plan j horizon rs → t < horizon → OwnIsTold (line_of plan) j (get_or rs j d).changes t → sees plan rs d j t ≡ finds (line_of plan) j t
+sees_it plan rs j horizon t d laws table sound running known early told =
     let all = running.all in
-    any_same (length plan.nodes) (λ i. comes plan i j t) (λ i. drove (get_or rs i d).changes (delay_of plan.topology i j) t)
-    (λ i b. makes plan rs i j t horizon d d laws table sound running (omega (arith, all, b)) known (omega (arith, before, below)) told)
-    ∙ (is d t (omega (arith, from, after)) (omega (arith, until, before)) ∙ sym same)
+    ap (λ v. level_of (v || disturbed plan j t))
+    (sym (any_same (length plan.nodes) (λ i. comes plan i j t) (λ i. drove (get_or rs i d).changes (delay_of plan.topology i j) t)
+    (λ i b. makes plan rs i j t horizon d d laws table sound running (omega (arith, all, b)) known early told)))
 
 -- a change doesn't come before a delay has passed
 pub drove_before : TableLaws → (xs : List ℕ) (c delay u : ℕ) → u < c + delay → drove (xs ++ c ∷ []) delay u ≡ drove xs delay u

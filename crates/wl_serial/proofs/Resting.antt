@@ -35,8 +35,8 @@ stands plan i k n t r drive run is recessive stays reach = (
   reach,
   λ m few.
       let levels = seen (line_of plan) i k in
-      ap (λ s. is_dominant (history_of s (levels ++ replicate m Recessive)).drive) (sym run.setup)
-      ∙ (ap is_dominant (stays m few levels run.node ∙ sym (is levels run.node)) ∙ recessive),
+      ap (λ s. is_dominant (history_of s (levels ++ replicate m Recessive)).drive) (sym run.runs.at.setup)
+      ∙ (ap is_dominant (stays m few levels run.runs.node ∙ sym (is levels run.runs.node)) ∙ recessive),
 )
 
 -- silent or standing up to an earlier tick too
@@ -121,10 +121,10 @@ module _ (plan : Plan) (rs : List Running) (running : AreRunning plan rs) where
         → u - delay_of plan.topology i j < (line_of plan).instant i (quanta i) → level (line_of plan) i (u - delay_of plan.topology i j) ≡ false
     recessive silent i j u b c from below comes before =
         let d = one_of rs i b in
-        let e = (has_run j d c).next in
+        let e = (has_run j d c).runs.at.next in
         let all = running.all in
         let own = has_run i d b in
-        let next = own.next in
+        let next = own.runs.at.next in
         let promised = own.promised in
         let v = u - delay_of plan.topology i j in
         let told = (silent j d c).told d u (omega (arith, e, from)) below in
@@ -134,11 +134,11 @@ module _ (plan : Plan) (rs : List Running) (running : AreRunning plan rs) where
 
     at_rest : AreSilent plan rs t → AllStand plan t rs → IsAtRest (line_of plan) quanta t
     at_rest silent stand = record {
-      inside = λ i b. (has_run i (one_of rs i (here i b)) (here i b)).inside;
+      inside = λ i b. (has_run i (one_of rs i (here i b)) (here i b)).runs.inside;
       silent = λ i j u b c from below comes before. recessive silent i j u (here i b) (here j c) from below comes before;
       calm = λ j u c from below.
           let d = one_of rs j (here j c) in
-          let e = (has_run j d (here j c)).next in
+          let e = (has_run j d (here j c)).runs.at.next in
           (silent j d (here j c)).calm u (omega (arith, e, from)) below;
       stands = λ i b. let d = one_of rs i (here i b) in stand i d (here i b) (quanta i) (has_run i d (here i b));
     }
@@ -150,7 +150,7 @@ module _ (plan : Plan) (rs : List Running) (running : AreRunning plan rs) where
     all_stay law silent stand i d b =
         let k = quanta i in
         let all = running.all in
-        let next = ap (λ u. count_below u (table_of plan i)) (has_run i d b).next in
+        let next = ap (λ u. count_below u (table_of plan i)) (has_run i d b).runs.at.next in
         elim (cases_lt t ((line_of plan).instant i k)) [
           | inl before ↦ (let f = table.count_less t ((line_of plan).instant i k) (table_of plan i) (omega (arith, before)) in omega (arith, f, next))
           | inr reached ↦ (let f = law (line_of plan) quanta t sound.causal (at_rest silent stand) i (omega (arith, b, all)) reached in omega (arith, f, next))

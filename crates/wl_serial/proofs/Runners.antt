@@ -4,15 +4,17 @@ use Rattle.std.proofs.Math.ListN.{set, length-set}
 use Rattle.std.specs.List.{range_with_len}
 use Rattle.std.proofs.lemmas.List.FromFn.{map-range_with_len_more}
 use Rattle.std.proofs.lemmas.Bool.{cases_lt, cases_eq}
-use Rattle.std.proofs.lemmas.List.{get_or-set_same, get_or-set_other}
+use Rattle.std.proofs.lemmas.List.{get_or_default, get_or-set_same, get_or-set_other}
 use Rattle.wl_topology.specs.Delays.{delay_of}
 use Rattle.wl_plan.specs.declared.plan.Plan.{Plan}
 use Rattle.wl_serial.specs.declared.running_node.Running.{Running}
 use Rattle.wl_serial.specs.declared.outcome.NodeOutcome.{NodeOutcome}
 use Rattle.wl_serial.specs.declared.ear.Ear.{Ear}
-use Rattle.wl_serial.specs.Heard.{IsEar, AreEars}
+use Rattle.wl_serial.specs.declared.ear.Found.{Found}
+use Rattle.wl_serial.specs.Heard.{IsEar, AreEars, IsFound, sees}
 use Rattle.wl_serial.specs.Outcome.{node_outcome_of}
-use Rattle.wl_serial.specs.Running.{IsRunning, AreRunning, KnowsOthers, ticks_left}
+use Rattle.wl_serial.specs.Running.{IsRunning, AreRunning, AreSomewhere, IsSomewhere, GoesOn, IsKnownOn, IsLater, KnowsOthers, RanBelow, ticks_left}
+use Rattle.wl_serial.specs.Stretch.{HasStretched}
 
 -- one more that runs, after the others
 get_or_before : (xs : List Running) (x d : Running) (j : ℕ) → j < length xs → get_or (xs ++ x ∷ []) j d ≡ get_or xs j d
@@ -54,6 +56,10 @@ one_on plan rs j r b running run = record { all = length-set rs j r ∙ running.
                 subst (λ k. IsRunning plan k (get_or (set rs j r) k d)) same (subst (IsRunning plan j) (sym (get_or-set_same rs j r d b)) run))
           ]
         ]
+
+-- where nodes run as the simulation does, they are somewhere
+pub somewhere : (plan : Plan) (rs : List Running) → AreRunning plan rs → AreSomewhere plan rs
+somewhere plan rs running = record { all = running.all; each = λ i d b. let run = running.each i d b in (run.0, run.1.runs.at) }
 
 -- which leaves fewer ticks
 pub fewer_left : (end : ℕ) (rs : List Running) (j : ℕ) (r d : Running) → j < length rs → (get_or rs j d).next < end → (get_or rs j d).next < r.next
@@ -105,3 +111,23 @@ ear_on plan j es e b are is = record { all = length-set es j e ∙ are.all; each
       | inl same ↦ subst (λ n. IsEar plan n (get_or (set es j e) n d)) (sym same) (subst (IsEar plan j) (sym (get_or-set_same es j e d b)) is)
       | inr other ↦ subst (IsEar plan k) (sym (get_or-set_other es j k e d other)) (are.each k d (subst (λ n. k < n) (length-set es j e) c))
     ]
+
+-- a stretch of a level that a node finds is one by what the nodes have told
+pub stretched : (plan : Plan) (rs : List Running) (j until : ℕ) (x r : Running) (f : Found) → j < length rs → IsFound plan j rs f → f.until ≤ until → IsSomewhere plan j r
+    → GoesOn plan j (λ t. f.level) f.until (get_or rs j x) r → RanBelow plan j f.until r → IsKnownOn (get_or rs j x) r → IsLater (get_or rs j x) r → (get_or rs j x).next < r.next
+    → HasStretched plan j until rs (set rs j r)
+stretched plan rs j until x r f b found few somewhere goes below known further later = record {
+  r = r;
+  is = refl;
+  somewhere = somewhere;
+  goes = λ d. subst (λ o. GoesOn plan j (sees plan rs d j) until o r) (get_or_default rs j x d b)
+      (λ delay disturbed k causal run is. goes delay disturbed k causal run
+      (λ t after before early told. found_here d t after before ∙ is t after (omega (arith, before, few)) early told));
+  below = λ q h. let g = below q h in omega (arith, g, few);
+  known = λ d. subst (λ o. IsKnownOn o r) (get_or_default rs j x d b) known;
+  further = λ d. subst (λ o. IsLater o r) (get_or_default rs j x d b) further;
+  later = λ d. subst (λ o. o.next < r.next) (get_or_default rs j x d b) later;
+}
+  where
+    found_here : (d : Running) (t : ℕ) → (get_or rs j x).next ≤ t → t < f.until → f.level ≡ sees plan rs d j t
+    found_here d t after before = (found d).1 t (let e = ap (λ o. o.next) (get_or_default rs j x d b) in omega (arith, e, after)) before

@@ -1,10 +1,10 @@
 -- What one quantum does to a node that runs, by the laws of the simulation.
-use Rattle.std.proofs.Common.{◌≡◌, ℕ, zero, suc, ◌+◌, ◌<◌, ◌≤◌, List, [], length, take, sym, ◌∙◌, ap, subst, arith}
+use Rattle.std.proofs.Common.{◌≡◌, ℕ, zero, suc, ◌+◌, ◌<◌, ◌≤◌, List, [], length, take, sym, ◌∙◌, ap, subst, arith, All}
 use Rattle.std.proofs.Math.Seq.{take-length}
 use Rattle.wl_level.specs.declared.Level.{Level}
 use Rattle.wl_level.specs.Levels.{same}
 use Rattle.wl_node.specs.History.{history_of, counters_of, phases_of, hards_of, error_count, unsent_count}
-use Rattle.wl_record_core.specs.Truth.{count_below}
+use Rattle.wl_record_core.specs.Truth.{count_below, IsIncreasing}
 use Rattle.wl_plan.specs.declared.plan.Plan.{Plan}
 use Rattle.wl_plan.specs.Limits.{most_quanta}
 use Rattle.wl_plan.specs.Line.{reach}
@@ -12,50 +12,44 @@ use Rattle.wl_plan.specs.PlanLine.{setup_at, line_of, table_of}
 use Rattle.wl_plan.specs.Simulation.{seen, changes, ran, AreInside}
 use Rattle.wl_plan.specs.SimulationLaws.{SimulationLaws}
 use Rattle.wl_plan.specs.Sound.{IsSound}
-use Rattle.wl_node.specs.Reached.{IsNode, node_setup}
+use Rattle.wl_node.specs.Reached.{IsNode, node_setup, quanta_of}
 use Rattle.wl_node.specs.declared.node.Node.{Node}
 use Rattle.wl_serial.specs.declared.running_node.Running.{Running}
 use Rattle.wl_serial.specs.declared.outcome.NodeOutcome.{NodeOutcome}
 use Rattle.wl_serial.specs.Outcome.{outcome_of_history, node_outcome_of}
-use Rattle.wl_serial.specs.Running.{IsRunning}
+use Rattle.wl_serial.specs.Running.{IsRunning, IsSomewhere, RunsOn}
 
 as_many : (ts : List ℕ) (t u : ℕ) → t ≡ u → count_below t ts ≤ count_below u ts
 as_many ts t u e = (let f = ap (λ v. count_below v ts) e in omega (arith, f))
 
 -- before its first quantum
 pub begins : (plan : Plan) (i : ℕ) (r : Running) → SimulationLaws → IsSound (line_of plan) → i < length plan.nodes
-    → r.next ≡ (line_of plan).instant i 0 → r.known ≡ r.next → node_setup r.node ≡ setup_at plan i → IsNode [] r.node → r.changes ≡ [] → IsRunning plan i r
+    → r.next ≡ (line_of plan).instant i 0 → r.known ≡ r.next → node_setup r.node ≡ setup_at plan i → quanta_of r.node ≡ 0 → IsNode [] r.node → r.changes ≡ [] → IsRunning plan i r
 unfolding seen
-begins plan i r laws sound b next known setup node empty = (
+begins plan i r laws sound b next known setup quanta node empty = (
   0,
   record {
-    inside = λ j h. absurd (omega arith);
-    next = next;
-    setup = setup;
-    node = node;
-    changes = empty ∙ sym (ap (λ n. take n (table_of plan i)) (laws.none_at_first (line_of plan) i sound.causal b));
+    runs = record {
+      at = record {
+        setup = setup;
+        quanta = quanta;
+        next = next;
+        order = subst IsIncreasing (sym empty) tt;
+        below = subst (All (λ t. t < r.next)) (sym empty) (λ k d c. absurd (omega (arith, c)));
+      };
+      inside = λ j h. absurd (omega arith);
+      node = node;
+      changes = empty ∙ sym (ap (λ n. take n (table_of plan i)) (laws.none_at_first (line_of plan) i sound.causal b));
+    };
     promised = omega (arith, known);
     known = as_many (table_of plan i) r.known ((line_of plan).instant i 0) (known ∙ next);
   },
 )
 
--- how many quanta a node has run where its next one stands below the end
-pub quanta_are : (plan : Plan) (i : ℕ) (r : Running) (n : ℕ) → SimulationLaws → (run : IsRunning plan i r)
-    → ((levels : List Level) → IsNode levels r.node → n ≡ length levels) → n ≡ run.0
-quanta_are plan i r n laws run count = count (seen (line_of plan) i run.0) run.1.node ∙ laws.length_seen (line_of plan) i run.0
-
-pub quanta_few : (plan : Plan) (i : ℕ) (r : Running) (n : ℕ) → SimulationLaws → IsSound (line_of plan) → i < length plan.nodes → (run : IsRunning plan i r)
-    → r.next < plan.end → ((levels : List Level) → IsNode levels r.node → n ≡ length levels) → n < most_quanta
-quanta_few plan i r n laws sound b run below count =
-    let e : n ≡ run.0 = quanta_are plan i r n laws run count in
-    let h : (line_of plan).instant i run.0 < plan.end = subst (λ v. v < plan.end) run.1.next below in
-    let f : run.0 < most_quanta = sound.few_quanta i run.0 b h in
-    omega arith
-
 -- before its next quantum it has run at most so many
 pub quanta_most : (plan : Plan) (i : ℕ) (r : Running) (n : ℕ) → SimulationLaws → IsSound (line_of plan) → i < length plan.nodes → (run : IsRunning plan i r)
-    → ((levels : List Level) → IsNode levels r.node → n ≡ length levels) → n ≤ most_quanta
-quanta_most plan i r n laws sound b run count = most run.0 run.1.inside (quanta_are plan i r n laws run count)
+    → n ≡ quanta_of r.node → n ≤ most_quanta
+quanta_most plan i r n laws sound b run count = most run.0 run.1.runs.inside (count ∙ run.1.runs.at.quanta)
   where
     most : (k : ℕ) → AreInside (line_of plan) i k → n ≡ k → n ≤ most_quanta
     most zero inside e = omega (arith, e)
@@ -63,42 +57,54 @@ quanta_most plan i r n laws sound b run count = most run.0 run.1.inside (quanta_
         let f : k < most_quanta = sound.few_quanta i k b (inside k (omega arith)) in
         omega (arith, e, f)
 
+-- and fewer, where the next one begins before the end
+pub quanta_below : (plan : Plan) (i n : ℕ) (r : Running) → IsSound (line_of plan) → i < length plan.nodes → (some : IsSomewhere plan i r) → n ≡ quanta_of r.node → r.next < plan.end → n < most_quanta
+quanta_below plan i n r sound b some count before =
+    let e = some.1.quanta in
+    let next = some.1.next in
+    let f = sound.few_quanta i some.0 b (omega (arith, next, before)) in
+    omega (arith, count, e, f)
+
+-- the same, where only what is known of the drive is another
+pub told_alike : (plan : Plan) (i k : ℕ) (r s : Running) → s.next ≡ r.next → s.node ≡ r.node → s.changes ≡ r.changes → RunsOn plan (line_of plan) i r k → RunsOn plan (line_of plan) i s k
+told_alike plan i k r s next node changes runs = record {
+  at = record {
+    setup = ap node_setup node ∙ runs.at.setup;
+    quanta = ap quanta_of node ∙ runs.at.quanta;
+    next = next ∙ runs.at.next;
+    order = subst IsIncreasing (sym changes) runs.at.order;
+    below = subst (λ n. All (λ t. t < n) s.changes) (sym next) (subst (All (λ t. t < r.next)) (sym changes) runs.at.below);
+  };
+  inside = runs.inside;
+  node = subst (IsNode (seen (line_of plan) i k)) (sym node) runs.node;
+  changes = changes ∙ runs.changes;
+}
+
 -- up to its reach its drive is known
 pub promises : (plan : Plan) (i : ℕ) (r s : Running) → SimulationLaws → IsSound (line_of plan) → i < length plan.nodes → (run : IsRunning plan i r)
     → s.next ≡ r.next → s.node ≡ r.node → s.changes ≡ r.changes → s.known ≡ reach (line_of plan) i (seen (line_of plan) i run.0) → IsRunning plan i s
 promises plan i r s laws sound b run next node changes known = (
   run.0,
   record {
-    inside = run.1.inside;
-    next = next ∙ run.1.next;
-    setup = ap node_setup node ∙ run.1.setup;
-    node = subst (IsNode (seen (line_of plan) i run.0)) (sym node) run.1.node;
-    changes = changes ∙ run.1.changes;
+    runs = told_alike plan i run.0 r s next node changes run.1.runs;
     promised =
         (let e = laws.length_seen (line_of plan) i run.0 in
         let h = laws.clock_later (line_of plan) i run.0 (length (seen (line_of plan) i run.0) + (line_of plan).quiet i (seen (line_of plan) i run.0)) sound.causal b (omega (arith, e)) in
-        let f = run.1.next in
+        let f = run.1.runs.at.next in
         omega (arith, next, f, h, known));
     known =
-        (let e = ap (λ t. count_below t (table_of plan i)) known ∙ laws.reach_count (line_of plan) i run.0 sound.causal b run.1.inside in
+        (let e = ap (λ t. count_below t (table_of plan i)) known ∙ laws.reach_count (line_of plan) i run.0 sound.causal b run.1.runs.inside in
         omega (arith, e));
   },
 )
-
--- each quantum begins after the one before
-pub later : (plan : Plan) (i : ℕ) (r : Running) (next : ℕ) → IsSound (line_of plan) → i < length plan.nodes → (run : IsRunning plan i r)
-    → next ≡ (line_of plan).instant i (suc run.0) → r.next < next
-later plan i r next sound b run e =
-    let h = sound.causal.clocks i run.0 b in
-    subst (λ v. r.next < v) (sym e) (subst (λ v. v < (line_of plan).instant i (suc run.0)) (sym run.1.next) h)
 
 -- where the next quantum is not below the end, all quanta of the simulation have run, and all changes are kept
 pub ends : (plan : Plan) (i : ℕ) (r : Running) → SimulationLaws → IsSound (line_of plan) → i < length plan.nodes → (run : IsRunning plan i r)
     → plan.end ≤ r.next → (ran (line_of plan) i plan.end ≡ run.0) × (r.changes ≡ table_of plan i)
 ends plan i r laws sound b run past =
-    let late : plan.end ≤ (line_of plan).instant i run.0 = subst (λ v. plan.end ≤ v) run.1.next past in (
-      laws.ran_at_end (line_of plan) i run.0 sound.causal b run.1.inside late,
-      run.1.changes
+    let late : plan.end ≤ (line_of plan).instant i run.0 = subst (λ v. plan.end ≤ v) run.1.runs.at.next past in (
+      laws.ran_at_end (line_of plan) i run.0 sound.causal b run.1.runs.inside late,
+      run.1.runs.changes
           ∙ (ap (λ n. take n (table_of plan i)) (laws.all_at_end (line_of plan) i ((line_of plan).instant i run.0) sound.causal b late) ∙ take-length (table_of plan i)),
     )
 
@@ -129,8 +135,8 @@ pub outcome_is : (plan : Plan) (i : ℕ) (r : Running) (o : NodeOutcome) → Sim
     → plan.end ≤ r.next → o.changes ≡ r.changes → AreRead r.node o → o ≡ node_outcome_of plan i
 outcome_is plan i r o laws sound b run past same read =
     let e = ends plan i r laws sound b run past in
-    told_as r.node (seen (line_of plan) i run.0) o run.1.node read
-    ∙ (ap (λ u. outcome_of_history u o.changes (history_of u (seen (line_of plan) i run.0))) run.1.setup
+    told_as r.node (seen (line_of plan) i run.0) o run.1.runs.node read
+    ∙ (ap (λ u. outcome_of_history u o.changes (history_of u (seen (line_of plan) i run.0))) run.1.runs.at.setup
     ∙ (ap (λ xs. outcome_of_history (setup_at plan i) xs (history_of (setup_at plan i) (seen (line_of plan) i run.0))) (same ∙ e.1)
     ∙ ap (λ levels. outcome_of_history (setup_at plan i) (table_of plan i) (history_of (setup_at plan i) levels))
     (ap (λ k. seen (line_of plan) i k) (sym e.0) ∙ sym (laws.history_seen (line_of plan) i plan.end sound.causal b))))

@@ -1,16 +1,17 @@
 -- What a stretch of quanta of one level does to a node that runs, by the laws of the simulation.
-use Rattle.std.proofs.Common.{◌≡◌, ℕ, suc, zero, ◌+◌, ◌<◌, ◌≤◌, Bool, true, false, ◌⊎◌, inl, inr, List, [], ◌∷◌, ◌++◌, take, length, replicate, append_assoc, append-nil, add-one, add-zero, refl, sym, ◌∙◌, ap, subst, arith, if◌then◌else◌, get_or}
+use Rattle.std.proofs.Common.{◌≡◌, ℕ, suc, zero, ◌+◌, ◌<◌, ◌≤◌, Bool, true, false, ◌⊎◌, inl, inr, List, [], ◌∷◌, ◌++◌, take, length, replicate, append_assoc, append-nil, add-one, add-zero, refl, sym, ◌∙◌, ap, subst, arith, if◌then◌else◌, get_or, All}
 use Rattle.std.proofs.lemmas.Bool.{cases_lt}
 use Rattle.std.proofs.lemmas.List.{replicate_more}
+use Rattle.std.proofs.lemmas.List.Elements.{All-append, All-cons}
 use Rattle.std.proofs.lemmas.Option.{get_or_from_slice_get, slice_get_within}
 use Rattle.std.proofs.Math.Seq.{take-suc}
 use Rattle.wl_level.specs.declared.Level.{Level}
 use Rattle.wl_level.specs.declared.Level.TheVariants.{Dominant, Recessive}
 use Rattle.wl_level.specs.Levels.{is_dominant, same}
-use Rattle.wl_record_core.specs.Truth.{count_below}
+use Rattle.wl_record_core.specs.Truth.{AllAbove, IsIncreasing, count_below}
 use Rattle.wl_record_core.specs.TableLaws.{TableLaws}
 use Rattle.wl_node.specs.History.{history_of}
-use Rattle.wl_node.specs.Reached.{IsNode, node_setup, HasGone}
+use Rattle.wl_node.specs.Reached.{IsNode, node_setup, quanta_of, HasGone}
 use Rattle.wl_plan.specs.declared.plan.Plan.{Plan}
 use Rattle.wl_clock.specs.Timing.{tick_of}
 use Rattle.wl_node.specs.declared.setup.NodeSetup.{NodeSetup}
@@ -19,13 +20,11 @@ use Rattle.wl_plan.specs.Line.{Line}
 use Rattle.wl_plan.specs.PlanLine.{setup_at, line_of, table_of}
 use Rattle.wl_plan.specs.Simulation.{seen, changes, differs, AreInside}
 use Rattle.wl_plan.specs.SimulationLaws.{SimulationLaws}
-use Rattle.wl_plan.specs.Sound.{IsSound}
+use Rattle.wl_plan.specs.Sound.{IsCausal, IsSound}
 use Rattle.wl_serial.specs.declared.running_node.Running.{Running}
-use Rattle.wl_serial.specs.Heard.{StaysWhile}
-use Rattle.wl_serial.specs.Running.{HasRun, IsRunning, finds}
+use Rattle.wl_serial.specs.Running.{IsAt, IsLater, IsSomewhere, OwnIsTold, RunsOn, finds, line_with}
 use Rattle.wl_plan.proofs.Callers.{element_is}
-use Rattle.wl_serial.proofs.Found.{come}
-use Rattle.wl_serial.proofs.Steps.{quanta_are}
+use Rattle.wl_serial.proofs.Found.{own_on}
 
 -- one quantum more stands below the end
 pub inside_more : (l : Line) (i k : ℕ) → AreInside l i k → l.instant i k < l.stop → AreInside l i (suc k)
@@ -45,44 +44,43 @@ differs_is Recessive Recessive v h = ap (λ w. if w then false else true) h
 abbrev known : Line → ℕ → ℕ → List ℕ
 known l i k = take (count_below (l.instant i k) (changes l i)) (changes l i)
 
-known_more : (l : Line) (i k : ℕ) → SimulationLaws → IsSound l → i < l.nodes → AreInside l i (suc k)
+known_more : (l : Line) (i k : ℕ) → SimulationLaws → IsCausal l → i < l.nodes → AreInside l i (suc k)
     → differs (l.drives i (seen l i (suc k))) (l.drives i (seen l i k)) ≡ true → known l i (suc k) ≡ known l i k ++ l.instant i k ∷ []
-known_more l i k laws sound b inside turns =
-    let t = laws.turn l i k sound.causal b inside turns in
+known_more l i k laws causal b inside turns =
+    let t = laws.turn l i k causal b inside turns in
     let m : ℕ = count_below (l.instant i k) (changes l i) in
     ap (λ n. take n (changes l i)) t.1
     ∙ (take-suc (changes l i) m 0 (slice_get_within (changes l i) m (l.instant i k) t.0)
     ∙ ap (λ x. take m (changes l i) ++ x ∷ []) (get_or_from_slice_get (changes l i) m (l.instant i k) 0 t.0))
 
-known_same : (l : Line) (i k : ℕ) → SimulationLaws → IsSound l → i < l.nodes → AreInside l i (suc k)
+known_same : (l : Line) (i k : ℕ) → SimulationLaws → IsCausal l → i < l.nodes → AreInside l i (suc k)
     → differs (l.drives i (seen l i (suc k))) (l.drives i (seen l i k)) ≡ false → known l i (suc k) ≡ known l i k
-known_same l i k laws sound b inside stays = ap (λ n. take n (changes l i)) (laws.no_turn l i k sound.causal b inside stays)
+known_same l i k laws causal b inside stays = ap (λ n. take n (changes l i)) (laws.no_turn l i k causal b inside stays)
 
-seen_more : (plan : Plan) (i k : ℕ) → seen (line_of plan) i (suc k) ≡ seen (line_of plan) i k ++ finds plan i ((line_of plan).instant i k) ∷ []
+seen_more : (l : Line) (i k : ℕ) → seen l i (suc k) ≡ seen l i k ++ finds l i (l.instant i k) ∷ []
 unfolding seen
-seen_more plan i k = refl
+seen_more l i k = refl
 
 same_drives : (x y : Bool) → x ≡ y → differs x y ≡ false
 same_drives true y e = ap (λ v. if v then false else true) (sym e)
 same_drives false y e = sym e
 
 -- What a stretch did: the node went over n quanta of this level, below a tick up to which it finds that, as long as its drive stays.
-pub record IsStretch (plan : Plan) (i k : ℕ) (r s : Running) (level before after : Level) (until p : ℕ) : Type 0 where
+pub record IsStretch (plan : Plan) (l : Line) (i k : ℕ) (r s : Running) (level before after : Level) (until p : ℕ) : Type 0 where
   pub ends : until ≤ plan.end
-  pub found : StaysWhile plan i r.changes r.next until level
-  pub below : (m : ℕ) → m ≤ p → (line_of plan).instant i (k + m) < until
+  pub found : (t : ℕ) → r.next ≤ t → t < until → t < s.next → OwnIsTold l i r.changes t → level ≡ finds l i t
+  pub below : (m : ℕ) → m ≤ p → l.instant i (k + m) < until
   pub gone : HasGone level (suc p) r.node s.node
   pub before_is : (levels : List Level) → IsNode levels r.node → before ≡ (history_of (node_setup r.node) levels).drive
   pub after_is : (levels : List Level) → IsNode levels s.node → after ≡ (history_of (node_setup s.node) levels).drive
-  pub kept : s.changes ≡ (if same after before then r.changes else r.changes ++ (line_of plan).instant i (k + p) ∷ [])
-  pub next : s.next ≡ (line_of plan).instant i (suc (k + p))
-  pub promised : s.next ≤ s.known
-  pub told : (s.known ≤ r.known) ⊎ (s.known ≤ s.next)
+  pub kept : s.changes ≡ (if same after before then r.changes else r.changes ++ l.instant i (k + p) ∷ [])
+  pub at : IsAt plan i s (suc (k + p))
 
-module _ (plan : Plan) (i k : ℕ) (r s : Running) (level before after : Level) (until p : ℕ) (laws : SimulationLaws) (table : TableLaws)
-    (sound : IsSound (line_of plan)) (b : i < length plan.nodes) (run : HasRun plan i r k) (went : IsStretch plan i k r s level before after until p) where
+module _ (plan : Plan) (delay : ℕ → ℕ → ℕ) (disturbed : ℕ → ℕ → Bool) (i k : ℕ) (r s : Running) (level before after : Level) (until p : ℕ) (laws : SimulationLaws) (table : TableLaws)
+    (causal : IsCausal (line_with plan delay disturbed)) (b : i < length plan.nodes) (run : RunsOn plan (line_with plan delay disturbed) i r k)
+    (went : IsStretch plan (line_with plan delay disturbed) i k r s level before after until p) where
   abbrev l : Line
-  l = line_of plan
+  l = line_with plan delay disturbed
 
   -- after m quanta of it, which all found the level; before the last of them the drive stood
   record Gone (m : ℕ) : Type 0 where
@@ -93,30 +91,21 @@ module _ (plan : Plan) (i k : ℕ) (r s : Running) (level before after : Level) 
   drive_then : (m : ℕ) → m ≤ p → Gone m → l.drives i (seen l i (k + m)) ≡ l.drives i (seen l i k)
   drive_then m h g =
       ap (λ levels. l.drives i levels) g.seen_now
-      ∙ ap is_dominant (ap (λ u. (history_of u (seen l i k ++ replicate m level)).drive) (sym run.setup)
+      ∙ ap is_dominant (ap (λ u. (history_of u (seen l i k ++ replicate m level)).drive) (sym run.at.setup)
       ∙ (went.gone.stood m (omega (arith, h)) (seen l i k) run.node
-      ∙ ap (λ u. (history_of u (seen l i k)).drive) run.setup))
+      ∙ ap (λ u. (history_of u (seen l i k)).drive) run.at.setup))
 
-  found_then : (m : ℕ) → m ≤ p → Gone m → level ≡ finds plan i (l.instant i (k + m))
+  found_then : (m : ℕ) → m ≤ p → Gone m → level ≡ finds l i (l.instant i (k + m))
   found_then m h g =
-      let d : 1 ≤ l.delay i i = sound.causal.delays i i b b in
-      let later = laws.clock_later l i k (k + m) sound.causal b (omega arith) in
-      let next = run.next in
+      let later = laws.clock_later l i k (k + m) causal b (omega arith) in
+      let last = laws.clock_later l i (k + m) (k + p) causal b (omega (arith, h)) in
+      let more = causal.clocks i (k + p) b in
       let here = l.instant i (k + m) in
-      went.found here (omega (arith, later, next)) (went.below m h)
-      (come plan i i here (record r { known = here }) laws table sound b (
-        k,
-        record {
-          inside = run.inside;
-          next = run.next;
-          setup = run.setup;
-          node = run.node;
-          changes = run.changes;
-          promised = omega (arith, later, next);
-          known = (let c = g.count h in omega (arith, c));
-        },
-      )
-      (omega (arith, d)))
+      let old = run.at.next in
+      let new = went.at.next in
+      let c = g.count h in
+      went.found here (omega (arith, later, old)) (went.below m h) (omega (arith, last, more, new))
+      (own_on l i here (count_below (l.instant i k) (changes l i)) r.changes laws table causal b run.changes (omega (arith, c)))
 
   one_more : (m : ℕ) → m ≤ p → Gone m → Gone (suc m)
   one_more m h g = record { seen_now = seen_then; inside = inside; count = count }
@@ -127,8 +116,8 @@ module _ (plan : Plan) (i k : ℕ) (r s : Running) (level before after : Level) 
       seen_then : seen l i (k + suc m) ≡ seen l i k ++ replicate (suc m) level
       seen_then =
           ap (λ n. seen l i n) e
-          ∙ (seen_more plan i (k + m)
-          ∙ (ap (λ levels. levels ++ finds plan i (l.instant i (k + m)) ∷ []) g.seen_now
+          ∙ (seen_more l i (k + m)
+          ∙ (ap (λ levels. levels ++ finds l i (l.instant i (k + m)) ∷ []) g.seen_now
           ∙ (ap (λ x. (seen l i k ++ replicate m level) ++ x ∷ []) (sym (found_then m h g))
           ∙ (append_assoc (seen l i k) (replicate m level) (level ∷ [])
           ∙ ap (λ levels. seen l i k ++ levels) (replicate_more m level ∙ ap (λ n. replicate n level) (add-one m))))))
@@ -143,14 +132,14 @@ module _ (plan : Plan) (i k : ℕ) (r s : Running) (level before after : Level) 
       drive_next c =
           ap (λ n. l.drives i (seen l i n)) (sym e)
           ∙ (ap (λ levels. l.drives i levels) seen_then
-          ∙ ap is_dominant (ap (λ u. (history_of u (seen l i k ++ replicate (suc m) level)).drive) (sym run.setup)
+          ∙ ap is_dominant (ap (λ u. (history_of u (seen l i k ++ replicate (suc m) level)).drive) (sym run.at.setup)
           ∙ (went.gone.stood (suc m) (omega (arith, c)) (seen l i k) run.node
-          ∙ ap (λ u. (history_of u (seen l i k)).drive) run.setup)))
+          ∙ ap (λ u. (history_of u (seen l i k)).drive) run.at.setup)))
 
       count : suc m ≤ p → count_below (l.instant i (k + suc m)) (changes l i) ≡ count_below (l.instant i k) (changes l i)
       count c =
           ap (λ n. count_below (l.instant i n) (changes l i)) e
-          ∙ (laws.no_turn l i (k + m) sound.causal b inside_next (same_drives _ _ (drive_next c ∙ sym (drive_then m h g)))
+          ∙ (laws.no_turn l i (k + m) causal b inside_next (same_drives _ _ (drive_next c ∙ sym (drive_then m h g)))
           ∙ g.count h)
 
   gone : (m : ℕ) → m ≤ suc p → Gone m
@@ -161,15 +150,12 @@ module _ (plan : Plan) (i k : ℕ) (r s : Running) (level before after : Level) 
   }
   gone (suc m) h = one_more m (omega (arith, h)) (gone m (omega (arith, h)))
 
-  pub goes : HasRun plan i s (suc (k + p))
+  pub goes : RunsOn plan l i s (suc (k + p))
   goes = record {
+    at = went.at;
     inside = inside;
-    next = went.next;
-    setup = went.gone.setup ∙ run.setup;
     node = node;
     changes = keeps (same after before) refl;
-    promised = went.promised;
-    known = known_now went.told;
   }
     where
       last : Gone p
@@ -188,33 +174,25 @@ module _ (plan : Plan) (i k : ℕ) (r s : Running) (level before after : Level) 
 
       drive_before : is_dominant before ≡ l.drives i (seen l i (k + p))
       drive_before =
-          ap is_dominant (went.before_is (seen l i k) run.node ∙ ap (λ u. (history_of u (seen l i k)).drive) run.setup) ∙ sym (drive_then p (omega arith) last)
+          ap is_dominant (went.before_is (seen l i k) run.node ∙ ap (λ u. (history_of u (seen l i k)).drive) run.at.setup) ∙ sym (drive_then p (omega arith) last)
 
       drive_after : is_dominant after ≡ l.drives i (seen l i (suc (k + p)))
-      drive_after = ap is_dominant (went.after_is (seen l i (suc (k + p))) node ∙ ap (λ u. (history_of u (seen l i (suc (k + p)))).drive) (went.gone.setup ∙ run.setup))
+      drive_after = ap is_dominant (went.after_is (seen l i (suc (k + p))) node ∙ ap (λ u. (history_of u (seen l i (suc (k + p)))).drive) (went.gone.setup ∙ run.at.setup))
 
       turns : (v : Bool) → same after before ≡ v → differs (l.drives i (seen l i (suc (k + p)))) (l.drives i (seen l i (k + p))) ≡ (if v then false else true)
       turns v f = rw (← drive_after, ← drive_before) (differs_is after before v f)
 
       so_far : r.changes ≡ known l i (k + p)
-      so_far = run.changes ∙ ap (λ n. take n (table_of plan i)) (sym (last.count (omega arith)))
+      so_far = run.changes ∙ ap (λ n. take n (changes l i)) (sym (last.count (omega arith)))
 
       keeps : (v : Bool) → same after before ≡ v → s.changes ≡ known l i (suc (k + p))
       keeps true f =
           (went.kept ∙ ap (λ v. if v then r.changes else r.changes ++ l.instant i (k + p) ∷ []) f)
-          ∙ (so_far ∙ sym (known_same l i (k + p) laws sound b inside (turns true f)))
+          ∙ (so_far ∙ sym (known_same l i (k + p) laws causal b inside (turns true f)))
       keeps false f =
           (went.kept ∙ ap (λ v. if v then r.changes else r.changes ++ l.instant i (k + p) ∷ []) f)
           ∙ (ap (λ xs. xs ++ l.instant i (k + p) ∷ []) so_far
-          ∙ sym (known_more l i (k + p) laws sound b inside (turns false f)))
-
-      known_now : (s.known ≤ r.known) ⊎ (s.known ≤ s.next) → count_below s.known (table_of plan i) ≤ count_below (l.instant i (suc (k + p))) (table_of plan i)
-      known_now (inl old) =
-          let a = table.count_less s.known r.known (table_of plan i) old in
-          let c = run.known in
-          let d = table.count_less (l.instant i k) (l.instant i (suc (k + p))) (table_of plan i) (laws.clock_later l i k (suc (k + p)) sound.causal b (omega arith)) in
-          omega (arith, a, c, d)
-      known_now (inr new) = (let n = went.next in table.count_less s.known (l.instant i (suc (k + p))) (table_of plan i) (omega (arith, new, n)))
+          ∙ sym (known_more l i (k + p) laws causal b inside (turns false f)))
 
 -- the quanta below a tick that is after the next one's are more than have run, and few
 pub ahead : (plan : Plan) (i k n until : ℕ) → SimulationLaws → IsSound (line_of plan) → i < length plan.nodes → (line_of plan).instant i k < until → until ≤ (line_of plan).instant i n → k < n
@@ -241,15 +219,75 @@ pub setup_is : (plan : Plan) (i : ℕ) (x : NodeSetup) (xs : List NodeSetup) →
 setup_is plan i x xs e is b = sym is ∙ element_is plan i x xs e is b
 
 -- by the clock of that setup, the quanta below a tick are more than have run, and few
-pub more_and_few : (plan : Plan) (i : ℕ) (r : Running) (x : NodeSetup) (quanta n until : ℕ) → SimulationLaws → IsSound (line_of plan) → i < length plan.nodes → (run : IsRunning plan i r)
-    → x ≡ setup_at plan i → ((levels : List Level) → IsNode levels r.node → quanta ≡ length levels) → r.next < until → until ≤ plan.end → until ≤ tick_of x.clock n
-    → ((k : ℕ) → k < n → tick_of x.clock k < until) → (quanta ≡ run.0) × (quanta < n) × (n ≤ most_quanta)
-more_and_few plan i r x quanta n until laws sound b run e count below ends reached least =
-    let q = quanta_are plan i r quanta laws run count in
-    let next = run.1.next in
+pub more_and_few : (plan : Plan) (i : ℕ) (r : Running) (x : NodeSetup) (quanta n until : ℕ) → SimulationLaws → IsSound (line_of plan) → i < length plan.nodes → (some : IsSomewhere plan i r)
+    → x ≡ setup_at plan i → quanta ≡ quanta_of r.node → r.next < until → until ≤ plan.end → until ≤ tick_of x.clock n
+    → ((k : ℕ) → k < n → tick_of x.clock k < until) → (quanta ≡ some.0) × (quanta < n) × (n ≤ most_quanta)
+more_and_few plan i r x quanta n until laws sound b some e count below ends reached least =
+    let q : quanta ≡ some.0 = count ∙ some.1.quanta in
+    let next = some.1.next in
     let t = ap (λ u. tick_of u.clock n) e in
-    let h = ahead plan i run.0 n until laws sound b (omega (arith, next, below)) (omega (arith, t, reached)) in (
+    let h = ahead plan i some.0 n until laws sound b (omega (arith, next, below)) (omega (arith, t, reached)) in (
       q,
       omega (arith, q, h),
       few_ahead plan i n until sound b (λ k c. let u = ap (λ v. tick_of v.clock k) e in let g = least k c in omega (arith, u, g)) ends,
     )
+
+-- ticks in order, and one more after them
+increases_more : (xs : List ℕ) (t u : ℕ) → IsIncreasing xs → All (λ x. x < t) xs → t ≤ u → IsIncreasing (xs ++ u ∷ [])
+increases_more [] t u order below later = (tt, tt)
+increases_more (x ∷ xs) t u order below later =
+    (above_more xs (order.0) (let h = below 0 0 (omega arith) in omega (arith, h, later)), increases_more xs t u order.1 (λ k d b. below (suc k) d (omega (arith, b))) later)
+  where
+    above_more : (ys : List ℕ) → AllAbove x ys → x < u → AllAbove x (ys ++ u ∷ [])
+    above_more [] all less = (less, tt)
+    above_more (y ∷ ys) all less = (all.0, above_more ys all.1 less)
+
+below_later : (xs : List ℕ) (t u : ℕ) → All (λ x. x < t) xs → t ≤ u → All (λ x. x < u) xs
+below_later xs t u below later k d b = (let h = below k d b in omega (arith, h, later))
+
+below_more : (xs : List ℕ) (t u v : ℕ) → All (λ x. x < t) xs → t ≤ v → u < v → All (λ x. x < v) (xs ++ u ∷ [])
+below_more xs t u v below later last = All-append (λ x. x < v) xs (u ∷ []) (below_later xs t v below later) (All-cons (λ x. x < v) u [] last (λ k d b. absurd (omega (arith, b))))
+
+-- after quanta more, the last of which may have changed the drive, the changes are in order still
+pub order_on : (xs : List ℕ) (t u v : ℕ) (x : Bool) → IsIncreasing xs → All (λ y. y < t) xs → t ≤ u → u < v
+    → (IsIncreasing (if x then xs else xs ++ u ∷ [])) × All (λ y. y < v) (if x then xs else xs ++ u ∷ [])
+order_on xs t u v true order below later last = (order, below_later xs t v below (omega (arith, later, last)))
+order_on xs t u v false order below later last = (increases_more xs t u order below later, below_more xs t u v below (omega (arith, later, last)) last)
+
+-- the quanta that were run are below a tick that each of them is below
+pub ran_below : (plan : Plan) (i n until next : ℕ) → SimulationLaws → IsSound (line_of plan) → i < length plan.nodes → next ≡ (line_of plan).instant i n
+    → ((q : ℕ) → q < n → (line_of plan).instant i q < until) → (q : ℕ) → (line_of plan).instant i q < next → (line_of plan).instant i q < until
+ran_below plan i n until next laws sound b is each q before = elim (cases_lt q n) [
+  | inl ran ↦ each q ran
+  | inr past ↦ (let f = laws.clock_later (line_of plan) i n q sound.causal b past in absurd (omega (arith, f, before, is)))
+]
+
+-- where the node is then
+pub at_on : (plan : Plan) (i k p : ℕ) (r s : Running) (x : Bool) → SimulationLaws → IsSound (line_of plan) → i < length plan.nodes → IsAt plan i r k → node_setup s.node ≡ node_setup r.node
+    → quanta_of s.node ≡ quanta_of r.node + suc p → s.next ≡ (line_of plan).instant i (suc (k + p))
+    → s.changes ≡ (if x then r.changes else r.changes ++ (line_of plan).instant i (k + p) ∷ []) → IsAt plan i s (suc (k + p))
+at_on plan i k p r s x laws sound b at setup quanta next changes =
+    let old = at.next in
+    let later = laws.clock_later (line_of plan) i k (k + p) sound.causal b (omega arith) in
+    let last = sound.causal.clocks i (k + p) b in
+    let both = order_on r.changes r.next ((line_of plan).instant i (k + p)) s.next x at.order at.below (omega (arith, old, later)) (omega (arith, next, last)) in
+    record {
+      setup = setup ∙ at.setup;
+      quanta = (let e = at.quanta in omega (arith, quanta, e));
+      next = next;
+      order = subst IsIncreasing (sym changes) both.0;
+      below = subst (All (λ t. t < s.next)) (sym changes) both.1;
+    }
+
+more_kept : (xs : List ℕ) (t : ℕ) (x : Bool) → (more : List ℕ) × ((if x then xs else xs ++ t ∷ []) ≡ xs ++ more)
+more_kept xs t true = ([], sym (append-nil xs))
+more_kept xs t false = (t ∷ [], refl)
+
+-- and later
+pub later_on : (r s : Running) (level : Level) (n t : ℕ) (x : Bool) → HasGone level n r.node s.node → s.changes ≡ (if x then r.changes else r.changes ++ t ∷ []) → r.next ≤ s.next → IsLater r s
+later_on r s level n t x gone changes next = record {
+  setup = gone.setup;
+  node = λ levels h. (replicate n level, gone.node levels h);
+  changes = (let m = more_kept r.changes t x in (m.0, changes ∙ m.1));
+  next = next;
+}

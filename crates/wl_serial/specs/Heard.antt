@@ -2,6 +2,7 @@
 use Rattle.std.specs.Prelude.{◌≡◌, ℕ, zero, suc, ◌+◌, ◌^◌, false, ◌-◌, ◌<◌, ◌≤◌, ◌&&◌, Bool, List, [], ◌∷◌, ◌++◌, length, ◌≢◌, nat_le, slice_index_or}
 use Rattle.std.specs.Int.{from_bool}
 use Rattle.wl_level.specs.declared.Level.{Level}
+use Rattle.wl_level.specs.Levels.{level_of}
 use Rattle.wl_record_core.specs.Truth.{count_below, odd}
 use Rattle.wl_topology.specs.Delays.{delay_of}
 use Rattle.wl_topology.specs.Limits.{most_places}
@@ -9,13 +10,13 @@ use Rattle.wl_topology.specs.Driven.{driven}
 use Rattle.wl_plan.specs.declared.plan.Plan.{Plan}
 use Rattle.wl_plan.specs.declared.plan.Disturbance.{Disturbance}
 use Rattle.wl_plan.specs.PlanLine.{line_of, disturbed, is_at}
+use Rattle.wl_plan.specs.Line.{found}
 use Rattle.wl_plan.specs.Simulation.{level}
 use Rattle.wl_serial.specs.declared.pulse.Pulse.{Pulse}
 use Rattle.wl_serial.specs.declared.ear.Ear.{Ear}
 use Rattle.wl_serial.specs.declared.sources.Sources.{Sources}
 use Rattle.wl_serial.specs.declared.ear.Found.{Found}
 use Rattle.wl_serial.specs.declared.running_node.Running.{Running}
-use Rattle.wl_serial.specs.Running.{finds}
 
 -- whether a node with these changes drove dominant a delay before tick t
 abbrev pub drove : List ℕ → ℕ → ℕ → Bool
@@ -63,10 +64,6 @@ pub record AreEars (plan : Plan) (ears : List Ear) : Type 0 where
   pub all : length ears ≡ length plan.nodes
   pub each : (j : ℕ) (d : Ear) → j < length ears → IsEar plan j (slice_index_or ears j d)
 
--- at tick t, what comes back to node j of its own drive is what these changes tell
-abbrev pub OwnIsTold : Plan → ℕ → List ℕ → ℕ → Type 0
-OwnIsTold plan j changes t = comes plan j j t ≡ drove changes (delay_of plan.topology j j) t
-
 -- from tick t on and below another one the disturbance neither comes to place j nor is over there
 abbrev pub IsStill : Plan → ℕ → ℕ → ℕ → Disturbance → Type 0
 IsStill plan j t until d = (u : ℕ) → t ≤ u → u < until → is_at plan j u d ≡ is_at plan j t d
@@ -108,17 +105,11 @@ AreHeard plan rs ears = (j : ℕ) (d : Ear) → j < length ears → IsHeard plan
 abbrev pub HasChanged : ℕ → ℕ → List Running → Running → Type 0
 HasChanged i tick rs r = (d : Running) → (r.changes ≡ (slice_index_or rs i d).changes ++ tick ∷ []) × ((slice_index_or rs i d).next ≤ r.next)
 
--- Node j finds this level at each tick from one on and below another one, as long as these changes tell its own drive.
-abbrev pub StaysWhile : Plan → ℕ → List ℕ → ℕ → ℕ → Level → Type 0
-StaysWhile plan j changes from until level = (t : ℕ) → from ≤ t → t < until → OwnIsTold plan j changes t → level ≡ finds plan j t
+-- what node j finds at tick t by the changes that the nodes have told
+abbrev pub sees : Plan → List Running → Running → ℕ → ℕ → Level
+sees plan rs d j t = level_of (found (line_of plan) (tells rs d) j t)
 
--- the nodes make this level at place j, at each tick of the pulse, as long as its own node's changes tell the drive of that
-abbrev pub AreMade : Plan → List Running → ℕ → Pulse → Type 0
-AreMade plan rs j p =
-    (d : Running) (t : ℕ) → p.from ≤ t → t < p.until → OwnIsTold plan j (slice_index_or rs j d).changes t
-    → driven (length plan.nodes) (delay_of plan.topology) (level (line_of plan)) j t ≡ p.dominant
-
--- and so from its next quantum on, which comes before that tick
+-- By what the nodes have told, node j finds this level at each tick from its next quantum on, which comes before the tick below which that holds.
 abbrev pub IsFound : Plan → ℕ → List Running → Found → Type 0
 IsFound plan j rs f =
-    (d : Running) → ((slice_index_or rs j d).next < f.until) × StaysWhile plan j (slice_index_or rs j d).changes (slice_index_or rs j d).next f.until f.level
+    (d : Running) → ((slice_index_or rs j d).next < f.until) × ((t : ℕ) → (slice_index_or rs j d).next ≤ t → t < f.until → f.level ≡ sees plan rs d j t)

@@ -1,5 +1,7 @@
+pub mod Guess
 pub mod Heard
 pub mod Outcome
 pub mod Records
 pub mod Rest
 pub mod Running
+pub mod Stretch

@@ -3,9 +3,9 @@ ghost use Rattle.std.specs.Prelude.{◌≡◌, ℕ, ◌+◌, ◌<◌, ◌≤◌,
 ghost use Rattle.wl_level.specs.Levels.{level_of};
 ghost use Rattle.wl_plan.specs.Checked.{IsChecked};
 ghost use Rattle.wl_plan.specs.declared.plan.Plan.{Plan as GivenPlan};
-ghost use Rattle.wl_serial.specs.Heard.{AreMade, AreDelays, AreOthers, AreSooner, IsEar, AreEars, IsFound, IsPulseTold, IsHeard, AreHeard, HasChanged};
+ghost use Rattle.wl_serial.specs.Heard.{AreDelays, AreOthers, AreSooner, IsEar, AreEars, IsFound, IsHeard, AreHeard, HasChanged};
 ghost use Rattle.wl_serial.specs.Rest.{IsSilent};
-ghost use Rattle.wl_serial.specs.Running.{AreRunning, AreKnown, KnowsOthers, RunsBelow, AllKnown};
+ghost use Rattle.wl_serial.specs.Running.{AreRunning, AreSomewhere, AreKnown, KnowsOthers, RunsBelow, AllKnown};
 
 use crate::pulse::{Pulse, SILENCE};
 use crate::running_node::{Running, Ticks};
@@ -68,30 +68,28 @@ impl Ear {
         horizon
     }
 
-    /// What node `j` finds from its next quantum on, below its horizon, as long as its own drive stays.
-    pub(crate) fn hear(&mut self, plan: &Plan, running: &[Running], j: usize, horizon: u64) -> Found
+    /// What node `j` finds from its next quantum on, below a tick, by the changes that the nodes have told.
+    pub(crate) fn hear(&mut self, plan: &Plan, running: &[Running], j: usize, until: u64) -> Found
         requires checked { IsChecked plan.now }
         requires node { j < length plan.now.nodes }
-        requires running { AreRunning plan.now running.now }
+        requires somewhere { AreSomewhere plan.now running.now }
         requires ear { IsEar plan.now j self.old }
-        requires known { KnowsOthers plan.now j horizon running.now }
-        requires ends { horizon ≤ plan.now.end }
-        requires below { RunsBelow horizon running.now j }
+        requires ends { until ≤ plan.now.end }
+        requires below { RunsBelow until running.now j }
         requires heard { IsHeard plan.now running.now j self.old }
         ensures ear { IsEar plan.now j self.new }
         ensures heard { IsHeard plan.now running.now j self.new }
-        ensures few { result.until ≤ horizon }
+        ensures few { result.until ≤ until }
         ensures found { IsFound plan.now j running.now result }
     {
         let t = running[j].next;
         self.hear_anew(plan, running, j, t);
-        let nodes = below_horizon(plan, running, &self.heard, j, t, horizon);
         if t < self.shaken.from || self.shaken.until <= t {
             self.shaken = shaken_at(plan, j, t);
         }
         Found {
-            until: nodes.until.min(self.shaken.until),
-            level: level_by(nodes.dominant, self.shaken.dominant),
+            until: self.heard.until.min(self.shaken.until).min(until),
+            level: level_by(self.heard.dominant, self.shaken.dominant),
         }
     }
 
@@ -112,7 +110,7 @@ impl Ear {
     fn hear_anew(&mut self, plan: &Plan, running: &[Running], j: usize, t: u64)
         requires checked { IsChecked plan.now }
         requires node { j < length plan.now.nodes }
-        requires running { AreRunning plan.now running.now }
+        requires somewhere { AreSomewhere plan.now running.now }
         requires early { t < 2 ^ 63 }
         requires next { (d : Running) → t ≡ (slice_index_or running.now j d).next }
         requires ear { IsEar plan.now j self.old }
@@ -198,36 +196,4 @@ fn level_by(driven: bool, disturbed: bool) -> Level
         return Level::Dominant;
     }
     Level::Recessive
-}
-
-/// What the nodes make at place `j` from tick `t` on and below the horizon, as long as the drive of its own node stays.
-fn below_horizon(
-    plan: &Plan,
-    running: &[Running],
-    heard: &Pulse,
-    j: usize,
-    t: u64,
-    horizon: u64,
-) -> Pulse
-    requires checked { IsChecked plan.now }
-    requires node { j < length plan.now.nodes }
-    requires running { AreRunning plan.now running.now }
-    requires known { KnowsOthers plan.now j horizon running.now }
-    requires below { t < horizon }
-    requires heard { IsPulseTold plan.now running.now j heard.now }
-    requires from { heard.now.from ≤ t }
-    requires until { t < heard.now.until }
-    ensures from { result.from ≡ t }
-    ensures until { t < result.until }
-    ensures few { result.until ≤ horizon }
-    ensures made { AreMade plan.now running.now j result }
-{
-    wl_plan::checked_is_sound();
-    wl_plan::simulation_laws();
-    wl_record_core::table_laws();
-    Pulse {
-        from: t,
-        until: heard.until.min(horizon),
-        dominant: heard.dominant,
-    }
 }

@@ -4,9 +4,10 @@ ghost use Rattle.std.specs.List.{range_with_len};
 ghost use Rattle.wl_plan.specs.Checked.{IsChecked};
 ghost use Rattle.wl_serial.specs.Outcome.{node_outcome_of, outcome_of};
 ghost use Rattle.wl_serial.specs.Heard.{AreEars, AreHeard};
-ghost use Rattle.wl_serial.specs.Running.{AreRunning, AreKnown, AllKnown, NoneBefore, IsNext};
+ghost use Rattle.wl_serial.specs.Running.{AreRunning, AreKnown, AllKnown, NoneBefore, IsNext, ticks_left};
 
 use crate::ear::Ear;
+use crate::guess::{guess, is_led};
 use crate::outcome::{NodeOutcomes, Outcome};
 use crate::rest::rest;
 use crate::running_node::{Running, Ticks};
@@ -26,7 +27,7 @@ pub fn run_serial(alloc: Global, plan: &Plan) -> Result<Outcome, AllocError>
     let mut running = begin(alloc, plan)?;
     let mut ears = listen(alloc, plan)?;
     let mut known = all_known(plan, &running);
-    run(plan, &mut running, &mut ears, &mut known)?;
+    run(alloc, plan, &mut running, &mut ears, &mut known)?;
     Ok(Outcome {
         nodes: finish(alloc, plan, running)?,
         end: plan.end,
@@ -59,7 +60,7 @@ fn listen(alloc: Global, plan: &Plan) -> Result<Vec<Ear>, AllocError>
 }
 
 /// Up to which ticks the drives are known.
-fn all_known(plan: &Plan, running: &[Running]) -> Ticks
+pub(crate) fn all_known(plan: &Plan, running: &[Running]) -> Ticks
     requires checked { IsChecked plan.now }
     requires running { AreRunning plan.now running.now }
     ensures { AreKnown plan.now.end running.now result }
@@ -73,6 +74,7 @@ fn all_known(plan: &Plan, running: &[Running]) -> Ticks
 
 /// Runs all quanta before the end.
 fn run(
+    alloc: Global,
     plan: &Plan,
     running: &mut [Running],
     ears: &mut [Ear],
@@ -86,11 +88,72 @@ fn run(
     ensures running { OnOk result (AreRunning plan.now running.new) }
     ensures ended { OnOk result (NoneBefore plan.now.end running.new) }
 {
+    let mut refused = 0;
     while let Some(j) = next_before(plan, running, known) {
-        rest(plan, running, ears, known, j);
-        turn(plan, running, ears, known, j)?;
+        let led = refused <= running[j].next && is_led(running, j);
+        if let Some(t) = step(alloc, plan, running, ears, known, j, led)? {
+            refused = t;
+        }
     }
     Ok(())
+}
+
+/// Node `j` goes next: all go ahead by a guess if it leads them, and where that fails, or it doesn't, the node has its turn. Answers the tick up to which a
+/// guess failed, if one did.
+fn step(
+    alloc: Global,
+    plan: &Plan,
+    running: &mut [Running],
+    ears: &mut [Ear],
+    known: &mut Ticks,
+    j: usize,
+    led: bool,
+) -> Result<Option<u64>, AllocError>
+    requires checked { IsChecked plan.now }
+    requires running { AreRunning plan.now running.old }
+    requires ears { AreEars plan.now ears.old }
+    requires heard { AreHeard plan.now running.old ears.old }
+    requires known { AreKnown plan.now.end running.old known.old }
+    requires next { IsNext plan.now.end running.old j }
+    ensures running { OnOk result (AreRunning plan.now running.new) }
+    ensures ears { OnOk result (AreEars plan.now ears.new) }
+    ensures heard { OnOk result (AreHeard plan.now running.new ears.new) }
+    ensures known { OnOk result (AreKnown plan.now.end running.new known.new) }
+    ensures fewer { OnOk result (ticks_left plan.now.end running.new < ticks_left plan.now.end running.old) }
+{
+    if !led {
+        plain(plan, running, ears, known, j)?;
+        return Ok(None);
+    }
+    let failed = guess(alloc, plan, running, ears, known, j)?;
+    if failed.is_some() {
+        plain(plan, running, ears, known, j)?;
+    }
+    Ok(failed)
+}
+
+/// Node `j` has its turn, where the line doesn't rest up to there.
+fn plain(
+    plan: &Plan,
+    running: &mut [Running],
+    ears: &mut [Ear],
+    known: &mut Ticks,
+    j: usize,
+) -> Result<(), AllocError>
+    requires checked { IsChecked plan.now }
+    requires running { AreRunning plan.now running.old }
+    requires ears { AreEars plan.now ears.old }
+    requires heard { AreHeard plan.now running.old ears.old }
+    requires known { AreKnown plan.now.end running.old known.old }
+    requires next { IsNext plan.now.end running.old j }
+    ensures running { OnOk result (AreRunning plan.now running.new) }
+    ensures ears { OnOk result (AreEars plan.now ears.new) }
+    ensures heard { OnOk result (AreHeard plan.now running.new ears.new) }
+    ensures known { OnOk result (AreKnown plan.now.end running.new known.new) }
+    ensures fewer { OnOk result (ticks_left plan.now.end running.new < ticks_left plan.now.end running.old) }
+{
+    rest(plan, running, ears, known, j);
+    turn(plan, running, ears, known, j)
 }
 
 /// Of the nodes that have a quantum before the end, the one whose drive is known the least far: all others wait for it.

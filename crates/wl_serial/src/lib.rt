@@ -3,6 +3,7 @@
 
 mod ear;
 mod engine;
+mod guess;
 mod laws;
 mod outcome;
 mod pulse;

@@ -1,19 +1,21 @@
 //! One node as far as the engine has run it.
-ghost use Rattle.std.specs.Prelude.{◌≡◌, ℕ, ◌^◌, ◌<◌, ◌≤◌, ◌++◌, [], ◌∷◌, if◌then◌else◌, IfOk, OnOk, length};
+ghost use Rattle.std.specs.Prelude.{◌≡◌, ℕ, ◌^◌, ◌<◌, ◌≤◌, ◌++◌, [], ◌∷◌, if◌then◌else◌, IfOk, OnOk, length, take};
 ghost use Rattle.wl_clock.specs.Timing.{tick_of};
 ghost use Rattle.wl_level.specs.Levels.{same};
 ghost use Rattle.wl_plan.specs.Checked.{IsChecked};
 ghost use Rattle.wl_plan.specs.declared.plan.Plan.{Plan as GivenPlan};
+ghost use Rattle.wl_node.specs.Marks.{HasPassed};
+ghost use Rattle.wl_serial.specs.declared.running_node.Running.{Running as GivenRunning};
+ghost use Rattle.wl_serial.specs.Guess.{IsBefore, IsBack};
 ghost use Rattle.wl_serial.specs.Outcome.{node_outcome_of};
-ghost use Rattle.wl_serial.specs.Heard.{StaysWhile};
 ghost use Rattle.wl_serial.specs.Rest.{NodeStands, Stays};
-ghost use Rattle.wl_serial.specs.Running.{IsRunning, one_more};
+ghost use Rattle.wl_serial.specs.Running.{IsRunning, IsSomewhere, GoesOn, RanBelow, IsKnownOn, IsLater, one_more};
 
 use crate::outcome::{Changes, NodeOutcome};
 use std::alloc::{AllocError, Global};
 use wl_clock::Clock;
 use wl_level::{Level, Listed};
-use wl_node::{MOST_RUN_QUANTA, Node};
+use wl_node::{MOST_RUN_QUANTA, Mark, Node};
 use wl_plan::Plan;
 use wl_topology::MOST_NODES;
 
@@ -28,6 +30,18 @@ pub(crate) struct Running {
     pub(crate) next: u64,
     pub(crate) known: u64,
 }
+
+/// Where a node was: its mark, how many changes it had told, and its ticks.
+#[derive(Drop)]
+pub(crate) struct Before {
+    pub(crate) mark: Mark,
+    pub(crate) changes: usize,
+    pub(crate) next: u64,
+    pub(crate) known: u64,
+}
+
+/// No frame has more bits before the end of its CRC sequence (Bosch CAN 2.0 part B, section 3.1).
+const MOST_BITS: u64 = 118;
 
 impl Running {
     /// Node `i` before its first quantum.
@@ -59,11 +73,14 @@ impl Running {
     ) -> Result<Option<u64>, AllocError>
         requires checked { IsChecked plan.now }
         requires node { i < length plan.now.nodes }
-        requires running { IsRunning plan.now i self.old }
+        requires somewhere { IsSomewhere plan.now i self.old }
         requires below { self.old.next < until }
         requires ends { until ≤ plan.now.end }
-        requires found { StaysWhile plan.now i self.old.changes self.old.next until level }
-        ensures running { OnOk result (IsRunning plan.now i self.new) }
+        ensures somewhere { OnOk result (IsSomewhere plan.now i self.new) }
+        ensures goes { OnOk result (GoesOn plan.now i (λ t. level) until self.old self.new) }
+        ensures below { OnOk result (RanBelow plan.now i until self.new) }
+        ensures known { OnOk result (IsKnownOn self.old self.new) }
+        ensures further { OnOk result (IsLater self.old self.new) }
         ensures told { IfOk result (λ change. self.new.changes ≡ one_more self.old.changes change) }
         ensures later { OnOk result (self.old.next < self.new.next) }
     {
@@ -95,6 +112,48 @@ impl Running {
         wl_plan::simulation_laws();
         let last = self.node.quanta() + self.node.quiet() as u64;
         self.known = plan.nodes.as_slice()[i].clock.at(last);
+    }
+
+    /// Where the node is.
+    pub(crate) fn keep(&self) -> Before
+        ensures { IsBefore self.now result }
+    {
+        Before {
+            mark: self.node.keep(),
+            changes: self.changes.len(),
+            next: self.next,
+            known: self.known,
+        }
+    }
+
+    /// Puts the node back to where it was. Refused only when out of memory.
+    pub(crate) fn back(&mut self, alloc: Global, before: &Before) -> Result<(), AllocError>
+        requires { HasPassed before.now.mark self.old.node }
+        ensures { OnOk result ((old : GivenRunning) → IsBefore old before.now → IsLater old self.old
+            → IsBack old self.new) }
+    {
+        self.node.back(&before.mark);
+        self.next = before.next;
+        self.known = before.known;
+        cut(alloc, &mut self.changes, before.changes)?;
+        Ok(())
+    }
+
+    /// The tick at which a transmitter is sure to be near the end of its CRC sequence, or before it; at most the end. 0 for a node that doesn't transmit.
+    pub(crate) fn sends_until(&self, plan: &Plan, i: usize) -> u64
+        requires checked { IsChecked plan.now }
+        requires node { i < length plan.now.nodes }
+        requires somewhere { IsSomewhere plan.now i self.now }
+        ensures { result ≤ plan.now.end }
+    {
+        wl_plan::checked_is_sound();
+        let bits = (self.node.to_send() as u64).min(MOST_BITS);
+        if bits == 0 || plan.end <= self.next {
+            return 0;
+        }
+        let setup = &plan.nodes.as_slice()[i];
+        let last = self.node.quanta() + bits * setup.segments.bit_quanta();
+        setup.clock.at(last).min(plan.end)
     }
 
     /// Up to which tick the node is sure to drive recessive, if it sees recessive only; 0 where it drives dominant.
@@ -170,4 +229,16 @@ fn keep_change(
     let tick = clock.at(quantum);
     changes.push(tick)?;
     Ok(Some(tick))
+}
+
+/// Keeps so many changes, the first ones. Refused only when out of memory.
+fn cut(alloc: Global, changes: &mut Changes, count: usize) -> Result<(), AllocError>
+    ensures { OnOk result (changes.new ≡ take count changes.old) }
+{
+    if changes.len() <= count {
+        return Ok(());
+    }
+    let kept = Vec::from_slice(alloc, &changes.as_slice()[..count])?;
+    *changes = Listed::from_vec(kept);
+    Ok(())
 }

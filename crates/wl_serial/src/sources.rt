@@ -3,7 +3,7 @@ ghost use Rattle.std.specs.Prelude.{◌≡◌, ◌≢◌, ℕ, ◌<◌, ◌≤�
 ghost use Rattle.wl_plan.specs.Checked.{IsChecked};
 ghost use Rattle.wl_record_core.specs.Truth.{IsIncreasing};
 ghost use Rattle.wl_serial.specs.Heard.{AreDelays, AreTallied, AreSooner, AreSources, IsPulseTold, drove};
-ghost use Rattle.wl_serial.specs.Running.{AreRunning};
+ghost use Rattle.wl_serial.specs.Running.{AreSomewhere};
 
 use crate::pulse::{Pulse, pulse_of};
 use crate::running_node::{Running, Ticks};
@@ -51,7 +51,7 @@ impl Sources {
     ) -> Pulse
         requires checked { IsChecked plan.now }
         requires node { j < length plan.now.nodes }
-        requires running { AreRunning plan.now running.now }
+        requires somewhere { AreSomewhere plan.now running.now }
         requires delays { AreDelays plan.now j delays.now }
         requires early { t < 2 ^ 63 }
         requires kept { AreTallied (length plan.now.nodes) self.old }
@@ -62,9 +62,6 @@ impl Sources {
         ensures until { t < result.until }
         ensures told { IsPulseTold plan.now running.now j result }
     {
-        wl_plan::checked_is_sound();
-        wl_plan::simulation_laws();
-        wl_record_core::table_laws();
         let mut until = u64::MAX;
         for i in 0..MOST_NODES {
             if self.nexts[i] <= t {

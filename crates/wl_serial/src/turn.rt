@@ -1,8 +1,9 @@
 //! A node's turn: all its quanta below its horizon.
-ghost use Rattle.std.specs.Prelude.{◌≡◌, ℕ, ◌<◌, ◌≤◌, OnOk, length};
+ghost use Rattle.std.specs.Prelude.{◌≡◌, ℕ, ◌<◌, ◌≤◌, false, IfOk, OnOk, length};
 ghost use Rattle.wl_plan.specs.Checked.{IsChecked};
 ghost use Rattle.wl_serial.specs.Heard.{AreEars, AreHeard};
-ghost use Rattle.wl_serial.specs.Running.{AreRunning, AreKnown, KnowsOthers, IsNext, IsFewer, OnlyOne, RunsBelow, ticks_left};
+ghost use Rattle.wl_serial.specs.Running.{AreRunning, AreSomewhere, AreKnown, KnowsOthers, IsNext, IsFewer, OnlyOne, RunsBelow, ticks_left};
+ghost use Rattle.wl_serial.specs.Stretch.{HasStretched, TellsTheSame};
 
 use crate::ear::{Ear, tell};
 use crate::running_node::{Running, Ticks};
@@ -57,39 +58,40 @@ fn run_below(
     ensures others { OnOk result (OnlyOne j running.old running.new) }
     ensures fewer { OnOk result (IsFewer plan.now.end horizon j running.old running.new) }
 {
+    wl_plan::checked_is_sound();
+    wl_plan::simulation_laws();
+    wl_record_core::table_laws();
     while running[j].next < horizon {
         stretch(plan, running, ears, j, horizon)?;
     }
     Ok(())
 }
 
-/// Node `j` runs its quanta up to the next change of what it finds, to the first that changes its drive, or to the horizon. All ears are told
-/// of its change.
-fn stretch(
+/// Node `j` runs its quanta up to the next change of what it finds by what the nodes have told, to the first that changes its drive, or to a tick.
+/// All ears are told of its change. Answers whether there was one.
+pub(crate) fn stretch(
     plan: &Plan,
     running: &mut [Running],
     ears: &mut [Ear],
     j: usize,
-    horizon: u64,
-) -> Result<(), AllocError>
+    until: u64,
+) -> Result<bool, AllocError>
     requires checked { IsChecked plan.now }
     requires node { j < length plan.now.nodes }
-    requires running { AreRunning plan.now running.old }
+    requires somewhere { AreSomewhere plan.now running.old }
     requires ears { AreEars plan.now ears.old }
     requires heard { AreHeard plan.now running.old ears.old }
-    requires known { KnowsOthers plan.now j horizon running.old }
-    requires ends { horizon ≤ plan.now.end }
-    requires below { RunsBelow horizon running.old j }
-    ensures running { OnOk result (AreRunning plan.now running.new) }
+    requires ends { until ≤ plan.now.end }
+    requires below { RunsBelow until running.old j }
     ensures ears { OnOk result (AreEars plan.now ears.new) }
     ensures heard { OnOk result (AreHeard plan.now running.new ears.new) }
-    ensures known { OnOk result (KnowsOthers plan.now j horizon running.new) }
-    ensures others { OnOk result (OnlyOne j running.old running.new) }
-    ensures fewer { OnOk result (ticks_left plan.now.end running.new < ticks_left plan.now.end running.old) }
+    ensures ran { OnOk result (HasStretched plan.now j until running.old running.new) }
+    ensures same { IfOk result (λ changed. changed ≡ false → TellsTheSame j running.old running.new) }
 {
-    let found = ears[j].hear(plan, running, j, horizon);
+    let found = ears[j].hear(plan, running, j, until);
     if let Some(tick) = running[j].go(plan, j, found.level, found.until)? {
         tell(plan, ears, j, tick);
+        return Ok(true);
     }
-    Ok(())
+    Ok(false)
 }

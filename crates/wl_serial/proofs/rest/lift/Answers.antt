@@ -8,6 +8,10 @@ use Rattle.wl_serial.proofs.Resting.{lifted_on, stay_on}
 use Rattle.wl_serial.proofs.Runners.{one_on}
 use Rattle.wl_serial.proofs.rest.lift.Goals as goal
 
+pub lift-requires-clause-running : goal.lift-requires-clause-running
+lift-requires-clause-running c =
+    c.loop-i.invariant.0.each c.loop-i.i c.index-running-i.result (omega (arith, c.loop-i-test.true, c.loop-i.invariant.0.all, c.requires.running.all))
+
 pub loop-i-preserved : goal.loop-i-preserved
 loop-i-preserved c =
     let plan = c.args.plan.now in

@@ -7,6 +7,13 @@ use Rattle.wl_serial.proofs.Known.{known_on, only_one_on}
 use Rattle.wl_serial.proofs.Runners.{one_on, same_left}
 use Rattle.wl_serial.proofs.turn.turn.Goals as goal
 
+pub promise-requires-clause-running : goal.promise-requires-clause-running
+promise-requires-clause-running c =
+    let old = c.requires.running.all in
+    let new = c.in_ok-run_below.ensures.running.all in
+    let b = c.requires.next.is_node in
+    c.in_ok-run_below.ensures.running.each c.args.j c.index-running-j.result (omega (arith, old, new, b))
+
 pub returns-clause-running : goal.returns-clause-running
 returns-clause-running c =
     let old = c.requires.running.all in

@@ -5,7 +5,7 @@ use Rattle.wl_serial.proofs.ear.Ear.hear_anew.Goals as goal
 
 pub returns-else-self-t-clause-from : goal.returns-else-self-t-clause-from
 returns-else-self-t-clause-from c =
-    let r = one_of c.args.running.now c.args.j (omega (arith, c.requires.node, c.requires.running.all)) in
+    let r = one_of c.args.running.now c.args.j (omega (arith, c.requires.node, c.requires.somewhere.all)) in
     let begun = c.requires.heard.begun r in
     let next = c.requires.next r in
     omega (arith, begun, next)

@@ -15,5 +15,6 @@ returns c =
     (c.at-next.ensures.tick ∙ ap (λ u. tick_of u.clock 0) element)
     refl
     (c.in_ok-new.ensures.setup ∙ (c.in_ok-clone_in.ensures ∙ element))
+    (c.in_ok-new.ensures.node.place.quanta ∙ c.in_ok-new.ensures.node.counted)
     c.in_ok-new.ensures.node
     c.new-2.ensures

@@ -1,24 +1,21 @@
 -- Up to that tick the node changes its drive no more.
-use Rattle.std.proofs.Common.{◌≡◌, inl, inr, ap, arith}
+use Rattle.std.proofs.Common.{◌≡◌, inl, inr, ap, refl, arith}
 use Rattle.std.proofs.lemmas.Bool.{cases_lt}
 use Rattle.wl_record_core.specs.Truth.{count_below}
 use Rattle.wl_plan.specs.PlanLine.{table_of}
+use Rattle.wl_serial.proofs.Steps.{told_alike}
 use Rattle.wl_serial.proofs.running_node.Running.lift.Goals as goal
 
 pub returns-clause-running : goal.returns-clause-running
 returns-clause-running c =
     let run = c.requires.running.1 in
     let max = c.max-self.ensures in
-    let next = ap (λ t. count_below t (table_of c.args.plan.now c.args.i)) run.next in
+    let next = ap (λ t. count_below t (table_of c.args.plan.now c.args.i)) run.runs.at.next in
     let known = run.known in
     let promised = run.promised in (
       c.requires.running.0,
       record {
-        inside = run.inside;
-        next = run.next;
-        setup = run.setup;
-        node = run.node;
-        changes = run.changes;
+        runs = told_alike c.args.plan.now c.args.i c.requires.running.0 c.args.self.now _ refl refl refl run.runs;
         promised = omega (arith, promised, max);
         known = elim (cases_lt c.args.self.now.known c.args.until) [
           | inl more ↦

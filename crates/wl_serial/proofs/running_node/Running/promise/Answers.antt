@@ -13,7 +13,7 @@ pub overflow_add-last : goal.overflow_add-last
 overflow_add-last c =
     let few : c.quanta.result ≤ most_quanta =
     quanta_most c.args.plan.now c.args.i c.args.self.now c.quanta.result c.simulation_laws.ensures (c.checked_is_sound.ensures c.args.plan.now c.requires.checked)
-    c.requires.node c.requires.running c.quanta.ensures.levels
+    c.requires.node c.requires.running c.quanta.ensures.value
     in
     omega (arith, few, c.quiet.ensures.most, most_quanta-is, most_quiet-is)
 
@@ -21,7 +21,7 @@ pub at-self-requires : goal.at-self-requires
 at-self-requires c =
     let few : c.quanta.result ≤ most_quanta =
     quanta_most c.args.plan.now c.args.i c.args.self.now c.quanta.result c.simulation_laws.ensures (c.checked_is_sound.ensures c.args.plan.now c.requires.checked)
-    c.requires.node c.requires.running c.quanta.ensures.levels
+    c.requires.node c.requires.running c.quanta.ensures.value
     in
     omega (arith, few, c.quiet.ensures.most, most_quanta-is, most_quiet-is)
 
@@ -32,9 +32,9 @@ returns-clause-running c =
     let element : c.index-as_slice-i.result ≡ setup_at plan c.args.i =
     element_is plan c.args.i c.index-as_slice-i.result c.as_slice.result.now c.as_slice.ensures c.index-as_slice-i.is c.requires.node
     in
-    let quanta : c.quanta.result ≡ length levels = c.quanta.ensures.levels levels c.requires.running.1.node in
+    let quanta : c.quanta.result ≡ length levels = c.quanta.ensures.levels levels c.requires.running.1.runs.node in
     let quiet : c.quiet.result ≡ quiet_of (setup_at plan c.args.i) levels =
-    c.quiet.ensures.value levels c.requires.running.1.node ∙ ap (λ u. quiet_of u levels) c.requires.running.1.setup
+    c.quiet.ensures.value levels c.requires.running.1.runs.node ∙ ap (λ u. quiet_of u levels) c.requires.running.1.runs.at.setup
     in
     promises plan c.args.i c.args.self.now _ c.simulation_laws.ensures (c.checked_is_sound.ensures plan c.requires.checked) c.requires.node c.requires.running refl refl refl
     (c.at-self.ensures.tick ∙ (ap (λ u. tick_of u.clock (c.quanta.result + c.quiet.result)) (sym c.index-as_slice-i.is ∙ element)

@@ -12,7 +12,7 @@ use Rattle.wl_serial.proofs.running_node.Running.stands_until.Goals as goal
 pub overflow_add-last : goal.overflow_add-last
 overflow_add-last c =
     let few = quanta_most c.args.plan.now c.args.i c.args.self.now c.quanta.result c.simulation_laws.ensures (c.checked_is_sound.ensures c.args.plan.now c.requires.checked)
-    c.requires.node c.requires.running c.quanta.ensures.levels in
+    c.requires.node c.requires.running c.quanta.ensures.value in
     omega (arith, few, c.stays-stays.ensures.most, most_quanta-is)
 
 pub returns : goal.returns
@@ -20,9 +20,9 @@ returns c some k run =
     let plan = c.args.plan.now in
     let i = c.args.i in
     let few = quanta_most plan i c.args.self.now c.quanta.result c.simulation_laws.ensures (c.checked_is_sound.ensures plan c.requires.checked)
-    c.requires.node c.requires.running c.quanta.ensures.levels in
+    c.requires.node c.requires.running c.quanta.ensures.value in
     let element = setup_is plan i c.index-as_slice-i.result c.as_slice.result.now c.as_slice.ensures c.index-as_slice-i.is c.requires.node in
-    let here : c.quanta.result ≡ k = c.quanta.ensures.levels (seen (line_of plan) i k) run.node ∙ c.simulation_laws.ensures.length_seen (line_of plan) i k in
+    let here : c.quanta.result ≡ k = c.quanta.ensures.levels (seen (line_of plan) i k) run.runs.node ∙ c.simulation_laws.ensures.length_seen (line_of plan) i k in
     let min = c.min.ensures in
     let n = c.min.result - k in
     let last : c.min.result ≡ k + n = omega (arith, min, here, few, most_quanta-is) in

@@ -4,7 +4,6 @@ use Rattle.std.proofs.lemmas.List.{get_or_default}
 use Rattle.wl_record_core.specs.Truth.{IsIncreasing}
 use Rattle.wl_topology.specs.Delays.{delay_of}
 use Rattle.wl_serial.specs.Heard.{drove}
-use Rattle.wl_serial.proofs.Found.{in_order}
 use Rattle.wl_serial.proofs.Kept.{is_node, sources_taken, told_by, until_one_more}
 use Rattle.wl_serial.proofs.sources.Sources.hear.Goals as goal
 use Rattle.wl_serial.proofs.sources.Sources.hear.Goals.{then-self-i, else-self-i}
@@ -12,9 +11,7 @@ use Rattle.wl_serial.proofs.sources.Sources.hear.Goals.{then-self-i, else-self-i
 pub take-requires-clause-order : goal.take-requires-clause-order
 take-requires-clause-order c =
     let node = is_node (length c.args.plan.now.nodes) c.loop-i.i c.args.t c.loop-i.self c.loop-i.invariant.0 c.loop-i-test.true c.requires.early c.if-self-i.true in
-    subst IsIncreasing (sym c.as_slice.ensures)
-    (in_order c.args.plan.now c.loop-i.i (get_or c.args.running.now c.loop-i.i c.index-running-i.result) c.simulation_laws.ensures c.table_laws.ensures
-    (c.requires.running.each c.loop-i.i c.index-running-i.result (omega (arith, node, c.requires.running.all))))
+    subst IsIncreasing (sym c.as_slice.ensures) (c.requires.somewhere.each c.loop-i.i c.index-running-i.result (omega (arith, node, c.requires.somewhere.all))).1.order
 
 pub loop-i-preserved : goal.loop-i-preserved
 loop-i-preserved c =
@@ -25,7 +22,7 @@ loop-i-preserved c =
     elim c.if-self-i.branch [
       | then-self-i w ↦
           let node : i < length plan.nodes = is_node (length plan.nodes) i c.args.t c.loop-i.self c.loop-i.invariant.0 c.loop-i-test.true c.requires.early w.if-self-i.true in
-          let inside : i < length rs = omega (arith, node, c.requires.running.all) in
+          let inside : i < length rs = omega (arith, node, c.requires.somewhere.all) in
           let new = w.take.new.self in
           let here = ap (λ s. get_or s.nexts i 0) w.self-is in
           let later = w.take.ensures.later in

@@ -1,0 +1,197 @@
+//! A guess: while one node sends and all others listen, nothing else comes but by an error or at the end of the frame. So the sender runs
+//! alone up to there, and then each listener runs as far beside what it sent. Where none of them changes its drive, all did what they do
+//! (`a_consistent_guess_holds` of `wl_plan`); else all go back to where they were.
+ghost use Rattle.std.specs.Prelude.{◌≡◌, ◌≢◌, ℕ, ◌<◌, ◌≤◌, true, IfOk, OnOk, MatchOption, List, length, slice_index_or};
+ghost use Rattle.wl_plan.specs.Checked.{IsChecked};
+ghost use Rattle.wl_serial.specs.declared.running_node.Running.{Running as GivenRunning};
+ghost use Rattle.wl_serial.specs.Guess.{AreAsFar, AreBack, AreBefore, AreLater, HaveListened, HavePassed, RanAlone};
+ghost use Rattle.wl_serial.specs.Heard.{AreEars, AreHeard};
+ghost use Rattle.wl_serial.specs.Running.{AreRunning, AreSomewhere, AreKnown, IsNext, RunsBelow, ticks_left};
+ghost use Rattle.wl_serial.specs.Stretch.{TellsTheSame};
+
+use crate::ear::Ear;
+use crate::engine::all_known;
+use crate::running_node::{Before, Running, Ticks};
+use crate::turn::stretch;
+use std::alloc::{AllocError, Global};
+use wl_plan::Plan;
+
+/// With fewer bits before it than these a sender is not run ahead: the guess would cost more than it saves.
+const FEWEST_BITS: usize = 8;
+
+/// Whether a guess pays: node `j` sends, and all others listen. It decides nothing but speed.
+pub(crate) fn is_led(running: &[Running], j: usize) -> bool
+    requires { j < length running.now }
+{
+    if running[j].node.to_send() < FEWEST_BITS {
+        return false;
+    }
+    for i in 0..running.len() {
+        if i != j && !running[i].node.listens() {
+            return false;
+        }
+    }
+    true
+}
+
+/// Runs all nodes ahead beside what node `j` sends. Answers `None` if they did what they do, and else the tick up to which they were run: then all are
+/// where they were.
+pub(crate) fn guess(
+    alloc: Global,
+    plan: &Plan,
+    running: &mut [Running],
+    ears: &mut [Ear],
+    known: &mut Ticks,
+    j: usize,
+) -> Result<Option<u64>, AllocError>
+    requires checked { IsChecked plan.now }
+    requires running { AreRunning plan.now running.old }
+    requires ears { AreEars plan.now ears.old }
+    requires heard { AreHeard plan.now running.old ears.old }
+    requires known { AreKnown plan.now.end running.old known.old }
+    requires next { IsNext plan.now.end running.old j }
+    ensures running { OnOk result (AreRunning plan.now running.new) }
+    ensures ears { OnOk result (AreEars plan.now ears.new) }
+    ensures heard { OnOk result (AreHeard plan.now running.new ears.new) }
+    ensures known { OnOk result (AreKnown plan.now.end running.new known.new) }
+    ensures went { IfOk result (λ failed. MatchOption failed
+        (ticks_left plan.now.end running.new < ticks_left plan.now.end running.old)
+        (λ t. AreAsFar running.old running.new)) }
+{
+    wl_plan::checked_is_sound();
+    wl_plan::simulation_laws();
+    wl_plan::a_consistent_guess_holds();
+    wl_record_core::table_laws();
+    wl_node::node_laws();
+    let marks = keep(alloc, running)?;
+    lead(plan, running, ears, j)?;
+    let until = running[j].next.min(plan.end);
+    if follow(plan, running, ears, j, until)? {
+        *known = all_known(plan, running);
+        return Ok(None);
+    }
+    back(alloc, running, &marks)?;
+    forget(plan, ears);
+    Ok(Some(until))
+}
+
+/// Where all nodes are.
+fn keep(alloc: Global, running: &[Running]) -> Result<Vec<Before>, AllocError>
+    ensures { IfOk result (λ marks. AreBefore running.now marks.items) }
+{
+    let mut marks = Vec::new(alloc);
+    for i in 0..running.len() {
+        marks.push(running[i].keep())?;
+    }
+    Ok(marks)
+}
+
+/// Node `j` runs on up to the end of its CRC sequence, beside what the others have told.
+fn lead(plan: &Plan, running: &mut [Running], ears: &mut [Ear], j: usize) -> Result<(), AllocError>
+    requires checked { IsChecked plan.now }
+    requires node { j < length plan.now.nodes }
+    requires somewhere { AreSomewhere plan.now running.old }
+    requires ears { AreEars plan.now ears.old }
+    requires heard { AreHeard plan.now running.old ears.old }
+    requires below { RunsBelow plan.now.end running.old j }
+    ensures ears { OnOk result (AreEars plan.now ears.new) }
+    ensures heard { OnOk result (AreHeard plan.now running.new ears.new) }
+    ensures ran { OnOk result (RanAlone plan.now j plan.now.end running.old running.new) }
+    ensures later { OnOk result ((d : GivenRunning)
+        → (slice_index_or running.old j d).next < (slice_index_or running.new j d).next) }
+{
+    wl_plan::checked_is_sound();
+    wl_plan::simulation_laws();
+    wl_plan::a_consistent_guess_holds();
+    stretch(plan, running, ears, j, plan.end)?;
+    let mut stop = running[j].sends_until(plan, j);
+    while running[j].next < stop {
+        stretch(plan, running, ears, j, stop)?;
+        stop = running[j].sends_until(plan, j);
+    }
+    Ok(())
+}
+
+/// Each node but node `j` runs on up to a tick, beside what all have told. Answers whether none of them changed its drive; else not all have run.
+fn follow(
+    plan: &Plan,
+    running: &mut [Running],
+    ears: &mut [Ear],
+    j: usize,
+    until: u64,
+) -> Result<bool, AllocError>
+    requires checked { IsChecked plan.now }
+    requires somewhere { AreSomewhere plan.now running.old }
+    requires ears { AreEars plan.now ears.old }
+    requires heard { AreHeard plan.now running.old ears.old }
+    requires ends { until ≤ plan.now.end }
+    ensures ears { OnOk result (AreEars plan.now ears.new) }
+    ensures heard { OnOk result (AreHeard plan.now running.new ears.new) }
+    ensures later { OnOk result (AreLater running.old running.new) }
+    ensures listened { IfOk result (λ right. right ≡ true
+        → HaveListened plan.now j until (length plan.now.nodes) running.old running.new) }
+{
+    wl_plan::simulation_laws();
+    for i in 0..running.len() {
+        if i != j && !listen(plan, running, ears, i, until)? {
+            return Ok(false);
+        }
+    }
+    Ok(true)
+}
+
+/// Node `i` runs on up to a tick, beside what all have told, as long as it doesn't change its drive. Answers whether it never did.
+fn listen(
+    plan: &Plan,
+    running: &mut [Running],
+    ears: &mut [Ear],
+    i: usize,
+    until: u64,
+) -> Result<bool, AllocError>
+    requires checked { IsChecked plan.now }
+    requires node { i < length plan.now.nodes }
+    requires somewhere { AreSomewhere plan.now running.old }
+    requires ears { AreEars plan.now ears.old }
+    requires heard { AreHeard plan.now running.old ears.old }
+    requires ends { until ≤ plan.now.end }
+    ensures ears { OnOk result (AreEars plan.now ears.new) }
+    ensures heard { OnOk result (AreHeard plan.now running.new ears.new) }
+    ensures ran { OnOk result (RanAlone plan.now i until running.old running.new) }
+    ensures same { IfOk result (λ right. right ≡ true → TellsTheSame i running.old running.new) }
+    ensures reached { IfOk result (λ right. right ≡ true
+        → (d : GivenRunning) → until ≤ (slice_index_or running.new i d).next) }
+{
+    wl_plan::checked_is_sound();
+    wl_plan::simulation_laws();
+    wl_plan::a_consistent_guess_holds();
+    while running[i].next < until {
+        if stretch(plan, running, ears, i, until)? {
+            return Ok(false);
+        }
+    }
+    Ok(true)
+}
+
+/// Puts all nodes back to where they were. Refused only when out of memory.
+fn back(alloc: Global, running: &mut [Running], marks: &[Before]) -> Result<(), AllocError>
+    requires { HavePassed marks.now running.old }
+    ensures { OnOk result ((rs : List GivenRunning) → AreBefore rs marks.now → AreLater rs running.old
+        → AreBack rs running.new) }
+{
+    for i in 0..running.len() {
+        running[i].back(alloc, &marks[i])?;
+    }
+    Ok(())
+}
+
+/// All that the places have heard is dropped.
+fn forget(plan: &Plan, ears: &mut [Ear])
+    requires checked { IsChecked plan.now }
+    requires ears { AreEars plan.now ears.old }
+    ensures ears { AreEars plan.now ears.new }
+    ensures heard { (rs : List GivenRunning) → AreHeard plan.now rs ears.new }
+{
+    for j in 0..ears.len() {
+        ears[j] = Ear::new(plan, j);
+    }
+}
