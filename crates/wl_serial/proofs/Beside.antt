@@ -1,9 +1,8 @@
 -- A node that ran on by what all have told ran on beside what the others drove.
-use Rattle.std.proofs.Common.{◌≡◌, ℕ, suc, ◌+◌, ◌-◌, ◌<◌, ◌≤◌, ◌≢◌, Bool, true, false, not, ◌&&◌, ◌==◌, ◌⊎◌, inl, inr, List, [], ◌++◌, length, get_or, refl, sym, ◌∙◌, ap, subst, arith, append-nil, append_assoc, nat_le, if◌then◌else◌, eq-eqb}
-use Rattle.std.proofs.Math.ListN.{set, length-set}
+use Rattle.std.proofs.Common.{◌≡◌, ℕ, suc, ◌+◌, ◌-◌, ◌<◌, ◌≤◌, ◌≢◌, Bool, true, not, ◌&&◌, ◌==◌, inl, inr, List, [], ◌++◌, length, get_or, refl, sym, ◌∙◌, ap, subst, arith, append-nil, append_assoc, nat_le, if◌then◌else◌, eq-eqb}
+use Rattle.std.proofs.Math.ListN.{length-set}
 use Rattle.std.proofs.lemmas.Bool.{cases_eq, le-leb}
 use Rattle.std.proofs.lemmas.List.{get_or-set_same, get_or-set_other}
-use Rattle.wl_level.specs.declared.Level.{Level}
 use Rattle.wl_level.specs.Levels.{level_of}
 use Rattle.wl_topology.specs.Delays.{delay_of}
 use Rattle.wl_record_core.specs.Truth.{count_below, odd}
@@ -16,7 +15,7 @@ use Rattle.wl_plan.specs.SimulationLaws.{SimulationLaws}
 use Rattle.wl_plan.specs.Guess.{GuessLaws, beside, from_others}
 use Rattle.wl_plan.specs.Sound.{IsSound}
 use Rattle.wl_serial.specs.declared.running_node.Running.{Running}
-use Rattle.wl_serial.specs.Guess.{GoesBeside, HasListened, HasRunBeside, HaveListened, RanAlone, RanUpTo}
+use Rattle.wl_serial.specs.Guess.{GoesBeside, HasRunBeside, RanAlone, RanUpTo}
 use Rattle.wl_serial.specs.Heard.{sees, tells}
 use Rattle.wl_serial.specs.Running.{AreSomewhere, GoesOn, IsKnownOn, IsLater, IsSomewhere, OwnIsTold}
 use Rattle.wl_serial.specs.Stretch.{HasStretched, TellsTheSame}

@@ -1,5 +1,5 @@
 -- Each listener in turn runs on beside what the sender told.
-use Rattle.std.proofs.Common.{◌≡◌, ℕ, ◌+◌, ◌<◌, ◌≤◌, ◌≢◌, Bool, inl, inr, List, length, get_or, refl, sym, ◌∙◌, ap, subst, arith}
+use Rattle.std.proofs.Common.{◌≡◌, ℕ, ◌+◌, ◌≤◌, ◌≢◌, Bool, inl, inr, List, get_or, refl, sym, ◌∙◌, ap, subst, arith}
 use Rattle.std.proofs.lemmas.Bool.{cases_eq, cases_lt}
 use Rattle.wl_record_core.specs.Truth.{count_below, odd}
 use Rattle.wl_plan.specs.declared.plan.Plan.{Plan}
@@ -8,7 +8,6 @@ use Rattle.wl_serial.specs.declared.running_node.Running.{Running}
 use Rattle.wl_serial.specs.Guess.{AreLater, HasListened, HasRunBeside, HaveListened, RanAlone}
 use Rattle.wl_serial.specs.Heard.{tells}
 use Rattle.wl_serial.specs.Running.{AreSomewhere, IsLater, IsSomewhere}
-use Rattle.wl_serial.specs.Stretch.{TellsTheSame}
 use Rattle.wl_serial.proofs.Beside.{goes_as, later_none, later_then}
 
 -- the same beside others that drove the same

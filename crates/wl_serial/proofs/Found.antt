@@ -3,15 +3,13 @@ use Rattle.std.proofs.Common.{◌≡◌, ℕ, suc, ◌+◌, ◌-◌, ◌<◌, �
 use Rattle.std.proofs.lemmas.Bool.{cases_lt, cases_eq, lt-leb}
 use Rattle.std.specs.List.{list_any}
 use Rattle.std.proofs.lemmas.List.{get_or_default}
-use Rattle.wl_level.specs.declared.Level.{Level}
-use Rattle.wl_level.specs.Levels.{level_of}
 use Rattle.wl_topology.specs.Delays.{delay_of}
 use Rattle.wl_topology.specs.Driven.{driven}
 use Rattle.wl_record_core.specs.Truth.{count_below, odd}
 use Rattle.wl_record_core.specs.TableLaws.{TableLaws}
 use Rattle.wl_plan.specs.declared.plan.Plan.{Plan}
 use Rattle.wl_plan.specs.declared.plan.Disturbance.{Disturbance}
-use Rattle.wl_plan.specs.PlanLine.{line_of, table_of, disturbed, is_at}
+use Rattle.wl_plan.specs.PlanLine.{line_of, table_of, is_at}
 use Rattle.wl_plan.specs.Line.{Line}
 use Rattle.wl_plan.specs.Simulation.{level, changes}
 use Rattle.wl_plan.specs.SimulationLaws.{SimulationLaws}

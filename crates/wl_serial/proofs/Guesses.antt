@@ -1,9 +1,8 @@
 -- A guess that nobody contradicts holds: all did what they do.
-use Rattle.std.proofs.Common.{◌≡◌, ℕ, suc, ◌+◌, ◌-◌, ◌<◌, ◌≤◌, min, max, Bool, true, false, ◌⊎◌, inl, inr, List, length, get_or, nat_lt, refl, sym, ◌∙◌, ap, subst, arith, if◌then◌else◌}
+use Rattle.std.proofs.Common.{◌≡◌, ℕ, suc, ◌+◌, ◌-◌, ◌<◌, ◌≤◌, min, max, Bool, inl, inr, List, length, get_or, nat_lt, sym, ◌∙◌, ap, subst, arith, if◌then◌else◌}
 use Rattle.std.proofs.lemmas.Bool.{cases_lt, lt-ltb, le-ltb}
 use Rattle.std.proofs.lemmas.List.{get_or_default}
-use Rattle.wl_level.specs.declared.Level.{Level}
-use Rattle.wl_record_core.specs.Truth.{count_below, odd}
+use Rattle.wl_record_core.specs.Truth.{count_below}
 use Rattle.wl_record_core.specs.TableLaws.{TableLaws}
 use Rattle.wl_node.specs.Reached.{IsNode}
 use Rattle.wl_plan.specs.declared.plan.Plan.{Plan}

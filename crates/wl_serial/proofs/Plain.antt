@@ -1,5 +1,5 @@
 -- A node that ran on by what the nodes have told, where all that comes to it is known, ran as the simulation does.
-use Rattle.std.proofs.Common.{◌≡◌, ℕ, ◌<◌, ◌≤◌, inl, inr, List, length, get_or, arith}
+use Rattle.std.proofs.Common.{ℕ, ◌<◌, ◌≤◌, inl, inr, List, length, get_or, arith}
 use Rattle.wl_topology.specs.Delays.{delay_of}
 use Rattle.wl_record_core.specs.TableLaws.{TableLaws}
 use Rattle.wl_plan.specs.declared.plan.Plan.{Plan}

@@ -1,5 +1,5 @@
 -- What a stretch of quanta of one level does to a node that runs, by the laws of the simulation.
-use Rattle.std.proofs.Common.{◌≡◌, ℕ, suc, zero, ◌+◌, ◌<◌, ◌≤◌, Bool, true, false, ◌⊎◌, inl, inr, List, [], ◌∷◌, ◌++◌, take, length, replicate, append_assoc, append-nil, add-one, add-zero, refl, sym, ◌∙◌, ap, subst, arith, if◌then◌else◌, get_or, All}
+use Rattle.std.proofs.Common.{◌≡◌, ℕ, suc, zero, ◌+◌, ◌<◌, ◌≤◌, Bool, true, false, inl, inr, List, [], ◌∷◌, ◌++◌, take, length, replicate, append_assoc, append-nil, add-one, add-zero, refl, sym, ◌∙◌, ap, subst, arith, if◌then◌else◌, get_or, All}
 use Rattle.std.proofs.lemmas.Bool.{cases_lt}
 use Rattle.std.proofs.lemmas.List.{replicate_more}
 use Rattle.std.proofs.lemmas.List.Elements.{All-append, All-cons}
@@ -17,7 +17,7 @@ use Rattle.wl_clock.specs.Timing.{tick_of}
 use Rattle.wl_node.specs.declared.setup.NodeSetup.{NodeSetup}
 use Rattle.wl_plan.specs.Limits.{most_quanta}
 use Rattle.wl_plan.specs.Line.{Line}
-use Rattle.wl_plan.specs.PlanLine.{setup_at, line_of, table_of}
+use Rattle.wl_plan.specs.PlanLine.{setup_at, line_of}
 use Rattle.wl_plan.specs.Simulation.{seen, changes, differs, AreInside}
 use Rattle.wl_plan.specs.SimulationLaws.{SimulationLaws}
 use Rattle.wl_plan.specs.Sound.{IsCausal, IsSound}

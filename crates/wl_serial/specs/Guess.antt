@@ -1,6 +1,6 @@
 -- A guess: one node sends, all others listen, and each is run alone beside what all have told, before it is known that nothing else comes. This project's profile.
 -- For a reader who knows simulation: optimistic execution (Jefferson 1985), with a test before anything is committed.
-use Rattle.std.specs.Prelude.{◌≡◌, ◌≢◌, ℕ, ◌<◌, ◌≤◌, ◌⊎◌, Bool, List, ◌++◌, length, slice_index_or}
+use Rattle.std.specs.Prelude.{◌≡◌, ◌≢◌, ℕ, ◌<◌, ◌≤◌, ◌⊎◌, Bool, List, length, slice_index_or}
 use Rattle.wl_level.specs.declared.Level.{Level}
 use Rattle.wl_node.specs.Marks.{IsMark, HasPassed, quanta_marked}
 use Rattle.wl_node.specs.Reached.{IsNode, node_setup, quanta_of}

@@ -1,6 +1,5 @@
 -- One node more has listened, or one has failed.
-use Rattle.std.proofs.Common.{◌≢◌, ◌<◌, ◌∙◌, length, get_or, sym, arith}
-use Rattle.wl_serial.specs.declared.running_node.Running.{Running}
+use Rattle.std.proofs.Common.{◌<◌, length, arith}
 use Rattle.wl_serial.proofs.Following.{failed_later, listened_later, listened_more, listened_none, listened_own, listened_somewhere}
 use Rattle.wl_serial.proofs.guess.follow.Goals as goal
 use Rattle.wl_serial.proofs.guess.follow.Goals.{else-i-j-via-then-i-j+in_ok-listen+else-not-branch, else-i-j-via-else-i-j}

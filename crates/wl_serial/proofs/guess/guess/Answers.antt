@@ -1,10 +1,9 @@
 -- A guess that nobody contradicts holds; else all are where they were.
-use Rattle.std.proofs.Common.{◌≡◌, ◌∙◌, ◌<◌, length, get_or, min, refl, sym, ap, subst, arith}
-use Rattle.std.proofs.lemmas.List.{get_or_default}
+use Rattle.std.proofs.Common.{◌∙◌, sym, subst, arith}
 use Rattle.wl_serial.specs.Guess.{AreBefore}
 use Rattle.wl_serial.proofs.Back.{all_guessed, all_passed, back_far, back_known, back_running, ticks_fewer}
 use Rattle.wl_serial.proofs.Beside.{somewhere_on}
-use Rattle.wl_serial.proofs.Following.{all_later, listened_later, ran_later}
+use Rattle.wl_serial.proofs.Following.{all_later, ran_later}
 use Rattle.wl_serial.proofs.Guesses.{holds}
 use Rattle.wl_serial.proofs.Runners.{somewhere}
 use Rattle.wl_serial.proofs.guess.guess.Goals as goal

@@ -1,6 +1,5 @@
 -- The sender runs on alone, stretch by stretch.
-use Rattle.std.proofs.Common.{◌≡◌, ◌<◌, ◌≤◌, length, get_or, sym, subst, arith}
-use Rattle.wl_serial.specs.declared.running_node.Running.{Running}
+use Rattle.std.proofs.Common.{◌<◌, length, sym, subst, arith}
 use Rattle.wl_serial.specs.Running.{ticks_left}
 use Rattle.wl_serial.proofs.Beside.{later_stretch, ran_more, ran_none, somewhere_on}
 use Rattle.wl_serial.proofs.Runners.{fewer_left}

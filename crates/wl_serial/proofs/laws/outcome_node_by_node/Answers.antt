@@ -1,5 +1,5 @@
 -- A list of numbers that is one longer ends in the last of them.
-use Rattle.std.proofs.Common.{sym, zero-add}
+use Rattle.std.proofs.Common.{zero-add}
 use Rattle.std.proofs.lemmas.List.FromFn.{map-range_with_len_more}
 use Rattle.wl_serial.specs.Outcome.{node_outcome_of}
 use Rattle.wl_serial.proofs.laws.outcome_node_by_node.Goals as goal

@@ -1,7 +1,7 @@
 -- The node ran on by what is known, and the others wait.
 use Rattle.std.proofs.Common.{◌<◌, inr, length, sym, subst, arith}
 use Rattle.wl_serial.specs.Running.{AreRunning, KnowsOthers, OnlyOne, ticks_left}
-use Rattle.wl_serial.proofs.Known.{one_of, only_one_on}
+use Rattle.wl_serial.proofs.Known.{only_one_on}
 use Rattle.wl_serial.proofs.Plain.{runs_plain}
 use Rattle.wl_serial.proofs.Runners.{fewer_left, fewer_on, horizon_on, one_on, somewhere}
 use Rattle.wl_serial.proofs.turn.run_below.Goals as goal

@@ -1,8 +1,7 @@
 -- The node that ran on is in its place, and the others stay.
-use Rattle.std.proofs.Common.{◌≡◌, ◌∙◌, ◌<◌, ◌++◌, ◌∷◌, [], length, get_or, sym, subst, ap, arith}
+use Rattle.std.proofs.Common.{◌∙◌, ◌<◌, ◌++◌, ◌∷◌, [], length, get_or, ap, arith}
 use Rattle.std.proofs.Math.ListN.{set}
 use Rattle.std.proofs.lemmas.List.{get_or_default, get_or-set_same}
-use Rattle.wl_serial.specs.declared.running_node.Running.{Running}
 use Rattle.wl_serial.specs.Running.{one_more}
 use Rattle.wl_serial.proofs.Hearing.{heard_same, heard_anew}
 use Rattle.wl_serial.proofs.Runners.{ear_on, stretched}
