@@ -8,7 +8,7 @@ wide     clauses of more than 120 columns
 names    words of specs/ that two crates define
 unused   definitions of specs/ that no clause and no other definition names, but for `most_x-is`: they belong into proofs/
 long     files of more than 800 lines, functions of more than 40
-english  of each page: sentences of more than 30 words, lines of more than 120 columns, and words that CONTRIBUTING asks not to use
+english  of each page: sentences of more than 30 words, lines of more than 100 columns, and words that CONTRIBUTING asks not to use
 """
 import re
 import sys
@@ -162,14 +162,14 @@ def english():
     for path in sorted([*TOP.glob("*.md"), *TOP.glob("docs/**/*.md"), *TOP.glob("crates/*/README.md")]):
         text = path.read_text(encoding="utf-8")
         lengthy = [(line, len(words)) for line, words in sentences(text) if len(words) > 30]
-        wide = [at + 1 for at, line in enumerate(text.splitlines()) if len(line) > 120 and not line.lstrip().startswith("|")]
+        wide = [at + 1 for at, line in enumerate(text.splitlines()) if len(line) > 100 and not line.lstrip().startswith(("|", "    ", "!", "["))]
         prose = " ".join(" ".join(words) for _, words in sentences(text))
         avoided = {it: n for it in AVOIDED if (n := len(re.findall(rf"\b{it}\b", prose)))}
         for at, n in enumerate((len(lengthy), len(wide), sum(avoided.values()))):
             total[at] += n
         if lengthy or wide or avoided:
             print(f"  {path.relative_to(TOP)}: {len(lengthy)} long sentences {lengthy[:6]}, {len(wide)} wide lines, {avoided}")
-    print(f"english: {total[0]} sentences of more than 30 words, {total[1]} lines of more than 120 columns, {total[2]} words to avoid")
+    print(f"english: {total[0]} sentences of more than 30 words, {total[1]} lines of more than 100 columns, {total[2]} words to avoid")
 
 
 if __name__ == "__main__":
