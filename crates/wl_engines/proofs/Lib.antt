@@ -1,6 +1,6 @@
 mod Gathering
 mod MergeLaws
-mod RowTexts
+mod NamedNodes
 mod Working
 mod Viewing
 mod PageProofs

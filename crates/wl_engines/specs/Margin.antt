@@ -1,5 +1,5 @@
 -- Runs over a plan's text that ask for its bus: the bus is read, and its margin goes out (this project's profile).
-use Rattle.std.specs.Prelude.{◌≡◌, ◌≢◌, ℕ, List, Result, Ok, Err}
+use Rattle.std.specs.Prelude.{◌≢◌, ℕ, List, Result, Ok, Err}
 use Rattle.wl_device.specs.Devices.{Answer, Writes}
 use Rattle.wl_device.specs.declared.device.WriteFault.{WriteFault}
 use Rattle.wl_views.specs.declared.tick.Tick.{Tick}

@@ -1,12 +1,12 @@
 -- Merging: the canonical text of the state of the records that are read (this project's profile).
-use Rattle.std.specs.Prelude.{◌≡◌, ◌≤◌, ◌++◌, ℕ, List, [], length, Option, None, Some, Result}
+use Rattle.std.specs.Prelude.{◌≡◌, ◌≤◌, ◌++◌, ℕ, List, length, Result}
 use Rattle.wl_lattice.specs.Maps.{SameMembers}
 use Rattle.wl_record_core.specs.declared.record.Record.{Record}
 use Rattle.wl_device.specs.declared.device.WriteFault.{WriteFault}
 use Rattle.wl_device.specs.Devices.{Answer, Writes}
 use Rattle.wl_record.specs.Grammar.{IsText}
 use Rattle.wl_record.specs.Limits.{most_record_bytes}
-use Rattle.wl_record_core.specs.Text.{text_line, text_of}
+use Rattle.wl_record_core.specs.Text.{text_of}
 use Rattle.wl_record.specs.Reading.{RecordsOf}
 use Rattle.wl_replica.specs.Canonical.{canonical}
 use Rattle.wl_engines.specs.declared.fault.RunFault.{RunFault}
@@ -19,11 +19,6 @@ merged_records rs = canonical (state_of_all rs)
 
 abbrev pub merged_text : List Record → List ℕ
 merged_text rs = text_of (merged_records rs)
-
--- the text of a record, if there is one
-abbrev pub record_text : Option Record → List ℕ
-record_text None = []
-record_text (Some r) = text_line r
 
 module _ {S T : Type 0} (gives : S → Answer → S → Type 0) (takes : T → Answer → T → Type 0) (s s' : S) (t t' : T) where
   -- the merged text of the records of all that was read went out, as far as it went

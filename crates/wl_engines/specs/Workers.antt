@@ -1,5 +1,5 @@
 -- A run over a plan's text by workers: the report is the one-thread simulation's (this project's profile).
-use Rattle.std.specs.Prelude.{◌≡◌, ◌≢◌, ◌≤◌, ◌↔◌, ℕ, List, Result, Ok, Err}
+use Rattle.std.specs.Prelude.{◌≡◌, ◌≢◌, ◌≤◌, ◌↔◌, ℕ, List, Result, Ok}
 use Rattle.wl_device.specs.Devices.{Answer}
 use Rattle.wl_device.specs.declared.device.WriteFault.{WriteFault}
 use Rattle.wl_plan.specs.declared.plan.Plan.{Plan}

@@ -1,6 +1,6 @@
 use Rattle.std.proofs.Common.{◌≡◌, ◌||◌, ◌∙◌, ap, sym, true, false}
 use Rattle.wl_replica.specs.Dense.{says_something}
-use Rattle.wl_engines.proofs.RowTexts.{named_by_rows}
+use Rattle.wl_engines.proofs.NamedNodes.{named_by_rows}
 use Rattle.wl_engines.proofs.horizon.is_named.Goals as goal
 
 pub returns-then-edges : goal.returns-then-edges

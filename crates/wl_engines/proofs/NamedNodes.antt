@@ -1,13 +1,11 @@
--- The text of a row, line by line, and whether a row names its node.
+-- Whether a row names its node.
 use Rattle.std.proofs.Math.Bool.{or-false}
-use Rattle.std.proofs.Common.{◌≡◌, ◌∙◌, ap, sym, refl, arith, ℕ, zero, suc, ◌+◌, ◌-◌, ◌<◌, ◌≤◌, ◌==◌, ◌||◌, Bool, true, false, cond, not, inl, inr, List, [], ◌∷◌, ◌++◌, length, drop, Option, None, Some}
-use Rattle.std.specs.Prelude.{slice_index_or, if◌then◌else◌}
+use Rattle.std.proofs.Common.{◌≡◌, ◌∙◌, ap, sym, refl, arith, ℕ, zero, suc, ◌+◌, ◌<◌, ◌≤◌, ◌==◌, ◌||◌, Bool, true, false, cond, not, inl, inr, List, [], ◌∷◌, ◌++◌, Option, None, Some}
+use Rattle.std.specs.Prelude.{if◌then◌else◌}
 use Rattle.std.specs.List.{filter_map, flat_map, list_any, cons_option, range_with_len}
 use Rattle.std.specs.FinMap.{entries}
 use Rattle.std.proofs.lemmas.Bool.{cases_eq, ne_eqb, eq-eqb, eqb-true}
 use Rattle.std.proofs.lemmas.Bool.Decides.{nat_tests}
-use Rattle.std.proofs.lemmas.List.{append_assoc}
-use Rattle.std.proofs.lemmas.List.Concat.{flat_map-append}
 use Rattle.wl_lattice.specs.declared.FlatWord.{FlatWord}
 use Rattle.wl_lattice.specs.declared.FlatWord.TheVariants as flat
 use Rattle.wl_lattice.specs.declared.MaxWord.{MaxWord}
@@ -15,73 +13,11 @@ use Rattle.wl_lattice.specs.Words.{max_word}
 use Rattle.wl_record_core.specs.declared.record.Record.{Record}
 use Rattle.wl_record_core.specs.declared.record.Record.TheVariants.{Silence}
 use Rattle.wl_record_core.specs.Slots.{node_of}
-use Rattle.wl_record_core.specs.Text.{text_line, text_of}
 use Rattle.wl_replica.specs.Keys.{Key}
 use Rattle.wl_replica.specs.State.{State}
 use Rattle.wl_replica.specs.Canonical.{edge_record, silence_record, of_node, records_of_node, canonical}
 use Rattle.wl_replica.specs.Dense.{row_entries, edge_of_number, says_something}
-use Rattle.wl_engines.specs.Merge.{record_text}
 use Rattle.wl_engines.specs.Horizon.{is_named}
-
--- ---- line by line
-drop_one : (xs : List ℕ) (i : ℕ) → i < length xs → drop i xs ≡ slice_index_or xs i 0 ∷ drop (i + 1) xs
-drop_one [] i lt = absurd (omega arith)
-drop_one (x ∷ xs) zero lt = refl
-drop_one (x ∷ xs) (suc i) lt =
-    let next : suc i + 1 ≡ suc (i + 1) = omega arith in
-    drop_one xs i (omega arith) ∙ ap (λ k. slice_index_or xs i 0 ∷ drop k (x ∷ xs)) (sym next)
-
-drop_all : (xs : List ℕ) (i : ℕ) → length xs ≤ i → drop i xs ≡ []
-drop_all [] zero h = refl
-drop_all [] (suc i) h = refl
-drop_all (x ∷ xs) zero h = absurd (omega arith)
-drop_all (x ∷ xs) (suc i) h = drop_all xs i (omega arith)
-
-line_first : (o : Option Record) (rs : List Record) → text_of (cons_option o rs) ≡ record_text o ++ text_of rs
-line_first None rs = refl
-line_first (Some r) rs = refl
-
-module _ {W : Type 0} (word : ℕ → W) (told : Key × W → Option Record) (node : ℕ) (row : List ℕ) where
-  -- the text of the numbers from a place on
-  abbrev pub text_from : ℕ → List ℕ
-  text_from i = text_of (filter_map told (row_entries word node i (drop i row) []))
-
-  pub text_step : (i : ℕ) (text new all : List ℕ) → i < length row → text ++ text_from i ≡ all
-      → new ≡ text ++ record_text (told ((node, i), word (slice_index_or row i 0))) → new ++ text_from (i + 1) ≡ all
-  text_step i text new all lt is grown =
-      let next : suc i ≡ i + 1 = omega arith in
-      let line = record_text (told ((node, i), word (slice_index_or row i 0))) in
-      ap (λ t. t ++ text_from (i + 1)) grown
-      ∙ (append_assoc text line (text_from (i + 1))
-      ∙ (ap (λ t. text ++ t) (sym (ap (λ xs. text_of (filter_map told (row_entries word node i xs []))) (drop_one row i lt)
-      ∙ (line_first (told ((node, i), word (slice_index_or row i 0))) (filter_map told (row_entries word node (suc i) (drop (i + 1) row) []))
-      ∙ ap (λ k. line ++ text_of (filter_map told (row_entries word node k (drop (i + 1) row) []))) next)))
-      ∙ is))
-
-  pub text_end : (i : ℕ) → length row ≤ i → text_from i ≡ []
-  text_end i h = ap (λ xs. text_of (filter_map told (row_entries word node i xs []))) (drop_all row i h)
-
--- ---- node by node
-module _ (f : ℕ → List Record) where
-  -- the text of the records of the nodes from one on
-  abbrev pub nodes_from : ℕ → ℕ → List ℕ
-  nodes_from nodes i = text_of (flat_map f (range_with_len i (nodes - i)))
-
-  pub node_step : (nodes i : ℕ) (text mid new all : List ℕ) (es ss : List Record) → i < nodes → text ++ nodes_from nodes i ≡ all
-      → mid ≡ text ++ text_of es → new ≡ mid ++ text_of ss → f i ≡ es ++ ss → new ++ nodes_from nodes (i + 1) ≡ all
-  node_step nodes i text mid new all es ss lt is first second split =
-      let more : nodes - i ≡ suc (nodes - (i + 1)) = omega arith in
-      let rest = nodes_from nodes (i + 1) in
-      ap (λ t. t ++ rest) (second ∙ ap (λ t. t ++ text_of ss) first)
-      ∙ (ap (λ t. t ++ rest) (append_assoc text (text_of es) (text_of ss))
-      ∙ (append_assoc text (text_of es ++ text_of ss) rest
-      ∙ (ap (λ t. text ++ t) (ap (λ t. t ++ rest) (sym (ap text_of split ∙ flat_map-append text_line es ss))
-      ∙ (sym (flat_map-append text_line (f i) (flat_map f (range_with_len (i + 1) (nodes - (i + 1)))))
-      ∙ ap (λ d. text_of (flat_map f (range_with_len i d))) (sym more)))
-      ∙ is)))
-
-  pub nodes_end : (nodes i : ℕ) → nodes ≤ i → nodes_from nodes i ≡ []
-  nodes_end nodes i h = ap (λ d. text_of (flat_map f (range_with_len i d))) (let none : nodes - i ≡ 0 = omega arith in none)
 
 -- ---- whether a row names its node
 any-append : {A : Type 0} (p : A → Bool) (xs ys : List A) → list_any p (xs ++ ys) ≡ (list_any p xs || list_any p ys)
