@@ -157,12 +157,22 @@ def sentences(text):
                 said = []
 
 
+def plain_lines(text):
+    """Yields each line with its place, but for code, tables, pictures and definitions of links."""
+    fenced = False
+    for at, line in enumerate(text.splitlines()):
+        if line.lstrip().startswith("```"):
+            fenced = not fenced
+        elif not fenced and not line.startswith("    ") and not re.match(r"\s*(\||!\[|\[[^\]]*\]:)", line):
+            yield at, line
+
+
 def english():
     total = [0, 0, 0]
     for path in sorted([*TOP.glob("*.md"), *TOP.glob("docs/**/*.md"), *TOP.glob("crates/*/README.md")]):
         text = path.read_text(encoding="utf-8")
         lengthy = [(line, len(words)) for line, words in sentences(text) if len(words) > 30]
-        wide = [at + 1 for at, line in enumerate(text.splitlines()) if len(line) > 100 and not line.lstrip().startswith(("|", "    ", "!", "["))]
+        wide = [at + 1 for at, line in plain_lines(text) if len(line) > 100]
         prose = " ".join(" ".join(words) for _, words in sentences(text))
         avoided = {it: n for it in AVOIDED if (n := len(re.findall(rf"\b{it}\b", prose)))}
         for at, n in enumerate((len(lengthy), len(wide), sum(avoided.values()))):
