@@ -16,7 +16,8 @@ use Rattle.wl_record_core.specs.Slots.{node_of}
 use Rattle.wl_replica.specs.Keys.{Key}
 use Rattle.wl_replica.specs.State.{State}
 use Rattle.wl_replica.specs.Canonical.{edge_record, silence_record, of_node, records_of_node, canonical}
-use Rattle.wl_replica.specs.Dense.{row_entries, edge_of_number, says_something}
+use Rattle.wl_replica.specs.Dense.{row_entries, says_something}
+use Rattle.wl_lattice.specs.Numbers.{number_word}
 use Rattle.wl_engines.specs.Horizon.{is_named}
 
 -- ---- whether a row names its node
@@ -34,11 +35,11 @@ named_word : (node n t : ℕ) (b : Bool) (rs : List Record) → list_any (speaks
 named_word node n t true rs = ap (λ b. b || list_any (speaks_of node) rs) (eq-eqb node node refl)
 named_word node n t false rs = ap (λ b. b || list_any (speaks_of node) rs) (eq-eqb node node refl)
 
-own_edges : (node n : ℕ) (row : List ℕ) → list_any (speaks_of node) (filter_map edge_record (row_entries edge_of_number node n row [])) ≡ says_something row
+own_edges : (node n : ℕ) (row : List ℕ) → list_any (speaks_of node) (filter_map edge_record (row_entries number_word node n row [])) ≡ says_something row
 own_edges node n [] = refl
 own_edges node n (zero ∷ row) = own_edges node (suc n) row
 own_edges node n (suc t ∷ row) =
-    named_word node n t _ (filter_map edge_record (row_entries edge_of_number node (suc n) row []))
+    named_word node n t _ (filter_map edge_record (row_entries number_word node (suc n) row []))
     ∙ sym (ap (λ b. not b || says_something row) (some_number t))
 
 own_silences : (node n : ℕ) (row : List ℕ) → list_any (speaks_of node) (filter_map silence_record (row_entries max_word node n row [])) ≡ says_something row
@@ -85,7 +86,7 @@ module _ (p : Record → Bool) (f : ℕ → List Record) (node : ℕ) (others : 
   ]
 
 pub named_by_rows : (s : State) (node : ℕ) (edges silences : List ℕ) → node < s.nodes
-    → filter_map edge_record (row_entries edge_of_number node 0 edges []) ≡ filter_map edge_record (of_node node (entries s.edges))
+    → filter_map edge_record (row_entries number_word node 0 edges []) ≡ filter_map edge_record (of_node node (entries s.edges))
     → filter_map silence_record (row_entries max_word node 0 silences []) ≡ filter_map silence_record (of_node node (entries s.silences))
     → (says_something edges || says_something silences) ≡ is_named (canonical s) node
 named_by_rows s node edges silences lt e h =

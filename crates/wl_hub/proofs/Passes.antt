@@ -11,7 +11,8 @@ use Rattle.wl_hub.specs.declared.hub.Pass.{Pass}
 use Rattle.wl_hub.specs.Rule.{both, joined}
 use Rattle.wl_hub.specs.Rule.{Closes as ClosesTable}
 use Rattle.wl_record_core.specs.Slots.{slot_of}
-use Rattle.wl_hub.specs.Places.{is_edge_at, is_silence_at, place, flat_number, max_number}
+use Rattle.wl_hub.specs.Places.{is_edge_at, is_silence_at, place, max_number}
+use Rattle.wl_lattice.specs.Numbers.{word_number}
 use Rattle.wl_hub.specs.Words.{word_of, IsAtMostAt, joined_words, edge_widths, silence_widths, answer_place}
 use Rattle.wl_hub.specs.Passes.{pass_name, given_for, seen, TookIn, ClosesWord, Closes}
 use Rattle.wl_hub.proofs.Words.{word_else, edges_here, silences_here, word_within, word_grows, word_both, word-append, word_filter, passes_slot, speaks_of, edge_table, silence_table}
@@ -42,10 +43,10 @@ module _ {T : Type 0} where
       )
 
   -- a look at a word of the table of edges answers what was seen of its slot
-  pub edge_answer : (shape : List (ℕ × ℕ)) (v w : View T) (n s i word : ℕ) → v.shape ≡ shape → place (edge_widths shape) n s ≡ Some i → word ≡ flat_number (joined (edge_kind v.shape) i (w.given ++ w.told)) → word ≡ word_of (EdgeAt n s) (w.given ++ w.told)
+  pub edge_answer : (shape : List (ℕ × ℕ)) (v w : View T) (n s i word : ℕ) → v.shape ≡ shape → place (edge_widths shape) n s ≡ Some i → word ≡ word_number (joined (edge_kind v.shape) i (w.given ++ w.told)) → word ≡ word_of (EdgeAt n s) (w.given ++ w.told)
   edge_answer shape v w n s i word same at is =
       let here : place (edge_widths v.shape) n s ≡ Some i = ap (λ (l : List (ℕ × ℕ)). place (edge_widths l) n s) same ∙ at in
-      is ∙ ap flat_number (edge_table v.shape n s i here (w.given ++ w.told))
+      is ∙ ap word_number (edge_table v.shape n s i here (w.given ++ w.told))
 
   -- a look at a word of the table of silences answers what was seen of its slot
   pub silence_answer : (shape : List (ℕ × ℕ)) (v w : View T) (n s i word : ℕ) → v.shape ≡ shape → place (silence_widths shape) n s ≡ Some i → word ≡ max_number (joined (silence_kind v.shape) i (w.given ++ w.told)) → word ≡ word_of (SilenceAt n s) (w.given ++ w.told)
@@ -109,7 +110,7 @@ module _ {T : Type 0} where
         let c = edges name called i low in
         let here : place (edge_widths p.edges.seat.me.0.shape) n s ≡ Some i = ap (λ (l : List (ℕ × ℕ)). place (edge_widths l) n s) same ∙ at in
         let word : slice_index all i ≡ slice_index ws i = ap (λ (l : List ℕ). slice_index l i) is ∙ get_or_append_left ws vs 0 i (omega (arith, low, count)) in
-        closes_word (tr name) (EdgeAt n s) p c.0 (slice_index all i) c.1 c.2 (word ∙ c.3 ∙ ap flat_number (edge_table p.edges.seat.me.0.shape n s i here (given_for (EdgeAt n s) p ++ c.0)))
+        closes_word (tr name) (EdgeAt n s) p c.0 (slice_index all i) c.1 c.2 (word ∙ c.3 ∙ ap word_number (edge_table p.edges.seat.me.0.shape n s i here (given_for (EdgeAt n s) p ++ c.0)))
     closes_slot name called (SilenceAt n k) i at =
         let j = beyond_some (sum (edge_widths shape)) i (place (silence_widths shape) n k) at in
         let low : j.0 < many = subst (λ (m : ℕ). j.0 < m) (sym many_is) (place_below (silence_widths shape) n k j.0 j.1) in

@@ -12,7 +12,7 @@ use Rattle.wl_record_core.specs.declared.record.Record.{Record}
 use Rattle.wl_record_core.specs.declared.record.Record.TheVariants.{Edge, Clash, Silence}
 use Rattle.wl_record_core.specs.declared.record.Slot.{Slot}
 use Rattle.wl_record_core.specs.declared.record.Slot.TheVariants.{EdgeAt, SilenceAt}
-use Rattle.wl_hub.specs.Places.{flat_number}
+use Rattle.wl_lattice.specs.Numbers.{word_number}
 use Rattle.wl_hub.specs.Words.{edge_share, silence_share, edge_join, silence_join, IsJoinOfTrue, Tells, TellsClash}
 
 both_same : (m q n s : ℕ) → ((m == n) && (q == s)) ≡ true → (m ≡ n) × (q ≡ s)
@@ -84,7 +84,7 @@ module _ (P : Record → Type 0) where
       (λ two. inr (two.0, two.1, two.4, edge_one n s two.0 r mine two.2, edge_behind n s two.1 rs others two.3)) rest)
       (clash_from (edge_share n s r) (edge_join n s rs) is)
 
-  edge_tells : (n s word : ℕ) (rs : List Record) (x : FlatWord) → All P rs → edge_join n s rs ≡ x → word ≡ flat_number x → Tells P (EdgeAt n s) word
+  edge_tells : (n s word : ℕ) (rs : List Record) (x : FlatWord) → All P rs → edge_join n s rs ≡ x → word ≡ word_number x → Tells P (EdgeAt n s) word
   edge_tells n s word rs Nothing all is at = inl at
   edge_tells n s word rs (Value t) all is at = inr (inl (t, at, edge_behind n s t rs all is))
   edge_tells n s word rs Clash' all is at = inr (inr (at, clash_behind n s rs all is))

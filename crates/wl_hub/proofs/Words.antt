@@ -17,8 +17,10 @@ use Rattle.wl_record_core.specs.declared.record.Slot.{Slot}
 use Rattle.wl_record_core.specs.declared.record.Slot.TheVariants.{EdgeAt, SilenceAt}
 use Rattle.wl_record_core.specs.Slots.{slot_of}
 use Rattle.wl_hub.specs.Rule.{joined, share}
-use Rattle.wl_hub.specs.Places.{place, is_place, flat_number, is_edge_at, is_silence_at}
-use Rattle.wl_hub.specs.Words.{edge_share, silence_share, edge_join, silence_join, word_of, IsAtMostAt, joined_numbers, joined_words, IsJoinOfTrue, edge_widths, silence_widths}
+use Rattle.wl_hub.specs.Places.{place, is_place, is_edge_at, is_silence_at}
+use Rattle.wl_lattice.specs.declared.numbers.TheConstants.{CLASH}
+use Rattle.wl_lattice.specs.Numbers.{word_number, joined_numbers}
+use Rattle.wl_hub.specs.Words.{edge_share, silence_share, edge_join, silence_join, word_of, IsAtMostAt, joined_words, IsJoinOfTrue, edge_widths, silence_widths}
 use Rattle.wl_hub.proofs.Joined.{below_left, below_right, below_trans, below_join}
 use Rattle.wl_hub.proofs.Edges.{edge_kind, edge_laws}
 use Rattle.wl_hub.proofs.Silences.{silence_kind}
@@ -37,12 +39,12 @@ pub silence-append : (n c : ℕ) (xs ys : List Record) → (silence_join n c (xs
 silence-append n c xs ys = ap (λ (w : MaxWord). w.word) (silence_join-append n c xs ys)
 
 -- ---- the order
-number_at_most : (a b : FlatWord) → joined_flat a b ≡ b → (flat_number a ≡ 0) ⊎ ((flat_number a ≡ flat_number b) ⊎ (flat_number b ≡ 18446744073709551615))
+number_at_most : (a b : FlatWord) → joined_flat a b ≡ b → (word_number a ≡ 0) ⊎ ((word_number a ≡ word_number b) ⊎ (word_number b ≡ CLASH))
 number_at_most Nothing b h = inl refl
 number_at_most (Value x) Nothing h = absurd cc
 number_at_most (Value x) (Value y) h = dite (ℕ_discrete x y) (λ e. inr (inl (ap suc e))) (λ ne. absurd (let clash = rw (ne_eqb x y ne) at h in cc))
 number_at_most (Value x) Clash' h = inr (inr refl)
-number_at_most Clash' b h = inr (inr (ap flat_number (sym h)))
+number_at_most Clash' b h = inr (inr (ap word_number (sym h)))
 
 max_at_most : (a b : MaxWord) → joined_max a b ≡ b → a.word ≤ b.word
 max_at_most a b h = let m : max a.word b.word ≡ b.word = ap (λ (w : MaxWord). w.word) h in omega (arith, m)
@@ -75,8 +77,10 @@ word_grows (EdgeAt k s) g e t n =
 word_grows (SilenceAt k c) g e t n = omega (arith, silence-append k c (g ++ e) (t ++ n), silence-append k c g e, silence-append k c t n, silence-append k c g t)
 
 -- ---- joined words
-flat_numbers : (a b : FlatWord) → flat_number (joined_flat a b) ≡ joined_numbers (flat_number a) (flat_number b)
-flat_numbers Nothing b = refl
+flat_numbers : (a b : FlatWord) → word_number (joined_flat a b) ≡ joined_numbers (word_number a) (word_number b)
+flat_numbers Nothing Nothing = refl
+flat_numbers Nothing (Value y) = grind (arith, nat_tests)
+flat_numbers Nothing Clash' = refl
 flat_numbers (Value x) Nothing = grind (arith, nat_tests)
 flat_numbers (Value x) (Value y) = grind (arith, nat_tests)
 flat_numbers (Value x) Clash' = grind (arith, nat_tests)
@@ -85,13 +89,13 @@ flat_numbers Clash' (Value y) = grind (arith, nat_tests)
 flat_numbers Clash' Clash' = refl
 
 pub word-append : (slot : Slot) (xs ys : List Record) → word_of slot (xs ++ ys) ≡ joined_words slot (word_of slot xs) (word_of slot ys)
-word-append (EdgeAt n s) xs ys = ap flat_number (edge_join-append n s xs ys) ∙ flat_numbers (edge_join n s xs) (edge_join n s ys)
+word-append (EdgeAt n s) xs ys = ap word_number (edge_join-append n s xs ys) ∙ flat_numbers (edge_join n s xs) (edge_join n s ys)
 word-append (SilenceAt n c) xs ys = ap (λ (w : MaxWord). w.word) (silence_join-append n c xs ys)
 
 -- both lists of two passes
 pub word_both : (slot : Slot) (g t h u : List Record) → word_of slot ((g ++ h) ++ (t ++ u)) ≡ joined_words slot (word_of slot (g ++ t)) (word_of slot (h ++ u))
 word_both (EdgeAt n s) g t h u =
-    ap flat_number
+    ap word_number
     (edge_join-append n s (g ++ h) (t ++ u) ∙ (λ i. joined_flat (edge_join-append n s g h i) (edge_join-append n s t u i))
     ∙ four_flat (edge_join n s g) (edge_join n s h) (edge_join n s t) (edge_join n s u)
     ∙ (λ i. joined_flat (sym (edge_join-append n s g t) i) (sym (edge_join-append n s h u) i)))
@@ -155,7 +159,7 @@ silence_filter n c (x ∷ xs) = silence_one n c x (filter (speaks_of (SilenceAt 
 
 -- records of other slots give nothing
 pub word_filter : (slot : Slot) (rs : List Record) → word_of slot (filter (speaks_of slot) rs) ≡ word_of slot rs
-word_filter (EdgeAt n s) rs = ap flat_number (edge_filter n s rs)
+word_filter (EdgeAt n s) rs = ap word_number (edge_filter n s rs)
 word_filter (SilenceAt n c) rs = ap (λ (w : MaxWord). w.word) (silence_filter n c rs)
 
 pub passes_slot : (slot : Slot) (rs : List Record) → All (λ r. slot_of r ≡ slot) (filter (speaks_of slot) rs)
@@ -229,7 +233,7 @@ pub word_else : (slot other : Slot) → other ≢ slot → (g e t n : List Recor
 word_else slot (EdgeAt k s) apart g e t n es ns =
     let left : edge_join k s (g ++ e) ≡ edge_join k s g = edge_join-append k s g e ∙ ap (joined_flat (edge_join k s g)) (edge_quiet slot k s apart e es) ∙ flat_right (edge_join k s g) in
     let right : edge_join k s (t ++ n) ≡ edge_join k s t = edge_join-append k s t n ∙ ap (joined_flat (edge_join k s t)) (edge_quiet slot k s apart n ns) ∙ flat_right (edge_join k s t) in
-    ap flat_number (edge_join-append k s (g ++ e) (t ++ n) ∙ (λ i. joined_flat (left i) (right i)) ∙ sym (edge_join-append k s g t))
+    ap word_number (edge_join-append k s (g ++ e) (t ++ n) ∙ (λ i. joined_flat (left i) (right i)) ∙ sym (edge_join-append k s g t))
 word_else slot (SilenceAt k c) apart g e t n es ns =
     let left : (silence_join k c e).word ≡ 0 = ap (λ (w : MaxWord). w.word) (silence_quiet slot k c apart e es) in
     let right : (silence_join k c n).word ≡ 0 = ap (λ (w : MaxWord). w.word) (silence_quiet slot k c apart n ns) in

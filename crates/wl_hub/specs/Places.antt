@@ -46,12 +46,6 @@ silence_apart shape i j (Edge n s t) h g = grind arith
 silence_apart shape i j (Clash n s) h g = grind arith
 silence_apart shape i j (Silence n c u) h g = is_place-apart (place (map (λ w. w.1) shape) n c) i j h g
 
--- 0 for nothing, 1 more than a tick, and the greatest word for a clash
-abbrev pub flat_number : FlatWord → ℕ
-flat_number Nothing = 0
-flat_number (Value t) = suc t
-flat_number Clash' = 18446744073709551615
-
 abbrev pub edge_value : Record → FlatWord
 edge_value (Edge n s t) = Value t
 edge_value (Clash n s) = Clash'

@@ -2,6 +2,7 @@
 use Rattle.std.specs.Prelude.{◌≡◌, ℕ, ◌<◌, Bool, true, if◌then◌else◌, List, [], ◌∷◌, ◌++◌, length, slice_index, filter, All, Some, None, MatchBool, ◌||◌, ◌==◌}
 use mathlib.Core.Option.{some}
 use lib.ListN.{get_elem?}
+use Rattle.wl_lattice.specs.declared.numbers.TheConstants.{CLASH}
 use Rattle.wl_record_core.specs.declared.record.Record.{Record}
 use Rattle.wl_hub.specs.declared.view.View.{View}
 use Rattle.atomic_table.specs.Table.{State, Me, Step}
@@ -19,7 +20,7 @@ kind b j w v a = record { bottom = b; join = j; word = w; value = v; at = a }
 
 -- a compare-exchange from 0 to `new` leaves such a word with the new value in it: it was 0, the value, or a clash
 abbrev pub is_settled : ℕ → ℕ → Bool
-is_settled n new = (n == 0) || ((n == new) || (n == 18446744073709551615))
+is_settled n new = (n == 0) || ((n == new) || (n == CLASH))
 
 module _ {J : Type 0} where
   -- what a record gives to word i

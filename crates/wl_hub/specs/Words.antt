@@ -11,7 +11,9 @@ use Rattle.wl_record_core.specs.declared.record.Slot.{Slot}
 use Rattle.wl_record_core.specs.declared.record.Slot.TheVariants.{EdgeAt, SilenceAt}
 use Rattle.wl_record_core.specs.Slots.{slot_of}
 use Rattle.wl_record_core.specs.Within.{IsWithin}
-use Rattle.wl_hub.specs.Places.{place, beyond, flat_number}
+use Rattle.wl_hub.specs.Places.{place, beyond}
+use Rattle.wl_lattice.specs.declared.numbers.TheConstants.{CLASH}
+use Rattle.wl_lattice.specs.Numbers.{word_number, joined_numbers}
 
 -- ---- the join of the records of one slot
 
@@ -37,23 +39,17 @@ silence_join n c (r ∷ rs) = joined_max (silence_share n c r) (silence_join n c
 
 -- the word of a slot: of an edge 0 for nothing, 1 more than a tick, and the greatest word for a clash
 abbrev pub word_of : Slot → List Record → ℕ
-word_of (EdgeAt n s) rs = flat_number (edge_join n s rs)
+word_of (EdgeAt n s) rs = word_number (edge_join n s rs)
 word_of (SilenceAt n c) rs = (silence_join n c rs).word
 
 -- ---- words as numbers
 
-abbrev pub clash_number : ℕ
-clash_number = 18446744073709551615
-
 -- one word is at most another, in the order of the join: of an edge nothing, then one tick, then the clash
 abbrev pub IsAtMostAt : Slot → ℕ → ℕ → Type 0
-IsAtMostAt (EdgeAt n s) a b = (a ≡ 0) ⊎ ((a ≡ b) ⊎ (b ≡ clash_number))
+IsAtMostAt (EdgeAt n s) a b = (a ≡ 0) ⊎ ((a ≡ b) ⊎ (b ≡ CLASH))
 IsAtMostAt (SilenceAt n c) a b = a ≤ b
 
 -- the join of two words of one slot
-abbrev pub joined_numbers : ℕ → ℕ → ℕ
-joined_numbers a b = if a == 0 then b else if b == 0 then a else if a == b then a else clash_number
-
 abbrev pub joined_words : Slot → ℕ → ℕ → ℕ
 joined_words (EdgeAt n s) a b = joined_numbers a b
 joined_words (SilenceAt n c) a b = max a b
@@ -72,7 +68,7 @@ TellsClash is_true n s = is_true (Clash n s) ⊎ ((t u : ℕ) × (t ≢ u) × is
 -- what a word tells: nothing, or a true record of its slot, or a clash
 abbrev pub Tells : (Record → Type 0) → Slot → ℕ → Type 0
 Tells is_true (EdgeAt n s) word = (word ≡ 0)
-    ⊎ (((t : ℕ) × (word ≡ suc t) × is_true (Edge n s t)) ⊎ ((word ≡ clash_number) × TellsClash is_true n s))
+    ⊎ (((t : ℕ) × (word ≡ suc t) × is_true (Edge n s t)) ⊎ ((word ≡ CLASH) × TellsClash is_true n s))
 Tells is_true (SilenceAt n c) word = (word ≡ 0) ⊎ is_true (Silence n c word)
 
 -- ---- the shape: for each node its numbers of edge words and of silence words

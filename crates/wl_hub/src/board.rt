@@ -8,7 +8,7 @@ use atomic_table::{Closed, Join as Unites, Play, Seat, Split, Table, TableRule};
 use std::alloc::{AllocError, Global};
 use std::marker::{Brand, PhantomData};
 use std::snapshot::Snapshot;
-use wl_lattice::{FlatWord, MaxWord};
+use wl_lattice::{CLASH, FlatWord, MaxWord, value_number};
 use wl_record_core::Record;
 
 pub struct Rule<T, J> {
@@ -50,11 +50,12 @@ pub struct Claim<K> {
 
 impl<T: Truth, K: Gift> Play<(), View<T>> for Claim<K> {
     ghost use Rattle.wl_hub.specs.Rule.{claimed, kind};
-    ghost use Rattle.wl_hub.specs.Places.{flat_number, edge_value, is_edge_at};
+    ghost use Rattle.wl_hub.specs.Places.{edge_value, is_edge_at};
+    ghost use Rattle.wl_lattice.specs.Numbers.{word_number};
     ghost use Rattle.wl_lattice.specs.Words.{joined_flat};
     ghost use Rattle.wl_lattice.specs.declared.FlatWord.TheVariants.{Nothing};
 
-    ghost then = { claimed (λ shape. kind Nothing joined_flat flat_number edge_value (is_edge_at shape))
+    ghost then = { claimed (λ shape. kind Nothing joined_flat word_number edge_value (is_edge_at shape))
         T.is_true K.gift };
 }
 
@@ -255,16 +256,17 @@ impl<T: Truth> Board<T, FlatWord> {
         ensures told { AllTrue T.is_true part.new.seat.me.0 }
     {
         let _ = gift;
+        let number = value_number(tick);
         let found = self
             .table
             .shared
-            .compare_exchange::<Claim<K>>(&mut part.seat, i, 0, tick + 1);
-        if found == 0 || found == tick + 1 || found == u64::MAX {
+            .compare_exchange::<Claim<K>>(&mut part.seat, i, 0, number);
+        if found == 0 || found == number || found == CLASH {
             return;
         }
         self.table
             .shared
-            .fetch_max::<Give<FlatWord, K>>(&mut part.seat, i, u64::MAX);
+            .fetch_max::<Give<FlatWord, K>>(&mut part.seat, i, CLASH);
     }
 
     /// Gives an edge to its word.
@@ -298,7 +300,7 @@ impl<T: Truth> Board<T, FlatWord> {
         let _ = gift;
         self.table
             .shared
-            .fetch_max::<Give<FlatWord, K>>(&mut part.seat, i, u64::MAX);
+            .fetch_max::<Give<FlatWord, K>>(&mut part.seat, i, CLASH);
     }
 
     /// Gives a clash to its word.

@@ -7,6 +7,7 @@ ghost use Rattle.wl_hub.specs.Words.{IsInShape};
 use crate::{Hub, Pass, Truth};
 use std::test::Fail;
 use std::thread::{Threads, join};
+use wl_lattice::CLASH;
 use wl_record_core::{Record, Slot};
 
 /// A name of which every record is true.
@@ -19,8 +20,6 @@ impl Truth for Anything {
 const FIRST: Slot = Slot::EdgeAt { node: 0, seq: 0 };
 
 const SILENT: Slot = Slot::SilenceAt { node: 0, count: 1 };
-
-const CLASHED: u64 = u64::MAX;
 
 fn edge(seq: u32, tick: u64) -> Record {
     Record::Edge { node: 0, seq, tick }
@@ -63,12 +62,12 @@ fn two_ticks_clash_and_the_longer_silence_stays(rt: HostRuntime) -> Result<(), F
     assert!(rt; give(&hub, &mut a, edge(0, 100)));
     assert!(rt; read(&hub, &mut a, FIRST) == Some(101));
     assert!(rt; give(&hub, &mut b, edge(0, 101)));
-    assert!(rt; read(&hub, &mut a, FIRST) == Some(CLASHED));
-    assert!(rt; read(&hub, &mut b, FIRST) == Some(CLASHED));
+    assert!(rt; read(&hub, &mut a, FIRST) == Some(CLASH));
+    assert!(rt; read(&hub, &mut b, FIRST) == Some(CLASH));
     assert!(rt; give(&hub, &mut a, silence(1, 150)) && give(&hub, &mut b, silence(1, 120)));
     assert!(rt; read(&hub, &mut b, SILENT) == Some(150));
     let words = hub.close(rt.alloc(), a)?;
-    assert!(rt; words.as_slice() == [CLASHED, 0, 0, 150, 0].as_slice());
+    assert!(rt; words.as_slice() == [CLASH, 0, 0, 150, 0].as_slice());
     Ok(())
 }
 
@@ -88,9 +87,9 @@ fn takes_on_two_threads_meet_in_one_word(rt: HostRuntime) -> Result<(), Fail> {
     let b = hub.split(&mut a);
     let (mut a, b) = both_give(&rt, &hub, a, b);
     hub.rejoin(&mut a, b);
-    assert!(rt; read(&hub, &mut a, FIRST) == Some(CLASHED));
+    assert!(rt; read(&hub, &mut a, FIRST) == Some(CLASH));
     let words = hub.close(rt.alloc(), a)?;
-    assert!(rt; words.as_slice() == [CLASHED, 0, 0, 150, 0].as_slice());
+    assert!(rt; words.as_slice() == [CLASH, 0, 0, 150, 0].as_slice());
     Ok(())
 }
 
@@ -147,10 +146,10 @@ fn a_clash_stays_after_a_pass_is_spent(rt: HostRuntime) -> Result<(), Fail> {
     assert!(rt; give(&hub, &mut b, edge(0, 7)));
     hub.rejoin(&mut a, b);
     assert!(rt; give(&hub, &mut a, Record::Clash { node: 0, seq: 0 }));
-    assert!(rt; read(&hub, &mut a, FIRST) == Some(CLASHED));
+    assert!(rt; read(&hub, &mut a, FIRST) == Some(CLASH));
     assert!(rt; give(&hub, &mut a, edge(0, 7)));
     let words = hub.close(rt.alloc(), a)?;
-    assert!(rt; words.as_slice() == [CLASHED].as_slice());
+    assert!(rt; words.as_slice() == [CLASH].as_slice());
     Ok(())
 }
 

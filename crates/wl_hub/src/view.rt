@@ -71,10 +71,11 @@ impl Cell for MaxWord {
 }
 
 impl Cell for FlatWord {
-    ghost use Rattle.wl_hub.specs.Places.{flat_number, edge_value, is_edge_at, edge_apart};
+    ghost use Rattle.wl_lattice.specs.Numbers.{word_number};
+    ghost use Rattle.wl_hub.specs.Places.{edge_value, is_edge_at, edge_apart};
     ghost use Rattle.std.specs.Prelude.{refl};
 
-    ghost word = { flat_number };
+    ghost word = { word_number };
 
     ghost value = { edge_value };
 

@@ -6,3 +6,4 @@ pub mod SlotContents
 pub mod ProductLaws
 pub mod WordLaws
 pub mod KeyByKey
+pub mod Numbers

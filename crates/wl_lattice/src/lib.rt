@@ -7,12 +7,14 @@ ghost use Rattle.std.specs.Prelude.{◌≡◌, ◌↔◌, IsTrue};
 ghost use Rattle.wl_lattice.specs.Laws.{JoinLaws};
 
 mod laws;
+mod numbers;
 mod products;
 mod slots;
 
 pub use laws::{
     contents_join_key_by_key, flat_words_read_back, join_makes_an_order, maps_join_key_by_key,
 };
+pub use numbers::{CLASH, number_word, value_number};
 pub use slots::Slots;
 
 /// Values that can be joined: a semilattice with a least value.

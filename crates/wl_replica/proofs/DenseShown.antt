@@ -20,11 +20,12 @@ use Rattle.wl_lattice.specs.Words.{max_word, joined_flat, joined_max}
 use Rattle.wl_lattice.specs.Maps.{joined_maps, map_of, MapLaws}
 use Rattle.wl_lattice.specs.SlotContents.{IsRaised}
 use Rattle.wl_record_core.specs.declared.record.Record.TheVariants.{Edge, Clash, Silence}
-use Rattle.wl_replica.specs.declared.node_row.TheConstants.{CLASH}
+use Rattle.wl_lattice.specs.declared.numbers.TheConstants.{CLASH}
 use Rattle.wl_replica.specs.Keys.{Key, key_cmp}
 use Rattle.wl_replica.specs.State.{state_of, states_joined, state_with_record, Fits, FitsEdge, FitsSilence}
 use Rattle.wl_replica.specs.Dense.{words_shown, holds_edge, holds_silence}
-use Rattle.wl_replica.specs.Dense.{row_number, slot_number, row_of, row_entries, rows_entries, edge_of_number, edge_words, silence_words, joined_edge_numbers, both_edge_numbers, shown_by_rows, AreRows, IsGrown, IsToldTo, HasRoomAt}
+use Rattle.wl_replica.specs.Dense.{row_number, slot_number, row_of, row_entries, rows_entries, edge_words, silence_words, shown_by_rows, AreRows, IsGrown, IsToldTo, HasRoomAt}
+use Rattle.wl_lattice.specs.Numbers.{number_word, joined_to_some, joined_numbers}
 use Rattle.wl_replica.proofs.KeyLaws.{key_cmp_total}
 use Rattle.wl_replica.proofs.KeptLemmas.{same_key}
 use Rattle.wl_replica.proofs.Shown.{Tells, listed_raised, listed_same, listed_joined, word_listed, sorted_filter, joined_nothing}
@@ -69,7 +70,7 @@ none_listed word i (suc n) = none_listed word (suc i) n
 
 pub empty_shown : (nodes : ℕ) (edges silences : List (List ℕ)) → edges ≡ replicate nodes [] → silences ≡ replicate nodes [] → shown_by_rows nodes edges silences ≡ state_of nodes []
 empty_shown nodes edges silences e s = same_parts nodes nodes _ _ _ _ refl
-    (ap (λ rows. words_shown holds_edge (rows_entries edge_of_number 0 rows)) e ∙ shown_nothing holds_edge _ (none_listed edge_of_number 0 nodes))
+    (ap (λ rows. words_shown holds_edge (rows_entries number_word 0 rows)) e ∙ shown_nothing holds_edge _ (none_listed number_word 0 nodes))
     (ap (λ rows. words_shown holds_silence (rows_entries max_word 0 rows)) s ∙ shown_nothing holds_silence _ (none_listed max_word 0 nodes))
 
 -- ---- what rows keep
@@ -108,14 +109,14 @@ same_kept nodes edges silences new_edges new_silences kept e s p q =
 pub same_shown : (nodes : ℕ) (edges silences new_edges new_silences : List (List ℕ)) → ((k : Key) → edge_words new_edges k ≡ edge_words edges k)
     → ((k : Key) → silence_words new_silences k ≡ silence_words silences k) → shown_by_rows nodes new_edges new_silences ≡ shown_by_rows nodes edges silences
 same_shown nodes edges silences new_edges new_silences p q =
-    same_parts nodes nodes _ _ _ _ refl (rows_same edge_of_number edge_maps tells_edge edges new_edges p) (rows_same max_word silence_maps tells_silence silences new_silences q)
+    same_parts nodes nodes _ _ _ _ refl (rows_same number_word edge_maps tells_edge edges new_edges p) (rows_same max_word silence_maps tells_silence silences new_silences q)
 
 pub grown_kept : (nodes : ℕ) (edges silences new_edges new_silences : List (List ℕ)) → AreRows nodes edges silences → IsGrown edges new_edges → IsGrown silences new_silences → AreRows nodes new_edges new_silences
 grown_kept nodes edges silences new_edges new_silences kept e s =
-    same_kept nodes edges silences new_edges new_silences kept e.count s.count (λ k. ap edge_of_number (e.same k)) (λ k. ap max_word (s.same k))
+    same_kept nodes edges silences new_edges new_silences kept e.count s.count (λ k. ap number_word (e.same k)) (λ k. ap max_word (s.same k))
 
 pub grown_shown : (nodes : ℕ) (edges silences new_edges new_silences : List (List ℕ)) → IsGrown edges new_edges → IsGrown silences new_silences → shown_by_rows nodes new_edges new_silences ≡ shown_by_rows nodes edges silences
-grown_shown nodes edges silences new_edges new_silences e s = same_shown nodes edges silences new_edges new_silences (λ k. ap edge_of_number (e.same k)) (λ k. ap max_word (s.same k))
+grown_shown nodes edges silences new_edges new_silences e s = same_shown nodes edges silences new_edges new_silences (λ k. ap number_word (e.same k)) (λ k. ap max_word (s.same k))
 
 -- with what a record says
 pub told_kept : (nodes : ℕ) (edges silences new_edges new_silences : List (List ℕ)) (r : Record) → AreRows nodes edges silences → length new_edges ≡ length edges → length new_silences ≡ length silences
@@ -139,14 +140,14 @@ told_kept nodes edges silences new_edges new_silences (Silence i n u) kept e s t
 pub told_shown : (nodes : ℕ) (edges silences new_edges new_silences : List (List ℕ)) (r : Record) → IsToldTo r edges silences new_edges new_silences
     → shown_by_rows nodes new_edges new_silences ≡ state_with_record (shown_by_rows nodes edges silences) r
 told_shown nodes edges silences new_edges new_silences (Edge i n t) told =
-    same_parts nodes nodes _ _ _ _ refl (rows_raised edge_of_number edge_maps tells_edge edges new_edges (i, n) (flat.Value t) told.0)
+    same_parts nodes nodes _ _ _ _ refl (rows_raised number_word edge_maps tells_edge edges new_edges (i, n) (flat.Value t) told.0)
     (ap (λ rows. words_shown holds_silence (rows_entries max_word 0 rows)) told.1 ∙ sym (joined_nothing silence_maps tells_silence _))
 told_shown nodes edges silences new_edges new_silences (Clash i n) told =
-    same_parts nodes nodes _ _ _ _ refl (rows_raised edge_of_number edge_maps tells_edge edges new_edges (i, n) flat.Clash told.0)
+    same_parts nodes nodes _ _ _ _ refl (rows_raised number_word edge_maps tells_edge edges new_edges (i, n) flat.Clash told.0)
     (ap (λ rows. words_shown holds_silence (rows_entries max_word 0 rows)) told.1 ∙ sym (joined_nothing silence_maps tells_silence _))
 told_shown nodes edges silences new_edges new_silences (Silence i n u) told =
     let said = ap (λ es. joined_maps joined_max (words_shown holds_silence (rows_entries max_word 0 silences)) (map_of key_cmp joined_max es)) (one_silence (u == 0) ((i, n), max_word u)) in
-    same_parts nodes nodes _ _ _ _ refl (ap (λ rows. words_shown holds_edge (rows_entries edge_of_number 0 rows)) told.1 ∙ sym (joined_nothing edge_maps tells_edge _))
+    same_parts nodes nodes _ _ _ _ refl (ap (λ rows. words_shown holds_edge (rows_entries number_word 0 rows)) told.1 ∙ sym (joined_nothing edge_maps tells_edge _))
     (rows_raised max_word silence_maps tells_silence silences new_silences (i, n) (max_word u) told.0 ∙ said)
 
 -- room stays if rows don't get shorter
@@ -164,48 +165,48 @@ room_stays edges new_edges silences new_silences p q e s (slot ∷ slots) h =
     (slot_room edges new_edges silences new_silences p q e s slot h.0, room_stays edges new_edges silences new_silences p q e s slots h.1)
 
 -- the number of a tick
-pub tick_number : (t : ℕ) → t < tick_end → edge_of_number (t + 1) ≡ flat.Value t
+pub tick_number : (t : ℕ) → t < tick_end → number_word (t + 1) ≡ flat.Value t
 tick_number t lt =
     let next : t + 1 ≡ suc t = omega arith in
     let apart : ¬ (suc t ≡ CLASH) = λ same. omega (arith, tick_end-is, lt, same) in
-    ap edge_of_number next ∙ ap (λ b. if b then flat.Clash else flat.Value t) (ne_eqb (suc t) CLASH apart)
+    ap number_word next ∙ ap (λ b. if b then flat.Clash else flat.Value t) (ne_eqb (suc t) CLASH apart)
 
 some_number : (t : ℕ) → (suc t == 0) ≡ false
 some_number t = ne_eqb (suc t) 0 (λ same. omega (arith, same))
 
 -- two numbers joined are two words joined
-joined_number : (a b : ℕ) (c : Bool) → (suc a == suc b) ≡ c → edge_of_number (cond c (suc b) CLASH) ≡ joined_flat (edge_of_number (suc a)) (edge_of_number (suc b))
+joined_number : (a b : ℕ) (c : Bool) → (suc a == suc b) ≡ c → number_word (cond c (suc b) CLASH) ≡ joined_flat (number_word (suc a)) (number_word (suc b))
 joined_number a b true is = let same : suc a ≡ suc b = eqb-true (suc a) (suc b) is in
-    sym (ap (λ n. joined_flat (edge_of_number n) (edge_of_number (suc b))) same ∙ flat_same (edge_of_number (suc b)))
+    sym (ap (λ n. joined_flat (number_word n) (number_word (suc b))) same ∙ flat_same (number_word (suc b)))
 joined_number a b false is = two (suc a == CLASH) (suc b == CLASH) refl refl where
   two : (p q : Bool) → (suc a == CLASH) ≡ p → (suc b == CLASH) ≡ q → flat.Clash ≡ joined_flat (if p then flat.Clash else flat.Value a) (if q then flat.Clash else flat.Value b)
   two true q e f = refl
   two false true e f = refl
   two false false e f = ap (λ c. if c then flat.Value a else flat.Clash) (sym (next_false a b is))
 
-pub number_joined : (a b : ℕ) → 0 < b → edge_of_number (joined_edge_numbers a b) ≡ joined_flat (edge_of_number a) (edge_of_number b)
+pub number_joined : (a b : ℕ) → 0 < b → number_word (joined_to_some a b) ≡ joined_flat (number_word a) (number_word b)
 number_joined a zero lt = absurd (omega arith)
 number_joined zero (suc b) lt = refl
-number_joined (suc a) (suc b) lt = ap (λ c. edge_of_number (if c || suc a == suc b then suc b else CLASH)) (some_number a) ∙ joined_number a b (suc a == suc b) refl
+number_joined (suc a) (suc b) lt = ap (λ c. number_word (if c || suc a == suc b then suc b else CLASH)) (some_number a) ∙ joined_number a b (suc a == suc b) refl
 
-pub both_numbers : (a b : ℕ) → edge_of_number (both_edge_numbers a b) ≡ joined_flat (edge_of_number a) (edge_of_number b)
-both_numbers a zero = sym (right_edge (edge_of_number a))
-both_numbers a (suc b) = ap (λ c. edge_of_number (if c then a else joined_edge_numbers a (suc b))) (some_number b) ∙ number_joined a (suc b) (omega arith)
+pub both_numbers : (a b : ℕ) → number_word (joined_numbers a b) ≡ joined_flat (number_word a) (number_word b)
+both_numbers a zero = sym (right_edge (number_word a))
+both_numbers a (suc b) = ap (λ c. number_word (if c then a else joined_to_some a (suc b))) (some_number b) ∙ number_joined a (suc b) (omega arith)
 
 -- with all words of others
-module _ (nodes : ℕ) (edges silences other_edges other_silences new_edges new_silences : List (List ℕ)) (e : (q : Key) → slot_number new_edges q ≡ both_edge_numbers (slot_number edges q) (slot_number other_edges q))
+module _ (nodes : ℕ) (edges silences other_edges other_silences new_edges new_silences : List (List ℕ)) (e : (q : Key) → slot_number new_edges q ≡ joined_numbers (slot_number edges q) (slot_number other_edges q))
     (s : (q : Key) → slot_number new_silences q ≡ max (slot_number silences q) (slot_number other_silences q)) where
   pub joined_kept : AreRows nodes edges silences → AreRows nodes other_edges other_silences → length new_edges ≡ length edges → length new_silences ≡ length silences → AreRows nodes new_edges new_silences
   joined_kept mine theirs p q =
       refit nodes edges silences new_edges new_silences mine p q
-      (λ k. subst (λ (w : FlatWord). FitsEdge nodes (k, w)) (sym (ap edge_of_number (e k) ∙ both_numbers (slot_number edges k) (slot_number other_edges k)))
+      (λ k. subst (λ (w : FlatWord). FitsEdge nodes (k, w)) (sym (ap number_word (e k) ∙ both_numbers (slot_number edges k) (slot_number other_edges k)))
       (joined_fits nodes k (edge_words edges k) (edge_words other_edges k) (mine.edges_fit k) (theirs.edges_fit k)))
       (λ k. subst (λ n. FitsSilence nodes (k, max_word n)) (sym (s k)) (silences_both_fit nodes k (slot_number silences k) (slot_number other_silences k) (mine.silences_fit k) (theirs.silences_fit k)))
 
   pub joined_shown : (others : ℕ) → shown_by_rows nodes new_edges new_silences ≡ states_joined (shown_by_rows nodes edges silences) (shown_by_rows others other_edges other_silences)
   joined_shown others =
       same_parts nodes nodes _ _ _ _ refl
-      (rows_joined edge_of_number edge_maps tells_edge edges new_edges other_edges (λ q. ap edge_of_number (e q) ∙ both_numbers (slot_number edges q) (slot_number other_edges q)))
+      (rows_joined number_word edge_maps tells_edge edges new_edges other_edges (λ q. ap number_word (e q) ∙ both_numbers (slot_number edges q) (slot_number other_edges q)))
       (rows_joined max_word silence_maps tells_silence silences new_silences other_silences (λ q. ap max_word (s q)))
 
 -- ---- the rows of one node

@@ -3,7 +3,8 @@ use Rattle.std.proofs.Common.{◌≡◌, ℕ, zero, suc, ◌+◌, ◌-◌, ◌<�
 use Rattle.wl_lattice.specs.declared.FlatWord.{FlatWord}
 use Rattle.wl_lattice.specs.declared.FlatWord.TheVariants as flat
 use Rattle.wl_replica.specs.Known.{is_tick, tick_in, longest_promise, ticks_from}
-use Rattle.wl_replica.specs.Dense.{row_number, edges_of_row, edge_of_number}
+use Rattle.wl_replica.specs.Dense.{row_number, edges_of_row}
+use Rattle.wl_lattice.specs.Numbers.{number_word}
 use Rattle.wl_replica.proofs.WaveLemmas.{IsMade}
 
 -- past its end a row holds nothing
@@ -13,7 +14,7 @@ number_past (a ∷ row) zero h = absurd (omega arith)
 number_past (a ∷ row) (suc n) h = number_past row n (omega arith)
 
 pub none_past_end : (row : List ℕ) (n : ℕ) → n ≡ length row → is_tick (edges_of_row row n) ≡ false
-none_past_end row n h = ap (λ a. is_tick (edge_of_number a)) (number_past row n (omega arith))
+none_past_end row n h = ap (λ a. is_tick (number_word a)) (number_past row n (omega arith))
 
 -- the longest of the first silences
 abbrev pub promised_by : (ℕ → ℕ) → ℕ → ℕ

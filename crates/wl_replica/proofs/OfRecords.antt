@@ -12,7 +12,8 @@ use Rattle.wl_lattice.specs.Words.{max_word}
 use Rattle.wl_replica.specs.Keys.{Key, key_cmp}
 use Rattle.wl_replica.specs.State.{State, state_of, Fits, FitsEdge, FitsSilence, IsOfRecords}
 use Rattle.wl_replica.specs.Canonical.{canonical}
-use Rattle.wl_replica.specs.Dense.{holds_edge, holds_silence, row_number, slot_number, edge_of_number, row_entries, rows_entries, shown_by_rows, AreRows}
+use Rattle.wl_replica.specs.Dense.{holds_edge, holds_silence, row_number, slot_number, row_entries, rows_entries, shown_by_rows, AreRows}
+use Rattle.wl_lattice.specs.Numbers.{number_word}
 use Rattle.wl_replica.proofs.Shown.{sorted_filter}
 use Rattle.wl_replica.proofs.CanonicalLemmas.{canonical_of_entries}
 use Rattle.wl_replica.proofs.DenseLemmas.{rows_sorted}
@@ -71,14 +72,14 @@ module _ (nodes : ℕ) (edges silences : List (List ℕ)) (h : AreRows nodes edg
   abbrev kept : State
   kept = shown_by_rows nodes edges silences
 
-  listed_edges : entries kept.edges ≡ filter (λ f. holds_edge f.1) (rows_entries edge_of_number 0 edges)
-  listed_edges = entries-from_sorted key_cmp (filter (λ f. holds_edge f.1) (rows_entries edge_of_number 0 edges)) (sorted_filter holds_edge (rows_entries edge_of_number 0 edges) (rows_sorted edge_of_number 0 edges))
+  listed_edges : entries kept.edges ≡ filter (λ f. holds_edge f.1) (rows_entries number_word 0 edges)
+  listed_edges = entries-from_sorted key_cmp (filter (λ f. holds_edge f.1) (rows_entries number_word 0 edges)) (sorted_filter holds_edge (rows_entries number_word 0 edges) (rows_sorted number_word 0 edges))
 
   listed_silences : entries kept.silences ≡ filter (λ f. holds_silence f.1) (rows_entries max_word 0 silences)
   listed_silences = entries-from_sorted key_cmp (filter (λ f. holds_silence f.1) (rows_entries max_word 0 silences)) (sorted_filter holds_silence (rows_entries max_word 0 silences) (rows_sorted max_word 0 silences))
 
-  edges_have : AllByRecursion (FitsEdge nodes) (rows_entries edge_of_number 0 edges)
-  edges_have = entries_have edge_of_number (FitsEdge nodes) edges h.edges_fit
+  edges_have : AllByRecursion (FitsEdge nodes) (rows_entries number_word 0 edges)
+  edges_have = entries_have number_word (FitsEdge nodes) edges h.edges_fit
 
   silences_have : AllByRecursion (FitsSilence nodes) (rows_entries max_word 0 silences)
   silences_have = entries_have max_word (FitsSilence nodes) silences h.silences_fit
@@ -86,18 +87,18 @@ module _ (nodes : ℕ) (edges silences : List (List ℕ)) (h : AreRows nodes edg
   kept_again : state_of nodes (canonical kept) ≡ kept
   kept_again =
       state_from kept
-      (subst (AllByRecursion (IsHeld holds_edge)) (sym listed_edges) (held_filter holds_edge (rows_entries edge_of_number 0 edges)))
+      (subst (AllByRecursion (IsHeld holds_edge)) (sym listed_edges) (held_filter holds_edge (rows_entries number_word 0 edges)))
       (subst (AllByRecursion (IsHeld holds_silence)) (sym listed_silences) (held_filter holds_silence (rows_entries max_word 0 silences)))
       (subst (AllByRecursion (λ (e : Key × FlatWord). e.0.0 < nodes)) (sym listed_edges)
-      (of_filter holds_edge (FitsEdge nodes) (λ e. e.0.0 < nodes) (edge_below nodes) (rows_entries edge_of_number 0 edges) edges_have))
+      (of_filter holds_edge (FitsEdge nodes) (λ e. e.0.0 < nodes) (edge_below nodes) (rows_entries number_word 0 edges) edges_have))
       (subst (AllByRecursion (λ (e : Key × MaxWord). e.0.0 < nodes)) (sym listed_silences)
       (of_filter holds_silence (FitsSilence nodes) (λ e. e.0.0 < nodes) (silence_below nodes) (rows_entries max_word 0 silences) silences_have))
 
   pub canonical_fits : All (Fits nodes) (canonical kept)
   canonical_fits =
       All-same (Fits nodes) (canonical kept) _
-      (sym (canonical_of_entries nodes (rows_entries edge_of_number 0 edges) (rows_entries max_word 0 silences) (rows_sorted edge_of_number 0 edges) (rows_sorted max_word 0 silences)))
-      (nodes_fit nodes (rows_entries edge_of_number 0 edges) (rows_entries max_word 0 silences) edges_have silences_have (range_with_len 0 nodes))
+      (sym (canonical_of_entries nodes (rows_entries number_word 0 edges) (rows_entries max_word 0 silences) (rows_sorted number_word 0 edges) (rows_sorted max_word 0 silences)))
+      (nodes_fit nodes (rows_entries number_word 0 edges) (rows_entries max_word 0 silences) edges_have silences_have (range_with_len 0 nodes))
 
   pub of_records : (s : State) → ◌≡◌ {A = State} kept s → IsOfRecords s
   of_records s is = subst IsOfRecords is (canonical kept, canonical_fits, sym kept_again)

@@ -6,13 +6,14 @@ use Rattle.wl_lattice.specs.declared.FlatWord.{FlatWord}
 use Rattle.wl_lattice.specs.declared.FlatWord.TheVariants as flat
 use Rattle.wl_lattice.specs.declared.MaxWord.{MaxWord}
 use Rattle.wl_lattice.specs.SlotContents.{IsRaised}
+use Rattle.wl_lattice.specs.Numbers.{number_word}
 use Rattle.wl_lattice.specs.Words.{joined_flat, joined_max, max_word}
 use Rattle.wl_record_core.specs.declared.record.Record.{Record}
 use Rattle.wl_record_core.specs.declared.record.Record.TheVariants.{Edge, Clash, Silence}
 use Rattle.wl_record_core.specs.declared.record.Slot.{Slot}
 use Rattle.wl_record_core.specs.declared.record.Slot.TheVariants.{EdgeAt, SilenceAt}
 use Rattle.wl_record_core.specs.Limits.{most_edges, tick_end}
-use Rattle.wl_replica.specs.declared.node_row.TheConstants.{CLASH, MOST_PLACES}
+use Rattle.wl_replica.specs.declared.node_row.TheConstants.{MOST_PLACES}
 use Rattle.wl_replica.specs.Keys.{Key, key_cmp}
 use Rattle.wl_replica.specs.State.{State, FitsEdge, FitsSilence}
 
@@ -29,25 +30,6 @@ holds_silence word = not (word.word == 0)
 -- what entries show: those that hold something
 abbrev pub words_shown : {W : Type 0} → (W → Bool) → List (Key × W) → FinMap key_cmp W
 words_shown holds es = from_sorted (filter (λ e. holds e.1) es)
-
--- an edge's word by its number: 0 for nothing, the greatest for a clash, else the tick and one
-abbrev pub edge_of_number : ℕ → FlatWord
-edge_of_number zero = flat.Nothing
-edge_of_number (suc tick) = if suc tick == CLASH then flat.Clash else flat.Value tick
-
--- two numbers of edges joined
-abbrev pub joined_edge_numbers : ℕ → ℕ → ℕ
-joined_edge_numbers a b = if a == 0 || a == b then b else CLASH
-
--- the same, where the second may be 0 too
-abbrev pub both_edge_numbers : ℕ → ℕ → ℕ
-both_edge_numbers a b = if b == 0 then a else joined_edge_numbers a b
-
--- a tick has a number below that of a clash
-abbrev pub HasNumber : FlatWord → Type 0
-HasNumber flat.Nothing = Unit {0}
-HasNumber (flat.Value tick) = suc tick < CLASH
-HasNumber flat.Clash = Unit {0}
 
 -- the most places of a row
 abbrev pub most_row_places : ℕ
@@ -67,7 +49,7 @@ row_of rows i = slice_index_or rows i []
 
 -- the words that rows of edges have, and those that rows of silences have
 abbrev pub edge_words : List (List ℕ) → Key → FlatWord
-edge_words rows q = edge_of_number (slot_number rows q)
+edge_words rows q = number_word (slot_number rows q)
 
 abbrev pub silence_words : List (List ℕ) → Key → MaxWord
 silence_words rows q = max_word (slot_number rows q)
@@ -90,7 +72,7 @@ rows_entries word i (row ∷ rows) = row_entries word i 0 row (rows_entries word
 abbrev pub shown_by_rows : ℕ → List (List ℕ) → List (List ℕ) → State
 shown_by_rows nodes edges silences = record {
   nodes = nodes;
-  edges = words_shown holds_edge (rows_entries edge_of_number 0 edges);
+  edges = words_shown holds_edge (rows_entries number_word 0 edges);
   silences = words_shown holds_silence (rows_entries max_word 0 silences);
 }
 
@@ -104,7 +86,7 @@ pub record AreRows (nodes : ℕ) (edges silences : List (List ℕ)) : Type 0 whe
 
 -- the edge words of a row, by number
 abbrev pub edges_of_row : List ℕ → ℕ → FlatWord
-edges_of_row row n = edge_of_number (row_number row n)
+edges_of_row row n = number_word (row_number row n)
 
 -- each tick of a row is one that a record can have
 abbrev pub HasTicksWithin : List ℕ → Type 0

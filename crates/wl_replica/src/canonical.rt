@@ -4,10 +4,11 @@ ghost use Rattle.std.specs.List.{filter_map, flat_map};
 ghost use Rattle.wl_lattice.specs.Words.{max_word};
 ghost use Rattle.wl_record_core.specs.declared.record.Record.{Record};
 ghost use Rattle.wl_replica.specs.Canonical.{edge_record, silence_record};
-ghost use Rattle.wl_replica.specs.Dense.{edge_of_number, row_entries, most_row_places};
+ghost use Rattle.wl_replica.specs.Dense.{row_entries, most_row_places};
+ghost use Rattle.wl_lattice.specs.Numbers.{number_word};
 
-use crate::node_row::CLASH;
 use std::alloc::AllocError;
+use wl_lattice::CLASH;
 use wl_record_core::Record;
 
 /// What records are added to, one behind the other: a list of them, or a text.
@@ -44,7 +45,7 @@ impl RecordSink for Vec<Record> {
 #[inline(always)]
 fn tell_edge<S: RecordSink>(sink: &mut S, node: u8, seq: u32, number: u64) -> Result<(), AllocError>
     ensures { OnOk result (S.parts sink.new ≡ S.parts sink.old
-        ++ flat_map S.line (filter_map edge_record (((node, seq), edge_of_number number) ∷ []))) }
+        ++ flat_map S.line (filter_map edge_record (((node, seq), number_word number) ∷ []))) }
 {
     if number == 0 {
         return Ok(());
@@ -77,7 +78,7 @@ fn tell_silence<S: RecordSink>(
 pub fn tell_edges<S: RecordSink>(sink: &mut S, node: u8, numbers: &[u64]) -> Result<(), AllocError>
     requires { length numbers.now ≤ most_row_places }
     ensures { OnOk result (S.parts sink.new ≡ S.parts sink.old
-        ++ flat_map S.line (filter_map edge_record (row_entries edge_of_number node 0 numbers.now []))) }
+        ++ flat_map S.line (filter_map edge_record (row_entries number_word node 0 numbers.now []))) }
 {
     for (seq, number) in numbers.iter().enumerate() {
         tell_edge(sink, node, seq as u32, *number)?;

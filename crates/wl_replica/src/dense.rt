@@ -7,12 +7,13 @@ ghost use Rattle.wl_record_core.specs.Limits.{most_edges};
 ghost use Rattle.wl_record_core.specs.Slots.{slot_of};
 ghost use Rattle.wl_replica.specs.Keys.{Key};
 ghost use Rattle.wl_replica.specs.State.{Fits};
-ghost use Rattle.wl_replica.specs.Dense.{slot_number, row_of, edge_of_number, edge_words, silence_words, HasNumber};
+ghost use Rattle.wl_replica.specs.Dense.{slot_number, row_of, edge_words, silence_words};
+ghost use Rattle.wl_lattice.specs.Numbers.{number_word, HasNumber};
 ghost use Rattle.wl_replica.specs.Dense.{HasRoomAt, IsGrown, IsToldTo};
 
 use crate::canonical::{RecordSink, tell_edges, tell_silences};
 use crate::known_run::known_of;
-use crate::node_row::{CLASH, Row, edge_of_number};
+use crate::node_row::Row;
 use crate::node_rows::{
     empty_rows, join_edge_rows, join_silence_rows, make_room_at, make_room_for, numbers_of,
 };
@@ -20,7 +21,7 @@ use crate::waves::wave_of;
 use std::alloc::{AllocError, Global};
 use std::marker::Model;
 use wl_intervals::Intervals;
-use wl_lattice::{FlatWord, Join, MaxWord, Slots};
+use wl_lattice::{CLASH, FlatWord, Join, MaxWord, Slots, number_word, value_number};
 use wl_record_core::{Record, Slot};
 
 /// The edges of some nodes: for each node a row of numbers.
@@ -43,7 +44,7 @@ impl EdgeRows {
         requires some { 0 < number }
         ensures count { length self.new.rows.items ≡ length self.old.rows.items }
         ensures ok { OnOk result (IsRaised joined_flat (edge_words self.old.rows.items) (node, seq)
-            (edge_of_number number) (edge_words self.new.rows.items)) }
+            (number_word number) (edge_words self.new.rows.items)) }
         ensures err { OnErr result ((q : Key) → edge_words self.new.rows.items q ≡ edge_words self.old.rows.items q) }
     {
         self.rows[node as usize].raise_edge(seq, number)
@@ -58,7 +59,7 @@ impl EdgeRows {
         ensures count { length self.new.rows.items ≡ length self.old.rows.items }
         ensures places { (i : ℕ) → length (row_of self.new.rows.items i) ≡ length (row_of self.old.rows.items i) }
         ensures joined { IsRaised joined_flat (edge_words self.old.rows.items) (node, seq)
-            (edge_of_number number) (edge_words self.new.rows.items) }
+            (number_word number) (edge_words self.new.rows.items) }
     {
         self.rows[node as usize].join_edge(seq, number);
     }
@@ -109,7 +110,7 @@ fn raise_told(
         × ((q : Key) → silence_words silences.new.rows.items q ≡ silence_words silences.old.rows.items q)) }
 {
     match told {
-        Record::Edge { node, seq, tick } => edges.raise_number(node, seq, tick + 1),
+        Record::Edge { node, seq, tick } => edges.raise_number(node, seq, value_number(tick)),
         Record::Clash { node, seq } => edges.raise_number(node, seq, CLASH),
         Record::Silence { node, count, until } => silences.raise_number(node, count, until),
     }
@@ -129,7 +130,7 @@ fn join_told(edges: &mut EdgeRows, silences: &mut SilenceRows, told: &Record)
         edges.new.rows.items silences.new.rows.items }
 {
     match *told {
-        Record::Edge { node, seq, tick } => edges.join_number(node, seq, tick + 1),
+        Record::Edge { node, seq, tick } => edges.join_number(node, seq, value_number(tick)),
         Record::Clash { node, seq } => edges.join_number(node, seq, CLASH),
         Record::Silence { node, count, until } => silences.join_number(node, count, until),
     }
@@ -169,14 +170,14 @@ impl Slots for EdgeRows {
 
     type Word = FlatWord;
 
-    ghost words = { λ r q. edge_of_number (slot_number r.rows.items q) };
+    ghost words = { λ r q. number_word (slot_number r.rows.items q) };
 
     ghost can_hold = { λ r q w. (q.0 < length r.rows.items) × HasNumber w };
 
     fn word(&self, key: &(u8, u32)) -> FlatWord {
         let (node, seq) = *key;
         match self.rows.get(node as usize) {
-            Some(row) => edge_of_number(row.number(seq)),
+            Some(row) => number_word(row.number(seq)),
             None => FlatWord::Nothing,
         }
     }
@@ -186,7 +187,7 @@ impl Slots for EdgeRows {
         let (node, seq) = key;
         match *word {
             FlatWord::Nothing => Ok(()),
-            FlatWord::Value(tick) => self.raise_number(node, seq, tick + 1),
+            FlatWord::Value(tick) => self.raise_number(node, seq, value_number(tick)),
             FlatWord::Clash => self.raise_number(node, seq, CLASH),
         }
     }
@@ -284,8 +285,8 @@ impl Rows {
         requires { node < self.now.nodes }
         ensures few { length result.now ≤ most_row_places }
         ensures within { HasTicksWithin result.now }
-        ensures words { (n : ℕ) → edge_of_number (row_number result.now n) ≡ edge_at self.now (node, n) }
-        ensures records { filter_map edge_record (row_entries edge_of_number node 0 result.now [])
+        ensures words { (n : ℕ) → number_word (row_number result.now n) ≡ edge_at self.now (node, n) }
+        ensures records { filter_map edge_record (row_entries number_word node 0 result.now [])
             ≡ filter_map edge_record (of_node node (entries self.now.edges)) }
     {
         numbers_of(&self.edges.rows, node)
@@ -465,7 +466,7 @@ impl PreparedRows {
     pub fn edge_numbers(&self, node: u8) -> &[u64]
         requires { node < self.now.known.nodes }
         ensures within { HasTicksWithin result.now }
-        ensures words { (n : ℕ) → edge_of_number (row_number result.now n) ≡ edge_at self.now.known (node, n) }
+        ensures words { (n : ℕ) → number_word (row_number result.now n) ≡ edge_at self.now.known (node, n) }
     {
         numbers_of(&self.edges.rows, node)
     }

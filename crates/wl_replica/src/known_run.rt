@@ -8,8 +8,7 @@ ghost use Rattle.wl_replica.specs.Dense.{row_number, edges_of_row, HasTicksWithi
 ghost use Rattle.wl_replica.specs.Known.{is_run, run_goes_on, after_edges};
 ghost use Rattle.wl_replica.specs.Runs.{IsRunOf, WasRunBeforeEdge, WasRunBeforeSilence, WasRunBefore};
 
-use crate::node_row::edge_of_number;
-use wl_lattice::FlatWord;
+use wl_lattice::{FlatWord, number_word};
 use wl_record_core::{MOST_EDGES, Record};
 
 /// A run of a node's first changes.
@@ -50,7 +49,7 @@ fn number_at(row: &[u64], place: u32) -> u64
 pub fn edge_at(edges: &[u64], seq: u32) -> FlatWord
     ensures { result ≡ edges_of_row edges.now seq }
 {
-    edge_of_number(number_at(edges, seq))
+    number_word(number_at(edges, seq))
 }
 
 /// A run with the next change, where that carries it on.

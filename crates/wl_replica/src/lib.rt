@@ -18,5 +18,4 @@ pub use laws::{
     merging_is_appending, no_horizon_falls, same_records_same_state, slots_laws, slots_of_states,
     states_join_slot_by_slot, taking_is_joining, waves_agree,
 };
-pub use node_row::edge_of_number;
 pub use replica::{Prepared, Replica, Word};

@@ -1,27 +1,12 @@
 // The words of one node as a row of numbers, by the number of the slot.
 ghost use Rattle.std.specs.Prelude.{◌≡◌, ◌<◌, ◌≤◌, [], ℕ, length, max, OnOk, OnErr};
-ghost use Rattle.wl_replica.specs.Dense.{row_number, joined_edge_numbers, both_edge_numbers, IsRowRaised};
-ghost use Rattle.wl_replica.specs.Dense.{most_row_places, edge_of_number};
+ghost use Rattle.wl_replica.specs.Dense.{row_number, IsRowRaised};
+ghost use Rattle.wl_lattice.specs.Numbers.{joined_to_some, joined_numbers};
+ghost use Rattle.wl_replica.specs.Dense.{most_row_places};
 
 use std::alloc::{AllocError, Global};
 use std::marker::Model;
-use wl_lattice::FlatWord;
-
-/// The number of an edge's word at which two ticks came. It is above that of any tick.
-pub const CLASH: u64 = u64::MAX;
-
-/// The word of an edge's number.
-pub fn edge_of_number(number: u64) -> FlatWord
-    ensures { result ≡ edge_of_number number }
-{
-    if number == 0 {
-        FlatWord::Nothing
-    } else if number == CLASH {
-        FlatWord::Clash
-    } else {
-        FlatWord::Value(number - 1)
-    }
-}
+use wl_lattice::CLASH;
 
 /// The most places of a row: one for each number of a slot.
 const MOST_PLACES: usize = 1 << 32;
@@ -98,7 +83,7 @@ impl Row {
     #[inline(always)]
     pub fn join_edge(&mut self, place: u32, number: u64)
         requires { place < length self.old }
-        ensures value { IsRowRaised joined_edge_numbers self.old place number self.new }
+        ensures value { IsRowRaised joined_to_some self.old place number self.new }
         ensures same { length self.new ≡ length self.old }
     {
         let at = place as usize;
@@ -139,7 +124,7 @@ impl Row {
     /// Joins a number in at a place that there is; 0 changes nothing.
     fn join_number(&mut self, place: u32, number: u64)
         requires { place < length self.old }
-        ensures value { IsRowRaised both_edge_numbers self.old place number self.new }
+        ensures value { IsRowRaised joined_numbers self.old place number self.new }
         ensures same { length self.new ≡ length self.old }
     {
         if number != 0 {
@@ -151,7 +136,7 @@ impl Row {
     pub fn join_edges(&mut self, other: &Row)
         requires { length other.now ≤ length self.old }
         ensures joined { (n : ℕ) → row_number self.new n
-            ≡ both_edge_numbers (row_number self.old n) (row_number other.now n) }
+            ≡ joined_numbers (row_number self.old n) (row_number other.now n) }
         ensures same { length self.new ≡ length self.old }
     {
         for at in 0..other.len() {
@@ -175,7 +160,7 @@ impl Row {
     /// Joins the number of an edge's word in at a place. Refused when out of memory; the row is then as it was.
     #[inline(always)]
     pub fn raise_edge(&mut self, place: u32, number: u64) -> Result<(), AllocError>
-        ensures ok { OnOk result (IsRowRaised joined_edge_numbers self.old place number self.new) }
+        ensures ok { OnOk result (IsRowRaised joined_to_some self.old place number self.new) }
         ensures err { OnErr result (self.new ≡ self.old) }
     {
         self.lengthen(place as usize + 1)?;

@@ -2,7 +2,8 @@
 ghost use Rattle.std.specs.Prelude.{◌≡◌, ◌<◌, ◌≤◌, [], ℕ, length, max, replicate, IfOk, OnOk};
 ghost use Rattle.wl_record_core.specs.Limits.{most_edges};
 ghost use Rattle.wl_replica.specs.Keys.{Key};
-ghost use Rattle.wl_replica.specs.Dense.{row_of, slot_number, both_edge_numbers, most_row_places, IsGrown, HasRoom};
+ghost use Rattle.wl_replica.specs.Dense.{row_of, slot_number, most_row_places, IsGrown, HasRoom};
+ghost use Rattle.wl_lattice.specs.Numbers.{joined_numbers};
 
 use crate::node_row::Row;
 use std::alloc::{AllocError, Global};
@@ -60,7 +61,7 @@ pub fn join_edge_rows(rows: &mut Vec<Row>, others: &Vec<Row>, nodes: u8)
     requires room { (i : ℕ) → length (row_of others.now.items i) ≤ length (row_of rows.old.items i) }
     ensures count { length rows.new.items ≡ length rows.old.items }
     ensures joined { (q : Key) → slot_number rows.new.items q
-        ≡ both_edge_numbers (slot_number rows.old.items q) (slot_number others.now.items q) }
+        ≡ joined_numbers (slot_number rows.old.items q) (slot_number others.now.items q) }
 {
     for node in 0..nodes {
         rows[node as usize].join_edges(&others[node as usize]);

@@ -11,8 +11,8 @@ use Rattle.wl_replica.specs.Dense.{edge_words, IsToldTo}
 use Rattle.wl_replica.proofs.DenseShown.{tick_number}
 use Rattle.wl_replica.proofs.dense.join_told.Goals as goal
 
-pub overflow_add-tick : goal.overflow_add-tick
-overflow_add-tick c = let fits = subst (Fits (length c.args.edges.now.rows.items)) c.in-Edge.is c.requires.edges in omega (arith, fits.1.2, tick_end-is)
+pub value_number-requires : goal.value_number-requires
+value_number-requires c = let fits = subst (Fits (length c.args.edges.now.rows.items)) c.in-Edge.is c.requires.edges in omega (arith, fits.1.2, tick_end-is)
 
 pub returns-in-Edge-clause-told : goal.returns-in-Edge-clause-told
 returns-in-Edge-clause-told c =
@@ -21,4 +21,4 @@ returns-in-Edge-clause-told c =
     let old = edge_words c.args.edges.now.rows.items in
     let new = edge_words c.join_number.new.self.rows.items in
     subst (λ (r : Record). IsToldTo r c.args.edges.now.rows.items c.args.silences.now.rows.items c.join_number.new.self.rows.items c.args.silences.now.rows.items) (sym c.in-Edge.is)
-    (subst (λ (w : FlatWord). IsRaised joined_flat old key w new) (tick_number c.in-Edge.tick fits.1.2) c.join_number.ensures.joined, refl)
+    (subst (λ (w : FlatWord). IsRaised joined_flat old key w new) (tick_number c.in-Edge.tick fits.1.2) (rw c.value_number.ensures at c.join_number.ensures.joined), refl)

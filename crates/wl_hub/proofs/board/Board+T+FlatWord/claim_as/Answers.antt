@@ -10,15 +10,17 @@ compare_exchange-found-requires g c =
     let key = c.args.self.now.table.shared.key in (
       c.requires.here,
       subst (λ n. c.args.i < n) (sym c.args.self.now.counted) c.requires.inside,
-      rw c.requires.pick (claims g.T.Truth.is_true key.name.value key.shape.value.items _ _ _ c.args.part.now.seat.me c.args.i mine.0 c.args.gift c.args.tick mine.1 c.requires.inside (c.requires.told mine.0 mine.1) c.requires.place c.requires.value),
+      rw (c.value_number-number.ensures, c.requires.pick) (claims g.T.Truth.is_true key.name.value key.shape.value.items _ _ _ c.args.part.now.seat.me c.args.i mine.0 c.args.gift c.args.tick mine.1 c.requires.inside (c.requires.told mine.0 mine.1) c.requires.place c.requires.value),
     )
 
 pub fetch_max-requires : goal.fetch_max-requires
 fetch_max-requires g c =
     let mine = some_of c.args.part.now.seat.me.0.name c.args.part.now.named in
     let key = c.args.self.now.table.shared.key in
-    let told = c.compare_exchange-found.ensures in
-    let other : is_settled c.compare_exchange-found.result (c.args.tick + 1) ≡ false = unsettled c.compare_exchange-found.result (c.args.tick + 1) c.if-found-eq0.false c.if-found-tick.false c.if-found.false in
+    let told = rw c.value_number-number.ensures at c.compare_exchange-found.ensures in
+    let number = c.value_number-number.ensures in
+    let apart = rw number at c.if-found-number.false in
+    let other : is_settled c.compare_exchange-found.result (c.args.tick + 1) ≡ false = unsettled c.compare_exchange-found.result (c.args.tick + 1) c.if-found-eq0.false apart c.if-found.false in
     let seen = rw other at told.2 in (
       told.0 ∙ c.requires.here,
       subst (λ n. c.args.i < n) (sym c.args.self.now.counted) c.requires.inside,

@@ -2,7 +2,8 @@ use Rattle.std.proofs.Common.{◌≡◌, ap, sym, subst, ◌∙◌, arith}
 use Rattle.wl_lattice.specs.declared.FlatWord.{FlatWord}
 use Rattle.wl_replica.specs.Prepared.{PreparedState}
 use Rattle.wl_replica.specs.State.{FitsEdge, edge_at}
-use Rattle.wl_replica.specs.Dense.{edge_of_number, row_number, slot_number}
+use Rattle.wl_replica.specs.Dense.{row_number, slot_number}
+use Rattle.wl_lattice.specs.Numbers.{number_word}
 use Rattle.wl_replica.proofs.States.{edge_maps}
 use Rattle.wl_replica.proofs.Tells.{tells_edge}
 use Rattle.wl_replica.proofs.DenseShown.{row_words}
@@ -14,10 +15,10 @@ numbers_of-requires c =
     omega (arith, c.requires, c.self.invariant.kept.edge_rows, same)
 
 pub returns-clause-words : goal.returns-clause-words
-returns-clause-words c n = row_words edge_of_number edge_maps tells_edge c.self.inside.edges.rows.items c.args.node c.numbers_of.result.now c.numbers_of.ensures.value n ∙ ap (λ (p : PreparedState). edge_at p.known (c.args.node, n)) c.self.view_is
+returns-clause-words c n = row_words number_word edge_maps tells_edge c.self.inside.edges.rows.items c.args.node c.numbers_of.result.now c.numbers_of.ensures.value n ∙ ap (λ (p : PreparedState). edge_at p.known (c.args.node, n)) c.self.view_is
 
 pub returns-clause-within : goal.returns-clause-within
 returns-clause-within c n t is =
     let number : row_number c.numbers_of.result.now n ≡ slot_number c.self.inside.edges.rows.items (c.args.node, n) = ap (λ row. row_number row n) c.numbers_of.ensures.value in
-    let fits = subst (λ (w : FlatWord). FitsEdge c.self.inside.nodes ((c.args.node, n), w)) (sym (ap edge_of_number number) ∙ is) (c.self.invariant.kept.edges_fit (c.args.node, n)) in
+    let fits = subst (λ (w : FlatWord). FitsEdge c.self.inside.nodes ((c.args.node, n), w)) (sym (ap number_word number) ∙ is) (c.self.invariant.kept.edges_fit (c.args.node, n)) in
     (fits.1.1, fits.1.2)

@@ -1,7 +1,8 @@
 use Rattle.std.proofs.Common.{◌≡◌, max, ap, ◌∙◌}
 use Rattle.wl_replica.specs.Keys.{Key}
 use Rattle.wl_replica.specs.State.{states_joined}
-use Rattle.wl_replica.specs.Dense.{slot_number, both_edge_numbers}
+use Rattle.wl_replica.specs.Dense.{slot_number}
+use Rattle.wl_lattice.specs.Numbers.{joined_numbers}
 use Rattle.wl_replica.proofs.Shown.{at_error}
 use Rattle.wl_replica.proofs.RowSteps.{grown_none}
 use Rattle.wl_replica.proofs.DenseShown.{grown_shown, joined_shown}
@@ -19,8 +20,8 @@ returns-in_err-make_room_for-2-clause-err c =
 
 pub returns-clause-ok : goal.returns-clause-ok
 returns-clause-ok c =
-    let e : (q : Key) → slot_number c.join_edge_rows.new.rows.items q ≡ both_edge_numbers (slot_number c.self.inside.edges.rows.items q) (slot_number c.other.inside.edges.rows.items q) =
-    λ q. c.join_edge_rows.ensures.joined q ∙ ap (λ a. both_edge_numbers a (slot_number c.other.inside.edges.rows.items q)) (c.make_room_for.ensures.grown.same q) in
+    let e : (q : Key) → slot_number c.join_edge_rows.new.rows.items q ≡ joined_numbers (slot_number c.self.inside.edges.rows.items q) (slot_number c.other.inside.edges.rows.items q) =
+    λ q. c.join_edge_rows.ensures.joined q ∙ ap (λ a. joined_numbers a (slot_number c.other.inside.edges.rows.items q)) (c.make_room_for.ensures.grown.same q) in
     let s : (q : Key) → slot_number c.join_silence_rows.new.rows.items q ≡ max (slot_number c.self.inside.silences.rows.items q) (slot_number c.other.inside.silences.rows.items q) =
     λ q. c.join_silence_rows.ensures.joined q ∙ ap (λ a. max a (slot_number c.other.inside.silences.rows.items q)) (c.make_room_for-2.ensures.grown.same q) in
     joined_shown c.self.inside.nodes c.self.inside.edges.rows.items c.self.inside.silences.rows.items c.other.inside.edges.rows.items c.other.inside.silences.rows.items

@@ -1,5 +1,5 @@
 use Rattle.std.proofs.Common.{refl, arith}
-use Rattle.wl_replica.specs.Dense.{both_edge_numbers}
+use Rattle.wl_lattice.specs.Numbers.{joined_numbers}
 use Rattle.wl_replica.proofs.RowSteps.{one_place_more, all_places}
 use Rattle.wl_replica.proofs.node_row.Row.join_edges.Goals as goal
 
@@ -11,11 +11,11 @@ join_number-requires c = omega (arith, c.loop-at.invariant.same, c.loop-at-test.
 
 pub loop-at-preserved : goal.loop-at-preserved
 loop-at-preserved c =
-    one_place_more both_edge_numbers c.args.self.now c.args.other.now c.loop-at.self c.loop-at.at c.loop-at.invariant c.join_number.new.self c.number.result c.number.ensures c.join_number.ensures.value c.join_number.ensures.same
+    one_place_more joined_numbers c.args.self.now c.args.other.now c.loop-at.self c.loop-at.at c.loop-at.invariant c.join_number.new.self c.number.result c.number.ensures c.join_number.ensures.value c.join_number.ensures.same
 
 pub returns-clause-joined : goal.returns-clause-joined
 returns-clause-joined c =
-    all_places both_edge_numbers c.args.self.now c.args.other.now c.loop-at.self c.loop-at.at c.loop-at.invariant (λ a. refl) (omega (arith, c.loop-at-test.false, c.len-at-end.ensures.value))
+    all_places joined_numbers c.args.self.now c.args.other.now c.loop-at.self c.loop-at.at c.loop-at.invariant (λ a. refl) (omega (arith, c.loop-at-test.false, c.len-at-end.ensures.value))
 
 pub returns-clause-same : goal.returns-clause-same
 returns-clause-same c = c.loop-at.invariant.same
