@@ -15,7 +15,7 @@ MADE_ELSEWHERE = {"Read", "Write", "Memory", "Worker(n)"}
 
 def table():
     """Returns the table's rows: the fault's pattern and what to change."""
-    text = (TOP / "docs/commands.md").read_text().split("\n## Faults\n")[1]
+    text = (TOP / "docs/commands.md").read_text().split("\n## Faults\n")[1].split("\n## ")[0]
     cells = [line.strip("| ").split(" | ") for line in text.splitlines() if line.startswith("| `")]
     return [(cell[0].strip("`"), cell[3]) for cell in cells]
 

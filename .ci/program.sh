@@ -9,6 +9,7 @@
 # - two nodes with full queues, as bench/plain.py reports them
 # - each row of .ci/refused.txt: the status, the one line on standard error, nothing on standard output but what explain says of it, and the hint
 # - files for input and output: what stands at the named place on each outcome; devices, rights, full disks, closed descriptors, odd names
+# - sweeps: known answers, what is refused, files, memory (.ci/sweeps.sh)
 # - command lines that name no task, or are no text: status 2, and nothing on standard output
 # - a run that doesn't end in 300 seconds, as one whose workers wait for each other for ever, has failed
 # - a reader and a writer that fail, and threads that can't be made: status 3
@@ -151,6 +152,7 @@ done < .ci/refused.txt
 is "faults without a row: $(tr '\n' ' ' < "$room/out")" [ ! -s "$room/out" ]
 
 . .ci/files.sh
+. .ci/sweeps.sh
 
 while IFS= read -r words; do
   # shellcheck disable=SC2086
@@ -211,11 +213,11 @@ done
 printf "error: the arguments can't be read\n" > "$room/fault"
 runs "words that are no text" examples/clean_500k.toml 2 "$room/none" "$room/fault" run $'\xff'
 
-for word in merge horizon check records run explain trace candump vcd page margin; do
+for word in merge horizon check records run explain trace candump vcd page margin sweep; do
   printf 'fault: Read\n' > "$room/fault"
   runs "$word of a reader that fails" / 3 "$room/none" "$room/fault" "$word"
 done
-for word in merge horizon check records run explain trace candump vcd page margin; do
+for word in merge horizon check records run explain trace candump vcd page margin sweep; do
   input=examples/clean_500k.toml
   case "$word" in merge | horizon) input=examples/records.txt ;; esac
   printf 'fault: Write\n' > "$room/fault"
@@ -262,6 +264,7 @@ if command -v gcc > /dev/null; then
   is "run FILE -o FILE, each allocation refused" refused_files
   is "run, each allocation refused" bench/refuse.sh "$program" run examples/clean_500k.toml
   is "run --workers 2, each allocation refused" bench/refuse.sh "$program" run examples/clean_500k.toml --workers 2
+  is "sweep, each allocation refused" bench/refuse.sh "$program" sweep examples/clean_500k.toml --runs 3 --workers 2
   [ ! -x "$world" ] || is "worlds, each allocation refused" python3 bench/worlds.py "$world" refused
 fi
 

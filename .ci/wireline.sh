@@ -2,7 +2,7 @@
 # Runs the script ./wireline as a user would, over a built program.
 # usage: wireline.sh PROGRAM
 # - that it hands its words on, with --hint; help, a terminal, links to it, no build and no toolchain; that a build is kept, also by calls that meet
-# - sweeps with a known answer
+# - that ranges of a sweep may stand alone
 set -uo pipefail
 cd "$(dirname "$0")/.." || exit 1
 program=$(realpath "$1")
@@ -186,7 +186,7 @@ is "and nothing beside the link" [ "$(ls -A "$room/elsewhere")" = w ]
 export WIRELINE_PROGRAM=$program
 script=(./wireline)
 
-# ---- A sweep
+# ---- A sweep: its ranges may stand alone
 ends 1 sweep examples/cable_too_long.toml sensor.x=20..40:10 --keep-offsets --keep-ppm
 cat > "$room/wanted" << 'TABLE'
 sensor.x 20 clean in 1 of 1
@@ -195,36 +195,11 @@ sensor.x 40 clean in 0 of 1
 clean in 1 of 3
 TABLE
 is "the table of a sweep" cmp -s <(head -4 "$room/out") "$room/wanted"
-is "the first plan of a sweep that isn't clean" grep -q "^first that isn't: sensor.x = 30: verdict faulty" "$room/out"
-# Each example that is called clean, at some of its phases
-for name in clean_500k canopen_125k drifting_listener j1939_250k one_megabit_25m priorities sampled_late_500k sixteen_nodes; do
-  ends 0 sweep "examples/$name.toml" --runs 40
-  is "the plan $name: $(tail -1 "$room/out")" grep -q "^clean in 40 of 40 " "$room/out"
-done
-# By hand: perfect clocks, a bit of 16 quanta, five offsets a quantum; the start of frame comes in the quantum of the listener's sample at one
-# quantum's offsets, five of 80.
-node='quantum = 125\nppm = 0\nprop = 6\nps1 = 7\nps2 = 2\nsjw = 1\nout = 40\nin = 40\noffset = 0\n'
-printf '%b' "version = 1\nend = 400_000\nper = 5\n[[node]]\nname = 'a'\nx = 0\n${node}frame = [{ id = 0x0F1, dlc = 0, ready = 480 }]\n" \
-  "[[node]]\nname = 'b'\nx = 5\n$node" > "$room/pair"
-ends 1 sweep "$room/pair" -o "$room/first"
-is "a sweep of a pair: $(head -1 "$room/out")" grep -qx "clean in 75 of 80" "$room/out"
-ends 0 run "$room/first"
-is "the first plan that isn't clean" grep -q "^verdict faulty" "$room/out"
-# Version 2. By hand: clocks that deviate alike stay in step, whichever sign they have; of two that are 10 % apart the listener is 8 of 16 quanta
-# off after five bits without an edge, and jumps by 1. The second rates alone deviate, so two of four choices of their signs are clean.
-rates='rates = [{ from = 0, quantum = 125, ppm = 0 }, { from = 320, quantum = 125, ppm = 50_000 }]'
-sed "s/^version = 1/version = 2/;/^ppm/d;s/^quantum = .*/$rates/" "$room/pair" > "$room/rates"
-ends 1 sweep "$room/rates" --keep-offsets
-cat > "$room/wanted" << 'TABLE'
-clean in 2 of 4
-first that isn't: b.ppm = [0, -50000]: verdict faulty
-TABLE
-is "a sweep over signs of rates: $(tr '\n' ' ' < "$room/out")" cmp -s <(sed 's/ errors.*//' "$room/out") "$room/wanted"
-ends 1 sweep "$room/rates" b.ppm=-50000..50000:100000 --keep-offsets --keep-ppm
-is "a sweep over a key of rates: $(tr '\n' ' ' < "$room/out")" cmp -s <(head -2 "$room/out") <(printf 'b.ppm -50000 clean in 0 of 1\nb.ppm 50000 clean in 1 of 1\n')
-sed 's/, ready = 480//' "$room/pair" > "$room/early"
-ends 0 sweep "$room/early" --keep-offsets && says "a frame before all are idle" "a frame of a is ready at bit 0"
-ends 2 sweep && is "the usage of a sweep" grep -q "^usage: ./wireline sweep" "$room/out"
+is "nothing is said beside it" [ ! -s "$room/err" ]
+ends 2 sweep "$plan" x=5..1 && says "a range that is refused" "hint: --vary x=5..1"
+is "the words of a sweep" [ "$(WIRELINE_PROGRAM=$room/echo ./wireline sweep "$plan" x=1..2 --vary y=1..2 -o a=b --runs 3 end=5)" = \
+  "sweep --hint $plan --vary x=1..2 --vary y=1..2 -o a=b --runs 3 --vary end=5" ]
+ln -s "$PWD/$plan" "$room/a=b" && ends 0 sweep "$room/a=b" --runs 2 && is "a file with an equals sign" grep -qx "clean in 2 of 2" "$room/out"
 
 times=$(for _ in 1 2 3 4 5 6 7 8 9 10 11; do
   begun=${EPOCHREALTIME/./}

@@ -16,7 +16,7 @@ is() { # is WHAT STATUS FAULT: how the last run ended, as $ended and $room/err s
 }
 
 printf 'E 0 0 100\nS 0 1 300\n' > "$room/records"
-for word in merge horizon check records run explain trace candump vcd page margin; do
+for word in merge horizon check records run explain trace candump vcd page margin sweep; do
   input=$plan
   case "$word" in merge | horizon) input=$room/records ;; esac
   "$program" "$word" < "$input" > /dev/full 2> "$room/err"; ended=$?

@@ -326,8 +326,7 @@ def swept(text):
     with tempfile.NamedTemporaryFile("w", suffix=".toml") as file:
         file.write(text)
         file.flush()
-        words = [sys.executable, EXAMPLES.parent / "tools/sweep.py", file.name, "--program", program, "--jobs", str(len(os.sched_getaffinity(0)))]
-        said = subprocess.run(words, capture_output=True, text=True).stdout
+        said = subprocess.run([program, "sweep", file.name], capture_output=True, text=True).stdout
     return re.search(r"^clean in (\d+ of \d+)", said, re.M)[1]
 
 

@@ -9,6 +9,7 @@ _wireline() {
   case ${COMP_WORDS[1]} in
     run) options+=' --workers --link' ;;
     candump | vcd | page | margin) options+=' --tick' ;;
+    sweep) options+=' --vary --step --runs --seed --keep-offsets --keep-ppm --worst --workers --print' ;;
   esac
   if [ "$COMP_CWORD" = 1 ]; then
     mapfile -t COMPREPLY < <(compgen -W 'run check explain trace candump vcd page margin records merge horizon sweep build completions help' -- "$word")

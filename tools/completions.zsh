@@ -9,6 +9,11 @@ _wireline() {
   case $words[2] in
     run) options+=('--workers[how many threads]:number:(1 2 3 4 5 6 7 8)' '--link[what they hand records over by]:link:(hub mail)') ;;
     candump | vcd | page | margin) options+=('--tick[how long a tick takes]:time:') ;;
+    sweep) options+=(
+      '*--vary[a row for each value]:[NODE.]KEY=A..B[\:STEP]:' '--step[ticks between two offsets]:ticks:' '--runs[the most members of a row that are run]:number:'
+      '--seed[which random part]:number:' '--keep-offsets[offsets as the plan has them]' '--keep-ppm[signs as the plan has them]'
+      '--worst[frames that test the clocks]' '--workers[how many threads]:number:(1 2 3 4 5 6 7 8)' '--print[one member as a plan]:number:'
+    ) ;;
     completions) compadd bash zsh fish && return ;;
   esac
   shift words

@@ -3,7 +3,8 @@ use Rattle.std.proofs.Common.{◌≡◌, ◌∙◌, refl, sym, ap, Bool, true, f
 use Rattle.std.specs.Prelude.{ℕ, Option, option_and_then}
 use Rattle.clap.specs.Words.{Text, fault_of}
 use Rattle.clap.proofs.OnLiterals.{clap_on_literals}
-use Rattle.wl_sim.specs.CommandLine.{program, entered, file_in, has_flag, rows_in, tick_among, workers_among, link_among, Enters}
+use Rattle.wl_sim.specs.CommandLine.{program, entered, file_in, has_flag, plainly_swept, ranges_in, rows_in, swept_among, tick_among, workers_among, link_among, Enters}
+use Rattle.wl_sim.specs.declared.sweep.Swept.{Swept}
 use Rattle.wl_worker.specs.declared.kinds.LinkKind.{LinkKind}
 use Rattle.wl_worker.specs.declared.kinds.LinkKind.TheVariants.{Hub, Mail}
 use Rattle.wl_views.specs.declared.tick.Tick.{Tick}
@@ -170,3 +171,50 @@ link_of_another = refl
 workers_of_another : is_faulty (fault_of program (behind_name (codes "check" ∷ codes "--workers" ∷ codes "2" ∷ []))) ≡ true
 unfolding clap_on_literals is_faulty behind_name
 workers_of_another = refl
+
+-- a sweep: what it is where nothing is said, ranges in their order, numbers, and what is refused
+abbrev entered_sweep : List Text → Option Swept
+entered_sweep words = option_and_then swept_among (rows_in (entered words))
+
+silent_sweep : entered_sweep (behind_name (codes "sweep" ∷ [])) ≡ Some plainly_swept
+unfolding clap_on_literals behind_name
+silent_sweep = refl
+
+given_ranges : ranges_in (entered (behind_name (codes "sweep" ∷ codes "--vary" ∷ codes "x=1..2" ∷ codes "plan" ∷ codes "--vary=sjw=1..4:1" ∷ [])))
+    ≡ codes "x=1..2" ∷ codes "sjw=1..4:1" ∷ []
+unfolding clap_on_literals behind_name
+given_ranges = refl
+
+given_numbers : entered_sweep (behind_name (codes "sweep" ∷ codes "--runs" ∷ codes "7" ∷ codes "--seed=9" ∷ codes "--step" ∷ codes "25" ∷ codes "--print=137" ∷ []))
+    ≡ Some (record {
+      asked = record { options = record { step = Some 25; keep_offsets = false; keep_ppm = false; runs = 7; seed = 9 }; worst = false };
+      workers = None;
+      print = Some 137;
+    })
+unfolding clap_on_literals behind_name
+given_numbers = refl
+
+given_flags : entered_sweep (behind_name (codes "sweep" ∷ codes "--keep-ppm" ∷ codes "--worst" ∷ codes "--keep-offsets" ∷ codes "--workers" ∷ codes "4" ∷ []))
+    ≡ Some (record {
+      asked = record { options = record { step = None; keep_offsets = true; keep_ppm = true; runs = 1000; seed = 1 }; worst = true };
+      workers = Some 4;
+      print = None;
+    })
+unfolding clap_on_literals behind_name
+given_flags = refl
+
+no_sweep : entered_sweep (behind_name (codes "run" ∷ [])) ≡ None
+unfolding clap_on_literals behind_name
+no_sweep = refl
+
+no_runs : is_faulty (fault_of program (behind_name (codes "sweep" ∷ codes "--runs" ∷ codes "0" ∷ []))) ≡ true
+unfolding clap_on_literals is_faulty behind_name
+no_runs = refl
+
+step_back : is_faulty (fault_of program (behind_name (codes "sweep" ∷ codes "--step" ∷ codes "-5" ∷ []))) ≡ true
+unfolding clap_on_literals is_faulty behind_name
+step_back = refl
+
+range_of_another : is_faulty (fault_of program (behind_name (codes "run" ∷ codes "--vary" ∷ codes "x=1..2" ∷ []))) ≡ true
+unfolding clap_on_literals is_faulty behind_name
+range_of_another = refl

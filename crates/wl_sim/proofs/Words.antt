@@ -1,9 +1,14 @@
 -- What clap makes of the command line of the program.
-use Rattle.std.proofs.Common.{◌≡◌, ◌∙◌, refl, sym, subst, ap, ap₂, inl, inr, ℕ, ◌==◌, ◌+◌, ◌*◌, Bool, true, false, [], ◌∷◌, List, length, slice_index, if◌then◌else◌, Option, Some, None, option_map, option_and_then, unwrap_or, codes}
+use Rattle.std.proofs.Common.{◌≡◌, ◌∙◌, refl, sym, subst, ap, ap₂, inl, inr, arith, ℕ, ◌<◌, ◌≤◌, ◌==◌, ◌+◌, ◌*◌, ◌^◌, ◌&&◌, nat_lt, Bool, true, false, [], ◌∷◌, List, length, map, string_bytes, slice_index, if◌then◌else◌, Option, Some, None, option_map, option_and_then, unwrap_or, codes}
+use Rattle.std.specs.Char.{digit_value}
+use Rattle.std.specs.List.{list_all}
 use Rattle.std.specs.Option.{option_map_or}
 use Rattle.std.specs.Prelude.{Box, Result, Ok, Err, IfOk, MatchBool}
+use Rattle.std.specs.Result.{result_unwrap_or}
 use Rattle.std.specs.Box.{box_value}
-use Rattle.clap.specs.Words.{App, HasKind, Text, fault_of, first_value, kind_of, rows_of, is_simple, is_simple_and_free, subcommand_rows}
+use Rattle.std.specs.Str.Parse.{AllDigits, ParsesUnsigned, digits_value, without_leading_plus}
+use Rattle.std.proofs.lemmas.Bool.{lt-ltb, ltb-true}
+use Rattle.clap.specs.Words.{App, HasKind, Text, fault_of, first_value, kind_of, matched_of, raw_values, rows_of, is_simple, is_simple_and_free, subcommand_rows}
 use Rattle.clap.specs.Walk.{byte_or_zero}
 use Rattle.clap.specs.declared.error.Error.{Error}
 use Rattle.clap.specs.declared.error.kind.ErrorKind.TheVariants.{OutOfMemory}
@@ -11,23 +16,30 @@ use Rattle.clap.specs.declared.parser.matches.ArgMatches.TheViews.{out-SubComman
 use Rattle.clap.specs.declared.parser.matches.Found.{Found}
 use Rattle.clap.specs.declared.parser.matches.SubCommand.{SubCommand}
 use Rattle.clap.proofs.OnLiterals.{clap_on_literals}
-use Rattle.clap.proofs.WalkLemmas.{first_value-rows}
+use Rattle.clap.proofs.WalkLemmas.{both, first_value-rows, raw_values-rows}
 use Rattle.wl_device.specs.Devices.{Answer}
 use Rattle.wl_engines.specs.declared.fault.RunFault.{RunFault}
 use Rattle.wl_engines.specs.declared.fault.RunFault.TheVariants as run
-use Rattle.wl_sim.specs.CommandLine.{program, task_word, tick_among, nanosecond, workers_among, read_link, link_among, entered, file_among, file_in, file_named, is_flagged, is_set, Enters, FoundTask, NamedTask, HasTick, HasWorkers, HasLink, NamesTask}
+use Rattle.wl_sweep_engine.specs.declared.fault.SweepFault.TheVariants as sweep
+use Rattle.wl_sim.specs.CommandLine.{program, task_word, tick_among, workers_among, read_link, link_among, entered, file_among, file_in, file_named, is_flagged, is_set, number_among, number_or_zero, plain_values, plainly_swept, ranges_among, ranges_in, values_among, word_in, Enters, FoundTask, NamedTask, HasValues, NamesTask}
 use Rattle.wl_worker.specs.declared.kinds.LinkKind.{LinkKind}
 use Rattle.wl_worker.specs.declared.kinds.LinkKind.TheVariants.{Hub}
 use Rattle.wl_views.specs.declared.tick.Tick.{Tick}
+use Rattle.wl_views.specs.declared.tick.TimeUnit.TheVariants.{Nanosecond}
 use Rattle.wl_views.specs.Ticks.{read_tick}
-use Rattle.wl_sim.specs.Tasks.{Does, EndsTask, run_status, refusal_status}
+use Rattle.wl_sim.specs.Tasks.{Does, DoesSweep, EndsTask, IsCount, Plainly, run_status, refusal_status}
 use Rattle.wl_sim.specs.Orders.{Asks, Ends, EndsPlainly, Performs, ReadsFrom, ReadsOrder}
 use Rattle.wl_files.specs.Files.{Standing}
+use Rattle.wl_sim.specs.declared.answer.Done.{Done}
+use Rattle.wl_sim.specs.declared.answer.Fault.{Fault}
+use Rattle.wl_sim.specs.declared.answer.Fault.TheVariants as fault
 use Rattle.wl_sim.specs.declared.command.Order.{Order}
 use Rattle.wl_sim.specs.declared.command.Refusal.{Refusal}
 use Rattle.wl_sim.specs.declared.command.Refusal.TheVariants.{Words, Memory}
 use Rattle.wl_sim.specs.declared.command.Task.{Task}
-use Rattle.wl_sim.specs.declared.command.Task.TheVariants.{Merge, Horizon, Check, Records, Run, Explain, Trace, Candump, Vcd, Page, Margin}
+use Rattle.wl_sim.specs.declared.command.Task.TheVariants.{Merge, Horizon, Check, Records, Run, Explain, Trace, Candump, Vcd, Page, Margin, Sweep}
+use Rattle.wl_sim.specs.declared.sweep.Swept.{Swept}
+use Rattle.wl_sim.specs.declared.values.Values.{Values}
 
 pub program_is_simple : is_simple program ≡ true
 unfolding clap_on_literals
@@ -38,42 +50,46 @@ unfolding clap_on_literals
 program_is_free = refl
 
 -- the word of a task enters its subcommand, without a fault
-word_enters : (t : Task) (name : Text) → HasTick (Some nanosecond) t → HasWorkers (Some 1) t → HasLink (Some Hub) t → Enters t (name ∷ task_word t ∷ [])
+word_enters : (t : Task) (name : Text) → HasValues (Some plain_values) t → Enters t (name ∷ task_word t ∷ [])
 unfolding clap_on_literals
-word_enters Merge name h w l = ((refl, tt, tt, tt), refl)
-word_enters Horizon name h w l = ((refl, tt, tt, tt), refl)
-word_enters Check name h w l = ((refl, tt, tt, tt), refl)
-word_enters Records name h w l = ((refl, tt, tt, tt), refl)
-word_enters (Run workers kind) name h w l = ((refl, tt, w, l), refl)
-word_enters Explain name h w l = ((refl, tt, tt, tt), refl)
-word_enters Trace name h w l = ((refl, tt, tt, tt), refl)
-word_enters (Candump tick) name h w l = ((refl, h, tt, tt), refl)
-word_enters (Vcd tick) name h w l = ((refl, h, tt, tt), refl)
-word_enters (Page tick) name h w l = ((refl, h, tt, tt), refl)
-word_enters (Margin tick) name h w l = ((refl, h, tt, tt), refl)
+word_enters Merge name h = ((refl, tt), refl)
+word_enters Horizon name h = ((refl, tt), refl)
+word_enters Check name h = ((refl, tt), refl)
+word_enters Records name h = ((refl, tt), refl)
+word_enters (Run workers kind) name h = ((refl, h), refl)
+word_enters Explain name h = ((refl, tt), refl)
+word_enters Trace name h = ((refl, tt), refl)
+word_enters (Candump tick) name h = ((refl, h), refl)
+word_enters (Vcd tick) name h = ((refl, h), refl)
+word_enters (Page tick) name h = ((refl, h), refl)
+word_enters (Margin tick) name h = ((refl, h), refl)
+word_enters (Sweep swept) name h = ((refl, h), refl)
 
--- and names no file
-word_names_none : (t : Task) (name : Text) → (file_in (codes "input") (entered (name ∷ task_word t ∷ [])) ≡ None)
-    × (file_in (codes "output") (entered (name ∷ task_word t ∷ [])) ≡ None)
+-- and names no file and no range
+abbrev NamesNothing : List Text → Type 0
+NamesNothing words =
+    (file_in (codes "input") (entered words) ≡ None) × (file_in (codes "output") (entered words) ≡ None) × (ranges_in (entered words) ≡ [])
+
+word_names_none : (t : Task) (name : Text) → NamesNothing (name ∷ task_word t ∷ [])
 unfolding clap_on_literals
-word_names_none Merge name = (refl, refl)
-word_names_none Horizon name = (refl, refl)
-word_names_none Check name = (refl, refl)
-word_names_none Records name = (refl, refl)
-word_names_none (Run workers kind) name = (refl, refl)
-word_names_none Explain name = (refl, refl)
-word_names_none Trace name = (refl, refl)
-word_names_none (Candump tick) name = (refl, refl)
-word_names_none (Vcd tick) name = (refl, refl)
-word_names_none (Page tick) name = (refl, refl)
-word_names_none (Margin tick) name = (refl, refl)
+word_names_none Merge name = (refl, refl, refl)
+word_names_none Horizon name = (refl, refl, refl)
+word_names_none Check name = (refl, refl, refl)
+word_names_none Records name = (refl, refl, refl)
+word_names_none (Run workers kind) name = (refl, refl, refl)
+word_names_none Explain name = (refl, refl, refl)
+word_names_none Trace name = (refl, refl, refl)
+word_names_none (Candump tick) name = (refl, refl, refl)
+word_names_none (Vcd tick) name = (refl, refl, refl)
+word_names_none (Page tick) name = (refl, refl, refl)
+word_names_none (Margin tick) name = (refl, refl, refl)
+word_names_none (Sweep swept) name = (refl, refl, refl)
 
-names_none : (t : Task) (words : List Text) → NamesTask t words → (file_in (codes "input") (entered words) ≡ None) × (file_in (codes "output") (entered words) ≡ None)
-names_none t words n =
-    subst (λ ws. (file_in (codes "input") (entered ws) ≡ None) × (file_in (codes "output") (entered ws) ≡ None)) (sym n.4) (word_names_none t n.0)
+names_none : (t : Task) (words : List Text) → NamesTask t words → NamesNothing words
+names_none t words n = subst NamesNothing (sym n.2) (word_names_none t n.0)
 
 names_enters : (t : Task) (words : List Text) → NamesTask t words → Enters t words
-names_enters t words n = subst (λ ws. Enters t ws) (sym n.4) (word_enters t n.0 n.1 n.2 n.3)
+names_enters t words n = subst (λ ws. Enters t ws) (sym n.2) (word_enters t n.0 n.1)
 
 -- the name of the subcommand that was entered stands in front of its rows
 pub name_in_front : {Z : Type 0} (o : Option (Box SubCommand Z))
@@ -99,6 +115,40 @@ tick_text f = ap (option_and_then read_tick) (sym (first_value-rows f (codes "ti
 pub workers_text : (f : Found) → workers_among (rows_of f) ≡ option_map byte_or_zero (first_value f (codes "workers"))
 workers_text f = ap (option_map byte_or_zero) (sym (first_value-rows f (codes "workers")))
 
+-- ranges, by their texts
+pub ranges_text : (f : Found) → ranges_among (rows_of f) ≡ unwrap_or (option_map raw_values (matched_of f (codes "vary"))) []
+ranges_text f = ap (λ o. unwrap_or o []) (sym (raw_values-rows f (codes "vary")))
+
+-- a number, by its text
+all_digits : (ds : List ℕ) → AllDigits 10 ds → list_all (λ d. nat_lt (digit_value d) 10) ds ≡ true
+all_digits [] h = refl
+all_digits (d ∷ ds) h = rw (lt-ltb (digit_value d) 10 h.0) (all_digits ds h.1)
+
+digits_of : (ds : List ℕ) → list_all (λ d. nat_lt (digit_value d) 10) ds ≡ true → AllDigits 10 ds
+digits_of [] e = tt
+digits_of (d ∷ ds) e =
+    let parts = both _ _ e in
+    (ltb-true _ _ parts.0, digits_of ds parts.1)
+
+abbrev is_number : ℕ → List ℕ → Bool
+is_number bits ds = nat_lt 0 (length ds) && list_all (λ d. nat_lt (digit_value d) 10) ds && nat_lt (digits_value 10 ds) (2 ^ bits)
+
+pub number_read : {E : Type 0} (bits : ℕ) (text : Text) (r : Result ℕ E) → ParsesUnsigned bits 10 text r → result_unwrap_or r 0 ≡ number_or_zero bits text
+number_read bits text (Ok n) h =
+    let ds = without_leading_plus text in
+    rw (lt-ltb 0 (length ds) h.0.0.0, all_digits ds h.0.0.1, lt-ltb (digits_value 10 ds) (2 ^ bits) h.0.1) h.1
+number_read bits text (Err e) h = go (is_number bits (without_leading_plus text)) refl
+  where
+    go : (b : Bool) → is_number bits (without_leading_plus text) ≡ b → 0 ≡ number_or_zero bits text
+    go false t = rw t refl
+    go true t =
+        let outer = both _ _ t in
+        let inner = both _ _ outer.0 in
+        absurd (h ((ltb-true _ _ inner.0, digits_of (without_leading_plus text) inner.1), ltb-true _ _ outer.1))
+
+pub number_text : (bits : ℕ) (id : Text) (f : Found) → number_among bits id (rows_of f) ≡ option_map (number_or_zero bits) (first_value f id)
+number_text bits id f = ap (option_map (number_or_zero bits)) (sym (first_value-rows f id))
+
 -- the kind of link of an option, by its text
 pub link_text : (f : Found) → link_among (rows_of f) ≡ option_and_then read_link (first_value f (codes "link"))
 link_text f = ap (option_and_then read_link) (sym (first_value-rows f (codes "link")))
@@ -111,89 +161,110 @@ file_text f id = ap (option_and_then file_named) (sym (first_value-rows f id))
 pub flag_text : (f : Found) (id : Text) → is_flagged id (rows_of f) ≡ option_map_or is_set (first_value f id) false
 flag_text f id = ap (λ o. option_map_or is_set o false) (sym (first_value-rows f id))
 
--- which task has a word, by its first two letters, and a tick, or workers and their link
-task_by : Tick → ℕ → LinkKind → ℕ → Task
-task_by tick workers kind n =
+-- which task has a word, by its first two letters, and the values of its options
+tick_in : Option Values → Tick
+tick_in given = unwrap_or (option_and_then (λ v. v.tick) given) (record { count = 1; unit = Nanosecond })
+
+workers_in : Option Values → ℕ
+workers_in given = unwrap_or (option_and_then (λ v. v.workers) given) 1
+
+link_in : Option Values → LinkKind
+link_in given = unwrap_or (option_and_then (λ v. v.link) given) Hub
+
+swept_in : Option Values → Swept
+swept_in given = unwrap_or (option_and_then (λ v. v.swept) given) plainly_swept
+
+task_by : Option Values → ℕ → Task
+task_by given n =
     if n == 412 then Merge else (if n == 437 then Horizon else (if n == 411 then Check else (if n == 417 then Records else
-    (if n == 461 then Explain else (if n == 390 then Candump tick else (if n == 415 then Vcd tick else
-    (if n == 458 then Trace else (if n == 403 then Page tick else (if n == 400 then Margin tick else Run workers kind)))))))))
+    (if n == 461 then Explain else (if n == 390 then Candump (tick_in given) else (if n == 415 then Vcd (tick_in given) else
+    (if n == 458 then Trace else (if n == 403 then Page (tick_in given) else (if n == 400 then Margin (tick_in given) else
+    (if n == 472 then Sweep (swept_in given) else Run (workers_in given) (link_in given)))))))))))
 
-task_at : Option Tick → Option ℕ → Option LinkKind → Option Text → Task
-task_at given many by None = Merge
-task_at given many by (Some w) = task_by (unwrap_or given nanosecond) (unwrap_or many 1) (unwrap_or by Hub) (slice_index w 0 + 3 * slice_index w 1)
+task_at : Option Values → Option Text → Task
+task_at given None = Merge
+task_at given (Some w) = task_by given (slice_index w 0 + 3 * slice_index w 1)
 
-task_at_word : (given : Option Tick) (many : Option ℕ) (by : Option LinkKind) (t : Task) → HasTick given t → HasWorkers many t → HasLink by t
-    → task_at given many by (Some (task_word t)) ≡ t
-unfolding task_at task_by
-task_at_word given many by Merge h w l = refl
-task_at_word given many by Horizon h w l = refl
-task_at_word given many by Check h w l = refl
-task_at_word given many by Records h w l = refl
-task_at_word given many by (Run workers kind) h w l = ap₂ (λ o p. Run (unwrap_or o 1) (unwrap_or p Hub)) w l
-task_at_word given many by Explain h w l = refl
-task_at_word given many by Trace h w l = refl
-task_at_word given many by (Candump tick) h w l = ap (λ o. Candump (unwrap_or o nanosecond)) h
-task_at_word given many by (Vcd tick) h w l = ap (λ o. Vcd (unwrap_or o nanosecond)) h
-task_at_word given many by (Page tick) h w l = ap (λ o. Page (unwrap_or o nanosecond)) h
-task_at_word given many by (Margin tick) h w l = ap (λ o. Margin (unwrap_or o nanosecond)) h
+task_at_word : (given : Option Values) (t : Task) → HasValues given t → task_at given (Some (task_word t)) ≡ t
+unfolding task_at task_by tick_in workers_in link_in swept_in
+task_at_word given Merge h = refl
+task_at_word given Horizon h = refl
+task_at_word given Check h = refl
+task_at_word given Records h = refl
+task_at_word given (Run workers kind) h = ap₂ (λ o p. Run (unwrap_or o 1) (unwrap_or p Hub)) h.0 h.1
+task_at_word given Explain h = refl
+task_at_word given Trace h = refl
+task_at_word given (Candump tick) h = ap (λ o. Candump (unwrap_or o (record { count = 1; unit = Nanosecond }))) h
+task_at_word given (Vcd tick) h = ap (λ o. Vcd (unwrap_or o (record { count = 1; unit = Nanosecond }))) h
+task_at_word given (Page tick) h = ap (λ o. Page (unwrap_or o (record { count = 1; unit = Nanosecond }))) h
+task_at_word given (Margin tick) h = ap (λ o. Margin (unwrap_or o (record { count = 1; unit = Nanosecond }))) h
+task_at_word given (Sweep swept) h = ap (λ o. Sweep (unwrap_or o plainly_swept)) h
 
 -- what was found makes at most one task
-one_found : (t u : Task) (word : Option Text) (tick : Option Tick) (workers : Option ℕ) (link : Option LinkKind)
-    → NamedTask word tick workers link t → NamedTask word tick workers link u → u ≡ t
-one_found t u word tick workers link h g =
-    sym (task_at_word tick workers link u g.1 g.2 g.3)
-    ∙ (ap (task_at tick workers link) (sym g.0 ∙ h.0)
-    ∙ task_at_word tick workers link t h.1 h.2 h.3)
+one_found : (t u : Task) (word : Option Text) (given : Option Values) → NamedTask word given t → NamedTask word given u → u ≡ t
+one_found t u word given h g = sym (task_at_word given u g.1) ∙ (ap (task_at given) (sym g.0 ∙ h.0) ∙ task_at_word given t h.1)
 
 -- words enter at most one task
 one_task : (t u : Task) (words : List Text) → Enters t words → Enters u words → u ≡ t
-one_task t u words h g = one_found t u _ _ _ _ h.0 g.0
+one_task t u words h g = one_found t u (word_in (entered words)) (option_map (λ p. values_among p.1) (entered words)) h.0 g.0
 
 both_same : {A : Type 0} (b : Bool) → A → MatchBool b A A
 both_same true h = h
 both_same false h = h
 
+some_count : (said : Option ℕ) → (count : ℕ) × IsCount said count
+some_count (Some n) = (n, refl)
+some_count None = (1, (omega arith, omega arith))
+
 module _ {S T : Type 0} (gives : S → Answer → S → Type 0) (takes : T → Answer → T → Type 0) where
   -- out of memory before anything is read or written
-  does_nothing : (s s' : S) (t t' : T) (task : Task) → t' ≡ t → Does gives takes s s' t t' task (Err run.Memory)
-  does_nothing s s' t t' Merge h = h
-  does_nothing s s' t t' Horizon h = h
-  does_nothing s s' t t' Check h = h
-  does_nothing s s' t t' Records h = h
-  does_nothing s s' t t' (Run workers kind) h = both_same (workers == 1) h
-  does_nothing s s' t t' Explain h = h
-  does_nothing s s' t t' Trace h = h
-  does_nothing s s' t t' (Candump tick) h = h
-  does_nothing s s' t t' (Vcd tick) h = h
-  does_nothing s s' t t' (Page tick) h = h
-  does_nothing s s' t t' (Margin tick) h = h
+  sweeps_nothing : (s s' : S) (t t' : T) (swept : Swept) (number : Option ℕ) → t' ≡ t → DoesSweep gives takes s s' t t' swept [] number (Err (fault.Run run.Memory))
+  sweeps_nothing s s' t t' swept None h = (Err sweep.Memory, (some_count swept.workers).0, (some_count swept.workers).1, h, refl)
+  sweeps_nothing s s' t t' swept (Some n) h = (Err sweep.Memory, h, refl)
+
+  does_nothing : (s s' : S) (t t' : T) (task : Task) → t' ≡ t → Does gives takes s s' t t' task [] (Err (fault.Run run.Memory))
+  does_nothing s s' t t' Merge h = (Err run.Memory, h, refl)
+  does_nothing s s' t t' Horizon h = (Err run.Memory, h, refl)
+  does_nothing s s' t t' Check h = (Err run.Memory, h, refl)
+  does_nothing s s' t t' Records h = (Err run.Memory, h, refl)
+  does_nothing s s' t t' (Run workers kind) h = (Err run.Memory, both_same (workers == 1) h, refl)
+  does_nothing s s' t t' Explain h = (Err run.Memory, h, refl)
+  does_nothing s s' t t' Trace h = (Err run.Memory, h, refl)
+  does_nothing s s' t t' (Candump tick) h = (Err run.Memory, h, refl)
+  does_nothing s s' t t' (Vcd tick) h = (Err run.Memory, h, refl)
+  does_nothing s s' t t' (Page tick) h = (Err run.Memory, h, refl)
+  does_nothing s s' t t' (Margin tick) h = (Err run.Memory, h, refl)
+  does_nothing s s' t t' (Sweep swept) h = sweeps_nothing s s' t t' swept swept.print h
 
 -- what is done over an order without files is done over the standard devices
 module _ {S T F R W : Type 0} (gives : S → Answer → S → Type 0) (takes : T → Answer → T → Type 0)
     (file_gives : R → Answer → R → Type 0) (file_takes : W → Answer → W → Type 0)
     (opens : F → Text → R → Type 0) (stands : F → Text → Standing) (holds : W → Standing) (s s' : S) (t t' : T) (f f' : F) where
-  plain_reads : (input output : Option Text) (task : Task) (r : Result (Unit {0}) RunFault) → input ≡ None → output ≡ None
-      → ReadsFrom gives takes file_gives file_takes opens stands holds s s' t t' f f' input task output r
-      → Does gives takes s s' t t' task r × (f' ≡ f)
-  plain_reads None None task r i o h = h
-  plain_reads (Some x) output task r i o h = cc
-  plain_reads None (Some x) task r i o h = cc
+  plain_reads : (input output : Option Text) (task : Task) (ranges : List Text) (r : Result Done Fault) → input ≡ None → output ≡ None
+      → ReadsFrom gives takes file_gives file_takes opens stands holds s s' t t' f f' input task ranges output r
+      → Does gives takes s s' t t' task ranges r × (f' ≡ f)
+  plain_reads None None task ranges r i o h = h
+  plain_reads (Some x) output task ranges r i o h = cc
+  plain_reads None (Some x) task ranges r i o h = cc
 
   -- the task that was read is the one that the words name
-  pub named_is_done : (words : List Text) (order : Order) (task : Task) (r : Result (Unit {0}) RunFault) (status : ℕ) → Asks order words
+  pub named_is_done : (words : List Text) (order : Order) (task : Task) (r : Result Done Fault) (status : ℕ) → Asks order words
       → NamesTask task words → Performs gives takes file_gives file_takes opens stands holds s s' t t' f f' order r → status ≡ run_status r
       → EndsPlainly gives takes file_gives file_takes opens stands holds s s' t t' f f' task status
   named_is_done words order task r status asked named done is =
       let none = names_none task words named in
-      let plain = plain_reads order.input order.output order.task r (asked.1 ∙ none.0) (asked.2 ∙ none.1) done in
-      ((r, subst (λ k. Does gives takes s s' t t' k r) (sym (one_task order.task task words asked.0 (names_enters task words named))) plain.0, is), plain.1)
+      let ranges = map string_bytes order.ranges.items in
+      let plain = plain_reads order.input order.output order.task ranges r (asked.1 ∙ none.0) (asked.2 ∙ none.1) done in
+      let same = sym (one_task order.task task words asked.0 (names_enters task words named)) in
+      let of_task = subst (λ k. Does gives takes s s' t t' k ranges r) same plain.0 in
+      ((r, subst (λ rs. Does gives takes s s' t t' task rs r) (asked.5 ∙ none.2) of_task, is), plain.1)
 
   -- words that name a task are refused only when out of memory
   pub named_is_refused : (words : List Text) (refusal : Refusal) (task : Task) (status : ℕ) → ReadsOrder words (Err refusal)
       → NamesTask task words → Ends gives takes file_gives file_takes opens stands holds s s' t t' f f' (Err refusal) status
       → EndsPlainly gives takes file_gives file_takes opens stands holds s s' t t' f f' task status
   named_is_refused words Words task status none named h = absurd (none task (names_enters task words named))
-  named_is_refused words Memory task status none named h = ((Err run.Memory, does_nothing gives takes s s' t t' task h.1, h.3), h.2)
+  named_is_refused words Memory task status none named h = ((Err (fault.Run run.Memory), does_nothing gives takes s s' t t' task h.1, h.3), h.2)
 
 pub of_ok : {A E : Type 0} (r : Result A E) (x : A) (P : A → Type 0) → r ≡ Ok x → P x → IfOk r P
 of_ok r x P is h = subst (λ r. IfOk r P) (sym is) h

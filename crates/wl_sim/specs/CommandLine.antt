@@ -1,16 +1,21 @@
 -- The words of the command line (this project's profile).
-use Rattle.std.specs.Prelude.{◌≡◌, ℕ, Bool, true, false, List, [], ◌∷◌, codes, pos, Option, Some, None, if◌then◌else◌, option_and_then, option_map}
+use Rattle.std.specs.Prelude.{◌≡◌, ◌^◌, ◌-◌, ◌&&◌, nat_lt, ℕ, Bool, true, false, List, [], ◌∷◌, length, codes, pos, Option, Some, None, unwrap_or, if◌then◌else◌, option_and_then, option_map}
+use Rattle.std.specs.Char.{digit_value}
+use Rattle.std.specs.List.{list_all}
 use Rattle.std.specs.Option.{option_map_or}
 use Rattle.std.specs.Str.{bytes_eq}
-use Rattle.clap.specs.Words.{App, Row, Rule, Text, first_of, new_app, new_rule, with_rule, with_subcommand, subcommand_of, fault_of}
+use Rattle.std.specs.Str.Parse.{digits_value, without_leading_plus}
+use Rattle.clap.specs.Words.{App, Row, Rule, Text, all_of, first_of, new_app, new_rule, with_rule, with_subcommand, subcommand_of, fault_of}
 use Rattle.clap.specs.Walk.{byte_or_zero}
-use Rattle.clap.specs.declared.builder.action.ArgAction.TheVariants.{SetTrue}
-use Rattle.clap.specs.declared.builder.value_parser.ValueParser.TheVariants.{Signed}
+use Rattle.clap.specs.declared.builder.action.ArgAction.TheVariants.{Append, SetTrue}
+use Rattle.clap.specs.declared.builder.value_parser.ValueParser.TheVariants.{Signed, Unsigned}
 use Rattle.clap.specs.Simple.{on_top}
 use Rattle.wl_worker.specs.declared.kinds.LinkKind.{LinkKind}
 use Rattle.wl_worker.specs.declared.kinds.LinkKind.TheVariants.{Hub, Mail}
 use Rattle.wl_sim.specs.declared.command.Task.{Task}
-use Rattle.wl_sim.specs.declared.command.Task.TheVariants.{Merge, Horizon, Check, Records, Run, Explain, Trace, Candump, Vcd, Page, Margin}
+use Rattle.wl_sim.specs.declared.command.Task.TheVariants.{Merge, Horizon, Check, Records, Run, Explain, Trace, Candump, Vcd, Page, Margin, Sweep}
+use Rattle.wl_sim.specs.declared.sweep.Swept.{Swept}
+use Rattle.wl_sim.specs.declared.values.Values.{Values}
 use Rattle.wl_views.specs.declared.tick.Tick.{Tick}
 use Rattle.wl_views.specs.declared.tick.TimeUnit.TheVariants.{Nanosecond}
 use Rattle.wl_views.specs.Ticks.{read_tick}
@@ -28,6 +33,7 @@ task_word (Candump tick) = codes "candump"
 task_word (Vcd tick) = codes "vcd"
 task_word (Page tick) = codes "page"
 task_word (Margin tick) = codes "margin"
+task_word (Sweep swept) = codes "sweep"
 
 -- the argument that names the file to read
 abbrev pub input_rule : Rule
@@ -71,6 +77,40 @@ link_rule = record (new_rule (codes "link")) { long = Some (codes "link"); value
 abbrev pub run_app : App
 run_app = with_rule (with_rule (filed (codes "run")) workers_rule) link_rule
 
+-- the options of `sweep`, of which `--vary` may come several times; the members that are run are 1000 at most, and drawn by seed 1, where nothing else is said
+abbrev pub vary_rule : Rule
+vary_rule = record (new_rule (codes "vary")) { long = Some (codes "vary"); value_names = 1; action = Some Append }
+
+abbrev pub step_rule : Rule
+step_rule = record (new_rule (codes "step")) { long = Some (codes "step"); value_names = 1; parser = Some (Unsigned 1 (2 ^ 64 - 1)) }
+
+abbrev pub runs_rule : Rule
+runs_rule =
+    record (new_rule (codes "runs")) { long = Some (codes "runs"); value_names = 1; defaults = codes "1000" ∷ []; parser = Some (Signed (pos 1) (pos (2 ^ 32 - 1))) }
+
+abbrev pub seed_rule : Rule
+seed_rule =
+    record (new_rule (codes "seed")) { long = Some (codes "seed"); value_names = 1; defaults = codes "1" ∷ []; parser = Some (Signed (pos 0) (pos (2 ^ 32 - 1))) }
+
+abbrev pub threads_rule : Rule
+threads_rule = record (new_rule (codes "workers")) { long = Some (codes "workers"); value_names = 1; parser = Some (Signed (pos 1) (pos 8)) }
+
+abbrev pub print_rule : Rule
+print_rule = record (new_rule (codes "print")) { long = Some (codes "print"); value_names = 1; parser = Some (Unsigned 0 (2 ^ 64 - 1)) }
+
+-- a subcommand with the options that say what is run
+abbrev pub counted_app : App → App
+counted_app app = with_rule (with_rule (with_rule (with_rule (with_rule app vary_rule) step_rule) runs_rule) seed_rule) threads_rule
+
+-- and with all options of a sweep
+abbrev pub swept_app : App → App
+swept_app app =
+    with_rule (with_rule (with_rule (with_rule (counted_app app) (flag_rule (codes "keep-offsets"))) (flag_rule (codes "keep-ppm"))) (flag_rule (codes "worst"))) print_rule
+
+-- the subcommand `sweep`
+abbrev pub sweep_app : App
+sweep_app = swept_app (filed (codes "sweep"))
+
 -- the command line of most tasks without a tick: one of the tasks has to be named
 abbrev pub untimed_program : App
 untimed_program =
@@ -78,11 +118,15 @@ untimed_program =
     (on_top (λ s. record s { subcommand_required = true }) (on_top (λ s. record s { has_version = true }) (new_app (codes "wl_sim"))))
     Merge) Horizon) Check) Records) run_app.top) Explain
 
--- the program's command line: after those, the trace and the tasks with one
-abbrev pub program : App
-program =
+-- the command line of single runs: after those, the trace and the tasks with one
+abbrev pub single_program : App
+single_program =
     with_subcommand (with_subcommand (with_subcommand (with_subcommand (with_task untimed_program Trace)
     (timed (codes "candump")).top) (timed (codes "vcd")).top) (timed (codes "page")).top) (timed (codes "margin")).top
+
+-- the program's command line: after those, the sweep
+abbrev pub program : App
+program = with_subcommand single_program sweep_app.top
 
 -- the subcommand that clap enters at these words, with what it finds there
 abbrev pub entered : List Text → Option (Text × List Row)
@@ -98,28 +142,9 @@ rows_in found = option_map (λ p. p.1) found
 abbrev pub tick_among : List Row → Option Tick
 tick_among rows = option_and_then read_tick (first_of (codes "tick") rows)
 
--- a task that has a tick has this one
-abbrev pub HasTick : Option Tick → Task → Type 0
-HasTick given (Candump tick) = given ≡ Some tick
-HasTick given (Vcd tick) = given ≡ Some tick
-HasTick given (Page tick) = given ≡ Some tick
-HasTick given (Margin tick) = given ≡ Some tick
-HasTick given Merge = Unit {0}
-HasTick given Horizon = Unit {0}
-HasTick given Check = Unit {0}
-HasTick given Records = Unit {0}
-HasTick given (Run workers kind) = Unit {0}
-HasTick given Explain = Unit {0}
-HasTick given Trace = Unit {0}
-
 -- the number of workers that a subcommand's option gives
 abbrev pub workers_among : List Row → Option ℕ
 workers_among rows = option_map byte_or_zero (first_of (codes "workers") rows)
-
--- a task that has workers has so many
-abbrev pub HasWorkers : Option ℕ → Task → Type 0
-HasWorkers given (Run workers kind) = given ≡ Some workers
-HasWorkers given _ = Unit {0}
 
 -- the kind of link that a text names: `hub` or `mail`
 abbrev pub read_link : Text → Option LinkKind
@@ -128,11 +153,6 @@ read_link text = if bytes_eq text (codes "hub") then Some Hub else (if bytes_eq 
 -- the kind of link that a subcommand's option gives
 abbrev pub link_among : List Row → Option LinkKind
 link_among rows = option_and_then read_link (first_of (codes "link") rows)
-
--- a task that has workers has this kind of link
-abbrev pub HasLink : Option LinkKind → Task → Type 0
-HasLink given (Run workers kind) = given ≡ Some kind
-HasLink given _ = Unit {0}
 
 -- the file that a text names in the place of a standard stream, which `-` means
 abbrev pub file_named : Text → Option Text
@@ -158,24 +178,92 @@ is_flagged id rows = option_map_or is_set (first_of id rows) false
 abbrev pub has_flag : Text → Option (Text × List Row) → Bool
 has_flag id found = option_map_or (λ p. is_flagged id p.1) found false
 
--- this word, tick, number of workers and link make this task
-abbrev pub NamedTask : Option Text → Option Tick → Option ℕ → Option LinkKind → Task → Type 0
-NamedTask word tick workers link t = (word ≡ Some (task_word t)) × HasTick tick t × HasWorkers workers t × HasLink link t
+-- the number that a text writes, below 2^bits; its option lets no other text in
+abbrev pub number_or_zero : ℕ → Text → ℕ
+number_or_zero bits text =
+    let ds = without_leading_plus text in
+    if nat_lt 0 (length ds) && list_all (λ d. nat_lt (digit_value d) 10) ds && nat_lt (digits_value 10 ds) (2 ^ bits) then digits_value 10 ds else 0
+
+-- the number that an option of a subcommand gives
+abbrev pub number_among : ℕ → Text → List Row → Option ℕ
+number_among bits id rows = option_map (number_or_zero bits) (first_of id rows)
+
+-- the ranges of a sweep, in their order
+abbrev pub ranges_among : List Row → List Text
+ranges_among rows = unwrap_or (all_of (codes "vary") rows) []
+
+abbrev pub ranges_in : Option (Text × List Row) → List Text
+ranges_in found = option_map_or (λ p. ranges_among p.1) found []
+
+-- what the options say of a sweep
+abbrev pub swept_by : List Row → ℕ → ℕ → Swept
+swept_by rows runs seed = record {
+  asked = record {
+    options = record {
+      step = number_among 64 (codes "step") rows;
+      keep_offsets = is_flagged (codes "keep-offsets") rows;
+      keep_ppm = is_flagged (codes "keep-ppm") rows;
+      runs = runs;
+      seed = seed;
+    };
+    worst = is_flagged (codes "worst") rows;
+  };
+  workers = workers_among rows;
+  print = number_among 64 (codes "print") rows;
+}
+
+abbrev pub swept_among : List Row → Option Swept
+swept_among rows =
+    option_and_then (λ runs. option_map (swept_by rows runs) (number_among 32 (codes "seed") rows)) (number_among 32 (codes "runs") rows)
+
+-- what the options say that only some tasks have
+abbrev pub values_among : List Row → Values
+values_among rows = record { tick = tick_among rows; workers = workers_among rows; link = link_among rows; swept = swept_among rows }
+
+-- a task that has values of options has these
+abbrev pub HasValues : Option Values → Task → Type 0
+HasValues given (Candump tick) = option_and_then (λ v. v.tick) given ≡ Some tick
+HasValues given (Vcd tick) = option_and_then (λ v. v.tick) given ≡ Some tick
+HasValues given (Page tick) = option_and_then (λ v. v.tick) given ≡ Some tick
+HasValues given (Margin tick) = option_and_then (λ v. v.tick) given ≡ Some tick
+HasValues given (Run workers kind) = (option_and_then (λ v. v.workers) given ≡ Some workers) × (option_and_then (λ v. v.link) given ≡ Some kind)
+HasValues given (Sweep swept) = option_and_then (λ v. v.swept) given ≡ Some swept
+HasValues given Merge = Unit {0}
+HasValues given Horizon = Unit {0}
+HasValues given Check = Unit {0}
+HasValues given Records = Unit {0}
+HasValues given Explain = Unit {0}
+HasValues given Trace = Unit {0}
+
+-- this word and these values make this task
+abbrev pub NamedTask : Option Text → Option Values → Task → Type 0
+NamedTask word given t = (word ≡ Some (task_word t)) × HasValues given t
 
 -- a subcommand with its rows makes this task
 abbrev pub FoundTask : Option (Text × List Row) → Task → Type 0
-FoundTask found t =
-    NamedTask (word_in found) (option_and_then tick_among (rows_in found)) (option_and_then workers_among (rows_in found))
-    (option_and_then link_among (rows_in found)) t
+FoundTask found t = NamedTask (word_in found) (option_map (λ p. values_among p.1) found) t
 
--- clap enters the task's subcommand at these words, with the task's tick, or workers and their link, where it has them, and finds no fault in them
+-- clap enters the task's subcommand at these words, with the task's values, and finds no fault in them
 abbrev pub Enters : Task → List Text → Type 0
 Enters t words = FoundTask (entered words) t × (fault_of program words ≡ [])
 
--- a tick is a nanosecond where the words say nothing of it
-abbrev pub nanosecond : Tick
-nanosecond = record { count = 1; unit = Nanosecond }
+-- what is swept where the words say nothing of it
+abbrev pub plainly_swept : Swept
+plainly_swept = record {
+  asked = record { options = record { step = None; keep_offsets = false; keep_ppm = false; runs = 1000; seed = 1 }; worst = false };
+  workers = None;
+  print = None;
+}
 
--- the program's own name, and after it the word of the task alone: clap enters the task there, and one worker runs, over a hub if it were several
+-- where the words say nothing of it a tick is a nanosecond, and one worker runs, over a hub if it were several
+abbrev pub plain_values : Values
+plain_values = record {
+  tick = Some (record { count = 1; unit = Nanosecond });
+  workers = Some 1;
+  link = Some Hub;
+  swept = Some plainly_swept;
+}
+
+-- the program's own name, and after it the word of the task alone: clap enters the task there, with plain values
 abbrev pub NamesTask : Task → List Text → Type 0
-NamesTask t words = (name : Text) × HasTick (Some nanosecond) t × HasWorkers (Some 1) t × HasLink (Some Hub) t × (words ≡ name ∷ task_word t ∷ [])
+NamesTask t words = (name : Text) × HasValues (Some plain_values) t × (words ≡ name ∷ task_word t ∷ [])

@@ -1,23 +1,26 @@
 -- What the words ask for, over which devices and files it is done, and what stands at the named place afterwards (this project's profile).
-use Rattle.std.specs.Prelude.{◌≡◌, ◌⊎◌, ℕ, Bool, if◌then◌else◌, List, codes, Option, Some, None, Result, Ok, Err}
+use Rattle.std.specs.Prelude.{◌≡◌, ◌⊎◌, ℕ, Bool, if◌then◌else◌, List, codes, map, string_bytes, Option, Some, None, Result, Ok, Err}
 use Rattle.clap.specs.Words.{Text}
 use Rattle.wl_device.specs.Devices.{Answer}
 use Rattle.wl_files.specs.Files.{Standing, IsEmpty, Keeps, Places}
 use Rattle.wl_setup.specs.declared.fault.SetupFault.TheVariants as setup
-use Rattle.wl_engines.specs.declared.fault.RunFault.{RunFault}
 use Rattle.wl_engines.specs.declared.fault.RunFault.TheVariants.{Setup, Write, Memory}
+use Rattle.wl_sim.specs.declared.answer.Done.{Done}
+use Rattle.wl_sim.specs.declared.answer.Fault.{Fault}
+use Rattle.wl_sim.specs.declared.answer.Fault.TheVariants.{Run}
 use Rattle.wl_sim.specs.declared.command.Order.{Order}
 use Rattle.wl_sim.specs.declared.command.Refusal.{Refusal}
 use Rattle.wl_sim.specs.declared.command.Refusal.TheVariants as refusal
 use Rattle.wl_sim.specs.declared.command.Task.{Task}
-use Rattle.wl_sim.specs.CommandLine.{Enters, entered, file_in, has_flag}
+use Rattle.wl_sim.specs.CommandLine.{Enters, entered, file_in, has_flag, ranges_in}
 use Rattle.wl_sim.specs.Tasks.{Does, EndsTask, refusal_status, run_status}
 
--- the words ask for this: the task that they enter, with the files that they name
+-- the words ask for this: the task that they enter, with the files and the ranges that they name
 abbrev pub Asks : Order → List Text → Type 0
 Asks order words =
     Enters order.task words × (order.input ≡ file_in (codes "input") (entered words)) × (order.output ≡ file_in (codes "output") (entered words))
     × (order.hint ≡ has_flag (codes "hint") (entered words)) × (order.progress ≡ has_flag (codes "progress") (entered words))
+    × (map string_bytes order.ranges.items ≡ ranges_in (entered words))
 
 -- what was found in the words
 abbrev pub FindsOrder : List Text → Option Order → Type 0
@@ -33,25 +36,25 @@ ReadsOrder words (Err refusal.Memory) = Unit {0}
 -- What stands at each name after a task was done with a new file for its output: the file stands at its name where the task was done and the
 -- file could be moved there, and else each name has what it had.
 module _ {F W : Type 0} (stands : F → Text → Standing) (holds : W → Standing) (f f' : F) (name : Text) (file : W) where
-  abbrev pub MovesFile : Result (Unit {0}) RunFault → Result (Unit {0}) RunFault → Type 0
-  MovesFile (Ok u) r = (placed : Bool) × Places (stands f) (stands f') name (holds file) placed × (r ≡ (if placed then Ok tt else Err Write))
+  abbrev pub MovesFile : Result Done Fault → Result Done Fault → Type 0
+  MovesFile (Ok done) r = (placed : Bool) × Places (stands f) (stands f') name (holds file) placed × (r ≡ (if placed then Ok done else Err (Run Write)))
   MovesFile (Err fault) r = Keeps (stands f) (stands f') × (r ≡ Err fault)
 
 -- The output goes to standard output, or to a new file.
 module _ {S T F W : Type 0} (gives : S → Answer → S → Type 0) (takes : T → Answer → T → Type 0) (file_takes : W → Answer → W → Type 0)
-    (stands : F → Text → Standing) (holds : W → Standing) (s s' : S) (t t' : T) (f f' : F) (task : Task) where
+    (stands : F → Text → Standing) (holds : W → Standing) (s s' : S) (t t' : T) (f f' : F) (task : Task) (ranges : List Text) where
   -- no new file was begun: nothing was read, and each name has what it had
-  abbrev pub BeginsNone : Result (Unit {0}) RunFault → Type 0
-  BeginsNone r = (s' ≡ s) × Keeps (stands f) (stands f') × ((r ≡ Err Write) ⊎ (r ≡ Err Memory))
+  abbrev pub BeginsNone : Result Done Fault → Type 0
+  BeginsNone r = (s' ≡ s) × Keeps (stands f) (stands f') × ((r ≡ Err (Run Write)) ⊎ (r ≡ Err (Run Memory)))
 
   -- a new file was begun, an empty one, and the task done over it
-  abbrev pub WritesNew : Text → Result (Unit {0}) RunFault → Type 0
+  abbrev pub WritesNew : Text → Result Done Fault → Type 0
   WritesNew name r =
-      (file : W) × (file' : W) × (answer : Result (Unit {0}) RunFault) × IsEmpty (holds file) × Does gives file_takes s s' file file' task answer
+      (file : W) × (file' : W) × (answer : Result Done Fault) × IsEmpty (holds file) × Does gives file_takes s s' file file' task ranges answer
       × MovesFile stands holds f f' name file' answer r
 
-  abbrev pub WritesTo : Option Text → Result (Unit {0}) RunFault → Type 0
-  WritesTo None r = Does gives takes s s' t t' task r × (f' ≡ f)
+  abbrev pub WritesTo : Option Text → Result Done Fault → Type 0
+  WritesTo None r = Does gives takes s s' t t' task ranges r × (f' ≡ f)
   WritesTo (Some name) r = (t' ≡ t) × (BeginsNone r ⊎ WritesNew name r)
 
 -- The input comes from standard input, or from a file.
@@ -59,19 +62,19 @@ module _ {S T F R W : Type 0} (gives : S → Answer → S → Type 0) (takes : T
     (file_gives : R → Answer → R → Type 0) (file_takes : W → Answer → W → Type 0)
     (opens : F → Text → R → Type 0) (stands : F → Text → Standing) (holds : W → Standing) (s s' : S) (t t' : T) (f f' : F) where
   -- no file of the name was opened, and nothing was done; or the task was done over one
-  abbrev pub ReadsFrom : Option Text → Task → Option Text → Result (Unit {0}) RunFault → Type 0
-  ReadsFrom None task output r = WritesTo gives takes file_takes stands holds s s' t t' f f' task output r
-  ReadsFrom (Some name) task output r =
-      (s' ≡ s) × (((r ≡ Err (Setup setup.Read)) × (t' ≡ t) × (f' ≡ f))
-      ⊎ ((file : R) × (file' : R) × opens f name file × WritesTo file_gives takes file_takes stands holds file file' t t' f f' task output r))
+  abbrev pub ReadsFrom : Option Text → Task → List Text → Option Text → Result Done Fault → Type 0
+  ReadsFrom None task ranges output r = WritesTo gives takes file_takes stands holds s s' t t' f f' task ranges output r
+  ReadsFrom (Some name) task ranges output r =
+      (s' ≡ s) × (((r ≡ Err (Run (Setup setup.Read))) × (t' ≡ t) × (f' ≡ f))
+      ⊎ ((file : R) × (file' : R) × opens f name file × WritesTo file_gives takes file_takes stands holds file file' t t' f f' task ranges output r))
 
   -- what the words asked for was done
-  abbrev pub Performs : Order → Result (Unit {0}) RunFault → Type 0
-  Performs order r = ReadsFrom order.input order.task order.output r
+  abbrev pub Performs : Order → Result Done Fault → Type 0
+  Performs order r = ReadsFrom order.input order.task (map string_bytes order.ranges.items) order.output r
 
   -- it was done, and the status is that of what was answered; or neither device nor any file was used, and the status says why
   abbrev pub Ends : Result Order Refusal → ℕ → Type 0
-  Ends (Ok order) status = (r : Result (Unit {0}) RunFault) × Performs order r × (status ≡ run_status r)
+  Ends (Ok order) status = (r : Result Done Fault) × Performs order r × (status ≡ run_status r)
   Ends (Err refusal) status = (s' ≡ s) × (t' ≡ t) × (f' ≡ f) × (status ≡ refusal_status refusal)
 
   -- the whole program, from its words to its status

@@ -1,8 +1,11 @@
 -- What the program does for its words, and the status that it ends with (this project's profile).
-use Rattle.std.specs.Prelude.{◌≡◌, ◌==◌, ℕ, MatchBool, if◌then◌else◌, Result, Ok, Err}
+use Rattle.std.specs.Prelude.{◌≡◌, ◌≤◌, ◌==◌, ℕ, Bool, true, false, MatchBool, List, [], Option, Some, None, if◌then◌else◌, Result, Ok, Err}
+use Rattle.std.specs.List.{list_all}
+use Rattle.clap.specs.Words.{Text}
 use Rattle.wl_device.specs.Devices.{Answer}
 use Rattle.wl_setup.specs.Check.{IsPlanCheck}
 use Rattle.wl_engines.specs.declared.fault.RunFault.{RunFault}
+use Rattle.wl_engines.specs.declared.fault.RunFault.TheVariants as run
 use Rattle.wl_engines.specs.Explained.{Explains}
 use Rattle.wl_engines.specs.Faults.{is_refusal}
 use Rattle.wl_engines.specs.Horizon.{TellsHorizons}
@@ -11,36 +14,96 @@ use Rattle.wl_engines.specs.Merge.{Merges}
 use Rattle.wl_engines.specs.Paged.{Pages}
 use Rattle.wl_engines.specs.Plans.{RunsPlan, IsRecordsOutput, IsRunOutput, IsTraceOutput, IsCandumpOutput, IsVcdOutput}
 use Rattle.wl_engines.specs.Workers.{RunsByWorkers}
+use Rattle.wl_sweep.specs.declared.finding.Finding.{Finding}
+use Rattle.wl_sweep.specs.declared.tally.Tally.{Tally}
+use Rattle.wl_sweep.specs.Findings.{is_clean}
+use Rattle.wl_sweep.specs.Tallies.{tally_of}
+use Rattle.wl_sweep_engine.specs.declared.fault.SweepFault.{SweepFault}
+use Rattle.wl_sweep_engine.specs.declared.fault.SweepFault.TheVariants as sweep
+use Rattle.wl_sweep_engine.specs.Sweeping.{Sweeps, Prints}
+use Rattle.wl_sim.specs.declared.answer.Done.{Done}
+use Rattle.wl_sim.specs.declared.answer.Done.TheVariants.{Plain, Unclean}
+use Rattle.wl_sim.specs.declared.answer.Fault.{Fault}
+use Rattle.wl_sim.specs.declared.answer.Fault.TheVariants as fault
 use Rattle.wl_sim.specs.declared.command.Refusal.{Refusal}
 use Rattle.wl_sim.specs.declared.command.Refusal.TheVariants.{Words, Memory}
 use Rattle.wl_sim.specs.declared.command.Task.{Task}
-use Rattle.wl_sim.specs.declared.command.Task.TheVariants.{Merge, Horizon, Check, Records, Run, Explain, Trace, Candump, Vcd, Page, Margin}
+use Rattle.wl_sim.specs.declared.command.Task.TheVariants.{Merge, Horizon, Check, Records, Run, Explain, Trace, Candump, Vcd, Page, Margin, Sweep}
+use Rattle.wl_sim.specs.declared.sweep.Swept.{Swept}
 
--- the status of a run: 0, 1 where the input was refused for what it says, 3 when out of memory or for a fault of reading, writing or workers
-abbrev pub run_status : Result (Unit {0}) RunFault → ℕ
-run_status (Ok u) = 0
-run_status (Err fault) = if is_refusal fault then 1 else 3
+-- what an engine answered, as an answer of the program
+abbrev pub plainly : Result (Unit {0}) RunFault → Result Done Fault
+plainly (Ok u) = Ok Plain
+plainly (Err f) = Err (fault.Run f)
+
+-- a fault of a sweep: of its plan, its devices or memory it is that of any engine; else it is one of its words
+abbrev pub of_sweep : SweepFault → Fault
+of_sweep (sweep.Setup f) = fault.Run (run.Setup f)
+of_sweep sweep.Write = fault.Run run.Write
+of_sweep sweep.Memory = fault.Run run.Memory
+of_sweep f = fault.Word f
+
+-- all members are clean, none of them refused; or not
+abbrev pub done_by : Bool → Done
+done_by true = Plain
+done_by false = Unclean
+
+-- what is answered for a sweep with the tally of what was found
+abbrev pub AnswersSweep : Result Tally SweepFault → Result Done Fault → Type 0
+AnswersSweep (Ok tally) r = (done : Done) × (r ≡ Ok done) × ((found : List Finding) → tally ≡ tally_of found → done ≡ done_by (list_all is_clean found))
+AnswersSweep (Err f) r = r ≡ Err (of_sweep f)
+
+abbrev pub of_print : Result (Unit {0}) SweepFault → Result Done Fault
+of_print (Ok u) = Ok Plain
+of_print (Err f) = Err (of_sweep f)
+
+-- the status of a run: 0; 1 where the input was refused for what it says, or some member of a sweep isn't clean; 2 where its plan doesn't allow the words of a sweep;
+-- 3 when out of memory or for a fault of reading, writing or workers
+abbrev pub run_status : Result Done Fault → ℕ
+run_status (Ok Plain) = 0
+run_status (Ok Unclean) = 1
+run_status (Err (fault.Run f)) = if is_refusal f then 1 else 3
+run_status (Err (fault.Word f)) = 2
 
 -- the status of a command line that named no task
 abbrev pub refusal_status : Refusal → ℕ
 refusal_status Words = 2
 refusal_status Memory = 3
 
+-- how many threads a sweep has: so many as are said, else 1 to 8
+abbrev pub IsCount : Option ℕ → ℕ → Type 0
+IsCount (Some said) count = count ≡ said
+IsCount None count = (1 ≤ count) × (count ≤ 8)
+
+-- an engine answered, and that is what is answered
+abbrev pub Plainly : (Result (Unit {0}) RunFault → Type 0) → Result Done Fault → Type 0
+Plainly Runs r = (answer : Result (Unit {0}) RunFault) × Runs answer × (r ≡ plainly answer)
+
 module _ {S T : Type 0} (gives : S → Answer → S → Type 0) (takes : T → Answer → T → Type 0) (s s' : S) (t t' : T) where
-  -- what was done for a task
-  abbrev pub Does : Task → Result (Unit {0}) RunFault → Type 0
-  Does Merge r = Merges gives takes s s' t t' r
-  Does Horizon r = TellsHorizons gives takes s s' t t' r
-  Does Check r = RunsPlan gives takes IsPlanCheck s s' t t' r
-  Does Records r = RunsPlan gives takes IsRecordsOutput s s' t t' r
-  Does (Run workers kind) r = MatchBool (workers == 1) (RunsPlan gives takes IsRunOutput s s' t t' r) (RunsByWorkers gives takes workers s s' t t' r)
-  Does Explain r = Explains gives takes s s' t t' r
-  Does Trace r = RunsPlan gives takes IsTraceOutput s s' t t' r
-  Does (Candump tick) r = RunsPlan gives takes (IsCandumpOutput tick) s s' t t' r
-  Does (Vcd tick) r = RunsPlan gives takes (IsVcdOutput tick) s s' t t' r
-  Does (Page tick) r = Pages gives takes tick s s' t t' r
-  Does (Margin tick) r = RunsBus gives takes (IsMarginOutput tick) s s' t t' r
+  -- what is found of a family of plans, or one of its members, was written
+  abbrev pub DoesSweep : Swept → List Text → Option ℕ → Result Done Fault → Type 0
+  DoesSweep swept ranges None r =
+      (answer : Result Tally SweepFault) × (count : ℕ) × IsCount swept.workers count × Sweeps gives takes ranges swept.asked s s' t t' count answer
+      × AnswersSweep answer r
+  DoesSweep swept ranges (Some n) r =
+      (answer : Result (Unit {0}) SweepFault) × Prints gives takes ranges swept.asked s s' t t' n answer × (r ≡ of_print answer)
+
+  -- what was done for a task, over the ranges of a sweep
+  abbrev pub Does : Task → List Text → Result Done Fault → Type 0
+  Does Merge ranges r = Plainly (Merges gives takes s s' t t') r
+  Does Horizon ranges r = Plainly (TellsHorizons gives takes s s' t t') r
+  Does Check ranges r = Plainly (RunsPlan gives takes IsPlanCheck s s' t t') r
+  Does Records ranges r = Plainly (RunsPlan gives takes IsRecordsOutput s s' t t') r
+  Does (Run workers kind) ranges r =
+      Plainly (λ a. MatchBool (workers == 1) (RunsPlan gives takes IsRunOutput s s' t t' a) (RunsByWorkers gives takes workers s s' t t' a)) r
+  Does Explain ranges r = Plainly (Explains gives takes s s' t t') r
+  Does Trace ranges r = Plainly (RunsPlan gives takes IsTraceOutput s s' t t') r
+  Does (Candump tick) ranges r = Plainly (RunsPlan gives takes (IsCandumpOutput tick) s s' t t') r
+  Does (Vcd tick) ranges r = Plainly (RunsPlan gives takes (IsVcdOutput tick) s s' t t') r
+  Does (Page tick) ranges r = Plainly (Pages gives takes tick s s' t t') r
+  Does (Margin tick) ranges r = Plainly (RunsBus gives takes (IsMarginOutput tick) s s' t t') r
+  Does (Sweep swept) ranges r = DoesSweep swept ranges swept.print r
 
   -- the task was done, nothing else was read or written, and the status is that of what was answered
   abbrev pub EndsTask : Task → ℕ → Type 0
-  EndsTask task status = (r : Result (Unit {0}) RunFault) × Does task r × (status ≡ run_status r)
+  EndsTask task status = (r : Result Done Fault) × Does task [] r × (status ≡ run_status r)

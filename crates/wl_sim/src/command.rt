@@ -1,14 +1,16 @@
 //! The command line.
-ghost use Rattle.std.specs.Prelude.{◌≡◌, ◌≢◌, ◌↔◌, map, string_bytes, codes, IfOk, IfErr, false, Some, option_and_then, option_map};
-ghost use Rattle.std.specs.Option.{option_map_or};
-ghost use Rattle.clap.specs.Words.{app_of, found_of, kind_of, new_app, rows_of, rule_of, subcommand_rows_of, with_rule};
+ghost use Rattle.std.specs.Prelude.{◌≡◌, ◌≢◌, ◌↔◌, map, string_bytes, codes, IfOk, IfErr, false, Some, option_map};
+ghost use Rattle.clap.specs.Words.{app_of, kind_of, new_app, rule_of, subcommand_rows_of, with_rule};
 ghost use Rattle.clap.specs.declared.builder.command.Command.TheViews.{out-Command};
-ghost use Rattle.wl_sim.specs.CommandLine.{untimed_program, program, Enters, FoundTask, NamedTask};
-ghost use Rattle.wl_sim.specs.CommandLine.{file_among, file_named, filed, flag_rule, input_rule, is_flagged, is_set, output_rule};
-ghost use Rattle.wl_sim.specs.CommandLine.{tick_among, tick_rule, HasTick, workers_among, workers_rule, HasWorkers};
-ghost use Rattle.wl_sim.specs.CommandLine.{link_among, link_rule, run_app, read_link, HasLink};
+ghost use Rattle.wl_sim.specs.CommandLine.{untimed_program, single_program, program, sweep_app, Enters, FoundTask, NamedTask};
+ghost use Rattle.wl_sim.specs.CommandLine.{file_in, has_flag, ranges_in};
+ghost use Rattle.wl_sim.specs.CommandLine.{filed, flag_rule, input_rule, link_rule, output_rule, run_app, tick_rule, workers_rule};
 ghost use Rattle.wl_sim.specs.Orders.{FindsOrder, ReadsOrder};
 
+use crate::sweep::{Swept, with_sweep_options};
+use crate::values::{
+    Values, file_of_subcommand, flag_of_subcommand, ranges_of_subcommand, values_of_subcommand,
+};
 use clap::error::ErrorKind;
 use clap::{Arg, ArgAction, ArgMatches, Command, Error, value_parser};
 use std::alloc::{AllocError, Global};
@@ -20,8 +22,8 @@ use wl_views::Tick;
 
 /// What the help says of the script that finds or makes a build.
 const SCRIPT: &str = "The script ./wireline hands its words to the program. It has two words more:
-  ./wireline sweep plan.toml ..  runs a plan over phases, clocks and values (./wireline sweep --help)
-  ./wireline build               proves and builds the program, once
+  ./wireline build              proves and builds the program, once
+  ./wireline completions SHELL  the completions of these words for bash, zsh or fish
 docs/first-hour.md leads from a data sheet to a report.";
 
 /// What the program is asked to do.
@@ -49,6 +51,8 @@ pub enum Task {
     Page(Tick),
     /// Whether a plan's bus works, and with how much to spare, at ticks that take so long.
     Margin(Tick),
+    /// How many members of a family of plans are clean, or one member as a plan.
+    Sweep(Swept),
 }
 
 /// What the words of the command line ask for.
@@ -62,8 +66,10 @@ pub struct Order {
     pub output: Option<Text>,
     /// After a fault a line says what to change.
     pub hint: bool,
-    /// A line each second says how long the run has taken.
+    /// Lines say how long the run has taken, or how far a sweep is.
     pub progress: bool,
+    /// The ranges of a sweep, in the order of the words.
+    pub ranges: Vec<String>,
 }
 
 /// Why no task could be read from the command line.
@@ -114,7 +120,7 @@ fn progress_option<'a>(alloc: Global) -> Arg<'a>
     Arg::new(alloc, "progress")
         .long("progress")
         .action(ArgAction::SetTrue)
-        .help("Says each second how long the run has taken")
+        .help("Says each second how long the run has taken, or of a sweep how far it is")
 }
 
 /// A subcommand with the arguments that each has.
@@ -242,9 +248,22 @@ fn untimed<'a>(alloc: Global) -> Result<Command<'a>, AllocError>
     Ok(all)
 }
 
-/// The whole command line: after those, the trace and the subcommands that have a tick.
-fn command<'a>(alloc: Global) -> Result<Command<'a>, AllocError>
-    ensures { IfOk result (λ all. app_of all ≡ program) }
+/// The subcommand `sweep`, with its options.
+fn sweep_command<'a>(alloc: Global) -> Result<Command<'a>, AllocError>
+    ensures app { IfOk result (λ sub. app_of sub ≡ sweep_app) }
+    ensures local { IfOk result (λ sub. (out-Command sub).has_globals ≡ false) }
+{
+    let sub = filed(
+        alloc,
+        "sweep",
+        "Simulates the plan over phases, clocks and values of keys, and writes how often the bus is clean",
+    )?;
+    with_sweep_options(alloc, sub)
+}
+
+/// The command line of single runs: after those, the trace and the subcommands that have a tick.
+fn without_sweep<'a>(alloc: Global) -> Result<Command<'a>, AllocError>
+    ensures { IfOk result (λ all. app_of all ≡ single_program) }
 {
     let trace = filed(
         alloc,
@@ -284,166 +303,36 @@ fn command<'a>(alloc: Global) -> Result<Command<'a>, AllocError>
     Ok(all)
 }
 
-/// The tick that a subcommand's option gives.
-#[tactic(auto, using(crate::proofs::Words::tick_text))]
-fn tick_in(matches: &ArgMatches) -> Option<Tick>
-    ensures { result ≡ tick_among (rows_of (found_of matches.now)) }
+/// The whole command line: after those, the sweep.
+fn command<'a>(alloc: Global) -> Result<Command<'a>, AllocError>
+    ensures { IfOk result (λ all. app_of all ≡ program) }
 {
-    match matches.get_str("tick") {
-        Some(text) => Tick::from_text(text.as_bytes()),
-        None => None,
-    }
+    let sweep = sweep_command(alloc)?;
+    let single = without_sweep(alloc)?;
+    let all = single.subcommand(sweep)?;
+    Ok(all)
 }
 
-/// The tick that the option of the subcommand gives, where it has one.
-fn tick_of_subcommand(matches: &ArgMatches) -> Option<Tick>
-    ensures { result ≡ option_and_then tick_among (option_map (λ p. p.1) (subcommand_rows_of matches.now)) }
-{
-    match matches.subcommand() {
-        Some((_, sub)) => tick_in(sub),
-        None => None,
-    }
-}
-
-/// The number of workers that a subcommand's option gives. Its range keeps out what is no number from 1 to 8.
-fn workers_in(matches: &ArgMatches) -> Option<u8>
-    ensures { result ≡ workers_among (rows_of (found_of matches.now)) }
-{
-    let text = matches.get_str("workers")?;
-    Some(text.parse().unwrap_or(0))
-}
-
-/// The number of workers that the option of the subcommand gives, where it has one.
-fn workers_of_subcommand(matches: &ArgMatches) -> Option<u8>
-    ensures { result ≡ option_and_then workers_among (option_map (λ p. p.1) (subcommand_rows_of matches.now)) }
-{
-    match matches.subcommand() {
-        Some((_, sub)) => workers_in(sub),
-        None => None,
-    }
-}
-
-/// The kind of link that a text names.
-fn link_named(text: &str) -> Option<LinkKind>
-    ensures { result ≡ read_link text.now }
-{
-    match text {
-        "hub" => Some(LinkKind::Hub),
-        "mail" => Some(LinkKind::Mail),
-        _ => None,
-    }
-}
-
-/// The kind of link that a subcommand's option gives.
-#[tactic(auto, using(crate::proofs::Words::link_text))]
-fn link_in(matches: &ArgMatches) -> Option<LinkKind>
-    ensures { result ≡ link_among (rows_of (found_of matches.now)) }
-{
-    match matches.get_str("link") {
-        Some(text) => link_named(text),
-        None => None,
-    }
-}
-
-/// The kind of link that the option of the subcommand gives, where it has one.
-fn link_of_subcommand(matches: &ArgMatches) -> Option<LinkKind>
-    ensures { result ≡ option_and_then link_among (option_map (λ p. p.1) (subcommand_rows_of matches.now)) }
-{
-    match matches.subcommand() {
-        Some((_, sub)) => link_in(sub),
-        None => None,
-    }
-}
-
-/// The file that a text names in the place of a standard stream, which `-` means.
-fn file_named(alloc: Global, text: &str) -> Result<Option<Text>, AllocError>
-    ensures { IfOk result (λ name. name ≡ file_named text.now) }
-{
-    match text {
-        "-" => Ok(None),
-        _ => Ok(Some(Text::new(alloc, text)?)),
-    }
-}
-
-/// The file that an argument of a subcommand names.
-#[tactic(auto, using(crate::proofs::Words::file_text))]
-fn file_in(alloc: Global, matches: &ArgMatches, id: &str) -> Result<Option<Text>, AllocError>
-    ensures { IfOk result (λ name. name ≡ file_among id.now (rows_of (found_of matches.now))) }
-{
-    match matches.get_str(id) {
-        Some(text) => file_named(alloc, text),
-        None => Ok(None),
-    }
-}
-
-/// The file that an argument of the subcommand names, where it has one.
-fn file_of_subcommand(
-    alloc: Global,
-    matches: &ArgMatches,
-    id: &str,
-) -> Result<Option<Text>, AllocError>
-    ensures { IfOk result (λ name. name
-        ≡ option_and_then (file_among id.now) (option_map (λ p. p.1) (subcommand_rows_of matches.now))) }
-{
-    match matches.subcommand() {
-        Some((_, sub)) => file_in(alloc, sub, id),
-        None => Ok(None),
-    }
-}
-
-/// Whether a flag is set, by its text.
-fn is_set(text: &str) -> bool
-    ensures { result ≡ is_set text.now }
-{
-    match text {
-        "true" => true,
-        _ => false,
-    }
-}
-
-/// Whether a flag of a subcommand is set.
-#[tactic(auto, using(crate::proofs::Words::flag_text))]
-fn flag_in(matches: &ArgMatches, id: &str) -> bool
-    ensures { result ≡ is_flagged id.now (rows_of (found_of matches.now)) }
-{
-    match matches.get_str(id) {
-        Some(text) => is_set(text),
-        None => false,
-    }
-}
-
-/// Whether a flag of the subcommand is set, where it has one.
-fn flag_of_subcommand(matches: &ArgMatches, id: &str) -> bool
-    ensures { result ≡ option_map_or (λ p. is_flagged id.now p.1) (subcommand_rows_of matches.now) false }
-{
-    match matches.subcommand() {
-        Some((_, sub)) => flag_in(sub, id),
-        None => false,
-    }
-}
-
-/// The task of a subcommand, by its name, and by its tick, or its workers and their link, where it has them.
-fn task_named(
-    name: Option<&str>,
-    tick: Option<Tick>,
-    workers: Option<u8>,
-    link: Option<LinkKind>,
-) -> Option<Task>
-    ensures { (task : Task) → (result ≡ Some task)
-        ↔ NamedTask (option_map (λ s. s.now) name.entry) tick workers link task }
+/// The task of a subcommand, by its name and the values of its options.
+fn task_named(name: Option<&str>, values: Option<Values>) -> Option<Task>
+    ensures { (task : Task) → (result ≡ Some task) ↔ NamedTask (option_map (λ s. s.now) name.entry) values task }
 {
     match name? {
         "merge" => Some(Task::Merge),
         "horizon" => Some(Task::Horizon),
         "check" => Some(Task::Check),
         "records" => Some(Task::Records),
-        "run" => Some(Task::Run(workers?, link?)),
+        "run" => {
+            let values = values?;
+            Some(Task::Run(values.workers?, values.link?))
+        }
         "explain" => Some(Task::Explain),
         "trace" => Some(Task::Trace),
-        "candump" => Some(Task::Candump(tick?)),
-        "vcd" => Some(Task::Vcd(tick?)),
-        "page" => Some(Task::Page(tick?)),
-        "margin" => Some(Task::Margin(tick?)),
+        "candump" => Some(Task::Candump(values?.tick?)),
+        "vcd" => Some(Task::Vcd(values?.tick?)),
+        "page" => Some(Task::Page(values?.tick?)),
+        "margin" => Some(Task::Margin(values?.tick?)),
+        "sweep" => Some(Task::Sweep(values?.swept?)),
         _ => None,
     }
 }
@@ -452,10 +341,30 @@ fn task_named(
 fn task_in(matches: &ArgMatches) -> Option<Task>
     ensures { (task : Task) → (result ≡ Some task) ↔ FoundTask (subcommand_rows_of matches.now) task }
 {
-    let tick = tick_of_subcommand(matches);
-    let workers = workers_of_subcommand(matches);
-    let link = link_of_subcommand(matches);
-    task_named(matches.subcommand_name(), tick, workers, link)
+    let values = values_of_subcommand(matches);
+    task_named(matches.subcommand_name(), values)
+}
+
+/// What is asked for beside a task, by the words of the subcommand.
+fn order_for(alloc: Global, matches: &ArgMatches, task: Task) -> Result<Order, AllocError>
+    ensures task { IfOk result (λ order. order.task ≡ task) }
+    ensures input { IfOk result (λ order. order.input ≡ file_in (codes "input") (subcommand_rows_of matches.now)) }
+    ensures output { IfOk result (λ order. order.output ≡ file_in (codes "output") (subcommand_rows_of matches.now)) }
+    ensures hint { IfOk result (λ order. order.hint ≡ has_flag (codes "hint") (subcommand_rows_of matches.now)) }
+    ensures progress { IfOk result (λ order. order.progress ≡ has_flag (codes "progress") (subcommand_rows_of matches.now)) }
+    ensures ranges { IfOk result (λ order. map string_bytes order.ranges.items ≡ ranges_in (subcommand_rows_of matches.now)) }
+{
+    let input = file_of_subcommand(alloc, matches, "input")?;
+    let output = file_of_subcommand(alloc, matches, "output")?;
+    let ranges = ranges_of_subcommand(alloc, matches)?;
+    Ok(Order {
+        task,
+        input,
+        output,
+        hint: flag_of_subcommand(matches, "hint"),
+        progress: flag_of_subcommand(matches, "progress"),
+        ranges,
+    })
 }
 
 /// What these words ask for, the program's own name first; an error that isn't out of memory is what clap says to them.
@@ -465,18 +374,11 @@ fn order_of(alloc: Global, words: &[String]) -> Result<Option<Order>, Error>
         → kind_of e ≡ ErrorKind.OutOfMemory) }
 {
     let matches = command(alloc)?.try_get_matches_from(words)?;
-    let input = file_of_subcommand(alloc, &matches, "input")?;
-    let output = file_of_subcommand(alloc, &matches, "output")?;
-    let hint = flag_of_subcommand(&matches, "hint");
-    let progress = flag_of_subcommand(&matches, "progress");
     match task_in(&matches) {
-        Some(task) => Ok(Some(Order {
-            task,
-            input,
-            output,
-            hint,
-            progress,
-        })),
+        Some(task) => {
+            let order = order_for(alloc, &matches, task)?;
+            Ok(Some(order))
+        }
         None => Ok(None),
     }
 }

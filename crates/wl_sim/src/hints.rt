@@ -1,5 +1,6 @@
 //! What is said on standard error of a run that ended with a fault. None of it is said by a clause.
 
+use crate::answer::Fault;
 use crate::command::Order;
 use std::alloc::{AllocError, Global};
 use wl_device::read_up_to;
@@ -10,6 +11,7 @@ use wl_hint::{
 };
 use wl_record::TextFault;
 use wl_setup::{SetupFault, Text};
+use wl_sweep_engine::{RangeFault, SweepFault};
 
 /// The most bytes of an input that a hint is made from.
 const MOST_HINTED: usize = 1 << 20;
@@ -91,19 +93,96 @@ fn say_hint<F: Folder>(
     }
 }
 
-/// Says the fault of a run in one line; in a second one the file that couldn't be read or written; and where the order asks for it a hint.
-pub fn say_fault<F: Folder>(
+/// What to change of a range that a plan doesn't allow.
+fn range_advice(fault: RangeFault) -> &'static str {
+    match fault {
+        RangeFault::Form =>
+            "Write it as [NODE.]KEY=A..B or [NODE.]KEY=A..B:STEP, with whole numbers.",
+        RangeFault::Key => "Name a key whose value is a number, as `x`, `sjw`, `ppm` or `end`.",
+        RangeFault::Node => {
+            "Name a node by its name or its number, from 0; `end` and `per` belong to none."
+        }
+        RangeFault::Absent => {
+            "Name a key that the nodes have: `quantum` and `ppm`, or `num` and `den`."
+        }
+        RangeFault::Bounds => "Keep to values that a plan may have at this key.",
+        RangeFault::Order => "Put the lesser value first.",
+        RangeFault::Step => "Give a step above 0.",
+        RangeFault::Rows => "Take a greater step or a shorter range: at most 10,000 values.",
+        RangeFault::Memory => FREE_MEMORY,
+    }
+}
+
+/// What to change of the words of a sweep that a plan doesn't allow.
+fn word_advice(fault: &SweepFault) -> &'static str {
+    match fault {
+        SweepFault::Range(_, fault) => range_advice(*fault),
+        SweepFault::Rows => {
+            "Take greater steps or fewer ranges: at most 10,000 rows in all, one for each choice of a value from each."
+        }
+        SweepFault::Member =>
+            "Give a number that the sweep's text has, or one below its count of runs.",
+        SweepFault::Runs => "Give a number of runs above 0.",
+        SweepFault::Step => "Give a step above 0.",
+        SweepFault::Workers => "Give 1 to 8 workers.",
+        SweepFault::Setup(_) | SweepFault::Write | SweepFault::Memory => FREE_MEMORY,
+    }
+}
+
+/// The range of an order that a fault is about.
+fn range_of<'a>(order: &'a Order, fault: &SweepFault) -> Option<&'a String> {
+    match fault {
+        SweepFault::Range(i, _) => order.ranges.get(*i),
+        _ => None,
+    }
+}
+
+/// Says what to change of the words of a sweep.
+fn say_of_word(rt: &impl Eprint, alloc: Global, order: &Order, fault: &SweepFault) {
+    let advice = word_advice(fault);
+    match range_of(order, fault) {
+        Some(word) => {
+            if let Ok(word) = Text::new(alloc, word.as_str()) {
+                let _ = eprintln!(rt; "hint: --vary {word}: {advice}");
+            }
+        }
+        None => {
+            let _ = eprintln!(rt; "hint: {advice}");
+        }
+    }
+}
+
+/// Says beside the fault of a run the file that couldn't be read or written, and where the order asks for it a hint.
+fn say_of_run<F: Folder>(
     rt: &impl Eprint,
     alloc: Global,
     order: &Order,
     fault: &RunFault,
     folder: &F,
 ) {
-    let _ = eprintln!(rt; "fault: {fault}");
     if let Some(name) = file_of(order, fault) {
         let _ = eprintln!(rt; "file: {name}");
     }
     if order.hint {
         say_hint(rt, alloc, order, fault, folder);
+    }
+}
+
+/// Says a fault in one line; in a second one the file that couldn't be read or written; and where the order asks for it a hint.
+pub fn say_fault<F: Folder>(
+    rt: &impl Eprint,
+    alloc: Global,
+    order: &Order,
+    fault: &Fault,
+    folder: &F,
+) {
+    let _ = eprintln!(rt; "fault: {fault}");
+    match fault {
+        Fault::Run(fault) => say_of_run(rt, alloc, order, fault, folder),
+        Fault::Word(fault) => {
+            if order.hint {
+                say_of_word(rt, alloc, order, fault);
+            }
+        }
     }
 }

@@ -7,34 +7,41 @@
 //! `candump`, `vcd` and `page` read a plan text too: the first writes the frames that were sent as can-utils logs them, the second the
 //! waveform, the third one page of HTML that shows all of it. `margin` writes whether the plan's bus works, and with how much to spare.
 //! `explain` writes what is doubtful of a plan, and the figures of its nodes, or what is wrong with a plan that is refused; `trace` what
-//! happened to each node, and where.
+//! happened to each node, and where; `sweep` how many members of a family of plans are clean.
 #![tactic(auto)]
 
-ghost use Rattle.std.specs.Prelude.{◌≡◌, ◌≢◌, map, string_bytes, IfOk, IfErr, Err, option_map};
+ghost use Rattle.std.specs.Prelude.{◌≡◌, ◌≢◌, ◌≤◌, map, string_bytes, IfOk, IfErr, Err, option_map};
 ghost use Rattle.std.specs.IoError.{error_kind};
 ghost use Rattle.std.specs.Process.{exit_status};
 ghost use Rattle.wl_sim.specs.declared.command.Task.{Task};
 ghost use Rattle.wl_files.specs.Files.{Keeps};
 ghost use Rattle.wl_sim.specs.CommandLine.{NamesTask};
 ghost use Rattle.wl_sim.specs.Orders.{Ends, EndsPlainly, MovesFile, Performs, RunsWords, WritesTo};
-ghost use Rattle.wl_sim.specs.Tasks.{Does, run_status, refusal_status};
+ghost use Rattle.wl_sim.specs.Tasks.{Does, DoesSweep, IsCount, run_status, refusal_status};
 
 use std::alloc::Global;
-use std::io;
 use std::io::ErrorKind;
 use std::process::ExitCode;
 use std::sync::Wait;
 use std::thread::Threads;
 use std::time::Clock;
+use std::{io, thread};
 use wl_device::{Host, Sink, Source};
 use wl_files::{BeginFault, Folder, SystemFolder};
 use wl_setup::{SetupFault, Text};
+use wl_sweep_engine::{Workers, print_run, sweep_run};
 
+mod answer;
 mod command;
 mod hints;
 mod progress;
+mod sweep;
+mod values;
 
+use crate::answer::{of_print, of_tally, plainly};
+pub use answer::{Done, Fault};
 pub use command::{Order, Refusal, Task};
+pub use sweep::Swept;
 pub use wl_engines::{
     LinkKind, RunFault, candump_run, check_run, explain_run, horizon_run, margin_run, merge_run,
     merges_as_one, page_run, plan_run, records_run, trace_run, vcd_run, workers_run,
@@ -44,9 +51,23 @@ pub use wl_engines::{
 /// The statuses that the program ends with beside 0.
 const REFUSED_INPUT: u8 = 1;
 
+const UNCLEAN_SWEEP: u8 = 1;
+
 const REFUSED_COMMAND: u8 = 2;
 
 const BROKEN: u8 = 3;
+
+/// The most threads of a sweep.
+const MOST_THREADS: u8 = 8;
+
+/// What is done: a task, over the ranges of a sweep.
+#[derive(Clone, Copy)]
+struct Work<'a> {
+    task: Task,
+    ranges: &'a [String],
+    /// Whether a sweep says on standard error how far it is.
+    progress: bool,
+}
 
 /// Hands the words of the command line, standard input, standard output and the system's files to `run_words`, whose answer is the program's
 /// status. That these are handed on, and that the answer is the status, is said by no clause: none can speak of a program's devices.
@@ -118,50 +139,55 @@ fn run_words<
 
 /// Does the task of an order over the file to read that the order names, or over the reader where it names none. A file that can't be
 /// opened is answered as a reader that fails.
-fn perform<H: Threads + Wait + Sync, R: Source, W: Sink, F: Folder>(
+fn perform<H: Threads + Wait + Sync + Eprint, R: Source, W: Sink, F: Folder>(
     rt: &H,
     alloc: Global,
     order: &Order,
     reader: &mut R,
     writer: &mut W,
     folder: &mut F,
-) -> Result<(), RunFault>
+) -> Result<Done, Fault>
     ensures { Performs R.gives W.takes F.Reader.gives F.Writer.takes F.opens F.stands F.holds
         reader.old reader.new writer.old writer.new folder.old folder.new order.now result }
 {
-    let (task, output) = (order.task, order.output.as_ref());
+    let work = Work {
+        task: order.task,
+        ranges: order.ranges.as_slice(),
+        progress: order.progress,
+    };
+    let output = order.output.as_ref();
     match &order.input {
-        None => write_to(rt, alloc, task, output, reader, writer, folder),
+        None => write_to(rt, alloc, work, output, reader, writer, folder),
         Some(name) => match folder.open(name.as_str()) {
-            Ok(mut file) => write_to(rt, alloc, task, output, &mut file, writer, folder),
-            Err(_) => Err(RunFault::Setup(SetupFault::Read)),
+            Ok(mut file) => write_to(rt, alloc, work, output, &mut file, writer, folder),
+            Err(_) => Err(Fault::Run(RunFault::Setup(SetupFault::Read))),
         },
     }
 }
 
 /// Does a task over a new file for its output, or over the writer where no file is named. Where the task is done the file is moved to
 /// its name; else it is given up, and what was at its name stays.
-fn write_to<H: Threads + Wait + Sync, R: Source, W: Sink, F: Folder>(
+fn write_to<H: Threads + Wait + Sync + Eprint, R: Source, W: Sink, F: Folder>(
     rt: &H,
     alloc: Global,
-    task: Task,
+    work: Work,
     output: Option<&Text>,
     reader: &mut R,
     writer: &mut W,
     folder: &mut F,
-) -> Result<(), RunFault>
-    ensures { WritesTo R.gives W.takes F.Writer.takes F.stands F.holds
-        reader.old reader.new writer.old writer.new folder.old folder.new task (option_map (λ n. n.now) output.entry) result }
+) -> Result<Done, Fault>
+    ensures { WritesTo R.gives W.takes F.Writer.takes F.stands F.holds reader.old reader.new writer.old writer.new
+        folder.old folder.new work.entry.task (map string_bytes work.entry.ranges.now) (option_map (λ n. n.now) output.entry) result }
 {
     match output {
-        None => run(rt, alloc, task, reader, writer),
+        None => run(rt, alloc, work, reader, writer),
         Some(name) => match folder.begin(alloc, name.as_str()) {
             Ok(mut file) => {
-                let answer = run(rt, alloc, task, reader, &mut file);
+                let answer = run(rt, alloc, work, reader, &mut file);
                 finish(folder, file, name.as_str(), answer)
             }
-            Err(BeginFault::Refused) => Err(RunFault::Write),
-            Err(BeginFault::Memory) => Err(RunFault::Memory),
+            Err(BeginFault::Refused) => Err(Fault::Run(RunFault::Write)),
+            Err(BeginFault::Memory) => Err(Fault::Run(RunFault::Memory)),
         },
     }
 }
@@ -171,16 +197,16 @@ fn finish<F: Folder>(
     folder: &mut F,
     file: F::Writer,
     name: &str,
-    answer: Result<(), RunFault>,
-) -> Result<(), RunFault>
+    answer: Result<Done, Fault>,
+) -> Result<Done, Fault>
     ensures { MovesFile F.stands F.holds folder.old folder.new name.now file answer result }
 {
     match answer {
-        Ok(()) => {
+        Ok(done) => {
             if folder.place(file, name) {
-                Ok(())
+                Ok(done)
             } else {
-                Err(RunFault::Write)
+                Err(Fault::Run(RunFault::Write))
             }
         }
         Err(fault) => {
@@ -209,45 +235,105 @@ fn unread(error: &io::Error) -> Refusal
     }
 }
 
-/// Runs the engine of a task. It may wait where that is a run by several workers.
-fn run<H: Threads + Wait + Sync, R: Source, W: Sink>(
+/// How many threads a sweep is to have where no number is said: as many as there are processors, 1 to 8.
+fn threads_here<H: Threads>(rt: &H) -> u8
+    ensures least { 1 ≤ result }
+    ensures most { result ≤ 8 }
+{
+    match thread::available_parallelism(rt) {
+        Ok(processors) => u8::try_from(processors.get())
+            .unwrap_or(MOST_THREADS)
+            .clamp(1, MOST_THREADS),
+        Err(_) => 1,
+    }
+}
+
+/// How many threads a sweep has.
+fn thread_count<H: Threads>(rt: &H, said: Option<u8>) -> u8
+    ensures { IsCount said result }
+{
+    match said {
+        Some(count) => count,
+        None => threads_here(rt),
+    }
+}
+
+/// Runs a sweep, or writes one of its members.
+fn run_sweep<H: Threads + Sync + Eprint, R: Source, W: Sink>(
     rt: &H,
     alloc: Global,
-    task: Task,
+    swept: Swept,
+    work: Work,
     reader: &mut R,
     writer: &mut W,
-) -> Result<(), RunFault>
-    ensures { Does R.gives W.takes reader.old reader.new writer.old writer.new task result }
+) -> Result<Done, Fault>
+    ensures { DoesSweep R.gives W.takes reader.old reader.new writer.old writer.new
+        swept (map string_bytes work.entry.ranges.now) swept.print result }
 {
-    match task {
-        Task::Merge => merge_run(alloc, reader, writer),
-        Task::Horizon => horizon_run(alloc, reader, writer),
-        Task::Check => check_run(alloc, reader, writer),
-        Task::Records => records_run(alloc, reader, writer),
-        Task::Run(1, _) => plan_run(alloc, reader, writer),
-        Task::Run(workers, kind) => workers_run_by(rt, alloc, workers, kind, reader, writer),
-        Task::Explain => explain_run(alloc, reader, writer),
-        Task::Trace => trace_run(alloc, reader, writer),
-        Task::Candump(tick) => candump_run(alloc, tick, reader, writer),
-        Task::Vcd(tick) => vcd_run(alloc, tick, reader, writer),
-        Task::Page(tick) => page_run(alloc, tick, reader, writer),
-        Task::Margin(tick) => margin_run(alloc, tick, reader, writer),
+    match swept.print {
+        Some(number) => of_print(print_run(
+            alloc,
+            work.ranges,
+            swept.asked,
+            number,
+            reader,
+            writer,
+        )),
+        None => {
+            let workers = Workers {
+                count: thread_count(rt, swept.workers),
+                progress: work.progress,
+            };
+            of_tally(sweep_run(rt, alloc, work.ranges, swept.asked, workers, reader, writer))
+        }
+    }
+}
+
+/// Runs the engine of a task. It may wait where that is a run by several workers.
+fn run<H: Threads + Wait + Sync + Eprint, R: Source, W: Sink>(
+    rt: &H,
+    alloc: Global,
+    work: Work,
+    reader: &mut R,
+    writer: &mut W,
+) -> Result<Done, Fault>
+    ensures { Does R.gives W.takes reader.old reader.new writer.old writer.new
+        work.entry.task (map string_bytes work.entry.ranges.now) result }
+{
+    match work.task {
+        Task::Merge => plainly(merge_run(alloc, reader, writer)),
+        Task::Horizon => plainly(horizon_run(alloc, reader, writer)),
+        Task::Check => plainly(check_run(alloc, reader, writer)),
+        Task::Records => plainly(records_run(alloc, reader, writer)),
+        Task::Run(1, _) => plainly(plan_run(alloc, reader, writer)),
+        Task::Run(workers, kind) => {
+            plainly(workers_run_by(rt, alloc, workers, kind, reader, writer))
+        }
+        Task::Explain => plainly(explain_run(alloc, reader, writer)),
+        Task::Trace => plainly(trace_run(alloc, reader, writer)),
+        Task::Candump(tick) => plainly(candump_run(alloc, tick, reader, writer)),
+        Task::Vcd(tick) => plainly(vcd_run(alloc, tick, reader, writer)),
+        Task::Page(tick) => plainly(page_run(alloc, tick, reader, writer)),
+        Task::Margin(tick) => plainly(margin_run(alloc, tick, reader, writer)),
+        Task::Sweep(swept) => run_sweep(rt, alloc, swept, work, reader, writer),
     }
 }
 
 /// The status of a run.
-fn status_of(answer: &Result<(), RunFault>) -> ExitCode
+fn status_of(answer: &Result<Done, Fault>) -> ExitCode
     ensures { exit_status result ≡ run_status answer.now }
 {
     match answer {
-        Ok(()) => ExitCode::SUCCESS,
-        Err(fault) => {
+        Ok(Done::Plain) => ExitCode::SUCCESS,
+        Ok(Done::Unclean) => ExitCode::from(UNCLEAN_SWEEP),
+        Err(Fault::Run(fault)) => {
             if fault.is_refusal() {
                 ExitCode::from(REFUSED_INPUT)
             } else {
                 ExitCode::from(BROKEN)
             }
         }
+        Err(Fault::Word(_)) => ExitCode::from(REFUSED_COMMAND),
     }
 }
 

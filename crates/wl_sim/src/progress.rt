@@ -1,6 +1,6 @@
 //! Lines on standard error while a run takes long. No clause says any of it.
 
-use crate::command::Order;
+use crate::command::{Order, Task};
 use std::alloc::{AllocError, Global};
 use std::sync::atomic::{AtomicBool, Ordering};
 use std::sync::{Arc, Wait};
@@ -59,16 +59,16 @@ fn start<H: Eprint + Threads + Wait + Clock + Clone + Drop + Send + 'static>(
     Ok(Ticker { run, thread })
 }
 
-/// Begins to say how long a run takes, where the order asks for that, and a thread can be made.
+/// Begins to say how long a run takes, where the order asks for that, and a thread can be made. A sweep says itself how far it is.
 pub fn begin<H: Eprint + Threads + Wait + Clock + Clone + Drop + Send + 'static>(
     rt: &H,
     alloc: Global,
     order: &Order,
 ) -> Option<Ticker> {
-    if order.progress {
-        start(rt, alloc).ok()
-    } else {
-        None
+    match order.task {
+        Task::Sweep(_) => None,
+        _ if order.progress => start(rt, alloc).ok(),
+        _ => None,
     }
 }
 

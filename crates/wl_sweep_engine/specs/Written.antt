@@ -1,5 +1,5 @@
 -- A plan text as TOML, key by key (this project's profile; the keys are those of a plan's text).
-use Rattle.std.specs.Prelude.{ℕ, ◌/◌, ◌%◌, ◌==◌, Bool, true, false, List, [], ◌∷◌, ◌++◌, codes, if◌then◌else◌}
+use Rattle.std.specs.Prelude.{ℕ, ◌/◌, ◌%◌, ◌==◌, Bool, true, false, List, [], ◌∷◌, ◌++◌, codes, Option, Some, None, if◌then◌else◌}
 use Rattle.std.specs.List.{flat_map}
 use Rattle.std.specs.Fmt.{decimal, digits, digit_glyph, signed_decimal}
 use Rattle.wl_segments.specs.declared.SyncRules.{SyncRules}
@@ -56,6 +56,11 @@ unfoldable pub place_lines : NodeText → List ℕ
 place_lines n =
     codes "x = " ++ decimal n.x ++ codes "\nout = " ++ decimal n.out_delay ++ codes "\nin = " ++ decimal n.in_delay ++ codes "\n"
 
+-- a tolerance, if the node has one
+unfoldable pub tolerance_line : Option ℕ → List ℕ
+tolerance_line None = []
+tolerance_line (Some ppm) = codes "tolerance = " ++ decimal ppm ++ codes "\n"
+
 -- a byte in two hexadecimal digits
 abbrev pub byte_words : ℕ → List ℕ
 byte_words byte = codes "0x" ++ digit_glyph false (byte / 16) ∷ digit_glyph false (byte % 16) ∷ []
@@ -87,7 +92,7 @@ name_lines n = codes "name = \"" ++ n.name ++ codes "\"\noffset = " ++ decimal n
 abbrev pub node_lines : ℕ → NodeText → List ℕ
 node_lines version n =
     header_line (codes "node") ++ name_lines n ++ own_clock_lines version n.rates ++ segment_lines n ++ place_lines n
-    ++ rate_tables version n.rates ++ flat_map frame_lines n.frame
+    ++ tolerance_line n.tolerance ++ rate_tables version n.rates ++ flat_map frame_lines n.frame
 
 unfoldable pub interval_lines : DisturbanceText → List ℕ
 interval_lines d = codes "x = " ++ decimal d.x ++ codes "\nfrom = " ++ decimal d.from ++ codes "\nto = " ++ decimal d.to ++ codes "\n"

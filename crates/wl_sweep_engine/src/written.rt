@@ -2,7 +2,7 @@
 ghost use Rattle.std.specs.Prelude.{◌≡◌, OnOk};
 ghost use Rattle.std.specs.List.{flat_map};
 ghost use Rattle.wl_report.specs.Lines.{GrowsBy};
-ghost use Rattle.wl_sweep_engine.specs.Written.{byte_words, clock_lines, data_line, disturbance_lines, flag_line, frame_keys, frame_lines, from_line, header_line, interval_lines, later_words, name_lines, node_lines, own_clock_lines, place_lines, plan_words, rate_clock_lines, rate_lines, rate_tables, segment_lines, sync_word, top_lines};
+ghost use Rattle.wl_sweep_engine.specs.Written.{byte_words, clock_lines, data_line, disturbance_lines, flag_line, frame_keys, frame_lines, from_line, header_line, interval_lines, later_words, name_lines, node_lines, own_clock_lines, place_lines, plan_words, rate_clock_lines, rate_lines, rate_tables, segment_lines, sync_word, tolerance_line, top_lines};
 
 use std::alloc::AllocError;
 use wl_segments::SyncRules;
@@ -106,6 +106,17 @@ fn push_place(text: &mut String, node: &NodeText) -> Result<(), AllocError>
 {
     let (x, out, into) = (node.x, node.out_delay, node.in_delay);
     write!(text, "x = {x}\nout = {out}\nin = {into}\n")
+}
+
+/// Adds the key of a node's tolerance, if it has one.
+#[tactic(auto, unfolding(crate::specs::Written::tolerance_line))]
+fn push_tolerance(text: &mut String, tolerance: Option<u32>) -> Result<(), AllocError>
+    ensures { OnOk result (GrowsBy text.old text.new (tolerance_line tolerance)) }
+{
+    match tolerance {
+        Some(ppm) => write!(text, "tolerance = {ppm}\n"),
+        None => Ok(()),
+    }
 }
 
 /// Adds a byte in two hexadecimal digits.
@@ -232,6 +243,7 @@ fn push_node(text: &mut String, version: u64, node: &NodeText) -> Result<(), All
     push_own_clocks(text, version, node.rates.as_slice())?;
     push_segments(text, node)?;
     push_place(text, node)?;
+    push_tolerance(text, node.tolerance)?;
     push_rate_tables(text, version, node.rates.as_slice())?;
     push_frames(text, node.frame.as_slice())
 }

@@ -1,7 +1,7 @@
 use Rattle.std.proofs.Common.{◌≡◌, ◌∙◌, ap, sym, subst, map, codes, string_bytes, List, Option, Some, None}
 use Rattle.clap.specs.Words.{App, Text, fault_of, is_simple, is_simple_and_free, subcommand_of}
 use Rattle.clap.proofs.TakesLemmas.{passed_up}
-use Rattle.wl_sim.specs.CommandLine.{FoundTask, file_in, has_flag}
+use Rattle.wl_sim.specs.CommandLine.{Enters, FoundTask, file_in, has_flag, ranges_in}
 use Rattle.wl_sim.specs.declared.command.Task.{Task}
 use Rattle.wl_sim.proofs.Words.{memory_alone, program_is_free, program_is_simple}
 use Rattle.wl_sim.proofs.command.order_of.Goals as goal
@@ -12,12 +12,14 @@ returns-in-Some-clause-order c =
     let is = c.in_ok-command.ensures in
     let rows = (c.in_ok-matches.ensures.matches (ap is_simple is ∙ program_is_simple)).1 ∙ ap (λ (a : App). subcommand_of a words) is in
     let clean = ap (λ (a : App). fault_of a words) (sym is) ∙ c.in_ok-matches.ensures.kinds (ap is_simple_and_free is ∙ program_is_free) in
-    let found = (c.task_in.ensures c.in-Some.task).0 c.in-Some.is in (
-      (subst (λ o. FoundTask o c.in-Some.task) rows found, clean),
-      c.in_ok-input.ensures ∙ ap (file_in (codes "input")) rows,
-      c.in_ok-output.ensures ∙ ap (file_in (codes "output")) rows,
-      c.flag_of_subcommand-hint.ensures ∙ ap (has_flag (codes "hint")) rows,
-      c.flag_of_subcommand-progress.ensures ∙ ap (has_flag (codes "progress")) rows,
+    let found = (c.task_in.ensures c.in-Some.task).0 c.in-Some.is in
+    let enters : Enters c.in-Some.task words = (subst (λ o. FoundTask o c.in-Some.task) rows found, clean) in (
+      subst (λ t. Enters t words) (sym c.in_ok-order-in-Some.ensures.task) enters,
+      c.in_ok-order-in-Some.ensures.input ∙ ap (file_in (codes "input")) rows,
+      c.in_ok-order-in-Some.ensures.output ∙ ap (file_in (codes "output")) rows,
+      c.in_ok-order-in-Some.ensures.hint ∙ ap (has_flag (codes "hint")) rows,
+      c.in_ok-order-in-Some.ensures.progress ∙ ap (has_flag (codes "progress")) rows,
+      c.in_ok-order-in-Some.ensures.ranges ∙ ap ranges_in rows,
     )
 
 none_is_some : {A : Type 0} (o : Option A) (x : A) → o ≡ None → o ≡ Some x → ⊥

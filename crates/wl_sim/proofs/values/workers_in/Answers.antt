@@ -3,7 +3,7 @@ use Rattle.clap.specs.Words.{found_of}
 use Rattle.clap.specs.Walk.{byte_or_zero}
 use Rattle.clap.proofs.WalkLemmas.{byte_read}
 use Rattle.wl_sim.proofs.Words.{workers_text}
-use Rattle.wl_sim.proofs.command.workers_in.Goals as goal
+use Rattle.wl_sim.proofs.values.workers_in.Goals as goal
 
 pub returns : goal.returns
 returns c =

@@ -1,0 +1,135 @@
+# Sweeps, of .ci/program.sh: known answers, what is refused, and what stands at the named place.
+swept() { # swept NAME INPUT STATUS LINES STDERR WORDS..: the first lines of standard output; '-' where standard error is not compared
+  local name=$1 input=$2 status=$3 lines=$4 err=$5 ended=0
+  shift 5
+  timeout 300 "$program" sweep "$@" < "$input" > "$room/out" 2> "$room/err" || ended=$?
+  is "sweep $name (status $ended, wanted $status)" [ "$ended" = "$status" ]
+  is "sweep $name: $(head -2 "$room/out" | tr '\n' '/')" cmp -s <(head -n "$(printf '%b' "$lines" | wc -l)" "$room/out") <(printf '%b' "$lines")
+  [ "$err" = - ] || is "sweep $name (standard error: $(head -c 200 "$room/err"))" cmp -s "$room/err" <(printf '%b' "$err")
+}
+refused() { # refused NAME INPUT STATUS STDERR WORDS..: nothing on standard output
+  local name=$1 input=$2 status=$3 err=$4
+  shift 4
+  swept "$name" "$input" "$status" '' "$err" "$@"
+  is "sweep $name writes nothing" [ ! -s "$room/out" ]
+}
+long=examples/cable_too_long.toml
+
+# Each example that is called clean, at some of its phases; by each number of threads the same text
+for name in clean_500k canopen_125k drifting_listener j1939_250k one_megabit_25m priorities sampled_late_500k sixteen_nodes; do
+  swept "$name" "examples/$name.toml" 0 'clean in 40 of 40\n' '' --runs 40
+done
+"$program" sweep --runs 700 < "$long" > "$room/wanted" 2> /dev/null
+for workers in 1 2 3 8; do
+  "$program" sweep --runs 700 --workers "$workers" < "$long" > "$room/out" 2> "$room/err"
+  is "a sweep by $workers threads" [ $? = 1 -a ! -s "$room/err" ] && is "its text by $workers threads" cmp -s "$room/out" "$room/wanted"
+done
+# By hand: perfect clocks, a bit of 16 quanta, five offsets a quantum; the start of frame comes in the quantum of the listener's sample at one
+# quantum's offsets, five of 80.
+node='quantum = 125\nppm = 0\nprop = 6\nps1 = 7\nps2 = 2\nsjw = 1\nout = 40\nin = 40\noffset = 0\n'
+printf '%b' "version = 1\nend = 400_000\nper = 5\n[[node]]\nname = 'a'\nx = 0\n${node}frame = [{ id = 0x0F1, dlc = 0, ready = 480 }]\n" \
+  "[[node]]\nname = 'b'\nx = 5\n$node" > "$room/pair"
+swept 'a pair' "$room/pair" 1 'clean in 75 of 80\nall 80 members were run\n' ''
+first=$(sed -n "s/^first that isn't: member \([0-9]*\),.*/\1/p" "$room/out")
+"$program" sweep --print "${first:-none}" "$room/pair" > "$room/first" 2> "$room/err"
+is "the first member that isn't clean is a plan (member $first: $(head -1 "$room/err"))" [ "$("$program" run "$room/first" 2>&1 | tail -1 | cut -d' ' -f1,2)" = 'verdict faulty' ]
+"$program" sweep --print 0 "$room/pair" | "$program" run > "$room/out" 2>&1
+is 'member 0 is the plan' cmp -s "$room/out" <("$program" run "$room/pair")
+swept 'a step' "$room/pair" 1 'clean in 15 of 16\n' '' --step 125
+swept 'a random part' "$room/pair" 1 '' '' --runs 20 --seed 7 && is 'how much of it' grep -qx '20 of 80 members were run, drawn by seed 7' "$room/out"
+# Version 2. By hand: clocks that deviate alike stay in step, whichever sign they have; of two that are 10 % apart the listener is 8 of 16 quanta
+# off after five bits without an edge, and jumps by 1. The second rates alone deviate, so two of four choices of their signs are clean.
+rates='rates = [{ from = 0, quantum = 125, ppm = 0 }, { from = 320, quantum = 125, ppm = 50_000 }]'
+sed "s/^version = 1/version = 2/;/^ppm/d;s/^quantum = .*/$rates/" "$room/pair" > "$room/rates"
+swept 'signs of rates' "$room/rates" 1 'clean in 2 of 4\n' '' --keep-offsets
+swept 'a key of rates' "$room/rates" 1 'b.ppm -50000 clean in 0 of 1\nb.ppm 50000 clean in 1 of 1\n' '' --vary b.ppm=-50000..50000:100000 --keep-offsets --keep-ppm
+swept 'a table' "$long" 1 'sensor.x 20 clean in 1 of 1\nsensor.x 30 clean in 0 of 1\nsensor.x 40 clean in 0 of 1\nclean in 1 of 3\n' '' \
+  --vary sensor.x=20..40:10 --keep-offsets --keep-ppm
+is 'the first of a table' grep -q "^first that isn't: member 1, sensor.x = 30: verdict faulty" "$room/out"
+# A value that the plan refuses is no failing bus
+swept 'refused members' "$room/pair" 1 'sjw 3 clean in 1 of 1\nsjw 4 clean in 1 of 1\nsjw 5 clean in 0 of 1, refused in 1\n' '' \
+  --vary sjw=3..5:1 --keep-offsets --keep-ppm
+is 'the first that is refused' grep -q '^first refused: member 2, sjw = 5: refused' "$room/out"
+# What tests the clocks
+swept 'a payload without edges' "$room/pair" 0 'clean in 1 of 1\n' '' --keep-offsets
+swept 'the worst payload' "$room/pair" 0 'clean in 1 of 1\n' '' --keep-offsets --worst
+
+# Refused plans: as run has them, nothing is run
+sed 's/^sjw = 3/sjw = 9/' examples/clean_500k.toml > "$room/bad"
+refused 'a refused plan' "$room/bad" 1 'fault: NodeSegments(0, Jump)\n'
+sed 's/^version = 1/version = 1\n"#note" = 1/' examples/clean_500k.toml > "$room/strange"
+refused 'a strange key' "$room/strange" 1 'fault: Unknown(#note)\n'
+sed 's/^per = 5.*/"per = 0 #" = 9/' examples/clean_500k.toml > "$room/strange"
+refused 'a key that is a text' "$room/strange" 1 'fault: Missing(per)\n'
+for text in 'node = []' 'node = 5' 'version = 1' 'x = ['; do
+  printf '%s\n' "$text" > "$room/strange"
+  refused "the plan '$text'" "$room/strange" 1 -
+done
+sed 's/^quantum = 125/quantum = 62.5/;s/^prop = 8/prop = 8.5/' examples/clean_500k.toml > "$room/strange"
+refused 'a plan with fractions' "$room/strange" 1 'fault: Kind(quantum)\n'
+# Words that no plan takes, and words that this one doesn't take
+while IFS='|' read -r words said; do
+  # shellcheck disable=SC2086
+  refused "$words" examples/clean_500k.toml 2 "$said" $words
+done << 'WORDS'
+--vary x=5..1|fault: Range(0, Order)\n
+--vary sjw=1..4 --vary x=5..1|fault: Range(1, Order)\n
+--vary x=1.5..3|fault: Range(0, Form)\n
+--vary x=5|fault: Range(0, Form)\n
+--vary x|fault: Range(0, Form)\n
+--vary end=_.._|fault: Range(0, Form)\n
+--vary x=0..9:0|fault: Range(0, Step)\n
+--vary nothing=1..2|fault: Range(0, Key)\n
+--vary name=1..2|fault: Range(0, Key)\n
+--vary nobody.x=1..2|fault: Range(0, Node)\n
+--vary num=1..2|fault: Range(0, Absent)\n
+--vary x=-3..-1|fault: Range(0, Bounds)\n
+--vary end=0..999999999999:1|fault: Range(0, Rows)\n
+--vary x=1..200:1 --vary end=1..200:1|fault: Rows\n
+--print 1000000|fault: Member\n
+--runs 0|-
+--runs -1|-
+--runs 1.5|-
+--runs 4294967296|-
+--step 0|-
+--step -5|-
+--workers 0|-
+--workers 9|-
+--seed x|-
+--print -1|-
+--vary|-
+--jobs 2|-
+--first f|-
+WORDS
+refused 'a hint on a word' examples/clean_500k.toml 2 'fault: Range(0, Order)\nhint: --vary x=5..1: Put the lesser value first.\n' --hint --vary x=5..1
+refused 'a hint on a plan' "$room/bad" 1 - --hint && is 'a hint on a plan has its place' grep -q '^hint: line [0-9]*, column 1, `sjw = 9`: node 0 engine' "$room/err"
+
+# Files and devices: the output changes only when it is whole, with status 0 or 1
+echo old > "$room/old"
+(cd "$room" && "$program" sweep pair -o table) > "$room/out" 2> "$room/err"
+is 'a file for the table' [ $? = 1 -a ! -s "$room/out" -a ! -s "$room/err" -a "$(head -1 "$room/table")" = 'clean in 75 of 80' ]
+for words in 'bad' 'pair --vary x=5..1' 'absent'; do
+  # shellcheck disable=SC2086
+  (cd "$room" && "$program" sweep $words -o old > /dev/null 2>&1)
+  is "old output, sweep $words" cmp -s "$room/old" <(echo old)
+done
+for words in "$room/pair -o /dev/full" "$room/pair -o $room/none/x" "$room/absent" .; do
+  ended=0
+  # shellcheck disable=SC2086
+  timeout 60 "$program" sweep $words > "$room/out" 2> "$room/err" || ended=$?
+  is "sweep $words (status $ended)" [ "$ended" = 3 -a ! -s "$room/out" ]
+done
+ended=0
+timeout 60 "$program" sweep "$room/pair" > /dev/full 2> "$room/err" || ended=$?
+is "a sweep to a full device (status $ended)" [ "$ended" = 3 ] && is 'it is told' grep -qx 'fault: Write' "$room/err"
+# A family of a million members is not made before the first is run; a million runs take no more memory than a thousand
+python3 - > "$room/wide" << 'PYTHON'
+node = "[[node]]\nname = '{}'\noffset = 0\nquantum = {}\nppm = 0\nprop = 6\nps1 = 7\nps2 = 2\nsjw = 1\nx = 0\nout = 1\nin = 1\n"
+print("version = 1\nend = 1000\nper = 0\n" + node.format("a", 1) + node.format("b", 65_536))
+PYTHON
+swept 'a wide family' "$room/wide" 0 'clean in 2 of 2\n' '' --runs 2
+few=$(peak "$program" sweep "$room/wide" --runs 1000) many=$(peak "$program" sweep "$room/wide" --runs 50000)
+is "memory of 1,000 runs $few KiB, of 50,000 $many KiB" [ "$many" -lt $((few + few / 4)) ]
+# Progress goes to standard error, and changes no output
+"$program" sweep --progress < "$room/pair" > "$room/out" 2> "$room/err"
+is "progress of a sweep: $(head -1 "$room/err")" [ -z "$(grep -v '^progress: row 1 of 1, ' "$room/err")" ] && is 'and its output' grep -qx 'clean in 75 of 80' "$room/out"

@@ -1,0 +1,84 @@
+//! What a task comes to.
+ghost use Rattle.std.specs.Prelude.{◌≡◌, List};
+ghost use Rattle.std.specs.List.{list_all};
+ghost use Rattle.wl_sweep.specs.Findings.{is_clean};
+ghost use Rattle.wl_sweep.specs.Tallies.{tally_of};
+ghost use Rattle.wl_sweep.specs.declared.finding.Finding.{Finding};
+ghost use Rattle.wl_sim.specs.Tasks.{AnswersSweep, done_by, of_print, of_sweep, plainly};
+
+use thiserror::Error;
+use wl_engines::RunFault;
+use wl_sweep_engine::{SweepFault, Tally};
+
+/// What came of a task whose output was written whole.
+#[derive(Clone, Copy, Debug, PartialEq, Eq)]
+pub enum Done {
+    /// The output says all.
+    Plain,
+    /// Some member of a sweep isn't clean.
+    Unclean,
+}
+
+/// Why a task wasn't done. Each is shown as its engine shows it.
+#[derive(Debug, Drop, Error)]
+pub enum Fault {
+    /// The input was refused, a device or a worker failed, or memory ran out.
+    #[error("{0}")]
+    Run(RunFault),
+    /// The plan doesn't allow the words of a sweep.
+    #[error("{0}")]
+    Word(SweepFault),
+}
+
+/// What an engine answered, as an answer of the program.
+pub(crate) fn plainly(answer: Result<(), RunFault>) -> Result<Done, Fault>
+    ensures { result ≡ plainly answer }
+{
+    match answer {
+        Ok(()) => Ok(Done::Plain),
+        Err(fault) => Err(Fault::Run(fault)),
+    }
+}
+
+/// A fault of a sweep: of its plan, its devices or memory it is that of any engine, else it is one of its words.
+fn of_sweep(fault: SweepFault) -> Fault
+    ensures { result ≡ of_sweep fault }
+{
+    match fault {
+        SweepFault::Setup(fault) => Fault::Run(RunFault::Setup(fault)),
+        SweepFault::Write => Fault::Run(RunFault::Write),
+        SweepFault::Memory => Fault::Run(RunFault::Memory),
+        other => Fault::Word(other),
+    }
+}
+
+/// What came of a sweep with this tally: whether all its members are clean.
+fn done_of(tally: Tally) -> Done
+    ensures { (found : List Finding) → tally ≡ tally_of found → result ≡ done_by (list_all is_clean found) }
+{
+    if tally.all_clean() {
+        Done::Plain
+    } else {
+        Done::Unclean
+    }
+}
+
+/// What a sweep answered, by the tally of its members.
+pub(crate) fn of_tally(answer: Result<Tally, SweepFault>) -> Result<Done, Fault>
+    ensures { AnswersSweep answer result }
+{
+    match answer {
+        Ok(tally) => Ok(done_of(tally)),
+        Err(fault) => Err(of_sweep(fault)),
+    }
+}
+
+/// What the writing of a member answered.
+pub(crate) fn of_print(answer: Result<(), SweepFault>) -> Result<Done, Fault>
+    ensures { result ≡ of_print answer }
+{
+    match answer {
+        Ok(()) => Ok(Done::Plain),
+        Err(fault) => Err(of_sweep(fault)),
+    }
+}

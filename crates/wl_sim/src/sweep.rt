@@ -1,0 +1,164 @@
+//! The options of a sweep.
+ghost use Rattle.std.specs.Prelude.{◌≡◌, IfOk, codes, false};
+ghost use Rattle.clap.specs.Words.{app_of, rule_of};
+ghost use Rattle.clap.specs.declared.builder.command.Command.TheViews.{out-Command};
+ghost use Rattle.wl_sim.specs.CommandLine.{counted_app, flag_rule, print_rule, runs_rule, seed_rule, step_rule, swept_app, threads_rule, vary_rule};
+
+use clap::{Arg, ArgAction, Command, value_parser};
+use std::alloc::{AllocError, Global};
+use wl_sweep_engine::Asked;
+
+/// What is asked of a sweep beside its plan and its ranges.
+#[derive(Clone, Copy, Debug, PartialEq, Eq)]
+pub struct Swept {
+    /// What is varied, and how many members are run.
+    pub asked: Asked,
+    /// How many threads run them, 1 to 8; `None`: as many as there are processors, at most 8.
+    pub workers: Option<u8>,
+    /// The number of a member whose plan is written in the place of what is found.
+    pub print: Option<u64>,
+}
+
+/// The option that gives a key a range of values. It may come several times.
+fn vary_option<'a>(alloc: Global) -> Arg<'a>
+    ensures rule { rule_of result ≡ vary_rule }
+    ensures local { result.global ≡ false }
+{
+    Arg::new(alloc, "vary")
+        .long("vary")
+        .value_name("[NODE.]KEY=A..B[:STEP]")
+        .action(ArgAction::Append)
+        .help(
+            "A row of the output for each value of the key: of end or per, of one node, or of each node that has it",
+        )
+}
+
+/// The option that says how far two offsets are apart.
+fn step_option<'a>(alloc: Global) -> Arg<'a>
+    ensures rule { rule_of result ≡ step_rule }
+    ensures local { result.global ≡ false }
+{
+    Arg::new(alloc, "step")
+        .long("step")
+        .value_name("TICKS")
+        .help(
+            "The distance between two offsets of a node; without it a fifth of the shortest quantum",
+        )
+        .value_parser(value_parser!(u64).range(1..))
+}
+
+/// The option that says how many members are run.
+fn runs_option<'a>(alloc: Global) -> Arg<'a>
+    ensures rule { rule_of result ≡ runs_rule }
+    ensures local { result.global ≡ false }
+{
+    Arg::new(alloc, "runs")
+        .long("runs")
+        .value_name("N")
+        .help("The most members of a row that are run: all that there are, else a random part")
+        .value_parser(value_parser!(u32).range(1..))
+        .default_value("1000")
+}
+
+/// The option that says which random part is run.
+fn seed_option<'a>(alloc: Global) -> Arg<'a>
+    ensures rule { rule_of result ≡ seed_rule }
+    ensures local { result.global ≡ false }
+{
+    Arg::new(alloc, "seed")
+        .long("seed")
+        .value_name("N")
+        .help("Which random part")
+        .value_parser(value_parser!(u32))
+        .default_value("1")
+}
+
+/// The option that says how many threads run members.
+fn threads_option<'a>(alloc: Global) -> Arg<'a>
+    ensures rule { rule_of result ≡ threads_rule }
+    ensures local { result.global ≡ false }
+{
+    Arg::new(alloc, "workers")
+        .long("workers")
+        .value_name("N")
+        .help(
+            "How many threads run members, 1 to 8: the output is the same; without it one a processor",
+        )
+        .value_parser(value_parser!(u8).range(1..=8))
+}
+
+/// The option that asks for a member as a plan.
+fn print_option<'a>(alloc: Global) -> Arg<'a>
+    ensures rule { rule_of result ≡ print_rule }
+    ensures local { result.global ≡ false }
+{
+    Arg::new(alloc, "print")
+        .long("print")
+        .value_name("N")
+        .help("Runs none, and writes the member of this number as a plan")
+        .value_parser(value_parser!(u64))
+}
+
+/// The flag that keeps offsets as the plan has them.
+fn keep_offsets_option<'a>(alloc: Global) -> Arg<'a>
+    ensures rule { rule_of result ≡ flag_rule (codes "keep-offsets") }
+    ensures local { result.global ≡ false }
+{
+    Arg::new(alloc, "keep-offsets")
+        .long("keep-offsets")
+        .action(ArgAction::SetTrue)
+        .help("Leaves the offsets as the plan has them")
+}
+
+/// The flag that keeps the signs of deviations.
+fn keep_ppm_option<'a>(alloc: Global) -> Arg<'a>
+    ensures rule { rule_of result ≡ flag_rule (codes "keep-ppm") }
+    ensures local { result.global ≡ false }
+{
+    Arg::new(alloc, "keep-ppm")
+        .long("keep-ppm")
+        .action(ArgAction::SetTrue)
+        .help("Leaves the signs of the deviations as the plan has them")
+}
+
+/// The flag that adds the frame that tests clocks.
+fn worst_option<'a>(alloc: Global) -> Arg<'a>
+    ensures rule { rule_of result ≡ flag_rule (codes "worst") }
+    ensures local { result.global ≡ false }
+{
+    Arg::new(alloc, "worst")
+        .long("worst")
+        .action(ArgAction::SetTrue)
+        .help("Adds to each sender a frame whose edges are ten bits apart")
+}
+
+/// A subcommand with the options of a sweep that say what is run.
+fn with_counts<'a>(alloc: Global, sub: Command<'a>) -> Result<Command<'a>, AllocError>
+    requires { (out-Command sub).has_globals ≡ false }
+    ensures app { IfOk result (λ all. app_of all ≡ counted_app (app_of sub.entry)) }
+    ensures local { IfOk result (λ all. (out-Command all).has_globals ≡ false) }
+{
+    let ranged = sub.arg(vary_option(alloc))?;
+    let stepped = ranged.arg(step_option(alloc))?;
+    let bounded = stepped.arg(runs_option(alloc))?;
+    let seeded = bounded.arg(seed_option(alloc))?;
+    let shared = seeded.arg(threads_option(alloc))?;
+    Ok(shared)
+}
+
+/// A subcommand with the options of a sweep.
+pub(crate) fn with_sweep_options<'a>(
+    alloc: Global,
+    sub: Command<'a>,
+) -> Result<Command<'a>, AllocError>
+    requires { (out-Command sub).has_globals ≡ false }
+    ensures app { IfOk result (λ all. app_of all ≡ swept_app (app_of sub.entry)) }
+    ensures local { IfOk result (λ all. (out-Command all).has_globals ≡ false) }
+{
+    let counted = with_counts(alloc, sub)?;
+    let placed = counted.arg(keep_offsets_option(alloc))?;
+    let signed = placed.arg(keep_ppm_option(alloc))?;
+    let tested = signed.arg(worst_option(alloc))?;
+    let printed = tested.arg(print_option(alloc))?;
+    Ok(printed)
+}

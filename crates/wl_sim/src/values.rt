@@ -1,0 +1,238 @@
+//! What a parse of the command line found, by the options of a subcommand.
+ghost use Rattle.std.specs.Prelude.{◌≡◌, map, string_bytes, IfOk, false, option_and_then, option_map};
+ghost use Rattle.std.specs.Option.{option_map_or};
+ghost use Rattle.clap.specs.Words.{found_of, rows_of, subcommand_rows_of};
+ghost use Rattle.wl_sim.specs.CommandLine.{file_among, file_named, is_flagged, is_set, link_among, number_among, ranges_among, ranges_in};
+ghost use Rattle.wl_sim.specs.CommandLine.{read_link, swept_among, swept_by, tick_among, values_among, workers_among};
+
+use crate::sweep::Swept;
+use clap::ArgMatches;
+use std::alloc::{AllocError, Global};
+use wl_engines::LinkKind;
+use wl_setup::Text;
+use wl_sweep_engine::{Asked, Options};
+use wl_views::Tick;
+
+/// What the options of a subcommand say that only some tasks have.
+#[derive(Clone, Copy)]
+pub(crate) struct Values {
+    /// How long a tick takes.
+    pub(crate) tick: Option<Tick>,
+    /// How many workers simulate the plan.
+    pub(crate) workers: Option<u8>,
+    /// The kind of link between them.
+    pub(crate) link: Option<LinkKind>,
+    /// What is swept.
+    pub(crate) swept: Option<Swept>,
+}
+
+/// The tick that a subcommand's option gives.
+#[tactic(auto, using(crate::proofs::Words::tick_text))]
+fn tick_in(matches: &ArgMatches) -> Option<Tick>
+    ensures { result ≡ tick_among (rows_of (found_of matches.now)) }
+{
+    match matches.get_str("tick") {
+        Some(text) => Tick::from_text(text.as_bytes()),
+        None => None,
+    }
+}
+
+/// The number of workers that a subcommand's option gives. Its range keeps out what is no number from 1 to 8.
+fn workers_in(matches: &ArgMatches) -> Option<u8>
+    ensures { result ≡ workers_among (rows_of (found_of matches.now)) }
+{
+    let text = matches.get_str("workers")?;
+    Some(text.parse().unwrap_or(0))
+}
+
+/// The kind of link that a text names.
+fn link_named(text: &str) -> Option<LinkKind>
+    ensures { result ≡ read_link text.now }
+{
+    match text {
+        "hub" => Some(LinkKind::Hub),
+        "mail" => Some(LinkKind::Mail),
+        _ => None,
+    }
+}
+
+/// The kind of link that a subcommand's option gives.
+#[tactic(auto, using(crate::proofs::Words::link_text))]
+fn link_in(matches: &ArgMatches) -> Option<LinkKind>
+    ensures { result ≡ link_among (rows_of (found_of matches.now)) }
+{
+    match matches.get_str("link") {
+        Some(text) => link_named(text),
+        None => None,
+    }
+}
+
+/// The file that a text names in the place of a standard stream, which `-` means.
+fn file_named(alloc: Global, text: &str) -> Result<Option<Text>, AllocError>
+    ensures { IfOk result (λ name. name ≡ file_named text.now) }
+{
+    match text {
+        "-" => Ok(None),
+        _ => Ok(Some(Text::new(alloc, text)?)),
+    }
+}
+
+/// The file that an argument of a subcommand names.
+#[tactic(auto, using(crate::proofs::Words::file_text))]
+fn file_in(alloc: Global, matches: &ArgMatches, id: &str) -> Result<Option<Text>, AllocError>
+    ensures { IfOk result (λ name. name ≡ file_among id.now (rows_of (found_of matches.now))) }
+{
+    match matches.get_str(id) {
+        Some(text) => file_named(alloc, text),
+        None => Ok(None),
+    }
+}
+
+/// The file that an argument of the subcommand names, where it has one.
+pub(crate) fn file_of_subcommand(
+    alloc: Global,
+    matches: &ArgMatches,
+    id: &str,
+) -> Result<Option<Text>, AllocError>
+    ensures { IfOk result (λ name. name
+        ≡ option_and_then (file_among id.now) (option_map (λ p. p.1) (subcommand_rows_of matches.now))) }
+{
+    match matches.subcommand() {
+        Some((_, sub)) => file_in(alloc, sub, id),
+        None => Ok(None),
+    }
+}
+
+/// True if a flag is set, by its text.
+fn is_set(text: &str) -> bool
+    ensures { result ≡ is_set text.now }
+{
+    match text {
+        "true" => true,
+        _ => false,
+    }
+}
+
+/// Whether a flag of a subcommand is set.
+#[tactic(auto, using(crate::proofs::Words::flag_text))]
+fn flag_in(matches: &ArgMatches, id: &str) -> bool
+    ensures { result ≡ is_flagged id.now (rows_of (found_of matches.now)) }
+{
+    match matches.get_str(id) {
+        Some(text) => is_set(text),
+        None => false,
+    }
+}
+
+/// Whether a flag of the subcommand is set, where it has one.
+pub(crate) fn flag_of_subcommand(matches: &ArgMatches, id: &str) -> bool
+    ensures { result ≡ option_map_or (λ p. is_flagged id.now p.1) (subcommand_rows_of matches.now) false }
+{
+    match matches.subcommand() {
+        Some((_, sub)) => flag_in(sub, id),
+        None => false,
+    }
+}
+
+/// The number that an option of a subcommand gives, below 2^64; `None` if it isn't given. Its parser keeps out what is no number.
+fn number_in(matches: &ArgMatches, id: &str) -> Option<u64>
+    ensures { result ≡ number_among 64 id.now (rows_of (found_of matches.now)) }
+{
+    let text = matches.get_str(id)?;
+    Some(text.parse().unwrap_or(0))
+}
+
+/// The same of a number below 2^32.
+fn small_number_in(matches: &ArgMatches, id: &str) -> Option<u32>
+    ensures { result ≡ number_among 32 id.now (rows_of (found_of matches.now)) }
+{
+    let text = matches.get_str(id)?;
+    Some(text.parse().unwrap_or(0))
+}
+
+/// What the options of a subcommand say of a sweep, with so many runs and this seed.
+fn swept_by(matches: &ArgMatches, runs: u32, seed: u32) -> Swept
+    ensures { result ≡ swept_by (rows_of (found_of matches.now)) runs seed }
+{
+    let options = Options {
+        step: number_in(matches, "step"),
+        keep_offsets: flag_in(matches, "keep-offsets"),
+        keep_ppm: flag_in(matches, "keep-ppm"),
+        runs,
+        seed,
+    };
+    Swept {
+        asked: Asked {
+            options,
+            worst: flag_in(matches, "worst"),
+        },
+        workers: workers_in(matches),
+        print: number_in(matches, "print"),
+    }
+}
+
+/// What the options of a subcommand say of a sweep, if it is one.
+fn swept_in(matches: &ArgMatches) -> Option<Swept>
+    ensures { result ≡ swept_among (rows_of (found_of matches.now)) }
+{
+    let runs = small_number_in(matches, "runs")?;
+    let seed = small_number_in(matches, "seed")?;
+    Some(swept_by(matches, runs, seed))
+}
+
+/// What the options of a subcommand say.
+fn values_in(matches: &ArgMatches) -> Values
+    ensures { result ≡ values_among (rows_of (found_of matches.now)) }
+{
+    Values {
+        tick: tick_in(matches),
+        workers: workers_in(matches),
+        link: link_in(matches),
+        swept: swept_in(matches),
+    }
+}
+
+/// What the options of the subcommand say, if there is one.
+pub(crate) fn values_of_subcommand(matches: &ArgMatches) -> Option<Values>
+    ensures { result ≡ option_map (λ p. values_among p.1) (subcommand_rows_of matches.now) }
+{
+    match matches.subcommand() {
+        Some((_, sub)) => Some(values_in(sub)),
+        None => None,
+    }
+}
+
+/// Texts of words as strings.
+fn strings(alloc: Global, words: &[&str]) -> Result<Vec<String>, AllocError>
+    ensures { IfOk result (λ strings. map string_bytes strings.items ≡ map (λ w. w.now) words.now) }
+{
+    let mut strings = Vec::new(alloc);
+    for word in words {
+        strings.push(String::from_str(alloc, word)?)?;
+    }
+    Ok(strings)
+}
+
+/// The ranges of a sweep that a subcommand's words give.
+#[tactic(auto, using(crate::proofs::Words::ranges_text))]
+fn ranges_of(alloc: Global, matches: &ArgMatches) -> Result<Vec<String>, AllocError>
+    ensures { IfOk result (λ ranges. map string_bytes ranges.items ≡ ranges_among (rows_of (found_of matches.now))) }
+{
+    match matches.get_strs("vary") {
+        Some(words) => strings(alloc, words),
+        None => Ok(Vec::new(alloc)),
+    }
+}
+
+/// The ranges of a sweep that the words of the subcommand give, if there is one.
+pub(crate) fn ranges_of_subcommand(
+    alloc: Global,
+    matches: &ArgMatches,
+) -> Result<Vec<String>, AllocError>
+    ensures { IfOk result (λ ranges. map string_bytes ranges.items ≡ ranges_in (subcommand_rows_of matches.now)) }
+{
+    match matches.subcommand() {
+        Some((_, sub)) => ranges_of(alloc, sub),
+        None => Ok(Vec::new(alloc)),
+    }
+}
