@@ -128,8 +128,14 @@ node = "[[node]]\nname = '{}'\noffset = 0\nquantum = {}\nppm = 0\nprop = 6\nps1 
 print("version = 1\nend = 1000\nper = 0\n" + node.format("a", 1) + node.format("b", 65_536))
 PYTHON
 swept 'a wide family' "$room/wide" 0 'clean in 2 of 2\n' '' --runs 2
-few=$(peak "$program" sweep "$room/wide" --runs 1000) many=$(peak "$program" sweep "$room/wide" --runs 50000)
-is "memory of 1,000 runs $few KiB, of 50,000 $many KiB" [ "$many" -lt $((few + few / 4)) ]
+resident() { # resident WORDS..: the most KiB of memory that a program had, as /proc has it while it runs
+  local most=0 now
+  "$@" > /dev/null &
+  while now=$(sed -n 's/^VmHWM:[^0-9]*\([0-9]*\) kB/\1/p' "/proc/$!/status" 2> /dev/null) && [ -n "$now" ]; do most=$now && sleep 0.02; done
+  echo "$most"
+}
+few=$(resident "$program" sweep "$room/wide" --runs 20000) many=$(resident "$program" sweep "$room/wide" --runs 300000)
+is "memory of 20,000 runs $few KiB, of 300,000 $many KiB" [ "$few" -gt 0 -a "$many" -lt $((few + few / 4)) ]
 # Progress goes to standard error, and changes no output
 "$program" sweep --progress < "$room/pair" > "$room/out" 2> "$room/err"
 is "progress of a sweep: $(head -1 "$room/err")" [ -z "$(grep -v '^progress: row 1 of 1, ' "$room/err")" ] && is 'and its output' grep -qx 'clean in 75 of 80' "$room/out"

@@ -1,0 +1,413 @@
+#!/usr/bin/env python3
+"""Sweeps by an independent program: what `sweep` says of a plan, and the plans of its members, from docs/sweeps.md; members run by plain.py.
+
+usage: sweeps.py answers [--program PROGRAM] [--jobs N] < crates/sweep_rows/stdin     what sweep_rows has to answer
+       sweeps.py says [--program PROGRAM] [--jobs N] PLAN WORD..                      what is said of one plan; words as those rows have them
+
+With --program members are run by a build of wl_sim in the place of plain.py: less independent, and a thousand times as fast.
+"""
+import os
+import subprocess
+import sys
+from collections import Counter
+from copy import deepcopy
+from functools import cache, partial
+from itertools import accumulate
+from multiprocessing import Pool
+
+import plain
+
+MASK = 2**64 - 1
+CLOCK = ("num", "den", "quantum", "ppm")
+TOP = ("end", "per")
+KEYS = TOP + CLOCK + ("offset", "prop", "ps1", "ps2", "sjw", "x", "out", "in")
+FAULT = "fault: {}, of a word: {}, of the plan: {}\n"
+
+
+class Refused(Exception):
+    """Why a sweep isn't run: its fault, and whether it is a word's."""
+
+    def __init__(self, fault, of_word=True):
+        self.line = FAULT.format(fault, str(of_word).lower(), str(not of_word).lower())
+
+
+# ---- A plan's text: a table of its keys, with the rates of each node as a list in both versions
+
+def read(text):
+    try:
+        plain.read_plan(text.encode())
+    except plain.Fault as fault:
+        raise Refused(fault, of_word=False)
+    plan = plain.read_toml(text.encode())
+    for node in plan["node"]:
+        if "rates" not in node:
+            node["rates"] = [{"from": 0} | {key: node.pop(key) for key in CLOCK if key in node}]
+    return plan
+
+
+def clock_lines(rate):
+    return "".join(f"{key} = {rate[key]}\n" for key in CLOCK if key in rate)
+
+
+def frame_lines(frame):
+    said = f"\n[[node.frame]]\nid = 0x{frame['id']:x}\ndlc = {frame['dlc']}\nready = {frame.get('ready', 0)}\n"
+    said += "".join(f"{key} = true\n" for key in ("extended", "remote") if frame.get(key))
+    return said + (f"bytes = [{', '.join(f'0x{byte:02x}' for byte in frame['bytes'])}]\n" if frame.get("bytes") else "")
+
+
+def node_lines(version, node):
+    said = f"\n[[node]]\nname = \"{node['name']}\"\noffset = {node['offset']}\n"
+    if version == 1: said += clock_lines(node["rates"][0])
+    said += "".join(f"{key} = {node[key]}\n" for key in ("prop", "ps1", "ps2", "sjw", "x", "out", "in", "tolerance") if key in node)
+    if version == 2: said += "".join(f"\n[[node.rates]]\nfrom = {rate['from']}\n{clock_lines(rate)}" for rate in node["rates"])
+    return said + "".join(map(frame_lines, node.get("frame", [])))
+
+
+def plan_text(plan):
+    said = f"version = {plan['version']}\nend = {plan['end']}\nper = {plan['per']}\nsync = \"{plan.get('sync', 'after')}\"\n"
+    said += "".join(node_lines(plan["version"], node) for node in plan["node"])
+    return said + "".join(f"\n[[disturbance]]\nx = {it['x']}\nfrom = {it['from']}\nto = {it['to']}\n" for it in plan.get("disturbance", []))
+
+
+# ---- What is found of a text, by plain.py or by a program's report
+
+def finding(program, text):
+    """The word of what is found, with its errors and frames that are left to send."""
+    if program: return finding_of_report(subprocess.run([program, "run"], input=text, capture_output=True, text=True))
+    try:
+        nodes = plain.simulate(plain.read_plan(text.encode()))
+    except plain.Fault:
+        return "refused", 0, 0
+    passed = [[frame for _, _, frame in node.frames] for node in nodes]
+    off = any(node.counters.mode() == "off" for node in nodes)
+    return found(sum(node.errors for node in nodes), sum(len(node.waiting) for node in nodes), off, passed)
+
+
+def finding_of_report(ended):
+    if ended.returncode: return "refused", 0, 0
+    rows = [line.split() for line in ended.stdout.splitlines()]
+    nodes = [row for row in rows if row[0] == "node"]
+    passed = [[row[4:] for row in rows if row[:2] == ["frame", node[1]]] for node in nodes]
+    errors, unsent = (int(rows[-1][3]), int(rows[-1][5])) if rows[-1][1] == "faulty" else (0, 0)
+    return found(errors, unsent, any(node[7] == "off" for node in nodes), passed)
+
+
+def found(errors, unsent, off, passed):
+    if errors: return "faulty", errors, unsent
+    if off: return "off", 0, unsent
+    if unsent: return "early", 0, unsent
+    return ("clean" if all(frames == passed[0] for frames in passed) else "missed"), 0, 0
+
+
+WORDS = {"clean": "clean", "faulty": "verdict faulty errors {} unsent {}", "off": "a node is off the bus",
+         "early": "ends too early, without an error: unsent {1}", "missed": "a node has not received every frame", "refused": "refused"}
+
+
+# ---- A family: offsets over a bit, signs of deviations
+
+def quantum_of(node):
+    rate = node["rates"][0]
+    return max(1, rate["quantum"] if "quantum" in rate else rate["num"] // max(1, rate["den"]))
+
+
+def bit_of(node):
+    return min(2**48, quantum_of(node) * (1 + node["prop"] + node["ps1"] + node["ps2"]))
+
+
+def digits_of(plan, options):
+    """For each node how many offsets and how many signs it has, and the ticks between two offsets."""
+    nodes = plan["node"]
+    step = options["step"] or max(1, min(map(quantum_of, nodes), default=MASK) // 5)
+    kept = options["offsets"], options["ppm"]
+    radixes = [(1 if kept[0] or i == 0 else -(-bit_of(node) // step), 2 if not kept[1] and any(rate.get("ppm") for rate in node["rates"]) else 1)
+               for i, node in enumerate(nodes)]
+    return radixes, step
+
+
+def member_count(plan, options):
+    if is_refused(plan): return 1
+    count = 1
+    for offsets, signs in digits_of(plan, options)[0]: count *= offsets * signs
+    return min(count, 2**128 - 1)
+
+
+@cache
+def is_refused_text(text):
+    try:
+        plain.read_plan(text.encode())
+    except plain.Fault:
+        return True
+    return False
+
+
+def is_refused(plan):
+    return is_refused_text(plan_text(plan))
+
+
+def words_of(seed):
+    """SplitMix64 (Steele, Lea, Flood 2014)."""
+    while True:
+        seed = (seed + 0x9E3779B97F4A7C15) & MASK
+        word = (seed ^ seed >> 30) * 0xBF58476D1CE4E5B9 & MASK
+        word = (word ^ word >> 27) * 0x94D049BB133111EB & MASK
+        yield word ^ word >> 31
+
+
+def choices(plan, options, run):
+    """For each node by how many ticks it begins later, and whether its deviation is negated."""
+    radixes, step = digits_of(plan, options)
+    flat = [radix for pair in radixes for radix in pair]
+    if member_count(plan, options) <= options["runs"] or run == 0:
+        digits = [run // before % radix for radix, before in zip(flat, accumulate(flat, int.__mul__, initial=1))]
+    else:
+        words = words_of((options["seed"] * 2**32 + run) % 2**64)
+        digits = [next(words) * radix >> 64 if radix > 1 else 0 for radix in flat]
+    return [(step * digits[at], digits[at + 1] == 1) for at in range(0, len(digits), 2)]
+
+
+def member(plan, options, run):
+    plan = deepcopy(plan)
+    for node, (by, negated) in zip(plan["node"], choices(plan, options, run)):
+        node["offset"] += by
+        if negated: node["rates"] = [rate | {"ppm": -rate["ppm"]} if "ppm" in rate else rate for rate in node["rates"]]
+    return plan
+
+
+# ---- Ranges and rows
+
+def size(text):
+    return int(text) if text.isascii() and text.isdigit() and int(text) < 2**48 else None
+
+
+def number(text):
+    it = size(text.removeprefix("-"))
+    return it if it is None or not text.startswith("-") else -it
+
+
+def ends_of(text):
+    low, dot, rest = text.partition(".")
+    high, colon, step = rest.removeprefix(".").partition(":")
+    ends = number(low), number(high), number(step) if colon else 0
+    return None if not dot or not rest.startswith(".") or None in ends else (*ends, bool(colon))
+
+
+def named_node(nodes, name):
+    names = [node["name"] for node in nodes]
+    if name in names: return names.index(name)
+    return it if (it := number(name)) is not None and 0 <= it < len(nodes) else None
+
+
+def has(node, key):
+    return key not in CLOCK or any(key in rate for rate in node["rates"])
+
+
+def target_of(nodes, called):
+    name, dot, key = called.rpartition(".") if called.count(".") < 2 else (*called.split(".", 1)[:1], ".", called.split(".", 1)[1])
+    if key not in KEYS: raise ValueError("Key")
+    if dot:
+        which = None if key in TOP else named_node(nodes, name)
+        if which is None: raise ValueError("Node")
+        if not has(nodes[which], key): raise ValueError("Absent")
+        return key, [which]
+    if key in TOP: return key, []
+    if key == "x": return key, [max(range(len(nodes)), key=lambda i: nodes[i]["x"])] if nodes else []
+    if not any(has(node, key) for node in nodes): raise ValueError("Absent")
+    return key, [i for i, node in enumerate(nodes) if has(node, key)]
+
+
+def values_of(key, low, high, step, is_said):
+    least, most = {"ppm": (-10**9, 10**9), "x": (0, 2**31 - 1)}.get(key, (0, 2**48 - 1))
+    if not (least <= low <= most and least <= high <= most): raise ValueError("Bounds")
+    if high < low: raise ValueError("Order")
+    if is_said and step <= 0: raise ValueError("Step")
+    if not is_said: step = next(by for n in range(16) for by in (10**n, 2 * 10**n, 5 * 10**n) if (high - low) // by < 20)
+    if (high - low) // step >= 10_000: raise ValueError("Rows")
+    return range(low, high + 1, step)
+
+
+def range_of(plan, word):
+    called, equals, ends = word.partition("=")
+    ends = ends_of(ends) if equals else None
+    if ends is None: raise ValueError("Form")
+    key, nodes = target_of(plan["node"], called)
+    return called, key, nodes, values_of(key, *ends)
+
+
+def ranges_of(plan, words):
+    ranges = []
+    for n, word in enumerate(words):
+        try:
+            ranges.append(range_of(plan, word))
+        except ValueError as fault:
+            raise Refused(f"Range({n}, {fault})")
+    return ranges
+
+
+def rows_of(plan, ranges):
+    """For each row the values of the ranges, and the plan that has them."""
+    if not ranges: return [([], plan)]
+    called, key, nodes, values = ranges[0]
+    rows = []
+    for value in values:
+        row = deepcopy(plan)
+        if key in TOP: row[key] = value
+        for i in nodes:
+            for table in row["node"][i]["rates"] if key in CLOCK else [row["node"][i]]:
+                if key not in CLOCK or key in table: table[key] = value
+        rows += [([(called, value)] + later, it) for later, it in rows_of(row, ranges[1:])]
+    return rows
+
+
+# ---- Frames that test the clocks
+
+def is_edge(line, k):
+    return line[k] == plain.DOMINANT and (k == 0 or line[k - 1] == plain.RECESSIVE)
+
+
+def tests_clocks(frame):
+    line = [bit for bit, _ in plain.stuff(frame.bits())] + [plain.RECESSIVE, plain.DOMINANT]
+    edges = [k for k in range(len(line)) if is_edge(line, k)]
+    return any(later - edge == 10 for edge, later in zip(edges, edges[1:]))
+
+
+def with_worst(plan):
+    plan, nodes, below = deepcopy(plan), plan["node"], 0x7F0
+    used = {frame["id"] for node in nodes for frame in node.get("frame", []) if not frame.get("extended")}
+    senders = [node for node in plan["node"] if node.get("frame")]
+    plan["end"] += max(map(bit_of, nodes), default=0) * 160 * len(senders)
+    for node in senders:
+        below = max(id for id in range(below) if id not in used)
+        node["frame"].append({"id": below, "dlc": 8, "bytes": [0x3C] * 8, "ready": node["frame"][-1].get("ready", 0)})
+    return plan
+
+
+# ---- What a sweep says
+
+def counts(tally):
+    said = f"clean in {tally['clean']} of {tally.total()}"
+    return said + "".join(f", {what} in {tally[key]}" for what, key in (("too early", "early"), ("refused", "refused")) if tally[key])
+
+
+def changes(row, plan, options, run):
+    said = "".join(f", {called} = {value}" for called, value in row)
+    for node, (by, negated) in zip(plan["node"], choices(plan, options, run)):
+        if by: said += f", {node['name']}.offset = {node['offset'] + by}"
+        if negated: said += f", {node['name']}.ppm negated"
+    return said
+
+
+class Sweep:
+    def __init__(self, text, request):
+        self.options = request
+        if request["runs"] == 0: raise Refused("Runs")
+        if request["step"] == 0: raise Refused("Step")
+        if request["print"] is None and not 1 <= request["workers"] <= 8: raise Refused("Workers")
+        plan = read(text)
+        self.plan = with_worst(plan) if request["worst"] else plan
+        if is_refused(self.plan): raise Refused("the plan with more frames is refused", of_word=False)
+        ranges = ranges_of(self.plan, request["ranges"])
+        rows = 1
+        for *_, values in ranges: rows *= len(values)
+        if rows > 10_000: raise Refused("Rows")
+        self.rows = rows_of(self.plan, ranges)
+        self.runs = [min(member_count(plan, request), request["runs"]) for _, plan in self.rows]
+
+    def members(self):
+        return [(row, run) for row, runs in enumerate(self.runs) for run in range(runs)]
+
+    def text(self, row, run):
+        return plan_text(member(self.rows[row][1], self.options, run))
+
+    def says(self, pool, program):
+        places = self.members()
+        texts = [self.text(row, run) for row, run in places]
+        several = list(dict.fromkeys(texts))
+        known = dict(zip(several, pool.map(partial(finding, program), several, chunksize=4)))
+        all_found, said = [known[text] for text in texts], ""
+        for row, (settings, _) in enumerate(self.rows):
+            if settings:
+                of_row = Counter(it[0] for (at, _), it in zip(places, all_found) if at == row)
+                said += "".join(f"{called} {value} " for called, value in settings) + counts(of_row) + "\n"
+        tally, members = Counter(it[0] for it in all_found), sum(member_count(plan, self.options) for _, plan in self.rows)
+        said += counts(tally) + "\n"
+        said += f"all {members} members were run\n" if tally.total() == members else \
+            f"{tally.total()} of {members} members were run, drawn by seed {self.options['seed']}\n"
+        said += self.first("first that isn't", places, all_found, lambda word: word not in ("clean", "refused"))
+        said += self.first("first refused", places, all_found, lambda word: word == "refused")
+        if self.options["worst"]: said += "each sender has one frame more, with edges ten bits apart\n"
+        frames = [plain.table_frame(frame) for node in self.plan["node"] for frame in node.get("frame", [])]
+        if not any(map(tests_clocks, frames)):
+            said += "no frame has edges ten bits apart, so none tests the clocks; --worst adds some that do\n"
+        return said, tally["clean"] == tally.total()
+
+    def first(self, label, places, all_found, test):
+        for n, ((row, run), it) in enumerate(zip(places, all_found)):
+            if test(it[0]):
+                return f"{label}: member {n}{changes(*self.rows[row], self.options, run)}: {WORDS[it[0]].format(*it[1:])}\n"
+        return ""
+
+    def prints(self, n):
+        places = self.members()
+        if n >= len(places): raise Refused("Member")
+        row, run = places[n]
+        return f"# member {n}{changes(*self.rows[row], self.options, run)}\n{self.text(row, run)}"
+
+
+# ---- Rows
+
+def request_of(line):
+    request = {"runs": 1000, "seed": 1, "step": None, "workers": 1, "print": None, "again": None, "offsets": False, "ppm": False, "worst": False,
+               "ranges": []}
+    for word in line.split():
+        key, equals, value = word.partition("=")
+        if equals and key in ("runs", "seed", "step", "workers", "print", "again"): request[key] = int(value)
+        elif word in ("offsets", "ppm", "worst"): request[word] = True
+        else: request["ranges"].append(word)
+    return request
+
+
+def swept(text, request, pool, program):
+    try:
+        said, clean = Sweep(text, request).says(pool, program)
+    except Refused as refused:
+        return refused.line
+    return f"{said}all clean: {str(clean).lower()}\n"
+
+
+def printed(text, request, n):
+    try:
+        return Sweep(text, request | {"print": n}).prints(n)
+    except Refused as refused:
+        return refused.line
+
+
+def answer(text, line, pool, program):
+    request = request_of(line)
+    if request["again"] is not None:
+        once = printed(text, request, request["again"])
+        alone = request_of("runs=1")
+        same = once.partition("\n")[2] == printed(once, alone, 0).partition("\n")[2]
+        return f"the same again: {str(same).lower()}\n{swept(once, alone, pool, program)}"
+    if request["print"] is not None: return printed(text, request, request["print"])
+    return swept(text, request, pool, program)
+
+
+def main():
+    words, program, jobs = sys.argv[1:], None, os.cpu_count()
+    while len(words) > 1 and words[1] in ("--program", "--jobs"):
+        if words[1] == "--jobs": jobs = int(words[2])
+        else: program = words[2]
+        del words[1:3]
+    with Pool(jobs) as pool:
+        if words[:1] == ["says"] and len(words) > 1:
+            sys.stdout.write(answer(open(words[1]).read(), " ".join(words[2:]), pool, program))
+        elif words == ["answers"]:
+            for block in sys.stdin.read().split("---\n"):
+                text, _, lines = block.partition("asked\n")
+                sys.stdout.write("".join(f"> {line}\n{answer(text, line, pool, program)}" for line in lines.splitlines()) + "---\n")
+        else:
+            sys.exit(sys.stderr.write(__doc__) and 2)
+
+
+if __name__ == "__main__":
+    main()

@@ -1,0 +1,141 @@
+//! What is answered to a request.
+
+use crate::request::{Request, Wanted, usual_options};
+use anyhow::Result;
+use std::alloc::{AllocError, Global};
+use std::thread::Threads;
+use wl_device::{ScriptedReader, ScriptedWriter, Then};
+use wl_sweep_engine::{Asked, Options, SweepFault, Tally, Workers, print_run, sweep_run};
+
+/// A reader of a plan text, by seven bytes a call.
+fn reader(plan: &str) -> ScriptedReader {
+    ScriptedReader {
+        text: plan.as_bytes(),
+        step: 7,
+        then: Then::End,
+    }
+}
+
+/// A writer that takes whatever is written, by eleven bytes a call.
+fn ample(alloc: Global) -> ScriptedWriter {
+    ScriptedWriter {
+        written: Vec::new(alloc),
+        room: usize::MAX,
+        step: 11,
+        then: Then::Failed,
+    }
+}
+
+/// The text that was written.
+fn written(alloc: Global, writer: &ScriptedWriter) -> Result<String, AllocError> {
+    match str::from_utf8(writer.written.as_slice()) {
+        Ok(text) => String::from_str(alloc, text),
+        Err(_) => String::from_str(alloc, "no letters\n"),
+    }
+}
+
+/// The line of a fault, and whose it is.
+fn fault_line(alloc: Global, fault: &SweepFault) -> Result<String, AllocError> {
+    let (word, plan) = (fault.is_word(), fault.is_refusal());
+    format!(in alloc; "fault: {fault}, of a word: {word}, of the plan: {plan}\n")
+}
+
+/// What a sweep wrote, and how it ended.
+fn swept<H: Threads + Sync + Eprint>(
+    rt: &H,
+    alloc: Global,
+    request: &Request,
+    plan: &str,
+) -> Result<String, AllocError> {
+    let mut writer = ample(alloc);
+    let (asked, ranges) = (request.asked, request.ranges.as_slice());
+    let ended = sweep_run(
+        rt,
+        alloc,
+        ranges,
+        asked,
+        request.workers,
+        &mut reader(plan),
+        &mut writer,
+    );
+    let mut said = written(alloc, &writer)?;
+    match ended {
+        Ok(tally) => writeln!(said, "all clean: {}", tally.all_clean())?,
+        Err(fault) => said.push_str(fault_line(alloc, &fault)?.as_str())?,
+    }
+    Ok(said)
+}
+
+/// The text of a member, or the line of its fault.
+fn printed(
+    alloc: Global,
+    request: &Request,
+    number: u64,
+    plan: &str,
+) -> Result<String, AllocError> {
+    let mut writer = ample(alloc);
+    let (asked, ranges) = (request.asked, request.ranges.as_slice());
+    let ended = print_run(alloc, ranges, asked, number, &mut reader(plan), &mut writer);
+    let mut said = written(alloc, &writer)?;
+    if let Err(fault) = ended {
+        said.push_str(fault_line(alloc, &fault)?.as_str())?;
+    }
+    Ok(said)
+}
+
+/// A request for one plan as it is.
+fn alone(alloc: Global) -> Request {
+    Request {
+        asked: Asked {
+            options: Options {
+                runs: 1,
+                ..usual_options()
+            },
+            worst: false,
+        },
+        workers: Workers {
+            count: 1,
+            progress: false,
+        },
+        wanted: Wanted::Sweep,
+        ranges: Vec::new(alloc),
+    }
+}
+
+/// A text after its first line.
+fn later_lines(text: &str) -> &str {
+    match text.split_once("\n") {
+        Some((_, rest)) => rest,
+        None => "",
+    }
+}
+
+/// Whether a member's text is printed as the same text where it is read again, and what a sweep says of it alone.
+fn read_again<H: Threads + Sync + Eprint>(
+    rt: &H,
+    alloc: Global,
+    request: &Request,
+    number: u64,
+    plan: &str,
+) -> Result<String, AllocError> {
+    let once = printed(alloc, request, number, plan)?;
+    let alone = alone(alloc);
+    let twice = printed(alloc, &alone, 0, once.as_str())?;
+    let same = later_lines(once.as_str()) == later_lines(twice.as_str());
+    let said = swept(rt, alloc, &alone, once.as_str())?;
+    format!(in alloc; "the same again: {same}\n{said}")
+}
+
+/// The answer to a request.
+pub fn answer<H: Threads + Sync + Eprint>(
+    rt: &H,
+    alloc: Global,
+    request: &Request,
+    plan: &str,
+) -> Result<String, AllocError> {
+    match request.wanted {
+        Wanted::Sweep => swept(rt, alloc, request, plan),
+        Wanted::Print(number) => printed(alloc, request, number, plan),
+        Wanted::Again(number) => read_again(rt, alloc, request, number, plan),
+    }
+}
