@@ -401,9 +401,6 @@ impl Rows {
     }
 
     ghost use Rattle.std.specs.Prelude.{All};
-    ghost use Rattle.std.specs.Prelude.{All};
-    ghost use Rattle.std.specs.Prelude.{All};
-    ghost use Rattle.std.specs.Prelude.{All};
     ghost use Rattle.std.specs.List.{flat_map};
     ghost use Rattle.wl_replica.specs.Canonical.{canonical};
 
