@@ -1,5 +1,5 @@
 -- A bit of recessive quanta on a free bus, in which no frame is ready: of all of them only the sample is kept.
-use Rattle.std.proofs.Common.{◌≡◌, ◌∙◌, ℕ, suc, ◌+◌, ◌-◌, ◌<◌, inl, inr, List, [], ◌∷◌, ◌++◌, length, replicate, sym, ap, subst, arith, append-nil, length-append}
+use Rattle.std.proofs.Common.{◌≡◌, ◌∙◌, ℕ, suc, ◌+◌, ◌-◌, ◌<◌, inl, inr, List, [], ◌∷◌, ◌++◌, drop, length, None, replicate, refl, sym, ap, subst, arith, append-nil, length-append}
 use Rattle.std.proofs.lemmas.Bool.{cases_lt}
 use Rattle.std.proofs.lemmas.List.{length-replicate}
 use Rattle.wl_level.specs.declared.Level.{Level}
@@ -12,10 +12,27 @@ use Rattle.wl_node.specs.declared.traffic.Traffic.{Traffic}
 use Rattle.wl_node.specs.declared.progress.Progress.{Progress}
 use Rattle.wl_node.specs.History.{History, history_of, history_after, history_after_sample, ready_head, seen_next, unsent_of, sampled_next, by_beat, syncs_at}
 use Rattle.wl_node.specs.Kept.{IsTraffic, IsProgress, FitsHistory}
-use Rattle.wl_node.specs.Rest.{IsRest}
+use Rattle.wl_node.specs.Rest.{AlwaysRests, IsRest}
+use Rattle.wl_sync.specs.Skips.{IsRestingBit}
 use Rattle.wl_node.proofs.Turns.{history_next}
 use Rattle.wl_node.proofs.Skipped.{seen_more, same_history, IsIdleFor, history_skipped}
 use Rattle.wl_node.proofs.Rested.{rests}
+
+-- where no frame is ready at the sample
+pub rests_here : (setup : NodeSetup) (levels : List Level) (kept : Progress) (n : ℕ) → AlwaysRests kept n → IsProgress setup kept levels
+    → ready_head (drop kept.traffic.sent setup.queue) (kept.quanta + n - 1) ≡ None → IsRest setup kept (history_of setup levels) n
+rests_here setup levels kept n rests old none =
+    let h : History = history_of setup levels in
+    let bit : IsRestingBit setup.segments h.seen (seen_next h Recessive) n = rests.bit setup.segments h.seen old.place.clock (seen_next h Recessive) refl in
+    let unsent : drop kept.traffic.sent setup.queue ≡ unsent_of setup h = ap (λ k. drop k setup.queue) old.place.traffic.sent in
+    let last : kept.quanta + n - 1 ≡ length h.seen + bit.last = (let b = bit.bit in let q = old.place.quanta in omega arith) in
+    record {
+      free = rests.free h.inputs old.place.traffic.machine;
+      settled = sym old.place.drive ∙ rests.settled ∙ old.place.traffic.pending;
+      bit = bit;
+      none = ap (λ u. ready_head u (length h.seen + bit.last)) (sym unsent) ∙ ap (ready_head (drop kept.traffic.sent setup.queue)) (sym last) ∙ none;
+      stays = rests.stays;
+    }
 
 module _ (setup : NodeSetup) (levels : List Level) (kept : Progress) (old : IsProgress setup kept levels) (n : ℕ) (rest : IsRest setup kept (history_of setup levels) n) where
   abbrev h : History

@@ -2,6 +2,8 @@
 use Rattle.std.specs.Prelude.{◌≡◌, ℕ, ◌+◌, true, List, [], ◌∷◌, ◌++◌, length, None}
 use Rattle.wl_level.specs.declared.Level.{Level}
 use Rattle.wl_level.specs.declared.Level.TheVariants.{Recessive}
+use Rattle.wl_sync.specs.Edges.{Seen}
+use Rattle.wl_sync.specs.Running.{Follows}
 use Rattle.wl_sync.specs.Skips.{IsRestingBit}
 use Rattle.wl_confine.specs.declared.Mode.{Mode}
 use Rattle.wl_machine.specs.Stretch.{Input}
@@ -11,8 +13,7 @@ use Rattle.wl_machine.specs.Reached.{IsMachine}
 use Rattle.wl_machine.specs.States.{sample_of}
 use Rattle.wl_node.specs.declared.setup.NodeSetup.{NodeSetup}
 use Rattle.wl_node.specs.declared.progress.Progress.{Progress}
-use Rattle.wl_node.specs.History.{History, history_of, seen_next, unsent_of, ready_head}
-use Rattle.wl_node.specs.Kept.{IsProgress}
+use Rattle.wl_node.specs.History.{History, seen_next, unsent_of, ready_head}
 use Rattle.wl_node.specs.Quiet.{pending_of}
 
 -- so many recessive quanta are such a bit
@@ -23,6 +24,9 @@ pub record IsRest (setup : NodeSetup) (kept : Progress) (h : History) (n : ℕ) 
   pub none : ready_head (unsent_of setup h) (length h.seen + bit.last) ≡ None
   pub stays : (past : List Input) (mode : Mode) → IsMachine kept.traffic.machine past → IsMachine kept.traffic.machine (past ++ Sample (sample_of Recessive None mode) ∷ [])
 
--- whatever put the node where it is
-abbrev pub AlwaysRests : NodeSetup → Progress → ℕ → Type 0
-AlwaysRests setup kept n = (levels : List Level) → IsProgress setup kept levels → IsRest setup kept (history_of setup levels) n
+-- as many recessive quanta more are such a bit, wherever the node is, as long as no frame is ready
+pub record AlwaysRests (kept : Progress) (n : ℕ) : Type 0 where
+  pub free : (past : List Input) → IsMachine kept.traffic.machine past → is_free_sort (stretch_of past).sort ≡ true
+  pub settled : kept.drive ≡ kept.traffic.pending
+  pub bit : Follows kept.clock (λ l past. (x : Seen) → x.level ≡ Recessive → IsRestingBit l past x n)
+  pub stays : (past : List Input) (mode : Mode) → IsMachine kept.traffic.machine past → IsMachine kept.traffic.machine (past ++ Sample (sample_of Recessive None mode) ∷ [])

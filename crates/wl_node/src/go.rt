@@ -5,7 +5,9 @@ use std::alloc::AllocError;
 use wl_level::Level;
 
 impl Node {
-    ghost use Rattle.std.specs.Prelude.{◌+◌, ◌<◌, ◌≤◌, OnErr, IfOk};
+    ghost use Rattle.std.specs.Prelude.{◌≡◌, ◌+◌, ◌-◌, ◌<◌, ◌≤◌, OnErr, IfOk, None, drop, vec_len, vec_capacity};
+    ghost use Rattle.wl_node.specs.History.{ready_head};
+    ghost use Rattle.wl_node.specs.Rest.{AlwaysRests};
     ghost use Rattle.wl_node.specs.Limits.{most_run_quanta};
     ghost use Rattle.wl_node.specs.Reached.{quanta_of, HasGone, HasStopped, StandsFor, TurnsAfter};
 
@@ -83,27 +85,50 @@ impl Node {
         ensures stands { StandsFor self.old level result }
         ensures few { result ≤ most }
     {
-        let mut done = 0;
         if level.is_dominant() {
-            return done;
+            return 0;
         }
-        while done < most {
-            let rested = self.rest_bit(most - done);
-            if rested == 0 {
-                return done;
-            }
-            done += rested;
+        match self.progress.rests() {
+            Some(quanta) => self.rest_bits(quanta, most),
+            None => 0,
         }
-        done
     }
 
-    /// One of them.
-    fn rest_bit(&mut self, most: u64) -> u64
+    /// Bits of so many quanta each, at most `most` quanta in all.
+    fn rest_bits(&mut self, quanta: u64, most: u64) -> u64
+        requires rests { AlwaysRests self.old.progress quanta }
+        requires some { 0 < quanta }
         requires short { quanta_of self.old + most ≤ most_run_quanta }
         ensures gone { HasGone Level.Recessive result self.old self.new }
         ensures stands { StandsFor self.old Level.Recessive result }
         ensures few { result ≤ most }
     {
-        self.progress.rest_bit(&self.setup, most)
+        let ready = self.progress.ready_from(&self.setup);
+        let mut done = 0;
+        while quanta <= most - done
+            && self.progress.quanta + quanta <= ready
+            && self.progress.has_room()
+        {
+            self.rest_bit(quanta);
+            done += quanta;
+        }
+        done
+    }
+
+    /// One of them.
+    fn rest_bit(&mut self, quanta: u64)
+        requires rests { AlwaysRests self.old.progress quanta }
+        requires some { 0 < quanta }
+        requires none { ready_head (drop self.old.progress.traffic.sent self.old.setup.queue)
+            (self.old.progress.quanta + quanta - 1) ≡ None }
+        requires room { vec_len self.old.progress.traffic.samples < vec_capacity self.old.progress.traffic.samples }
+        requires short { quanta_of self.old + quanta ≤ most_run_quanta }
+        ensures gone { HasGone Level.Recessive quanta self.old self.new }
+        ensures stands { StandsFor self.old Level.Recessive quanta }
+        ensures rests { AlwaysRests self.new.progress quanta }
+        ensures sent { self.new.progress.traffic.sent ≡ self.old.progress.traffic.sent }
+        ensures setup { self.new.setup ≡ self.old.setup }
+    {
+        self.progress.rest_bit(&self.setup, quanta);
     }
 }

@@ -1,61 +1,66 @@
 //! Bits of a recessive line on a free bus, each at once.
 
-ghost use Rattle.std.specs.Prelude.{◌≡◌, ℕ, suc, ◌+◌, ◌<◌, ◌≤◌, Some, vec_len, vec_capacity};
+ghost use Rattle.std.specs.Prelude.{◌≡◌, ℕ, suc, ◌+◌, ◌-◌, ◌<◌, ◌≤◌, true, drop, None, Some, vec_len, vec_capacity};
 ghost use Rattle.wl_level.specs.declared.Level.{Level};
+ghost use Rattle.wl_node.specs.History.{ready_head};
 ghost use Rattle.wl_node.specs.Kept.{HasProgressedBy, KeepsDrive};
 ghost use Rattle.wl_node.specs.Limits.{most_run_quanta};
 ghost use Rattle.wl_node.specs.Rest.{AlwaysRests};
 
 use crate::progress::Progress;
 use crate::setup::NodeSetup;
-use crate::traffic::ready_head;
 use wl_level::Level;
 
 impl Progress {
-    /// One bit of recessive quanta, at most `most`, from a sample to the next: only where the bus is free, no frame is ready and there
-    /// is room for the sample; else none. Answers how many quanta ran.
-    pub fn rest_bit(&mut self, setup: &NodeSetup, most: u64) -> u64
-        requires short { self.old.quanta + most ≤ most_run_quanta }
-        ensures place { HasProgressedBy setup.now Level.Recessive result self.old self.new }
-        ensures drive { KeepsDrive setup.now Level.Recessive (suc result) self.old }
-        ensures few { result ≤ most }
-        ensures quanta { self.new.quanta ≡ self.old.quanta + result }
-        ensures hards { self.new.syncs.hards ≡ self.old.syncs.hards }
-        ensures errors { self.new.traffic.errors ≡ self.old.traffic.errors }
-    {
-        match self.next_rest(setup, most) {
-            Some(quanta) => {
-                self.quanta += quanta;
-                self.traffic
-                    .samples
-                    .push_reserved((self.quanta - 1, Level::Recessive));
-                quanta
-            }
-            None => 0,
-        }
-    }
-
-    /// The quanta of such a bit, where it can run.
-    fn next_rest(&self, setup: &NodeSetup, most: u64) -> Option<u64>
-        requires short { self.now.quanta + most ≤ most_run_quanta }
-        ensures rests { (n : ℕ) → result ≡ Some n → AlwaysRests setup.now self.now n }
+    /// The quanta of a bit, where as many recessive ones, up to the next sample, leave all but the samples as it is, as long as no frame is
+    /// ready: where the bus is free, right after the sample of a bit that nothing moved.
+    pub fn rests(&self) -> Option<u64>
+        ensures rests { (n : ℕ) → result ≡ Some n → AlwaysRests self.now n }
         ensures some { (n : ℕ) → result ≡ Some n → 0 < n }
-        ensures few { (n : ℕ) → result ≡ Some n → n ≤ most }
-        ensures room { (n : ℕ) → result ≡ Some n
-            → vec_len self.now.traffic.samples < vec_capacity self.now.traffic.samples }
     {
         if !self.traffic.machine.is_free() || !self.drive.is(self.traffic.pending) {
             return None;
         }
-        let quanta = self.clock.resting_bit()? as u64;
-        if most < quanta || self.traffic.samples.len() == self.traffic.samples.capacity() {
-            return None;
+        let quanta = self.clock.resting_bit()?;
+        Some(quanta as u64)
+    }
+
+    /// Such a bit, in which no frame is ready, where there is room for its sample.
+    pub fn rest_bit(&mut self, setup: &NodeSetup, quanta: u64)
+        requires rests { AlwaysRests self.old quanta }
+        requires some { 0 < quanta }
+        requires none { ready_head (drop self.old.traffic.sent setup.now.queue) (self.old.quanta + quanta - 1) ≡ None }
+        requires room { vec_len self.old.traffic.samples < vec_capacity self.old.traffic.samples }
+        requires short { self.old.quanta + quanta ≤ most_run_quanta }
+        ensures place { HasProgressedBy setup.now Level.Recessive quanta self.old self.new }
+        ensures drive { KeepsDrive setup.now Level.Recessive (suc quanta) self.old }
+        ensures rests { AlwaysRests self.new quanta }
+        ensures sent { self.new.traffic.sent ≡ self.old.traffic.sent }
+        ensures quanta { self.new.quanta ≡ self.old.quanta + quanta }
+        ensures hards { self.new.syncs.hards ≡ self.old.syncs.hards }
+        ensures errors { self.new.traffic.errors ≡ self.old.traffic.errors }
+    {
+        self.quanta += quanta;
+        self.traffic
+            .samples
+            .push_reserved((self.quanta - 1, Level::Recessive));
+    }
+
+    /// There is room for one more sample.
+    pub fn has_room(&self) -> bool
+        ensures { result ≡ true → vec_len self.now.traffic.samples < vec_capacity self.now.traffic.samples }
+    {
+        self.traffic.samples.len() < self.traffic.samples.capacity()
+    }
+
+    /// The quantum before which no frame is ready, as long as none is sent.
+    pub fn ready_from(&self, setup: &NodeSetup) -> u64
+        ensures { (quantum : ℕ) → quantum < result
+            → ready_head (drop self.now.traffic.sent setup.now.queue) quantum ≡ None }
+    {
+        match setup.queue.as_slice().get(self.traffic.sent) {
+            Some(first) => first.ready,
+            None => u64::MAX,
         }
-        let last = self.quanta + quanta - 1;
-        let head = ready_head(setup.queue.as_slice(), self.traffic.sent, last);
-        if head.is_some() {
-            return None;
-        }
-        Some(quanta)
     }
 }

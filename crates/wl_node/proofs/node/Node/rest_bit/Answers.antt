@@ -7,7 +7,7 @@ pub invariant_of-self : goal.invariant_of-self
 invariant_of-self c = record {
   few_hards = omega (arith, c.args.self.now.few_hards, c.rest_bit.ensures.hards, c.rest_bit.ensures.quanta);
   few_errors = omega (arith, c.args.self.now.few_errors, c.rest_bit.ensures.errors, c.rest_bit.ensures.quanta);
-  reached = ∥∥₁_map c.args.self.now.reached (λ (levels, h). (levels ++ replicate c.rest_bit.result Recessive, c.rest_bit.ensures.place levels h));
+  reached = ∥∥₁_map c.args.self.now.reached (λ (levels, h). (levels ++ replicate c.args.quanta Recessive, c.rest_bit.ensures.place levels h));
 }
 
 pub returns-clause-gone : goal.returns-clause-gone
@@ -19,4 +19,4 @@ returns-clause-gone c = record {
 }
 
 pub returns-clause-stands : goal.returns-clause-stands
-returns-clause-stands c = c.rest_bit.ensures.drive c.rest_bit.result (omega arith)
+returns-clause-stands c = c.rest_bit.ensures.drive c.args.quanta (omega arith)

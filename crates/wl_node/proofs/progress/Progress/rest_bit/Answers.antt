@@ -1,10 +1,10 @@
 use Rattle.std.proofs.Common.{refl}
 use Rattle.wl_node.specs.declared.traffic.Traffic.{Traffic}
-use Rattle.wl_node.proofs.RestingBits.{now_rested, rested_drive}
+use Rattle.wl_node.proofs.RestingBits.{now_rested, rested_drive, rests_here}
 use Rattle.wl_node.proofs.progress.Progress.rest_bit.Goals as goal
 
-pub returns-in-Some-clause-place : goal.returns-in-Some-clause-place
-returns-in-Some-clause-place c levels old =
+pub returns-clause-place : goal.returns-clause-place
+returns-clause-place c levels old =
     let now : Traffic = record {
       machine = c.args.self.now.traffic.machine;
       counters = c.args.self.now.traffic.counters;
@@ -14,8 +14,17 @@ returns-in-Some-clause-place c levels old =
       samples = c.push_reserved.new.self;
       frames = c.args.self.now.traffic.frames;
     } in
-    now_rested c.args.setup.now levels c.args.self.now old c.in-Some.quanta (c.in-Some.ensures.rests c.in-Some.quanta refl levels old) now refl refl refl refl refl refl c.push_reserved.ensures.items
+    now_rested c.args.setup.now levels c.args.self.now old c.args.quanta (rests_here c.args.setup.now levels c.args.self.now c.args.quanta c.requires.rests old c.requires.none)
+    now refl refl refl refl refl refl c.push_reserved.ensures.items
 
-pub returns-in-Some-clause-drive : goal.returns-in-Some-clause-drive
-returns-in-Some-clause-drive c m less levels old =
-    rested_drive c.args.setup.now levels c.args.self.now old c.in-Some.quanta (c.in-Some.ensures.rests c.in-Some.quanta refl levels old) m less
+pub returns-clause-drive : goal.returns-clause-drive
+returns-clause-drive c m less levels old =
+    rested_drive c.args.setup.now levels c.args.self.now old c.args.quanta (rests_here c.args.setup.now levels c.args.self.now c.args.quanta c.requires.rests old c.requires.none) m less
+
+pub returns-clause-rests : goal.returns-clause-rests
+returns-clause-rests c = record {
+  free = c.requires.rests.free;
+  settled = c.requires.rests.settled;
+  bit = c.requires.rests.bit;
+  stays = c.requires.rests.stays;
+}
