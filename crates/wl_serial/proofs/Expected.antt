@@ -21,6 +21,7 @@ ear_told plan m i tick old e node was delays others shaken sooner = record {
   delays = subst (AreDelays plan m) (sym delays) was.delays;
   others = subst (AreOthers plan m) (sym others) was.others;
   sources = kept_sooner (length plan.nodes) i (tick + delay_of plan.topology i m) old.sources e.sources node (sooner_by plan m i tick old e node was sooner) was.sources;
+  ahead = sooner.ahead was.ahead;
   shaken = subst (IsPulse (disturbed plan m)) (sym shaken) was.shaken;
 }
 

@@ -11,7 +11,7 @@ use Rattle.wl_plan.specs.declared.plan.Plan.{Plan}
 use Rattle.wl_serial.specs.declared.running_node.Running.{Running}
 use Rattle.wl_serial.specs.declared.sources.Sources.{Sources}
 use Rattle.wl_serial.specs.declared.pulse.Pulse.{Pulse}
-use Rattle.wl_serial.specs.Heard.{drove, passing, AreTallied, AreSooner, AreSources, IsPulseTold}
+use Rattle.wl_serial.specs.Heard.{drove, passing, AreTallied, IsAhead, AreSooner, AreSources, IsPulseTold}
 use Rattle.wl_topology.proofs.Callers.{any_same}
 
 -- some number passes where there is one at least that does
@@ -140,4 +140,20 @@ pub until_one_more : (i until next : ℕ) (old new : Sources) → next ≤ until
 until_one_more i until next old new few here same each k b = elim (cases_eq k i) [
   | inl own ↦ (let e = ap (λ n. get_or new.nexts n 0) own in omega (arith, e, here))
   | inr other ↦ (let e = same k other in let f = each k (omega (arith, b, other)) in omega (arith, e, f, few))
+]
+
+-- from none of the nodes so far but one, and from one node more
+pub others_one_more : (i one others next : ℕ) (s : Sources) → next ≤ others → next ≤ get_or s.nexts i 0 → ((k : ℕ) → k ≢ one → k < i → others ≤ get_or s.nexts k 0)
+    → (k : ℕ) → k ≢ one → k < i + 1 → next ≤ get_or s.nexts k 0
+others_one_more i one others next s few here each k other b = elim (cases_eq k i) [
+  | inl own ↦ (let e = ap (λ n. get_or s.nexts n 0) own in omega (arith, e, here))
+  | inr less ↦ (let f = each k other (omega (arith, b, less)) in omega (arith, f, few))
+]
+
+-- from no node anything comes before both ticks
+pub until_ahead : (i until : ℕ) (old new : Sources) → IsAhead old → i ≡ old.one → new.others ≡ old.others → ((k : ℕ) → k ≢ i → get_or new.nexts k 0 ≡ get_or old.nexts k 0)
+    → until ≤ get_or new.nexts i 0 → until ≤ new.others → (k : ℕ) → k < most_places → until ≤ get_or new.nexts k 0
+until_ahead i until old new ahead one others same here few k b = elim (cases_eq k i) [
+  | inl own ↦ (let e = ap (λ n. get_or new.nexts n 0) own in omega (arith, e, here))
+  | inr other ↦ (let e = same k other in let f = ahead.others k (λ x. other (x ∙ sym one)) b in omega (arith, e, f, few, others))
 ]

@@ -52,10 +52,16 @@ pub record AreTallied (n : ℕ) (s : Sources) : Type 0 where
   pub beyond : (i : ℕ) → n ≤ i → i < most_places → 2 ^ 63 ≤ slice_index_or s.nexts i 0
   pub driving : s.driving ≡ passing (λ i. slice_index_or s.drives i false) n
 
+-- of no node but the one that is kept apart a change comes before that tick
+pub record IsAhead (s : Sources) : Type 0 where
+  pub inside : s.one < most_places
+  pub others : (k : ℕ) → k ≢ s.one → k < most_places → s.others ≤ slice_index_or s.nexts k 0
+
 -- what a place keeps
 pub record IsEar (plan : Plan) (j : ℕ) (ear : Ear) : Type 0 where
   pub delays : AreDelays plan j ear.delays
   pub sources : AreTallied (length plan.nodes) ear.sources
+  pub ahead : IsAhead ear.sources
   pub others : AreOthers plan j ear.others
   pub shaken : IsPulse (disturbed plan j) ear.shaken
 
@@ -90,6 +96,7 @@ pub record AreSooner (i comes : ℕ) (old new : Sources) : Type 0 where
   pub others : (k : ℕ) → k ≢ i → slice_index_or new.nexts k 0 ≡ slice_index_or old.nexts k 0
   pub few : slice_index_or new.nexts i 0 ≤ slice_index_or old.nexts i 0
   pub comes_then : slice_index_or new.nexts i 0 ≤ comes
+  pub ahead : IsAhead old → IsAhead new
 
 -- What place j has heard, from a tick on that is no later than its next quantum.
 pub record IsHeard (plan : Plan) (rs : List Running) (j : ℕ) (ear : Ear) : Type 0 where

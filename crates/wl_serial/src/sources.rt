@@ -2,7 +2,7 @@
 ghost use Rattle.std.specs.Prelude.{◌≡◌, ◌≢◌, ℕ, ◌<◌, ◌≤◌, ◌^◌, false, length, slice_index_or};
 ghost use Rattle.wl_plan.specs.Checked.{IsChecked};
 ghost use Rattle.wl_record_core.specs.Truth.{IsIncreasing};
-ghost use Rattle.wl_serial.specs.Heard.{AreDelays, AreTallied, AreSooner, AreSources, IsPulseTold, drove};
+ghost use Rattle.wl_serial.specs.Heard.{AreDelays, AreTallied, IsAhead, AreSooner, AreSources, IsPulseTold, drove};
 ghost use Rattle.wl_serial.specs.Running.{AreSomewhere};
 
 use crate::pulse::{Pulse, pulse_of};
@@ -11,7 +11,7 @@ use wl_plan::Plan;
 use wl_topology::MOST_NODES;
 
 /// Of each node how many of its changes had come when they were last asked for, the tick at which the next one comes to the place, and whether
-/// it drives dominant there up to then; and how many nodes do.
+/// it drives dominant there up to then; how many nodes do; and one node, with a tick before which no change of another one comes.
 #[derive(Drop)]
 pub(crate) struct Sources {
     /// It speeds up the next time, and decides nothing.
@@ -19,6 +19,8 @@ pub(crate) struct Sources {
     pub(crate) nexts: Ticks,
     pub(crate) drives: [bool; MOST_NODES],
     pub(crate) driving: usize,
+    pub(crate) one: usize,
+    pub(crate) others: u64,
 }
 
 impl Sources {
@@ -26,6 +28,7 @@ impl Sources {
     pub(crate) fn new(plan: &Plan) -> Sources
         requires { IsChecked plan.now }
         ensures kept { AreTallied (length plan.now.nodes) result }
+        ensures ahead { IsAhead result }
         ensures nothing { (i : ℕ) → i < length plan.now.nodes → slice_index_or result.nexts i 0 ≡ 0 }
     {
         let mut nexts = [u64::MAX; MOST_NODES];
@@ -37,11 +40,53 @@ impl Sources {
             nexts,
             drives: [false; MOST_NODES],
             driving: 0,
+            one: 0,
+            others: 0,
         }
     }
 
-    /// Whether the changes of some node tell that it drives dominant at place `j`, from tick `t` on. Only nodes of which a change has come are asked.
+    /// Whether the changes of some node tell that it drives dominant at place `j`, from tick `t` on. While one node alone changes its drive, no other
+    /// one is asked.
     pub(crate) fn hear(
+        &mut self,
+        plan: &Plan,
+        running: &[Running],
+        delays: &Ticks,
+        j: usize,
+        t: u64,
+    ) -> Pulse
+        requires checked { IsChecked plan.now }
+        requires node { j < length plan.now.nodes }
+        requires somewhere { AreSomewhere plan.now running.now }
+        requires delays { AreDelays plan.now j delays.now }
+        requires early { t < 2 ^ 63 }
+        requires kept { AreTallied (length plan.now.nodes) self.old }
+        requires ahead { IsAhead self.old }
+        requires sources { AreSources plan.now running.now j t self.old }
+        ensures kept { AreTallied (length plan.now.nodes) self.new }
+        ensures ahead { IsAhead self.new }
+        ensures sources { AreSources plan.now running.now j t self.new }
+        ensures from { result.from ≡ t }
+        ensures until { t < result.until }
+        ensures told { IsPulseTold plan.now running.now j result }
+    {
+        if self.others <= t {
+            return self.hear_all(plan, running, delays, j, t);
+        }
+        let i = self.one;
+        if self.nexts[i] <= t {
+            self.take(plan, running[i].changes.as_slice(), delays[i], i, t);
+        }
+        let until = self.nexts[i].min(self.others);
+        Pulse {
+            from: t,
+            until,
+            dominant: 0 < self.driving,
+        }
+    }
+
+    /// The same, where any node may have changed its drive. Only those of which a change has come are asked.
+    fn hear_all(
         &mut self,
         plan: &Plan,
         running: &[Running],
@@ -57,18 +102,27 @@ impl Sources {
         requires kept { AreTallied (length plan.now.nodes) self.old }
         requires sources { AreSources plan.now running.now j t self.old }
         ensures kept { AreTallied (length plan.now.nodes) self.new }
+        ensures ahead { IsAhead self.new }
         ensures sources { AreSources plan.now running.now j t self.new }
         ensures from { result.from ≡ t }
         ensures until { t < result.until }
         ensures told { IsPulseTold plan.now running.now j result }
     {
         let mut until = u64::MAX;
+        let mut one = 0;
+        let mut others = u64::MAX;
         for i in 0..MOST_NODES {
             if self.nexts[i] <= t {
                 self.take(plan, running[i].changes.as_slice(), delays[i], i, t);
+                one = i;
+                others = until;
+            } else {
+                others = others.min(self.nexts[i]);
             }
             until = until.min(self.nexts[i]);
         }
+        self.one = one;
+        self.others = others;
         Pulse {
             from: t,
             until,
@@ -84,6 +138,8 @@ impl Sources {
         requires early { t < 2 ^ 63 }
         requires kept { AreTallied (length plan.now.nodes) self.old }
         ensures kept { AreTallied (length plan.now.nodes) self.new }
+        ensures one { self.new.one ≡ self.old.one }
+        ensures others { self.new.others ≡ self.old.others }
         ensures nexts { (k : ℕ) → k ≢ i → slice_index_or self.new.nexts k 0 ≡ slice_index_or self.old.nexts k 0 }
         ensures drives { (k : ℕ) → k ≢ i
             → slice_index_or self.new.drives k false ≡ slice_index_or self.old.drives k false }
@@ -103,5 +159,8 @@ impl Sources {
         ensures { AreSooner i comes self.old self.new }
     {
         self.nexts[i] = self.nexts[i].min(comes);
+        if i != self.one {
+            self.others = self.others.min(comes);
+        }
     }
 }
