@@ -136,6 +136,10 @@ resident() { # resident WORDS..: the most KiB of memory that a program had, as /
 }
 few=$(resident "$program" sweep "$room/wide" --runs 20000) many=$(resident "$program" sweep "$room/wide" --runs 300000)
 is "memory of 20,000 runs $few KiB, of 300,000 $many KiB" [ "$few" -gt 0 -a "$many" -lt $((few + few / 4)) ]
-# Progress goes to standard error, and changes no output
+# Progress goes to standard error from the first second on, and changes no output
+"$program" sweep --workers 1 --runs 1500 examples/sixteen_nodes.toml > "$room/without"
+"$program" sweep --workers 1 --runs 1500 --progress examples/sixteen_nodes.toml > "$room/out" 2> "$room/err"
+is "progress of a sweep: $(head -1 "$room/err")" [ -s "$room/err" -a -z "$(grep -vE '^progress: row 1 of 1, [0-9]+ of 1500 runs, [0-9]+ clean, [1-9][0-9]* s$' "$room/err")" ]
+is 'and its output' cmp -s "$room/out" "$room/without"
 "$program" sweep --progress < "$room/pair" > "$room/out" 2> "$room/err"
-is "progress of a sweep: $(head -1 "$room/err")" [ -z "$(grep -v '^progress: row 1 of 1, ' "$room/err")" ] && is 'and its output' grep -qx 'clean in 75 of 80' "$room/out"
+is 'no progress of a short sweep' [ ! -s "$room/err" ] && is 'and its output' grep -qx 'clean in 75 of 80' "$room/out"

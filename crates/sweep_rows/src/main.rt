@@ -13,6 +13,7 @@ use anyhow::Result;
 use std::alloc::Global;
 use std::io::Read;
 use std::thread::Threads;
+use std::time::Clock;
 
 fn main(rt: HostRuntime) -> Result<()> {
     let mut texts = String::new(rt.alloc());
@@ -25,7 +26,7 @@ fn main(rt: HostRuntime) -> Result<()> {
 }
 
 /// What is answered to the requests of a block.
-fn answers<H: Threads + Sync + Eprint>(rt: &H, alloc: Global, block: &str) -> Result<String> {
+fn answers<H: Threads + Sync + Eprint + Clock>(rt: &H, alloc: Global, block: &str) -> Result<String> {
     let mut said = String::new(alloc);
     let Some((plan, requests)) = block.split_once("asked\n") else {
         return Ok(said);

@@ -4,6 +4,7 @@ use crate::request::{Request, Wanted, usual_options};
 use anyhow::Result;
 use std::alloc::{AllocError, Global};
 use std::thread::Threads;
+use std::time::Clock;
 use wl_device::{ScriptedReader, ScriptedWriter, Then};
 use wl_sweep_engine::{Asked, Options, SweepFault, Tally, Workers, print_run, sweep_run};
 
@@ -41,7 +42,7 @@ fn fault_line(alloc: Global, fault: &SweepFault) -> Result<String, AllocError> {
 }
 
 /// What a sweep wrote, and how it ended.
-fn swept<H: Threads + Sync + Eprint>(
+fn swept<H: Threads + Sync + Eprint + Clock>(
     rt: &H,
     alloc: Global,
     request: &Request,
@@ -111,7 +112,7 @@ fn later_lines(text: &str) -> &str {
 }
 
 /// Whether a member's text is printed as the same text where it is read again, and what a sweep says of it alone.
-fn read_again<H: Threads + Sync + Eprint>(
+fn read_again<H: Threads + Sync + Eprint + Clock>(
     rt: &H,
     alloc: Global,
     request: &Request,
@@ -127,7 +128,7 @@ fn read_again<H: Threads + Sync + Eprint>(
 }
 
 /// The answer to a request.
-pub fn answer<H: Threads + Sync + Eprint>(
+pub fn answer<H: Threads + Sync + Eprint + Clock>(
     rt: &H,
     alloc: Global,
     request: &Request,

@@ -139,7 +139,7 @@ fn run_words<
 
 /// Does the task of an order over the file to read that the order names, or over the reader where it names none. A file that can't be
 /// opened is answered as a reader that fails.
-fn perform<H: Threads + Wait + Sync + Eprint, R: Source, W: Sink, F: Folder>(
+fn perform<H: Threads + Wait + Sync + Eprint + Clock, R: Source, W: Sink, F: Folder>(
     rt: &H,
     alloc: Global,
     order: &Order,
@@ -167,7 +167,7 @@ fn perform<H: Threads + Wait + Sync + Eprint, R: Source, W: Sink, F: Folder>(
 
 /// Does a task over a new file for its output, or over the writer where no file is named. Where the task is done the file is moved to
 /// its name; else it is given up, and what was at its name stays.
-fn write_to<H: Threads + Wait + Sync + Eprint, R: Source, W: Sink, F: Folder>(
+fn write_to<H: Threads + Wait + Sync + Eprint + Clock, R: Source, W: Sink, F: Folder>(
     rt: &H,
     alloc: Global,
     work: Work,
@@ -259,7 +259,7 @@ fn thread_count<H: Threads>(rt: &H, said: Option<u8>) -> u8
 }
 
 /// Runs a sweep, or writes one of its members.
-fn run_sweep<H: Threads + Sync + Eprint, R: Source, W: Sink>(
+fn run_sweep<H: Threads + Sync + Eprint + Clock, R: Source, W: Sink>(
     rt: &H,
     alloc: Global,
     swept: Swept,
@@ -290,7 +290,7 @@ fn run_sweep<H: Threads + Sync + Eprint, R: Source, W: Sink>(
 }
 
 /// Runs the engine of a task. It may wait where that is a run by several workers.
-fn run<H: Threads + Wait + Sync + Eprint, R: Source, W: Sink>(
+fn run<H: Threads + Wait + Sync + Eprint + Clock, R: Source, W: Sink>(
     rt: &H,
     alloc: Global,
     work: Work,

@@ -7,25 +7,59 @@ use crate::finding::{Finding, finding_of_text};
 use crate::tally::Tally;
 use std::alloc::{AllocError, Global};
 use std::thread::{self, Threads};
+use std::time::{Clock, Duration, Instant};
 
-/// The most runs between two lines of progress.
+/// The most runs between two looks at the clock.
 const BATCH: u32 = 512;
 
-/// Which row of a sweep is run, for the lines of progress.
-#[derive(Clone, Copy, Debug, PartialEq, Eq)]
-pub(crate) struct Stage {
+/// How long a sweep takes before its first line of progress, in milliseconds.
+const FIRST: u64 = 1000;
+
+/// How long after a line of progress the next one comes, at the earliest, in milliseconds.
+const PAUSE: u64 = 200;
+
+/// How far a sweep is, for lines of progress. No clause speaks of it.
+#[derive(Clone, Copy, Debug)]
+pub(crate) struct Progress {
     /// The row, counted from 1.
-    pub(crate) row: u64,
+    row: u64,
     /// How many rows there are.
-    pub(crate) rows: u64,
+    rows: u64,
+    /// When the sweep began.
+    begun: Instant,
+    /// How long after that the next line may come.
+    next: Duration,
 }
 
-impl Stage {
-    /// Writes a line of progress to standard error; one that can't be written is left out.
-    fn report<R: Eprint>(self, rt: &R, done: u32, runs: u32, clean: u64) {
-        let Stage { row, rows } = self;
+impl Progress {
+    /// Begins to tell of so many rows, if there is a clock.
+    pub(crate) fn begin<R: Clock>(rt: &R, rows: u64) -> Option<Progress> {
+        let begun = Instant::now(rt).ok()?;
+        Some(Progress {
+            row: 0,
+            rows,
+            begun,
+            next: Duration::from_millis(FIRST),
+        })
+    }
+
+    /// Goes on to the next row.
+    pub(crate) fn next_row(&mut self) {
+        self.row = self.row.saturating_add(1);
+    }
+
+    /// Writes a line to standard error if one is due; one that can't be written is left out.
+    fn report<R: Eprint + Clock>(&mut self, rt: &R, done: u32, runs: u32, clean: u64) {
+        let Ok(taken) = self.begun.elapsed(rt) else {
+            return;
+        };
+        if taken < self.next {
+            return;
+        }
+        self.next = taken.saturating_add(Duration::from_millis(PAUSE));
+        let (row, rows, seconds) = (self.row, self.rows, taken.as_secs());
         let _ = eprintln!(rt;
-            "progress: row {row} of {rows}, {done} of {runs} runs, {clean} clean"
+            "progress: row {row} of {rows}, {done} of {runs} runs, {clean} clean, {seconds} s"
         );
     }
 }
@@ -117,14 +151,14 @@ impl Family {
         Ok(tally)
     }
 
-    /// The tally of all runs of a text, by so many threads. If a stage is named, a line on standard error says after each batch how many runs
-    /// are done and how many of these are clean; no clause speaks of it.
-    pub(crate) fn tally<R: Threads + Sync + Eprint>(
+    /// The tally of all runs of a text, by so many threads. Lines on standard error say how many runs are done and how many of these are
+    /// clean, if that is asked for; no clause speaks of them.
+    pub(crate) fn tally<R: Threads + Sync + Eprint + Clock>(
         &self,
         rt: &R,
         alloc: Global,
         workers: u8,
-        stage: Option<Stage>,
+        progress: &mut Option<Progress>,
     ) -> Result<Tally, AllocError>
         ensures { IfOk result (λ tally. tally ≡ tally_of (findings_of self.now.options self.now.text)) }
     {
@@ -135,8 +169,8 @@ impl Family {
             let next = done.saturating_add(BATCH).min(runs);
             tally = tally.then(self.batch(rt, alloc, done, next, workers)?);
             done = next;
-            if let Some(stage) = stage {
-                stage.report(rt, done, runs, tally.clean);
+            if let Some(progress) = progress {
+                progress.report(rt, done, runs, tally.clean);
             }
         }
         Ok(tally)

@@ -10,11 +10,12 @@ ghost use Rattle.wl_sweep.specs.Sweeps.{all_findings, first_line, is_small, loca
 use crate::family::Family;
 use crate::options::Options;
 use crate::range::{SweptRange, row_count, row_text};
-use crate::runs::Stage;
+use crate::runs::Progress;
 use crate::tally::Tally;
 use crate::text::{push_change, push_member, push_members, push_row, push_tally_line};
 use std::alloc::{AllocError, Global};
 use std::thread::Threads;
+use std::time::Clock;
 use wl_level::Listed;
 use wl_setup::{PlanText, Text};
 
@@ -65,25 +66,23 @@ impl Sweep {
         Family::new(alloc, text, self.options)
     }
 
-    /// What the lines of progress of a row begin with, if there are such.
-    fn stage(&self, workers: Workers, row: u64) -> Option<Stage> {
+    /// How far the sweep is, if lines of progress are asked for.
+    fn progress<R: Clock>(&self, rt: &R, workers: Workers) -> Option<Progress> {
         if workers.progress {
-            Some(Stage {
-                row: row.saturating_add(1),
-                rows: row_count(self.ranges.as_slice()),
-            })
+            Progress::begin(rt, row_count(self.ranges.as_slice()))
         } else {
             None
         }
     }
 
     /// Runs one row, by so many threads, and adds its line where there are ranges.
-    fn run_row<R: Threads + Sync + Eprint>(
+    fn run_row<R: Threads + Sync + Eprint + Clock>(
         &self,
         rt: &R,
         alloc: Global,
         row: u64,
-        workers: Workers,
+        workers: u8,
+        progress: &mut Option<Progress>,
         text: &mut String,
     ) -> Result<Sum, AllocError>
         ensures tally { IfOk result (λ sum. sum.tally ≡ tally_of (row_findings self.now row)) }
@@ -91,7 +90,10 @@ impl Sweep {
         ensures text { OnOk result (GrowsBy text.old text.new (rows_lines self.now (row ∷ []))) }
     {
         let family = self.family(alloc, row)?;
-        let tally = family.tally(rt, alloc, workers.count, self.stage(workers, row))?;
+        if let Some(progress) = progress {
+            progress.next_row();
+        }
+        let tally = family.tally(rt, alloc, workers, progress)?;
         if !self.ranges.is_empty() {
             push_row(text, self.ranges.as_slice(), row, tally)?;
         }
@@ -102,7 +104,7 @@ impl Sweep {
     }
 
     /// Runs all rows.
-    fn run_rows<R: Threads + Sync + Eprint>(
+    fn run_rows<R: Threads + Sync + Eprint + Clock>(
         &self,
         rt: &R,
         alloc: Global,
@@ -120,8 +122,9 @@ impl Sweep {
             tally: Tally::new(),
             members: 0,
         };
+        let mut progress = self.progress(rt, workers);
         for row in 0..row_count(self.ranges.as_slice()) {
-            let more = self.run_row(rt, alloc, row, workers, text)?;
+            let more = self.run_row(rt, alloc, row, workers.count, &mut progress, text)?;
             sum.tally = sum.tally.then(more.tally);
             sum.members = sum.members.saturating_add(more.members);
         }
@@ -200,7 +203,7 @@ impl Sweep {
     /// For each row a line `{range} {value} .. clean in {n} of {n}`, with `, too early in {n}` and `, refused in {n}` where there are such; one for
     /// all rows together; a line on how much of the family was run; a line on the first member that isn't clean, and on the first that was
     /// refused, where there is one. Refused only out of memory.
-    pub fn run<R: Threads + Sync + Eprint>(
+    pub fn run<R: Threads + Sync + Eprint + Clock>(
         &self,
         rt: &R,
         alloc: Global,

@@ -11,6 +11,7 @@ use crate::fault::SweepFault;
 use crate::payload::none_tests;
 use std::alloc::{AllocError, Global};
 use std::thread::Threads;
+use std::time::Clock;
 use wl_device::{Sink, Source, write_all};
 use wl_plan::Plan;
 use wl_setup::read_text;
@@ -41,7 +42,7 @@ fn push_untested(text: &mut String, untested: bool) -> Result<(), AllocError>
 }
 
 /// What a sweep says, and on the frames of its plan, and the tally.
-fn say<H: Threads + Sync + Eprint>(
+fn say<H: Threads + Sync + Eprint + Clock>(
     rt: &H,
     alloc: Global,
     plan: &Plan,
@@ -67,7 +68,7 @@ fn say<H: Threads + Sync + Eprint>(
 /// `run` has it; `Range`, of the first word that is none; `Rows`. The whole output is made before the first write. If the input or a word is
 /// refused, or memory runs out, the writer isn't called; if the writer fails, a prefix of the output has been written. The output is the same
 /// for each number of threads.
-pub fn sweep_run<H: Threads + Sync + Eprint, R: Source, W: Sink>(
+pub fn sweep_run<H: Threads + Sync + Eprint + Clock, R: Source, W: Sink>(
     rt: &H,
     alloc: Global,
     words: &[String],
