@@ -1,7 +1,10 @@
+mod Answering
 mod Drift
 mod Edges
+mod Finding
 mod Floors
 mod Fronts
+mod Hearing
 mod Instants
 mod Listening
 mod Phases

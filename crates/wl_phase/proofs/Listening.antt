@@ -3,7 +3,7 @@ use Rattle.std.proofs.Common.{◌≡◌, ◌∙◌, ◌⊎◌, inl, inr, refl, s
 use Rattle.std.specs.Prelude.{nat_lt, nat_le}
 use Rattle.std.proofs.lemmas.Bool.{cases_lt, cases_eq, lt-ltb, eq-eqb, ne_eqb, and_left, and_right, and_parts, false_from_ne_true, true_from_ne_false}
 use Rattle.std.proofs.Math.Nat.{mul-le-mul_right}
-use Rattle.std.proofs.lemmas.List.{take_more}
+use Rattle.std.proofs.lemmas.List.{take_more, length-take-le}
 use Rattle.wl_level.specs.declared.Level.{Level}
 use Rattle.wl_level.specs.declared.Level.TheVariants.{Dominant, Recessive}
 use Rattle.wl_level.specs.Levels.{is_dominant}
@@ -24,12 +24,12 @@ use Rattle.wl_sync.specs.Skips.{moved_place}
 use Rattle.wl_frame.specs.Laws.{IsEdge}
 use Rattle.wl_phase.specs.Clocks.{IsSteady, steady_tick}
 use Rattle.wl_phase.specs.Ways.{ByTheBook, WayLaws, sample_way, way_after, moved_to}
-use Rattle.wl_phase.specs.InStep.{Sender, Listener, Listens, ClocksAreNear, HaveEdges, SamplesBit, arrival, seen_before, sampled_by, samples_from, bit_parts, quantum_parts, tick_parts, bit_instant, quantum_instant}
+use Rattle.wl_phase.specs.InStep.{Sender, Listener, Listens, IsListening, ClocksAreNear, HaveEdges, SamplesBit, arrival, seen_before, sampled_by, samples_from, bit_parts, quantum_parts, tick_parts, bit_instant, quantum_instant}
 use Rattle.wl_phase.proofs.Steps.{IsValid, Leaves, Passes, none_passes, zero_is}
 use Rattle.wl_phase.proofs.Edges.{answer_soft, answer_none}
 use Rattle.wl_phase.proofs.Runs.{Goes, valid_after, leaves, sync_is}
 use Rattle.wl_phase.proofs.Instants.{tick_later, bit_next, quantum_more, arrived_high, unarrived_low, arrived_from, unarrived_from}
-use Rattle.wl_phase.proofs.Drift.{AreLong, IsNear, few_slower, few_faster, begun_then, next_later, next_after, near_next, near_edge, near_late, near_early}
+use Rattle.wl_phase.proofs.Drift.{AreLong, IsNear, begun_then, next_later, next_after, near_next, near_edge, near_late, near_early}
 
 cases_level : (v : Level) → (v ≡ Dominant) ⊎ (v ≡ Recessive)
 cases_level Dominant = inl refl
@@ -37,7 +37,7 @@ cases_level Recessive = inr refl
 
 -- no edge counts where the level before, or the last sample, is dominant, or this level is recessive
 module _ (r : Running) (x : Seen) where
-  before_dominant : r.level ≡ Dominant → running_sync r x ≡ false
+  pub before_dominant : r.level ≡ Dominant → running_sync r x ≡ false
   before_dominant e = (let g : (is_dominant x.level && not (is_dominant r.level)) ≡ false = and_right _ _ (ap (λ v. not (is_dominant v)) e) in rw g refl)
 
   pub now_recessive : x.level ≡ Recessive → running_sync r x ≡ false
@@ -51,7 +51,7 @@ looks_from : (s : SyncRules) (place k : ℕ) → s ≡ Book → 0 < k → looks 
 looks_from After place k e h = cc
 looks_from Book place k e h = lt-ltb 0 k h
 
-soft_from : (s : SyncRules) (x : Seen) → s ≡ Book → x.awaits ≡ false → is_hard_edge s x ≡ false
+pub soft_from : (s : SyncRules) (x : Seen) → s ≡ Book → x.awaits ≡ false → is_hard_edge s x ≡ false
 soft_from After x e f = cc
 soft_from Book x e f = and_left _ _ f
 
@@ -72,7 +72,7 @@ counts_then r x book begun now driving was sampled fresh =
     (never_late (nat_lt (found_at r.lengths) r.quanta) (nat_le r.quanta (sample_at r.lengths)) x.driving (is_hard_edge r.lengths.sync x) driving) in
     rw (counts, fresh) refl
 
-unsampled_by : (b : Beat) → ((level : Level) → b ≡ Sample level → ⊥) → sampled_by b ≡ []
+pub unsampled_by : (b : Beat) → ((level : Level) → b ≡ Sample level → ⊥) → sampled_by b ≡ []
 unsampled_by (Sample level) h = absurd (h level refl)
 unsampled_by Start h = refl
 unsampled_by Plain h = refl
@@ -160,6 +160,14 @@ module _ (s : Sender) (j : Listener) (seen : ℕ → Seen) (found : ℕ) (is : G
     pub quanta : ℕ
     pub place : found + quanta ≡ k
     pub before : samples_from l seen found quanta ≡ take b s.bits
+
+  -- so long as a bit is still to be sampled
+  listening : (b k : ℕ) → b < length s.bits → Sampled b k → IsListening s j seen found k
+  listening b k less g =
+      let e : k - found ≡ g.quanta = (let p = g.place in omega arith) in
+      let n : length (samples_from l seen found (k - found)) ≡ b =
+      ap (λ n. length (samples_from l seen found n)) e ∙ ap length g.before ∙ length-take-le b s.bits (let h : b ≤ length s.bits = omega arith in h) in
+      omega arith
 
   sampled_on : (b k : ℕ) → Sampled b k → ((level : Level) → beat_of l (seen_before seen k) (seen k) ≡ Sample level → ⊥) → Sampled b (suc k)
   sampled_on b k g h = record {
@@ -250,7 +258,7 @@ module _ (s : Sender) (j : Listener) (seen : ℕ → Seen) (found : ℕ) (is : G
   done_at c m k less few some clear edge n e z after later fresh g =
       let begun = begun_at m c k (omega arith) n in
       let lasts = lasts_at m c k few n in
-      let level = is.listens.level k c less begun lasts in
+      let level = is.listens.level k c (listening c k less g) less begun lasts in
       let beat : beat_of l (seen_before seen k) (seen k) ≡ Sample (at s.bits c) = sample_at_quantum k e z ∙ ap Sample level in
       let p = passes_at k e in
       let new = way_new k e z in
@@ -265,8 +273,10 @@ module _ (s : Sender) (j : Listener) (seen : ℕ → Seen) (found : ℕ) (is : G
           before = g.before;
           begun = begun;
           lasts = lasts;
-          early = (let a = n.early in let h = few_faster are_long m (omega arith) in omega arith);
-          late = (let a = n.late in let h = few_slower are_long m (omega arith) in omega arith);
+          since = m;
+          few = few;
+          early = n.early;
+          late = n.late;
         };
         waits = record {
           since = suc m;
@@ -307,7 +317,7 @@ module _ (s : Sender) (j : Listener) (seen : ℕ → Seen) (found : ℕ) (is : G
       let place : k + way k ≡ suc k + way (suc k) = omega arith in
       let lasts = lasts_at 0 b (k + way k) (omega arith) h.near in
       let here = tick_up k (k + way k) (omega arith) in
-      let level = is.listens.level k b less h.arrived (let g : steady_tick j.clock k < arrival s j (suc b) = omega arith in g) in
+      let level = is.listens.level k b (listening b k less h.sampled) less h.arrived (let g : steady_tick j.clock k < arrival s j (suc b) = omega arith in g) in
       let up = tick_up k (suc k) (omega arith) in
       let old = h.arrived in
       let was = h.later in
@@ -413,11 +423,12 @@ module _ (s : Sender) (j : Listener) (seen : ℕ → Seen) (found : ℕ) (is : G
       let below = edge_below (suc b) k unseen.0 unseen.1 in
       let above = edge_above (suc b) k here in
       let lasts = edge_lasts (suc b) k below in
-      let level : (seen k).level ≡ Dominant = is.listens.level k (suc b) less here lasts ∙ is_edge.is in
+      let on = listening (suc b) k less w.sampled in
+      let level : (seen k).level ≡ Dominant = is.listens.level k (suc b) on less here lasts ∙ is_edge.is in
       let sample : (clock k).sample ≡ Recessive = w.sample ∙ is_edge.was in
       let fresh : (clock k).synced ≡ false = false_from_ne_true (clock k).synced (λ e. (let f = (w.fresh e).1 in cc)) in
-      let driving = is.listens.driving k w.later in
-      let awaits = is.listens.awaits k w.later in
+      let driving = is.listens.driving k on w.later in
+      let awaits = is.listens.awaits k on w.later in
       let counts : running_sync (clock k) (seen k) ≡ true = counts_then (clock k) (seen k) is.book.book (valid k).begun level driving unseen.2 sample fresh in
       let error : sync_of l (seen_before seen k) (seen k) ≡ Some (Error (phase_error l (clock k).quanta)) =
       sync_is is.goes l is.book (seen_before seen k) (seen k) ∙ answer_soft (clock k) (seen k) (valid k) counts (soft_from l.sync (seen k) is.book.book awaits) in
@@ -480,10 +491,10 @@ module _ (s : Sender) (j : Listener) (seen : ℕ → Seen) (found : ℕ) (is : G
   -- two recessive bits
   both_recessive : (b k : ℕ) → suc b < length s.bits → (w : Waits b k) → at s.bits b ≡ Recessive → at s.bits (suc b) ≡ Recessive → w.since ≤ 9 → (seen k).level ≡ Recessive
   both_recessive b k less w was now few = elim (cases_lt (steady_tick j.clock k) (arrival s j (suc b))) [
-    | inl before ↦ is.listens.level k b (omega arith) w.arrived before ∙ was
+    | inl before ↦ is.listens.level k b (listening (suc b) k less w.sampled) (omega arith) w.arrived before ∙ was
     | inr here ↦ (let lasts = lasts_at w.since (suc b) (k + way k) few w.near in
         let up = tick_up k (k + way k) (omega arith) in
-        is.listens.level k (suc b) less here (let g : steady_tick j.clock k < arrival s j (suc (suc b)) = omega arith in g) ∙ now)
+        is.listens.level k (suc b) (listening (suc b) k less w.sampled) less here (let g : steady_tick j.clock k < arrival s j (suc (suc b)) = omega arith in g) ∙ now)
   ]
 
   few_from : (b k : ℕ) → (w : Waits b k) → ((w.since ≤ 9) ⊎ ((w.since ≡ 10) × IsEdge s.bits (suc b))) → (IsEdge s.bits (suc b) → ⊥) → w.since ≤ 9
@@ -495,7 +506,7 @@ module _ (s : Sender) (j : Listener) (seen : ℕ → Seen) (found : ℕ) (is : G
     | inl dominant ↦ inl (record { none = sample_dominant (clock k) (seen k) (w.sample ∙ dominant); never = λ e. (let f = e.was in cc) })
     | inr recessive ↦ elim (cases_level (at s.bits (suc b))) [
       | inl edge ↦ elim (cases_lt (steady_tick j.clock k) (arrival s j (suc b))) [
-        | inl before ↦ (let level = is.listens.level k b (omega arith) w.arrived before ∙ recessive in
+        | inl before ↦ (let level = is.listens.level k b (listening (suc b) k less w.sampled) (omega arith) w.arrived before ∙ recessive in
             inr (inl (record { none = now_recessive (clock k) (seen k) level; before = before; level = level })))
         | inr here ↦ inr (inr (record { edge = record { was = recessive; is = edge }; here = here }))
       ]
@@ -558,7 +569,8 @@ module _ (s : Sender) (j : Listener) (seen : ℕ → Seen) (found : ℕ) (is : G
       let below = edge_below 0 found later (finds.unseen (found - 1) (omega arith)) in
       let above = edge_above 0 found finds.seen in
       let lasts = edge_lasts 0 found below in
-      let level : (seen found).level ≡ at s.bits 0 = is.listens.level found 0 less finds.seen lasts in
+      let none : Sampled 0 found = record { quanta = 0; place = omega arith; before = refl } in
+      let level : (seen found).level ≡ at s.bits 0 = is.listens.level found 0 (listening 0 found less none) less finds.seen lasts in
       let way_is : way (suc found) ≡ sample_at l - 2 = (leaves_at found).way ∙ ap (way_after l (way found)) is.listens.hard in
       let b = is.book.lengths in
       let a1 = b.prop_low in
@@ -572,7 +584,7 @@ module _ (s : Sender) (j : Listener) (seen : ℕ → Seen) (found : ℕ) (is : G
         arrived = omega arith;
         after = omega arith;
         later = omega arith;
-        sampled = sampled_on 0 found (record { quanta = 0; place = omega arith; before = refl }) (counted_at found Hard is.listens.hard);
+        sampled = sampled_on 0 found none (counted_at found Hard is.listens.hard);
       }
 
   pub each_bit : (b : ℕ) → b < length s.bits → (k : ℕ) × Done b k

@@ -1,5 +1,5 @@
 -- A sender whose bits nothing moves, and a listener that it reaches: when the listener is in step with it.
-use Rattle.std.specs.Prelude.{◌≡◌, ℕ, zero, suc, ◌+◌, ◌*◌, ◌<◌, ◌≤◌, true, false, List, [], ◌∷◌, ◌++◌, length, take, Some}
+use Rattle.std.specs.Prelude.{◌≡◌, ℕ, zero, suc, ◌+◌, ◌-◌, ◌*◌, ◌<◌, ◌≤◌, true, false, List, [], ◌∷◌, ◌++◌, length, take, Some}
 use Rattle.wl_level.specs.declared.Level.{Level}
 use Rattle.wl_level.specs.declared.Level.TheVariants.{Dominant, Recessive}
 use Rattle.wl_level.specs.Places.{at}
@@ -56,17 +56,21 @@ pub record FindsTheFirst (seen : ℕ → Seen) (found : ℕ) : Type 0 where
   pub awaits : (seen found).awaits ≡ true
   pub driving : (seen found).driving ≡ false
 
--- The listener hears nothing but the sender, and does nothing but listen. It looks at the line as each of its quanta begins, and finds there the bit that
--- has arrived last. By the quantum `found` it finds the first bit, and synchronises hard by it. After its next sample it awaits no start of frame, and it
--- drives recessive.
+-- Before quantum k the listener hasn't sampled all bits yet, from the quantum `found` on.
+abbrev pub IsListening : Sender → Listener → (ℕ → Seen) → (found k : ℕ) → Type 0
+IsListening s j seen found k = length (samples_from j.lengths seen found (k - found)) < length s.bits
+
+-- The listener hears nothing but the sender, and does nothing but listen, until it has sampled all bits. It looks at the line as each of its quanta begins,
+-- and finds there the bit that has arrived last. By the quantum `found` it finds the first bit, and synchronises hard by it. After its next sample it
+-- awaits no start of frame, and it drives recessive. What comes after its sample of the last bit is left open: it may acknowledge then.
 pub record Listens (s : Sender) (j : Listener) (seen : ℕ → Seen) (found : ℕ) : Type 0 where
-  pub level : (k b : ℕ) → b < length s.bits → arrival s j b ≤ steady_tick j.clock k → steady_tick j.clock k < arrival s j (suc b)
-      → (seen k).level ≡ at s.bits b
+  pub level : (k b : ℕ) → IsListening s j seen found k → b < length s.bits → arrival s j b ≤ steady_tick j.clock k
+      → steady_tick j.clock k < arrival s j (suc b) → (seen k).level ≡ at s.bits b
   pub finds : Finds j.clock found (arrival s j 0)
   pub later : 0 < found
   pub hard : SyncsHard j.lengths seen found
-  pub awaits : (k : ℕ) → found + sample_at j.lengths ≤ k → (seen k).awaits ≡ false
-  pub driving : (k : ℕ) → found + sample_at j.lengths ≤ k → (seen k).driving ≡ false
+  pub awaits : (k : ℕ) → IsListening s j seen found k → found + sample_at j.lengths ≤ k → (seen k).awaits ≡ false
+  pub driving : (k : ℕ) → IsListening s j seen found k → found + sample_at j.lengths ≤ k → (seen k).driving ≡ false
 
 -- ten bits in a row have an edge from recessive to dominant, as those of a frame have; Bosch CAN 2.0 part B, sections 6 and 10
 abbrev pub HaveEdges : List Level → Type 0
@@ -100,8 +104,15 @@ bit_instant s j b = j.clock.den * (instant s.clock (s.from + b * s.bit_quanta) +
 abbrev pub quantum_instant : Sender → Listener → ℕ → ℕ
 quantum_instant s j k = s.clock.den * instant j.clock k
 
+-- by how much a bit of the sender is longer than one of the listener, and by how much it is shorter; in those parts
+abbrev pub slower_parts : Sender → Listener → ℕ
+slower_parts s j = bit_parts s j - bit_quanta j.lengths * quantum_parts s j
+
+abbrev pub faster_parts : Sender → Listener → ℕ
+faster_parts s j = bit_quanta j.lengths * quantum_parts s j - bit_parts s j
+
 -- Quantum k of the listener samples bit b of the sender: it is the sample after those of the bits before, it comes while that bit is there, and where
--- the bit began lies in the listener's bit within SYNC_SEG and a tick, but for what ten bits drift.
+-- the bit began lies in the listener's bit within SYNC_SEG and a tick, but for what the bits since the last edge drift, nine at most.
 pub record SamplesBit (s : Sender) (j : Listener) (seen : ℕ → Seen) (found b k : ℕ) : Type 0 where
   pub after : found < k
   pub level : beat_of j.lengths (seen_before seen k) (seen k) ≡ Sample (at s.bits b)
@@ -110,6 +121,8 @@ pub record SamplesBit (s : Sender) (j : Listener) (seen : ℕ → Seen) (found b
   pub before : samples_from j.lengths seen found quanta ≡ take b s.bits
   pub begun : arrival s j b ≤ steady_tick j.clock k
   pub lasts : steady_tick j.clock k < arrival s j (suc b)
-  pub early : quantum_instant s j k < bit_instant s j b + (sample_at j.lengths + j.lengths.sjw) * quantum_parts s j
+  pub since : ℕ
+  pub few : since ≤ 9
+  pub early : quantum_instant s j k < bit_instant s j b + sample_at j.lengths * quantum_parts s j + since * faster_parts s j
   pub late : bit_instant s j b + sample_at j.lengths * quantum_parts s j
-      < quantum_instant s j k + (suc j.lengths.sjw) * quantum_parts s j + tick_parts s j
+      < quantum_instant s j k + quantum_parts s j + tick_parts s j + since * slower_parts s j

@@ -1,3 +1,4 @@
 pub mod Clocks
 pub mod Ways
 pub mod InStep
+pub mod Answer

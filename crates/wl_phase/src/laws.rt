@@ -1,14 +1,16 @@
 //! Laws of clocks and their edges, each proved as the contract of a function that does nothing.
 
-ghost use Rattle.std.specs.Prelude.{◌≡◌, ℕ, ◌+◌, ◌*◌, ◌/◌, ◌<◌, List, ◌++◌, length};
+ghost use Rattle.std.specs.Prelude.{◌≡◌, ℕ, ◌+◌, ◌-◌, ◌*◌, ◌/◌, ◌<◌, List, ◌++◌, length};
 ghost use Rattle.wl_level.specs.declared.Level.{Level};
-ghost use Rattle.wl_segments.specs.Lengths.{Lengths};
+ghost use Rattle.wl_level.specs.declared.Level.TheVariants.{Dominant};
+ghost use Rattle.wl_phase.specs.Answer.{ComesInTime, FindsDominant, HearsAnswer, IsAnswered, SamplesNext, own_sample};
+ghost use Rattle.wl_segments.specs.Lengths.{Lengths, bit_quanta, sample_at};
 ghost use Rattle.wl_sync.specs.Edges.{Seen};
 ghost use Rattle.wl_frame.specs.Laws.{up_to_ack};
 ghost use Rattle.wl_frame.specs.Stuffing.{Stuffs};
 ghost use Rattle.wl_phase.specs.Clocks.{Steady, IsSteady, instant, steady_tick};
 ghost use Rattle.wl_phase.specs.InStep.{ClocksAreNear, FindsTheFirst, HaveEdges, Listener, Listens, SamplesBit, Sender, SyncsHard};
-ghost use Rattle.wl_phase.specs.Ways.{ByTheBook, PhaseLaws, WayLaws};
+ghost use Rattle.wl_phase.specs.Ways.{ByTheBook, PhaseLaws, WayLaws, moved_to};
 
 /// Law: of a clock with `num / den` ticks per quantum, quantum `k` begins at its instant, rounded down to a tick. So any
 /// `n` quanta take `n * num / den` ticks, by less than one more or less.
@@ -69,4 +71,35 @@ pub fn a_listener_samples_each_frame()
 {
     a_listener_stays_in_step();
     wl_frame::laws::ten_bits_have_an_edge();
+}
+
+/// Law: the acknowledgement of a listener comes back in time. What it drives in the bit after one that it has sampled
+/// reaches the sender after the sample of that bit, by the sample of the next one, and for long enough, if the way there
+/// and back is no longer than PROP_SEG and PHASE_SEG1 leave beside ten bits' drift.
+pub fn an_acknowledgement_comes_in_time()
+    ensures { (s : Sender) (own : Lengths) (j : Listener) (seen : ℕ → Seen) (found back d k : ℕ) → IsSteady s.clock
+        → IsSteady j.clock → ByTheBook own → ByTheBook j.lengths → s.bit_quanta ≡ bit_quanta own → ClocksAreNear s j
+        → ComesInTime s own j back → SamplesBit s j seen found d k → IsAnswered s own j back d k }
+{}
+
+/// Law: a node that has sampled a recessive bit which nothing moved, and then finds a dominant level by the quantum of its
+/// next sample and up to it, samples that level next.
+pub fn the_next_sample_is_dominant()
+    ensures { (l : Lengths) (seen : ℕ → Seen) (k n : ℕ) → ByTheBook l → FindsDominant l seen k n
+        → SamplesNext l seen k (n + moved_to (sample_at l - 1) l.sjw (k + bit_quanta l - n)) Dominant }
+{
+    an_edge_moves_the_sample();
+    wl_sync::clock_goes_on();
+}
+
+/// Law: the sender samples the acknowledgement: a dominant bit, next after the last one that it sent, which was recessive.
+pub fn the_sender_samples_the_acknowledgement()
+    ensures { (s : Sender) (own : Lengths) (j : Listener) (seen sender_seen : ℕ → Seen) (found back d k : ℕ)
+        → IsSteady s.clock → IsSteady j.clock → ByTheBook own → ByTheBook j.lengths → s.bit_quanta ≡ bit_quanta own
+        → ClocksAreNear s j → ComesInTime s own j back → SamplesBit s j seen found d k
+        → HearsAnswer s own j back d k sender_seen
+        → (m : ℕ) × SamplesNext own sender_seen (own_sample s own d) m Dominant }
+{
+    an_acknowledgement_comes_in_time();
+    the_next_sample_is_dominant();
 }
