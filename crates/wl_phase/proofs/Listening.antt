@@ -3,7 +3,7 @@ use Rattle.std.proofs.Common.{◌≡◌, ◌∙◌, ◌⊎◌, inl, inr, refl, s
 use Rattle.std.specs.Prelude.{nat_lt, nat_le}
 use Rattle.std.proofs.lemmas.Bool.{cases_lt, cases_eq, lt-ltb, eq-eqb, ne_eqb, and_left, and_right, and_parts, false_from_ne_true, true_from_ne_false}
 use Rattle.std.proofs.Math.Nat.{mul-le-mul_right}
-use Rattle.std.proofs.lemmas.List.{take_more, length-take-le}
+use Rattle.std.proofs.lemmas.List.{take_more}
 use Rattle.wl_level.specs.declared.Level.{Level}
 use Rattle.wl_level.specs.declared.Level.TheVariants.{Dominant, Recessive}
 use Rattle.wl_level.specs.Levels.{is_dominant}
@@ -162,12 +162,10 @@ module _ (s : Sender) (j : Listener) (seen : ℕ → Seen) (found : ℕ) (is : G
     pub before : samples_from l seen found quanta ≡ take b s.bits
 
   -- so long as a bit is still to be sampled
-  listening : (b k : ℕ) → b < length s.bits → Sampled b k → IsListening s j seen found k
+  listening : (b k : ℕ) → b < length s.bits → Sampled b k → IsListening s j seen found k b
   listening b k less g =
       let e : k - found ≡ g.quanta = (let p = g.place in omega arith) in
-      let n : length (samples_from l seen found (k - found)) ≡ b =
-      ap (λ n. length (samples_from l seen found n)) e ∙ ap length g.before ∙ length-take-le b s.bits (let h : b ≤ length s.bits = omega arith in h) in
-      omega arith
+      record { more = less; samples = ap (λ n. samples_from l seen found n) e ∙ g.before }
 
   sampled_on : (b k : ℕ) → Sampled b k → ((level : Level) → beat_of l (seen_before seen k) (seen k) ≡ Sample level → ⊥) → Sampled b (suc k)
   sampled_on b k g h = record {
@@ -258,7 +256,7 @@ module _ (s : Sender) (j : Listener) (seen : ℕ → Seen) (found : ℕ) (is : G
   done_at c m k less few some clear edge n e z after later fresh g =
       let begun = begun_at m c k (omega arith) n in
       let lasts = lasts_at m c k few n in
-      let level = is.listens.level k c (listening c k less g) less begun lasts in
+      let level = is.listens.level k c c (listening c k less g) less begun lasts in
       let beat : beat_of l (seen_before seen k) (seen k) ≡ Sample (at s.bits c) = sample_at_quantum k e z ∙ ap Sample level in
       let p = passes_at k e in
       let new = way_new k e z in
@@ -317,7 +315,7 @@ module _ (s : Sender) (j : Listener) (seen : ℕ → Seen) (found : ℕ) (is : G
       let place : k + way k ≡ suc k + way (suc k) = omega arith in
       let lasts = lasts_at 0 b (k + way k) (omega arith) h.near in
       let here = tick_up k (k + way k) (omega arith) in
-      let level = is.listens.level k b (listening b k less h.sampled) less h.arrived (let g : steady_tick j.clock k < arrival s j (suc b) = omega arith in g) in
+      let level = is.listens.level k b b (listening b k less h.sampled) less h.arrived (let g : steady_tick j.clock k < arrival s j (suc b) = omega arith in g) in
       let up = tick_up k (suc k) (omega arith) in
       let old = h.arrived in
       let was = h.later in
@@ -424,11 +422,11 @@ module _ (s : Sender) (j : Listener) (seen : ℕ → Seen) (found : ℕ) (is : G
       let above = edge_above (suc b) k here in
       let lasts = edge_lasts (suc b) k below in
       let on = listening (suc b) k less w.sampled in
-      let level : (seen k).level ≡ Dominant = is.listens.level k (suc b) on less here lasts ∙ is_edge.is in
+      let level : (seen k).level ≡ Dominant = is.listens.level k (suc b) (suc b) on less here lasts ∙ is_edge.is in
       let sample : (clock k).sample ≡ Recessive = w.sample ∙ is_edge.was in
       let fresh : (clock k).synced ≡ false = false_from_ne_true (clock k).synced (λ e. (let f = (w.fresh e).1 in cc)) in
-      let driving = is.listens.driving k on w.later in
-      let awaits = is.listens.awaits k on w.later in
+      let driving = is.listens.driving k (suc b) on (omega arith) in
+      let awaits = is.listens.awaits k (suc b) on (omega arith) in
       let counts : running_sync (clock k) (seen k) ≡ true = counts_then (clock k) (seen k) is.book.book (valid k).begun level driving unseen.2 sample fresh in
       let error : sync_of l (seen_before seen k) (seen k) ≡ Some (Error (phase_error l (clock k).quanta)) =
       sync_is is.goes l is.book (seen_before seen k) (seen k) ∙ answer_soft (clock k) (seen k) (valid k) counts (soft_from l.sync (seen k) is.book.book awaits) in
@@ -491,10 +489,10 @@ module _ (s : Sender) (j : Listener) (seen : ℕ → Seen) (found : ℕ) (is : G
   -- two recessive bits
   both_recessive : (b k : ℕ) → suc b < length s.bits → (w : Waits b k) → at s.bits b ≡ Recessive → at s.bits (suc b) ≡ Recessive → w.since ≤ 9 → (seen k).level ≡ Recessive
   both_recessive b k less w was now few = elim (cases_lt (steady_tick j.clock k) (arrival s j (suc b))) [
-    | inl before ↦ is.listens.level k b (listening (suc b) k less w.sampled) (omega arith) w.arrived before ∙ was
+    | inl before ↦ is.listens.level k b (suc b) (listening (suc b) k less w.sampled) (omega arith) w.arrived before ∙ was
     | inr here ↦ (let lasts = lasts_at w.since (suc b) (k + way k) few w.near in
         let up = tick_up k (k + way k) (omega arith) in
-        is.listens.level k (suc b) (listening (suc b) k less w.sampled) less here (let g : steady_tick j.clock k < arrival s j (suc (suc b)) = omega arith in g) ∙ now)
+        is.listens.level k (suc b) (suc b) (listening (suc b) k less w.sampled) less here (let g : steady_tick j.clock k < arrival s j (suc (suc b)) = omega arith in g) ∙ now)
   ]
 
   few_from : (b k : ℕ) → (w : Waits b k) → ((w.since ≤ 9) ⊎ ((w.since ≡ 10) × IsEdge s.bits (suc b))) → (IsEdge s.bits (suc b) → ⊥) → w.since ≤ 9
@@ -506,7 +504,7 @@ module _ (s : Sender) (j : Listener) (seen : ℕ → Seen) (found : ℕ) (is : G
     | inl dominant ↦ inl (record { none = sample_dominant (clock k) (seen k) (w.sample ∙ dominant); never = λ e. (let f = e.was in cc) })
     | inr recessive ↦ elim (cases_level (at s.bits (suc b))) [
       | inl edge ↦ elim (cases_lt (steady_tick j.clock k) (arrival s j (suc b))) [
-        | inl before ↦ (let level = is.listens.level k b (listening (suc b) k less w.sampled) (omega arith) w.arrived before ∙ recessive in
+        | inl before ↦ (let level = is.listens.level k b (suc b) (listening (suc b) k less w.sampled) (omega arith) w.arrived before ∙ recessive in
             inr (inl (record { none = now_recessive (clock k) (seen k) level; before = before; level = level })))
         | inr here ↦ inr (inr (record { edge = record { was = recessive; is = edge }; here = here }))
       ]
@@ -570,7 +568,7 @@ module _ (s : Sender) (j : Listener) (seen : ℕ → Seen) (found : ℕ) (is : G
       let above = edge_above 0 found finds.seen in
       let lasts = edge_lasts 0 found below in
       let none : Sampled 0 found = record { quanta = 0; place = omega arith; before = refl } in
-      let level : (seen found).level ≡ at s.bits 0 = is.listens.level found 0 (listening 0 found less none) less finds.seen lasts in
+      let level : (seen found).level ≡ at s.bits 0 = is.listens.level found 0 0 (listening 0 found less none) less finds.seen lasts in
       let way_is : way (suc found) ≡ sample_at l - 2 = (leaves_at found).way ∙ ap (way_after l (way found)) is.listens.hard in
       let b = is.book.lengths in
       let a1 = b.prop_low in

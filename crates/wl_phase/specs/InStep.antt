@@ -56,21 +56,23 @@ pub record FindsTheFirst (seen : ℕ → Seen) (found : ℕ) : Type 0 where
   pub awaits : (seen found).awaits ≡ true
   pub driving : (seen found).driving ≡ false
 
--- Before quantum k the listener hasn't sampled all bits yet, from the quantum `found` on.
-abbrev pub IsListening : Sender → Listener → (ℕ → Seen) → (found k : ℕ) → Type 0
-IsListening s j seen found k = length (samples_from j.lengths seen found (k - found)) < length s.bits
+-- Before quantum k, from the quantum `found` on, the listener has sampled the first n bits, as they were sent, and there are more.
+pub record IsListening (s : Sender) (j : Listener) (seen : ℕ → Seen) (found k n : ℕ) : Type 0 where
+  pub more : n < length s.bits
+  pub samples : samples_from j.lengths seen found (k - found) ≡ take n s.bits
 
 -- The listener hears nothing but the sender, and does nothing but listen, until it has sampled all bits. It looks at the line as each of its quanta begins,
 -- and finds there the bit that has arrived last. By the quantum `found` it finds the first bit, and synchronises hard by it. After its next sample it
--- awaits no start of frame, and it drives recessive. What comes after its sample of the last bit is left open: it may acknowledge then.
+-- awaits no start of frame, and it drives recessive. What comes after its sample of the last bit is left open: it may acknowledge then. Each of these may
+-- rest on the samples before, so that they are shown bit by bit.
 pub record Listens (s : Sender) (j : Listener) (seen : ℕ → Seen) (found : ℕ) : Type 0 where
-  pub level : (k b : ℕ) → IsListening s j seen found k → b < length s.bits → arrival s j b ≤ steady_tick j.clock k
+  pub level : (k b n : ℕ) → IsListening s j seen found k n → b < length s.bits → arrival s j b ≤ steady_tick j.clock k
       → steady_tick j.clock k < arrival s j (suc b) → (seen k).level ≡ at s.bits b
   pub finds : Finds j.clock found (arrival s j 0)
   pub later : 0 < found
   pub hard : SyncsHard j.lengths seen found
-  pub awaits : (k : ℕ) → IsListening s j seen found k → found + sample_at j.lengths ≤ k → (seen k).awaits ≡ false
-  pub driving : (k : ℕ) → IsListening s j seen found k → found + sample_at j.lengths ≤ k → (seen k).driving ≡ false
+  pub awaits : (k n : ℕ) → IsListening s j seen found k n → 0 < n → (seen k).awaits ≡ false
+  pub driving : (k n : ℕ) → IsListening s j seen found k n → 0 < n → (seen k).driving ≡ false
 
 -- ten bits in a row have an edge from recessive to dominant, as those of a frame have; Bosch CAN 2.0 part B, sections 6 and 10
 abbrev pub HaveEdges : List Level → Type 0
