@@ -26,7 +26,11 @@ fn main(rt: HostRuntime) -> Result<()> {
 }
 
 /// What is answered to the requests of a block.
-fn answers<H: Threads + Sync + Eprint + Clock>(rt: &H, alloc: Global, block: &str) -> Result<String> {
+fn answers<H: Threads + Sync + Eprint + Clock>(
+    rt: &H,
+    alloc: Global,
+    block: &str,
+) -> Result<String> {
     let mut said = String::new(alloc);
     let Some((plan, requests)) = block.split_once("asked\n") else {
         return Ok(said);
