@@ -25,7 +25,7 @@ module _ (r : Running) (x : Seen) (h : IsValid r) where
   moved = running_moved r true false x.level
 
   -- a late edge
-  late_is : r.quanta ≤ sample_at r.lengths → moved ≡ late r x
+  pub late_is : r.quanta ≤ sample_at r.lengths → moved ≡ late r x
   late_is before =
       let a = h.lengths.lengths.prop_low in
       let b = h.lengths.lengths.ps1_low in
@@ -33,7 +33,7 @@ module _ (r : Running) (x : Seen) (h : IsValid r) where
       let apart : r.quanta ≢ sample_at r.lengths + min (r.quanta - 1) r.lengths.sjw = λ e. omega arith in
       rw (le-leb r.quanta (sample_at r.lengths) before, le-ltb (sample_at r.lengths) r.quanta before, found_one r.lengths h.lengths, ne_eqb r.quanta (sample_at r.lengths + min (r.quanta - 1) r.lengths.sjw) apart) refl
 
-  late_over : r.quanta ≤ sample_at r.lengths → running_over Book r (late r x) false x.level ≡ late r x
+  pub late_over : r.quanta ≤ sample_at r.lengths → running_over Book r (late r x) false x.level ≡ late r x
   late_over before =
       let low = h.lengths.lengths.ps2_low in
       rw (ne_eqb r.quanta (end_of (late r x)) (λ e. omega arith)) refl
@@ -155,12 +155,12 @@ module _ (r : Running) (x : Seen) (h : IsValid r) where
   ]
 
 -- a node that drives dominant doesn't synchronise hard
-soft_driving : (s : SyncRules) (x : Seen) → s ≡ Book → x.driving ≡ true → is_hard_edge s x ≡ false
+pub soft_driving : (s : SyncRules) (x : Seen) → s ≡ Book → x.driving ≡ true → is_hard_edge s x ≡ false
 soft_driving After x e f = cc
 soft_driving Book x e f = and_right x.awaits (not x.driving) (ap not f)
 
 module _ (r : Running) (x : Seen) (h : IsValid r) where
-  driving_late : x.driving ≡ true → 1 < r.quanta → r.quanta ≤ sample_at r.lengths → running_sync r x ≡ false
+  pub driving_late : x.driving ≡ true → 1 < r.quanta → r.quanta ≤ sample_at r.lengths → running_sync r x ≡ false
   driving_late e low high =
       let one = found_one r.lengths h.lengths in
       let found : nat_lt (found_at r.lengths) r.quanta ≡ true = lt-ltb (found_at r.lengths) r.quanta (omega arith) in
@@ -185,7 +185,7 @@ sample_here false true level other e = (refl, refl)
 sample_here false false level other e = cc
 
 module _ (r : Running) (x : Seen) (h : IsValid r) where
-  beat_is : running_beat (running_edge r) x ≡ beat_between (running_restart r x) r (running_after r x) x.level
+  pub beat_is : running_beat (running_edge r) x ≡ beat_between (running_restart r x) r (running_after r x) x.level
   beat_is =
       ap (λ s. running_beat s x) (edge_is r x h.lengths.book)
       ∙ ap (λ s. beat_between (running_restart r x) r (running_placed s x) x.level) (sym (edge_is r x h.lengths.book))

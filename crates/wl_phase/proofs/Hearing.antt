@@ -30,6 +30,9 @@ module _ (c : Steady) (d : 0 < c.den) where
 moved_high : (l : Lengths) (w i n : ℕ) → ByTheBook l → i ≤ n + moved_to (sample_at l - 1) l.sjw w → n + (sample_at l - 1 + l.sjw) < n + w → i + l.sjw ≤ n + w
 moved_high l w i n h below far = omega arith
 
+pub moved_most : (l : Lengths) (w n : ℕ) → n ≤ w → n + moved_to (sample_at l - 1) l.sjw (w - n) ≤ w + l.sjw
+moved_most l w n h = omega arith
+
 moved_low : (l : Lengths) (w i n : ℕ) → ByTheBook l → i ≤ n + moved_to (sample_at l - 1) l.sjw w → w ≤ sample_at l - 1 + l.sjw → i < n + sample_at l
 moved_low l w i n h below near = let a = h.lengths.prop_low in omega arith
 

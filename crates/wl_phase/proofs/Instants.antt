@@ -42,13 +42,13 @@ module _ (s : Sender) (j : Listener) (ds : 0 < s.clock.den) (dj : 0 < j.clock.de
       let m : j.clock.den * suc (instant s.clock n) ≤ j.clock.den * (s.clock.den * steady_tick s.clock n + s.clock.den) = mul-le-mul_left j.clock.den high in
       omega arith
 
-  quantum_low : (k : ℕ) → tick_parts s j * steady_tick j.clock k ≤ quantum_instant s j k
+  pub quantum_low : (k : ℕ) → tick_parts s j * steady_tick j.clock k ≤ quantum_instant s j k
   quantum_low k =
       let low = floor_low j.clock k in
       let m : s.clock.den * (j.clock.den * steady_tick j.clock k) ≤ s.clock.den * instant j.clock k = mul-le-mul_left s.clock.den low in
       omega arith
 
-  quantum_high : (k : ℕ) → quantum_instant s j k < tick_parts s j * steady_tick j.clock k + tick_parts s j
+  pub quantum_high : (k : ℕ) → quantum_instant s j k < tick_parts s j * steady_tick j.clock k + tick_parts s j
   quantum_high k =
       let high = floor_high j.clock k dj in
       let m : s.clock.den * suc (instant j.clock k) ≤ s.clock.den * (j.clock.den * steady_tick j.clock k + j.clock.den) = mul-le-mul_left s.clock.den high in

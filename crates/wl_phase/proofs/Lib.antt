@@ -1,4 +1,5 @@
 mod Answering
+pub mod Callers
 mod Drift
 mod Edges
 mod Finding
@@ -7,6 +8,7 @@ mod Fronts
 mod Hearing
 mod Instants
 mod Listening
+mod Others
 mod Phases
 mod Rows
 mod Runs

@@ -31,7 +31,7 @@ use Rattle.wl_phase.proofs.Runs.{Goes, valid_after, leaves, sync_is}
 use Rattle.wl_phase.proofs.Instants.{tick_later, bit_next, quantum_more, arrived_high, unarrived_low, arrived_from, unarrived_from}
 use Rattle.wl_phase.proofs.Drift.{AreLong, IsNear, begun_then, next_later, next_after, near_next, near_edge, near_late, near_early}
 
-cases_level : (v : Level) → (v ≡ Dominant) ⊎ (v ≡ Recessive)
+pub cases_level : (v : Level) → (v ≡ Dominant) ⊎ (v ≡ Recessive)
 cases_level Dominant = inl refl
 cases_level Recessive = inr refl
 

@@ -10,7 +10,7 @@ use Rattle.wl_sync.specs.Running.{clock_after}
 use Rattle.wl_sync.specs.Skips.{steady_clock}
 use Rattle.wl_phase.specs.Clocks.{Finds, steady_tick}
 use Rattle.wl_phase.specs.Ways.{moved_to}
-use Rattle.wl_phase.specs.InStep.{Sender, Listener, bit_parts, quantum_parts, tick_parts, samples_from, seen_before}
+use Rattle.wl_phase.specs.InStep.{Sender, Listener, bit_parts, quantum_parts, tick_parts, slower_parts, faster_parts, samples_from, seen_before}
 
 -- the tick at which the listener's next bit begins to reach the sender, where nothing moves that bit after the sample of the one before by quantum k: it
 -- begins PHASE_SEG2 later, and takes its quanta; `back` is the delay back
@@ -75,3 +75,11 @@ pub record HearsAnswer (s : Sender) (own : Lengths) (j : Listener) (back d k : �
   pub there : (i : ℕ) → answer_begin j back k ≤ steady_tick s.clock i → steady_tick s.clock i < answer_end j back k → (seen i).level ≡ Dominant
   pub awaits : (i : ℕ) → Finds s.clock i (answer_begin j back k) → (seen i).awaits ≡ false
   pub driving : (i : ℕ) → Finds s.clock i (answer_begin j back k) → (seen i).driving ≡ false
+
+-- The acknowledgement of listener i is no earlier at listener j, with so many ticks between them, than that one's sample of the bit before: though i begins its bit
+-- before the edge that it follows, ticks are rounded, and nine bits' drift makes i early and j late. In the parts of a tick that the three clocks have.
+abbrev pub ComesAfterSample : Sender → (i j : Listener) → (between : ℕ) → Type 0
+ComesAfterSample s i j between =
+    j.clock.den * (quantum_parts s i + 2 * tick_parts s i + 9 * slower_parts s i)
+    + i.clock.den * (sample_at j.lengths * quantum_parts s j + 9 * faster_parts s j + j.delay * tick_parts s j)
+    ≤ j.clock.den * (bit_quanta i.lengths * quantum_parts s i + (i.delay + between) * tick_parts s i)

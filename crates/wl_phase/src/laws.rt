@@ -1,9 +1,9 @@
 //! Laws of clocks and their edges, each proved as the contract of a function that does nothing.
 
-ghost use Rattle.std.specs.Prelude.{◌≡◌, ℕ, ◌+◌, ◌-◌, ◌*◌, ◌/◌, ◌<◌, List, ◌++◌, length};
+ghost use Rattle.std.specs.Prelude.{◌≡◌, ℕ, suc, ◌+◌, ◌-◌, ◌*◌, ◌/◌, ◌<◌, ◌≤◌, List, ◌++◌, length};
 ghost use Rattle.wl_level.specs.declared.Level.{Level};
 ghost use Rattle.wl_level.specs.declared.Level.TheVariants.{Dominant};
-ghost use Rattle.wl_phase.specs.Answer.{ComesInTime, FindsDominant, HearsAnswer, IsAnswered, SamplesNext, own_sample};
+ghost use Rattle.wl_phase.specs.Answer.{ComesAfterSample, ComesInTime, FindsDominant, HearsAnswer, IsAnswered, SamplesNext, answer_begin, own_sample};
 ghost use Rattle.wl_segments.specs.Lengths.{Lengths, bit_quanta, sample_at};
 ghost use Rattle.wl_sync.specs.Edges.{Seen};
 ghost use Rattle.wl_frame.specs.Laws.{up_to_ack};
@@ -92,13 +92,23 @@ pub fn the_next_sample_is_dominant()
     wl_sync::clock_goes_on();
 }
 
+/// Law: what a listener drives in the bit after one that it has sampled reaches another listener after that one's sample
+/// of the same bit, if the way is long enough beside the drift.
+pub fn an_acknowledgement_comes_after_each_sample()
+    ensures { (s : Sender) (i j : Listener) (seen other_seen : ℕ → Seen) (found other_found between d k n : ℕ)
+        → IsSteady s.clock → IsSteady i.clock → IsSteady j.clock → ComesAfterSample s i j between
+        → SamplesBit s i seen found d k → SamplesBit s j other_seen other_found d n
+        → steady_tick j.clock n < answer_begin i between k }
+{}
+
 /// Law: the sender samples the acknowledgement: a dominant bit, next after the last one that it sent, which was recessive.
+/// The sample is late by the jump width at most.
 pub fn the_sender_samples_the_acknowledgement()
     ensures { (s : Sender) (own : Lengths) (j : Listener) (seen sender_seen : ℕ → Seen) (found back d k : ℕ)
         → IsSteady s.clock → IsSteady j.clock → ByTheBook own → ByTheBook j.lengths → s.bit_quanta ≡ bit_quanta own
         → ClocksAreNear s j → ComesInTime s own j back → SamplesBit s j seen found d k
         → HearsAnswer s own j back d k sender_seen
-        → (m : ℕ) × SamplesNext own sender_seen (own_sample s own d) m Dominant }
+        → (m : ℕ) × (m ≤ own_sample s own (suc d) + own.sjw) × SamplesNext own sender_seen (own_sample s own d) m Dominant }
 {
     an_acknowledgement_comes_in_time();
     the_next_sample_is_dominant();

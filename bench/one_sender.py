@@ -1,0 +1,164 @@
+#!/usr/bin/env python3
+"""One sender and its listeners from their power-up to the acknowledgement of the first frame, by the nodes of plain.py.
+
+    one_sender.py RUNS SEED [LEFT]    plays buses near the border of the conditions or, with LEFT, buses that meet all but that
+                                      one (slow, fast, sample, late, early, jump, apart, own or idle); says in how many a
+                                      listener samples another bit than was sent, a node finds an error, or the sender samples
+                                      no acknowledgement
+"""
+
+import random
+import sys
+from bisect import bisect_right
+from heapq import heapify, heapreplace
+
+import phase
+import plain
+
+
+class Node(plain.Node):
+    def __init__(self, setup):
+        super().__init__(setup)
+        self.levels, self.wrong_at = [], None
+
+    def sample(self, level):
+        self.levels.append(level)
+        super().sample(level)
+        if self.errors and self.wrong_at is None:
+            self.wrong_at = len(self.levels)
+
+
+def play(setups, delays, end):
+    """The nodes after all quanta before a tick."""
+    nodes = [Node(setup) for setup in setups]
+    coming = [(node.next_tick(), number) for number, node in enumerate(nodes)]
+    heapify(coming)
+    while coming[0][0] < end:
+        tick, number = coming[0]
+        found = any(bisect_right(node.changes, tick - delays[i][number]) % 2 for i, node in enumerate(nodes))
+        nodes[number].quantum(plain.DOMINANT if found else plain.RECESSIVE)
+        heapreplace(coming, (nodes[number].next_tick(), number))
+    return nodes
+
+
+def random_frame():
+    remote, extended = random.random() < 0.2, random.random() < 0.3
+    dlc = random.randint(0, 8)
+    data = b"" if remote else bytes(random.choice([0, 0xFF, 0x55, 0x0F, random.randrange(256)]) for _ in range(dlc))
+    return plain.Frame(random.choice([0, 0x7FF, random.randrange(2**11)]) << (18 if extended else 0), remote, dlc, data, extended)
+
+
+def tick(offset, rate, quantum):
+    return offset + quantum * rate[0] // rate[1]
+
+
+def bit_of(lengths):
+    return 1 + sum(lengths[:3])
+
+
+def sample_of(lengths):
+    return 1 + lengths[0] + lengths[1]
+
+
+def listener_near(sender, sender_rate, left):
+    """Segments and a rate that is near the sender's at the border, or beyond it."""
+    while True:
+        lengths = phase.random_lengths() if left != "jump" else (1, 4, 2, 4)
+        den = random.choice([1, random.randint(1, 1000)])
+        ten = 10 * den * bit_of(sender) * sender_rate[0]
+        least = -(-ten // ((10 * bit_of(lengths) + lengths[3]) * sender_rate[1]))
+        most = min(ten // ((10 * bit_of(lengths) - lengths[3]) * sender_rate[1]),
+                   (ten - sender_rate[1] * den) // ((10 * bit_of(lengths) - lengths[2]) * sender_rate[1]))
+        beyond = random.randint(1, 1 + least // 50) if left in ("slow", "fast", "sample") else 0
+        num = random.choice([least - beyond, most + beyond, (least + most) // 2])
+        if num >= den:
+            return lengths, (num, den)
+
+
+def apart(sender, sender_rate, one, other, delay_one, delay_other, between):
+    """The acknowledgement of one listener comes after another's sample of the CRC delimiter."""
+    (lengths, rate), (lengths2, rate2) = one, other
+    quantum, tick_one, quantum2, tick2 = sender_rate[1] * rate[0], sender_rate[1] * rate[1], sender_rate[1] * rate2[0], sender_rate[1] * rate2[1]
+    bit, bit2 = rate[1] * bit_of(sender) * sender_rate[0], rate2[1] * bit_of(sender) * sender_rate[0]
+    slower = max(0, bit - bit_of(lengths) * quantum)
+    faster = max(0, bit_of(lengths2) * quantum2 - bit2)
+    early = rate2[1] * (quantum + 2 * tick_one + 9 * slower) + rate[1] * (sample_of(lengths2) * quantum2 + 9 * faster + delay_other * tick2)
+    return early <= rate2[1] * (bit_of(lengths) * quantum + (delay_one + between) * tick_one)
+
+
+def broken(nodes, delays):
+    """The names of the conditions that don't hold, the sender first."""
+    (sender, sender_rate), names = nodes[0], set()
+    for j, (lengths, rate) in enumerate(nodes):
+        if j == 0:
+            continue
+        if delays[j][j] * rate[1] > sample_of(lengths) * rate[0]:
+            names.add("own")
+        near = phase.conditions(sender, sender_rate, lengths, rate)
+        way = phase.way_conditions(sender, sender_rate, lengths, rate, delays[0][j] + delays[j][0])
+        names |= {name for name, holds in zip(("slow", "fast", "sample", "late", "early", "jump"), near + way) if not holds}
+        for i in range(1, len(nodes)):
+            if i != j and not apart(sender, sender_rate, nodes[i], nodes[j], delays[0][i], delays[0][j], delays[i][j]):
+                names.add("apart")
+    return names
+
+
+def bus(left):
+    """Segments and rates of nodes, and the delays between them."""
+    while True:
+        sender = phase.random_lengths() if left != "jump" else random.choice([(8, 8, 8, 1), (8, 8, 7, 1), (8, 7, 8, 1)])
+        den = random.choice([1, random.randint(1, 1000), 1_000_000])
+        sender_rate = den * random.choice([random.randint(1, 6), random.randint(1, 200)]) + random.randrange(den), den
+        count = 2 if left == "apart" else random.choice([1, 2, 3])
+        nodes = [(sender, sender_rate)] + [listener_near(sender, sender_rate, left) for _ in range(count)]
+        quantum = sender_rate[0] // sender_rate[1]
+        way = sample_of(sender) * quantum
+        for _ in range(20):
+            long = random.choice([1, quantum, way // 4, way // 2])
+            loop = way // 3 if left == "own" else random.choice([1, quantum])
+            places = [(random.randint(0, max(1, long)), random.randint(0, max(1, loop)), random.randint(1, max(1, loop))) for _ in nodes]
+            delays = [[a[1] + abs(a[0] - b[0]) + b[2] for b in places] for a in places]
+            if broken(nodes, delays) == ({left} if left and left != "idle" else set()):
+                return nodes, delays
+
+
+def run(left):
+    nodes, delays = bus(left)
+    (sender, sender_rate), others = nodes[0], nodes[1:]
+    frame = random_frame()
+    line = [bit for bit, _ in plain.stuff(frame.bits())]
+    waits = 11 + random.choice([0, 0, random.randint(1, 9)])
+    begin = waits * bit_of(sender)
+    latest = [tick(0, sender_rate, begin) + delays[0][j] - tick(0, rate, 10 * bit_of(lengths) + sample_of(lengths)) - 1 for j, (lengths, rate) in enumerate(nodes) if j]
+    offset = max([0] + [-n for n in latest]) + random.randrange(200)
+    offsets = [random.choice([n + offset, random.randint(0, n + offset)]) for n in latest]
+    if left == "idle":
+        offsets[0] = latest[0] + offset + random.randint(1, 1 + 11 * others[0][1][0] // others[0][1][1])
+    ready = 0 if waits == 11 else random.randint((waits - 2) * bit_of(sender) + sample_of(sender) + 1, (waits - 1) * bit_of(sender) + sample_of(sender))
+    setups = [plain.Setup("sender", plain.Clock(offset, [plain.Rate(0, *sender_rate)]), plain.Segments(*sender, True), [plain.Queued(frame, ready)])]
+    setups += [plain.Setup("listener", plain.Clock(n, [plain.Rate(0, *rate)]), plain.Segments(*lengths, True), []) for n, (lengths, rate) in zip(offsets, others)]
+    slot = begin + (len(line) + 1) * bit_of(sender) + sample_of(sender)
+    played = play(setups, delays, tick(offset, sender_rate, slot + sender[3]) + 1)
+    if played[0].levels != [plain.RECESSIVE] * waits + line + [plain.RECESSIVE, plain.DOMINANT] or played[0].errors:
+        return False
+    return all(heard(node, line) for node in played[1:])
+
+
+def heard(node, line):
+    """Whether a listener sampled a frame up to the CRC delimiter, and found no error up to there."""
+    if plain.DOMINANT not in node.levels:
+        return False
+    first = node.levels.index(plain.DOMINANT)
+    last = first + len(line) + 1
+    return node.levels[first:last] == line + [plain.RECESSIVE] and (node.wrong_at is None or node.wrong_at > last)
+
+
+def search(runs, left):
+    print(f"{runs} runs, {sum(not run(left) for _ in range(runs))} wrong")
+
+
+if __name__ == "__main__":
+    if len(sys.argv) not in (3, 4):
+        sys.exit(__doc__)
+    random.seed(int(sys.argv[2]))
+    search(int(sys.argv[1]), sys.argv[3] if len(sys.argv) == 4 else None)

@@ -1,0 +1,15 @@
+mod Alone
+mod Answering
+mod Bits
+mod Expecting
+mod Frames
+mod Gliding
+mod Leasts
+mod Nodes
+mod PlanProofs
+mod Planned
+mod Receiving
+mod Sending
+mod Silence
+mod Slots
+mod Together

@@ -1,0 +1,11 @@
+use Rattle.wl_one_sender.specs.Plans.{sender_bus_of}
+use Rattle.wl_one_sender.proofs.PlanProofs.{plan_is_bus}
+use Rattle.wl_one_sender.proofs.laws.a_plan_is_such_a_bus.Goals as goal
+
+pub returns : goal.returns
+returns c = record {
+  bus = λ plan clocks is sender inside frame stuffed decides. plan_is_bus c.checked_is_sound.ensures plan clocks is sender inside frame stuffed decides;
+  acknowledged = λ plan clocks is sender inside frame stuffed decides sends meets ends.
+      c.the_first_frame_is_acknowledged.ensures (sender_bus_of plan clocks sender frame stuffed decides)
+      (plan_is_bus c.checked_is_sound.ensures plan clocks is sender inside frame stuffed decides) sends meets ends;
+}

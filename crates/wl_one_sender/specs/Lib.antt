@@ -1,0 +1,4 @@
+pub mod Levels
+pub mod Expected
+pub mod OneSender
+pub mod Plans

@@ -1,0 +1,70 @@
+//! Laws of a line on which one node sends, each proved as the contract of a function that does nothing.
+
+ghost use Rattle.std.specs.Prelude.{◌≡◌, ◌≢◌, ℕ, ◌-◌, ◌<◌, ◌≤◌, ◌&&◌, nat_le, Bool, false, List, length};
+ghost use Rattle.wl_level.specs.declared.Level.{Level};
+ghost use Rattle.wl_frame.specs.Grammar.{Content};
+ghost use Rattle.wl_phase.specs.Clocks.{Steady};
+ghost use Rattle.wl_topology.specs.Driven.{driven};
+ghost use Rattle.wl_plan.specs.declared.plan.Plan.{Plan};
+ghost use Rattle.wl_plan.specs.Line.{Line};
+ghost use Rattle.wl_plan.specs.Simulation.{level, seen};
+ghost use Rattle.wl_plan.specs.Sound.{IsCausal};
+ghost use Rattle.wl_one_sender.specs.Expected.{IsExpected, levels_found};
+ghost use Rattle.wl_one_sender.specs.Levels.{levels_before};
+ghost use Rattle.wl_one_sender.specs.OneSender.{SenderBus, IsBus, IsInStepWithAll, SendsFirst, EndsAfterSlot, IsAcknowledged};
+ghost use Rattle.wl_one_sender.specs.Plans.{IsSteadyPlan, sender_bus_of};
+
+/// Law: if one node alone has driven dominant, any node finds what that one drove a delay earlier.
+pub fn one_driver_is_found()
+    ensures { (nodes : ℕ) (delay : ℕ → ℕ → ℕ) (drove : ℕ → ℕ → Bool) (i j t : ℕ) → i < nodes
+        → ((k : ℕ) → k < nodes → k ≢ i → delay k j ≤ t → drove k (t - delay k j) ≡ false)
+        → driven nodes delay drove j t ≡ (nat_le (delay i j) t && drove i (t - delay i j)) }
+{
+    wl_topology::driven_laws();
+}
+
+/// Law: what is expected of the nodes of a line is what they do: if each drives this as long as all do, up to a tick of its
+/// own, then all do, and see what comes of it.
+pub fn what_is_expected_is_driven()
+    ensures driven { (l : Line) (until : ℕ → ℕ) (drove : ℕ → ℕ → Bool) → IsCausal l → IsExpected l until drove
+        → (i t : ℕ) → i < l.nodes → t < until i → level l i t ≡ drove i t }
+    ensures seen { (l : Line) (until : ℕ → ℕ) (drove : ℕ → ℕ → Bool) → IsCausal l → IsExpected l until drove
+        → (i k : ℕ) → i < l.nodes → ((j : ℕ) → j < k → l.instant i j < until i)
+        → seen l i k ≡ levels_before (levels_found l drove i) k }
+{
+    wl_plan::simulation_laws();
+}
+
+/// Law: on a bus on which one node has a frame, all others sample its bits, from their power-up to the CRC delimiter, and it
+/// samples their acknowledgement; whatever the offsets, if the clocks are near enough and the delays short enough.
+pub fn the_first_frame_is_acknowledged()
+    ensures { (b : SenderBus) → IsBus b → SendsFirst b → IsInStepWithAll b → EndsAfterSlot b → IsAcknowledged b }
+{
+    wl_sync::clock_goes_on();
+    wl_frame::laws::stuffing_goes_on_bit_by_bit();
+    wl_machine::laws::a_transmitter_sends_its_head_stuffed();
+    wl_phase::laws::an_edge_moves_the_sample();
+    wl_phase::laws::the_first_edge_synchronises_hard();
+    wl_phase::laws::a_listener_samples_each_frame();
+    wl_phase::laws::an_acknowledgement_comes_in_time();
+    wl_phase::laws::an_acknowledgement_comes_after_each_sample();
+    wl_phase::laws::the_sender_samples_the_acknowledgement();
+    wl_topology::driven_laws();
+    wl_plan::simulation_laws();
+}
+
+/// Law: so it is with each plan of such nodes on a cable: it is such a bus, whichever node sends, whatever and when.
+pub fn a_plan_is_such_a_bus()
+    ensures bus { (plan : Plan) (clocks : ℕ → Steady) → IsSteadyPlan plan clocks
+        → (sender : ℕ) → sender < length plan.nodes → (frame : Content) (stuffed : List Level) (decides : ℕ)
+        → IsBus (sender_bus_of plan clocks sender frame stuffed decides) }
+    ensures acknowledged { (plan : Plan) (clocks : ℕ → Steady) → IsSteadyPlan plan clocks
+        → (sender : ℕ) → sender < length plan.nodes → (frame : Content) (stuffed : List Level) (decides : ℕ)
+        → SendsFirst (sender_bus_of plan clocks sender frame stuffed decides)
+        → IsInStepWithAll (sender_bus_of plan clocks sender frame stuffed decides)
+        → EndsAfterSlot (sender_bus_of plan clocks sender frame stuffed decides)
+        → IsAcknowledged (sender_bus_of plan clocks sender frame stuffed decides) }
+{
+    wl_plan::checked_is_sound();
+    the_first_frame_is_acknowledged();
+}
