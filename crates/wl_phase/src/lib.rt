@@ -69,7 +69,7 @@ pub fn are_near(
 }
 
 /// Returns the parts of a tick that so many quanta take, 25 at most, of `num` parts by another denominator each.
-fn parts(den: u32, quanta: u64, num: u64) -> u128
+pub fn parts(den: u32, quanta: u64, num: u64) -> u128
     requires { quanta ≤ 25 }
     ensures parts { result ≡ den * (quanta * num) }
     ensures small { result < 2 ^ 102 }
