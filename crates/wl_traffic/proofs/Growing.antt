@@ -1,0 +1,66 @@
+-- Lists and folds that grow by one.
+use Rattle.std.proofs.Common.{◌≡◌, ◌∙◌, refl, sym, ap, arith, zero-add, ℕ, zero, suc, ◌+◌, ◌-◌, ◌*◌, ◌/◌, ◌%◌, ◌^◌, ◌<◌, ◌≤◌, false, List, [], ◌∷◌, ◌++◌, length, map, fold, get_or, take, append-nil}
+use Rattle.std.specs.Prelude.{slice_get}
+use Rattle.std.specs.Fmt.{digit_glyph}
+use Rattle.std.specs.List.{All, filter, flat_map, range_with_len}
+use Rattle.std.proofs.Math.Nat.{add-mul, mul_assoc, div-add-mod, mul-add-div}
+use Rattle.std.proofs.lemmas.List.{take_more}
+use Rattle.std.proofs.lemmas.List.Concat.{flat_map-append}
+use Rattle.std.proofs.lemmas.List.Elements.{All-filter, All-map}
+use Rattle.std.proofs.lemmas.List.FromFn.{map-range_with_len_more}
+use Rattle.std.proofs.lemmas.List.Sums.{fold-append}
+use Rattle.wl_node.specs.declared.setup.Passed.{Passed}
+use Rattle.wl_node.specs.declared.setup.Queued.{Queued}
+use Rattle.wl_node.specs.History.{is_sent}
+use Rattle.wl_plan.specs.declared.plan.Plan.{Plan}
+use Rattle.wl_report.specs.Lines.{hexadecimal}
+use Rattle.wl_traffic.specs.declared.attempts.Attempt.{Attempt}
+use Rattle.wl_traffic.specs.Attempts.{entries_by, entry_in, sent_quanta}
+use Rattle.wl_traffic.specs.Bus.{finding_of, nothing_found, quieter}
+use Rattle.wl_traffic.specs.Known.{IsKnown, IsKnownQuantum}
+
+-- what one element more gives
+pub flat_more : {X A : Type 0} (f : X → List A) (xs : List X) (i : ℕ) (d : X) → i < length xs
+    → flat_map f (take (i + 1) xs) ≡ flat_map f (take i xs) ++ f (get_or xs i d)
+flat_more f xs i d within =
+    ap (flat_map f) (take_more xs i d within) ∙ flat_map-append f (take i xs) (get_or xs i d ∷ [])
+    ∙ ap (λ ys. flat_map f (take i xs) ++ ys) (append-nil (f (get_or xs i d)))
+
+-- the last digit stands after the others
+pub no_hexadecimal : (k n : ℕ) → k ≡ 0 → hexadecimal k n ≡ []
+no_hexadecimal zero n none = refl
+no_hexadecimal (suc k) n none = absurd (omega arith)
+
+pub last_hexadecimal : (k n : ℕ) → 0 < k → hexadecimal k n ≡ hexadecimal (k - 1) (n / 16) ++ digit_glyph false (n % 16) ∷ []
+last_hexadecimal zero n some = absurd (omega arith)
+last_hexadecimal (suc k) n some =
+    ap (λ (m : ℕ). hexadecimal m (n / 16) ++ digit_glyph false (n % 16) ∷ []) {x = k} {y = suc k - 1} (omega arith)
+
+-- the bus by one node more
+pub bus_more : (plan : Plan) (i : ℕ)
+    → fold quieter nothing_found (map (finding_of plan) (range_with_len 0 (i + 1)))
+    ≡ quieter (fold quieter nothing_found (map (finding_of plan) (range_with_len 0 i))) (finding_of plan i)
+bus_more plan i =
+    ap (fold quieter nothing_found) (map-range_with_len_more (finding_of plan) 0 i i (zero-add i))
+    ∙ fold-append quieter nothing_found (map (finding_of plan) (range_with_len 0 i)) (finding_of plan i ∷ [])
+
+-- a quantum among known ones is known
+get_known : (xs : List ℕ) (k : ℕ) → All (λ q. q ≤ 2 ^ 21) xs → IsKnownQuantum (slice_get xs k)
+get_known [] k h = tt
+get_known (x ∷ xs) zero h = h 0 0 (omega arith)
+get_known (x ∷ xs) (suc k) h = get_known xs k (λ i d b. h (suc i) d (omega arith))
+
+pub entries_known : (queue : List Queued) (frames : List Passed) (attempts : List Attempt) → All (λ p. p.quantum ≤ 2 ^ 21) frames
+    → All IsKnown (entries_by queue (sent_quanta frames) attempts)
+entries_known queue frames attempts h =
+    let known : All (λ q. q ≤ 2 ^ 21) (sent_quanta frames) =
+    All-map (λ q. q ≤ 2 ^ 21) (λ (p : Passed). p.quantum) (filter is_sent frames) (All-filter is_sent (λ p. p.quantum ≤ 2 ^ 21) frames h) in
+    All-map IsKnown (entry_in queue (sent_quanta frames) attempts) (range_with_len 0 (length queue))
+    (λ i d b. get_known (sent_quanta frames) (get_or (range_with_len 0 (length queue)) i d) known)
+
+-- a mean by parts, so that it stays below 2^128
+parts : (n s : ℕ) → n * (s / n * 100) + s % n * 100 ≡ s * 100
+parts n s = ap (λ x. x + s % n * 100) (sym (mul_assoc n (s / n) 100)) ∙ sym (add-mul (n * (s / n)) (s % n) 100) ∙ ap (λ x. x * 100) (div-add-mod s n)
+
+pub mean_by_parts : (n s : ℕ) → 0 < n → s / n * 100 + s % n * 100 / n ≡ s * 100 / n
+mean_by_parts n s some = sym (mul-add-div some (s / n * 100) (s % n * 100)) ∙ ap (λ x. x / n) (parts n s)

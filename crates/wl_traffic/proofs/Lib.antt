@@ -1,0 +1,4 @@
+mod Growing
+mod Lines
+mod Quanta
+mod Rows

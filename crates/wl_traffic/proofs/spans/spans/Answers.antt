@@ -1,0 +1,34 @@
+use Rattle.std.proofs.Common.{◌≡◌, ◌∙◌, ◌+◌, ◌-◌, ◌++◌, ◌∷◌, [], zero-add, sym, ap, ap₂, subst, arith, ℕ, List, get_or, take}
+use Rattle.std.proofs.lemmas.List.FromFn.{map-range_with_len_more}
+use Rattle.std.proofs.lemmas.List.Sums.{fold_more}
+use Rattle.wl_level.specs.declared.Level.{Level}
+use Rattle.wl_level.specs.declared.Level.TheVariants.{Dominant}
+use Rattle.wl_machine.specs.Doing.{doing_of}
+use Rattle.wl_machine.specs.Judged.{stretch_of}
+use Rattle.wl_node.specs.declared.setup.NodeSetup.{NodeSetup}
+use Rattle.wl_trace.specs.Replay.{SampledPast, no_past, past_after}
+use Rattle.wl_traffic.specs.declared.spans.Span.{Span}
+use Rattle.wl_traffic.specs.States.{HasSampled, doing_at, past_of_samples, sample_tick, span_at}
+use Rattle.wl_traffic.proofs.spans.spans.Goals as goal
+
+pub loop-k-preserved : goal.loop-k-preserved
+loop-k-preserved c =
+    let setup : NodeSetup = c.args.setup.now in
+    let end : ℕ = c.args.end in
+    let samples : List (ℕ × Level) = c.args.samples.now in
+    let k : ℕ = c.loop-k.k in
+    let front : SampledPast = past_of_samples setup (take k samples) in
+    let more : past_of_samples setup (take (k + 1) samples) ≡ past_after setup front (get_or samples k (0, Dominant)) =
+    fold_more (past_after setup) no_past samples k (0, Dominant) c.loop-k-test.true in
+    let doing : c.sample-doing.result ≡ doing_at setup samples k =
+    c.sample-doing.ensures.doing front c.loop-k.invariant.past ∙ ap (λ (p : SampledPast). doing_of (stretch_of p.inputs)) (sym more) in
+    let ticks : c.saturating_sub-ticks.result ≡ sample_tick setup end samples (k + 1) - sample_tick setup end samples k =
+    c.saturating_sub-ticks.ensures ∙ ap₂ (λ (a b : ℕ). a - b) c.sample_tick-until.ensures c.sample_tick.ensures in
+    record {
+      spans =
+          c.in_ok-push.ensures.items
+          ∙ ap₂ (λ (xs : List Span) (s : Span). xs ++ s ∷ []) c.loop-k.invariant.spans (λ i. record { doing = doing i; ticks = ticks i })
+          ∙ sym (map-range_with_len_more (span_at setup end samples) 0 k k (zero-add k));
+      past = subst (HasSampled c.sample-doing.new.self) (sym more) (c.sample-doing.ensures.past front c.loop-k.invariant.past);
+      sent = omega (arith, c.sample-doing.ensures.sent, c.loop-k.invariant.sent);
+    }

@@ -1,0 +1,24 @@
+-- The traffic of a run as text: the bus, the messages, and why the run didn't work (this project's profile).
+use Rattle.std.specs.Prelude.{ℕ, min, List, [], ◌∷◌, ◌++◌, codes}
+use Rattle.std.specs.Fmt.{decimal}
+use Rattle.wl_explain.specs.Words.{hundredths, joined}
+use Rattle.wl_plan.specs.declared.plan.Plan.{Plan}
+use Rattle.wl_views.specs.declared.tick.Tick.{Tick}
+use Rattle.wl_views.specs.Ticks.{microseconds}
+use Rattle.wl_traffic.specs.Bus.{bus_found, share_of}
+use Rattle.wl_traffic.specs.Messages.{all_messages}
+use Rattle.wl_traffic.specs.Reasons.{reason_of, reason_word}
+use Rattle.wl_traffic.specs.declared.bus.Found.{Found}
+use Rattle.wl_traffic.specs.declared.reason.Reason.{Reason}
+
+-- how busy the bus was, and the longest time for which it was idle, in whole microseconds
+abbrev pub bus_line : Tick → (end : ℕ) → Found → List ℕ
+bus_line tick end bus =
+    joined (codes "bus load " ∷ hundredths (share_of bus.busy end) ∷ codes " % gap " ∷ decimal (microseconds tick (min bus.gap end)) ∷ codes " us\n" ∷ [])
+
+abbrev pub verdict_words : Reason → List ℕ
+verdict_words reason = joined (codes "verdict " ∷ reason_word reason ∷ codes "\n" ∷ [])
+
+-- the bus, the messages of each node, and the reason
+abbrev pub traffic_text : Tick → Plan → List (List ℕ) → List ℕ
+traffic_text tick plan names = bus_line tick plan.end (bus_found plan) ++ all_messages tick plan names ++ verdict_words (reason_of plan)

@@ -1,0 +1,18 @@
+//! The traffic of a run as text: how busy the bus was, how long each message waited, and why a run didn't work.
+#![tactic(auto)]
+
+mod attempts;
+mod bus;
+mod entries;
+mod hexadecimal;
+mod messages;
+mod nodes;
+mod reason;
+mod sampling;
+mod spans;
+mod spread;
+mod text;
+mod waits;
+
+pub use reason::Reason;
+pub use text::{Traffic, traffic_of};

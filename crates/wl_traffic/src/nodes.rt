@@ -1,0 +1,34 @@
+//! The nodes of a plan, each with what it did.
+ghost use Rattle.std.specs.Prelude.{◌≡◌, ◌<◌, length};
+ghost use Rattle.wl_plan.specs.PlanLine.{setup_at};
+ghost use Rattle.wl_serial.specs.Outcome.{node_outcome_of, outcome_of};
+ghost use Rattle.wl_traffic.specs.Known.{QuantaAreKnown};
+
+use wl_node::NodeSetup;
+use wl_plan::Plan;
+use wl_serial::{NodeOutcome, Outcome};
+
+/// Returns what node `i` is made of, and what it did.
+pub(crate) fn node_at<'a>(
+    plan: &'a Plan,
+    outcome: &'a Outcome,
+    i: usize,
+) -> (&'a NodeSetup, &'a NodeOutcome)
+    requires outcome { outcome.now ≡ outcome_of plan.now }
+    requires node { i < length plan.now.nodes }
+    ensures setup { result.0.now ≡ setup_at plan.now i }
+    ensures outcome { result.1.now ≡ node_outcome_of plan.now i }
+{
+    let setups = plan.nodes.as_slice();
+    let nodes = outcome.nodes.as_slice();
+    (&setups[i], &nodes[i])
+}
+
+/// Law: a clock knows each quantum at which a node of a plan that passed its check sampled, and at which it completed a frame.
+pub(crate) fn quanta_are_known()
+    ensures { QuantaAreKnown }
+{
+    wl_plan::checked_is_sound();
+    wl_plan::simulation_laws();
+    wl_views::sent_in_time();
+}

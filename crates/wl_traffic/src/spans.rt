@@ -1,0 +1,53 @@
+//! What a node does from sample to sample, and for how long.
+ghost use Rattle.std.specs.Prelude.{◌≡◌, ◌≤◌, ◌^◌, IfOk};
+ghost use Rattle.std.specs.List.{All};
+ghost use Rattle.wl_traffic.specs.States.{sample_tick, spans_of};
+
+use crate::sampling::Sampling;
+use std::alloc::{AllocError, Global};
+use wl_level::Level;
+use wl_machine::Doing;
+use wl_node::NodeSetup;
+
+/// What a node does after a sample, and for how many ticks: up to its next sample, or up to the end.
+#[derive(Clone, Copy, Debug)]
+pub struct Span {
+    /// What it does.
+    pub(crate) doing: Doing,
+    /// For how many ticks.
+    pub(crate) ticks: u64,
+}
+
+/// Returns the tick of a sample, or the end if there is no such sample.
+fn sample_tick(setup: &NodeSetup, end: u64, samples: &[(u64, Level)], k: usize) -> u64
+    requires { All (λ s. s.0 ≤ 2 ^ 21) samples.now }
+    ensures { result ≡ sample_tick setup.now end samples.now k }
+{
+    if k < samples.len() {
+        setup.clock.at(samples[k].0)
+    } else {
+        end
+    }
+}
+
+/// Returns what a node does after each of its samples.
+pub(crate) fn spans(
+    alloc: Global,
+    setup: &NodeSetup,
+    end: u64,
+    samples: &[(u64, Level)],
+) -> Result<Vec<Span>, AllocError>
+    requires { All (λ s. s.0 ≤ 2 ^ 21) samples.now }
+    ensures { IfOk result (λ spans. spans.items ≡ spans_of setup.now end samples.now) }
+{
+    let mut kept = Sampling::new();
+    let mut spans = Vec::new(alloc);
+    for k in 0..samples.len() {
+        let (quantum, level) = samples[k];
+        let doing = kept.sample(setup, quantum, level);
+        let until = sample_tick(setup, end, samples, k + 1);
+        let ticks = until.saturating_sub(sample_tick(setup, end, samples, k));
+        spans.push(Span { doing, ticks })?;
+    }
+    Ok(spans)
+}
