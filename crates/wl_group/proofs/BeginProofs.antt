@@ -22,6 +22,7 @@ use Rattle.wl_plan.specs.Checked.{IsChecked}
 use Rattle.wl_group.specs.declared.cell.Cell.{Cell}
 use Rattle.wl_group.specs.GroupValue.{GroupValue, IsGroupValue, quanta_at, belongs, member_after, member_at, members_now, names, initial_group, with_records, with_state}
 use Rattle.wl_group.specs.Kept.{quanta_kept, ran_of, group_value, IsCell, AreCells, IsKept}
+use Rattle.wl_group.specs.Ways.{AreWays}
 use Rattle.wl_group.specs.Chosen.{is_chosen}
 use Rattle.wl_group.specs.ValueLaws.{ValueLaws}
 use Rattle.wl_replica.proofs.Callers.{some_is}
@@ -101,17 +102,18 @@ kept_member plan cells replica emitted i cell e = ap (member_at (line_of plan) i
 
 -- ---- fresh nodes
 
-pub fresh_kept : (plan : Plan) (i : ℕ) (node : Node) (next : ℕ) → SimulationLaws → IsSound (line_of plan) → i < length plan.nodes
-    → node_setup node ≡ setup_at plan i → IsNode [] node → quanta_of node ≡ 0 → next ≡ (line_of plan).instant i 0
-    → (member : Cell) → Some (record { node = node; changed = 0; next = next }) ≡ Some member → IsCell plan i member
+pub fresh_kept : (plan : Plan) (i : ℕ) (node : Node) (next : ℕ) (ways : List ℕ) → SimulationLaws → IsSound (line_of plan) → i < length plan.nodes
+    → node_setup node ≡ setup_at plan i → IsNode [] node → quanta_of node ≡ 0 → next ≡ (line_of plan).instant i 0 → AreWays plan i ways
+    → (member : Cell) → Some (record { node = node; changed = 0; next = next; ways = ways }) ≡ Some member → IsCell plan i member
 unfolding seen
-fresh_kept plan i node next laws sound b es is q at member e =
-    let f : record { node = node; changed = 0; next = next } ≡ member = some_is (record { node = node; changed = 0; next = next }) member e in
+fresh_kept plan i node next ways laws sound b es is q at to member e =
+    let f : record { node = node; changed = 0; next = next; ways = ways } ≡ member = some_is (record { node = node; changed = 0; next = next; ways = ways }) member e in
     subst (IsCell plan i) f (record {
       setup = es;
       node = subst (λ n. IsNode (seen (line_of plan) i n) node) (sym q) is;
       changed = sym (laws.none_at_first (line_of plan) i sound.causal b) ∙ ap (λ n. count_below ((line_of plan).instant i n) (table_of plan i)) (sym q);
       next = at ∙ ap ((line_of plan).instant i) (sym q);
+      ways = to;
     })
 
 -- one more cell, after the others

@@ -19,6 +19,7 @@ use Rattle.wl_plan.specs.Simulation.{differs}
 use Rattle.wl_group.specs.declared.cell.Cell.{Cell}
 use Rattle.wl_group.specs.Member.{Member, next_tick, turns, member_after_quantum, emission}
 use Rattle.wl_group.specs.Running.{IsCellOf, passed, Stood, HasGone}
+use Rattle.wl_group.specs.Ways.{AreWays}
 
 replicate_more : {A : Type 0} (n : ℕ) (x : A) → replicate (suc n) x ≡ replicate n x ++ x ∷ []
 replicate_more zero x = refl
@@ -54,6 +55,7 @@ pub record Went (i : ℕ) (level before after : Level) (b : Bool) (ran quanta qu
   pub is : same after before ≡ b
   pub changed : new.changed ≡ (if b then old.changed else suc old.changed)
   pub next : new.next ≡ tick_of (node_setup new.node).clock (quanta + ran)
+  pub ways : new.ways ≡ old.ways
   pub says : said ≡ (if b then [] else Edge i old.changed (tick_of (node_setup new.node).clock (quanta + ran - 1)) ∷ [])
       ++ Silence i new.changed (tick_of (node_setup new.node).clock (quanta + ran + quiet)) ∷ []
 
@@ -125,7 +127,13 @@ module _ (i : ℕ) (level before after : Level) (b : Bool) (ran quanta quiet : �
 
     after_cell : IsCellOf plan i (member_after_quantum (line_of plan) i (passed m level n) level) new
     unfolding saw
-    after_cell = record { setup = setup_new; node = is_new; changed = changed_new; next = next_new }
+    after_cell = record {
+      setup = setup_new;
+      node = is_new;
+      changed = changed_new;
+      next = next_new;
+      ways = subst (AreWays plan i) (sym w.ways) held.ways;
+    }
 
     edge_is : tick_of (node_setup new.node).clock (quanta + ran - 1) ≡ next_tick (line_of plan) i (passed m level n)
     edge_is =

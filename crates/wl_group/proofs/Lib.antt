@@ -10,4 +10,5 @@ mod Rows
 mod ValueProofs
 mod RunProofs
 mod RowProofs
+mod WayProofs
 mod AllProofs

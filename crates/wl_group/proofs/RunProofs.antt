@@ -124,7 +124,7 @@ module _ (laws : ValueLaws) (sound : CheckedIsSound) (plan : Plan) (cells : List
     pub own : IsCellOf plan i (members_now (group_value plan cells replica emitted) i) cell
     own =
         let c = kept.placed i cell is in
-        subst (λ m. IsCellOf plan i m cell) (sym member_is) (record { setup = c.setup; node = c.node; changed = c.changed; next = c.next })
+        subst (λ m. IsCellOf plan i m cell) (sym member_is) (record { setup = c.setup; node = c.node; changed = c.changed; next = c.next; ways = c.ways })
 
     -- a list of cells in which it has another state
     module _ (new : Cell) where
@@ -149,11 +149,11 @@ module _ (laws : ValueLaws) (sound : CheckedIsSound) (plan : Plan) (cells : List
         pub kept_stays : IsKept plan (set cells i (Some new)) replica_new emitted_new
         kept_stays =
             let c = kept.placed i cell is in
-            let s = not.same plan i (member_after (line_of plan) i (quanta_of cell.node)) (record { setup = c.setup; node = c.node; changed = c.changed; next = c.next }) in
+            let s = not.same plan i (member_after (line_of plan) i (quanta_of cell.node)) (record { setup = c.setup; node = c.node; changed = c.changed; next = c.next; ways = c.ways }) in
             let at : IsCellOf plan i (member_after (line_of plan) i (quanta_of new.node)) new = subst (λ k. IsCellOf plan i (member_after (line_of plan) i k) new) (sym not.quanta) s in
             record {
               value = subst IsGroupValue (sym value_stays) kept.value;
-              placed = cells_new (record { setup = at.setup; node = at.node; changed = at.changed; next = at.next });
+              placed = cells_new (record { setup = at.setup; node = at.node; changed = at.changed; next = at.next; ways = at.ways });
             }
 
       -- n quanta were run and one, as far as which the group may go
@@ -206,7 +206,7 @@ module _ (laws : ValueLaws) (sound : CheckedIsSound) (plan : Plan) (cells : List
         cell_new : IsCell plan i new
         cell_new =
             let at : IsCellOf plan i (member_after (line_of plan) i (quanta_of new.node)) new = subst (λ m. IsCellOf plan i m new) new_is after in
-            record { setup = at.setup; node = at.node; changed = at.changed; next = at.next }
+            record { setup = at.setup; node = at.node; changed = at.changed; next = at.next; ways = at.ways }
 
         pub kept_runs : IsKept plan (set cells i (Some new)) replica_new emitted_new
         kept_runs = record { value = subst IsGroupValue (sym value_runs) value_new; placed = cells_new cell_new }

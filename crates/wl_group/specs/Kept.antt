@@ -9,6 +9,7 @@ use Rattle.wl_plan.specs.PlanLine.{setup_at, line_of, table_of}
 use Rattle.wl_plan.specs.Simulation.{seen}
 use Rattle.wl_group.specs.declared.cell.Cell.{Cell}
 use Rattle.wl_group.specs.GroupValue.{GroupValue, IsGroupValue}
+use Rattle.wl_group.specs.Ways.{AreWays}
 
 -- the quanta of a member
 abbrev pub quanta_kept : Option Cell → Option ℕ
@@ -22,12 +23,13 @@ ran_of cells = map quanta_kept cells
 abbrev pub group_value : Plan → List (Option Cell) → State → List Record → GroupValue
 group_value plan cells replica emitted = record { plan = plan; ran = ran_of cells; replica = replica; emitted = emitted }
 
--- The node of a member is node i of the plan after its quanta, its changes were counted, and the tick of its next quantum is there.
+-- The node of a member is node i of the plan after its quanta, its changes were counted, and the tick of its next quantum and the ways to it are there.
 pub record IsCell (plan : Plan) (i : ℕ) (cell : Cell) : Type 0 where
   pub setup : node_setup cell.node ≡ setup_at plan i
   pub node : IsNode (seen (line_of plan) i (quanta_of cell.node)) cell.node
   pub changed : cell.changed ≡ count_below ((line_of plan).instant i (quanta_of cell.node)) (table_of plan i)
   pub next : cell.next ≡ (line_of plan).instant i (quanta_of cell.node)
+  pub ways : AreWays plan i cell.ways
 
 abbrev pub AreCells : Plan → List (Option Cell) → Type 0
 AreCells plan cells = (i : ℕ) (cell : Cell) → slice_index_or cells i None ≡ Some cell → IsCell plan i cell

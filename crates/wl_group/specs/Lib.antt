@@ -13,3 +13,4 @@ pub mod Running
 pub mod Said
 pub mod Stored
 pub mod ValueLaws
+pub mod Ways

@@ -14,6 +14,7 @@ use Rattle.wl_plan.specs.PlanLine.{setup_at, line_of, table_of}
 use Rattle.wl_group.specs.declared.cell.Cell.{Cell}
 use Rattle.wl_group.specs.Member.{Member, next_tick, can_run, member_after_quantum, emission}
 use Rattle.wl_group.specs.Party.{Party}
+use Rattle.wl_group.specs.Ways.{AreWays}
 use Rattle.wl_group.specs.Advanced.{Reply, emitted, blocked, ended, emission_of, run_next}
 use Rattle.wl_group.specs.GroupValue.{GroupValue, IsGroupValue, Matches, quanta_at, belongs, members_now, may_run, emission_at, run_on}
 
@@ -23,6 +24,7 @@ pub record IsCellOf (plan : Plan) (i : ℕ) (m : Member) (cell : Cell) : Type 0 
   pub node : IsNode m.saw cell.node
   pub changed : cell.changed ≡ m.changed
   pub next : cell.next ≡ (line_of plan).instant i (quanta_of cell.node)
+  pub ways : AreWays plan i cell.ways
 
 -- a member after so many quanta more, at which it read this level and kept its drive
 abbrev pub passed : Member → Level → ℕ → Member

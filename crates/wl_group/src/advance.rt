@@ -9,11 +9,12 @@ ghost use Rattle.wl_plan.specs.declared.plan.Plan.{Plan as GivenPlan};
 ghost use Rattle.wl_plan.specs.PlanLine.{line_of};
 ghost use Rattle.wl_group.specs.Member.{Member};
 ghost use Rattle.wl_group.specs.Running.{HasGone, HasNotGone, MaySay};
+ghost use Rattle.wl_group.specs.declared.advance.TheConstants.{MOST_EMITTED};
 
 use crate::answer::{Advance, Emission};
 use crate::cell::Cell;
 use crate::group::Group;
-use crate::heard::{shaken_around, stretch_around};
+use crate::heard::{known_by, known_of, shaken_around, stretch_around};
 use crate::laws::{group_laws, value_laws};
 use std::alloc::{AllocError, Global};
 use std::mem;
@@ -112,7 +113,7 @@ impl Group {
         ensures { IsKnownAt self.now node result }
     {
         value_laws();
-        self.replica.place_horizon(&self.plan.topology, node)
+        known_by(&self.replica, self.ways(node))
     }
 
     /// Whether a member's next quantum is before the end and before what is known at its place, which is known up to this tick.
@@ -133,8 +134,7 @@ impl Group {
         value_laws();
         wl_replica::known_laws();
         wl_plan::checked_is_sound();
-        i < self.replica.nodes()
-            && self.replica.horizon(i) + self.plan.topology.delay(i, node) <= self.due(node)
+        i < self.replica.nodes() && known_of(&self.replica, self.ways(node), i) <= self.due(node)
     }
 
     /// The first node that a member waits for, or else the number of nodes.
@@ -209,6 +209,7 @@ impl Group {
         wl_plan::simulation_laws();
         group_laws();
         let tick = self.due(i);
+        let ways = *self.ways(i);
         let shaken = shaken_around(&self.plan, self.shaken[i as usize], i, tick);
         self.shaken[i as usize] = shaken;
         let stretch = stretch_around(
@@ -216,6 +217,7 @@ impl Group {
             &self.replica,
             &mut self.come,
             &mut self.drives,
+            &ways,
             self.heard[i as usize],
             shaken,
             i,
@@ -294,7 +296,7 @@ fn run_cell(
     ensures not_emitted { OnErr result (emitted.new.items ≡ emitted.old.items) }
 {
     wl_replica::joining_is_a_join();
-    emitted.reserve(MOST_EMITTED)?;
+    make_room(emitted)?;
     let prepared = prepare(alloc, replica, cell.next_slots(i))?;
     match cell.go(i, level, most) {
         Ok(said) => {
@@ -320,7 +322,7 @@ fn prepare(
     ensures slots { IfOk result (λ prepared. prepared.slots ≡ slots) }
     ensures err { OnErr result (replica.new ≡ replica.old) }
 {
-    let nothing = Replica::new(alloc, 0)?;
+    let nothing = Replica::of_no_nodes(alloc);
     match mem::replace(replica, nothing).prepare(slots) {
         Ok(prepared) => Ok(prepared),
         Err(known) => {
@@ -328,6 +330,17 @@ fn prepare(
             Err(AllocError)
         }
     }
+}
+
+/// Makes room for what one advance emits. Refused when out of memory.
+fn make_room(emitted: &mut Vec<Record>) -> Result<(), AllocError>
+    ensures same { emitted.new.items ≡ emitted.old.items }
+    ensures room { OnOk result (vec_len emitted.new + MOST_EMITTED ≤ vec_capacity emitted.new) }
+{
+    if emitted.capacity() - emitted.len() >= MOST_EMITTED {
+        return Ok(());
+    }
+    emitted.reserve(MOST_EMITTED)
 }
 
 /// Appends records for which there is room.

@@ -10,8 +10,9 @@ ghost use Rattle.wl_group.specs.GroupValue.{names, initial_group};
 ghost use Rattle.wl_group.specs.Kept.{quanta_kept, ran_of, IsCell, AreCells};
 ghost use Rattle.wl_group.specs.declared.cell.Cell.{Cell as KeptCell};
 ghost use Rattle.wl_group.specs.Chosen.{is_chosen};
+ghost use Rattle.wl_group.specs.Ways.{AreWays};
 
-use crate::cell::Cell;
+use crate::cell::{Cell, Ways};
 use std::alloc::{AllocError, Global};
 use wl_node::Node;
 use wl_plan::Plan;
@@ -83,7 +84,21 @@ fn fresh_cell(
         node,
         changed: 0,
         next,
+        ways: ways_to(plan, i),
     }))
+}
+
+/// How many ticks a level takes from each node to node `j`.
+fn ways_to(plan: &Plan, j: u8) -> Ways
+    requires places { length plan.now.topology.places ≡ length plan.now.nodes }
+    requires node { j < length plan.now.nodes }
+    ensures { AreWays plan.now j result }
+{
+    let mut ways = [0; MOST_NODES];
+    for i in 0..plan.topology.nodes() {
+        ways[i as usize] = plan.topology.delay(i, j);
+    }
+    ways
 }
 
 /// A replica of the plan's nodes that has taken the first silence of each node that is chosen: that

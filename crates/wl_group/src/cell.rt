@@ -14,13 +14,18 @@ use wl_level::Level;
 use wl_node::Node;
 use wl_record_core::{Record, Slot};
 use wl_replica::PREPARED_SLOTS;
+use wl_topology::MOST_NODES;
 
-/// A node of the plan, how often its drive has changed, and the tick of its next quantum.
+/// How many ticks a level takes from each node to one of them.
+pub(crate) type Ways = [u64; MOST_NODES];
+
+/// A node of the plan, how often its drive has changed, the tick of its next quantum, and the ways to it.
 #[derive(Drop)]
 pub(crate) struct Cell {
     pub(crate) node: Node,
     pub(crate) changed: u32,
     pub(crate) next: u64,
+    pub(crate) ways: Ways,
 }
 
 /// Quanta of one level, up to the first that changes the drive: one at least, `most` at most. Answers how many ran, also where

@@ -1,9 +1,9 @@
 //! A group of nodes that runs by itself, up to what it knows of the others.
 
-ghost use Rattle.std.specs.Prelude.{◌≡◌, ◌<◌, ℕ, true, List, [], ◌∷◌, length, All, IfOk, OnOk, OnErr, Some};
+ghost use Rattle.std.specs.Prelude.{◌≡◌, ◌<◌, ◌≤◌, ℕ, true, List, [], ◌∷◌, length, All, IfOk, OnOk, OnErr, Some};
 
 use crate::begin::{Chosen, chosen_of, first_replica, fresh_cells};
-use crate::cell::Cell;
+use crate::cell::{Cell, Ways};
 use crate::heard::{Come, Heard, nothing_heard};
 use crate::laws::value_laws;
 use std::alloc::{AllocError, Global};
@@ -61,6 +61,8 @@ impl Group {
     ghost use Rattle.wl_group.specs.Member.{next_tick};
     ghost use Rattle.wl_group.specs.Chosen.{is_chosen};
     ghost use Rattle.wl_group.specs.Said.{HasJoined};
+    ghost use Rattle.wl_group.specs.Ways.{AreWays};
+    ghost use Rattle.wl_topology.specs.Limits.{most_places};
     ghost use Rattle.wl_group.specs.GroupValue.{IsGroupValue, Matches, belongs, quanta_at, members_now, names, initial_group, may_run, has_ended, with_records, with_state};
 
     /// A group of these nodes of a plan that passed its check, before their first quanta. It knows no
@@ -188,6 +190,19 @@ impl Group {
         wl_plan::simulation_laws();
         match &self.cells[node as usize] {
             Some(cell) => cell.next,
+            None => unreachable!(),
+        }
+    }
+
+    /// How many ticks a level takes from each node to a member.
+    pub(crate) fn ways(&self, node: u8) -> &Ways
+        requires { belongs self.now node ≡ true }
+        ensures ways { AreWays self.now.plan node result.now }
+        ensures some { 0 < self.now.replica.nodes }
+        ensures few { self.now.replica.nodes ≤ most_places }
+    {
+        match &self.cells[node as usize] {
+            Some(cell) => &cell.ways,
             None => unreachable!(),
         }
     }

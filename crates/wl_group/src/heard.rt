@@ -5,6 +5,7 @@ ghost use Rattle.wl_level.specs.Levels.{level_of};
 ghost use Rattle.wl_record_core.specs.Limits.{tick_end};
 ghost use Rattle.wl_record_core.specs.Truth.{odd};
 ghost use Rattle.wl_replica.specs.State.{slots_of};
+ghost use Rattle.wl_topology.specs.Limits.{most_places, longest_delay};
 ghost use Rattle.wl_replica.specs.Known.{tick_in, horizon, place_horizon};
 ghost use Rattle.wl_replica.specs.Slots.{HoldsTrue};
 ghost use Rattle.wl_plan.specs.Line.{Line};
@@ -12,7 +13,9 @@ ghost use Rattle.wl_plan.specs.Checked.{IsChecked};
 ghost use Rattle.wl_plan.specs.PlanLine.{line_of, table_of, disturbed};
 ghost use Rattle.wl_plan.specs.declared.plan.Plan.{Plan as GivenPlan};
 ghost use Rattle.wl_group.specs.Heard.{AreNotAfter, edge_tick, AreStretches, AreShaken, AreDrives, IsDrive, IsHeardOf, IsDriven, IsShaken, IsStretch, IsStill};
+ghost use Rattle.wl_group.specs.Ways.{AreWays, way_in};
 
+use crate::cell::Ways;
 use crate::laws::true_replicas_agree;
 use wl_lattice::FlatWord;
 use wl_level::Level;
@@ -181,6 +184,7 @@ fn stretch_of(
     i: u8,
     j: u8,
     t: u64,
+    delay: u64,
     come: &mut u32,
     drive: Stretch,
 ) -> (Stretch, Stretch)
@@ -188,8 +192,7 @@ fn stretch_of(
     requires nodes { replica.now.nodes ≡ length plan.now.nodes }
     requires truth { HoldsTrue (length plan.now.nodes) (table_of plan.now) (slots_of replica.now) }
     requires from { i < length plan.now.nodes }
-    requires to { j < length plan.now.nodes }
-    requires places { length plan.now.topology.places ≡ length plan.now.nodes }
+    requires way { delay ≡ (line_of plan.now).delay i j }
     requires early { t < horizon (slots_of replica.now) i + (line_of plan.now).delay i j }
     requires short { t < 2 ^ 64 - 1 }
     requires drive { IsDrive (line_of plan.now) i drive }
@@ -198,7 +201,6 @@ fn stretch_of(
     ensures heard { IsHeardOf (line_of plan.now) i j result.0 }
     ensures drive { IsDrive (line_of plan.now) i result.1 }
 {
-    let delay = plan.topology.delay(i, j);
     if t < delay {
         let silence = Stretch {
             from: t,
@@ -222,6 +224,7 @@ fn driven_from(
     replica: &Replica,
     come: &mut Come,
     drives: &mut Heard,
+    ways: &Ways,
     j: u8,
     t: u64,
 ) -> Stretch
@@ -233,6 +236,7 @@ fn driven_from(
     requires known { let l = line_of plan.now in t < place_horizon l.nodes l.delay (slots_of replica.now) j }
     requires early { t < 2 ^ 64 - 1 }
     requires drives { AreDrives (line_of plan.now) drives.old }
+    requires ways { AreWays plan.now j ways.now }
     ensures drives { AreDrives (line_of plan.now) drives.new }
     ensures from { result.from ≡ t }
     ensures until { t < result.until }
@@ -244,7 +248,16 @@ fn driven_from(
     let mut until = u64::MAX;
     for i in 0..plan.topology.nodes() {
         let drive = drives[i as usize];
-        let (one, own) = stretch_of(plan, replica, i, j, t, &mut come[i as usize], drive);
+        let (one, own) = stretch_of(
+            plan,
+            replica,
+            i,
+            j,
+            t,
+            ways[i as usize],
+            &mut come[i as usize],
+            drive,
+        );
         drives[i as usize] = own;
         match one.level {
             Level::Dominant => return one,
@@ -256,6 +269,30 @@ fn driven_from(
         until,
         level: Level::Recessive,
     }
+}
+
+/// The tick below which what node `i` drives is known at the place to which these are the ways.
+pub(crate) fn known_of(replica: &Replica, ways: &Ways, i: u8) -> u64
+    requires node { i < replica.now.nodes }
+    requires few { replica.now.nodes ≤ most_places }
+    requires short { (k : ℕ) → way_in ways.now k ≤ longest_delay }
+    ensures { result ≡ horizon (slots_of replica.now) i + way_in ways.now i }
+{
+    replica.horizon(i) + ways[i as usize]
+}
+
+/// The tick below which the line is known at the place to which these are the ways.
+pub(crate) fn known_by(replica: &Replica, ways: &Ways) -> u64
+    requires some { 0 < replica.now.nodes }
+    requires few { replica.now.nodes ≤ most_places }
+    requires short { (k : ℕ) → way_in ways.now k ≤ longest_delay }
+    ensures { result ≡ place_horizon replica.now.nodes (λ i j. way_in ways.now i) (slots_of replica.now) 0 }
+{
+    let mut least = known_of(replica, ways, 0);
+    for i in 1..replica.nodes() {
+        least = least.min(known_of(replica, ways, i));
+    }
+    least
 }
 
 /// A tick, where it is after tick `t` and before another one, and else that one.
@@ -338,6 +375,7 @@ fn found_from(
     replica: &Replica,
     come: &mut Come,
     drives: &mut Heard,
+    ways: &Ways,
     shaken: Stretch,
     j: u8,
     t: u64,
@@ -353,6 +391,7 @@ fn found_from(
     requires shaken_from { shaken.from ≤ t }
     requires shaken_until { t < shaken.until }
     requires drives { AreDrives (line_of plan.now) drives.old }
+    requires ways { AreWays plan.now j ways.now }
     ensures drives { AreDrives (line_of plan.now) drives.new }
     ensures from { result.from ≡ t }
     ensures until { t < result.until }
@@ -365,7 +404,7 @@ fn found_from(
             level: Level::Dominant,
         };
     }
-    let driven = driven_from(plan, replica, come, drives, j, t);
+    let driven = driven_from(plan, replica, come, drives, ways, j, t);
     Stretch {
         from: t,
         until: driven.until.min(shaken.until),
@@ -379,6 +418,7 @@ pub(crate) fn stretch_around(
     replica: &Replica,
     come: &mut Come,
     drives: &mut Heard,
+    ways: &Ways,
     heard: Stretch,
     shaken: Stretch,
     j: u8,
@@ -396,6 +436,7 @@ pub(crate) fn stretch_around(
     requires shaken_from { shaken.from ≤ t }
     requires shaken_until { t < shaken.until }
     requires drives { AreDrives (line_of plan.now) drives.old }
+    requires ways { AreWays plan.now j ways.now }
     ensures drives { AreDrives (line_of plan.now) drives.new }
     ensures from { result.from ≤ t }
     ensures until { t < result.until }
@@ -404,5 +445,5 @@ pub(crate) fn stretch_around(
     if heard.from <= t && t < heard.until {
         return heard;
     }
-    found_from(plan, replica, come, drives, shaken, j, t)
+    found_from(plan, replica, come, drives, ways, shaken, j, t)
 }

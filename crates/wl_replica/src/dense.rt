@@ -264,6 +264,21 @@ impl Rows {
         })
     }
 
+    /// Rows of no nodes. They take no memory.
+    pub fn of_no_nodes(alloc: Global) -> Rows
+        ensures { result ≡ state_of 0 [] }
+    {
+        Rows {
+            nodes: 0,
+            edges: EdgeRows {
+                rows: Vec::new(alloc),
+            },
+            silences: SilenceRows {
+                rows: Vec::new(alloc),
+            },
+        }
+    }
+
     /// The number of nodes that they know of. What they know of them is what some records say.
     pub fn nodes(&self) -> u8
         ensures value { result ≡ self.now.nodes }

@@ -77,6 +77,16 @@ impl Replica {
         })
     }
 
+    /// A replica of no nodes. It takes no memory, so it can stand where another one is moved out for a while.
+    pub fn of_no_nodes(alloc: Global) -> Replica
+        ensures { result ≡ state_of 0 [] }
+    {
+        Replica {
+            rows: Rows::of_no_nodes(alloc),
+            runs: Vec::new(alloc),
+        }
+    }
+
     /// The number of nodes that it knows of. What it knows of them is what some records say.
     pub fn nodes(&self) -> u8
         ensures value { result ≡ self.now.nodes }

@@ -15,6 +15,7 @@ returns-clause-cell c =
     let setup : node_setup c.in_ok-node.node ≡ setup_at c.args.plan.now c.args.i = c.in_ok-node.ensures.setup ∙ (c.in_ok-setup.ensures ∙ element) in
     let is = c.in_ok-node.ensures.node in
     let none : quanta_of c.in_ok-node.node ≡ 0 = c.node_laws.ensures.counted c.in_ok-node.node _ is in
-    fresh_kept c.args.plan.now c.args.i c.in_ok-node.node c.at-next.result c.simulation_laws.ensures (c.checked_is_sound.ensures c.args.plan.now c.requires.checked) c.requires.node
+    fresh_kept c.args.plan.now c.args.i c.in_ok-node.node c.at-next.result c.ways_to.result c.simulation_laws.ensures (c.checked_is_sound.ensures c.args.plan.now c.requires.checked) c.requires.node
     setup is none
     (c.at-next.ensures.tick ∙ ap (λ (s : NodeSetup). tick_of s.clock 0) (c.setup.ensures ∙ setup))
+    c.ways_to.ensures

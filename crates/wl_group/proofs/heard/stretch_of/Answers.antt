@@ -10,7 +10,7 @@ pub returns-clause-heard : goal.returns-clause-heard
 returns-clause-heard c u from until =
     let l = line_of c.args.plan.now in
     let d = delay_of c.args.plan.now.topology c.args.i c.args.j in
-    let same : c.delay-delay.result ≡ d = c.delay-delay.ensures.ticks in
+    let same : c.args.delay ≡ d = c.requires.way in
     let after : d ≤ u = omega (arith, same, from, c.if-t-delay.false) in
     heard_after d u (level l c.args.i (u - d)) c.drive_around-own.result.level after
     (c.drive_around-own.ensures.drive (u - d)

@@ -35,7 +35,7 @@ pub returns-then-is-clause-gone : goal.returns-then-is-clause-gone
 returns-then-is-clause-gone c =
     let setup = c.setup.ensures in
     has_gone c.args.i c.args.level c.drive-before.result c.drive.result true c.in_ok-ran.ran c.quanta-quanta.result c.quiet.result c.args.self.now
-    (record { node = c.run_some.new.node; changed = c.args.self.now.changed; next = c.at-self.result }) c.push.new.self.items (record {
+    (record { node = c.run_some.new.node; changed = c.args.self.now.changed; next = c.at-self.result; ways = c.args.self.now.ways }) c.push.new.self.items (record {
       gone = c.in_ok-ran.ensures.gone;
       some = c.in_ok-ran.ensures.some;
       quanta_is = c.quanta-quanta.ensures.value;
@@ -45,6 +45,7 @@ returns-then-is-clause-gone c =
       quiet_is = c.quiet.ensures.value;
       is = sym c.is.ensures ∙ c.if-is.true;
       changed = refl;
+      ways = refl;
       next = c.at-self.ensures.tick ∙ ap (λ (s : NodeSetup). tick_of s.clock (c.quanta-quanta.result + c.in_ok-ran.ran)) setup;
       says = c.push.ensures.items
           ∙ (ap (λ (rs : List Record). rs ++ Silence c.args.i c.args.self.now.changed c.at-until.result ∷ []) c.new-emission.ensures
@@ -57,7 +58,7 @@ returns-clause-gone c =
     let setup = c.setup.ensures in
     let more : c.args.self.now.changed + 1 ≡ suc c.args.self.now.changed = omega arith in
     has_gone c.args.i c.args.level c.drive-before.result c.drive.result false c.in_ok-ran.ran c.quanta-quanta.result c.quiet.result c.args.self.now
-    (record { node = c.run_some.new.node; changed = c.args.self.now.changed + 1; next = c.at-self.result }) c.push-3.new.self.items (record {
+    (record { node = c.run_some.new.node; changed = c.args.self.now.changed + 1; next = c.at-self.result; ways = c.args.self.now.ways }) c.push-3.new.self.items (record {
       gone = c.in_ok-ran.ensures.gone;
       some = c.in_ok-ran.ensures.some;
       quanta_is = c.quanta-quanta.ensures.value;
@@ -67,6 +68,7 @@ returns-clause-gone c =
       quiet_is = c.quiet.ensures.value;
       is = sym c.is.ensures ∙ c.if-is.false;
       changed = more;
+      ways = refl;
       next = c.at-self.ensures.tick ∙ ap (λ (s : NodeSetup). tick_of s.clock (c.quanta-quanta.result + c.in_ok-ran.ran)) setup;
       says = c.push-3.ensures.items
           ∙ (ap (λ (rs : List Record). rs ++ Silence c.args.i (c.args.self.now.changed + 1) c.at-until.result ∷ [])
