@@ -15,9 +15,9 @@ use wl_record_core::Record;
 /// A worker has no turn of this number: there it ends with its fault.
 const MOST_TURNS: u64 = 1 << 63;
 
-/// How often at most each member has its turn before the worker gives what was said: so others can go on before it has run all that it
-/// can, and needn't wait in turns.
-const MOST_ROUNDS: u32 = 4;
+/// How often at most each member has its turn before the worker gives what was said, by measurement: with fewer a worker gives and fetches
+/// more often on lines with long delays, and with more nothing is gained. So others needn't wait until it has run all that it can.
+const MOST_ROUNDS: u32 = 32;
 
 /// Runs a group to its end, with what comes by its link.
 ///
