@@ -1,7 +1,7 @@
 #!/usr/bin/env python3
 """Compares runs by workers with runs by one thread, and measures them.
 
-usage: workers.py same PROGRAM [SEED [COUNT]]    PROGRAM is the built wl_sim: random plans of bench/differ.py by 2, 3 and 8 workers and either link; the
+usage: workers.py same PROGRAM [SEED [COUNT]]    PROGRAM is the built wl_sim: random plans of bench/differ.py by 2 to 8 workers and either link; the
                                                  bytes, the fault and the status have to be those of one thread; status 1 where one differs
        workers.py table PROGRAM [ROUNDS]         whole processes, one thread and workers in turns on the same three plans: wall and processor time (the median of
                                                  the rounds) beside one thread's, and peak memory; the table of docs/speed.md
@@ -26,7 +26,7 @@ from pathlib import Path
 
 sys.dont_write_bytecode = True
 HERE = Path(__file__).resolve().parent
-NUMBERS = (2, 3, 8)
+NUMBERS = range(2, 9)
 LINKS = ("hub", "mail")
 RUNS = [(None, 0)] + [(link, workers) for workers in (1, 2, 4) for link in LINKS]
 
@@ -50,8 +50,8 @@ def same(program, seed, count):
                 differs += 1
                 with tempfile.NamedTemporaryFile("wb", prefix=f"workers-{workers}-{link}-", suffix=".toml", delete=False) as kept: kept.write(text)
                 print(f"plan {number} by {workers} workers, {link}, differs: {kept.name}")
-    many = ", ".join(map(str, NUMBERS))
-    print(f"{count} random plans from {seed}, of which {refused} are refused, by {many} workers and either link: {differs} answers differ")
+    runs = count * len(NUMBERS) * len(LINKS)
+    print(f"{count} random plans from {seed}, of which {refused} are refused, by 2 to 8 workers and either link: {differs} of {runs} answers differ")
     return differs == 0
 
 
