@@ -1,0 +1,9 @@
+mod Euclid
+mod FaultLemmas
+mod Found
+mod Growing
+mod Least
+mod MadeTables
+mod Saying
+mod Unknown
+mod ValueLemmas

@@ -1,0 +1,61 @@
+-- The keys of a text's tables, and what their values have to be (this project's profile).
+use Rattle.std.specs.Prelude.{ℕ, List, [], ◌∷◌, codes}
+use Rattle.wl_settings.specs.declared.keys.Key.{Key}
+use Rattle.wl_settings.specs.declared.keys.Key.TheVariants.{Bitrate, Cable, Per, Out, In, Tolerance, Senders, Controller, RateError, Name, Clock, Prescaler, Prop, Ps1, Ps2, Sjw}
+use Rattle.wl_settings.specs.declared.keys.Kind.{Kind}
+use Rattle.wl_settings.specs.declared.keys.Kind.TheVariants as kind
+
+-- a key as it is written
+abbrev pub key_word : Key → List ℕ
+key_word Bitrate = codes "bitrate"
+key_word Cable = codes "cable"
+key_word Per = codes "per"
+key_word Out = codes "out"
+key_word In = codes "in"
+key_word Tolerance = codes "tolerance"
+key_word Senders = codes "senders"
+key_word Controller = codes "controller"
+key_word RateError = codes "rate_error"
+key_word Name = codes "name"
+key_word Clock = codes "clock"
+key_word Prescaler = codes "prescaler"
+key_word Prop = codes "prop"
+key_word Ps1 = codes "ps1"
+key_word Ps2 = codes "ps2"
+key_word Sjw = codes "sjw"
+
+-- what its value has to be
+abbrev pub value_kind : Key → Kind
+value_kind Bitrate = kind.Within 1 1000000
+value_kind Cable = kind.Within 1 1048576
+value_kind Per = kind.Within 1 1048576
+value_kind Out = kind.Within 0 1048576
+value_kind In = kind.Within 0 1048576
+value_kind Tolerance = kind.Within 0 100000
+value_kind RateError = kind.Within 0 100000
+value_kind Senders = kind.Senders
+value_kind Controller = kind.Tables
+value_kind Name = kind.Name
+value_kind Clock = kind.Within 1 1000000000
+value_kind Prescaler = kind.Within 1 1024
+value_kind Prop = kind.Within 1 8
+value_kind Ps1 = kind.Within 1 8
+value_kind Ps2 = kind.Within 1 8
+value_kind Sjw = kind.Within 1 4
+
+-- the keys of a table, in the order in which they are tested
+pub record KeysOfTable : Type 0 where
+  pub required : List Key
+  pub optional : List Key
+
+abbrev pub bus_keys : KeysOfTable
+bus_keys = record {
+  required = Bitrate ∷ Cable ∷ Per ∷ Out ∷ In ∷ Tolerance ∷ Senders ∷ Controller ∷ [];
+  optional = RateError ∷ [];
+}
+
+abbrev pub controller_keys : KeysOfTable
+controller_keys = record { required = Name ∷ Clock ∷ []; optional = Prescaler ∷ Prop ∷ Ps1 ∷ Ps2 ∷ Sjw ∷ [] }
+
+abbrev pub keys_of_table : List Key → List Key → KeysOfTable
+keys_of_table required optional = record { required = required; optional = optional }

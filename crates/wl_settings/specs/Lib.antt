@@ -1,0 +1,11 @@
+pub mod Faults
+pub mod Judged
+pub mod Keys
+pub mod Kinds
+pub mod Plans
+pub mod Rankings
+pub mod Runs
+pub mod Said
+pub mod Settings
+pub mod Texts
+pub mod Words

@@ -1,0 +1,65 @@
+-- The list of settings, and the order in which they come. This project's.
+use Rattle.std.specs.Prelude.{◌≡◌, ℕ, ◌+◌, ◌-◌, ◌*◌, ◌^◌, nat_lt, if◌then◌else◌, List, [], ◌∷◌, map, filter, length, All, Option, Some, None}
+use Rattle.std.specs.List.Sorted.{IsPermutation, IsNonDecreasingBy}
+use Rattle.wl_settings.specs.declared.asked.Asked.{Asked}
+use Rattle.wl_settings.specs.declared.asked.Controller.{Controller}
+use Rattle.wl_settings.specs.declared.asked.Setting.{Setting}
+use Rattle.wl_settings.specs.declared.judged.Refusal.{Refusal}
+use Rattle.wl_settings.specs.declared.judged.Row.{Row}
+use Rattle.wl_settings.specs.declared.listing.Listing.{Listing}
+use Rattle.wl_settings.specs.Judged.{IsShortfall, IsRow, is_failing, works}
+use Rattle.wl_settings.specs.Settings.{possible_settings}
+
+-- the order of settings: by the prescaler, PROP_SEG, PHASE_SEG1 and PHASE_SEG2, and of the jump width the widest first
+abbrev pub place_in_order : Setting → ℕ
+place_in_order s = s.prescaler * 2 ^ 32 + s.prop * 2 ^ 24 + s.ps1 * 2 ^ 16 + s.ps2 * 2 ^ 8 + (255 - s.sjw)
+
+-- by how many thousandths a margin is below the greatest that there is, and of like margins the order of settings
+abbrev pub row_rank : Row → ℕ
+row_rank r = (100000000 - r.margin) * 2 ^ 64 + place_in_order r.setting
+
+-- Rows of exactly these settings, each with what is so of it, the one with most to spare first.
+pub record IsRanking (a : Asked) (c : Controller) (all : List Setting) (rows : List Row) : Type 0 where
+  pub settings : IsPermutation all (map (λ r. r.setting) rows)
+  pub figures : All (IsRow a c) rows
+  pub order : IsNonDecreasingBy row_rank rows
+
+-- the settings with which the bus works: all of them
+abbrev pub AreRanked : Asked → Controller → List Row → Type 0
+AreRanked a c rows = IsRanking a c (filter (works a c) (possible_settings a c)) rows
+
+-- what was found of one setting, as a list
+abbrev pub found_one : {X : Type 0} → Option X → List X
+found_one None = []
+found_one (Some x) = x ∷ []
+
+-- the rows of these settings, in their order
+pub record AreFoundRows (a : Asked) (c : Controller) (all : List Setting) (rows : List Row) : Type 0 where
+  pub settings : map (λ r. r.setting) rows ≡ filter (works a c) all
+  pub figures : All (IsRow a c) rows
+
+-- what refuses each of these settings, in their order
+pub record AreRefusals (a : Asked) (c : Controller) (all : List Setting) (refusals : List Refusal) : Type 0 where
+  pub settings : map (λ r. r.setting) refusals ≡ filter (is_failing a c) all
+  pub figures : All (IsShortfall a c) refusals
+
+-- the one that an inequality refuses by less, the first of two alike
+abbrev pub lesser_of : Refusal → Option Refusal → Refusal
+lesser_of r None = r
+lesser_of r (Some s) = if nat_lt s.shortage r.shortage then s else r
+
+-- that of all
+abbrev pub least_refusal : List Refusal → Option Refusal
+least_refusal [] = None
+least_refusal (r ∷ rs) = Some (lesser_of r (least_refusal rs))
+
+-- if the bus works with no setting, the one that an inequality refuses by least
+abbrev pub IsNearest : Asked → Controller → List Row → Option Refusal → Type 0
+IsNearest a c [] nearest = (refusals : List Refusal) × AreRefusals a c (possible_settings a c) refusals × (nearest ≡ least_refusal refusals)
+IsNearest a c (row ∷ rows) nearest = nearest ≡ None
+
+-- what is found for a controller
+pub record IsListing (a : Asked) (c : Controller) (l : Listing) : Type 0 where
+  pub possible : l.possible ≡ length (possible_settings a c)
+  pub rows : AreRanked a c l.rows
+  pub nearest : IsNearest a c l.rows l.nearest

@@ -1,0 +1,53 @@
+-- What is written of what a text asks for (this project's profile).
+use Rattle.std.specs.Prelude.{◌≡◌, ℕ, List, [], ◌∷◌, ◌++◌, Option, unwrap_or, Result, Ok, Err}
+use Rattle.wl_settings.specs.declared.asked.Asked.{Asked}
+use Rattle.wl_settings.specs.declared.asked.Controller.{Controller}
+use Rattle.wl_settings.specs.declared.fault.SettingsFault.{SettingsFault}
+use Rattle.wl_settings.specs.declared.fault.SettingsFault.TheVariants.{NoSetting}
+use Rattle.wl_settings.specs.declared.judged.Row.{Row}
+use Rattle.wl_settings.specs.declared.listing.Listing.{Listing}
+use Rattle.wl_settings.specs.declared.read.Wanted.{Wanted}
+use Rattle.wl_settings.specs.declared.said.Shown.{Shown}
+use Rattle.wl_settings.specs.declared.said.Shown.TheVariants.{Best, Plan}
+use Rattle.wl_settings.specs.Plans.{setting_plan_text}
+use Rattle.wl_settings.specs.Rankings.{IsListing}
+use Rattle.wl_settings.specs.Words.{listing_words}
+
+-- what is found for a controller, as text
+abbrev pub IsListedText : Asked → Controller → ℕ → List ℕ → Type 0
+IsListedText a c best text = (l : Listing) × IsListing a c l × (text ≡ listing_words a c best l)
+
+-- and for each of them, one after another
+abbrev pub AreSaid : Asked → ℕ → List Controller → List ℕ → Type 0
+AreSaid a best [] text = text ≡ []
+AreSaid a best (c ∷ cs) text =
+    (first : List ℕ) × (later : List ℕ) × IsListedText a c best first × AreSaid a best cs later × (text ≡ first ++ later)
+
+-- a text has grown by what is found for one controller, or for each of some
+abbrev pub GrowsByFound : Asked → Controller → ℕ → List ℕ → List ℕ → Type 0
+GrowsByFound a c best old new = (more : List ℕ) × IsListedText a c best more × (new ≡ old ++ more)
+
+abbrev pub GrowsBySaid : Asked → ℕ → List Controller → List ℕ → List ℕ → Type 0
+GrowsBySaid a best cs old new = (more : List ℕ) × AreSaid a best cs more × (new ≡ old ++ more)
+
+abbrev pub IsListText : ℕ → Wanted → List ℕ → Type 0
+IsListText best w text = AreSaid w.asked best w.controllers text
+
+-- the plan of the first row
+abbrev pub plan_said : Asked → Controller → List Row → Result (List ℕ) SettingsFault
+plan_said a c [] = Err NoSetting
+plan_said a c (r ∷ rs) = Ok (setting_plan_text a c r.setting)
+
+-- the plan of the first controller's first setting
+abbrev pub IsPlanSaid : Asked → List Controller → Result (List ℕ) SettingsFault → Type 0
+IsPlanSaid a [] said = said ≡ Err NoSetting
+IsPlanSaid a (c ∷ cs) said = (l : Listing) × IsListing a c l × (plan_said a c l.rows ≡ said)
+
+-- what is shown
+abbrev pub IsListSaid : ℕ → Wanted → Result (List ℕ) SettingsFault → Type 0
+IsListSaid best w (Ok text) = IsListText best w text
+IsListSaid best w (Err fault) = ⊥
+
+abbrev pub IsShown : Shown → Wanted → Result (List ℕ) SettingsFault → Type 0
+IsShown (Best best) w said = IsListSaid (unwrap_or best 4294967295) w said
+IsShown Plan w said = IsPlanSaid w.asked w.controllers said

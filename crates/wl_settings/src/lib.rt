@@ -1,0 +1,26 @@
+//! The settings of a CAN controller with which a bus works: for a clock, a bit rate, a cable and a tolerance, every prescaler and bit whose
+//! margins allow it, the one with most to spare first.
+#![tactic(auto)]
+
+mod asked;
+mod fault;
+mod judged;
+mod keys;
+mod listing;
+mod plan;
+mod possible;
+mod read;
+mod run;
+mod said;
+mod tables;
+mod values;
+mod words;
+
+pub use asked::{Asked, Bounds, Controller, Setting};
+pub use fault::SettingsFault;
+pub use judged::{Reach, Refusal, Row};
+pub use listing::{Listing, list};
+pub use plan::plan_text;
+pub use possible::possible_settings;
+pub use run::settings_run;
+pub use said::Shown;

@@ -1,0 +1,187 @@
+//! The settings with which a bus works.
+ghost use Rattle.std.specs.Prelude.{◌≡◌, ◌++◌, ◌<◌, ◌^◌, IfOk, OnOk, Some, filter};
+ghost use Rattle.wl_settings.specs.Judged.{works};
+ghost use Rattle.wl_settings.specs.Rankings.{AreFoundRows, AreRefusals, IsListing, IsNearest, IsRanking, found_one, least_refusal, lesser_of, place_in_order, row_rank};
+ghost use Rattle.wl_settings.specs.Settings.{possible_settings};
+
+use crate::asked::{Asked, Controller, Setting};
+use crate::judged::{Refusal, Row, find_refusal, find_row};
+use crate::possible::possible_settings;
+use std::alloc::{AllocError, Global};
+use wl_level::Listed;
+
+/// The greatest margin, in thousandths.
+const MOST: u64 = 100_000_000;
+
+/// What is found for a controller.
+#[derive(Drop)]
+pub struct Listing {
+    /// How many settings have the bit rate.
+    pub possible: u64,
+    /// The settings with which the bus works, the one with most to spare first.
+    pub rows: Listed<Row>,
+    /// If there are none, the setting that an inequality refuses by least.
+    pub nearest: Option<Refusal>,
+}
+
+/// Adds a row, if there is one.
+fn push_found(rows: &mut Vec<Row>, row: Option<Row>) -> Result<(), AllocError>
+    ensures { OnOk result (rows.new.items ≡ rows.old.items ++ found_one row) }
+{
+    match row {
+        Some(row) => {
+            rows.push(row)?;
+            Ok(())
+        }
+        None => Ok(()),
+    }
+}
+
+/// Adds a refusal, if there is one.
+fn push_refusal(all: &mut Vec<Refusal>, refusal: Option<Refusal>) -> Result<(), AllocError>
+    ensures { OnOk result (all.new.items ≡ all.old.items ++ found_one refusal) }
+{
+    match refusal {
+        Some(refusal) => {
+            all.push(refusal)?;
+            Ok(())
+        }
+        None => Ok(()),
+    }
+}
+
+/// Returns the rows of the settings with which the bus works, in the order of the settings.
+fn find_rows(
+    alloc: Global,
+    asked: &Asked,
+    controller: &Controller,
+    settings: &[Setting],
+) -> Result<Vec<Row>, AllocError>
+    ensures { IfOk result (λ rows. AreFoundRows asked.now controller.now settings.now rows.items) }
+{
+    let mut rows = Vec::new(alloc);
+    for setting in settings {
+        let row = find_row(alloc, asked, controller, *setting)?;
+        push_found(&mut rows, row)?;
+    }
+    Ok(rows)
+}
+
+/// Returns what refuses those that an inequality refuses, in the order of the settings.
+fn find_refusals(
+    alloc: Global,
+    asked: &Asked,
+    controller: &Controller,
+    settings: &[Setting],
+) -> Result<Vec<Refusal>, AllocError>
+    ensures { IfOk result (λ all. AreRefusals asked.now controller.now settings.now all.items) }
+{
+    let mut all = Vec::new(alloc);
+    for setting in settings {
+        let refusal = find_refusal(alloc, asked, controller, *setting)?;
+        push_refusal(&mut all, refusal)?;
+    }
+    Ok(all)
+}
+
+/// Returns the place of a setting in the order of settings.
+fn place_of(setting: Setting) -> u128
+    ensures value { result ≡ place_in_order setting }
+    ensures most { result < 2 ^ 65 }
+{
+    setting.prescaler as u128 * (1 << 32)
+        + setting.prop as u128 * (1 << 24)
+        + setting.ps1 as u128 * (1 << 16)
+        + setting.ps2 as u128 * (1 << 8)
+        + (255 - setting.sjw) as u128
+}
+
+/// Returns a number by which the rows are in order.
+fn rank(row: &Row) -> u128
+    ensures { result ≡ row_rank row.now }
+{
+    MOST.saturating_sub(row.margin) as u128 * (1 << 64) + place_of(row.setting)
+}
+
+/// Returns the rows, the one with most to spare first; of those with as much the one first that comes first in the order of settings.
+fn ranked_rows(
+    alloc: Global,
+    asked: &Asked,
+    controller: &Controller,
+    settings: &[Setting],
+) -> Result<Listed<Row>, AllocError>
+    ensures { IfOk result (IsRanking asked.now controller.now
+        (filter (works asked.now controller.now) settings.now)) }
+{
+    let mut rows = find_rows(alloc, asked, controller, settings)?;
+    rows.sort_by_key(|row| rank(row))?;
+    Ok(Listed::from_vec(rows))
+}
+
+/// Returns the one that an inequality refuses by less, the first of two alike.
+fn lesser_of(one: Refusal, other: Refusal) -> Refusal
+    ensures { result ≡ lesser_of one (Some other) }
+{
+    if other.shortage < one.shortage {
+        other
+    } else {
+        one
+    }
+}
+
+/// Returns the first of those that an inequality refuses by least.
+fn least_refusal(refusals: &[Refusal]) -> Option<Refusal>
+    ensures { result ≡ least_refusal refusals.now }
+{
+    let mut least = None;
+    for refusal in refusals {
+        least = match least {
+            None => Some(*refusal),
+            Some(so_far) => Some(lesser_of(so_far, *refusal)),
+        };
+    }
+    least
+}
+
+/// Returns the setting that an inequality refuses by least, if the bus works with none.
+fn nearest(
+    alloc: Global,
+    asked: &Asked,
+    controller: &Controller,
+    settings: &[Setting],
+    rows: &[Row],
+) -> Result<Option<Refusal>, AllocError>
+    requires { settings.now ≡ possible_settings asked.now controller.now }
+    ensures { IfOk result (IsNearest asked.now controller.now rows.now) }
+{
+    match rows {
+        [] => {
+            let refusals = find_refusals(alloc, asked, controller, settings)?;
+            Ok(least_refusal(refusals.as_slice()))
+        }
+        [..] => Ok(None),
+    }
+}
+
+/// Returns the settings of a controller with which a bus works, the one with most to spare first; or what refuses the best.
+///
+/// The bus of a setting is that of its plan (`plan_text`): two nodes at the ends of the cable. It works if the condition for a sound bus holds
+/// with the senders that are asked for. Refused only when out of memory.
+pub fn list(alloc: Global, asked: &Asked, controller: &Controller) -> Result<Listing, AllocError>
+    ensures { IfOk result (IsListing asked.now controller.now) }
+{
+    let settings = possible_settings(alloc, asked, controller)?;
+    let rows = ranked_rows(alloc, asked, controller, settings.as_slice())?;
+    let nearest = nearest(
+        alloc,
+        asked,
+        controller,
+        settings.as_slice(),
+        rows.as_slice(),
+    )?;
+    Ok(Listing {
+        possible: settings.len() as u64,
+        rows,
+        nearest,
+    })
+}

@@ -1,0 +1,29 @@
+//! The settings that a text asks for.
+ghost use Rattle.std.specs.Prelude.{◌≡◌};
+ghost use Rattle.wl_settings.specs.Runs.{RunsSettings};
+
+use crate::fault::SettingsFault;
+use crate::read::read_wanted;
+use crate::said::{Shown, said};
+use std::alloc::Global;
+use wl_device::{Sink, Source, write_all};
+
+/// Reads what is asked for, and writes the settings of each controller with which the bus works, or the plan of the first one; a tick takes so
+/// many picoseconds.
+///
+/// The whole output is made before the first write. If the input is refused, memory runs out, or a plan is asked for and there is none, the
+/// writer isn't called; if the writer fails, a prefix of the output has been written.
+pub fn settings_run<R: Source, W: Sink>(
+    alloc: Global,
+    tick: u64,
+    shown: Shown,
+    reader: &mut R,
+    writer: &mut W,
+) -> Result<(), SettingsFault>
+    ensures { RunsSettings R.gives W.takes tick shown reader.old reader.new writer.old writer.new result }
+{
+    let wanted = read_wanted(alloc, tick, reader)?;
+    let text = said(alloc, shown, &wanted)?;
+    write_all(text.as_bytes(), writer)?;
+    Ok(())
+}

@@ -1,0 +1,114 @@
+//! What is written of what a text asks for.
+ghost use Rattle.std.specs.Prelude.{◌≡◌, ◌≢◌, ◌++◌, Ok, Err, IfOk, IfErr, OnOk, string_bytes, unwrap_or};
+ghost use Rattle.wl_settings.specs.Said.{GrowsByFound, GrowsBySaid, IsListText, IsPlanSaid, IsShown, plan_said};
+ghost use Rattle.wl_settings.specs.declared.fault.SettingsFault.TheVariants.{Memory};
+
+use crate::asked::{Asked, Controller};
+use crate::fault::SettingsFault;
+use crate::judged::Row;
+use crate::listing::list;
+use crate::plan::plan_text;
+use crate::read::Wanted;
+use crate::words::push_listing;
+use std::alloc::{AllocError, Global};
+
+/// What is written.
+#[derive(Clone, Copy, Debug, PartialEq, Eq)]
+pub enum Shown {
+    /// The settings of each controller: at most so many, all of them without a number.
+    Best(Option<u32>),
+    /// The plan of the first controller's first setting.
+    Plan,
+}
+
+/// Adds what is found for one controller.
+fn push_found(
+    alloc: Global,
+    text: &mut String,
+    asked: &Asked,
+    best: u32,
+    controller: &Controller,
+) -> Result<(), AllocError>
+    ensures { OnOk result (GrowsByFound asked.now controller.now best
+        (string_bytes text.old) (string_bytes text.new)) }
+{
+    let listing = list(alloc, asked, controller)?;
+    push_listing(text, asked, controller, best, &listing)
+}
+
+/// Adds what is found for each controller.
+fn push_each(
+    alloc: Global,
+    text: &mut String,
+    asked: &Asked,
+    best: u32,
+    controllers: &[Controller],
+) -> Result<(), AllocError>
+    ensures { OnOk result (GrowsBySaid asked.now best controllers.now
+        (string_bytes text.old) (string_bytes text.new)) }
+{
+    for controller in controllers {
+        push_found(alloc, text, asked, best, controller)?;
+    }
+    Ok(())
+}
+
+/// Returns what is found for each controller as text.
+fn list_text(alloc: Global, best: u32, wanted: &Wanted) -> Result<String, AllocError>
+    ensures { IfOk result (λ text. IsListText best wanted.now (string_bytes text)) }
+{
+    let mut text = String::new(alloc);
+    push_each(
+        alloc,
+        &mut text,
+        &wanted.asked,
+        best,
+        wanted.controllers.as_slice(),
+    )?;
+    Ok(text)
+}
+
+/// Returns the plan of the first of these rows, if there is one.
+fn plan_of_rows(
+    alloc: Global,
+    asked: &Asked,
+    controller: &Controller,
+    rows: &[Row],
+) -> Result<String, SettingsFault>
+    ensures ok { IfOk result (λ text. plan_said asked.now controller.now rows.now ≡ Ok (string_bytes text)) }
+    ensures fault { IfErr result (λ e. e ≢ Memory → plan_said asked.now controller.now rows.now ≡ Err e) }
+{
+    match rows {
+        [] => Err(SettingsFault::NoSetting),
+        [first, ..] => Ok(plan_text(alloc, asked, controller, first.setting)?),
+    }
+}
+
+/// Returns the plan of the first setting of the first controller.
+fn first_plan(
+    alloc: Global,
+    asked: &Asked,
+    controllers: &[Controller],
+) -> Result<String, SettingsFault>
+    ensures ok { IfOk result (λ text. IsPlanSaid asked.now controllers.now (Ok (string_bytes text))) }
+    ensures fault { IfErr result (λ e. e ≢ Memory → IsPlanSaid asked.now controllers.now (Err e)) }
+{
+    match controllers {
+        [] => Err(SettingsFault::NoSetting),
+        [first, ..] => {
+            let listing = list(alloc, asked, first)?;
+            plan_of_rows(alloc, asked, first, listing.rows.as_slice())
+        }
+    }
+}
+
+/// Returns what is to be shown of what a text asks for; `NoSetting` if it is a plan, and there is none.
+pub(crate) fn said(alloc: Global, shown: Shown, wanted: &Wanted) -> Result<String, SettingsFault>
+    ensures ok { IfOk result (λ text. IsShown shown wanted.now (Ok (string_bytes text))) }
+    ensures fault { IfErr result (λ e. e ≢ Memory → IsShown shown wanted.now (Err e)) }
+{
+    match shown {
+        Shown::Best(best) => Ok(list_text(alloc, best.unwrap_or(u32::MAX), wanted)?),
+        Shown::Plan => first_plan(alloc, &wanted.asked, wanted.controllers.as_slice()),
+    }
+}

@@ -1,0 +1,281 @@
+//! A listing as text.
+ghost use Rattle.std.specs.Prelude.{◌≡◌, ◌++◌, ◌<◌, ◌≤◌, ◌^◌, string_bytes, IfOk, OnOk, unwrap_or};
+ghost use Rattle.wl_settings.specs.Words.{controller_line, grown_words, error_words, failing_words, head_words, words_of_inequality, listing_words, line_at, words_of_spare, nearest_words, none_words, words_for_both, picoseconds_up, picoseconds_down, setting_line, row_lines, words_of_sample, setting_words, with_thousandths, unless_rows};
+
+use crate::asked::{Asked, Controller, Setting};
+use crate::judged::{Refusal, Row};
+use crate::listing::Listing;
+use std::alloc::AllocError;
+use wl_bound::{Failure, Inequality};
+
+/// Millionths in one.
+const MILLION: u128 = 1_000_000;
+
+/// The longest time that is told, in millionths of a tick.
+const LONGEST: u128 = 1 << 80;
+
+/// Adds a number of thousandths with a point.
+fn push_thousandths(text: &mut String, n: u128) -> Result<(), AllocError>
+    ensures { OnOk result (string_bytes text.new ≡ string_bytes text.old ++ with_thousandths n) }
+{
+    let (whole, tenth) = (n / 1000, n / 100 % 10);
+    let (hundredth, thousandth) = (n / 10 % 10, n % 10);
+    write!(text, "{whole}.{tenth}{hundredth}{thousandth}")
+}
+
+/// Adds the registers of a setting.
+fn push_setting(text: &mut String, setting: Setting) -> Result<(), AllocError>
+    ensures { OnOk result (string_bytes text.new ≡ string_bytes text.old ++ setting_words setting) }
+{
+    let Setting {
+        prescaler,
+        prop,
+        ps1,
+        ps2,
+        sjw,
+    } = setting;
+    write!(
+        text,
+        "prescaler {prescaler} prop {prop} ps1 {ps1} ps2 {ps2} sjw {sjw}"
+    )
+}
+
+/// Adds the quanta of a bit and the sample point, in tenths of a percent.
+fn push_sample(text: &mut String, setting: Setting) -> Result<(), AllocError>
+    ensures { OnOk result (string_bytes text.new ≡ string_bytes text.old ++ words_of_sample setting) }
+{
+    let quanta = setting.quanta();
+    let sample = (quanta - setting.ps2 as u64) * 1000 / quanta;
+    let (whole, tenth) = (sample / 10, sample % 10);
+    write!(text, " quanta {quanta} sample {whole}.{tenth} %")
+}
+
+/// Adds by how much the bit rate deviates, in parts per million.
+fn push_error(
+    text: &mut String,
+    asked: &Asked,
+    controller: &Controller,
+    setting: Setting,
+) -> Result<(), AllocError>
+    ensures { OnOk result (string_bytes text.new
+        ≡ string_bytes text.old ++ error_words asked.now controller.now setting) }
+{
+    let divisor = setting.divisor(asked.bitrate);
+    let error = ((controller.clock as u128).abs_diff(divisor) * MILLION).div_ceil(divisor.max(1));
+    write!(text, " error {error} ppm")
+}
+
+/// Adds how much there may be, or `none`.
+fn push_figure(text: &mut String, asked: u32, growth: Option<u32>) -> Result<(), AllocError>
+    ensures { OnOk result (string_bytes text.new ≡ string_bytes text.old ++ grown_words asked growth) }
+{
+    match growth {
+        None => text.push_str("none"),
+        Some(n) => {
+            let figure = asked as u64 + n as u64;
+            write!(text, "{figure}")
+        }
+    }
+}
+
+/// Adds how much there may be of something for one sender at a time, and for any.
+fn push_pair(
+    text: &mut String,
+    what: &str,
+    asked: u32,
+    one: Option<u32>,
+    any: Option<u32>,
+) -> Result<(), AllocError>
+    ensures { OnOk result (string_bytes text.new ≡ string_bytes text.old ++ words_for_both what.now asked one any) }
+{
+    text.push_str(what)?;
+    push_figure(text, asked, one)?;
+    text.push_str(" one ")?;
+    push_figure(text, asked, any)?;
+    text.push_str(" any")
+}
+
+/// Adds the number of a row and its setting.
+fn push_head(text: &mut String, number: u64, setting: Setting) -> Result<(), AllocError>
+    ensures { OnOk result (string_bytes text.new ≡ string_bytes text.old ++ head_words number setting) }
+{
+    write!(text, "setting {number} ")?;
+    push_setting(text, setting)?;
+    push_sample(text, setting)
+}
+
+/// Adds the margins of a row.
+fn push_margins(text: &mut String, asked: &Asked, row: &Row) -> Result<(), AllocError>
+    ensures { OnOk result (string_bytes text.new ≡ string_bytes text.old ++ words_of_spare asked.now row.now) }
+{
+    push_pair(
+        text,
+        " tolerance ",
+        asked.tolerance,
+        row.one.wider,
+        row.any.wider,
+    )?;
+    push_pair(text, " cable ", asked.cable, row.one.longer, row.any.longer)?;
+    text.push_str(" margin ")?;
+    push_thousandths(text, row.margin as u128)?;
+    text.push_str("\n")
+}
+
+/// Adds the line of a row.
+fn push_row(
+    text: &mut String,
+    asked: &Asked,
+    controller: &Controller,
+    number: u64,
+    row: &Row,
+) -> Result<(), AllocError>
+    ensures { OnOk result (string_bytes text.new
+        ≡ string_bytes text.old ++ setting_line asked.now controller.now number row.now) }
+{
+    push_head(text, number, row.setting)?;
+    push_error(text, asked, controller, row.setting)?;
+    push_margins(text, asked, row)
+}
+
+/// Adds the line of the row at a place, from 0 on.
+fn push_row_at(
+    text: &mut String,
+    asked: &Asked,
+    controller: &Controller,
+    rows: &[Row],
+    place: usize,
+) -> Result<(), AllocError>
+    ensures { OnOk result (string_bytes text.new
+        ≡ string_bytes text.old ++ line_at asked.now controller.now rows.now place) }
+{
+    match rows.get(place) {
+        Some(row) => push_row(text, asked, controller, place as u64 + 1, row),
+        None => Ok(()),
+    }
+}
+
+/// Adds the lines of rows, up to the last one that is asked for.
+fn push_rows(
+    text: &mut String,
+    asked: &Asked,
+    controller: &Controller,
+    best: usize,
+    rows: &[Row],
+) -> Result<(), AllocError>
+    ensures { OnOk result (string_bytes text.new
+        ≡ string_bytes text.old ++ row_lines asked.now controller.now best rows.now) }
+{
+    for place in 0..best.min(rows.len()) {
+        push_row_at(text, asked, controller, rows, place)?;
+    }
+    Ok(())
+}
+
+/// Returns a time in picoseconds, rounded up. The time is in millionths of a tick of so many picoseconds; what is above 2^80 is taken for that.
+fn picoseconds_around(tick: u64, time: u128) -> u128
+    ensures { result ≡ picoseconds_up tick time }
+{
+    let time = time.min(LONGEST);
+    time / MILLION * tick as u128 + (time % MILLION * tick as u128).div_ceil(MILLION)
+}
+
+/// Returns a time in picoseconds, rounded down.
+fn picoseconds_within(tick: u64, time: u128) -> u128
+    ensures { result ≡ picoseconds_down tick time }
+{
+    let time = time.min(LONGEST);
+    time / MILLION * tick as u128 + time % MILLION * tick as u128 / MILLION
+}
+
+/// Returns the name of an inequality.
+fn inequality_words(inequality: Inequality) -> &'static str
+    ensures { result.now ≡ words_of_inequality inequality }
+{
+    match inequality {
+        Inequality::DriftFitsJump => ": drift_fits_jump takes ",
+        Inequality::BitIsThereAtSample => ": bit_is_there_at_sample takes ",
+        Inequality::NoBitTooEarly => ": no_bit_too_early takes ",
+    }
+}
+
+/// Adds which inequality fails, and by what.
+fn push_failure(text: &mut String, tick: u64, failure: Failure) -> Result<(), AllocError>
+    ensures { OnOk result (string_bytes text.new ≡ string_bytes text.old ++ failing_words tick failure) }
+{
+    text.push_str(inequality_words(failure.inequality))?;
+    push_thousandths(text, picoseconds_around(tick, failure.sides.left))?;
+    text.push_str(" ns and has ")?;
+    push_thousandths(text, picoseconds_within(tick, failure.sides.right))?;
+    text.push_str(" ns\n")
+}
+
+/// Adds the line of a setting that is refused.
+fn push_nearest(text: &mut String, tick: u64, refusal: &Refusal) -> Result<(), AllocError>
+    ensures { OnOk result (string_bytes text.new ≡ string_bytes text.old ++ nearest_words tick refusal.now) }
+{
+    text.push_str("nearest ")?;
+    push_setting(text, refusal.setting)?;
+    push_failure(text, tick, refusal.failure)
+}
+
+/// Adds why there is no setting, and none that an inequality refuses.
+fn push_none(text: &mut String, asked: &Asked, possible: u64) -> Result<(), AllocError>
+    ensures { OnOk result (string_bytes text.new ≡ string_bytes text.old ++ none_words asked.now possible) }
+{
+    if possible == 0 {
+        let (bitrate, error) = (asked.bitrate, asked.rate_error);
+        return writeln!(text, "no setting has {bitrate} bit/s within {error} ppm");
+    }
+    writeln!(
+        text,
+        "{possible} settings have the bit rate, and the plan of none can be run"
+    )
+}
+
+/// Adds why there is no setting.
+fn push_why(text: &mut String, asked: &Asked, listing: &Listing) -> Result<(), AllocError>
+    ensures { OnOk result (string_bytes text.new
+        ≡ string_bytes text.old ++ unless_rows asked.now listing.now listing.now.rows) }
+{
+    if !listing.rows.is_empty() {
+        return Ok(());
+    }
+    match &listing.nearest {
+        Some(refusal) => push_nearest(text, asked.tick, refusal),
+        None => push_none(text, asked, listing.possible),
+    }
+}
+
+/// Adds the line of a controller.
+fn push_controller(
+    text: &mut String,
+    controller: &Controller,
+    count: usize,
+) -> Result<(), AllocError>
+    ensures { OnOk result (string_bytes text.new ≡ string_bytes text.old ++ controller_line controller.now count) }
+{
+    let (name, clock) = (controller.name.as_str(), controller.clock);
+    writeln!(text, "controller {name} clock {clock} Hz: {count} settings")
+}
+
+/// Adds what was found for a controller: at most so many rows.
+pub(crate) fn push_listing(
+    text: &mut String,
+    asked: &Asked,
+    controller: &Controller,
+    best: u32,
+    listing: &Listing,
+) -> Result<(), AllocError>
+    ensures { OnOk result (string_bytes text.new
+        ≡ string_bytes text.old ++ listing_words asked.now controller.now best listing.now) }
+{
+    push_controller(text, controller, listing.rows.len())?;
+    push_rows(
+        text,
+        asked,
+        controller,
+        best as usize,
+        listing.rows.as_slice(),
+    )?;
+    push_why(text, asked, listing)
+}
