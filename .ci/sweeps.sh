@@ -38,10 +38,21 @@ is 'member 0 is the plan' cmp -s "$room/out" <("$program" run "$room/pair")
 swept 'a step' "$room/pair" 1 'clean in 15 of 16\n' '' --step 125
 swept 'a random part' "$room/pair" 1 '' '' --runs 20 --seed 7 && is 'how much of it' grep -qx '20 of 80 members were run, drawn by seed 7' "$room/out"
 # Version 2. By hand: clocks that deviate alike stay in step, whichever sign they have; of two that are 10 % apart the listener is 8 of 16 quanta
-# off after five bits without an edge, and jumps by 1. The second rates alone deviate, so two of four choices of their signs are clean.
+# off after five bits without an edge, and jumps by 1. So two of four choices of signs are clean, and one of one without a tolerance.
 rates='rates = [{ from = 0, quantum = 125, ppm = 0 }, { from = 320, quantum = 125, ppm = 50_000 }]'
 sed "s/^version = 1/version = 2/;/^ppm/d;s/^quantum = .*/$rates/" "$room/pair" > "$room/rates"
-swept 'signs of rates' "$room/rates" 1 'clean in 2 of 4\n' '' --keep-offsets
+swept 'rates without a tolerance' "$room/rates" 0 'clean in 1 of 1\nall 1 members were run\n' '' --keep-offsets
+swept 'rates within a tolerance' "$room/rates" 1 'tolerance 0 clean in 1 of 1\ntolerance 50000 clean in 2 of 4\nclean in 3 of 5\n' '' \
+  --vary tolerance=0..50000:50000 --keep-offsets
+sed 's/^sjw = 1/&\ntolerance = 50_000/' "$room/rates" > "$room/wide_rates"
+swept 'signs of rates' "$room/wide_rates" 1 'clean in 2 of 4\n' '' --keep-offsets && \
+  is 'the first of them' grep -qx "first that isn't: member 1, a.ppm = -50000, b.ppm = 50000: verdict faulty.*" "$room/out"
+swept 'rates that are kept' "$room/wide_rates" 0 'clean in 1 of 1\n' '' --keep-offsets --keep-ppm
+"$program" sweep --print 1 --keep-offsets "$room/wide_rates" > "$room/member"
+is 'a member has the rates and no tolerance' [ "$(grep -c '^ppm = -50000' "$room/member")" = 2 -a "$(grep -c '^tolerance' "$room/member")" = 0 ]
+# A plan that is refused has one member, itself, whatever its tolerances would make of it
+sed 's/^sjw = 1/&\ntolerance = 100/' "$room/pair" > "$room/crystals"
+swept 'refused with a tolerance' "$room/crystals" 1 'ppm 0 clean in 4 of 4\nppm 200000 clean in 0 of 1, refused in 1\n' '' --vary ppm=0..200000:200000 --keep-offsets
 swept 'a key of rates' "$room/rates" 1 'b.ppm -50000 clean in 0 of 1\nb.ppm 50000 clean in 1 of 1\n' '' --vary b.ppm=-50000..50000:100000 --keep-offsets --keep-ppm
 swept 'a table' "$long" 1 'sensor.x 20 clean in 1 of 1\nsensor.x 30 clean in 0 of 1\nsensor.x 40 clean in 0 of 1\nclean in 1 of 3\n' '' \
   --vary sensor.x=20..40:10 --keep-offsets --keep-ppm
@@ -83,6 +94,7 @@ done << 'WORDS'
 --vary name=1..2|fault: Range(0, Key)\n
 --vary nobody.x=1..2|fault: Range(0, Node)\n
 --vary num=1..2|fault: Range(0, Absent)\n
+--vary tolerance=0..100001|fault: Range(0, Bounds)\n
 --vary x=-3..-1|fault: Range(0, Bounds)\n
 --vary end=0..999999999999:1|fault: Range(0, Rows)\n
 --vary x=1..200:1 --vary end=1..200:1|fault: Rows\n

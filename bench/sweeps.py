@@ -20,7 +20,7 @@ import plain
 MASK = 2**64 - 1
 CLOCK = ("num", "den", "quantum", "ppm")
 TOP = ("end", "per")
-KEYS = TOP + CLOCK + ("offset", "prop", "ps1", "ps2", "sjw", "x", "out", "in")
+KEYS = TOP + CLOCK + ("offset", "prop", "ps1", "ps2", "sjw", "x", "out", "in", "tolerance")
 FAULT = "fault: {}, of a word: {}, of the plan: {}\n"
 
 
@@ -103,7 +103,7 @@ WORDS = {"clean": "clean", "faulty": "verdict faulty errors {} unsent {}", "off"
          "early": "ends too early, without an error: unsent {1}", "missed": "a node has not received every frame", "refused": "refused"}
 
 
-# ---- A family: offsets over a bit, signs of deviations
+# ---- A family: offsets over a bit, both limits of each tolerance
 
 def quantum_of(node):
     rate = node["rates"][0]
@@ -118,14 +118,13 @@ def digits_of(plan, options):
     """For each node how many offsets and how many signs it has, and the ticks between two offsets."""
     nodes = plan["node"]
     step = options["step"] or max(1, min(map(quantum_of, nodes), default=MASK) // 5)
-    kept = options["offsets"], options["ppm"]
-    radixes = [(1 if kept[0] or i == 0 else -(-bit_of(node) // step), 2 if not kept[1] and any(rate.get("ppm") for rate in node["rates"]) else 1)
+    if is_refused(plan): return [(1, 1)] * len(nodes), step
+    radixes = [(1 if options["offsets"] or i == 0 else -(-bit_of(node) // step), 2 if not options["ppm"] and node.get("tolerance") else 1)
                for i, node in enumerate(nodes)]
     return radixes, step
 
 
 def member_count(plan, options):
-    if is_refused(plan): return 1
     count = 1
     for offsets, signs in digits_of(plan, options)[0]: count *= offsets * signs
     return min(count, 2**128 - 1)
@@ -154,7 +153,7 @@ def words_of(seed):
 
 
 def choices(plan, options, run):
-    """For each node by how many ticks it begins later, and whether its deviation is negated."""
+    """For each node by how many ticks it begins later, and by how many ppm its clock deviates, if it doesn't keep its rates."""
     radixes, step = digits_of(plan, options)
     flat = [radix for pair in radixes for radix in pair]
     if member_count(plan, options) <= options["runs"] or run == 0:
@@ -162,14 +161,26 @@ def choices(plan, options, run):
     else:
         words = words_of((options["seed"] * 2**32 + run) % 2**64)
         digits = [next(words) * radix >> 64 if radix > 1 else 0 for radix in flat]
-    return [(step * digits[at], digits[at + 1] == 1) for at in range(0, len(digits), 2)]
+    kept = options["ppm"] or is_refused(plan)
+    limits = [None if kept or "tolerance" not in node else node["tolerance"] for node in plan["node"]]
+    return [(step * digits[2 * i], limit and (-limit if digits[2 * i + 1] else limit)) for i, limit in enumerate(limits)]
+
+
+def deviating(rate, ppm):
+    """A rate within the tolerance: of ticks and quanta the one next to the limit, in parts of a denominator up to a million."""
+    if "quantum" in rate: return rate | {"ppm": ppm}
+    times = max(1, 10**6 // max(1, rate["den"]))
+    nominal, towards = rate["num"] * times * 10**6, -1 if ppm < 0 else 1
+    return rate | {"num": towards * ((nominal + rate["num"] * times * ppm) * towards // 10**6), "den": rate["den"] * times}
 
 
 def member(plan, options, run):
     plan = deepcopy(plan)
-    for node, (by, negated) in zip(plan["node"], choices(plan, options, run)):
+    for node, (by, ppm) in zip(plan["node"], choices(plan, options, run)):
         node["offset"] += by
-        if negated: node["rates"] = [rate | {"ppm": -rate["ppm"]} if "ppm" in rate else rate for rate in node["rates"]]
+        if ppm is None: continue
+        node["rates"] = [deviating(rate, ppm) for rate in node["rates"]]
+        del node["tolerance"]
     return plan
 
 
@@ -216,7 +227,7 @@ def target_of(nodes, called):
 
 
 def values_of(key, low, high, step, is_said):
-    least, most = {"ppm": (-10**9, 10**9), "x": (0, 2**31 - 1)}.get(key, (0, 2**48 - 1))
+    least, most = {"ppm": (-10**9, 10**9), "x": (0, 2**31 - 1), "tolerance": (0, 100_000)}.get(key, (0, 2**48 - 1))
     if not (least <= low <= most and least <= high <= most): raise ValueError("Bounds")
     if high < low: raise ValueError("Order")
     if is_said and step <= 0: raise ValueError("Step")
@@ -290,9 +301,9 @@ def counts(tally):
 
 def changes(row, plan, options, run):
     said = "".join(f", {called} = {value}" for called, value in row)
-    for node, (by, negated) in zip(plan["node"], choices(plan, options, run)):
+    for node, (by, ppm) in zip(plan["node"], choices(plan, options, run)):
         if by: said += f", {node['name']}.offset = {node['offset'] + by}"
-        if negated: said += f", {node['name']}.ppm negated"
+        if ppm is not None: said += f", {node['name']}.ppm = {ppm}"
     return said
 
 

@@ -322,7 +322,8 @@ def joins(pool):
 
 
 def swept(text):
-    """How many of the runs of `./wireline sweep` are clean."""
+    """How many of the runs of `./wireline sweep` are clean, with tolerances of as many ppm as the clocks deviate."""
+    text = re.sub(r"(?m)^ppm = -?([1-9][0-9_]*).*$", r"\g<0>\ntolerance = \1", re.sub(r"(?m)^tolerance = .*$", "", text))
     with tempfile.NamedTemporaryFile("w", suffix=".toml") as file:
         file.write(text)
         file.flush()
@@ -331,7 +332,7 @@ def swept(text):
 
 
 def sweeps(pool):
-    """The examples as `./wireline sweep` runs them: over the offsets of all nodes but the first, and the signs of all deviations."""
+    """The examples as `./wireline sweep` runs them: over the offsets of all nodes but the first, and the signs of all tolerances."""
     if program is None: return
     rows = ((f"`{name}`", *(swept(example_text(name, sync)) for sync in CHOICES)) for name in SWEPT)
     table(["Example", *(f"Clean, `{sync}`" for sync in CHOICES)], rows)

@@ -110,7 +110,7 @@ fn keep_offsets_option<'a>(alloc: Global) -> Arg<'a>
         .help("Leaves the offsets as the plan has them")
 }
 
-/// The flag that keeps the signs of deviations.
+/// The flag that keeps the rates of clocks as the plan has them.
 fn keep_ppm_option<'a>(alloc: Global) -> Arg<'a>
     ensures rule { rule_of result ≡ flag_rule (codes "keep-ppm") }
     ensures local { result.global ≡ false }
@@ -118,7 +118,7 @@ fn keep_ppm_option<'a>(alloc: Global) -> Arg<'a>
     Arg::new(alloc, "keep-ppm")
         .long("keep-ppm")
         .action(ArgAction::SetTrue)
-        .help("Leaves the signs of the deviations as the plan has them")
+        .help("Leaves the rates of the clocks as the plan has them")
 }
 
 /// The flag that adds the frame that tests clocks.

@@ -11,11 +11,12 @@ use Rattle.wl_setup.specs.declared.plan_text.NodeText.{NodeText}
 use Rattle.wl_setup.specs.declared.plan_text.ClockText.{ClockText}
 use Rattle.wl_setup.specs.declared.plan_text.ClockText.TheVariants as text
 use Rattle.wl_sweep.specs.declared.change.SweptKey.TheVariants as key
+use Rattle.wl_sweep.specs.declared.change.Side.TheVariants.{Own, Slow, Fast}
 use Rattle.wl_sweep.specs.declared.draws.Draws.TheVariants.{Number, Words}
 use Rattle.wl_sweep.specs.declared.finding.Finding.TheVariants.{Clean, Faulty, Off, Early, Missed, Refused}
 use Rattle.wl_sweep.specs.declared.options.Options.{Options}
 use Rattle.wl_sweep.specs.declared.range.SweptRange.{SweptRange}
-use Rattle.wl_sweep.specs.Changes.{moved_node, negated_clock, node_set}
+use Rattle.wl_sweep.specs.Changes.{clock_on, moved_node, node_set}
 use Rattle.wl_sweep.specs.Family.{choice_count, chosen, drawn, offset_count, run_seed, sign_count}
 use Rattle.wl_sweep.specs.Findings.{finding_of_outcome}
 use Rattle.wl_sweep.specs.Rows.{row_count}
@@ -47,7 +48,7 @@ abbrev engine : NodeText
 engine = node (codes "engine") (text.Ppm 125 (pos 5000))
 
 abbrev probe : NodeText
-probe = node (codes "probe") (text.Ppm 125 (pos 0))
+probe = record (node (codes "probe") (text.Ppm 125 (pos 100))) { tolerance = None }
 
 abbrev options : Options
 options = record { step = None; keep_offsets = false; keep_ppm = false; runs = 1000; seed = 1 }
@@ -69,8 +70,15 @@ uneven_offsets = refl
 both_signs : sign_count options engine ≡ 2
 both_signs = refl
 
+-- without a tolerance the plan's own rate is the only one, whatever its `ppm`
 no_sign : sign_count options probe ≡ 1
 no_sign = refl
+
+no_width : sign_count options (record engine { tolerance = Some 0 }) ≡ 1
+no_width = refl
+
+kept_sign : sign_count (record options { keep_ppm = true }) engine ≡ 1
+kept_sign = refl
 
 -- the engine's two signs, by the probe's 80 offsets, by 80 offsets and two signs
 members : choice_count options 25 ((0, engine) ∷ (1, probe) ∷ (2, engine) ∷ []) ≡ 25600
@@ -91,18 +99,42 @@ seeds_differ : run_seed (record options { seed = 2 }) 3 ≡ 8589934595
 seeds_differ = refl
 
 -- member 161 of a node with 80 offsets and two signs: offset 1, and the second sign is taken by member 80 on
-third_choice : chosen options 25 (1, engine) (Number 161) ≡ (record { by = 25; negated = false }, Number 1)
+third_choice : chosen options 25 (1, engine) (Number 161) ≡ (record { by = 25; side = Slow 250 }, Number 1)
 third_choice = refl
 
-second_sign : chosen options 25 (1, engine) (Number 81) ≡ (record { by = 25; negated = true }, Number 0)
+second_sign : chosen options 25 (1, engine) (Number 81) ≡ (record { by = 25; side = Fast 250 }, Number 0)
 second_sign = refl
 
--- a deviation is negated at all rates, and a rate in ticks has none
-negated : moved_node 25 true engine ≡ record (node (codes "engine") (text.Ppm 125 (negsuc 4999))) { offset = 1025 }
-negated = refl
+only_rate : chosen options 25 (1, probe) (Number 81) ≡ (record { by = 25; side = Own }, Number 1)
+only_rate = refl
 
-no_deviation : negated_clock (text.Rate 125 1) ≡ text.Rate 125 1
-no_deviation = refl
+kept_rate : chosen (record options { keep_ppm = true }) 25 (1, engine) (Number 81) ≡ (record { by = 25; side = Own }, Number 1)
+kept_rate = refl
+
+-- a tolerance counts from the quantum without `ppm`, and a member has no tolerance
+slow_engine : moved_node 25 (Slow 250) engine
+    ≡ record (node (codes "engine") (text.Ppm 125 (pos 250))) { offset = 1025; tolerance = None }
+slow_engine = refl
+
+fast_engine : moved_node 0 (Fast 250) engine ≡ record (node (codes "engine") (text.Ppm 125 (negsuc 249))) { tolerance = None }
+fast_engine = refl
+
+own_engine : moved_node 25 Own engine ≡ record engine { offset = 1025 }
+own_engine = refl
+
+-- 62.5 ticks, 100 ppm slow and fast: 62.50625 and 62.49375
+slow_rate : clock_on (Slow 100) (text.Rate 125 2) ≡ text.Rate 62506250 1000000
+slow_rate = refl
+
+fast_rate : clock_on (Fast 100) (text.Rate 125 2) ≡ text.Rate 62493750 1000000
+fast_rate = refl
+
+-- a third of a tick more than 62: 62.339566.. and 62.327099.., rounded towards it in parts of 999,999
+slow_third : clock_on (Slow 100) (text.Rate 187 3) ≡ text.Rate 62339504 999999
+slow_third = refl
+
+fast_third : clock_on (Fast 100) (text.Rate 187 3) ≡ text.Rate 62327038 999999
+fast_third = refl
 
 -- a value of a clock's key is one of the rates that have it
 new_ppm : node_set key.Ppm (negsuc 99) engine ≡ node (codes "engine") (text.Ppm 125 (negsuc 99))
@@ -110,6 +142,9 @@ new_ppm = refl
 
 no_num : node_set key.Num (pos 99) engine ≡ engine
 no_num = refl
+
+new_tolerance : node_set key.Tolerance (pos 99) probe ≡ record probe { tolerance = Some 99 }
+new_tolerance = refl
 
 -- ten runs by three workers: four, four and two
 parts : map (part_start 0 10 4) (range_with_len 0 4) ≡ 0 ∷ 4 ∷ 8 ∷ 10 ∷ []
@@ -142,7 +177,7 @@ part_run : members_line options 1000 25600 ≡ codes "1000 of 25600 members were
 unfolding digits
 part_run = refl
 
-changed : choice_words engine (record { by = 25; negated = true }) ≡ codes ", engine.offset = 1025, engine.ppm negated"
+changed : choice_words engine (record { by = 25; side = Fast 250 }) ≡ codes ", engine.offset = 1025, engine.ppm = -250"
 unfolding digits
 changed = refl
 
@@ -199,6 +234,9 @@ four_values = refl
 
 last_not_reached : values_of key.Ppm (record { low = negsuc 0; high = pos 4; step = Some (pos 2) }) ≡ Ok (negsuc 0 ∷ pos 1 ∷ pos 3 ∷ [])
 last_not_reached = refl
+
+wide_tolerance : values_of key.Tolerance (record { low = pos 0; high = pos 100001; step = None }) ≡ Err range.Bounds
+wide_tolerance = refl
 
 reversed : values_of key.X (record { low = pos 40; high = pos 30; step = None }) ≡ Err range.Order
 reversed = refl

@@ -1,6 +1,6 @@
 -- A plan text with other values (this project's profile).
-use Rattle.std.specs.Prelude.{ℕ, ℤ, ◌+◌, ◌-◌, ◌^◌, ◌==◌, min, unsigned_abs, neg_ℤ, Bool, true, false, map, Option, Some, None, if◌then◌else◌}
-use Rattle.std.specs.Int.{w64, saturate_signed}
+use Rattle.std.specs.Prelude.{ℕ, ℤ, pos, ◌+◌, ◌-◌, ◌*◌, ◌/◌, ◌^◌, ◌==◌, min, max, unsigned_abs, neg_ℤ, Bool, true, map, Option, Some, None, if◌then◌else◌}
+use Rattle.std.specs.Int.{div_ceil}
 use Rattle.std.specs.List.{enumerate_from}
 use Rattle.wl_setup.specs.declared.plan_text.PlanText.{PlanText}
 use Rattle.wl_setup.specs.declared.plan_text.NodeText.{NodeText}
@@ -9,6 +9,8 @@ use Rattle.wl_setup.specs.declared.plan_text.ClockText.{ClockText}
 use Rattle.wl_setup.specs.declared.plan_text.ClockText.TheVariants as text
 use Rattle.wl_sweep.specs.declared.change.SweptKey.{SweptKey}
 use Rattle.wl_sweep.specs.declared.change.SweptKey.TheVariants as key
+use Rattle.wl_sweep.specs.declared.change.Side.{Side}
+use Rattle.wl_sweep.specs.declared.change.Side.TheVariants.{Own, Slow, Fast}
 
 -- a clock with another value of a key, if it has that key
 abbrev pub clock_with : SweptKey → ℤ → ClockText → ClockText
@@ -21,9 +23,9 @@ clock_with k value clock = clock
 abbrev pub rate_with : SweptKey → ℤ → RateText → RateText
 rate_with k value rate = record rate { clock = clock_with k value rate.clock }
 
--- a value as a place, which has 32 bits
-abbrev pub place_with : ℕ → ℕ
-place_with size = min size (2 ^ 32 - 1)
+-- a value of a key that has 32 bits: of a place or a tolerance
+abbrev pub narrowed : ℕ → ℕ
+narrowed size = min size (2 ^ 32 - 1)
 
 -- a node with another value of a key that is no clock's
 abbrev pub node_with : SweptKey → ℤ → NodeText → NodeText
@@ -32,9 +34,10 @@ node_with key.Prop value node = record node { prop = unsigned_abs value }
 node_with key.Ps1 value node = record node { ps1 = unsigned_abs value }
 node_with key.Ps2 value node = record node { ps2 = unsigned_abs value }
 node_with key.Sjw value node = record node { sjw = unsigned_abs value }
-node_with key.X value node = record node { x = place_with (unsigned_abs value) }
+node_with key.X value node = record node { x = narrowed (unsigned_abs value) }
 node_with key.Out value node = record node { out_delay = unsigned_abs value }
 node_with key.In value node = record node { in_delay = unsigned_abs value }
+node_with key.Tolerance value node = record node { tolerance = Some (narrowed (unsigned_abs value)) }
 node_with k value node = node
 
 -- a node with another value of any key, if it has that key
@@ -59,19 +62,46 @@ top_with k value plan = plan
 abbrev pub text_with : SweptKey → Option ℕ → ℤ → PlanText → PlanText
 text_with k named value plan = top_with k value (record plan { node = map (set_at k named value) (enumerate_from 0 plan.node) })
 
--- a clock that deviates as much to the other side
-abbrev pub negated_clock : ClockText → ClockText
-negated_clock (text.Ppm quantum ppm) = text.Ppm quantum (saturate_signed w64 (neg_ℤ ppm))
-negated_clock (text.Rate num den) = text.Rate num den
+-- By how much both numbers of a rate are multiplied before it deviates: its denominator then has up to a million, as much as a clock allows.
+abbrev pub refinement : ℕ → ℕ
+refinement den = max (1000000 / max den 1) 1
 
-abbrev pub negated_rate : RateText → RateText
-negated_rate rate = record rate { clock = negated_clock rate.clock }
+-- so many ticks, longer or shorter by some ppm: a fraction is rounded towards the ticks, so that no clock leaves its tolerance
+abbrev pub num_on : Side → ℕ → ℕ
+num_on Own num = num
+num_on (Slow ppm) num = num * (1000000 + ppm) / 1000000
+num_on (Fast ppm) num = div_ceil (num * (1000000 - ppm)) 1000000
 
-abbrev pub rate_moved : Bool → RateText → RateText
-rate_moved true rate = negated_rate rate
-rate_moved false rate = rate
+-- a rate of ticks and quanta
+abbrev pub refined : Side → ℕ → ℕ → ClockText
+refined side num den =
+    text.Rate (min (num_on side (num * refinement den)) (2 ^ 64 - 1)) (min (den * refinement den) (2 ^ 64 - 1))
 
--- a node that begins `by` ticks later, and whose clock, where it is negated, deviates as much to the other side:
--- all its rates at once, since they are one oscillator's
-abbrev pub moved_node : ℕ → Bool → NodeText → NodeText
-moved_node by negated node = record node { offset = min (node.offset + by) (2 ^ 64 - 1); rates = map (rate_moved negated) node.rates }
+-- a deviation in the place of a clock's own, in ppm
+abbrev pub ppm_on : Side → ℤ → ℤ
+ppm_on Own own = own
+ppm_on (Slow ppm) own = pos ppm
+ppm_on (Fast ppm) own = neg_ℤ (pos ppm)
+
+-- a clock that is slow or fast by some ppm, from what it is without its own `ppm`
+abbrev pub clock_on : Side → ClockText → ClockText
+clock_on side (text.Ppm quantum own) = text.Ppm quantum (ppm_on side own)
+clock_on Own (text.Rate num den) = text.Rate num den
+clock_on side (text.Rate num den) = refined side num den
+
+abbrev pub rate_on : Side → RateText → RateText
+rate_on side rate = record rate { clock = clock_on side rate.clock }
+
+-- a member's clock is what it is: no tolerance is left to a node that has a rate within its own
+abbrev pub tolerance_on : Side → Option ℕ → Option ℕ
+tolerance_on Own tolerance = tolerance
+tolerance_on side tolerance = None
+
+-- a node that begins `by` ticks later, and whose clock is on this side of its rates: of all at once, since they are one oscillator's
+abbrev pub moved_node : ℕ → Side → NodeText → NodeText
+moved_node by side node =
+    record node {
+      offset = min (node.offset + by) (2 ^ 64 - 1);
+      rates = map (rate_on side) node.rates;
+      tolerance = tolerance_on side node.tolerance;
+    }

@@ -1,7 +1,7 @@
--- The members of a family of plan texts: offsets over one bit, and signs of deviations, by a mixed radix (this project's profile).
-use Rattle.std.specs.Prelude.{ℕ, ◌+◌, ◌-◌, ◌*◌, ◌/◌, ◌%◌, ◌^◌, ◌==◌, ◌||◌, nat_lt, nat_le, min, max, unsigned_abs, Bool, false, not, List, [], ◌∷◌, fold, is_ok, slice_get, Option, Some, None, if◌then◌else◌}
+-- The members of a family of plan texts: offsets over one bit, and both limits of each tolerance, by a mixed radix (this project's profile).
+use Rattle.std.specs.Prelude.{ℕ, ◌+◌, ◌-◌, ◌*◌, ◌/◌, ◌%◌, ◌^◌, ◌==◌, ◌||◌, nat_lt, nat_le, min, max, true, List, [], ◌∷◌, fold, is_ok, slice_get, Option, Some, None, unwrap_or, if◌then◌else◌}
 use Rattle.std.specs.Int.{div_ceil}
-use Rattle.std.specs.List.{enumerate_from, list_any}
+use Rattle.std.specs.List.{enumerate_from}
 use Rattle.rand_xoshiro.specs.SplitMix64.{mix_u64}
 use Rattle.wl_setup.specs.declared.plan_text.PlanText.{PlanText}
 use Rattle.wl_setup.specs.declared.plan_text.NodeText.{NodeText}
@@ -13,6 +13,8 @@ use Rattle.wl_sweep.specs.declared.options.Options.{Options}
 use Rattle.wl_sweep.specs.declared.draws.Draws.{Draws}
 use Rattle.wl_sweep.specs.declared.draws.Draws.TheVariants.{Number, Words}
 use Rattle.wl_sweep.specs.declared.family.Choice.{Choice}
+use Rattle.wl_sweep.specs.declared.change.Side.{Side}
+use Rattle.wl_sweep.specs.declared.change.Side.TheVariants.{Own, Slow, Fast}
 use Rattle.wl_sweep.specs.Changes.{moved_node}
 
 -- the next digit below a radix of 2 or more: of a number the least one, of a generator a word as a part of 2^64, times the radix
@@ -57,14 +59,14 @@ offset_step options plan = step_or options.step (least_quantum plan.node)
 abbrev pub offset_count : Options → ℕ → ℕ × NodeText → ℕ
 offset_count options step m = if options.keep_offsets || (m.0 == 0) then 1 else div_ceil (bit_in m.1) (max step 1)
 
--- a rate deviates
-abbrev pub deviates_at : ClockText → Bool
-deviates_at (text.Rate num den) = false
-deviates_at (text.Ppm quantum ppm) = not (unsigned_abs ppm == 0)
-
--- how many signs a node has: two where one of its rates deviates, unless they are kept
+-- how many signs a node has: two if its rate may deviate, unless it is kept
 abbrev pub sign_count : Options → NodeText → ℕ
-sign_count options node = if options.keep_ppm || not (list_any (λ (rate : RateText). deviates_at rate.clock) node.rates) then 1 else 2
+sign_count options node = if options.keep_ppm || (unwrap_or node.tolerance 0 == 0) then 1 else 2
+
+-- on which side of its rates a clock is, by its sign: slow or fast by the whole tolerance; its own where there is none or it is kept
+abbrev pub side_of : Options → Option ℕ → ℕ → Side
+side_of options None sign = Own
+side_of options (Some ppm) sign = if options.keep_ppm then Own else if sign == 0 then Slow ppm else Fast ppm
 
 -- at most the greatest number of 64 bits, and of 128
 abbrev pub capped : ℕ → ℕ
@@ -73,28 +75,34 @@ capped n = min n (2 ^ 64 - 1)
 abbrev pub widely_capped : ℕ → ℕ
 widely_capped n = min n (2 ^ 128 - 1)
 
--- by how much a node begins later, and whether its deviation is negated, and what the others draw from
+-- by how much a node begins later, and on which side its clock is, and what the others draw from
 abbrev pub chosen : Options → ℕ → ℕ × NodeText → Draws → Choice × Draws
 chosen options step m draws =
     let place = drawn (offset_count options step m) draws in
     let sign = drawn (sign_count options m.1) place.1 in
-    (record { by = capped (step * place.0); negated = sign.0 == 1 }, sign.1)
+    (record { by = capped (step * place.0); side = side_of options m.1.tolerance sign.0 }, sign.1)
 
 -- how many members the numbered nodes of a text make, 2^128 - 1 where there are more
 abbrev pub choice_count : Options → ℕ → List (ℕ × NodeText) → ℕ
 choice_count options step ms =
     fold (λ count m. widely_capped (widely_capped (count * offset_count options step m) * sign_count options m.1)) 1 ms
 
--- how many members a text has: itself alone where it is refused
+-- what is varied: nothing of a text that is refused, so that it has one member, itself
+abbrev pub kept : Options → Options
+kept options = record options { keep_offsets = true; keep_ppm = true }
+
+abbrev pub varied : Options → PlanText → Options
+varied options plan = if is_ok (plan_of_text plan) then options else kept options
+
+-- how many members a text has
 abbrev pub member_count : Options → PlanText → ℕ
-member_count options plan =
-    if is_ok (plan_of_text plan) then choice_count options (offset_step options plan) (enumerate_from 0 plan.node) else 1
+member_count options plan = choice_count (varied options plan) (offset_step options plan) (enumerate_from 0 plan.node)
 
 -- the seed of a run's generator
 abbrev pub run_seed : Options → ℕ → ℕ
 run_seed options run = (options.seed * 2 ^ 32 + run) % 2 ^ 64
 
--- What a run's digits are taken from: its number, where all members are run; else the first run is the text itself, and each other
+-- What a run's digits are taken from: its number, where all members are run; else the first run has all digits 0, and each other
 -- draws from a generator of its own.
 abbrev pub draws_of : Options → ℕ → ℕ → Draws
 draws_of options count run = if nat_le count options.runs || (run == 0) then Number run else Words (run_seed options run)
@@ -104,13 +112,14 @@ abbrev pub member_nodes : Options → ℕ → Draws → List (ℕ × NodeText) �
 member_nodes options step draws [] = []
 member_nodes options step draws (m ∷ ms) =
     let made = chosen options step m draws in
-    moved_node made.0.by made.0.negated m.1 ∷ member_nodes options step made.1 ms
+    moved_node made.0.by made.0.side m.1 ∷ member_nodes options step made.1 ms
 
 -- the member that a run is of
 abbrev pub member_of : Options → PlanText → ℕ → PlanText
 member_of options plan run =
     record plan {
-      node = member_nodes options (offset_step options plan) (draws_of options (member_count options plan) run) (enumerate_from 0 plan.node);
+      node =
+          member_nodes (varied options plan) (offset_step options plan) (draws_of options (member_count options plan) run) (enumerate_from 0 plan.node);
     }
 
 -- how many runs there are

@@ -81,7 +81,8 @@ key_of name =
     else if bytes_eq name (codes "ppm") then Some key.Ppm else if bytes_eq name (codes "prop") then Some key.Prop
     else if bytes_eq name (codes "ps1") then Some key.Ps1 else if bytes_eq name (codes "ps2") then Some key.Ps2
     else if bytes_eq name (codes "sjw") then Some key.Sjw else if bytes_eq name (codes "x") then Some key.X
-    else if bytes_eq name (codes "out") then Some key.Out else if bytes_eq name (codes "in") then Some key.In else None
+    else if bytes_eq name (codes "out") then Some key.Out else if bytes_eq name (codes "in") then Some key.In
+    else if bytes_eq name (codes "tolerance") then Some key.Tolerance else None
 
 -- a key of the top table
 abbrev pub is_top : SweptKey → Bool
@@ -140,6 +141,7 @@ target_of nodes None k = if is_top k || list_any (has_key k) nodes then Ok None 
 abbrev pub takes : SweptKey → ℤ → Bool
 takes key.Ppm value = nat_le (unsigned_abs value) 1000000000
 takes key.X value = not (int_lt value (pos 0)) && nat_le (unsigned_abs value) (2 ^ 31 - 1)
+takes key.Tolerance value = not (int_lt value (pos 0)) && nat_le (unsigned_abs value) 100000
 takes k value = not (int_lt value (pos 0)) && nat_le (unsigned_abs value) (2 ^ 48 - 1)
 
 -- the first of some steps by which there are fewer than twenty over a distance, and else the distance

@@ -1,17 +1,19 @@
 -- The lines and words of a sweep (this project's profile).
-use Rattle.std.specs.Prelude.{ℕ, ◌+◌, ◌-◌, ◌^◌, ◌==◌, min, Bool, List, [], ◌∷◌, ◌++◌, codes, if◌then◌else◌}
+use Rattle.std.specs.Prelude.{ℕ, ◌+◌, ◌-◌, ◌^◌, ◌==◌, min, List, [], ◌∷◌, ◌++◌, codes, if◌then◌else◌}
 use Rattle.std.specs.List.{enumerate_from}
 use Rattle.std.specs.Fmt.{decimal, signed_decimal}
 use Rattle.wl_setup.specs.declared.plan_text.PlanText.{PlanText}
 use Rattle.wl_setup.specs.declared.plan_text.NodeText.{NodeText}
 use Rattle.wl_sweep.specs.declared.options.Options.{Options}
 use Rattle.wl_sweep.specs.declared.draws.Draws.{Draws}
+use Rattle.wl_sweep.specs.declared.change.Side.{Side}
+use Rattle.wl_sweep.specs.declared.change.Side.TheVariants.{Own, Slow, Fast}
 use Rattle.wl_sweep.specs.declared.family.Choice.{Choice}
 use Rattle.wl_sweep.specs.declared.finding.Finding.{Finding}
 use Rattle.wl_sweep.specs.declared.finding.Finding.TheVariants.{Clean, Faulty, Off, Early, Missed, Refused}
 use Rattle.wl_sweep.specs.declared.range.SweptRange.{SweptRange}
 use Rattle.wl_sweep.specs.declared.tally.Tally.{Tally}
-use Rattle.wl_sweep.specs.Family.{chosen, draws_of, member_count, offset_step}
+use Rattle.wl_sweep.specs.Family.{chosen, draws_of, member_count, offset_step, varied}
 use Rattle.wl_sweep.specs.Rows.{row_count, value_in}
 
 -- a count of what isn't clean, where there is such
@@ -52,11 +54,13 @@ settings_words row (g ∷ gs) = (codes ", " ++ g.called ++ codes " = " ++ signed
 abbrev pub offset_words : NodeText → ℕ → List ℕ
 offset_words node by = if by == 0 then [] else codes ", " ++ node.name ++ codes ".offset = " ++ decimal (min (node.offset + by) (2 ^ 64 - 1))
 
-abbrev pub sign_words : NodeText → Bool → List ℕ
-sign_words node negated = if negated then codes ", " ++ node.name ++ codes ".ppm negated" else []
+abbrev pub side_words : NodeText → Side → List ℕ
+side_words node Own = []
+side_words node (Slow ppm) = codes ", " ++ node.name ++ codes ".ppm = " ++ decimal ppm
+side_words node (Fast ppm) = codes ", " ++ node.name ++ codes ".ppm = -" ++ decimal ppm
 
 abbrev pub choice_words : NodeText → Choice → List ℕ
-choice_words node choice = offset_words node choice.by ++ sign_words node choice.negated
+choice_words node choice = offset_words node choice.by ++ side_words node choice.side
 
 abbrev pub choices_words : Options → ℕ → Draws → List (ℕ × NodeText) → List ℕ
 choices_words options step draws [] = []
@@ -81,7 +85,7 @@ finding_words (Refused fault) = codes "refused"
 abbrev pub change_words : ℕ → List SweptRange → Options → PlanText → ℕ → List ℕ
 change_words row ranges options plan run =
     settings_words row ranges
-    ++ choices_words options (offset_step options plan) (draws_of options (member_count options plan) run) (enumerate_from 0 plan.node)
+    ++ choices_words (varied options plan) (offset_step options plan) (draws_of options (member_count options plan) run) (enumerate_from 0 plan.node)
 
 -- and what is found of it
 abbrev pub member_words : ℕ → List SweptRange → Options → PlanText → ℕ → Finding → List ℕ

@@ -1,7 +1,7 @@
 //! A plan text with other values.
-ghost use Rattle.std.specs.Prelude.{◌≡◌, IfOk, map};
+ghost use Rattle.std.specs.Prelude.{◌≡◌, ◌<◌, ◌^◌, IfOk, map};
 ghost use Rattle.std.specs.List.{enumerate_from};
-ghost use Rattle.wl_sweep.specs.Changes.{clock_with, moved_node, negated_clock, negated_rate, node_with, is_of, place_with, rate_moved, rate_with, set_at, text_with, top_with};
+ghost use Rattle.wl_sweep.specs.Changes.{clock_on, clock_with, is_of, moved_node, narrowed, node_with, num_on, ppm_on, rate_on, rate_with, refined, refinement, set_at, text_with, tolerance_on, top_with};
 
 use std::alloc::{AllocError, Global};
 use wl_level::Listed;
@@ -38,7 +38,23 @@ pub enum SweptKey {
     Out,
     /// `in`
     In,
+    /// `tolerance`
+    Tolerance,
 }
+
+/// On which side of its rates without `ppm` a clock is.
+#[derive(Clone, Copy, Debug, PartialEq, Eq)]
+pub(crate) enum Side {
+    /// It keeps the rates of the text.
+    Own,
+    /// Its quanta are longer by so many parts per million.
+    Slow(u32),
+    /// Its quanta are shorter by so many parts per million.
+    Fast(u32),
+}
+
+/// The greatest denominator of a clock, and what parts per million are parts of.
+const MILLION: u64 = 1_000_000;
 
 /// A clock with another value of a key, if it has that key.
 fn clock_with(clock: ClockText, key: SweptKey, value: i64) -> ClockText
@@ -81,9 +97,9 @@ fn rates_with(
     Ok(all)
 }
 
-/// A value as a place, 2^32 - 1 where it is greater.
-fn place_with(size: u64) -> u32
-    ensures { result ≡ place_with size }
+/// A value of a key that has 32 bits, 2^32 - 1 where it is greater.
+fn narrowed(size: u64) -> u32
+    ensures { result ≡ narrowed size }
 {
     size.min(u64::from(u32::MAX)) as u32
 }
@@ -103,7 +119,7 @@ fn node_with(node: NodeText, key: SweptKey, value: i64) -> NodeText
         SweptKey::Ps2 => NodeText { ps2: size, ..node },
         SweptKey::Sjw => NodeText { sjw: size, ..node },
         SweptKey::X => NodeText {
-            x: place_with(size),
+            x: narrowed(size),
             ..node
         },
         SweptKey::Out => NodeText {
@@ -112,6 +128,10 @@ fn node_with(node: NodeText, key: SweptKey, value: i64) -> NodeText
         },
         SweptKey::In => NodeText {
             in_delay: size,
+            ..node
+        },
+        SweptKey::Tolerance => NodeText {
+            tolerance: Some(narrowed(size)),
             ..node
         },
         _ => node,
@@ -206,60 +226,104 @@ pub(crate) fn text_again(
     })
 }
 
-/// A clock that deviates as much to the other side.
-fn negated_clock(clock: ClockText) -> ClockText
-    ensures { result ≡ negated_clock clock }
+/// By how much both numbers of a rate are multiplied before it deviates.
+fn refinement(den: u64) -> u64
+    ensures { result ≡ refinement den }
+{
+    (MILLION / den.max(1)).max(1)
+}
+
+/// So many ticks, longer or shorter by some parts per million, a fraction rounded towards the ticks.
+fn num_on(side: Side, num: u128) -> u128
+    requires { num < 2 ^ 85 }
+    ensures { result ≡ num_on side num }
+{
+    let million = u128::from(MILLION);
+    match side {
+        Side::Own => num,
+        Side::Slow(ppm) => num * (million + u128::from(ppm)) / million,
+        Side::Fast(ppm) => (num * million.saturating_sub(u128::from(ppm))).div_ceil(million),
+    }
+}
+
+/// A rate of ticks and quanta on a side, with a denominator up to a million.
+fn refined(side: Side, num: u64, den: u64) -> ClockText
+    ensures { result ≡ refined side num den }
+{
+    let times = u128::from(refinement(den));
+    let largest = u128::from(u64::MAX);
+    ClockText::Rate {
+        num: num_on(side, u128::from(num) * times).min(largest) as u64,
+        den: (u128::from(den) * times).min(largest) as u64,
+    }
+}
+
+/// A deviation in the place of a clock's own, in parts per million.
+fn ppm_on(side: Side, own: i64) -> i64
+    ensures { result ≡ ppm_on side own }
+{
+    match side {
+        Side::Own => own,
+        Side::Slow(ppm) => i64::from(ppm),
+        Side::Fast(ppm) => -i64::from(ppm),
+    }
+}
+
+/// A clock on a side of what it is without its own `ppm`.
+fn clock_on(side: Side, clock: ClockText) -> ClockText
+    ensures { result ≡ clock_on side clock }
 {
     match clock {
         ClockText::Ppm { quantum, ppm } => ClockText::Ppm {
             quantum,
-            ppm: ppm.saturating_neg(),
+            ppm: ppm_on(side, ppm),
         },
-        ClockText::Rate { .. } => clock,
+        ClockText::Rate { num, den } => match side {
+            Side::Own => clock,
+            _ => refined(side, num, den),
+        },
     }
 }
 
-/// A rate, or where it is negated one that deviates as much to the other side.
-fn rate_moved(rate: &RateText, negated: bool) -> RateText
-    ensures { result ≡ rate_moved negated rate.now }
-{
-    let clock = if negated {
-        negated_clock(rate.clock)
-    } else {
-        rate.clock
-    };
-    RateText {
-        from: rate.from,
-        clock,
-    }
-}
-
-/// The rates, or where they are negated those that deviate as much to the other side.
-fn rates_moved(
-    alloc: Global,
-    rates: &[RateText],
-    negated: bool,
-) -> Result<Listed<RateText>, AllocError>
-    ensures { IfOk result (λ all. all ≡ map (rate_moved negated) rates.now) }
+/// The rates on a side.
+fn rates_on(alloc: Global, rates: &[RateText], side: Side) -> Result<Listed<RateText>, AllocError>
+    ensures { IfOk result (λ all. all ≡ map (rate_on side) rates.now) }
 {
     let mut all = Listed::new(alloc);
     for rate in rates {
-        all.push(rate_moved(rate, negated))?;
+        all.push(RateText {
+            from: rate.from,
+            clock: clock_on(side, rate.clock),
+        })?;
     }
     Ok(all)
 }
 
-/// A node that begins `by` ticks later, and whose clock, where it is negated, deviates as much to the other side.
+/// What is left of a tolerance on a side: nothing, if the clock has a rate within it.
+fn tolerance_on(side: Side, tolerance: Option<u32>) -> Option<u32>
+    ensures { result ≡ tolerance_on side tolerance }
+{
+    match side {
+        Side::Own => tolerance,
+        Side::Slow(_) | Side::Fast(_) => None,
+    }
+}
+
+/// A node that begins `by` ticks later, and whose clock is on this side of its rates.
 pub(crate) fn moved_node(
     alloc: Global,
     node: &NodeText,
     by: u64,
-    negated: bool,
+    side: Side,
 ) -> Result<NodeText, AllocError>
-    ensures { IfOk result (λ moved. moved ≡ moved_node by negated node.now) }
+    ensures { IfOk result (λ moved. moved ≡ moved_node by side node.now) }
 {
-    let rates = rates_moved(alloc, node.rates.as_slice(), negated)?;
-    node_again(alloc, node, node.offset.saturating_add(by), rates)
+    let rates = rates_on(alloc, node.rates.as_slice(), side)?;
+    let copy = node_again(alloc, node, node.offset.saturating_add(by), rates)?;
+    Ok(NodeText {
+        tolerance: tolerance_on(side, node.tolerance),
+        ..copy
+    })
 }
 
 /// A node with another value of a key, if it has that key.

@@ -2,9 +2,9 @@
 ghost use Rattle.std.specs.Prelude.{◌≡◌, IfOk, is_ok};
 ghost use Rattle.std.specs.List.{enumerate_from};
 ghost use Rattle.wl_setup.specs.Plans.{plan_of_text};
-ghost use Rattle.wl_sweep.specs.Family.{bit_in, choice_count, chosen, deviates_at, draws_of, least_quantum, member_count, member_of, member_nodes, offset_count, offset_step, quantum_at, quantum_in, run_count, sign_count};
+ghost use Rattle.wl_sweep.specs.Family.{bit_in, choice_count, chosen, draws_of, kept, least_quantum, member_count, member_of, member_nodes, offset_count, offset_step, quantum_at, quantum_in, run_count, side_of, sign_count, varied};
 
-use crate::change::{moved_node, text_again};
+use crate::change::{Side, moved_node, text_again};
 use crate::draws::Draws;
 use crate::options::Options;
 use rand_core::SeedableRng;
@@ -78,29 +78,33 @@ fn offset_count(options: Options, step: u64, i: usize, node: &NodeText) -> u64
     }
 }
 
-/// Whether a rate deviates.
-fn deviates_at(clock: ClockText) -> bool
-    ensures { result ≡ deviates_at clock }
-{
-    match clock {
-        ClockText::Rate { .. } => false,
-        ClockText::Ppm { ppm, .. } => ppm.unsigned_abs() != 0,
-    }
-}
-
 /// How many signs the deviation of a node has.
 fn sign_count(options: Options, node: &NodeText) -> u64
     ensures { result ≡ sign_count options node.now }
 {
-    if options.keep_ppm {
-        return 1;
+    if options.keep_ppm || node.tolerance.unwrap_or(0) == 0 {
+        1
+    } else {
+        2
     }
-    for rate in node.rates.as_slice() {
-        if deviates_at(rate.clock) {
-            return 2;
+}
+
+/// On which side of its rates a clock is, by its sign.
+fn side_of(options: Options, tolerance: Option<u32>, sign: u64) -> Side
+    ensures { result ≡ side_of options tolerance sign }
+{
+    match tolerance {
+        None => Side::Own,
+        Some(ppm) => {
+            if options.keep_ppm {
+                Side::Own
+            } else if sign == 0 {
+                Side::Slow(ppm)
+            } else {
+                Side::Fast(ppm)
+            }
         }
     }
-    1
 }
 
 /// What a member changes of a node.
@@ -108,8 +112,8 @@ fn sign_count(options: Options, node: &NodeText) -> u64
 pub(crate) struct Choice {
     /// The ticks by which it begins later.
     pub(crate) by: u64,
-    /// Whether it deviates to the other side.
-    pub(crate) negated: bool,
+    /// On which side of its rates its clock is.
+    pub(crate) side: Side,
 }
 
 /// What a member changes of node `i`.
@@ -126,7 +130,7 @@ pub(crate) fn choose(
     let sign = draws.below(sign_count(options, node));
     Choice {
         by: step.saturating_mul(place),
-        negated: sign == 1,
+        side: side_of(options, node.tolerance, sign),
     }
 }
 
@@ -156,14 +160,31 @@ fn is_accepted(alloc: Global, text: &PlanText) -> Result<bool, AllocError>
     }
 }
 
+/// What is varied of a text: nothing if it is refused, so that its one member is the text itself.
+fn varied(alloc: Global, options: Options, text: &PlanText) -> Result<Options, AllocError>
+    ensures { IfOk result (λ all. all ≡ varied options text.now) }
+{
+    if is_accepted(alloc, text)? {
+        Ok(options)
+    } else {
+        Ok(Options {
+            keep_offsets: true,
+            keep_ppm: true,
+            ..options
+        })
+    }
+}
+
 /// A family of plan texts: what its members are made of.
 #[derive(Drop)]
 pub(crate) struct Family {
-    /// The first member.
+    /// The text as it stands.
     pub(crate) text: PlanText,
     pub(crate) options: Options,
+    free: Options,
     step: u64,
     count: u128,
+    pub(crate) ghost free_is: { free ≡ varied options text },
     pub(crate) ghost step_is: { step ≡ offset_step options text },
     pub(crate) ghost count_is: { count ≡ member_count options text },
 }
@@ -174,15 +195,13 @@ impl Family {
         ensures text { IfOk result (λ family. family.text ≡ text) }
         ensures options { IfOk result (λ family. family.options ≡ options) }
     {
+        let free = varied(alloc, options, &text)?;
         let step = offset_step(options, &text);
-        let count = if is_accepted(alloc, &text)? {
-            choice_count(options, step, text.node.as_slice())
-        } else {
-            1
-        };
+        let count = choice_count(free, step, text.node.as_slice());
         Ok(Family {
             text,
             options,
+            free,
             step,
             count,
         })
@@ -193,6 +212,13 @@ impl Family {
         ensures { result ≡ member_count self.now.options self.now.text }
     {
         self.count
+    }
+
+    /// What is varied.
+    pub(crate) fn varied(&self) -> Options
+        ensures { result ≡ varied self.now.options self.now.text }
+    {
+        self.free
     }
 
     /// The ticks between two offsets.
@@ -228,8 +254,8 @@ impl Family {
         let mut draws = self.draws(run);
         let mut nodes = Listed::new(alloc);
         for (i, node) in self.text.node.as_slice().iter().enumerate() {
-            let choice = choose(self.options, self.step, i, node, &mut draws);
-            nodes.push(moved_node(alloc, node, choice.by, choice.negated)?)?;
+            let choice = choose(self.free, self.step, i, node, &mut draws);
+            nodes.push(moved_node(alloc, node, choice.by, choice.side)?)?;
         }
         Ok(nodes)
     }

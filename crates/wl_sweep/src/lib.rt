@@ -1,4 +1,4 @@
-//! Sweeps: a plan run over phases, signs of deviations and values of keys, so that a verdict is about a bus and not about one power-up.
+//! Sweeps: a plan run over phases, both limits of each tolerance and values of keys, so that a verdict is about a bus and not one power-up.
 //!
 //! A sweep is a family of plan texts, made of one text by a mixed radix. Each member is tested by the stages that a text goes through,
 //! and simulated. What a sweep says is a function of the text, the ranges and the options: no clause knows how many threads there are.

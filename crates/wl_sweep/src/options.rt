@@ -7,7 +7,7 @@ pub struct Options {
     pub step: Option<u64>,
     /// Whether each offset stays as the plan has it.
     pub keep_offsets: bool,
-    /// Whether each deviation keeps its sign.
+    /// Whether each clock keeps the rates that the plan has.
     pub keep_ppm: bool,
     /// The most members of a row that are run: all that there are, else a random part.
     pub runs: u32,

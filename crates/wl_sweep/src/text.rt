@@ -4,8 +4,9 @@ ghost use Rattle.std.specs.List.{enumerate_from};
 ghost use Rattle.wl_report.specs.Lines.{GrowsBy};
 ghost use Rattle.wl_sweep.specs.Family.{chosen};
 ghost use Rattle.wl_sweep.specs.Rows.{row_text};
-ghost use Rattle.wl_sweep.specs.Words.{change_words, count_words, choice_words, choices_words, early_words, faulty_words, finding_words, members_line, row_line, row_words, settings_words, tally_line, tally_words, member_words};
+ghost use Rattle.wl_sweep.specs.Words.{change_words, count_words, choice_words, choices_words, early_words, faulty_words, finding_words, members_line, row_line, row_words, settings_words, side_words, tally_line, tally_words, member_words};
 
+use crate::change::Side;
 use crate::draws::Draws;
 use crate::family::{Choice, Family, choose};
 use crate::finding::Finding;
@@ -111,6 +112,18 @@ fn push_settings(text: &mut String, ranges: &[SweptRange], row: u64) -> Result<(
     Ok(())
 }
 
+/// Adds on which side of its rates the clock of a node is.
+fn push_side(text: &mut String, node: &NodeText, side: Side) -> Result<(), AllocError>
+    ensures { OnOk result (GrowsBy text.old text.new (side_words node.now side)) }
+{
+    let name = node.name.as_str();
+    match side {
+        Side::Own => Ok(()),
+        Side::Slow(ppm) => write!(text, ", {name}.ppm = {ppm}"),
+        Side::Fast(ppm) => write!(text, ", {name}.ppm = -{ppm}"),
+    }
+}
+
 /// Adds what a member changes of a node.
 fn push_choice(text: &mut String, node: &NodeText, choice: Choice) -> Result<(), AllocError>
     ensures { OnOk result (GrowsBy text.old text.new (choice_words node.now choice)) }
@@ -120,10 +133,7 @@ fn push_choice(text: &mut String, node: &NodeText, choice: Choice) -> Result<(),
         let offset = node.offset.saturating_add(choice.by);
         write!(text, ", {name}.offset = {offset}")?;
     }
-    if choice.negated {
-        write!(text, ", {name}.ppm negated")?;
-    }
-    Ok(())
+    push_side(text, node, choice.side)
 }
 
 /// Adds what a member changes of the nodes of a text.
@@ -185,7 +195,7 @@ pub(crate) fn push_change(
     push_settings(text, ranges, row)?;
     push_choices(
         text,
-        family.options,
+        family.varied(),
         family.step(),
         family.draws(run),
         family.text.node.as_slice(),

@@ -21,6 +21,9 @@ const LARGEST_SMALL: u64 = (1 << 31) - 1;
 /// The greatest deviation either way, in parts per million.
 const LARGEST_PPM: u64 = 1_000_000_000;
 
+/// The greatest tolerance, in parts per million.
+const LARGEST_TOLERANCE: u64 = 100_000;
+
 /// The steps that a range has where it names none: the first of them that makes fewer than twenty rows more.
 #[rattlefmt::skip]
 const ROUND_STEPS: [u64; 45] = [
@@ -191,6 +194,7 @@ fn key_of(name: &str) -> Option<SweptKey>
         "x" => Some(SweptKey::X),
         "out" => Some(SweptKey::Out),
         "in" => Some(SweptKey::In),
+        "tolerance" => Some(SweptKey::Tolerance),
         _ => None,
     }
 }
@@ -375,6 +379,7 @@ fn takes(key: SweptKey, value: i64) -> bool
     match key {
         SweptKey::Ppm => size <= LARGEST_PPM,
         SweptKey::X => value >= 0 && size <= LARGEST_SMALL,
+        SweptKey::Tolerance => value >= 0 && size <= LARGEST_TOLERANCE,
         _ => value >= 0 && size <= LARGEST_NUMBER,
     }
 }

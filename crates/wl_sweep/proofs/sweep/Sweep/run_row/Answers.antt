@@ -1,4 +1,5 @@
 use Rattle.std.proofs.Common.{◌≡◌, ◌∙◌, ◌++◌, ap, string_bytes, true, false, Bool}
+use Rattle.wl_sweep.specs.Family.{member_count}
 use Rattle.wl_sweep.specs.Tallies.{findings_of, tally_of}
 use Rattle.wl_sweep.specs.Words.{row_line}
 use Rattle.wl_sweep.proofs.Growing.{with_line, without_line}
@@ -7,6 +8,13 @@ use Rattle.wl_sweep.proofs.sweep.Sweep.run_row.Goals.{then-not-is_empty+in_ok-pu
 
 unlike : (b : Bool) → b ≡ false → b ≡ true → ⊥
 unlike b is h = absurd (cc)
+
+pub returns-clause-tally : goal.returns-clause-tally
+returns-clause-tally g c =
+    c.in_ok-tally.ensures ∙ (λ i. tally_of (findings_of (c.in_ok-family.ensures.options i) (c.in_ok-family.ensures.text i)))
+
+pub returns-clause-members : goal.returns-clause-members
+returns-clause-members g c = c.count.ensures ∙ (λ i. member_count (c.in_ok-family.ensures.options i) (c.in_ok-family.ensures.text i))
 
 pub returns-clause-text : goal.returns-clause-text
 returns-clause-text g c =
