@@ -3,8 +3,8 @@
 
     one_sender.py RUNS SEED [LEFT]    plays buses near the border of the conditions or, with LEFT, buses that meet all but that
                                       one (slow, fast, sample, late, early, jump, apart, own or idle); says in how many a
-                                      listener samples another bit than was sent, a node finds an error, or the sender samples
-                                      no acknowledgement
+                                      listener samples another bit than was sent, a node finds an error, the sender samples
+                                      no acknowledgement, or no listener its own
 """
 
 import random
@@ -46,6 +46,17 @@ def random_frame():
     dlc = random.randint(0, 8)
     data = b"" if remote else bytes(random.choice([0, 0xFF, 0x55, 0x0F, random.randrange(256)]) for _ in range(dlc))
     return plain.Frame(random.choice([0, 0x7FF, random.randrange(2**11)]) << (18 if extended else 0), remote, dlc, data, extended)
+
+
+def last_run(frame):
+    """How many bits there are from the last edge to dominant to the CRC delimiter."""
+    line = [plain.RECESSIVE] + [bit for bit, _ in plain.stuff(frame.bits())]
+    return min(n for n in range(1, len(line)) if line[-n] == plain.DOMINANT and line[-n - 1] == plain.RECESSIVE)
+
+
+def long_frame():
+    """A frame whose last bits have no edge, if there is one among some."""
+    return min((random_frame() for _ in range(random.choice([1, 300]))), key=lambda frame: -last_run(frame))
 
 
 def tick(offset, rate, quantum):
@@ -125,7 +136,7 @@ def bus(left):
 def run(left):
     nodes, delays = bus(left)
     (sender, sender_rate), others = nodes[0], nodes[1:]
-    frame = random_frame()
+    frame = long_frame()
     line = [bit for bit, _ in plain.stuff(frame.bits())]
     waits = 11 + random.choice([0, 0, random.randint(1, 9)])
     begin = waits * bit_of(sender)
@@ -138,19 +149,21 @@ def run(left):
     setups = [plain.Setup("sender", plain.Clock(offset, [plain.Rate(0, *sender_rate)]), plain.Segments(*sender, True), [plain.Queued(frame, ready)])]
     setups += [plain.Setup("listener", plain.Clock(n, [plain.Rate(0, *rate)]), plain.Segments(*lengths, True), []) for n, (lengths, rate) in zip(offsets, others)]
     slot = begin + (len(line) + 1) * bit_of(sender) + sample_of(sender)
-    played = play(setups, delays, tick(offset, sender_rate, slot + sender[3]) + 1)
-    if played[0].levels != [plain.RECESSIVE] * waits + line + [plain.RECESSIVE, plain.DOMINANT] or played[0].errors:
-        return False
-    return all(heard(node, line) for node in played[1:])
+    ends = [tick(offset, sender_rate, slot) + 1 + -(-sample_of(lengths) * rate[0] // rate[1]) for lengths, rate in others]
+    played = play(setups, delays, max(ends + [tick(offset, sender_rate, slot + sender[3]) + 1]))
+    acknowledged = line + [plain.RECESSIVE, plain.DOMINANT]
+    listeners = played[1:]
+    return (begins(played[0], acknowledged) and all(begins(node, line + [plain.RECESSIVE]) for node in listeners)
+            and any(begins(node, acknowledged) for node in listeners))
 
 
-def heard(node, line):
-    """Whether a listener sampled a frame up to the CRC delimiter, and found no error up to there."""
+def begins(node, line):
+    """Whether what a node sampled from its first dominant bit on begins with these bits, and it found no error up to there."""
     if plain.DOMINANT not in node.levels:
         return False
     first = node.levels.index(plain.DOMINANT)
-    last = first + len(line) + 1
-    return node.levels[first:last] == line + [plain.RECESSIVE] and (node.wrong_at is None or node.wrong_at > last)
+    last = first + len(line)
+    return node.levels[first:last] == line and (node.wrong_at is None or node.wrong_at > last)
 
 
 def search(runs, left):

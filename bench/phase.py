@@ -6,6 +6,7 @@
                                         (slow, fast or sample), farther by that condition alone; says how many went wrong
     phase.py answer RUNS SEED [LEFT]    the same with an acknowledgement whose way there and back is as long or as short as it
                                         may be, or, with LEFT (late, early or jump), beyond that condition alone
+    phase.py end RUNS SEED [LEFT]       the same up to the sender's sample after that; LEFT is end
 """
 
 import random
@@ -207,17 +208,18 @@ def answer_ticks(listener, offset, rate, arrival, bits):
     return None
 
 
-def hears(sender, offset, rate, quantum, begin, end):
-    """Whether the sender, which samples a recessive bit by this quantum, samples what is dominant from one tick to another."""
+def hears(sender, offset, rate, quantum, begin, end, count):
+    """The next samples of a sender that samples a recessive bit by this quantum, and finds dominant from one tick to another."""
     sample_at = 1 + sender[0] + sender[1]
     if begin <= offset + quantum * rate[0] // rate[1]:
-        return False
-    clock, sample = (sample_at + 1, *SILENT), None
-    while sample is None:
+        return None
+    clock, samples = (sample_at + 1, *SILENT), []
+    while len(samples) < count:
         quantum += 1
         tick = offset + quantum * rate[0] // rate[1]
         clock, sample, _ = step(sender, clock, begin <= tick < end, False, False)
-    return sample
+        samples += [] if sample is None else [sample]
+    return samples
 
 
 def lengths_for(left):
@@ -227,7 +229,7 @@ def lengths_for(left):
     return random_lengths(), random_lengths()
 
 
-def search_answers(runs, left):
+def search_answers(runs, left, samples):
     done = wrong = 0
     while done < runs:
         sender, listener = lengths_for(left)
@@ -242,8 +244,12 @@ def search_answers(runs, left):
             continue
         drift, own_quantum = (ten_bits * sender_rate[0] - ten), den * sender_rate[0]
         most = ((1 + sender[0] + sender[1]) * own_quantum - max(0, -drift)) // tick
+        over = ((1 + sender[0] + sender[1]) * own_quantum - 11 * max(0, -drift) // 10) // tick
+        most = most if len(samples) == 1 or left == "end" else over
+        if left == "end" and over == most:
+            continue
         least = max(2, -(-(quantum + 2 * tick + max(0, drift) - sender[2] * own_quantum) // tick))
-        way = {"late": most + random.randint(1, 3), "early": least - random.randint(1, 3), "jump": least}.get(left, random.choice([most, least]))
+        way = {"late": most + random.randint(1, 3), "early": least - random.randint(1, 3), "jump": least, "end": most}.get(left, random.choice([most, least]))
         wanted = tuple(name != left for name in ("late", "early", "jump"))
         if way < 2 or way_conditions(sender, sender_rate, listener, rate, way) != wanted:
             continue
@@ -259,15 +265,16 @@ def search_answers(runs, left):
         ticks = answer_ticks(listener, offset, rate, arrival, bits)
         last = begin + (len(bits) - 1) * (1 + sum(sender[:3])) + 1 + sender[0] + sender[1]
         back = way - delay
-        wrong += ticks is None or not hears(sender, sender_offset, sender_rate, last, ticks[0] + back, ticks[1] + back)
+        wrong += ticks is None or hears(sender, sender_offset, sender_rate, last, ticks[0] + back, ticks[1] + back, len(samples)) != samples
     print(f"{done} runs, {wrong} wrong")
 
 
 if __name__ == "__main__":
     if sys.argv[1:] == ["rows"]:
         rows()
-    elif len(sys.argv) in (4, 5) and sys.argv[1] in ("search", "answer"):
+    elif len(sys.argv) in (4, 5) and sys.argv[1] in ("search", "answer", "end"):
         random.seed(int(sys.argv[3]))
-        (search if sys.argv[1] == "search" else search_answers)(int(sys.argv[2]), sys.argv[4] if len(sys.argv) == 5 else None)
+        runs, left = int(sys.argv[2]), sys.argv[4] if len(sys.argv) == 5 else None
+        search(runs, left) if sys.argv[1] == "search" else search_answers(runs, left, [True] if sys.argv[1] == "answer" else [True, False])
     else:
         sys.exit(__doc__)

@@ -84,7 +84,7 @@ module _ (clocks : ClockGoes) (goes : FrameGoes) (setup : NodeSetup) (book : ByT
         pub going : Going (begin + (suc S + n)) (suc S + n) 0 false (Heard (suc (suc last))) Dominant
         pub drives : (q : ℕ) → 1 ≤ q → q ≤ suc S + n → (node clocks setup book levels (begin + q)).drive ≡ Dominant
 
-      answers : (n : ℕ) → suc S + n ≤ B → Answers n
+      pub answers : (n : ℕ) → suc S + n ≤ B → Answers n
       answers zero h =
           let few = book.lengths.ps2_low in
           let here = before S (omega arith) (omega arith) in

@@ -9,6 +9,7 @@ mod Nodes
 mod PlanProofs
 mod Planned
 mod Receiving
+mod Rows
 mod Sending
 mod Silence
 mod Slots

@@ -1,6 +1,7 @@
 -- A bus with one sender from the power-up of all nodes to the acknowledgement of its first frame.
-use Rattle.std.proofs.Common.{◌≡◌, ◌≢◌, ◌∙◌, ◌⊎◌, inl, inr, refl, sym, ap, subst, ℕ, suc, ◌+◌, ◌-◌, ◌<◌, ◌≤◌, [], ◌∷◌, ◌++◌, length, Bool, true, false, cond, Some, None, ◌||◌, arith}
+use Rattle.std.proofs.Common.{◌≡◌, ◌≢◌, ◌∙◌, ◌⊎◌, inl, inr, refl, sym, ap, subst, ℕ, suc, ◌+◌, ◌-◌, ◌*◌, ◌<◌, ◌≤◌, [], ◌∷◌, ◌++◌, length, Bool, true, false, cond, Some, None, ◌||◌, arith}
 use Rattle.std.specs.Prelude.{◌==◌}
+use Rattle.std.proofs.Math.Nat.{mul-le-mul_left, lt_of_mul-lt-mul_left}
 use Rattle.std.proofs.lemmas.Bool.{cases_lt, cases_eq, eq-eqb, ne_eqb}
 use Rattle.wl_level.specs.declared.Level.{Level}
 use Rattle.wl_level.specs.declared.Level.TheVariants.{Dominant, Recessive}
@@ -13,7 +14,8 @@ use Rattle.wl_frame.specs.Laws.{up_to_ack}
 use Rattle.wl_machine.specs.Judged.{awaits_start, stretch_of}
 use Rattle.wl_machine.specs.States.{stretch_by}
 use Rattle.wl_node.specs.History.{history_of, error_count}
-use Rattle.wl_phase.specs.Clocks.{Finds}
+use Rattle.wl_phase.specs.Clocks.{Finds, instant}
+use Rattle.wl_phase.proofs.Callers.{floor_low, floor_high}
 use Rattle.wl_phase.specs.Answer.{HearsAnswer, answer_begin, own_sample}
 use Rattle.wl_plan.specs.Line.{Line}
 use Rattle.wl_plan.specs.Simulation.{level, seen, ran}
@@ -139,7 +141,7 @@ module _ (laws : Laws) (b : SenderBus) (is : IsBus b) (sends : SendsFirst b) (me
   slot_inside : slot_tick < l.stop
   slot_inside =
       let rise = up a is.sender (own_sample (sender_of b) (lengths_of b a) (suc last)) (own_sample (sender_of b) (lengths_of b a) (suc last) + (lengths_of b a).sjw) (omega arith) in
-      let e = ends in
+      let e = ends.sender in
       omega arith
 
   comes_by : (i : ℕ) → (p : IsPlanned i) → begin i + l.delay i a ≤ slot_tick
@@ -413,6 +415,43 @@ module _ (laws : Laws) (b : SenderBus) (is : IsBus b) (sends : SendsFirst b) (me
     acts =
         answering.answer_drive laws.clocks laws.frame (b.setups i) (is.book i there_is) actual b.frame sends.content b.stuffed sends.stuffs h.quantum place.0 place.1 quiet own
 
+    -- and it samples that
+    answered : IsAtStretch b i (stretch_by (Framing None) (up_to_ack b.stuffed))
+    answered =
+        let few = (is.book i there_is).lengths.ps2_low in
+        let done =
+        answering.answers laws.clocks laws.frame (b.setups i) (is.book i there_is) actual b.frame sends.content b.stuffed sends.stuffs h.quantum place.0 place.1 quiet own 0
+        (omega arith) in
+        let quanta = answer + (suc (sample_at (lengths_of b i)) + 0) in
+        let same : seen l i (answer + (suc (sample_at (lengths_of b i)) + 0)) ≡ levels_before actual (answer + (suc (sample_at (lengths_of b i)) + 0)) =
+        seen_by_quanta l i (answer + (suc (sample_at (lengths_of b i)) + 0)) in
+        record {
+          quanta = answer + (suc (sample_at (lengths_of b i)) + 0);
+          inside = λ k less.
+              (let e = is.ticks i k there_is in
+              let rise = up i there_is k (answer + sample_at (lengths_of b i)) (omega arith) in
+              let last_one = sample_inside in
+              omega arith);
+          stretch =
+              ap (λ v. stretch_of (history_of (b.setups i) v).inputs) same ∙ done.going.does.stretch
+              ∙ ap (stretch_by (Framing None)) (frames.own_all laws.frame b.frame sends.content b.stuffed sends.stuffs);
+          fine = ap (λ v. error_count (history_of (b.setups i) v)) same ∙ done.going.does.errors;
+        }
+      where
+        sample_inside : tick i (answer + sample_at (lengths_of b i)) < l.stop
+        sample_inside =
+            let comes_in = comes_by i f.plan in
+            let some = is.causal.delays i a there_is is.sender in
+            let g = begins_at in
+            let c = b.clocks i in
+            let low = floor_low (b.clocks i) (answer + sample_at (lengths_of b i)) in
+            let high = floor_high (b.clocks i) answer (is.steady i there_is).divides in
+            let more : instant (b.clocks i) (answer + sample_at (lengths_of b i)) ≡ instant (b.clocks i) answer + sample_at (lengths_of b i) * (b.clocks i).num = omega arith in
+            let end = ends.others i h.listener in
+            let early : (b.clocks i).den * suc (tick i answer) ≤ (b.clocks i).den * slot_tick = mul-le-mul_left (b.clocks i).den (let n : suc (tick i answer) ≤ slot_tick = omega arith in n) in
+            let m : (b.clocks i).den * tick i (answer + sample_at (lengths_of b i)) < (b.clocks i).den * l.stop = omega arith in
+            lt_of_mul-lt-mul_left (b.clocks i).den m
+
     -- the sender finds nothing up to it
     abbrev own_levels : ℕ → Level
     own_levels k = levels_found l (level l) a k
@@ -499,7 +538,7 @@ module _ (laws : Laws) (b : SenderBus) (is : IsBus b) (sends : SendsFirst b) (me
               (let e = is.ticks a k is.sender in
               let few = m.1 in
               let rise = up a is.sender k (own_sample (sender_of b) (lengths_of b a) (suc last) + (lengths_of b a).sjw) (omega arith) in
-              let end = ends in
+              let end = ends.sender in
               omega arith);
           stretch =
               ap (λ v. stretch_of (history_of (b.setups a) v).inputs) same ∙ done.stretch
@@ -508,4 +547,8 @@ module _ (laws : Laws) (b : SenderBus) (is : IsBus b) (sends : SendsFirst b) (me
         }
 
   pub acknowledged : IsAcknowledged b
-  acknowledged = record { received = received; sent = sent first.0 first.1 }
+  acknowledged = record {
+    received = received;
+    sent = sent first.0 first.1;
+    answered = (first.0, first.1.plan.heard.listener, answered first.0 first.1);
+  }

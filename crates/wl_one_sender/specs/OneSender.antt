@@ -85,10 +85,14 @@ pub record IsInStepWithAll (b : SenderBus) : Type 0 where
   pub apart : (i j : ℕ) → IsListener b i → IsListener b j → i ≢ j → ComesAfterSample (sender_of b) (listener_of b i) (listener_of b j) (b.line.delay i j)
   pub loops : (j : ℕ) → IsListener b j → (b.clocks j).den * b.line.delay j j ≤ sample_at (lengths_of b j) * (b.clocks j).num
 
--- the line ends after the sender's sample of the ACK slot, which is late by the jump width at most
-abbrev pub EndsAfterSlot : SenderBus → Type 0
-EndsAfterSlot b =
-    steady_tick (b.clocks b.sender) (own_sample (sender_of b) (lengths_of b b.sender) (suc (length b.stuffed)) + (lengths_of b b.sender).sjw) < b.line.stop
+-- the tick of the sender's sample of the ACK slot, if nothing moves it
+abbrev pub slot_tick : SenderBus → ℕ
+slot_tick b = steady_tick (b.clocks b.sender) (own_sample (sender_of b) (lengths_of b b.sender) (suc (length b.stuffed)))
+
+-- The line ends after that sample, which is late by the jump width at most, and after so many quanta more of each other node as its sample is in a bit.
+pub record EndsAfterSlot (b : SenderBus) : Type 0 where
+  pub sender : steady_tick (b.clocks b.sender) (own_sample (sender_of b) (lengths_of b b.sender) (suc (length b.stuffed)) + (lengths_of b b.sender).sjw) < b.line.stop
+  pub others : (j : ℕ) → IsListener b j → (b.clocks j).den * slot_tick b + sample_at (lengths_of b j) * (b.clocks j).num ≤ (b.clocks j).den * b.line.stop
 
 -- After so many quanta, all before the end, a node is in this stretch of its machine, and has found no error.
 pub record IsAtStretch (b : SenderBus) (i : ℕ) (s : Stretch) : Type 0 where
@@ -97,7 +101,9 @@ pub record IsAtStretch (b : SenderBus) (i : ℕ) (s : Stretch) : Type 0 where
   pub stretch : stretch_of (history_of (b.setups i) (seen b.line i quanta)).inputs ≡ s
   pub fine : error_count (history_of (b.setups i) (seen b.line i quanta)) ≡ 0
 
--- Each listener has sampled the frame's bits up to the CRC delimiter, and the sender those, and its acknowledgement.
+-- Each listener has sampled the frame's bits up to the CRC delimiter, and the sender those, and its acknowledgement. Some listener, as the first one, has driven and
+-- sampled it (Bosch CAN 2.0 part B, section 3.2.1, ACK field).
 pub record IsAcknowledged (b : SenderBus) : Type 0 where
   pub received : (j : ℕ) → IsListener b j → IsAtStretch b j (stretch_by (Framing None) (b.stuffed ++ Recessive ∷ []))
   pub sent : IsAtStretch b b.sender (stretch_by (Framing (Some b.frame)) (up_to_ack b.stuffed))
+  pub answered : (j : ℕ) × IsListener b j × IsAtStretch b j (stretch_by (Framing None) (up_to_ack b.stuffed))

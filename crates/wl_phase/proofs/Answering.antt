@@ -1,12 +1,13 @@
 -- The instants of an acknowledgement beside those of the sender's quanta.
-use Rattle.std.proofs.Common.{◌≡◌, ◌∙◌, ap, ℕ, zero, suc, ◌+◌, ◌-◌, ◌*◌, ◌<◌, ◌≤◌, arith}
+use Rattle.std.proofs.Common.{◌≡◌, ◌∙◌, inl, inr, ap, ℕ, zero, suc, ◌+◌, ◌-◌, ◌*◌, ◌<◌, ◌≤◌, arith}
+use Rattle.std.proofs.lemmas.Bool.{cases_lt}
 use Rattle.std.proofs.Math.Nat.{mul-le-mul_left, mul-le-mul_right, lt_of_mul-lt-mul_left}
 use Rattle.wl_segments.specs.Lengths.{Lengths, sample_at, bit_quanta}
 use Rattle.wl_sync.specs.Edges.{Seen}
 use Rattle.wl_phase.specs.Clocks.{Finds, steady_tick, instant}
 use Rattle.wl_phase.specs.Ways.{ByTheBook}
 use Rattle.wl_phase.specs.InStep.{Sender, Listener, ClocksAreNear, SamplesBit, bit_parts, quantum_parts, tick_parts, bit_instant, quantum_instant, slower_parts, faster_parts}
-use Rattle.wl_phase.specs.Answer.{ComesInTime, IsAnswered, answer_begin, answer_end, own_sample, own_parts}
+use Rattle.wl_phase.specs.Answer.{ComesInTime, EndsInTime, IsAnswered, answer_begin, answer_end, moved_sample, own_sample, own_parts}
 use Rattle.wl_phase.proofs.Floors.{floor_low, floor_high}
 use Rattle.wl_phase.proofs.Instants.{tick_later, quantum_more}
 
@@ -234,3 +235,70 @@ module _ (s : Sender) (own : Lengths) (j : Listener) (seen : ℕ → Seen) (foun
 
   pub answered : IsAnswered s own j back d k
   answered = record { after = comes_later; before = comes_by; lasts = lasts_for; lasts_early = lasts_before }
+
+  -- the end, beside the sample after the one that it moves
+  after_next : own_instant s j ds dj (own_sample s own (suc (suc d))) ≡ place + A + A + sample_at own * Q
+  after_next =
+      own_more s j ds dj (s.from + suc (suc d) * s.bit_quanta) (sample_at own)
+      ∙ ap (λ n. n + sample_at own * Q) (next_bit s j ds dj (suc d) ∙ ap (λ n. n + A) (next_bit s j ds dj d))
+
+  ends_late : EndsInTime s own j back → answer_end j back k ≤ steady_tick s.clock (own_sample s own (suc (suc d)))
+  ends_late ends =
+      reaches s j ds dj (k + j.lengths.ps2 + bit_quanta j.lengths) back (own_sample s own (suc (suc d)))
+      (let h = begins_by in
+      let end = end_at in
+      let at = after_next in
+      let way = way_is in
+      omega arith)
+
+  -- a bit after the quantum that finds it, and the way to a sample less a quantum
+  ends_early : EndsInTime s own j back → (n : ℕ) → Finds s.clock n (answer_begin j back k) → answer_end j back k ≤ steady_tick s.clock (n + (sample_at own - 1) + bit_quanta own)
+  ends_early ends n finds =
+      reaches s j ds dj (k + j.lengths.ps2 + bit_quanta j.lengths) back (n + (sample_at own - 1) + bit_quanta own)
+      (let here = comes_with n finds.seen in
+      let end = end_at in
+      let all = own_more s j ds dj n (sample_at own - 1) in
+      let more = own_more s j ds dj (n + (sample_at own - 1)) (bit_quanta own) in
+      let bit = bit_is s j ds dj own same in
+      let both : bit_quanta own * Q ≡ sample_at own * Q + own.ps2 * Q = omega arith in
+      let few : tick_parts s j ≤ Q = (let h : s.clock.den * j.clock.den ≤ s.clock.num * j.clock.den = mul-le-mul_right j.clock.den long in omega arith) in
+      let a = book.lengths.prop_low in
+      let b = book.lengths.ps1_low in
+      let three : 3 * Q ≤ sample_at own * Q = mul-le-mul_right Q (let h : 3 ≤ sample_at own = omega arith in h) in
+      let less : (sample_at own - 1) * Q + Q ≡ sample_at own * Q = one_less (sample_at own) Q (omega arith) in
+      let e = ends in
+      omega arith)
+    where
+      comes_with : (n : ℕ) → answer_begin j back k ≤ steady_tick s.clock n → quantum_instant s j (k + j.lengths.ps2) + back * tick_parts s j < own_instant s j ds dj n + tick_parts s j
+      comes_with n h =
+          let high = their_high s j ds dj (k + j.lengths.ps2) in
+          let low = own_low s j ds dj n in
+          let m : tick_parts s j * (steady_tick j.clock (k + j.lengths.ps2) + back) ≤ tick_parts s j * steady_tick s.clock n = mul-le-mul_left (tick_parts s j) h in
+          omega arith
+
+      one_less : (n q : ℕ) → 1 ≤ n → (n - 1) * q + q ≡ n * q
+      one_less n q h = let e : n - 1 + 1 ≡ n = omega arith in let f : (n - 1 + 1) * q ≡ n * q = ap (λ m. m * q) e in omega arith
+
+  pub over : EndsInTime s own j back → (n : ℕ) → Finds s.clock n (answer_begin j back k) → n ≤ own_sample s own (suc d)
+      → answer_end j back k ≤ steady_tick s.clock (moved_sample own (own_sample s own d) n + bit_quanta own)
+  over ends n finds inside =
+      let next : own_sample s own (suc d) ≡ own_sample s own d + bit_quanta own = omega arith in
+      let after : own_sample s own (suc (suc d)) ≡ own_sample s own d + bit_quanta own + bit_quanta own = omega arith in
+      elim (cases_lt (sample_at own - 1) (own_sample s own d + bit_quanta own - n)) [
+        | inl early ↦
+            (let h = ends_early ends n finds in
+            let m : n + (sample_at own - 1) + bit_quanta own + (moved_sample own (own_sample s own d) n - (n + (sample_at own - 1)))
+            ≡ moved_sample own (own_sample s own d) n + bit_quanta own = omega arith in
+            let up = tick_later s.clock (n + (sample_at own - 1) + bit_quanta own) (moved_sample own (own_sample s own d) n - (n + (sample_at own - 1))) ds in
+            let e : steady_tick s.clock (n + (sample_at own - 1) + bit_quanta own + (moved_sample own (own_sample s own d) n - (n + (sample_at own - 1))))
+            ≡ steady_tick s.clock (moved_sample own (own_sample s own d) n + bit_quanta own) = ap (steady_tick s.clock) m in
+            omega arith)
+        | inr late ↦
+            (let h = ends_late ends in
+            let low = book.lengths.sjw_low in
+            let m : own_sample s own (suc (suc d)) + (moved_sample own (own_sample s own d) n - own_sample s own (suc d)) ≡ moved_sample own (own_sample s own d) n + bit_quanta own = omega arith in
+            let up = tick_later s.clock (own_sample s own (suc (suc d))) (moved_sample own (own_sample s own d) n - own_sample s own (suc d)) ds in
+            let e : steady_tick s.clock (own_sample s own (suc (suc d)) + (moved_sample own (own_sample s own d) n - own_sample s own (suc d)))
+            ≡ steady_tick s.clock (moved_sample own (own_sample s own d) n + bit_quanta own) = ap (steady_tick s.clock) m in
+            omega arith)
+      ]

@@ -1,6 +1,6 @@
 -- A node that has sampled a recessive bit which nothing moved, and finds a dominant level up to its next sample.
-use Rattle.std.proofs.Common.{◌≡◌, ◌∙◌, refl, sym, ap, subst, ℕ, zero, suc, ◌+◌, ◌-◌, ◌<◌, ◌≤◌, [], ◌++◌, true, false, cond, Some, None, arith, append-nil}
-use Rattle.std.proofs.lemmas.Bool.{ne_eqb, lt-leb, false_from_ne_true}
+use Rattle.std.proofs.Common.{◌≡◌, ◌∙◌, inl, inr, refl, sym, ap, subst, ℕ, zero, suc, ◌+◌, ◌-◌, ◌<◌, ◌≤◌, [], ◌++◌, true, false, cond, Some, None, arith, append-nil}
+use Rattle.std.proofs.lemmas.Bool.{cases_eq, cases_lt, eq-eqb, ne_eqb, lt-leb, false_from_ne_true}
 use Rattle.wl_level.specs.declared.Level.{Level}
 use Rattle.wl_level.specs.declared.Level.TheVariants.{Dominant, Recessive}
 use Rattle.wl_segments.specs.Lengths.{Lengths, sample_at, bit_quanta}
@@ -13,7 +13,7 @@ use Rattle.wl_sync.specs.Steps.{running_sync}
 use Rattle.wl_sync.specs.Skips.{quanta_before_sample, steady_clock}
 use Rattle.wl_phase.specs.Ways.{ByTheBook, WayLaws, sample_way, way_after, moved_to}
 use Rattle.wl_phase.specs.InStep.{seen_before, sampled_by, samples_from}
-use Rattle.wl_phase.specs.Answer.{FindsDominant, SamplesNext}
+use Rattle.wl_phase.specs.Answer.{FindsDominant, FindsItsEnd, SamplesNext}
 use Rattle.wl_phase.proofs.Steps.{IsValid, Leaves, Passes, none_passes}
 use Rattle.wl_phase.proofs.Edges.{answer_soft, answer_none}
 use Rattle.wl_phase.proofs.Runs.{Goes, valid_after, leaves, sync_is}
@@ -172,3 +172,71 @@ module _ (goes : Goes) (ways : WayLaws) (l : Lengths) (h : ByTheBook l) (seen : 
       let place : suc k + (n - suc k) ≡ n = omega arith in
       let w = subst Waits place (waits (n - suc k) (omega arith)) in
       hold (way (suc n)) (suc n) refl (found w)
+
+  -- after that sample
+  record Ends (i : ℕ) : Type 0 where
+    way : i + way i ≡ sample + bit_quanta l
+    later : sample < i
+    quanta : ℕ
+    place : suc sample + quanta ≡ i
+    none : samples_from l seen (suc sample) quanta ≡ []
+
+  module _ (ends : FindsItsEnd l seen sample) where
+    -- the line goes recessive once
+    no_edge : (i : ℕ) → sample < i → i ≤ sample + bit_quanta l → running_sync (clock i) (seen i) ≡ false
+    no_edge zero above up_to = absurd (omega arith)
+    no_edge (suc i) above up_to = elim (cases_lt (suc i) ends.end) [
+      | inl early ↦ before_dominant (clock (suc i)) (seen (suc i)) ((leaves_at i).level ∙ dominant i (omega arith) (omega arith))
+      | inr over ↦ now_recessive (clock (suc i)) (seen (suc i)) (ends.after (suc i) over up_to)
+    ]
+      where
+        dominant : (i : ℕ) → sample ≤ i → i < ends.end → (seen i).level ≡ Dominant
+        dominant i low below = elim (cases_eq i sample) [
+          | inl here ↦ (let later = moved_later in is.there i (omega arith) (omega arith))
+          | inr apart ↦ ends.before i (omega arith) below
+        ]
+          where
+            moved_later : n ≤ sample
+            moved_later = omega arith
+
+    first_end : Ends (suc sample)
+    first_end =
+        let s = samples_next in
+        let o = ways.only l (seen_before seen sample) (seen sample) Dominant h s.beat in
+        let new : way (suc sample) ≡ bit_quanta l - 1 =
+        (leaves_at sample).way ∙ ap (way_after l (way sample)) o.0 ∙ ap (λ b. cond b (bit_quanta l - 1) (way sample - 1)) (eq-eqb (way sample) 0 o.1) in
+        let low = h.lengths.low in
+        record { way = omega arith; later = omega arith; quanta = 0; place = omega arith; none = refl }
+
+    ending : (m i : ℕ) → way i ≡ m → Ends i → SamplesNext l seen sample (sample + bit_quanta l) Recessive
+    ending zero i e w =
+        let place = w.way in
+        let here : i ≡ sample + bit_quanta l = omega arith in
+        let none = no_edge i w.later (omega arith) in
+        let by_sample = ends.by_sample in
+        let level = ends.after i (omega arith) (omega arith) in
+        subst (λ m. SamplesNext l seen sample m Recessive) here (record {
+          beat = ways.sample l (seen_before seen i) (seen i) h (none_at i none) e ∙ ap Sample level;
+          quanta = w.quanta;
+          place = w.place;
+          first = w.none;
+        })
+    ending (suc m) i e w =
+        let place = w.way in
+        let later = w.later in
+        let none = no_edge i w.later (omega arith) in
+        let down = way_down i none (omega arith) in
+        ending m (suc i) (omega arith) (record {
+          way = omega arith;
+          later = omega arith;
+          quanta = suc w.quanta;
+          place = (let g = w.place in omega arith);
+          none =
+              ap (λ q. samples_from l seen (suc sample) w.quanta ++ sampled_by (beat_of l (seen_before seen q) (seen q))) w.place
+              ∙ ap (λ v. samples_from l seen (suc sample) w.quanta ++ v)
+              (unsampled_by (beat_of l (seen_before seen i) (seen i)) (λ level f. (let o = (ways.only l (seen_before seen i) (seen i) level h f).1 in omega arith)))
+              ∙ append-nil (samples_from l seen (suc sample) w.quanta) ∙ w.none;
+        })
+
+    pub samples_end : SamplesNext l seen sample (sample + bit_quanta l) Recessive
+    samples_end = ending (way (suc sample)) (suc sample) refl first_end

@@ -1,13 +1,13 @@
 -- The sender finds the acknowledgement, and samples it.
 use Rattle.std.proofs.Common.{◌≡◌, inl, inr, sym, ap, subst, ℕ, zero, suc, ◌+◌, ◌-◌, ◌<◌, ◌≤◌, arith}
 use Rattle.std.proofs.lemmas.Bool.{cases_lt}
-use Rattle.wl_level.specs.declared.Level.TheVariants.{Dominant}
+use Rattle.wl_level.specs.declared.Level.TheVariants.{Dominant, Recessive}
 use Rattle.wl_segments.specs.Lengths.{Lengths, sample_at, bit_quanta}
 use Rattle.wl_sync.specs.Edges.{Seen}
 use Rattle.wl_phase.specs.Clocks.{Steady, Finds, steady_tick}
 use Rattle.wl_phase.specs.Ways.{ByTheBook, moved_to}
 use Rattle.wl_phase.specs.InStep.{Sender, Listener}
-use Rattle.wl_phase.specs.Answer.{IsAnswered, HearsAnswer, FindsDominant, answer_begin, answer_end, own_sample}
+use Rattle.wl_phase.specs.Answer.{IsAnswered, HearsAnswer, FindsDominant, FindsItsEnd, answer_begin, answer_end, moved_sample, own_sample}
 use Rattle.wl_phase.proofs.Instants.{tick_later}
 
 module _ (c : Steady) (d : 0 < c.den) where
@@ -41,25 +41,30 @@ module _ (s : Sender) (own : Lengths) (j : Listener) (back d k : ℕ) (seen : �
   next_is : own_sample s own d + bit_quanta own ≡ own_sample s own (suc d)
   next_is = omega arith
 
-  there_at : (n i : ℕ) → Finds s.clock n (answer_begin j back k) → n ≤ own_sample s own d + bit_quanta own → n ≤ i
-      → i ≤ n + moved_to (sample_at own - 1) own.sjw (own_sample s own d + bit_quanta own - n) → (seen i).level ≡ Dominant
-  there_at n i finds inside from up_to = hears.there i (begun (tick_up s.clock ds n i from)) (lasts (own_sample s own d + bit_quanta own - n) (omega arith) up_to)
+  lasts_at : (n i : ℕ) → Finds s.clock n (answer_begin j back k) → n ≤ own_sample s own d + bit_quanta own
+      → i ≤ n + moved_to (sample_at own - 1) own.sjw (own_sample s own d + bit_quanta own - n) → steady_tick s.clock i < answer_end j back k
+  lasts_at n i finds inside up_to = lasts (own_sample s own d + bit_quanta own - n) (omega arith) up_to
     where
-      begun : steady_tick s.clock n ≤ steady_tick s.clock i → answer_begin j back k ≤ steady_tick s.clock i
-      begun up = let f = finds.seen in omega arith
-
       lasts : (w : ℕ) → n + w ≡ own_sample s own d + bit_quanta own → i ≤ n + moved_to (sample_at own - 1) own.sjw w → steady_tick s.clock i < answer_end j back k
       lasts w e below = elim (cases_lt (sample_at own - 1 + own.sjw) w) [
         | inl far ↦ is.lasts_early i (let m = moved_high own w i n book below (omega arith) in let f = next_is in omega arith)
         | inr near ↦ is.lasts n i finds (moved_low own w i n book below near)
       ]
 
-  pub heard : (n : ℕ) × FindsDominant own seen (own_sample s own d) n
+  begun_at : (n i : ℕ) → Finds s.clock n (answer_begin j back k) → n ≤ i → answer_begin j back k ≤ steady_tick s.clock i
+  begun_at n i finds from = let up = tick_up s.clock ds n i from in let f = finds.seen in omega arith
+
+  there_at : (n i : ℕ) → Finds s.clock n (answer_begin j back k) → n ≤ own_sample s own d + bit_quanta own → n ≤ i
+      → i ≤ n + moved_to (sample_at own - 1) own.sjw (own_sample s own d + bit_quanta own - n) → (seen i).level ≡ Dominant
+  there_at n i finds inside from up_to = hears.there i (begun_at n i finds from) (lasts_at n i finds inside up_to)
+
+  pub heard : (n : ℕ) × Finds s.clock n (answer_begin j back k) × FindsDominant own seen (own_sample s own d) n
   heard =
       let by : answer_begin j back k ≤ steady_tick s.clock (own_sample s own d + bit_quanta own) =
       subst (λ i. answer_begin j back k ≤ steady_tick s.clock i) (sym next_is) is.before in
       let r = finder s.clock ds (bit_quanta own) (own_sample s own d) (answer_begin j back k) is.after by in (
         r.0,
+        r.3,
         record {
           clock = hears.clock;
           later = r.1;
@@ -70,3 +75,17 @@ module _ (s : Sender) (own : Lengths) (j : Listener) (back d k : ℕ) (seen : �
           driving = hears.driving r.0 r.3;
         },
       )
+
+  -- and its end within a bit after the sample
+  pub heard_end : (n : ℕ) → Finds s.clock n (answer_begin j back k) → n ≤ own_sample s own d + bit_quanta own
+      → answer_end j back k ≤ steady_tick s.clock (moved_sample own (own_sample s own d) n + bit_quanta own)
+      → ((i : ℕ) → answer_end j back k ≤ steady_tick s.clock i → (seen i).level ≡ Recessive) → FindsItsEnd own seen (moved_sample own (own_sample s own d) n)
+  heard_end n finds inside over silent =
+      let r = finder s.clock ds (bit_quanta own) (moved_sample own (own_sample s own d) n) (answer_end j back k)
+      (lasts_at n (moved_sample own (own_sample s own d) n) finds inside (omega arith)) over in
+      record {
+        end = r.0;
+        by_sample = r.2;
+        before = λ i above below. hears.there i (begun_at n i finds (omega arith)) (r.3.unseen i below);
+        after = λ i from up_to. silent i (let up = tick_up s.clock ds r.0 i from in let here = r.3.seen in omega arith);
+      }

@@ -76,6 +76,21 @@ pub record HearsAnswer (s : Sender) (own : Lengths) (j : Listener) (back d k : �
   pub awaits : (i : ℕ) → Finds s.clock i (answer_begin j back k) → (seen i).awaits ≡ false
   pub driving : (i : ℕ) → Finds s.clock i (answer_begin j back k) → (seen i).driving ≡ false
 
+-- The acknowledgement is over by the sender's sample of the ACK delimiter, though eleven bits' drift makes its end late (Bosch CAN 2.0 part B, section 3.2.1, ACK field).
+abbrev pub EndsInTime : Sender → Lengths → Listener → (back : ℕ) → Type 0
+EndsInTime s own j back = (j.delay + back) * tick_parts s j + 11 * faster_parts s j ≤ sample_at own * own_parts s j
+
+-- the quantum at which a node samples next that has sampled by quantum k, and by quantum n finds an edge
+abbrev pub moved_sample : Lengths → (k n : ℕ) → ℕ
+moved_sample l k n = n + moved_to (sample_at l - 1) l.sjw (k + bit_quanta l - n)
+
+-- Up to a bit after that sample the line goes recessive at some quantum, and stays so.
+pub record FindsItsEnd (l : Lengths) (seen : ℕ → Seen) (m : ℕ) : Type 0 where
+  pub end : ℕ
+  pub by_sample : end ≤ m + bit_quanta l
+  pub before : (i : ℕ) → m < i → i < end → (seen i).level ≡ Dominant
+  pub after : (i : ℕ) → end ≤ i → i ≤ m + bit_quanta l → (seen i).level ≡ Recessive
+
 -- The acknowledgement of listener i is no earlier at listener j, with so many ticks between them, than that one's sample of the bit before: though i begins its bit
 -- before the edge that it follows, ticks are rounded, and nine bits' drift makes i early and j late. In the parts of a tick that the three clocks have.
 abbrev pub ComesAfterSample : Sender → (i j : Listener) → (between : ℕ) → Type 0

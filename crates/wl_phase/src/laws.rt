@@ -1,16 +1,16 @@
 //! Laws of clocks and their edges, each proved as the contract of a function that does nothing.
 
-ghost use Rattle.std.specs.Prelude.{◌≡◌, ℕ, suc, ◌+◌, ◌-◌, ◌*◌, ◌/◌, ◌<◌, ◌≤◌, List, ◌++◌, length};
+ghost use Rattle.std.specs.Prelude.{◌≡◌, ℕ, suc, ◌+◌, ◌*◌, ◌/◌, ◌<◌, ◌≤◌, List, ◌++◌, length};
 ghost use Rattle.wl_level.specs.declared.Level.{Level};
-ghost use Rattle.wl_level.specs.declared.Level.TheVariants.{Dominant};
-ghost use Rattle.wl_phase.specs.Answer.{ComesAfterSample, ComesInTime, FindsDominant, HearsAnswer, IsAnswered, SamplesNext, answer_begin, own_sample};
-ghost use Rattle.wl_segments.specs.Lengths.{Lengths, bit_quanta, sample_at};
+ghost use Rattle.wl_level.specs.declared.Level.TheVariants.{Dominant, Recessive};
+ghost use Rattle.wl_phase.specs.Answer.{ComesAfterSample, ComesInTime, EndsInTime, FindsDominant, FindsItsEnd, HearsAnswer, IsAnswered, SamplesNext, answer_begin, answer_end, moved_sample, own_sample};
+ghost use Rattle.wl_segments.specs.Lengths.{Lengths, bit_quanta};
 ghost use Rattle.wl_sync.specs.Edges.{Seen};
 ghost use Rattle.wl_frame.specs.Laws.{up_to_ack};
 ghost use Rattle.wl_frame.specs.Stuffing.{Stuffs};
-ghost use Rattle.wl_phase.specs.Clocks.{Steady, IsSteady, instant, steady_tick};
+ghost use Rattle.wl_phase.specs.Clocks.{Finds, Steady, IsSteady, instant, steady_tick};
 ghost use Rattle.wl_phase.specs.InStep.{ClocksAreNear, FindsTheFirst, HaveEdges, Listener, Listens, SamplesBit, Sender, SyncsHard};
-ghost use Rattle.wl_phase.specs.Ways.{ByTheBook, PhaseLaws, WayLaws, moved_to};
+ghost use Rattle.wl_phase.specs.Ways.{ByTheBook, PhaseLaws, WayLaws};
 
 /// Law: of a clock with `num / den` ticks per quantum, quantum `k` begins at its instant, rounded down to a tick. So any
 /// `n` quanta take `n * num / den` ticks, by less than one more or less.
@@ -86,7 +86,7 @@ pub fn an_acknowledgement_comes_in_time()
 /// next sample and up to it, samples that level next.
 pub fn the_next_sample_is_dominant()
     ensures { (l : Lengths) (seen : ℕ → Seen) (k n : ℕ) → ByTheBook l → FindsDominant l seen k n
-        → SamplesNext l seen k (n + moved_to (sample_at l - 1) l.sjw (k + bit_quanta l - n)) Dominant }
+        → SamplesNext l seen k (moved_sample l k n) Dominant }
 {
     an_edge_moves_the_sample();
     wl_sync::clock_goes_on();
@@ -112,4 +112,42 @@ pub fn the_sender_samples_the_acknowledgement()
 {
     an_acknowledgement_comes_in_time();
     the_next_sample_is_dominant();
+}
+
+/// Law: the acknowledgement of a listener is over by the sender's sample after the one that it moved, if the way there and
+/// back is no longer than PROP_SEG and PHASE_SEG1 leave beside eleven bits' drift.
+pub fn an_acknowledgement_ends_in_time()
+    ensures { (s : Sender) (own : Lengths) (j : Listener) (seen : ℕ → Seen) (found back d k n : ℕ) → IsSteady s.clock
+        → IsSteady j.clock → ByTheBook own → ByTheBook j.lengths → s.bit_quanta ≡ bit_quanta own → ClocksAreNear s j
+        → ComesInTime s own j back → EndsInTime s own j back → SamplesBit s j seen found d k
+        → Finds s.clock n (answer_begin j back k) → n ≤ own_sample s own (suc d)
+        → answer_end j back k ≤ steady_tick s.clock (moved_sample own (own_sample s own d) n + bit_quanta own) }
+{}
+
+/// Law: a node that samples a dominant bit after an edge, and then finds the line go recessive within a bit, samples
+/// recessive next, a bit after that sample: the end of a dominant level moves nothing.
+pub fn the_sample_after_is_recessive()
+    ensures { (l : Lengths) (seen : ℕ → Seen) (k n : ℕ) → ByTheBook l → FindsDominant l seen k n
+        → FindsItsEnd l seen (moved_sample l k n)
+        → SamplesNext l seen (moved_sample l k n) (moved_sample l k n + bit_quanta l) Recessive }
+{
+    an_edge_moves_the_sample();
+    wl_sync::clock_goes_on();
+}
+
+/// Law: the sender samples the acknowledgement and, a bit later, a recessive ACK delimiter, if the line is silent as soon as
+/// the acknowledgement is over.
+pub fn the_sender_samples_the_delimiter()
+    ensures { (s : Sender) (own : Lengths) (j : Listener) (seen sender_seen : ℕ → Seen) (found back d k : ℕ)
+        → IsSteady s.clock → IsSteady j.clock → ByTheBook own → ByTheBook j.lengths → s.bit_quanta ≡ bit_quanta own
+        → ClocksAreNear s j → ComesInTime s own j back → EndsInTime s own j back → SamplesBit s j seen found d k
+        → HearsAnswer s own j back d k sender_seen
+        → ((i : ℕ) → answer_end j back k ≤ steady_tick s.clock i → (sender_seen i).level ≡ Recessive)
+        → (m : ℕ) × SamplesNext own sender_seen (own_sample s own d) m Dominant
+        × SamplesNext own sender_seen m (m + bit_quanta own) Recessive }
+{
+    an_acknowledgement_comes_in_time();
+    an_acknowledgement_ends_in_time();
+    the_next_sample_is_dominant();
+    the_sample_after_is_recessive();
 }

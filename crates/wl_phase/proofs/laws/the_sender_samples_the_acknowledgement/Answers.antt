@@ -10,8 +10,8 @@ returns c = λ s own j seen sender_seen found back d k sender listener book thei
     let answered = c.an_acknowledgement_comes_in_time.ensures s own j seen found back d k sender listener book their_book same near time is in
     let h = heard s own j back d k sender_seen sender.divides book same answered hears in (
       h.0 + moved_to (sample_at own - 1) own.sjw (own_sample s own d + bit_quanta own - h.0),
-      (let most = moved_most own (own_sample s own d + bit_quanta own) h.0 h.1.inside in
+      (let most = moved_most own (own_sample s own d + bit_quanta own) h.0 h.2.inside in
           let next : own_sample s own (suc d) ≡ own_sample s own d + bit_quanta own = omega arith in
           omega arith),
-      c.the_next_sample_is_dominant.ensures own sender_seen (own_sample s own d) h.0 book h.1,
+      c.the_next_sample_is_dominant.ensures own sender_seen (own_sample s own d) h.0 book h.2,
     )

@@ -1,0 +1,47 @@
+-- Worked clocks and delays: a sender and two listeners, one a hundredth faster and one a hundredth slower.
+use Rattle.std.proofs.Common.{[], arith}
+use Rattle.wl_segments.specs.declared.SyncRules.TheVariants.{Book}
+use Rattle.wl_segments.specs.Lengths.{Lengths}
+use Rattle.wl_phase.specs.InStep.{Sender, Listener, AreNear}
+use Rattle.wl_phase.specs.Answer.{IsInTime, ComesAfterSample, EndsInTime}
+
+-- a bit of 1 + 3 + 3 + 3 quanta with its sample at place 7, and a jump width of 2
+abbrev l : Lengths
+l = record { prop = 3; ps1 = 3; ps2 = 3; sjw = 2; sync = Book }
+
+abbrev s : Sender
+s = record { clock = record { offset = 0; num = 100; den = 1 }; bit_quanta = 10; from = 110; bits = [] }
+
+-- 100 ticks from the sender
+abbrev fast : Listener
+fast = record { clock = record { offset = 0; num = 99; den = 1 }; lengths = l; delay = 100 }
+
+abbrev slow : Listener
+slow = record { clock = record { offset = 0; num = 101; den = 1 }; lengths = l; delay = 100 }
+
+fast_near : AreNear 1000 99 1 l
+fast_near = record { slow = omega arith; fast = omega arith; sample = omega arith }
+
+slow_near : AreNear 1000 101 1 l
+slow_near = record { slow = omega arith; fast = omega arith; sample = omega arith }
+
+-- there and back in 200 ticks: 200 and 10 quanta's drift of 10 ticks are within 7 quanta
+fast_in_time : IsInTime l 1000 100 l 99 1 200
+fast_in_time = record { late = omega arith; early = omega arith; jump = omega arith }
+
+slow_in_time : IsInTime l 1000 100 l 101 1 200
+slow_in_time = record { late = omega arith; early = omega arith; jump = omega arith }
+
+slow_ends : EndsInTime s l slow 100
+slow_ends = omega arith
+
+-- 99 + 2 + 90 ticks early and 707 + 90 + 100 late are within a bit of 990 and the detour of 180
+fast_after : ComesAfterSample s fast slow 80
+fast_after = omega arith
+
+-- 10 ticks farther from the sender, and at the place of the other one, the slow one may sample too late: 1098 ticks are more than 1090
+abbrev far : Listener
+far = record { clock = record { offset = 0; num = 101; den = 1 }; lengths = l; delay = 110 }
+
+fast_too_early : ComesAfterSample s fast far 0 → ⊥
+fast_too_early h = omega arith
