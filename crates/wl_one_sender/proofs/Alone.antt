@@ -1,5 +1,5 @@
 -- What the nodes find where one of them drives the bits of a list, each from a tick to the next one's, and no other drives dominant.
-use Rattle.std.proofs.Common.{◌≡◌, ◌≢◌, ◌∙◌, ◌⊎◌, inl, inr, refl, sym, ap, subst, ℕ, zero, suc, ◌+◌, ◌-◌, ◌<◌, ◌≤◌, List, length, Bool, true, false, ◌&&◌, ◌||◌, arith}
+use Rattle.std.proofs.Common.{◌≡◌, ◌≢◌, ◌∙◌, ◌⊎◌, inl, inr, refl, sym, ap, subst, ℕ, suc, ◌+◌, ◌-◌, ◌<◌, ◌≤◌, List, length, Bool, true, false, ◌&&◌, arith}
 use Rattle.std.specs.Prelude.{nat_le, nat_lt, ◌==◌}
 use Rattle.std.proofs.lemmas.Bool.{both_ways, cases_Bool, cases_lt, cases_eq, and_parts, and_from, and_left, and_right, le-leb, lt-leb, leb-true, lt-ltb, ltb-true, eq-eqb, ne_eqb, false_from_ne_true}
 use Rattle.std.proofs.lemmas.List.{get_or_past}
@@ -8,21 +8,7 @@ use Rattle.wl_level.specs.declared.Level.TheVariants.{Dominant, Recessive}
 use Rattle.wl_level.specs.Levels.{is_dominant, level_of}
 use Rattle.wl_level.specs.Places.{at}
 use Rattle.wl_topology.specs.Driven.{any_below, driven, DrivenLaws}
-
-any_true : (n : ℕ) (test : ℕ → Bool) (b : ℕ) → b < n → test b ≡ true → any_below n test ≡ true
-any_true zero test b less e = absurd (omega arith)
-any_true (suc n) test b less e = elim (cases_eq b n) [
-  | inl here ↦ (let f : test n ≡ true = subst (λ i. test i ≡ true) here e in rw f (or_true (any_below n test)))
-  | inr other ↦ rw (any_true n test b (omega arith) e) refl
-]
-  where
-    or_true : (x : Bool) → (x || true) ≡ true
-    or_true true = refl
-    or_true false = refl
-
-any_false : (n : ℕ) (test : ℕ → Bool) → ((b : ℕ) → b < n → test b ≡ false) → any_below n test ≡ false
-any_false zero test none = refl
-any_false (suc n) test none = rw (any_false n test (λ b less. none b (omega arith)), none n (omega arith)) refl
+use Rattle.wl_topology.proofs.Callers.{any_from, any_none}
 
 -- one node that drives dominant
 pub found_by_one : DrivenLaws → (nodes : ℕ) (delay : ℕ → ℕ → ℕ) (drove : ℕ → ℕ → Bool) (i j t : ℕ) → i < nodes
@@ -75,9 +61,9 @@ module _ (y : List Level) (tick : ℕ → ℕ) (later : (b c : ℕ) → b ≤ c 
           | inl less ↦ less
           | inr past ↦ (let e = get_or_past y b Recessive past in absurd (both_ways (is_dominant (at y b)) (ap is_dominant e) is_so))
         ] in
-        any_true (length y) (is_bit t) b inside (and_from _ _ (and_from _ _ is_so (le-leb (tick b) t low)) (lt-ltb t (tick (suc b)) high)) ∙ sym is_so)
+        any_from (length y) b (is_bit t) inside (and_from _ _ (and_from _ _ is_so (le-leb (tick b) t low)) (lt-ltb t (tick (suc b)) high)) ∙ sym is_so)
     | inr is_not ↦
-        any_false (length y) (is_bit t) (λ c less. elim (cases_eq c b) [
+        any_none (length y) (is_bit t) (λ c less. elim (cases_eq c b) [
           | inl same ↦ subst (λ i. is_bit t i ≡ false) (sym same) (and_left _ _ (and_left _ _ is_not))
           | inr other ↦ none_else t b c low high other
         ]) ∙ sym is_not
@@ -85,7 +71,7 @@ module _ (y : List Level) (tick : ℕ → ℕ) (later : (b c : ℕ) → b ≤ c 
 
   pub sent_before : (t : ℕ) → t < tick 0 → sent t ≡ false
   unfolding sent
-  sent_before t before = any_false (length y) (is_bit t) (λ c less. false_from_ne_true (is_bit t c) (λ e.
+  sent_before t before = any_none (length y) (is_bit t) (λ c less. false_from_ne_true (is_bit t c) (λ e.
       (let p = and_parts _ _ e in
       let q = and_parts _ _ p.0 in
       let begun = leb-true (tick c) t q.1 in
@@ -94,7 +80,7 @@ module _ (y : List Level) (tick : ℕ → ℕ) (later : (b c : ℕ) → b ≤ c 
 
   pub sent_after : (t : ℕ) → tick (length y) ≤ t → sent t ≡ false
   unfolding sent
-  sent_after t after = any_false (length y) (is_bit t) (λ c less. false_from_ne_true (is_bit t c) (λ e.
+  sent_after t after = any_none (length y) (is_bit t) (λ c less. false_from_ne_true (is_bit t c) (λ e.
       (let p = and_parts _ _ e in
       let next = ltb-true t (tick (suc c)) p.1 in
       let up = later (suc c) (length y) less in

@@ -20,7 +20,7 @@ use Rattle.wl_phase.specs.Clocks.{Steady, IsSteady, Finds, steady_tick, instant}
 use Rattle.wl_phase.specs.Ways.{ByTheBook}
 use Rattle.wl_phase.specs.InStep.{Sender, Listener, ClocksAreNear, SamplesBit, arrival}
 use Rattle.wl_phase.specs.Answer.{ComesInTime, ComesAfterSample, HearsAnswer, IsAnswered, SamplesNext, answer_begin, own_sample}
-use Rattle.wl_phase.proofs.Callers.{tick_later, floor_low, floor_high}
+use Rattle.wl_phase.proofs.Callers.{tick_up, floor_low, floor_high}
 use Rattle.wl_plan.specs.Line.{Line}
 use Rattle.wl_plan.specs.SimulationLaws.{SimulationLaws}
 use Rattle.wl_one_sender.specs.Expected.{levels_found}
@@ -52,13 +52,8 @@ pub record Laws : Type 0 where
       → HearsAnswer s own j back d k sender_seen
       → (m : ℕ) × (m ≤ own_sample s own (suc d) + own.sjw) × SamplesNext own sender_seen (own_sample s own d) m Dominant
 
--- a clock's quanta, and a level that comes back by the sample
+-- a level that comes back by the sample
 module _ (c : Steady) (is : IsSteady c) where
-  pub tick_up : (k n : ℕ) → k ≤ n → steady_tick c k ≤ steady_tick c n
-  tick_up k n h =
-      let e : k + (n - k) ≡ n = omega arith in
-      subst (λ i. steady_tick c k ≤ steady_tick c i) e (tick_later c k (n - k) is.divides)
-
   pub comes_back : (k n delay : ℕ) → c.den * delay ≤ n * c.num → steady_tick c k + delay ≤ steady_tick c (k + n)
   comes_back k n delay h =
       let low = floor_low c k in
@@ -104,7 +99,7 @@ module _ (laws : Laws) (b : SenderBus) (is : IsBus b) (sends : SendsFirst b) (me
   begins n = tick a (base n)
 
   pub up : (i : ℕ) → i < l.nodes → (k n : ℕ) → k ≤ n → tick i k ≤ tick i n
-  up i inside k n h = tick_up (b.clocks i) (is.steady i inside) k n h
+  up i inside k n h = tick_up (b.clocks i) (is.steady i inside).divides k n h
 
   pub begins_later : (m n : ℕ) → m ≤ n → begins m ≤ begins n
   begins_later m n h = up a is.sender (base m) (base n) (let e : m * B a ≤ n * B a = mul-le-mul_right (B a) h in omega arith)

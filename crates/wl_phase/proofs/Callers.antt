@@ -4,5 +4,6 @@ pub use Rattle.wl_phase.proofs.Steps.{IsValid, edge_is, none_is, moved_is, late,
 pub use Rattle.wl_phase.proofs.Edges.{late_is, late_over, driving_late, soft_driving, beat_is, answer_not}
 pub use Rattle.wl_phase.proofs.Runs.{Goes, IsSilent, first_silent, valid_after, sync_is}
 pub use Rattle.wl_phase.proofs.Listening.{before_dominant, cases_level, now_recessive}
-pub use Rattle.wl_phase.proofs.Instants.{tick_later, bit_next, quantum_more, unarrived_low, unarrived_from}
+pub use Rattle.wl_phase.proofs.Instants.{bit_next, quantum_more, unarrived_low, unarrived_from}
 pub use Rattle.wl_phase.proofs.Floors.{floor_low, floor_high}
+pub use Rattle.wl_phase.proofs.Hearing.{tick_up}

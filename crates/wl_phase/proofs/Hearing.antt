@@ -11,7 +11,7 @@ use Rattle.wl_phase.specs.Answer.{IsAnswered, HearsAnswer, FindsDominant, FindsI
 use Rattle.wl_phase.proofs.Instants.{tick_later}
 
 module _ (c : Steady) (d : 0 < c.den) where
-  tick_up : (k n : ℕ) → k ≤ n → steady_tick c k ≤ steady_tick c n
+  pub tick_up : (k n : ℕ) → k ≤ n → steady_tick c k ≤ steady_tick c n
   tick_up k n h =
       let e : k + (n - k) ≡ n = omega arith in
       subst (λ i. steady_tick c k ≤ steady_tick c i) e (tick_later c k (n - k) d)
