@@ -3,8 +3,8 @@
 # usage: program.sh PROGRAM
 # - each plan of examples/ with the report beside it, and each of those plans through check, records and candump, which must accept it;
 #   and by 2, 3 and 8 workers over either link
-# - the explanation, the trace and the waveform of each of them as bench/plain.py gives them, and the explanation of a plan with every doubt, and of one whose clocks
-#   change their rates
+# - the explanation, the trace and the waveform of each of them as bench/plain.py gives them, and the explanations of plans with every doubt, by the book and
+#   not, and of one whose clocks change their rates
 # - the log of one plan, as ticks of three lengths have it, and the waveform of one, as ticks of two have it
 # - two nodes with full queues, as bench/plain.py reports them
 # - each row of .ci/refused.txt: the status, the one line on standard error, nothing on standard output but what explain says of it, and the hint
@@ -77,8 +77,9 @@ for page in examples/*.toml "$room/marked.toml"; do
 done
 if command -v chromium > /dev/null; then is "a page in a browser" python3 -B bench/page.py "$program" examples/burst.toml; fi
 
-runs "explain of doubts" .ci/doubts.toml 0 .ci/doubts.explained "$room/none" explain
-runs "explain of rates" .ci/rates.toml 0 .ci/rates.explained "$room/none" explain
+for name in bounds doubts rates; do
+  runs "explain of $name" ".ci/$name.toml" 0 ".ci/$name.explained" "$room/none" explain
+done
 
 for report in examples/*.report; do
   name=$(basename "$report" .report)

@@ -1,7 +1,8 @@
 """What `check` and `explain` write of a plan that can be run, written a second time: two sections of again.py.
 
 Written from crates/wl_setup/specs/Check.antt and crates/wl_explain/specs (Figures, Doubts, Words): a quantum is a fraction of ticks, and what is greatest
-is searched by its own condition. Plans are read as refused.py reads them, and drawn near the borders at which something becomes doubtful.
+is searched by its own condition. The inequalities of the condition, and what lies outside of it, are those of margin.py. Plans are read as refused.py
+reads them, and drawn near the borders at which something becomes doubtful.
 """
 import subprocess
 import sys
@@ -9,6 +10,7 @@ from fractions import Fraction
 from itertools import combinations
 
 sys.dont_write_bytecode = True
+import margin
 import plain
 from again import bit_of, differ, differs, first_not_before, first_of, frame_bits, greatest_ppm, is_tolerated, random_lengths, tick_of
 from refused import Refused, delay_of, lengths_of, rates_of, read
@@ -137,24 +139,45 @@ def idle_from(nodes):
     return max(node.tick(11 * node.quanta) for node in nodes)
 
 
+def timing(node):
+    point = decimals(10_000 * node.sample // node.quanta, 2)
+    return f"node {node.name}: {rate_words(node)} kbit/s, sample point {point} %, quantum {decimals(int(1000 * node.quantum), 3)} ns"
+
+
 def figures(nodes, node, own):
     rest = min(max(borne(node, other) - apart(node, other), 0) for other in nodes)
     way = greatest(lambda time: is_back(node, 2 * time))
     cable = "none" if way < own else f"{way - own} ns, {(way - own) // 5} m at 5 ns a metre"
-    point = decimals(10_000 * node.sample // node.quanta, 2)
-    return (f"node {node.name}: {rate_words(node)} kbit/s, sample point {point} %, quantum {decimals(int(1000 * node.quantum), 3)} ns, "
-            f"tolerance {node.ppm} ppm, left {rest // 2} ppm, cable {cable}")
+    return f"{timing(node)}, tolerance {node.ppm} ppm, left {rest // 2} ppm, cable {cable}"
+
+
+def family_of(top):
+    """The plan of a document as plain.py has it, and the text of margin.py on its family; none without `sync = "book"`, or if a clock has no such rate."""
+    plan, clocks = plain.read_plan(differ().toml_text(top, False).encode() + b"\n"), margin.clocks_of(top)
+    return plan, margin.Text(margin.Family(plan, clocks), 1_000) if top.get("sync") == "book" and margin.are_clocks(clocks) else None
+
+
+def clock_doubts(top, nodes, text):
+    tables = top["node"]
+    if text: yield from text.doubts([node.quantum for node in nodes])
+    elif top.get("sync") == "book": yield margin.NO_CLOCK
+    else:
+        for i, j in sorted(combinations(range(len(nodes)), 2), key=lambda pair: pair[::-1]):
+            trip = delay_of(tables[i], tables[j], top["per"]) + delay_of(tables[j], tables[i], top["per"])
+            yield from pair_doubts(nodes[i], nodes[j], trip)
 
 
 def explain_text(top):
-    nodes, tables, doubts = nodes_of(top), top["node"], []
-    for i, j in sorted(combinations(range(len(nodes)), 2), key=lambda pair: pair[::-1]):
-        trip = delay_of(tables[i], tables[j], top["per"]) + delay_of(tables[j], tables[i], top["per"])
-        doubts += pair_doubts(nodes[i], nodes[j], trip)
+    nodes, tables = nodes_of(top), top["node"]
+    plan, text = family_of(top)
+    doubts = [said.removeprefix("does not hold: ") for said in [margin.outside(plan)] if said]
+    doubts += clock_doubts(top, nodes, text)
     for node in nodes: doubts += node_doubts(node, idle_from(nodes), top["end"])
     for node in nodes:
         if node.queue and top["end"] <= node.tick(last_wanted(node)): doubts.append(f"11 bits and the frames of {node.name} take at least {bits_wanted(node)} bits, beyond the end")
-    return ["doubt: " + said for said in doubts] + [figures(nodes, node, delay_of(table, table, top["per"])) for node, table in zip(nodes, tables)]
+    doubts = ["doubt: " + said for said in doubts]
+    if top.get("sync") == "book": return doubts + [timing(node) for node in nodes] + list(text.searches(2) if text else [])
+    return doubts + [figures(nodes, node, delay_of(table, table, top["per"])) for node, table in zip(nodes, tables)]
 
 
 # ---- Plans near their borders
@@ -217,6 +240,27 @@ def near_rate(rng, top, i, j):
     if node.rates[-1][0] < start: top["node"][i]["rates"].append({"from": start, "num": num, "den": den})
 
 
+def near_margin(rng, top, i, j):
+    """A cable about as long, or tolerances about as wide, as the condition allows for one sender or for any."""
+    top["sync"], one, far = "book", rng.random() < 0.5, max(top["node"], key=lambda table: table["x"])
+    for table in top["node"]:
+        if "quantum" in table or "rates" in table: table["tolerance"] = rng.choice([0, 50, 1000, 3000])
+    try:
+        text = family_of(top)[1]
+    except plain.Fault:
+        return
+    if not text: return
+    longer, wider = margin.longer_cable(text.family, one), margin.wider_tolerance(text.family, one)
+    if rng.random() < 0.5 and longer is not None: far["x"] += longer + rng.choice([0, 1, 2])
+    elif wider is not None:
+        for table in top["node"]: table["tolerance"] = min(100_000, table.get("tolerance", 0) + wider + rng.choice([0, 0, 1]))
+
+
+def some_tolerances(rng, top, i, j):
+    for table in top["node"]:
+        if rng.random() < 0.7: table["tolerance"] = rng.choice([0, 100, 2500, 20_000, 100_000])
+
+
 def wide_jump(rng, top, i, j):
     ps2 = rng.choice([2, 3, 4])
     top["node"][i].update(prop=rng.choice([2, 5, 8]), ps1=rng.choice([4, 6]), ps2=ps2, sjw=rng.choice([ps2, min(4, ps2 + 1)]))
@@ -226,7 +270,7 @@ def other_lengths(rng, top, i, j):
     top["node"][i].update(zip(("prop", "ps1", "ps2", "sjw"), random_lengths(rng)))
 
 
-BORDERS = near_clocks, near_clocks, near_trip, near_cable, near_ready, near_end, near_rate, near_rate, wide_jump, other_lengths
+BORDERS = (near_clocks, near_clocks, near_trip, near_cable, near_ready, near_end, near_rate, near_rate, wide_jump, other_lengths, some_tolerances, near_margin)
 
 
 def bordered_plan(rng):

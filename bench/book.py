@@ -1,5 +1,5 @@
 #!/usr/bin/env python3
-"""The tables of docs/from-the-book.md: settings of the literature as plans, and what `margin` and `explain` say of them.
+"""The tables of docs/from-the-book.md: settings of the literature as plans, and what `margin`, `check` and `explain` say of them.
 
 usage: book.py PROGRAM       the tables
        book.py plan ROW      the plan of a row, by its name
@@ -72,12 +72,12 @@ def spared(margin):
 
 
 def tables(program):
-    print("| Row | there and back, ns | sample, ns | `explain`: tolerance, ppm | `margin` | wider, ppm | cable longer, ns |")
+    print("| Row | there and back, ns | sample, ns | `check`: ppm | `margin` | wider, ppm | cable longer, ns |")
     print("|---|---|---|---|---|---|---|")
     for row in HARTWICH:
-        margin, explain = said(program, "margin", row), said(program, "explain", row)
+        margin, check = said(program, "margin", row), said(program, "check", row)
         name, _, quantum, prop, ps1, _, _, out, into, cable, _ = row
-        words = [f"`{name}`", 2 * (out + into + cable), (1 + prop + ps1) * quantum, found(explain, r"tolerance (\d+) ppm"),
+        words = [f"`{name}`", 2 * (out + into + cable), (1 + prop + ps1) * quantum, found(check, r" ppm (\d+)"),
                  margin.splitlines()[0].split(",")[0], found(margin, r"tolerance:.*?any senders (\d+) ppm"),
                  found(margin, r"cable:.*?any senders (\d+) units")]
         print("| " + " | ".join(map(str, words)) + " |")

@@ -1,9 +1,9 @@
 #!/usr/bin/env python3
 """Compares a program with plain.py on random inputs: standard output, the fault line and the status of all commands but candump.
 
-usage: differ.py PROGRAM [SEED [COUNT [SYNC]]]     the same words give the same inputs; PROGRAM - runs plain.py alone
+usage: differ.py PROGRAM [SEED [COUNT [SYNC [COMMANDS]]]]     the same words give the same inputs; PROGRAM - runs plain.py alone
 SYNC is the key `sync` of every plan: book, after, none (no key), wrong (some other value), mixed (any of these; the default), or
-before (no key, or after). COUNT may be A-B: the inputs from number A up to B.
+before (no key, or after). COUNT may be A-B: the inputs from number A up to B. COMMANDS, parted by commas, are those that are compared; else all.
 
 Prints how many answers agreed, which inputs were refused by which fault, and which rows of the machine, the counters and the bit clock the
 plans reached (listed below). The first input on which the two differ is kept in a file, whose name is printed; the status is then 1.
@@ -433,8 +433,15 @@ def choose_sync(rng, plan, sync):
     return {"sync": sync} | plan if rng.random() < 0.5 else plan | {"sync": sync}
 
 
+def choose_tolerances(rng, plan):
+    """Gives some nodes of some plans the key `tolerance`."""
+    for node in plan["node"] if rng.random() < 0.5 else []:
+        if rng.random() < 0.8: node["tolerance"] = rng.choice([0, 100, 2500, 20_000, 100_000, rng.randrange(6_000)])
+    return plan
+
+
 def plan_input(rng, sync_rng, sync):
-    plan = choose_sync(sync_rng, random_plan(rng), sync)
+    plan = choose_tolerances(sync_rng, choose_sync(sync_rng, random_plan(rng), sync))
     kind = rng.random()
     if kind < 0.65: return toml_text(plan, rng.random() < 0.2).encode() + b"\n"
     plan["end"] = min(plan["end"], clocks_of(plan)[0].get("num", 10**12) * 200)
@@ -497,6 +504,9 @@ BAD_LINES = ["", " ", "E", "E 0 0", "E 0 0 ", "E 0 0 05", "E 00 0 5", "E 0 0 5 "
 # ---- Comparing
 
 
+COMMANDS = "merge", "horizon", "check", "records", "run", "explain", "trace", "vcd"
+
+
 def asked(program, command, text):
     done = subprocess.run([program, command], input=text, capture_output=True)
     return done.stdout, done.stderr, done.returncode
@@ -514,7 +524,7 @@ def once(simulate):
 
 def main():
     program = sys.argv[1]
-    seed, count, sync = (sys.argv[2:] + ["2", "1000", "mixed"][len(sys.argv) - 2:])[:3]
+    seed, count, sync, words = (sys.argv[2:] + ["2", "1000", "mixed", ",".join(COMMANDS)][len(sys.argv) - 2:])[:4]
     first, _, last = count.rpartition("-")
     plain.simulate = once(plain.simulate)
     agreed, differed, faults = Counter(), Counter(), Counter()
@@ -522,7 +532,8 @@ def main():
         rng = random.Random(f"{seed} {number}")
         records = rng.random() < 0.25
         text = record_input(rng) if records else plan_input(rng, random.Random(f"{seed} {number} sync"), sync)
-        for command in ("merge", "horizon") if records else ("check", "records", "run", "explain", "trace", "vcd"):
+        for command in COMMANDS[:2] if records else COMMANDS[2:]:
+            if command not in words.split(","): continue
             out, fault, status = plain.answer(command, text)
             faults[re.sub(r"\b[0-9]+\b", "n", fault[7:-1])] += 1
             if program == "-": continue

@@ -1,12 +1,14 @@
 #!/usr/bin/env python3
-"""The margin of a bus, by an independent program: what `margin` has to write of a plan, from the three inequalities as docs/explain.md has them.
+"""The margin of a bus, by an independent program: what `margin` has to write of a plan, from the three inequalities as docs/margins.md has them.
 
 usage: margin.py [--tick TIME] < PLAN
 
-It reads the plan by plain.py, and takes one sender at a time and any senders by trying all of them.
+It reads the plan by plain.py, and takes one sender at a time and any senders by trying all of them. plain.py takes the inequalities from here for
+`explain`.
 """
 import sys
 from fractions import Fraction
+from functools import lru_cache
 from itertools import product
 from math import ceil, floor
 
@@ -19,16 +21,17 @@ KINDS = DRIFT, LATE, EARLY
 
 
 class Bus:
-    """Times are millionths of a tick, as fractions. `wider` is added to each tolerance, `stretch` is a factor of the cable, `changes` are added to
-    ps1, ps2 and sjw of each node."""
+    """Times are whole: millionths of a tick, each parted as the stretch of the cable wants. `wider` is added to each tolerance, `stretch` is a factor
+    of the cable, `changes` are added to ps1, ps2 and sjw of each node."""
 
     def __init__(self, plan, clocks, senders, wider=0, stretch=Fraction(1), changes=(0, 0, 0)):
         self.plan, self.n = plan, len(plan.nodes)
-        self.sends = senders
+        self.sends, self.parts = senders, stretch.denominator
+        self.tick = T * self.parts
         self.low, self.high = [], []
         for rates, tolerance in clocks:
-            self.low.append(min(num * (T - tolerance - wider) // den for num, den in rates))
-            self.high.append(max(-(num * -(T + tolerance + wider) // den) for num, den in rates))
+            self.low.append(self.parts * min(num * (T - tolerance - wider) // den for num, den in rates))
+            self.high.append(self.parts * max(-(num * -(T + tolerance + wider) // den) for num, den in rates))
         ps1, ps2, sjw = changes
         own = [node.segments for node in plan.nodes]
         self.bit = [1 + s.prop + s.ps1 + ps1 + s.ps2 + ps2 for s in own]
@@ -36,14 +39,17 @@ class Bus:
         self.ps2 = [s.ps2 + ps2 for s in own]
         self.sjw = [s.sjw + sjw for s in own]
         self.jump = [self.sjw[i] * self.low[i] for i in range(self.n)]
-        self.stretch = stretch
-        self.look = [max(0, self.high[i] + T - self.delay(i, i)) for i in range(self.n)]
+        self.times = [[self.delay_by(stretch, a, b) for b in plan.places] for a in plan.places]
+        self.way = lru_cache(None)(self.way_of)
+        self.look = [max(0, self.high[i] + self.tick - self.delay(i, i)) for i in range(self.n)]
         self.early = [self.most_early(i) for i in range(self.n)]
         self.edges = [self.edges_of(i) for i in range(self.n)]
 
+    def delay_by(self, stretch, a, b):
+        return T * (self.parts * (a.out_delay + b.in_delay) + abs(a.x - b.x) * self.plan.per * stretch.numerator)
+
     def delay(self, i, j):
-        a, b = self.plan.places[i], self.plan.places[j]
-        return T * (a.out_delay + abs(a.x - b.x) * self.plan.per * self.stretch + b.in_delay)
+        return self.times[i][j]
 
     def drift(self, i, j):
         return max(0, self.bit[i] * self.high[i] - self.bit[j] * self.low[j])
@@ -51,12 +57,12 @@ class Bus:
     def others(self, *left_out):
         return [k for k in range(self.n) if k not in left_out]
 
-    def way(self, i, j):
+    def way_of(self, i, j):
         d, trips = self.delay, [0]
         for k in self.others(j):
             if k not in self.sends: continue
             if k == i: trips.append(d(i, j) + d(j, i) + (self.look[i] if self.n > 2 else 0))
-            else: trips.append(max(0, d(k, j) + d(j, i) + self.high[i] + T - d(k, i)))
+            else: trips.append(max(0, d(k, j) + d(j, i) + self.high[i] + self.tick - d(k, i)))
         return max(trips) + max([0] + [self.look[w] for w in self.others(i, j)])
 
     def most_early(self, i):
@@ -67,7 +73,7 @@ class Bus:
         ahead = self.early[i] - self.low[i]
         step = self.jump[i] - 10 * max([0] + [self.drift(a, i) for a in self.others(i) if a in self.sends])
         if ahead <= 0: return 0
-        return 14 if step <= 0 else min(14, ceil(Fraction(ahead) / Fraction(step)))
+        return 14 if step <= 0 else min(14, -(-ahead // step))
 
     def apart(self, i, j):
         third = any(a in self.sends for a in self.others(i, j))
@@ -84,11 +90,18 @@ class Bus:
         if kind == LATE:
             way = self.way(i, j)
             return way + min(self.apart(i, j), max(0, self.tour(i, j) - way)) + 11 * max(self.drift(j, w) for w in self.others(j))
-        return self.look[j] + 10 * self.drift(i, j) + min(self.apart(j, i), max(0, self.early[j] - self.delay(j, j))) + T
+        return self.look[j] + 10 * self.drift(i, j) + min(self.apart(j, i), max(0, self.early[j] - self.delay(j, j))) + self.tick
 
     def right(self, kind, i, j):
         if kind == DRIFT: return min(self.jump[i], self.jump[j])
         return (self.sample[i] if kind == LATE else self.ps2[i]) * self.low[i]
+
+
+class Silent(Bus):
+    """A bus on which nobody sends: of no sender nothing takes time."""
+
+    def left(self, kind, i, j):
+        return 0
 
 
 class Family:
@@ -97,6 +110,7 @@ class Family:
         self.senders = [i for i, node in enumerate(plan.nodes) if node.queue]
 
     def buses(self, one, **changes):
+        if one and not self.senders: return [Silent(self.plan, self.clocks, [], **changes)]
         return [Bus(self.plan, self.clocks, senders, **changes) for senders in ([[a] for a in self.senders] if one else [self.senders])]
 
     def sides(self, buses, kind, i, j):
@@ -110,7 +124,7 @@ class Family:
             if left > right: yield kind, i, j, left, right
 
     def reserve(self, one, **changes):
-        """Returns the least that is to spare, below 0 if an inequality fails."""
+        """Returns the least that is to spare, below 0 if an inequality fails. Here the cable isn't stretched."""
         buses = self.buses(one, **changes)
         pairs = [(kind, i, j) for kind, i, j in product(KINDS, range(buses[0].n), range(buses[0].n)) if i != j or kind == LATE]
         return min(right - left for left, right in (self.sides(buses, *pair) for pair in pairs))
@@ -129,6 +143,11 @@ def clocks_of(top):
             rates.append((rate["quantum"] * (T + ppm), T) if "quantum" in rate else (rate["num"], rate["den"]))
         clocks.append((rates, node.get("tolerance", 0)))
     return clocks
+
+
+def are_clocks(clocks):
+    """Whether all these rates are those of a clock."""
+    return all(den <= num <= 2**20 * den for rates, _ in clocks for num, den in rates)
 
 
 def outside(plan):
@@ -155,6 +174,18 @@ def point(number, digits):
     return f"{number // 10**digits}.{number % 10**digits:0{digits}}"
 
 
+def are_unlike(one, other):
+    """Whether two bits differ by more than those of clocks of one nominal rate can."""
+    return floor((max(one, other) - min(one, other)) / min(one, other) * T) > 222_222
+
+
+def strays(clock, end, low, high):
+    """Whether the mean quantum of those before the end is outside of the tolerance, a tick more or less."""
+    run = max(1, clock.quanta_before(end))
+    taken = clock.at(run) - clock.at(0)
+    return floor(Fraction(T * (taken + 1), run)) < low or floor(Fraction(T * (taken - 1), run)) > high
+
+
 class Text:
     def __init__(self, family, tick):
         self.family, self.tick = family, tick
@@ -176,6 +207,24 @@ class Text:
         if i == j: return f"a bit of {a} comes back to it {taken} after it began, and it samples after {there}"
         return f"a bit of {b} comes to {a} up to {taken} after its own began, and {a} samples after {there}"
 
+    def doubts(self, quanta):
+        """Each inequality that fails, for one sender at a time or else for several, and each clock beyond its tolerance, as `explain` says them.
+        Unlike bit rates, by the mean quanta of the nodes, are told in the place of inequalities."""
+        plan, several = self.family.plan, "if several nodes send at once, "
+        bits = [node.segments.bit_quanta() * quantum for node, quantum in zip(plan.nodes, quanta)]
+        asked = [("", self.family.buses(True)), (several, self.family.buses(False))]
+        for i, j in product(range(len(bits)), repeat=2):
+            if are_unlike(bits[i], bits[j]):
+                rates = [point(floor(10**9 / bits[k]), 3) for k in (i, j)]
+                if i < j: yield f"{self.names[i]} and {self.names[j]} have unlike bit rates, {rates[0]} and {rates[1]} kbit/s"
+                continue
+            for kind in KINDS if i != j else (LATE,):
+                fails = [(lead, *self.family.sides(buses, kind, i, j)) for lead, buses in asked]
+                for lead, left, right in [one for one in fails if one[1] > one[2]][:1]:
+                    yield lead + self.failure(kind, i, j, left, right)
+        for node, (_, tolerance), low, high in zip(plan.nodes, self.family.clocks, asked[1][1][0].low, asked[1][1][0].high):
+            if strays(node.clock, plan.end, low, high): yield f"the clock of {node.name} deviates by more than its tolerance of {tolerance} ppm"
+
     def pairs(self, one):
         buses = self.family.buses(one)
         for i, j in product(range(len(self.names)), repeat=2):
@@ -195,8 +244,9 @@ class Text:
         yield from self.pairs(of_any is not None)
         yield from self.searches()
 
-    def searches(self):
-        for name, unit, find in ("cable", " units longer", longer_cable), ("tolerance", " ppm wider", wider_tolerance), ("help", "", first_help):
+    def searches(self, asked=3):
+        searches = ("cable", " units longer", longer_cable), ("tolerance", " ppm wider", wider_tolerance), ("help", "", first_help)
+        for name, unit, find in searches[:asked]:
             one, other = (find(self.family, one) for one in (True, False))
             yield f"{name}: one sender at a time {figure(one, unit)}, any senders {figure(other, unit)}"
 
@@ -219,11 +269,11 @@ def longer_cable(family, one):
     places = [place.x for place in family.plan.places]
     length = max(places) - min(places)
     if not length or not family.plan.per: return None
-    return greatest(lambda n: family.holds(one, stretch=Fraction(length + n, length)), 2**20)
+    return greatest(lambda n: family.holds(one, stretch=Fraction(length + n, length)), (2**20 - length * family.plan.per) // family.plan.per)
 
 
 def wider_tolerance(family, one):
-    return greatest(lambda ppm: family.holds(one, wider=ppm), T - 1)
+    return greatest(lambda ppm: family.holds(one, wider=ppm), 100_000 - max(tolerance for _, tolerance in family.clocks))
 
 
 CHANGES = {
@@ -243,10 +293,13 @@ def first_help(family, one):
     return best[0]
 
 
+NO_CLOCK = "no bound is known: without its ppm a quantum takes less than a tick or more than 1,048,576"
+
+
 def margin_text(text, tick):
-    plan = plain.read_plan(text)
-    said = outside(plan)
-    return said + "\n" if said else "".join(line + "\n" for line in Text(Family(plan, clocks_of(plain.read_toml(text))), tick).lines())
+    plan, clocks = plain.read_plan(text), clocks_of(plain.read_toml(text))
+    said = outside(plan) if are_clocks(clocks) else NO_CLOCK
+    return said + "\n" if said else "".join(line + "\n" for line in Text(Family(plan, clocks), tick).lines())
 
 
 def main():

@@ -938,30 +938,44 @@ def thousandths(number):
     return f"{whole}.{part:03}"
 
 
+def timing(node, quantum):
+    """What each line of figures begins with; a tick is taken for a nanosecond."""
+    segments = node.segments
+    point = 10_000 * segments.sample_at() // segments.bit_quanta()
+    return (f"node {node.name}: {thousandths(10**9 / (segments.bit_quanta() * quantum))} kbit/s, sample point {point // 100}.{point % 100:02} %, "
+            f"quantum {thousandths(1000 * quantum)} ns")
+
+
 def figures(plan, i, quanta):
-    """The line of node i. A way there and back and a quantum have to be over by the sample; a tick is taken for a nanosecond."""
+    """The line of node i without `sync = "book"`. A way there and back and a quantum have to be over by the sample."""
     node, quantum = plan.nodes[i], quanta[i]
     segments, bit = node.segments, node.segments.bit_quanta() * quantum
-    point = 10_000 * segments.sample_at() // segments.bit_quanta()
     left = 2 * segments.greatest_ppm()
     for other, each in zip(plan.nodes, quanta):
         bits = sorted((bit, other.segments.bit_quanta() * each))
         borne = 2 * min(segments.greatest_ppm(), other.segments.greatest_ppm())
         left = min(left, max(0, borne - int((bits[1] - bits[0]) / bits[0] * 1_000_000)))
     cable = int((segments.sample_at() - 1) * quantum / 2) - plan.delay(i, i)
-    return (f"node {node.name}: {thousandths(10**9 / bit)} kbit/s, sample point {point // 100}.{point % 100:02} %, quantum "
-            f"{thousandths(1000 * quantum)} ns, tolerance {segments.greatest_ppm()} ppm, left {left // 2} ppm, cable "
+    return (f"{timing(node, quantum)}, tolerance {segments.greatest_ppm()} ppm, left {left // 2} ppm, cable "
             f"{f'{cable} ns, {cable // 5} m at 5 ns a metre' if cable >= 0 else 'none'}")
 
 
-def explain_text(plan):
-    nodes = range(len(plan.nodes))
+def explain_text(plan, top):
+    """By the inequalities of margin.py with `sync = "book"`, and else by clocks and ways each for itself."""
+    import margin
+    nodes, book = range(len(plan.nodes)), all(node.segments.book for node in plan.nodes)
     quanta = [mean_quantum(node.clock, plan.end) for node in plan.nodes]
-    lines = [line for j in nodes for i in range(j) for line in pair_doubts(plan, i, j, quanta)]
+    clocks, outside = margin.clocks_of(top), margin.outside(plan)
+    text = margin.Text(margin.Family(plan, clocks), 1_000) if book and margin.are_clocks(clocks) else None
+    lines = ["doubt: " + outside.removeprefix("does not hold: ")] if outside else []
+    if not book: lines += [line for j in nodes for i in range(j) for line in pair_doubts(plan, i, j, quanta)]
+    elif not text: lines.append("doubt: " + margin.NO_CLOCK)
+    else: lines += ["doubt: " + said for said in text.doubts(quanta)]
     idle = max(node.clock.at(11 * node.segments.bit_quanta()) for node in plan.nodes)
     lines += [line for node in plan.nodes for line in node_doubts(plan, node, idle)]
     lines += [line for node in plan.nodes for line in room_doubts(plan, node)]
-    return lines + [figures(plan, i, quanta) for i in nodes]
+    if not book: return lines + [figures(plan, i, quanta) for i in nodes]
+    return lines + [timing(node, quantum) for node, quantum in zip(plan.nodes, quanta)] + list(text.searches(2) if text else [])
 
 
 COMMANDS = {
@@ -970,7 +984,7 @@ COMMANDS = {
     "check": lambda text: check_text(read_plan(text)),
     "records": lambda text: records_text(read_plan(text)),
     "run": lambda text: report_text(read_plan(text)),
-    "explain": lambda text: explain_text(read_plan(text)),
+    "explain": lambda text: explain_text(read_plan(text), read_toml(text)),
     "trace": lambda text: trace_text(read_plan(text)),
     "vcd": lambda text: vcd_text(read_plan(text)),
 }

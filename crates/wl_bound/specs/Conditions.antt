@@ -74,6 +74,13 @@ failure_in f s senders inequality None = None
 failure_in f s senders inequality (Some i) =
     failure_at f s senders inequality i (first_place (fails f s senders inequality i) (length f.members))
 
+-- the failure of one pair, if it fails
+abbrev pub pair_failure : Buses → Setting → Senders → Inequality → ℕ → ℕ → Option Failure
+pair_failure f s senders inequality i j =
+    if fails f s senders inequality i j
+    then Some (record { inequality = inequality; node = i; other = j; sides = sides_in f s senders inequality i j })
+    else None
+
 -- the first pair for which it fails, by its first node and then by its second
 abbrev pub failure_of : Buses → Setting → Senders → Inequality → Option Failure
 failure_of f s senders inequality = failure_in f s senders inequality (first_place (fails_at f s senders inequality) (length f.members))

@@ -4,7 +4,7 @@ ghost use Rattle.wl_level.specs.Places.{first_place};
 ghost use Rattle.wl_topology.specs.Driven.{any_below};
 ghost use Rattle.wl_bound.specs.Families.{bus_of, member_at};
 ghost use Rattle.wl_bound.specs.declared.condition.Senders.TheVariants.{One};
-ghost use Rattle.wl_bound.specs.Conditions.{failure_of, fails, fails_at, first_failure_of, is_asked, left_by, left_of, plain, right_of, sides_in};
+ghost use Rattle.wl_bound.specs.Conditions.{failure_of, fails, fails_at, first_failure_of, is_asked, left_by, left_of, plain, right_of, sides_in, pair_failure};
 
 use crate::family::{Family, Setting, Source};
 
@@ -69,6 +69,29 @@ impl Family {
         ensures { result ≡ sides_in self.now plain senders inequality i j }
     {
         self.sides_by(PLAIN, senders, inequality, i, j)
+    }
+
+    /// What goes wrong for nodes `i` and `j` by one inequality. None if it holds for them, or isn't asked of a node and itself.
+    pub fn pair_failure(
+        &self,
+        senders: Senders,
+        inequality: Inequality,
+        i: u8,
+        j: u8,
+    ) -> Option<Failure>
+        requires one { i < length self.now.members }
+        requires other { j < length self.now.members }
+        ensures { result ≡ pair_failure self.now plain senders inequality i j }
+    {
+        if !self.fails(PLAIN, senders, inequality, i, j) {
+            return None;
+        }
+        Some(Failure {
+            inequality,
+            node: i,
+            other: j,
+            sides: self.sides(senders, inequality, i, j),
+        })
     }
 
     /// The first inequality that fails: in their order, and then by the first node and by the second. None if the condition holds.

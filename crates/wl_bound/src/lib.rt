@@ -18,4 +18,4 @@ pub use condition::{Failure, Inequality, Senders, Sides};
 pub use family::{Change, Family, Member};
 pub use laws::{condition_laws, search_laws};
 pub use oscillator::Oscillator;
-pub use verdict::{Outside, Verdict, cause_outside, judge};
+pub use verdict::{Outside, Verdict, cause_outside, first_without_book, judge};

@@ -116,7 +116,7 @@ fn has_frames(node: &NodeSetup) -> bool
 }
 
 /// The first node whose rules of synchronisation aren't the book's.
-fn first_without_book(plan: &Plan) -> Option<u8>
+pub fn first_without_book(plan: &Plan) -> Option<u8>
     requires { IsChecked plan.now }
     ensures { result ≡ first_place (without_book plan.now) (length plan.now.nodes) }
 {

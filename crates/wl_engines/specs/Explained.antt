@@ -5,35 +5,36 @@ use Rattle.wl_device.specs.Devices.{Answer, Writes}
 use Rattle.wl_device.specs.declared.bounded.Ended.{Ended}
 use Rattle.wl_device.specs.declared.bounded.Ended.TheVariants as ended
 use Rattle.wl_device.specs.declared.device.WriteFault.{WriteFault}
-use Rattle.wl_plan.specs.declared.plan.Plan.{Plan}
+use Rattle.wl_setup.specs.declared.bus.Bus.{Bus}
 use Rattle.wl_setup.specs.declared.fault.SetupFault.{SetupFault}
 use Rattle.wl_setup.specs.declared.fault.SetupFault.TheVariants as setup
 use Rattle.wl_setup.specs.Limits.{most_bytes}
-use Rattle.wl_setup.specs.Plans.{after, named_plan_of}
+use Rattle.wl_setup.specs.Plans.{after}
+use Rattle.wl_setup.specs.Buses.{bus_of_text}
 use Rattle.wl_setup.specs.Reading.{text_answer}
+use Rattle.wl_explain.specs.Condition.{IsExplanation}
 use Rattle.wl_explain.specs.Refusals.{IsRefusal, size_words}
-use Rattle.wl_explain.specs.Words.{explain_text}
 use Rattle.wl_engines.specs.declared.fault.RunFault.{RunFault}
 use Rattle.wl_engines.specs.declared.fault.RunFault.TheVariants.{Setup, Write, Memory}
 
--- the plan of a whole text with the names of its nodes, or the text's first fault
-abbrev pub named_answer : List ℕ → Result (Plan × List (List ℕ)) SetupFault
-named_answer text = after (text_answer text) named_plan_of
+-- the bus of a whole text, or the text's first fault
+abbrev pub bus_answer : List ℕ → Result Bus SetupFault
+bus_answer text = after (text_answer text) bus_of_text
 
 module _ {T : Type 0} (takes : T → Answer → T → Type 0) where
   -- these bytes went out, as far as they went
   abbrev pub Said : List ℕ → T → T → Type 0
   Said text t t' = (r : Result (Unit {0}) WriteFault) × Writes takes t text r t'
 
-  -- of a plan that can be run: what is doubtful of it, and the figures of its nodes, under the names of the nodes
+  -- of a plan that can be run: what is doubtful of its bus, and the figures, under the names of the nodes
   abbrev pub WritesDoubts : List ℕ → Result (Unit {0}) WriteFault → T → T → Type 0
   WritesDoubts text r t t' =
-      (plan : Plan) × (names : List (List ℕ)) × (named_answer text ≡ Ok (plan, names)) × Writes takes t (explain_text plan names) r t'
+      (bus : Bus) × (said : List ℕ) × (bus_answer text ≡ Ok bus) × IsExplanation bus said × Writes takes t said r t'
 
   -- of a text that is refused: its first fault, and on it what is wrong and what to change
   abbrev pub TellsRefusal : List ℕ → SetupFault → T → T → Type 0
   TellsRefusal text fault t t' =
-      (fault ≢ setup.Memory) × (named_answer text ≡ Err fault) × (said : List ℕ) × IsRefusal text fault said × Said said t t'
+      (fault ≢ setup.Memory) × (bus_answer text ≡ Err fault) × (said : List ℕ) × IsRefusal text fault said × Said said t t'
 
   -- what was done with a whole text
   abbrev pub ExplainsText : List ℕ → T → T → Result (Unit {0}) RunFault → Type 0

@@ -5,38 +5,38 @@ use Rattle.wl_device.specs.Devices.{Answer, Writes}
 use Rattle.wl_device.specs.declared.bounded.Ended.{Ended}
 use Rattle.wl_device.specs.declared.bounded.Ended.TheVariants as ended
 use Rattle.wl_device.specs.declared.device.WriteFault.{WriteFault}
-use Rattle.wl_explain.specs.Words.{explain_text}
+use Rattle.wl_explain.specs.Condition.{IsExplanation}
 use Rattle.wl_page.specs.Page.{page_of}
-use Rattle.wl_plan.specs.declared.plan.Plan.{Plan}
 use Rattle.wl_report.specs.Report.{report_text}
 use Rattle.wl_serial.specs.Outcome.{outcome_of}
 use Rattle.wl_setup.specs.Check.{IsPlanCheck}
 use Rattle.wl_setup.specs.Limits.{most_bytes}
+use Rattle.wl_setup.specs.declared.bus.Bus.{Bus}
 use Rattle.wl_setup.specs.declared.fault.SetupFault.TheVariants as setup
 use Rattle.wl_views.specs.declared.tick.Tick.{Tick}
 use Rattle.wl_views.specs.Trace.{trace_text}
 use Rattle.wl_views.specs.Vcd.{vcd_text}
-use Rattle.wl_engines.specs.Explained.{named_answer}
+use Rattle.wl_engines.specs.Explained.{bus_answer}
 use Rattle.wl_engines.specs.Ran.{Ran}
 use Rattle.wl_engines.specs.declared.fault.RunFault.{RunFault}
 use Rattle.wl_engines.specs.declared.fault.RunFault.TheVariants.{Setup, Memory}
 
--- the page of a plan with its text: what the other commands write of it, each once and whole, and the text itself
-abbrev pub IsPage : Tick → List ℕ → Plan → List (List ℕ) → List ℕ → Type 0
-IsPage tick text plan names whole =
-    (settings : List ℕ) × IsPlanCheck plan names settings
-    × (whole ≡ page_of (explain_text plan names) settings (report_text (outcome_of plan)) text (trace_text plan names) (vcd_text tick plan names))
+-- the page of a bus with its text: what the other commands write of it, each once and whole, and the text itself
+unfoldable pub IsPage : Tick → List ℕ → Bus → List ℕ → Type 0
+IsPage tick text bus whole =
+    (figures settings : List ℕ) × IsExplanation bus figures × IsPlanCheck bus.plan bus.names settings
+    × (whole ≡ page_of figures settings (report_text (outcome_of bus.plan)) text (trace_text bus.plan bus.names)
+    (vcd_text tick bus.plan bus.names))
 
 module _ {T : Type 0} (takes : T → Answer → T → Type 0) (tick : Tick) (text : List ℕ) (t t' : T) where
-  -- the page of the text's plan went out, as far as it went
+  -- the page of the text's bus went out, as far as it went
   abbrev pub WritesPage : Result (Unit {0}) WriteFault → Type 0
   WritesPage r =
-      (plan : Plan) × (names : List (List ℕ)) × (whole : List ℕ)
-      × (named_answer text ≡ Ok (plan, names)) × IsPage tick text plan names whole × Writes takes t whole r t'
+      (bus : Bus) × (whole : List ℕ) × (bus_answer text ≡ Ok bus) × IsPage tick text bus whole × Writes takes t whole r t'
 
   -- the first fault of the text, which is not out of memory
   abbrev pub RefusesText : RunFault → Type 0
-  RefusesText (Setup fault) = (fault ≢ setup.Memory) × (named_answer text ≡ Err fault)
+  RefusesText (Setup fault) = (fault ≢ setup.Memory) × (bus_answer text ≡ Err fault)
   RefusesText _ = ⊥
 
   -- what was done with a whole text

@@ -5,10 +5,10 @@ use crate::fault::RunFault;
 use std::alloc::Global;
 use wl_device::{Ended, Sink, Source, write_all};
 use wl_explain::{explain_fault, explain_plan, explain_size};
-use wl_setup::{SetupFault, plan_of_bytes, read_bytes};
+use wl_setup::{SetupFault, bus_of_bytes, read_bytes};
 
-/// Reads a plan's text, tests whether the plan can be run, and writes what is doubtful of it, one a line, and the figures of each
-/// node, a line each. Of a plan that is refused it writes what is wrong and what to change, and answers the fault whether or not
+/// Reads a plan's text, tests whether the plan can be run, and writes what is doubtful of it and its bus, one a line, and then the
+/// figures. Of a plan that is refused it writes what is wrong and what to change, and answers the fault whether or not
 /// the writer took all of that.
 ///
 /// The whole output is made before the first write. Where the reader failed, or memory runs out, the writer isn't called;
@@ -36,9 +36,9 @@ pub fn explain_run<R: Source, W: Sink>(
 fn explain_text<W: Sink>(alloc: Global, text: &[u8], writer: &mut W) -> Result<(), RunFault>
     ensures { ExplainsText W.takes text.now writer.old writer.new result }
 {
-    match plan_of_bytes(alloc, text) {
-        Ok((plan, names)) => {
-            let said = explain_plan(alloc, &plan, &names)?;
+    match bus_of_bytes(alloc, text) {
+        Ok(bus) => {
+            let said = explain_plan(alloc, &bus)?;
             write_all(said.as_bytes(), writer)?;
             Ok(())
         }

@@ -1,5 +1,5 @@
 //! A run of a plan as one page.
-ghost use Rattle.std.specs.Prelude.{◌≡◌, IfOk};
+ghost use Rattle.std.specs.Prelude.{◌≡◌, IfOk, length};
 ghost use Rattle.wl_plan.specs.Checked.{IsChecked};
 ghost use Rattle.wl_serial.specs.Outcome.{outcome_of};
 ghost use Rattle.wl_views.specs.Vcd.{vcd_text};
@@ -14,7 +14,7 @@ use wl_page::{Texts, page};
 use wl_plan::Plan;
 use wl_report::report;
 use wl_serial::{Outcome, run_serial};
-use wl_setup::{Names, SetupFault, check_plan, plan_of_bytes, read_bytes};
+use wl_setup::{Bus, Names, SetupFault, bus_of_bytes, check_plan, read_bytes};
 use wl_views::{Tick, trace, vcd};
 
 /// The waveform of a plan's simulation, whole.
@@ -36,18 +36,14 @@ fn wave_of(
     }
 }
 
-/// The page of a plan, whose text is given: its simulation is run once.
-fn page_of_plan(
-    alloc: Global,
-    tick: Tick,
-    text: &[u8],
-    plan: &Plan,
-    names: &Names,
-) -> Result<Vec<u8>, AllocError>
-    requires { IsChecked plan.now }
-    ensures { IfOk result (λ whole. IsPage tick text.now plan.now names.now whole.items) }
+/// The page of a bus, whose text is given: the simulation of its plan is run once.
+fn page_of_bus(alloc: Global, tick: Tick, text: &[u8], bus: &Bus) -> Result<Vec<u8>, AllocError>
+    requires checked { IsChecked bus.now.plan }
+    requires deviations { length bus.now.deviations ≡ length bus.now.plan.nodes }
+    ensures { IfOk result (λ whole. IsPage tick text.now bus.now whole.items) }
 {
-    let figures = explain_plan(alloc, plan, names)?;
+    let figures = explain_plan(alloc, bus)?;
+    let (plan, names) = (&bus.plan, &bus.names);
     let settings = check_plan(alloc, plan, names)?;
     let outcome = run_serial(alloc, plan)?;
     let report = report(alloc, &outcome)?;
@@ -75,8 +71,8 @@ fn page_text<W: Sink>(
 ) -> Result<(), RunFault>
     ensures { PagesText W.takes tick text.now writer.old writer.new result }
 {
-    let (plan, names) = plan_of_bytes(alloc, text)?;
-    let whole = page_of_plan(alloc, tick, text, &plan, &names)?;
+    let bus = bus_of_bytes(alloc, text)?;
+    let whole = page_of_bus(alloc, tick, text, &bus)?;
     write_all(&whole, writer)?;
     Ok(())
 }

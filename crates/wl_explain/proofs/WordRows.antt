@@ -5,7 +5,8 @@ use Rattle.wl_clock.specs.Timing.{tick_of}
 use Rattle.wl_plan.specs.Limits.{most_quanta}
 use Rattle.wl_segments.specs.declared.SyncRules.TheVariants.{After}
 use Rattle.wl_segments.specs.Lengths.{Lengths}
-use Rattle.wl_explain.specs.Words.{thousandths, hundredths, clocks_line, trip_line, jump_line, late_line, early_line, room_words, cable_words, margin_words, timing_words}
+use Rattle.wl_explain.specs.Words.{clocks_line, trip_line, jump_line, late_line, early_line, room_words, cable_words, margin_words, timing_words}
+use Rattle.wl_margin.specs.Pieces.{thousandths, hundredths}
 use Rattle.wl_explain.proofs.DoubtRows.{node}
 
 short : Lengths

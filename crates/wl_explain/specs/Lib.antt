@@ -1,5 +1,6 @@
 pub mod Figures
 pub mod Doubts
 pub mod Words
+pub mod Condition
 pub mod Remedies
 pub mod Refusals

@@ -1,5 +1,5 @@
--- The text of an explanation: doubts first, one a line, and then the figures of each node (this project's profile).
-use Rattle.std.specs.Prelude.{ℕ, zero, suc, ◌/◌, ◌%◌, nat_lt, List, [], ◌∷◌, ◌++◌, codes, length, if◌then◌else◌, Option, Some, None}
+-- The words of an explanation: a line for each doubt, and one for the figures of each node (this project's profile).
+use Rattle.std.specs.Prelude.{ℕ, ◌/◌, nat_lt, List, [], ◌∷◌, ◌++◌, codes, if◌then◌else◌, Option, Some, None}
 use Rattle.std.specs.Fmt.{decimal}
 use Rattle.wl_topology.specs.Delays.{delay_of}
 use Rattle.wl_segments.specs.Lengths.{Lengths}
@@ -7,25 +7,9 @@ use Rattle.wl_node.specs.declared.setup.NodeSetup.{NodeSetup}
 use Rattle.wl_plan.specs.declared.plan.Plan.{Plan}
 use Rattle.wl_plan.specs.PlanLine.{setup_at}
 use Rattle.wl_setup.specs.Names.{name_of}
+use Rattle.wl_margin.specs.Pieces.{joined, each_below, thousandths, hundredths}
 use Rattle.wl_explain.specs.Figures.{mean_quantum, picoseconds, bits_per_second, sample_point, furthest_way, longest_cable, metres, tolerance}
 use Rattle.wl_explain.specs.Doubts.{difference, borne, greatest_difference, left, round_trip, longest_round, wanted_bits, idle_from, first_early, first_late, has_no_room}
-
--- pieces of text, one after another
-abbrev pub joined : List (List ℕ) → List ℕ
-joined [] = []
-joined (piece ∷ more) = piece ++ joined more
-
--- what is said of each number below one, in order
-abbrev pub each_below : (ℕ → List ℕ) → ℕ → List ℕ
-each_below said zero = []
-each_below said (suc n) = each_below said n ++ said n
-
--- a number of thousandths, and one of hundredths
-abbrev pub thousandths : ℕ → List ℕ
-thousandths n = decimal (n / 1000) ++ codes "." ++ decimal (n / 100 % 10) ++ decimal (n / 10 % 10) ++ decimal (n % 10)
-
-abbrev pub hundredths : ℕ → List ℕ
-hundredths n = decimal (n / 100) ++ codes "." ++ decimal (n / 10 % 10) ++ decimal (n % 10)
 
 -- the bit rate of a node in bit/s
 abbrev pub bit_rate : ℕ → NodeSetup → ℕ
@@ -134,11 +118,3 @@ cable_figure plan i =
 
 abbrev pub figures_line : Plan → List (List ℕ) → ℕ → List ℕ
 figures_line plan names i = timing_figures plan names i ++ margin_figures plan i ++ cable_figure plan i
-
--- the whole text: of each pair, by its later node and then by its earlier one, of each node, of the end by node, and then the figures
-abbrev pub explain_text : Plan → List (List ℕ) → List ℕ
-explain_text plan names =
-    each_below (doubts_with plan names) (length plan.topology.places)
-    ++ each_below (node_doubts plan names) (length plan.topology.places)
-    ++ each_below (room_doubts plan names) (length plan.topology.places)
-    ++ each_below (figures_line plan names) (length plan.topology.places)

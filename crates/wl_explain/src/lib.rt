@@ -11,7 +11,9 @@ ghost use Rattle.wl_clock.specs.declared.Rate.{Rate};
 ghost use Rattle.wl_plan.specs.Limits.{most_quanta};
 ghost use Rattle.wl_explain.specs.Figures.{Ratio, IsQuantum, quantum_of, picoseconds, bits_per_second, sample_point, ComesBack, furthest_way, longest_cable, longest_trip, may_take, mean_quantum, metres, quanta_begun, rate_quantum, ticks_of, tolerance};
 
+mod condition;
 mod doubts;
+mod explanation;
 mod laws;
 mod refusal;
 mod remedies;
@@ -21,13 +23,13 @@ pub use doubts::{
     borne, difference, first_early, first_late, has_no_room, idle_from, left, longest_round,
     round_trip, wanted_bits,
 };
+pub use explanation::explain_plan;
 pub use laws::figures_of_the_run;
 pub use refusal::{column_number, explain_fault, explain_size, line_number};
 use std::marker::Model;
 use wl_clock::Clock;
 use wl_plan::MOST_QUANTA;
 use wl_segments::Segments;
-pub use words::explain_plan;
 
 /// The most ticks that a quantum may take.
 const LONGEST_QUANTUM: u64 = 1_048_576;

@@ -1,65 +1,27 @@
-//! The text of an explanation.
+//! The words of an explanation.
 ghost use Rattle.std.specs.Prelude.{◌≡◌, ◌^◌, ◌<◌, ◌++◌, string_bytes, length, OnOk, IfOk};
 ghost use Rattle.wl_plan.specs.Checked.{IsChecked};
 ghost use Rattle.wl_setup.specs.Names.{name_of};
-ghost use Rattle.wl_explain.specs.Words.{apart_words, bit_rate, cable_figure, cable_words, clocks_line, doubts_with, each_below, early_line, explain_text, figures_line, jump_line, jump_words, late_line, margin_figures, margin_words, node_doubts, pair_doubts, room_doubts, room_line, room_words, timing_figures, timing_words, trip_line, trip_words, unlike_words};
+ghost use Rattle.wl_explain.specs.Words.{apart_words, bit_rate, cable_figure, cable_words, clocks_line, doubts_with, early_line, figures_line, jump_line, jump_words, late_line, margin_figures, margin_words, node_doubts, pair_doubts, room_doubts, room_line, room_words, timing_figures, timing_words, trip_line, trip_words, unlike_words};
+ghost use Rattle.wl_margin.specs.Pieces.{each_below};
 
 use crate::doubts::{
     borne, difference, first_early, first_late, has_no_room, idle_from, left, longest_round,
     round_trip, setup, wanted_bits,
 };
 use crate::{Quantum, longest_cable, metres, sample_point, tolerance};
-use std::alloc::{AllocError, Global};
-use std::fmt;
+use std::alloc::AllocError;
+use wl_margin::{Hundredths, Thousandths};
 use wl_node::NodeSetup;
 use wl_plan::Plan;
 use wl_segments::Segments;
 use wl_setup::Names;
 
 /// By how many parts per million clocks of one nominal bit rate can differ: each deviates by a tenth at most.
-const GREATEST_DIFFERENCE: u128 = 222_222;
-
-/// A number of thousandths, shown with a point.
-#[derive(Clone, Copy)]
-struct Thousandths(u64);
-
-impl fmt::Display for Thousandths {
-    ghost use Rattle.std.specs.Prelude.{Some};
-    ghost use Rattle.wl_explain.specs.Words.{thousandths};
-
-    ghost output = { λ n. Some (thousandths n.0) };
-
-    fn fmt<W: fmt::Write>(&self, f: &mut fmt::Formatter<W>) -> fmt::Result {
-        let number = self.0;
-        let whole = number / 1000;
-        let tenth = number / 100 % 10;
-        let hundredth = number / 10 % 10;
-        let thousandth = number % 10;
-        write!(f, "{whole}.{tenth}{hundredth}{thousandth}")
-    }
-}
-
-/// A number of hundredths, shown with a point.
-#[derive(Clone, Copy)]
-struct Hundredths(u64);
-
-impl fmt::Display for Hundredths {
-    ghost use Rattle.std.specs.Prelude.{Some};
-    ghost use Rattle.wl_explain.specs.Words.{hundredths};
-
-    ghost output = { λ n. Some (hundredths n.0) };
-
-    fn fmt<W: fmt::Write>(&self, f: &mut fmt::Formatter<W>) -> fmt::Result {
-        let number = self.0;
-        let whole = number / 100;
-        let tenth = number / 10 % 10;
-        let hundredth = number % 10;
-        write!(f, "{whole}.{tenth}{hundredth}")
-    }
-}
+pub(crate) const GREATEST_DIFFERENCE: u128 = 222_222;
 
 /// The mean bit rate of a node up to tick `end`, in bit/s.
-fn bit_rate(end: u64, node: &NodeSetup) -> u64
+pub(crate) fn bit_rate(end: u64, node: &NodeSetup) -> u64
     requires { end < 2 ^ 48 }
     ensures { result ≡ bit_rate end node.now }
 {
@@ -67,11 +29,17 @@ fn bit_rate(end: u64, node: &NodeSetup) -> u64
 }
 
 /// Adds the line of two nodes with unlike bit rates.
-fn push_unlike(text: &mut String, a: &str, b: &str, one: u64, other: u64) -> Result<(), AllocError>
+pub(crate) fn push_unlike(
+    text: &mut String,
+    a: &str,
+    b: &str,
+    one: u64,
+    other: u64,
+) -> Result<(), AllocError>
     ensures { OnOk result (string_bytes text.new ≡ string_bytes text.old ++ unlike_words a.now b.now one other) }
 {
-    let one = Thousandths(one);
-    let other = Thousandths(other);
+    let one = Thousandths(one as u128);
+    let other = Thousandths(other as u128);
     writeln!(
         text,
         "doubt: {a} and {b} have unlike bit rates, {one} and {other} kbit/s"
@@ -177,7 +145,7 @@ fn push_pairs_of(text: &mut String, plan: &Plan, names: &Names, j: u8) -> Result
 }
 
 /// Adds what is doubtful of all pairs of nodes.
-fn push_pairs(text: &mut String, plan: &Plan, names: &Names) -> Result<(), AllocError>
+pub(crate) fn push_pairs(text: &mut String, plan: &Plan, names: &Names) -> Result<(), AllocError>
     requires { IsChecked plan.now }
     ensures { OnOk result (string_bytes text.new ≡ string_bytes text.old
         ++ each_below (doubts_with plan.now names.now) (length plan.now.topology.places)) }
@@ -251,7 +219,7 @@ fn push_node(text: &mut String, plan: &Plan, names: &Names, i: u8) -> Result<(),
 }
 
 /// Adds what is doubtful of each node.
-fn push_nodes(text: &mut String, plan: &Plan, names: &Names) -> Result<(), AllocError>
+pub(crate) fn push_nodes(text: &mut String, plan: &Plan, names: &Names) -> Result<(), AllocError>
     requires { IsChecked plan.now }
     ensures { OnOk result (string_bytes text.new ≡ string_bytes text.old
         ++ each_below (node_doubts plan.now names.now) (length plan.now.topology.places)) }
@@ -285,7 +253,7 @@ fn push_room_of(text: &mut String, end: u64, a: &str, node: &NodeSetup) -> Resul
 }
 
 /// Adds what is doubtful of the end for each node.
-fn push_room(text: &mut String, plan: &Plan, names: &Names) -> Result<(), AllocError>
+pub(crate) fn push_room(text: &mut String, plan: &Plan, names: &Names) -> Result<(), AllocError>
     requires { IsChecked plan.now }
     ensures { OnOk result (string_bytes text.new ≡ string_bytes text.old
         ++ each_below (room_doubts plan.now names.now) (length plan.now.topology.places)) }
@@ -306,9 +274,9 @@ fn push_timing_words(
 ) -> Result<(), AllocError>
     ensures { OnOk result (string_bytes text.new ≡ string_bytes text.old ++ timing_words a.now rate point quantum) }
 {
-    let rate = Thousandths(rate);
-    let point = Hundredths(point);
-    let quantum = Thousandths(quantum);
+    let rate = Thousandths(rate as u128);
+    let point = Hundredths(point as u128);
+    let quantum = Thousandths(quantum as u128);
     write!(
         text,
         "node {a}: {rate} kbit/s, sample point {point} %, quantum {quantum} ns"
@@ -316,7 +284,12 @@ fn push_timing_words(
 }
 
 /// Adds bit rate, sample point and quantum of node `i`.
-fn push_timing(text: &mut String, plan: &Plan, names: &Names, i: u8) -> Result<(), AllocError>
+pub(crate) fn push_timing(
+    text: &mut String,
+    plan: &Plan,
+    names: &Names,
+    i: u8,
+) -> Result<(), AllocError>
     requires checked { IsChecked plan.now }
     requires node { i < length plan.now.nodes }
     ensures { OnOk result (string_bytes text.new ≡ string_bytes text.old ++ timing_figures plan.now names.now i) }
@@ -381,7 +354,11 @@ fn push_figures(text: &mut String, plan: &Plan, names: &Names, i: u8) -> Result<
 }
 
 /// Adds the figures of all nodes.
-fn push_all_figures(text: &mut String, plan: &Plan, names: &Names) -> Result<(), AllocError>
+pub(crate) fn push_all_figures(
+    text: &mut String,
+    plan: &Plan,
+    names: &Names,
+) -> Result<(), AllocError>
     requires { IsChecked plan.now }
     ensures { OnOk result (string_bytes text.new ≡ string_bytes text.old
         ++ each_below (figures_line plan.now names.now) (length plan.now.topology.places)) }
@@ -390,25 +367,4 @@ fn push_all_figures(text: &mut String, plan: &Plan, names: &Names) -> Result<(),
         push_figures(text, plan, names, i)?;
     }
     Ok(())
-}
-
-/// The explanation of a plan that can be run: what is doubtful of it, one a line, and then the figures of each node, a line each.
-///
-/// Doubtful is, in this order: of each pair of nodes, by the later and then by the earlier, bit rates that no clocks of one nominal
-/// rate can have, clocks further apart than the segments of both bear, and a way there and back for which the earlier sample is too
-/// early; of each node a jump width above PHASE_SEG2, its first frame that becomes ready at the end or later, and its first that
-/// becomes ready before all nodes have counted 11 bits; and of each node an end that leaves no room for its frames. The figures are
-/// bit rate in kbit/s, sample point in per cent, quantum in nanoseconds, tolerance in parts per million, how much of it the other
-/// clocks leave to both nodes of a pair, and the longest cable in nanoseconds along it and in metres at 5 ns each. A quantum is the mean
-/// of those that the node runs before the end. A tick is taken for a nanosecond. Refused out of memory alone.
-pub fn explain_plan(alloc: Global, plan: &Plan, names: &Names) -> Result<String, AllocError>
-    requires { IsChecked plan.now }
-    ensures { IfOk result (λ text. string_bytes text ≡ explain_text plan.now names.now) }
-{
-    let mut text = String::new(alloc);
-    push_pairs(&mut text, plan, names)?;
-    push_nodes(&mut text, plan, names)?;
-    push_room(&mut text, plan, names)?;
-    push_all_figures(&mut text, plan, names)?;
-    Ok(text)
 }

@@ -1,4 +1,5 @@
 mod UnitLemmas
-mod PaceLemmas
-mod Said
+pub mod PaceLemmas
+pub mod Said
 mod Rows
+pub mod Callers

@@ -1,4 +1,4 @@
--- Worked rows of a bus's margin, by the rules of docs/explain.md.
+-- Worked rows of a bus's margin, by the rules of docs/margins.md.
 use Rattle.std.proofs.Common.{◌≡◌, codes, refl}
 use Rattle.std.specs.Fmt.{digits}
 use Rattle.wl_margin.specs.Sentences.{Measure, picoseconds_around, picoseconds_within, quanta_around, quanta_within, spare_words}

@@ -1,2 +1,3 @@
+pub mod Pieces
 pub mod Sentences
 pub mod Margins

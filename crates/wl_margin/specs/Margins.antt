@@ -22,7 +22,7 @@ use Rattle.wl_bound.specs.declared.verdict.Outside.{Outside}
 use Rattle.wl_bound.specs.declared.verdict.Outside.TheVariants.{FewNodes, NoFrames, NotByTheBook, SameIdentifier, NobodyIdle}
 use Rattle.wl_bound.specs.declared.verdict.Verdict.{Verdict}
 use Rattle.wl_bound.specs.declared.verdict.Verdict.TheVariants.{ForAny, ForOne, DoesNotHold, NoBound}
-use Rattle.wl_explain.specs.Words.{joined, each_below}
+use Rattle.wl_margin.specs.Pieces.{joined, each_below}
 use Rattle.wl_margin.specs.declared.found.Found.{Found}
 use Rattle.wl_margin.specs.declared.found.Reach.{Reach}
 use Rattle.wl_margin.specs.Sentences.{measure_of, spare_words, failure_words}
@@ -34,23 +34,32 @@ paces_of (d ∷ later) = option_and_then (λ p. option_map (λ ps. p ∷ ps) (pa
 
 -- frames of one identifier, and a frame that nobody may acknowledge
 abbrev pub shared_words : List ℕ → List ℕ → List ℕ
-shared_words a b =
-    joined (codes "does not hold: " ∷ a ∷ codes " and " ∷ b ∷ codes " have frames of one identifier, which no arbitration parts\n" ∷ [])
+shared_words a b = joined (a ∷ codes " and " ∷ b ∷ codes " have frames of one identifier, which no arbitration parts\n" ∷ [])
 
 abbrev pub unheard_words : List ℕ → List ℕ
 unheard_words a =
-    joined (codes "does not hold: the first frame of " ∷ a
+    joined (codes "the first frame of " ∷ a
     ∷ codes " becomes ready before any other node is idle, and nobody may acknowledge it\n" ∷ [])
 
--- why the condition says nothing of a plan
-abbrev pub outside_words : List (List ℕ) → Outside → List ℕ
-outside_words names FewNodes = codes "does not hold: there is one node, and nobody acknowledges its frames\n"
-outside_words names NoFrames = codes "no bound is known: no node has a frame to send\n"
-outside_words names (NotByTheBook i) =
-    joined (codes "no bound is known: " ∷ name_of names i
+-- what is said of a plan outside of the condition, and why
+abbrev pub outside_lead : Outside → List ℕ
+outside_lead FewNodes = codes "does not hold: "
+outside_lead NoFrames = codes "no bound is known: "
+outside_lead (NotByTheBook i) = codes "no bound is known: "
+outside_lead (SameIdentifier i j) = codes "does not hold: "
+outside_lead (NobodyIdle i) = codes "does not hold: "
+
+abbrev pub outside_reason : List (List ℕ) → Outside → List ℕ
+outside_reason names FewNodes = codes "there is one node, and nobody acknowledges its frames\n"
+outside_reason names NoFrames = codes "no node has a frame to send\n"
+outside_reason names (NotByTheBook i) =
+    joined (name_of names i
     ∷ codes " synchronises after an edge, so it can miss a start of frame or an edge at its sample; for sync = \"book\" one is known\n" ∷ [])
-outside_words names (SameIdentifier i j) = shared_words (name_of names i) (name_of names j)
-outside_words names (NobodyIdle i) = unheard_words (name_of names i)
+outside_reason names (SameIdentifier i j) = shared_words (name_of names i) (name_of names j)
+outside_reason names (NobodyIdle i) = unheard_words (name_of names i)
+
+abbrev pub outside_words : List (List ℕ) → Outside → List ℕ
+outside_words names cause = outside_lead cause ++ outside_reason names cause
 
 -- what is to spare for nodes i and j, by the quantum of node i
 abbrev pub spare_of : ℕ → Buses → Senders → Inequality → ℕ → ℕ → List ℕ
@@ -113,18 +122,28 @@ help_line one any = joined (codes "help: one sender at a time " ∷ one ∷ code
 abbrev pub help_words : Option Change → Option Change → List ℕ
 help_words one any = help_line (change_words one) (change_words any)
 
--- how much longer the cable may be, in units of length, how much wider every tolerance, and which change helps most
-abbrev pub found_words : Found → List ℕ
-found_words found =
-    growth_words (codes "cable") (codes " units longer") found.longer ++ growth_words (codes "tolerance") (codes " ppm wider") found.wider
-    ++ help_words found.help_one found.help_any
+-- how much longer the cable may be, in units of length, and how much wider every tolerance
+abbrev pub reach_words : Reach → Reach → List ℕ
+reach_words longer wider =
+    growth_words (codes "cable") (codes " units longer") longer ++ growth_words (codes "tolerance") (codes " ppm wider") wider
 
 -- the searches found these
+pub record IsReached (f : Buses) (longer wider : Reach) : Type 0 where
+  pub longer_one : IsLongerCable f One longer.one
+  pub longer_any : IsLongerCable f Any longer.any
+  pub wider_one : IsWiderTolerance f One wider.one
+  pub wider_any : IsWiderTolerance f Any wider.any
+
+-- a text with them after it
+abbrev pub TellsReach : Buses → List ℕ → List ℕ → Type 0
+TellsReach f old new = (longer : Reach) × (wider : Reach) × IsReached f longer wider × (new ≡ old ++ reach_words longer wider)
+
+-- these, and which change helps most
+abbrev pub found_words : Found → List ℕ
+found_words found = reach_words found.longer found.wider ++ help_words found.help_one found.help_any
+
 pub record IsFound (f : Buses) (found : Found) : Type 0 where
-  pub longer_one : IsLongerCable f One found.longer.one
-  pub longer_any : IsLongerCable f Any found.longer.any
-  pub wider_one : IsWiderTolerance f One found.wider.one
-  pub wider_any : IsWiderTolerance f Any found.wider.any
+  pub reached : IsReached f found.longer found.wider
   pub help_one : found.help_one ≡ (best_change f One).change
   pub help_any : found.help_any ≡ (best_change f Any).change
 

@@ -8,7 +8,7 @@ use Rattle.wl_bound.specs.declared.condition.Inequality.{Inequality}
 use Rattle.wl_bound.specs.declared.condition.Inequality.TheVariants.{DriftFitsJump, BitIsThereAtSample, NoBitTooEarly}
 use Rattle.wl_bound.specs.declared.condition.Sides.{Sides}
 use Rattle.wl_bound.specs.declared.condition.Failure.{Failure}
-use Rattle.wl_explain.specs.Words.{joined, thousandths, hundredths}
+use Rattle.wl_margin.specs.Pieces.{joined, thousandths, hundredths}
 
 -- how many picoseconds a tick takes, and how many millionths of a tick a quantum
 pub record Measure : Type 0 where

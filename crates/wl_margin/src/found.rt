@@ -1,6 +1,6 @@
 //! What the searches over a family find, and its text.
 ghost use Rattle.std.specs.Prelude.{◌≡◌, ◌++◌, string_bytes, OnOk};
-ghost use Rattle.wl_margin.specs.Margins.{IsFound, change_words, figure_words, found_words, growth_words, help_line, help_words};
+ghost use Rattle.wl_margin.specs.Margins.{IsFound, IsReached, TellsReach, change_words, figure_words, found_words, growth_words, help_line, help_words, reach_words};
 
 use std::alloc::AllocError;
 use std::fmt;
@@ -8,11 +8,11 @@ use wl_bound::{Change, Family, Senders};
 
 /// How far something may grow; `None` if it may not.
 #[derive(Clone, Copy, Debug)]
-pub(crate) struct Reach {
+pub struct Reach {
     /// For one sender at a time.
-    one: Option<u32>,
+    pub one: Option<u32>,
     /// For any senders.
-    any: Option<u32>,
+    pub any: Option<u32>,
 }
 
 /// What the searches find.
@@ -28,19 +28,29 @@ pub(crate) struct Found {
     help_any: Option<Change>,
 }
 
+/// Returns how much longer the cable may be, and how much wider every tolerance.
+fn reaches(family: &Family) -> (Reach, Reach)
+    ensures { IsReached family.now result.0 result.1 }
+{
+    let longer = Reach {
+        one: family.longer_cable(Senders::One),
+        any: family.longer_cable(Senders::Any),
+    };
+    let wider = Reach {
+        one: family.wider_tolerance(Senders::One),
+        any: family.wider_tolerance(Senders::Any),
+    };
+    (longer, wider)
+}
+
 /// Returns what the searches over a family find.
 pub(crate) fn search(family: &Family) -> Found
     ensures { IsFound family.now result }
 {
+    let (longer, wider) = reaches(family);
     Found {
-        longer: Reach {
-            one: family.longer_cable(Senders::One),
-            any: family.longer_cable(Senders::Any),
-        },
-        wider: Reach {
-            one: family.wider_tolerance(Senders::One),
-            any: family.wider_tolerance(Senders::Any),
-        },
+        longer,
+        wider,
         help_one: family.first_help(Senders::One),
         help_any: family.first_help(Senders::Any),
     }
@@ -88,6 +98,14 @@ fn push_growth(text: &mut String, what: &str, unit: &str, reach: Reach) -> Resul
     )
 }
 
+/// Adds the lines of a cable and of tolerances.
+fn push_reach_lines(text: &mut String, longer: Reach, wider: Reach) -> Result<(), AllocError>
+    ensures { OnOk result (string_bytes text.new ≡ string_bytes text.old ++ reach_words longer wider) }
+{
+    push_growth(text, "cable", " units longer", longer)?;
+    push_growth(text, "tolerance", " ppm wider", wider)
+}
+
 /// Returns what a change by a quantum is.
 fn change_words(change: Option<Change>) -> &'static str
     ensures { result.now ≡ change_words change }
@@ -119,7 +137,14 @@ fn push_help(text: &mut String, one: Option<Change>, any: Option<Change>) -> Res
 pub(crate) fn push_found(text: &mut String, found: Found) -> Result<(), AllocError>
     ensures { OnOk result (string_bytes text.new ≡ string_bytes text.old ++ found_words found) }
 {
-    push_growth(text, "cable", " units longer", found.longer)?;
-    push_growth(text, "tolerance", " ppm wider", found.wider)?;
+    push_reach_lines(text, found.longer, found.wider)?;
     push_help(text, found.help_one, found.help_any)
+}
+
+/// Adds how much longer the cable of a family may be, and how much wider every tolerance, a line each.
+pub fn push_reach(text: &mut String, family: &Family) -> Result<(), AllocError>
+    ensures { OnOk result (TellsReach family.now (string_bytes text.old) (string_bytes text.new)) }
+{
+    let (longer, wider) = reaches(family);
+    push_reach_lines(text, longer, wider)
 }

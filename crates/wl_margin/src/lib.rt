@@ -8,4 +8,6 @@ mod numbers;
 mod sentences;
 mod units;
 
-pub use margin::margin_text;
+pub use found::{Reach, push_reach};
+pub use margin::{margin_text, oscillators, push_failure_line, push_reason};
+pub use numbers::{Hundredths, Thousandths};

@@ -6,8 +6,8 @@ ghost use Rattle.wl_bound.specs.Families.{member_at};
 ghost use Rattle.wl_bound.specs.Oscillators.{shortest_of};
 ghost use Rattle.wl_bound.specs.declared.condition.Senders.TheVariants.{Any};
 ghost use Rattle.wl_margin.specs.Sentences.{failure_words, measure_of, signed_words};
-ghost use Rattle.wl_explain.specs.Words.{each_below};
-ghost use Rattle.wl_margin.specs.Margins.{IsFamilyText, IsMarginText, all_pairs, any_failure, failure_line, outside_words, paces_of, pair_line, pair_words, pairs_of, shared_words, spare_of, unheard_words, verdict_words};
+ghost use Rattle.wl_margin.specs.Pieces.{each_below};
+ghost use Rattle.wl_margin.specs.Margins.{IsFamilyText, IsMarginText, all_pairs, any_failure, failure_line, outside_lead, outside_reason, outside_words, paces_of, pair_line, pair_words, pairs_of, shared_words, spare_of, unheard_words, verdict_words};
 
 use crate::found::{push_found, search};
 use crate::sentences::{Spare, push_failure};
@@ -19,7 +19,7 @@ use wl_plan::Plan;
 use wl_setup::{Bus, Deviation, Names};
 
 /// Returns the oscillators of the nodes, if each has rates that make a clock.
-fn oscillators(
+pub fn oscillators(
     alloc: Global,
     deviations: &[Deviation],
 ) -> Result<Option<Listed<Oscillator>>, AllocError>
@@ -35,40 +35,53 @@ fn oscillators(
     Ok(Some(all))
 }
 
-/// Adds the line of two nodes with frames of one identifier.
+/// Adds the reason of two nodes with frames of one identifier.
 fn push_shared(text: &mut String, a: &str, b: &str) -> Result<(), AllocError>
     ensures { OnOk result (string_bytes text.new ≡ string_bytes text.old ++ shared_words a.now b.now) }
 {
     writeln!(
         text,
-        "does not hold: {a} and {b} have frames of one identifier, which no arbitration parts"
+        "{a} and {b} have frames of one identifier, which no arbitration parts"
     )
 }
 
-/// Adds the line of a frame that nobody may acknowledge.
+/// Adds the reason of a frame that nobody may acknowledge.
 fn push_unheard(text: &mut String, a: &str) -> Result<(), AllocError>
     ensures { OnOk result (string_bytes text.new ≡ string_bytes text.old ++ unheard_words a.now) }
 {
     writeln!(
         text,
-        "does not hold: the first frame of {a} becomes ready before any other node is idle, and nobody may acknowledge it"
+        "the first frame of {a} becomes ready before any other node is idle, and nobody may acknowledge it"
     )
 }
 
-/// Adds why the condition says nothing of a plan.
-fn push_outside(text: &mut String, names: &Names, cause: Outside) -> Result<(), AllocError>
-    ensures { OnOk result (string_bytes text.new ≡ string_bytes text.old ++ outside_words names.now cause) }
+/// Returns what is said of a plan outside of the condition.
+fn outside_lead(cause: Outside) -> &'static str
+    ensures { result.now ≡ outside_lead cause }
+{
+    match cause {
+        Outside::FewNodes => "does not hold: ",
+        Outside::NoFrames => "no bound is known: ",
+        Outside::NotByTheBook(_) => "no bound is known: ",
+        Outside::SameIdentifier(_, _) => "does not hold: ",
+        Outside::NobodyIdle(_) => "does not hold: ",
+    }
+}
+
+/// Adds why a plan lies outside of the condition, and ends the line.
+pub fn push_reason(text: &mut String, names: &Names, cause: Outside) -> Result<(), AllocError>
+    ensures { OnOk result (string_bytes text.new ≡ string_bytes text.old ++ outside_reason names.now cause) }
 {
     match cause {
         Outside::FewNodes => text.push_str(
-            "does not hold: there is one node, and nobody acknowledges its frames\n",
+            "there is one node, and nobody acknowledges its frames\n",
         ),
-        Outside::NoFrames => text.push_str("no bound is known: no node has a frame to send\n"),
+        Outside::NoFrames => text.push_str("no node has a frame to send\n"),
         Outside::NotByTheBook(i) => {
             let a = names.name_of(i as usize);
             writeln!(
                 text,
-                "no bound is known: {a} synchronises after an edge, so it can miss a start of frame or an edge at its sample; for sync = \"book\" one is known"
+                "{a} synchronises after an edge, so it can miss a start of frame or an edge at its sample; for sync = \"book\" one is known"
             )
         }
         Outside::SameIdentifier(i, j) => {
@@ -76,6 +89,14 @@ fn push_outside(text: &mut String, names: &Names, cause: Outside) -> Result<(), 
         }
         Outside::NobodyIdle(i) => { push_unheard(text, names.name_of(i as usize)) }
     }
+}
+
+/// Adds what is said of a plan outside of the condition, and why.
+fn push_outside(text: &mut String, names: &Names, cause: Outside) -> Result<(), AllocError>
+    ensures { OnOk result (string_bytes text.new ≡ string_bytes text.old ++ outside_words names.now cause) }
+{
+    text.push_str(outside_lead(cause))?;
+    push_reason(text, names, cause)
 }
 
 /// Returns the shortest quantum of node `i` in millionths of a tick; a tick for a node that isn't there.
@@ -220,8 +241,8 @@ fn push_told(
     push_failure(text, units(family, tick, failure.node), names, failure)
 }
 
-/// Adds some words, and after them what goes wrong.
-fn push_failure_line(
+/// Adds some words, after them what goes wrong in the units of a tick of so many picoseconds, and ends the line.
+pub fn push_failure_line(
     text: &mut String,
     family: &Family,
     names: &Names,

@@ -3,11 +3,11 @@ use std::fmt;
 
 /// A number of thousandths, shown with a point: 1500 as 1.500.
 #[derive(Clone, Copy)]
-pub(crate) struct Thousandths(pub(crate) u128);
+pub struct Thousandths(pub u128);
 
 impl fmt::Display for Thousandths {
     ghost use Rattle.std.specs.Prelude.{Some};
-    ghost use Rattle.wl_explain.specs.Words.{thousandths};
+    ghost use Rattle.wl_margin.specs.Pieces.{thousandths};
 
     ghost output = { λ n. Some (thousandths n.0) };
 
@@ -23,11 +23,11 @@ impl fmt::Display for Thousandths {
 
 /// A number of hundredths, shown with a point: 150 as 1.50.
 #[derive(Clone, Copy)]
-pub(crate) struct Hundredths(pub(crate) u128);
+pub struct Hundredths(pub u128);
 
 impl fmt::Display for Hundredths {
     ghost use Rattle.std.specs.Prelude.{Some};
-    ghost use Rattle.wl_explain.specs.Words.{hundredths};
+    ghost use Rattle.wl_margin.specs.Pieces.{hundredths};
 
     ghost output = { λ n. Some (hundredths n.0) };
 

@@ -1,5 +1,6 @@
 use Rattle.std.proofs.Common.{◌≡◌, ◌++◌, string_bytes}
-use Rattle.wl_explain.specs.Words.{each_below, figures_line}
+use Rattle.wl_explain.specs.Words.{figures_line}
+use Rattle.wl_margin.specs.Pieces.{each_below}
 use Rattle.wl_explain.proofs.words.push_all_figures.Given as goal
 
 -- the figures so far come after the text

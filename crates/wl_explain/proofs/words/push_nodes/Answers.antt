@@ -1,6 +1,6 @@
 use Rattle.std.proofs.Common.{string_bytes}
 use Rattle.wl_explain.specs.Words.{node_doubts}
-use Rattle.wl_explain.proofs.Callers.{each_more}
+use Rattle.wl_margin.proofs.Callers.{each_more}
 use Rattle.wl_explain.proofs.words.push_nodes.Goals as goal
 
 pub loop-i-preserved : goal.loop-i-preserved

@@ -1,5 +1,5 @@
 use Rattle.std.proofs.Common.{string_bytes}
-use Rattle.wl_explain.proofs.Callers.{grown_ok}
+use Rattle.wl_margin.proofs.Callers.{grown_ok}
 use Rattle.wl_explain.proofs.words.push_pair.Goals as goal
 
 pub returns : goal.returns

@@ -1,5 +1,6 @@
 use Rattle.std.proofs.Common.{◌≡◌, ◌++◌, string_bytes}
-use Rattle.wl_explain.specs.Words.{doubts_with, each_below}
+use Rattle.wl_explain.specs.Words.{doubts_with}
+use Rattle.wl_margin.specs.Pieces.{each_below}
 use Rattle.wl_explain.proofs.words.push_pairs.Given as goal
 
 -- the doubts so far come after the text

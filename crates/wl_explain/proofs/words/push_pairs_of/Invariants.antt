@@ -1,5 +1,6 @@
 use Rattle.std.proofs.Common.{◌≡◌, ◌++◌, string_bytes}
-use Rattle.wl_explain.specs.Words.{each_below, pair_doubts}
+use Rattle.wl_explain.specs.Words.{pair_doubts}
+use Rattle.wl_margin.specs.Pieces.{each_below}
 use Rattle.wl_explain.proofs.words.push_pairs_of.Given as goal
 
 -- the doubts so far come after the text

@@ -1,6 +1,6 @@
 use Rattle.std.proofs.Common.{string_bytes}
 use Rattle.wl_margin.specs.Margins.{pair_words}
-use Rattle.wl_explain.proofs.Callers.{each_more}
+use Rattle.wl_margin.proofs.Callers.{each_more}
 use Rattle.wl_margin.proofs.margin.push_pairs_of.Goals as goal
 
 pub loop-j-preserved : goal.loop-j-preserved

@@ -1,5 +1,5 @@
 use Rattle.std.proofs.Common.{◌≡◌, ◌++◌, string_bytes}
-use Rattle.wl_explain.specs.Words.{each_below}
+use Rattle.wl_margin.specs.Pieces.{each_below}
 use Rattle.wl_margin.specs.Margins.{pair_words}
 use Rattle.wl_margin.proofs.margin.push_pairs_of.Given as goal
 

@@ -1,5 +1,5 @@
 use Rattle.std.proofs.Common.{string_bytes}
-use Rattle.wl_explain.proofs.Callers.{grown_ok, grown_twice}
+use Rattle.wl_margin.proofs.Callers.{grown_ok, grown_twice}
 use Rattle.wl_margin.proofs.margin.push_verdict.Goals as goal
 
 pub returns-in_ok-push_str-in-ForAny : goal.returns-in_ok-push_str-in-ForAny

@@ -1,15 +1,24 @@
 use Rattle.std.proofs.Common.{◌∙◌, ap, string_bytes}
 use Rattle.wl_report.specs.Report.{report_text}
+use Rattle.wl_engines.specs.Paged.{IsPage}
 use Rattle.wl_engines.proofs.PageProofs.{ok_so, same_page}
-use Rattle.wl_engines.proofs.run_page.page_of_plan.Goals as goal
+use Rattle.wl_engines.proofs.run_page.page_of_bus.Goals as goal
 
 -- each text is that of its definition
 pub returns : goal.returns
+unfolding IsPage
 returns c =
-    let figures = c.as_bytes.ensures.value ∙ c.in_ok-figures.ensures in
+    let figures = c.as_bytes.ensures.value in
     let settings = c.as_bytes-2.ensures.value in
     let report = c.deref.ensures.value ∙ (c.in_ok-report.ensures ∙ ap report_text c.in_ok-outcome.ensures) in
     let trace = c.deref-2.ensures.value ∙ c.in_ok-trace.ensures in
     let wave = c.deref-3.ensures.value ∙ c.in_ok-wave.ensures in
     let same = same_page c.args.text.now figures settings report trace wave in
-    ok_so c.page.result (λ whole is. (string_bytes c.in_ok-settings.settings, c.in_ok-settings.ensures, is ∙ same)) c.page.ensures
+    ok_so c.page.result
+    (λ whole is. (
+      string_bytes c.in_ok-figures.figures,
+      string_bytes c.in_ok-settings.settings,
+      c.in_ok-figures.ensures,
+      c.in_ok-settings.ensures,
+      is ∙ same,
+    )) c.page.ensures

@@ -1,7 +1,7 @@
 -- For crates above: a text that grows by one piece of what is said after another.
 use Rattle.std.proofs.Common.{◌≡◌, ◌∙◌, ap, ℕ, suc, ◌+◌, List, ◌++◌, append_assoc, arith, Result, OnOk}
 use Rattle.std.proofs.lemmas.Result.{on_ok_weaker}
-use Rattle.wl_explain.specs.Words.{each_below}
+use Rattle.wl_margin.specs.Pieces.{each_below}
 
 -- by one piece and then by another
 pub grown : (old mid new p q : List ℕ) → mid ≡ old ++ p → new ≡ mid ++ q → new ≡ old ++ (p ++ q)

@@ -1,7 +1,7 @@
 use Rattle.std.proofs.Common.{ap, ap₂, string_bytes}
 use Rattle.wl_margin.specs.Margins.{shared_words, unheard_words}
 use Rattle.wl_margin.proofs.Said.{said}
-use Rattle.wl_margin.proofs.margin.push_outside.Goals as goal
+use Rattle.wl_margin.proofs.margin.push_reason.Goals as goal
 
 pub returns-in-SameIdentifier : goal.returns-in-SameIdentifier
 returns-in-SameIdentifier c =

@@ -1,0 +1,9 @@
+use Rattle.std.proofs.Common.{string_bytes}
+use Rattle.wl_explain.specs.Condition.{lines_of}
+use Rattle.wl_margin.proofs.Callers.{each_more}
+use Rattle.wl_explain.proofs.condition.push_lines.Goals as goal
+
+pub loop-i-preserved : goal.loop-i-preserved
+loop-i-preserved c =
+    each_more (lines_of c.args.family.now c.args.plan.now c.args.names.now) c.loop-i.i (string_bytes c.args.text.now) (string_bytes c.loop-i.text) (string_bytes c.push_lines_of.new.text)
+    c.loop-i.invariant c.in_ok-push_lines_of.ensures

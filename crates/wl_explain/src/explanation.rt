@@ -1,0 +1,171 @@
+//! The text of an explanation.
+ghost use Rattle.std.specs.Prelude.{◌≡◌, ◌<◌, ◌++◌, string_bytes, length, IfOk, IfSome, OnOk};
+ghost use Rattle.wl_plan.specs.Checked.{IsChecked};
+ghost use Rattle.wl_explain.specs.Condition.{IsExplanation, TellsFigures, clock_doubts, doubt_lead, doubts_text, family_in, outside_line, rest_doubts, timing_line, timing_lines};
+
+use crate::condition::push_family;
+use crate::words::{push_all_figures, push_nodes, push_pairs, push_room, push_timing};
+use std::alloc::{AllocError, Global};
+use wl_bound::{Family, Outside, cause_outside, first_without_book};
+use wl_margin::{oscillators, push_reach, push_reason};
+use wl_plan::Plan;
+use wl_setup::{Bus, Names};
+
+/// Returns whether a plan outside of the condition is doubtful, or no bound is known for it.
+fn doubt_lead(cause: Outside) -> &'static str
+    ensures { result.now ≡ doubt_lead cause }
+{
+    match cause {
+        Outside::FewNodes => "doubt: ",
+        Outside::NoFrames => "doubt: no bound is known: ",
+        Outside::NotByTheBook(_) => "doubt: no bound is known: ",
+        Outside::SameIdentifier(_, _) => "doubt: ",
+        Outside::NobodyIdle(_) => "doubt: ",
+    }
+}
+
+/// Adds what lies outside of the condition.
+fn push_outside(text: &mut String, names: &Names, cause: Option<Outside>) -> Result<(), AllocError>
+    ensures { OnOk result (string_bytes text.new ≡ string_bytes text.old ++ outside_line names.now cause) }
+{
+    match cause {
+        Some(cause) => {
+            text.push_str(doubt_lead(cause))?;
+            push_reason(text, names, cause)
+        }
+        None => Ok(()),
+    }
+}
+
+/// Adds what is doubtful of clocks and ways.
+fn push_clock_doubts(
+    text: &mut String,
+    plan: &Plan,
+    names: &Names,
+    other: Option<u8>,
+    family: &Option<Family>,
+) -> Result<(), AllocError>
+    requires checked { IsChecked plan.now }
+    requires nodes { IfSome family.now (λ f. length f.members ≡ length plan.now.nodes) }
+    ensures { OnOk result (string_bytes text.new ≡ string_bytes text.old
+        ++ clock_doubts plan.now names.now other family.now) }
+{
+    match (other, family) {
+        (Some(_), _) => push_pairs(text, plan, names),
+        (None, Some(family)) => push_family(text, family, plan, names),
+        (None, None) => text.push_str(
+            "doubt: no bound is known: without its ppm a quantum takes less than a tick or more than 1,048,576\n",
+        ),
+    }
+}
+
+/// Adds what is doubtful of each node, and of the end for each.
+fn push_rest(text: &mut String, plan: &Plan, names: &Names) -> Result<(), AllocError>
+    requires { IsChecked plan.now }
+    ensures { OnOk result (string_bytes text.new ≡ string_bytes text.old ++ rest_doubts plan.now names.now) }
+{
+    push_nodes(text, plan, names)?;
+    push_room(text, plan, names)
+}
+
+/// Adds all doubts.
+fn push_doubts(
+    text: &mut String,
+    plan: &Plan,
+    names: &Names,
+    other: Option<u8>,
+    family: &Option<Family>,
+) -> Result<(), AllocError>
+    requires checked { IsChecked plan.now }
+    requires nodes { IfSome family.now (λ f. length f.members ≡ length plan.now.nodes) }
+    ensures { OnOk result (string_bytes text.new ≡ string_bytes text.old
+        ++ doubts_text plan.now names.now other family.now) }
+{
+    push_outside(text, names, cause_outside(plan))?;
+    push_clock_doubts(text, plan, names, other, family)?;
+    push_rest(text, plan, names)
+}
+
+/// Adds bit rate, sample point and quantum of node `i`, a line.
+fn push_timing_line(text: &mut String, plan: &Plan, names: &Names, i: u8) -> Result<(), AllocError>
+    requires checked { IsChecked plan.now }
+    requires node { i < length plan.now.nodes }
+    ensures { OnOk result (string_bytes text.new ≡ string_bytes text.old ++ timing_line plan.now names.now i) }
+{
+    push_timing(text, plan, names, i)?;
+    text.push_str("\n")
+}
+
+/// Adds those of all nodes.
+fn push_timing_lines(text: &mut String, plan: &Plan, names: &Names) -> Result<(), AllocError>
+    requires { IsChecked plan.now }
+    ensures { OnOk result (string_bytes text.new ≡ string_bytes text.old ++ timing_lines plan.now names.now) }
+{
+    for i in 0..plan.topology.nodes() {
+        push_timing_line(text, plan, names, i)?;
+    }
+    Ok(())
+}
+
+/// Adds the figures.
+fn push_figures_of(
+    text: &mut String,
+    plan: &Plan,
+    names: &Names,
+    other: Option<u8>,
+    family: &Option<Family>,
+) -> Result<(), AllocError>
+    requires { IsChecked plan.now }
+    ensures { OnOk result (TellsFigures plan.now names.now other family.now
+        (string_bytes text.old) (string_bytes text.new)) }
+{
+    if other.is_some() {
+        return push_all_figures(text, plan, names);
+    }
+    push_timing_lines(text, plan, names)?;
+    match family {
+        Some(family) => push_reach(text, family),
+        None => Ok(()),
+    }
+}
+
+/// Returns the family of a bus, if the rates from which its clocks deviate make clocks.
+fn family_in(alloc: Global, bus: &Bus) -> Result<Option<Family>, AllocError>
+    requires checked { IsChecked bus.now.plan }
+    requires deviations { length bus.now.deviations ≡ length bus.now.plan.nodes }
+    ensures family { IfOk result (λ family. family ≡ family_in bus.now) }
+    ensures nodes { IfOk result (λ family. IfSome family (λ f. length f.members ≡ length bus.now.plan.nodes)) }
+{
+    match oscillators(alloc, bus.deviations.as_slice())? {
+        Some(all) => Ok(Some(Family::of_plan(alloc, &bus.plan, all.as_slice())?)),
+        None => Ok(None),
+    }
+}
+
+/// The explanation of a plan that can be run: what is doubtful of it, one a line, and then its figures.
+///
+/// First comes what lies outside of the condition for a sound bus. If all nodes synchronise by the book, then each inequality that
+/// fails follows, by node, the other node and the inequality: for one sender at a time, or if several nodes send at once; in place
+/// of these, two nodes whose bit rates no clocks of one nominal rate can have; and clocks that deviate by more than their
+/// tolerance. Else no such condition is known, and clocks and ways are doubted by themselves: clocks further apart than the
+/// segments of both bear, and a way there and back for which the earlier sample is too early. Then come of each node a jump width
+/// above PHASE_SEG2, its first frame that becomes ready at the end or later, and its first that becomes ready before all nodes
+/// have counted 11 bits; and of each node an end that leaves no room for its frames.
+///
+/// The figures of a node are bit rate in kbit/s, sample point in per cent and quantum in nanoseconds. By the book two lines
+/// follow: how much longer the cable and how much wider every tolerance may be. Else each node has its tolerance in parts per
+/// million, how much of it the other clocks leave to both nodes of a pair, and the longest cable in nanoseconds along it and in
+/// metres at 5 ns each. A quantum is the mean of those that the node runs before the end. A tick is taken for a nanosecond.
+/// Refused out of memory alone.
+pub fn explain_plan(alloc: Global, bus: &Bus) -> Result<String, AllocError>
+    requires checked { IsChecked bus.now.plan }
+    requires deviations { length bus.now.deviations ≡ length bus.now.plan.nodes }
+    ensures { IfOk result (λ text. IsExplanation bus.now (string_bytes text)) }
+{
+    let mut text = String::new(alloc);
+    let family = family_in(alloc, bus)?;
+    let other = first_without_book(&bus.plan);
+    push_doubts(&mut text, &bus.plan, &bus.names, other, &family)?;
+    push_figures_of(&mut text, &bus.plan, &bus.names, other, &family)?;
+    Ok(text)
+}
