@@ -1,6 +1,7 @@
 mod Loops
 mod TableLemmas
 mod ValueLemmas
+mod QuickLemmas
 mod UnknownLemmas
 mod NameLemmas
 mod ReadLemmas

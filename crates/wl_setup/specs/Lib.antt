@@ -7,6 +7,7 @@ pub mod Faults
 pub mod Spots
 pub mod Names
 pub mod Document
+pub mod Quick
 pub mod Reading
 pub mod Plans
 pub mod Buses

@@ -142,7 +142,7 @@ pub(crate) fn top_keys() -> Keys
 }
 
 /// The keys of a node whose rate is written as a fraction.
-fn node_keys_by_rate() -> Keys
+pub(crate) fn node_keys_by_rate() -> Keys
     ensures required { result.required.now ≡ node_keys_by_rate.required }
     ensures optional { result.optional.now ≡ node_keys_by_rate.optional }
 {
@@ -165,7 +165,7 @@ fn node_keys_by_rate() -> Keys
 }
 
 /// The keys of a node whose rate is written as a whole number of ticks and an error in ppm.
-fn node_keys_by_ppm() -> Keys
+pub(crate) fn node_keys_by_ppm() -> Keys
     ensures required { result.required.now ≡ node_keys_by_ppm.required }
     ensures optional { result.optional.now ≡ node_keys_by_ppm.optional }
 {

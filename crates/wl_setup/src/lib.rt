@@ -11,6 +11,7 @@ mod limits;
 mod names;
 mod plan;
 mod plan_text;
+mod quick;
 mod read;
 mod spot;
 mod tables;

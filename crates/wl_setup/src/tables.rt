@@ -63,7 +63,7 @@ fn check_each_optional(alloc: Global, table: &Table, keys: &[Key]) -> Result<(),
     Ok(())
 }
 
-fn is_among(keys: &[Key], text: &str) -> bool
+pub(crate) fn is_among(keys: &[Key], text: &str) -> bool
     ensures { result ≡ is_among keys.now text.now }
 {
     keys.iter().any(|key| key.text() == text)

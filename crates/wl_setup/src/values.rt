@@ -4,6 +4,7 @@ ghost use Rattle.std.specs.List.{list_all};
 ghost use Rattle.toml.specs.Data.{as_table, get_member};
 ghost use Rattle.toml.specs.View.{view, table_view, items_view};
 ghost use Rattle.wl_setup.specs.Kinds.{number_in, byte_in, is_name, is_name_letter, is_ppm, has_kind, value_at, number_at, small_at, tolerance_at, ppm_at, truth_at, name_at, elements_of, elements_at, bytes_at, sync_named, sync_in, sync_choice_at};
+ghost use Rattle.wl_setup.specs.Quick.{value_data, number_said, small_said, ppm_said, tolerance_said, truth_said, sync_said, name_said, elements_said, bytes_said};
 
 use crate::keys::{Key, Kind};
 use crate::limits::{
@@ -134,23 +135,30 @@ pub(crate) fn has_kind(kind: Kind, value: &Value) -> bool
     }
 }
 
-/// The number at a key, 0 where it has none.
+/// The number that a value is, 0 if there is none.
 #[tactic(auto, unfolding(crate::specs::Limits::largest_number))]
-pub(crate) fn number_at(table: &Table, key: Key) -> u64
-    ensures { result ≡ number_at key (table_view table.now) }
+pub(crate) fn number_of(value: Option<&Value>) -> u64
+    ensures { result ≡ number_said (value_data value.entry) }
 {
-    match value_at(table, key) {
+    match value {
         Some(value) => number_in(LARGEST_NUMBER, value).unwrap_or(0),
         None => 0,
     }
 }
 
-/// The small number at a key, 0 where it has none.
-#[tactic(auto, unfolding(crate::specs::Limits::largest_small))]
-pub(crate) fn small_at(table: &Table, key: Key) -> u32
-    ensures { result ≡ small_at key (table_view table.now) }
+/// The number at a key, 0 where it has none.
+pub(crate) fn number_at(table: &Table, key: Key) -> u64
+    ensures { result ≡ number_at key (table_view table.now) }
 {
-    match value_at(table, key) {
+    number_of(value_at(table, key))
+}
+
+/// The small number that a value is, 0 if there is none.
+#[tactic(auto, unfolding(crate::specs::Limits::largest_small))]
+pub(crate) fn small_of(value: Option<&Value>) -> u32
+    ensures { result ≡ small_said (value_data value.entry) }
+{
+    match value {
         Some(value) => match number_in(LARGEST_SMALL, value) {
             Some(n) => n as u32,
             None => 0,
@@ -159,13 +167,37 @@ pub(crate) fn small_at(table: &Table, key: Key) -> u32
     }
 }
 
+/// The small number at a key, 0 where it has none.
+pub(crate) fn small_at(table: &Table, key: Key) -> u32
+    ensures { result ≡ small_at key (table_view table.now) }
+{
+    small_of(value_at(table, key))
+}
+
+/// The whole number that a value is, 0 if there is none.
+pub(crate) fn ppm_of(value: Option<&Value>) -> i64
+    ensures { result ≡ ppm_said (value_data value.entry) }
+{
+    match value {
+        Some(value) => value.as_integer().unwrap_or(0),
+        None => 0,
+    }
+}
+
 /// The whole number at a key, 0 where it has none.
 pub(crate) fn ppm_at(table: &Table, key: Key) -> i64
     ensures { result ≡ ppm_at key (table_view table.now) }
 {
-    match value_at(table, key) {
-        Some(value) => value.as_integer().unwrap_or(0),
-        None => 0,
+    ppm_of(value_at(table, key))
+}
+
+/// Returns the tolerance that a value is in parts per million, if it is one.
+pub(crate) fn tolerance_of(value: Option<&Value>) -> Option<u32>
+    ensures { result ≡ tolerance_said (value_data value.entry) }
+{
+    match number_in(LARGEST_TOLERANCE, value?) {
+        Some(ppm) => Some(ppm as u32),
+        None => None,
     }
 }
 
@@ -173,9 +205,16 @@ pub(crate) fn ppm_at(table: &Table, key: Key) -> i64
 pub(crate) fn tolerance_at(table: &Table, key: Key) -> Option<u32>
     ensures { result ≡ tolerance_at key (table_view table.now) }
 {
-    match number_in(LARGEST_TOLERANCE, value_at(table, key)?) {
-        Some(ppm) => Some(ppm as u32),
-        None => None,
+    tolerance_of(value_at(table, key))
+}
+
+/// The truth value that a value is, false if there is none.
+pub(crate) fn truth_of(value: Option<&Value>) -> bool
+    ensures { result ≡ truth_said (value_data value.entry) }
+{
+    match value {
+        Some(value) => value.as_bool().unwrap_or(false),
+        None => false,
     }
 }
 
@@ -183,9 +222,16 @@ pub(crate) fn tolerance_at(table: &Table, key: Key) -> Option<u32>
 pub(crate) fn truth_at(table: &Table, key: Key) -> bool
     ensures { result ≡ truth_at key (table_view table.now) }
 {
-    match value_at(table, key) {
-        Some(value) => value.as_bool().unwrap_or(false),
-        None => false,
+    truth_of(value_at(table, key))
+}
+
+/// Where SYNC_SEG lies, as a value says it; after an edge if there is none.
+pub(crate) fn sync_choice_of(value: Option<&Value>) -> SyncRules
+    ensures { result ≡ sync_said (value_data value.entry) }
+{
+    match value {
+        Some(value) => sync_in(value).unwrap_or(SyncRules::After),
+        None => SyncRules::After,
     }
 }
 
@@ -193,9 +239,16 @@ pub(crate) fn truth_at(table: &Table, key: Key) -> bool
 pub(crate) fn sync_choice_at(table: &Table, key: Key) -> SyncRules
     ensures { result ≡ sync_choice_at key (table_view table.now) }
 {
-    match value_at(table, key) {
-        Some(value) => sync_in(value).unwrap_or(SyncRules::After),
-        None => SyncRules::After,
+    sync_choice_of(value_at(table, key))
+}
+
+/// The text that a value is, empty if there is none.
+pub(crate) fn name_of(alloc: Global, value: Option<&Value>) -> Result<Text, AllocError>
+    ensures { IfOk result (λ t. t ≡ name_said (value_data value.entry)) }
+{
+    match value {
+        Some(value) => Text::new(alloc, value.as_str().unwrap_or("")),
+        None => Text::new(alloc, ""),
     }
 }
 
@@ -203,9 +256,16 @@ pub(crate) fn sync_choice_at(table: &Table, key: Key) -> SyncRules
 pub(crate) fn name_at(alloc: Global, table: &Table, key: Key) -> Result<Text, AllocError>
     ensures { IfOk result (λ t. t ≡ name_at key (table_view table.now)) }
 {
-    match value_at(table, key) {
-        Some(value) => Text::new(alloc, value.as_str().unwrap_or("")),
-        None => Text::new(alloc, ""),
+    name_of(alloc, value_at(table, key))
+}
+
+/// The elements of the array that a value is, none if it is none.
+fn elements_in(value: Option<&Value>) -> &[Value]
+    ensures { map view result.now ≡ elements_said (value_data value.entry) }
+{
+    match value {
+        Some(value) => elements_of(value).unwrap_or(&[]),
+        None => &[],
     }
 }
 
@@ -213,21 +273,25 @@ pub(crate) fn name_at(alloc: Global, table: &Table, key: Key) -> Result<Text, Al
 pub(crate) fn elements_at(table: &Table, key: Key) -> &[Value]
     ensures { map view result.now ≡ elements_at key (table_view table.now) }
 {
-    match value_at(table, key) {
-        Some(value) => elements_of(value).unwrap_or(&[]),
-        None => &[],
+    elements_in(value_at(table, key))
+}
+
+/// The bytes in the array that a value is.
+pub(crate) fn bytes_of(alloc: Global, value: Option<&Value>) -> Result<Listed<u8>, AllocError>
+    ensures { IfOk result (λ bytes. bytes ≡ bytes_said (value_data value.entry)) }
+{
+    let mut bytes = Listed::new(alloc);
+    for value in elements_in(value) {
+        if let Some(byte) = number_in(LARGEST_BYTE, value) {
+            bytes.push(byte as u8)?;
+        }
     }
+    Ok(bytes)
 }
 
 /// The bytes in the array at a key.
 pub(crate) fn bytes_at(alloc: Global, table: &Table, key: Key) -> Result<Listed<u8>, AllocError>
     ensures { IfOk result (λ bytes. bytes ≡ bytes_at key (table_view table.now)) }
 {
-    let mut bytes = Listed::new(alloc);
-    for value in elements_at(table, key) {
-        if let Some(byte) = number_in(LARGEST_BYTE, value) {
-            bytes.push(byte as u8)?;
-        }
-    }
-    Ok(bytes)
+    bytes_of(alloc, value_at(table, key))
 }

@@ -1,0 +1,383 @@
+-- What the tables of a text of the usual form say.
+use Rattle.std.proofs.Common.{◌<◌, length, IfSome, subst, ◌≡◌, ℕ, Bool, true, false, not, ◌==◌, if◌then◌else◌, List, [], ◌∷◌, ◌++◌, map, filter, codes, Option, Some, None, is_some, unwrap_or, option_map, option_and_then, refl, sym, ap, ◌∙◌}
+use Rattle.std.proofs.lemmas.Bool.{and_parts}
+use Rattle.std.proofs.lemmas.Option.{none-some}
+use Rattle.std.proofs.lemmas.List.{map-append}
+use Rattle.std.specs.List.{AllByRecursion, filter_map, list_all}
+use Rattle.toml.specs.Data.{Data, array, table, Members, no_members, member, as_table, same_key}
+use Rattle.toml.specs.Tables.{Nodes, close, Document}
+use Rattle.toml.specs.Parse.{lines, parse_document}
+use Rattle.toml_parser.specs.Lexical.{first}
+use Rattle.std.specs.Str.{IsUtf8}
+use Rattle.std.proofs.lemmas.Str.{is_utf8-from_IsUtf8}
+use Rattle.wl_setup.specs.Reading.{document_of}
+use Rattle.toml.specs.View.{items_of}
+use Rattle.wl_tables.specs.Tables.{Pairs, pair_expression, header_expression, Goes, nodes_of, IsTable, lines_of_each, table_lines, key_of_header, with_tables, Group, group_lines, group_nodes, plan_nodes, IsNodeTable}
+use Rattle.wl_tables.specs.declared.header.Header.{Header}
+use Rattle.wl_tables.specs.declared.header.Header.TheVariants as which
+use Rattle.wl_tables.proofs.Callers.{all_keys, tables_value, goes_none, goes_twice, each_more, plan_parsed, value_of_table, value_beside, value_of_tables, keys_of_table, keys_of_tables}
+use Rattle.wl_setup.specs.declared.keys.Key.{Key}
+use Rattle.wl_setup.specs.declared.keys.Key.TheVariants as key
+use Rattle.wl_setup.specs.declared.keys.Kind.TheVariants as kind
+use Rattle.wl_setup.specs.declared.fault.SetupFault.{SetupFault}
+use Rattle.wl_setup.specs.declared.fault.SetupFault.TheVariants.{Unknown, Version}
+use Rattle.wl_setup.specs.declared.plan_text.PlanText.{PlanText}
+use Rattle.wl_setup.specs.declared.plan_text.NodeText.{NodeText}
+use Rattle.wl_setup.specs.declared.plan_text.FrameText.{FrameText}
+use Rattle.wl_setup.specs.declared.plan_text.DisturbanceText.{DisturbanceText}
+use Rattle.wl_setup.specs.Limits.{first_version}
+use Rattle.wl_setup.specs.Keys.{key_text, table_keys, TableKeys, top_keys, frame_keys, disturbance_keys, node_keys_by_rate, node_keys_by_ppm}
+use Rattle.wl_setup.specs.Kinds.{has_kind, value_at, number_at, tables_at, elements_of}
+use Rattle.wl_setup.specs.Faults.{first_some, required_fault_of, optional_fault_of, required_fault, optional_fault, keys_in, least, is_known, unknown_fault, table_fault, node_keys, rate_fault, rates_fault, is_known_version, version_fault, node_fault}
+use Rattle.wl_setup.specs.Texts.{frame_of, disturbance_of, node_text_of, plan_of}
+use Rattle.wl_setup.specs.Names.{same_name_fault}
+use Rattle.wl_setup.specs.Document.{document_fault}
+use Rattle.wl_setup.specs.Quick.{pair_value, required_pairs, optional_pairs, HasKeys, frame_of_pairs, disturbance_of_pairs, pair_keys, node_of_pairs, members, AreTables, IsGood, node_of_group, IsNodeText, AreNodes, IsTopRow, plan_of_pairs, Says, number_said}
+use Rattle.wl_setup.proofs.ValueLemmas.{list_of-items_of}
+
+-- the first of several faults
+none_parts : {A : Type 0} (o : Option A) (os : List (Option A)) → first_some (o ∷ os) ≡ None → (o ≡ None) × (first_some os ≡ None)
+none_parts None os h = (refl, h)
+none_parts (Some x) os h = absurd (none-some x (sym h))
+
+pass : {A : Type 0} (o : Option A) (os : List (Option A)) → o ≡ None → first_some (o ∷ os) ≡ first_some os
+pass None os h = refl
+pass (Some x) os h = absurd (none-some x (sym h))
+
+only : {A : Type 0} (o : Option A) → first_some (o ∷ []) ≡ o
+only None = refl
+only (Some x) = refl
+
+pub all_last : {A : Type 0} (P : A → Type 0) (xs : List A) (x : A) → AllByRecursion P xs → P x → AllByRecursion P (xs ++ x ∷ [])
+all_last P [] x all here = (here, tt)
+all_last P (y ∷ xs) x all here = (all.0, all_last P xs x all.1 here)
+
+all_map : {A : Type 0} (P Q : A → Type 0) → ((x : A) → P x → Q x) → (xs : List A) → AllByRecursion P xs → AllByRecursion Q xs
+all_map P Q f [] all = tt
+all_map P Q f (x ∷ xs) all = (f x all.0, all_map P Q f xs all.1)
+
+map_three : {A B C D : Type 0} (f : C → D) (g : B → C) (h : A → B) (xs : List A) → map (λ x. f (g (h x))) xs ≡ map f (map g (map h xs))
+map_three f g h [] = refl
+map_three f g h (x ∷ xs) = ap (λ l. f (g (h x)) ∷ l) (map_three f g h xs)
+
+-- a table whose values are those of pairs
+module _ (M : Members) (ps : Pairs) where
+  abbrev SameAt : Key → Type 0
+  SameAt k = value_at k M ≡ pair_value ps k
+
+  required_same : (keys : List Key) → AllByRecursion SameAt keys → required_pairs keys ps ≡ None → first_some (map (required_fault M) keys) ≡ None
+  required_same [] same none = refl
+  required_same (k ∷ ks) same none =
+      let (here, more) = none_parts (required_fault_of k (pair_value ps k)) (map (λ j. required_fault_of j (pair_value ps j)) ks) none in
+      pass (required_fault M k) (map (required_fault M) ks) (ap (required_fault_of k) same.0 ∙ here) ∙ required_same ks same.1 more
+
+  optional_same : (keys : List Key) → AllByRecursion SameAt keys → optional_pairs keys ps ≡ None → first_some (map (optional_fault M) keys) ≡ None
+  optional_same [] same none = refl
+  optional_same (k ∷ ks) same none =
+      let (here, more) = none_parts (optional_fault_of k (pair_value ps k)) (map (λ j. optional_fault_of j (pair_value ps j)) ks) none in
+      pass (optional_fault M k) (map (optional_fault M) ks) (ap (optional_fault_of k) same.0 ∙ here) ∙ optional_same ks same.1 more
+
+no_unknown : (test : List ℕ → Bool) (M : Members) → all_keys test M ≡ true → filter (λ t. not (test t)) (keys_in M) ≡ []
+no_unknown test no_members h = refl
+no_unknown test (member k d ms) h = let (here, more) = and_parts (test k) (all_keys test ms) h in rw here (no_unknown test ms more)
+
+unknown_none : (keys : TableKeys) (M : Members) → all_keys (is_known keys) M ≡ true → unknown_fault keys M ≡ None
+unknown_none keys M h = ap (λ ts. option_map Unknown (least ts)) (no_unknown (is_known keys) M h)
+
+table_none : (keys : TableKeys) (M : Members) → first_some (map (required_fault M) keys.required) ≡ None → first_some (map (optional_fault M) keys.optional) ≡ None
+    → unknown_fault keys M ≡ None → table_fault keys M ≡ None
+table_none keys M a b c = pass _ _ a ∙ pass _ _ b ∙ only _ ∙ c
+
+-- the table of some pairs
+module _ (ps : Pairs) (h : IsTable ps) where
+  at_pair : (k : Key) → value_at k (members ps) ≡ pair_value ps k
+  at_pair k = value_of_table ps (key_text k) h
+
+  each_pair : (keys : List Key) → AllByRecursion (λ k. value_at k (members ps) ≡ pair_value ps k) keys
+  each_pair [] = tt
+  each_pair (k ∷ ks) = (at_pair k, each_pair ks)
+
+  pub fits_table : (keys : TableKeys) → HasKeys keys ps → table_fault keys (members ps) ≡ None
+  fits_table keys fit =
+      table_none keys (members ps) (required_same (members ps) ps keys.required (each_pair keys.required) fit.0) (optional_same (members ps) ps keys.optional (each_pair keys.optional) fit.1)
+      (unknown_none keys (members ps) (keys_of_table (is_known keys) ps h fit.2))
+
+  pub frame_same : frame_of_pairs ps ≡ frame_of (members ps)
+  frame_same = rw (at_pair key.Id, at_pair key.Dlc, at_pair key.Remote, at_pair key.Bytes, at_pair key.Ready, at_pair key.Extended) refl
+
+  pub disturbance_same : disturbance_of_pairs ps ≡ disturbance_of (members ps)
+  disturbance_same = rw (at_pair key.X, at_pair key.From, at_pair key.To) refl
+
+-- the tables in an array
+tables_only : (ns : List Nodes) → filter_map as_table (map (λ m. table (close m)) ns) ≡ map close ns
+tables_only [] = refl
+tables_only (n ∷ ns) = ap (λ l. close n ∷ l) (tables_only ns)
+
+abbrev tables_in : Option Data → List Members
+tables_in o = filter_map as_table (unwrap_or (option_and_then elements_of o) [])
+
+tables_in_value : (ns : List Nodes) → tables_in (tables_value ns) ≡ map close ns
+tables_in_value [] = refl
+tables_in_value (n ∷ ns) = rw (list_of-items_of (map (λ m. table (close m)) ns)) (tables_only (n ∷ ns))
+
+all_tables : (ns : List Nodes) → list_all (λ e. is_some (as_table e)) (map (λ m. table (close m)) ns) ≡ true
+all_tables [] = refl
+all_tables (n ∷ ns) = all_tables ns
+
+tables_kind : (n : Nodes) (ns : List Nodes) → has_kind kind.Tables (array (items_of (map (λ m. table (close m)) (n ∷ ns)))) ≡ true
+tables_kind n ns = rw (list_of-items_of (map (λ m. table (close m)) ns)) (all_tables ns)
+
+frame_kind : (ns : List Nodes) → optional_fault_of key.Frame (tables_value ns) ≡ None
+frame_kind [] = refl
+frame_kind (n ∷ ns) = rw (tables_kind n ns) refl
+
+disturbance_kind : (ns : List Nodes) → optional_fault_of key.Disturbance (tables_value ns) ≡ None
+disturbance_kind [] = refl
+disturbance_kind (n ∷ ns) = rw (tables_kind n ns) refl
+
+node_kind : (n : Nodes) (ns : List Nodes) → required_fault_of key.Node (tables_value (n ∷ ns)) ≡ None
+node_kind n ns = rw (tables_kind n ns) refl
+
+-- tables without fault
+none_in : {A : Type 0} (f : Members → Option SetupFault) (g : A → Nodes) (P : A → Type 0) → ((x : A) → P x → f (close (g x)) ≡ None) → (xs : List A) → AllByRecursion P xs
+    → first_some (map f (map close (map g xs))) ≡ None
+none_in f g P ok [] all = refl
+none_in f g P ok (x ∷ xs) all = pass (f (close (g x))) _ (ok x all.0) ∙ none_in f g P ok xs all.1
+
+-- a node and its frames
+module _ (ps : Pairs) (rows : List Pairs) (h : IsTable ps) (no_frame : pair_value ps key.Frame ≡ None) (no_rates : pair_value ps key.Rates ≡ None)
+    (all : AllByRecursion (λ r. IsTable r × (table_fault frame_keys (members r) ≡ None)) rows) where
+  abbrev inner : List Nodes
+  inner = map nodes_of rows
+
+  abbrev M : Members
+  M = close (group_nodes (ps, rows))
+
+  at_node : (k : Key) → same_key (key_text k) (codes "frame") ≡ false → value_at k M ≡ pair_value ps k
+  at_node k differ = value_beside (key_text k) (codes "frame") inner (nodes_of ps) differ ∙ value_of_table ps (key_text k) h
+
+  frame_value : value_at key.Frame M ≡ tables_value inner
+  frame_value = value_of_tables (codes "frame") inner (nodes_of ps) (value_of_table ps (codes "frame") h ∙ no_frame) refl
+
+  frames_at : tables_at key.Frame M ≡ map close inner
+  frames_at = ap tables_in frame_value ∙ tables_in_value inner
+
+  rates_none : rates_fault M ≡ None
+  rates_none = ap (λ o. first_some (map rate_fault (tables_in o))) (at_node key.Rates refl ∙ no_rates)
+
+  frames_none : first_some (map (table_fault frame_keys) (tables_at key.Frame M)) ≡ None
+  frames_none = ap (λ ts. first_some (map (table_fault frame_keys) ts)) frames_at
+      ∙ none_in (table_fault frame_keys) nodes_of (λ r. IsTable r × (table_fault frame_keys (members r) ≡ None)) (λ r p. p.1) rows all
+
+  optional_node : optional_pairs (key.Frame ∷ key.Tolerance ∷ []) ps ≡ None → first_some (map (optional_fault M) (key.Frame ∷ key.Tolerance ∷ [])) ≡ None
+  optional_node none =
+      let (front, more) = none_parts (optional_fault_of key.Frame (pair_value ps key.Frame)) (optional_fault_of key.Tolerance (pair_value ps key.Tolerance) ∷ []) none in
+      let (last, rest) = none_parts (optional_fault_of key.Tolerance (pair_value ps key.Tolerance)) [] more in
+      pass (optional_fault M key.Frame) _ (ap (optional_fault_of key.Frame) frame_value ∙ frame_kind inner)
+      ∙ pass (optional_fault M key.Tolerance) [] (ap (optional_fault_of key.Tolerance) (at_node key.Tolerance refl) ∙ last)
+
+  table_by : (b : Bool) → HasKeys (if b then node_keys_by_ppm else node_keys_by_rate) ps → table_fault (if b then node_keys_by_ppm else node_keys_by_rate) M ≡ None
+  table_by true fit =
+      table_none node_keys_by_ppm M
+      (required_same M ps node_keys_by_ppm.required
+      (at_node key.Name refl, (at_node key.Offset refl, (at_node key.Quantum refl, (at_node key.Ppm refl, (at_node key.Prop refl, (at_node key.Ps1 refl, (at_node key.Ps2 refl, (at_node key.Sjw refl, (at_node key.X refl, (at_node key.Out refl, (at_node key.In refl, tt))))))))))) fit.0)
+      (optional_node fit.1)
+      (unknown_none node_keys_by_ppm M (keys_of_tables (is_known node_keys_by_ppm) (codes "frame") inner (nodes_of ps) refl (keys_of_table (is_known node_keys_by_ppm) ps h fit.2)))
+  table_by false fit =
+      table_none node_keys_by_rate M
+      (required_same M ps node_keys_by_rate.required
+      (at_node key.Name refl, (at_node key.Offset refl, (at_node key.Num refl, (at_node key.Den refl, (at_node key.Prop refl, (at_node key.Ps1 refl, (at_node key.Ps2 refl, (at_node key.Sjw refl, (at_node key.X refl, (at_node key.Out refl, (at_node key.In refl, tt))))))))))) fit.0)
+      (optional_node fit.1)
+      (unknown_none node_keys_by_rate M (keys_of_tables (is_known node_keys_by_rate) (codes "frame") inner (nodes_of ps) refl (keys_of_table (is_known node_keys_by_rate) ps h fit.2)))
+
+  keys_same : node_keys first_version M ≡ pair_keys ps
+  keys_same = ap (λ o. if is_some o then node_keys_by_ppm else node_keys_by_rate) (at_node key.Quantum refl)
+
+  node_none : HasKeys (pair_keys ps) ps → node_fault first_version M ≡ None
+  node_none fit =
+      pass _ _ (ap (λ ks. table_fault ks M) keys_same ∙ table_by (is_some (pair_value ps key.Quantum)) fit) ∙ pass _ _ rates_none ∙ pass _ _ frames_none
+
+  node_same : (frames : List FrameText) → frames ≡ map (λ r. frame_of (members r)) rows → node_of_pairs ps frames ≡ node_text_of first_version M
+  node_same frames is =
+      let read : frames ≡ map frame_of (tables_at key.Frame M) = is ∙ map_three frame_of close nodes_of rows ∙ ap (map frame_of) (sym frames_at) in
+      rw (
+        read,
+        at_node key.Name refl,
+        at_node key.Offset refl,
+        at_node key.Quantum refl,
+        at_node key.Ppm refl,
+        at_node key.Num refl,
+        at_node key.Den refl,
+        at_node key.Prop refl,
+        at_node key.Ps1 refl,
+        at_node key.Ps2 refl,
+        at_node key.Sjw refl,
+        at_node key.X refl,
+        at_node key.Out refl,
+        at_node key.In refl,
+        at_node key.Tolerance refl,
+      ) refl
+
+  good_group : IsNodeTable (ps, rows)
+  good_group = (h, no_frame, all_map _ IsTable (λ r p. p.0) rows all)
+
+-- a node that was read
+pub read_group : (text below rest : List ℕ) (ps : Pairs) (frames : List FrameText) (n : NodeText) → Goes text (map pair_expression ps) below → IsTable ps → HasKeys (pair_keys ps) ps → pair_value ps key.Frame ≡ None
+    → pair_value ps key.Rates ≡ None → AreTables (table_fault frame_keys) frame_of below which.Frame frames rest → n ≡ node_of_pairs ps frames → IsNodeText text n rest
+read_group text below rest ps frames n g h fit no_frame no_rates tables is =
+    let (rows, goes, all, made) = tables in (
+      (ps, rows),
+      goes_twice text below rest (map pair_expression ps) (lines_of_each (table_lines (key_of_header which.Frame)) rows) g goes,
+      (good_group ps rows h no_frame no_rates all, node_none ps rows h no_frame no_rates all fit),
+      is ∙ node_same ps rows h no_frame no_rates all frames made,
+    )
+
+-- one table more, and one node more
+pub no_tables : {T : Type 0} (fault : Members → Option SetupFault) (make : Members → T) (text : List ℕ) (w : Header) → AreTables fault make text w [] text
+no_tables fault make text w = ([], goes_none text, tt, refl)
+
+pub tables_more : {T : Type 0} (fault : Members → Option SetupFault) (make : Members → T) (text : List ℕ) (w : Header) (made new : List T) (rest below next : List ℕ) (ps : Pairs) (t : T)
+    → AreTables fault make text w made rest → Goes rest (header_expression (key_of_header w) ∷ []) below → Goes below (map pair_expression ps) next → IsTable ps → fault (members ps) ≡ None → t ≡ make (members ps)
+    → new ≡ made ++ t ∷ [] → AreTables fault make text w new next
+tables_more fault make text w made new rest below next ps t tables head body h none is grown =
+    let (rows, goes, all, same) = tables in
+    let one = goes_twice rest below next (header_expression (key_of_header w) ∷ []) (map pair_expression ps) head body in (
+      rows ++ ps ∷ [],
+      rw (each_more (table_lines (key_of_header w)) rows ps) (goes_twice text rest next (lines_of_each (table_lines (key_of_header w)) rows) (table_lines (key_of_header w) ps) goes one),
+      all_last (λ r. IsTable r × (fault (members r) ≡ None)) rows ps all (h, none),
+      grown ∙ rw (same, is, map-append (λ r. make (members r)) rows (ps ∷ [])) refl,
+    )
+
+pub no_nodes_yet : (text : List ℕ) → AreNodes text [] text
+no_nodes_yet text = ([], goes_none text, tt, refl)
+
+pub nodes_more : (text : List ℕ) (nodes new : List NodeText) (rest below next : List ℕ) (n : NodeText) → AreNodes text nodes rest → Goes rest (header_expression (key_of_header which.Node) ∷ []) below
+    → IsNodeText below n next → new ≡ nodes ++ n ∷ [] → AreNodes text new next
+nodes_more text nodes new rest below next n before head node grown =
+    let (groups, goes, all, same) = before in
+    let (g, body, good, is) = node in
+    let one = goes_twice rest below next (header_expression (key_of_header which.Node) ∷ []) (map pair_expression g.0 ++ lines_of_each (table_lines (key_of_header which.Frame)) g.1) head body in (
+      groups ++ g ∷ [],
+      rw (each_more group_lines groups g) (goes_twice text rest next (lines_of_each group_lines groups) (group_lines g) goes one),
+      all_last IsGood groups g all good,
+      grown ∙ rw (same, is, map-append node_of_group groups (g ∷ [])) refl,
+    )
+
+-- a plan
+module _ (ps : Pairs) (first_group : Group) (others : List Group) (rows : List Pairs) (h : IsTable ps) (top : IsTopRow ps)
+    (good : AllByRecursion IsGood (first_group ∷ others)) (all : AllByRecursion (λ r. IsTable r × (table_fault disturbance_keys (members r) ≡ None)) rows) where
+  abbrev groups : List Group
+  groups = first_group ∷ others
+
+  abbrev base : Nodes
+  base = with_tables (codes "node") (map group_nodes groups) (nodes_of ps)
+
+  abbrev P : Members
+  P = close (plan_nodes ps groups rows)
+
+  at_top : (k : Key) → same_key (key_text k) (codes "disturbance") ≡ false → same_key (key_text k) (codes "node") ≡ false → value_at k P ≡ pair_value ps k
+  at_top k a b =
+      value_beside (key_text k) (codes "disturbance") (map nodes_of rows) base a ∙ value_beside (key_text k) (codes "node") (map group_nodes groups) (nodes_of ps) b ∙ value_of_table ps (key_text k) h
+
+  node_value : value_at key.Node P ≡ tables_value (map group_nodes groups)
+  node_value =
+      value_beside (codes "node") (codes "disturbance") (map nodes_of rows) base refl
+      ∙ value_of_tables (codes "node") (map group_nodes groups) (nodes_of ps) (value_of_table ps (codes "node") h ∙ top.0) refl
+
+  row_value : value_at key.Disturbance P ≡ tables_value (map nodes_of rows)
+  row_value =
+      value_of_tables (codes "disturbance") (map nodes_of rows) base
+      (value_beside (codes "disturbance") (codes "node") (map group_nodes groups) (nodes_of ps) refl ∙ value_of_table ps (codes "disturbance") h ∙ top.1) refl
+
+  version_is : number_at key.Version P ≡ first_version
+  version_is = ap number_said (at_top key.Version refl refl) ∙ top.2
+
+  nodes_at : tables_at key.Node P ≡ map close (map group_nodes groups)
+  nodes_at = ap tables_in node_value ∙ tables_in_value (map group_nodes groups)
+
+  rows_at : tables_at key.Disturbance P ≡ map close (map nodes_of rows)
+  rows_at = ap tables_in row_value ∙ tables_in_value (map nodes_of rows)
+
+  plan_same : (nodes : List NodeText) (made : List DisturbanceText) → nodes ≡ map node_of_group groups → made ≡ map (λ r. disturbance_of (members r)) rows
+      → plan_of P ≡ plan_of_pairs ps nodes made
+  plan_same nodes made nodes_are made_are =
+      let read : nodes ≡ map (node_text_of first_version) (tables_at key.Node P) =
+      nodes_are ∙ map_three (node_text_of first_version) close group_nodes groups ∙ ap (map (node_text_of first_version)) (sym nodes_at) in
+      let heard : made ≡ map disturbance_of (tables_at key.Disturbance P) = made_are ∙ map_three disturbance_of close nodes_of rows ∙ ap (map disturbance_of) (sym rows_at) in
+      sym (rw (read, heard, ← version_is, at_top key.Version refl refl, at_top key.End refl refl, at_top key.Per refl refl, at_top key.Sync refl refl) refl)
+
+  version_none : version_fault P ≡ None
+  version_none =
+      let (version, more) = none_parts (required_fault_of key.Version (pair_value ps key.Version)) _ top.3 in
+      pass (required_fault P key.Version) _ (ap (required_fault_of key.Version) (at_top key.Version refl refl) ∙ version)
+      ∙ only _ ∙ ap (λ v. if is_known_version v then None else Some Version) version_is
+
+  required_top : first_some (map (required_fault P) top_keys.required) ≡ None
+  required_top =
+      let (version, more) = none_parts (required_fault_of key.Version (pair_value ps key.Version)) _ top.3 in
+      let (end_is, last) = none_parts (required_fault_of key.End (pair_value ps key.End)) _ more in
+      let (per, rest) = none_parts (required_fault_of key.Per (pair_value ps key.Per)) [] last in
+      pass (required_fault P key.Version) _ (ap (required_fault_of key.Version) (at_top key.Version refl refl) ∙ version)
+      ∙ pass (required_fault P key.End) _ (ap (required_fault_of key.End) (at_top key.End refl refl) ∙ end_is)
+      ∙ pass (required_fault P key.Per) _ (ap (required_fault_of key.Per) (at_top key.Per refl refl) ∙ per)
+      ∙ pass (required_fault P key.Node) [] (ap (required_fault_of key.Node) node_value ∙ node_kind (group_nodes first_group) (map group_nodes others))
+
+  optional_top : first_some (map (optional_fault P) top_keys.optional) ≡ None
+  optional_top =
+      pass (optional_fault P key.Disturbance) _ (ap (optional_fault_of key.Disturbance) row_value ∙ disturbance_kind (map nodes_of rows))
+      ∙ pass (optional_fault P key.Sync) [] (ap (optional_fault_of key.Sync) (at_top key.Sync refl refl) ∙ top.4)
+
+  table_top : table_fault top_keys P ≡ None
+  table_top =
+      table_none top_keys P required_top optional_top (unknown_none top_keys P (keys_of_tables (is_known top_keys) (codes "disturbance") (map nodes_of rows) base refl
+      (keys_of_tables (is_known top_keys) (codes "node") (map group_nodes groups) (nodes_of ps) refl (keys_of_table (is_known top_keys) ps h top.5))))
+
+  nodes_none : first_some (map (node_fault (number_at key.Version P)) (tables_at key.Node P)) ≡ None
+  nodes_none =
+      ap (λ v. first_some (map (node_fault v) (tables_at key.Node P))) version_is ∙ ap (λ ts. first_some (map (node_fault first_version) ts)) nodes_at
+      ∙ none_in (node_fault first_version) group_nodes IsGood (λ g p. p.1) groups good
+
+  rows_none : first_some (map (table_fault disturbance_keys) (tables_at key.Disturbance P)) ≡ None
+  rows_none =
+      ap (λ ts. first_some (map (table_fault disturbance_keys) ts)) rows_at
+      ∙ none_in (table_fault disturbance_keys) nodes_of (λ r. IsTable r × (table_fault disturbance_keys (members r) ≡ None)) (λ r p. p.1) rows all
+
+  fault_same : document_fault P ≡ same_name_fault (plan_of P)
+  fault_same = pass _ _ version_none ∙ pass _ _ table_top ∙ pass _ _ nodes_none ∙ pass _ _ rows_none ∙ only _
+
+  says : (text : List ℕ) (nodes : List NodeText) (made : List DisturbanceText) (plan : PlanText) → parse_document text ≡ Some P → nodes ≡ map node_of_group groups
+      → made ≡ map (λ r. disturbance_of (members r)) rows → plan ≡ plan_of_pairs ps nodes made → Says (parse_document text) plan
+  says text nodes made plan parsed nodes_are made_are is =
+      let same = plan_same nodes made nodes_are made_are ∙ sym is in
+      (P, parsed, fault_same ∙ ap same_name_fault same, same)
+
+pub some_true : {A : Type 0} (o : Option A) (P : Type 0) → P → IfSome o (λ x. P)
+some_true None P p = tt
+some_true (Some x) P p = p
+
+pub fits_keys : (ps : Pairs) (keys : TableKeys) (required optional : List Key) → required ≡ keys.required → optional ≡ keys.optional → HasKeys (table_keys required optional) ps → HasKeys keys ps
+fits_keys ps keys required optional a b fit =
+    subst (λ r. HasKeys (table_keys r keys.optional) ps) a (subst (λ o. HasKeys (table_keys required o) ps) b fit)
+
+-- a text that was read whole
+module _ (text below after rest : List ℕ) (ps : Pairs) (nodes : List NodeText) (made : List DisturbanceText) (plan : PlanText) (mark : (first text == 239) ≡ false)
+    (own : Goes text (map pair_expression ps) below) (h : IsTable ps) (top : IsTopRow ps) (some : nodes ≡ [] → ⊥)
+    (over : (n : ℕ) (doc : Document) → length rest < n → lines n doc rest ≡ Some doc) (is : plan ≡ plan_of_pairs ps nodes made) where
+  from_groups : (groups : List Group) → Goes below (lines_of_each group_lines groups) after → AllByRecursion IsGood groups → nodes ≡ map node_of_group groups
+      → AreTables (table_fault disturbance_keys) disturbance_of after which.Disturbance made rest → Says (parse_document text) plan
+  from_groups [] goes good nodes_are tables = absurd (some nodes_are)
+  from_groups (g ∷ gs) goes good nodes_are tables =
+      let (rows, rowed, all, made_are) = tables in
+      let tail = goes_twice below after rest (lines_of_each group_lines (g ∷ gs)) (lines_of_each (table_lines (key_of_header which.Disturbance)) rows) goes rowed in
+      let whole = goes_twice text below rest (map pair_expression ps) (lines_of_each group_lines (g ∷ gs) ++ lines_of_each (table_lines (key_of_header which.Disturbance)) rows) own tail in
+      let parsed = plan_parsed text rest ps (g ∷ gs) rows mark (h, top.0, top.1) (all_map IsGood IsNodeTable (λ x p. p.0) (g ∷ gs) good)
+      (all_map (λ r. IsTable r × (table_fault disturbance_keys (members r) ≡ None)) IsTable (λ r p. p.0) rows all) whole over in
+      says ps g gs rows h top good all text nodes made plan parsed nodes_are made_are is
+
+  pub quick_says : AreNodes below nodes after → AreTables (table_fault disturbance_keys) disturbance_of after which.Disturbance made rest → Says (parse_document text) plan
+  quick_says read tables = let (groups, goes, good, nodes_are) = read in from_groups groups goes good nodes_are tables
+
+pub utf8_says : (text s : List ℕ) (r : Option PlanText) → s ≡ text → IsUtf8 text → IfSome r (Says (parse_document s)) → IfSome r (Says (document_of text))
+utf8_says text s r is utf8 h =
+    let same : parse_document s ≡ document_of text = ap parse_document is ∙ sym (rw (is_utf8-from_IsUtf8 text utf8) refl) in
+    subst (λ d. IfSome r (Says d)) same h

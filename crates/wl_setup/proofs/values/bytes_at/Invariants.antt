@@ -1,9 +1,0 @@
-use Rattle.std.proofs.Common.{◌≡◌, ◌++◌, map, drop}
-use Rattle.std.specs.List.{filter_map}
-use Rattle.toml.specs.View.{view, table_view}
-use Rattle.wl_setup.specs.Kinds.{byte_in, bytes_at}
-use Rattle.wl_setup.proofs.values.bytes_at.Given as goal
-
--- what was read, and then the bytes that are left
-abbrev pub invariant-loop-value : goal.invariant-loop-value
-invariant-loop-value l = l.bytes ++ filter_map byte_in (map view (drop l.value-index l.value-items)) ≡ bytes_at l.fn.key (table_view l.table)

@@ -1,0 +1,342 @@
+//! Plans' texts of the usual form: a line for each key, the nodes with their frames, then the disturbances. `None` says nothing
+//! of a text.
+ghost use Rattle.std.specs.Prelude.{◌≡◌, IsTrue, None, true, IfSome, Some};
+ghost use Rattle.toml.specs.Data.{Members};
+ghost use Rattle.toml.specs.Parse.{parse_document};
+ghost use Rattle.wl_tables.specs.Tables.{IsTable, Goes};
+ghost use Rattle.wl_tables.specs.Rows.{pairs_of};
+ghost use Rattle.wl_setup.specs.declared.keys.Key.TheVariants as key;
+ghost use Rattle.wl_setup.specs.Keys.{table_keys, frame_keys, disturbance_keys};
+ghost use Rattle.wl_setup.specs.Faults.{required_fault_of, optional_fault_of, table_fault};
+ghost use Rattle.wl_setup.specs.Texts.{frame_of, disturbance_of};
+ghost use Rattle.wl_setup.specs.Quick.{pair_value, required_pairs, optional_pairs, has_only, HasKeys, frame_of_pairs, disturbance_of_pairs, clock_of_pairs, pair_keys, node_of_pairs, members, AreTables, IsNodeText, AreNodes, IsTopRow, plan_of_pairs, Says, value_data};
+ghost use Rattle.wl_setup.specs.Reading.{document_of};
+
+use crate::fault::SetupFault;
+use crate::keys::{self, Key, Keys};
+use crate::limits::FIRST_VERSION;
+use crate::plan_text::{ClockText, DisturbanceText, FrameText, NodeText, PlanText, RateText};
+use crate::tables::is_among;
+use crate::values::{
+    bytes_of, has_kind, name_of, number_of, ppm_of, small_of, sync_choice_of, tolerance_of,
+    truth_of,
+};
+use std::alloc::Global;
+use toml::Value;
+use toml_parser::text::first;
+use wl_level::Listed;
+use wl_tables::{Header, Row, is_over, pass_header, read_row};
+
+/// The value of a key.
+fn value<'a>(row: &'a Row, key: Key) -> Option<&'a Value>
+    ensures { value_data result ≡ pair_value (pairs_of row.now) key }
+{
+    row.get(key.text())
+}
+
+/// True only if a key that has to be there has a value of its kind.
+fn has_required_key(row: &Row, key: Key) -> bool
+    ensures { IsTrue result → required_fault_of key (pair_value (pairs_of row.now) key) ≡ None }
+{
+    match value(row, key) {
+        Some(value) => has_kind(key.kind(), value),
+        None => false,
+    }
+}
+
+/// True only if the value of a key, if there is one, is of its kind.
+fn has_optional_key(row: &Row, key: Key) -> bool
+    ensures { IsTrue result → optional_fault_of key (pair_value (pairs_of row.now) key) ≡ None }
+{
+    match value(row, key) {
+        Some(value) => has_kind(key.kind(), value),
+        None => true,
+    }
+}
+
+fn has_required(row: &Row, keys: &[Key]) -> bool
+    ensures { IsTrue result → required_pairs keys.now (pairs_of row.now) ≡ None }
+{
+    for key in keys {
+        if !has_required_key(row, *key) {
+            return false;
+        }
+    }
+    true
+}
+
+fn has_optional(row: &Row, keys: &[Key]) -> bool
+    ensures { IsTrue result → optional_pairs keys.now (pairs_of row.now) ≡ None }
+{
+    for key in keys {
+        if !has_optional_key(row, *key) {
+            return false;
+        }
+    }
+    true
+}
+
+/// True only if each pair has one of these keys.
+fn has_only(row: &Row, keys: Keys) -> bool
+    ensures { IsTrue result → has_only (table_keys keys.required.now keys.optional.now) (pairs_of row.now) ≡ true }
+{
+    for pair in row.pairs() {
+        if !is_among(keys.required, pair.key) && !is_among(keys.optional, pair.key) {
+            return false;
+        }
+    }
+    true
+}
+
+/// True only if the table has the keys that it should have, and no other.
+fn fits(row: &Row, keys: Keys) -> bool
+    ensures { IsTrue result → HasKeys (table_keys keys.required.now keys.optional.now) (pairs_of row.now) }
+{
+    has_required(row, keys.required) && has_optional(row, keys.optional) && has_only(row, keys)
+}
+
+/// What the pairs below a header are read as.
+trait QuickRow: Drop {
+    ghost use Rattle.std.specs.Prelude.{Option};
+    ghost use Rattle.toml.specs.Data.{Members};
+    ghost use Rattle.wl_setup.specs.declared.fault.SetupFault.{SetupFault};
+
+    /// The first fault of such a table.
+    ghost fault: { Members → Option SetupFault };
+
+    /// What such a table says.
+    ghost make: { Members → Self };
+
+    fn quick(alloc: Global, row: &Row) -> Option<Self>
+        requires { IsTable (pairs_of row.now) }
+        ensures fault { IfSome result (λ r. Self.fault (members (pairs_of row.now)) ≡ None) }
+        ensures value { IfSome result (λ r. r ≡ Self.make (members (pairs_of row.now))) };
+}
+
+/// The frame that pairs say.
+fn frame(alloc: Global, row: &Row) -> Option<FrameText>
+    ensures { IfSome result (λ f. f ≡ frame_of_pairs (pairs_of row.now)) }
+{
+    match bytes_of(alloc, value(row, Key::Bytes)) {
+        Ok(bytes) => Some(FrameText {
+            id: small_of(value(row, Key::Id)),
+            dlc: small_of(value(row, Key::Dlc)),
+            remote: truth_of(value(row, Key::Remote)),
+            bytes,
+            ready: number_of(value(row, Key::Ready)),
+            extended: truth_of(value(row, Key::Extended)),
+        }),
+        Err(_) => None,
+    }
+}
+
+impl QuickRow for FrameText {
+    ghost fault = { table_fault frame_keys };
+
+    ghost make = { frame_of };
+
+    fn quick(alloc: Global, row: &Row) -> Option<FrameText> {
+        if fits(row, keys::frame_keys()) {
+            frame(alloc, row)
+        } else {
+            None
+        }
+    }
+}
+
+/// The disturbance that pairs say.
+fn disturbance(row: &Row) -> DisturbanceText
+    ensures { result ≡ disturbance_of_pairs (pairs_of row.now) }
+{
+    DisturbanceText {
+        x: small_of(value(row, Key::X)),
+        from: number_of(value(row, Key::From)),
+        to: number_of(value(row, Key::To)),
+    }
+}
+
+impl QuickRow for DisturbanceText {
+    ghost fault = { table_fault disturbance_keys };
+
+    ghost make = { disturbance_of };
+
+    fn quick(_alloc: Global, row: &Row) -> Option<DisturbanceText> {
+        if fits(row, keys::disturbance_keys()) {
+            Some(disturbance(row))
+        } else {
+            None
+        }
+    }
+}
+
+/// Returns what the tables below headers of this kind say, and the text from the next line of another kind on.
+fn read_tables<T: QuickRow>(alloc: Global, s: &str, which: Header) -> Option<(Listed<T>, &str)>
+    ensures { IfSome result (λ r. AreTables T.fault T.make s.now which r.0 r.1.now) }
+{
+    let mut made = Listed::new(alloc);
+    let mut rest = s;
+    'tables: loop {
+        let Some(below) = pass_header(alloc, rest, which) else {
+            return Some((made, rest));
+        };
+        let (row, next) = read_row(alloc, below)?;
+        let table = T::quick(alloc, &row)?;
+        match made.push(table) {
+            Ok(()) => rest = next,
+            Err(_) => return None,
+        }
+    }
+}
+
+/// How fast a node's clock goes.
+fn clock(row: &Row) -> ClockText
+    ensures { result ≡ clock_of_pairs (pairs_of row.now) }
+{
+    if value(row, Key::Quantum).is_some() {
+        ClockText::Ppm {
+            quantum: number_of(value(row, Key::Quantum)),
+            ppm: ppm_of(value(row, Key::Ppm)),
+        }
+    } else {
+        ClockText::Rate {
+            num: number_of(value(row, Key::Num)),
+            den: number_of(value(row, Key::Den)),
+        }
+    }
+}
+
+fn node_keys(row: &Row) -> Keys
+    ensures required { result.required.now ≡ (pair_keys (pairs_of row.now)).required }
+    ensures optional { result.optional.now ≡ (pair_keys (pairs_of row.now)).optional }
+{
+    if value(row, Key::Quantum).is_some() {
+        keys::node_keys_by_ppm()
+    } else {
+        keys::node_keys_by_rate()
+    }
+}
+
+/// The node that its pairs and its frames say.
+fn node(alloc: Global, row: &Row, frame: Listed<FrameText>) -> Option<NodeText>
+    ensures { IfSome result (λ n. n ≡ node_of_pairs (pairs_of row.now) frame) }
+{
+    let mut rates = Listed::new(alloc);
+    let rate = RateText {
+        from: 0,
+        clock: clock(row),
+    };
+    match (rates.push(rate), name_of(alloc, value(row, Key::Name))) {
+        (Ok(()), Ok(name)) => Some(NodeText {
+            name,
+            offset: number_of(value(row, Key::Offset)),
+            rates,
+            prop: number_of(value(row, Key::Prop)),
+            ps1: number_of(value(row, Key::Ps1)),
+            ps2: number_of(value(row, Key::Ps2)),
+            sjw: number_of(value(row, Key::Sjw)),
+            x: small_of(value(row, Key::X)),
+            out_delay: number_of(value(row, Key::Out)),
+            in_delay: number_of(value(row, Key::In)),
+            frame,
+            tolerance: tolerance_of(value(row, Key::Tolerance)),
+        }),
+        _ => None,
+    }
+}
+
+/// True only if a node's own pairs have the keys of the first version.
+fn is_node(row: &Row) -> bool
+    ensures fits { IsTrue result → HasKeys (pair_keys (pairs_of row.now)) (pairs_of row.now) }
+    ensures frame { IsTrue result → pair_value (pairs_of row.now) key.Frame ≡ None }
+    ensures rates { IsTrue result → pair_value (pairs_of row.now) key.Rates ≡ None }
+{
+    value(row, Key::Frame).is_none()
+        && value(row, Key::Rates).is_none()
+        && fits(row, node_keys(row))
+}
+
+/// Returns the node whose header is passed, and the text after its frames.
+fn read_node(alloc: Global, s: &str) -> Option<(NodeText, &str)>
+    ensures { IfSome result (λ r. IsNodeText s.now r.0 r.1.now) }
+{
+    let (row, below) = read_row(alloc, s)?;
+    if !is_node(&row) {
+        return None;
+    }
+    let (frames, rest) = read_tables(alloc, below, Header::Frame)?;
+    let node = node(alloc, &row, frames)?;
+    Some((node, rest))
+}
+
+/// Returns the nodes, and the text after them.
+fn read_nodes(alloc: Global, s: &str) -> Option<(Listed<NodeText>, &str)>
+    ensures { IfSome result (λ r. AreNodes s.now r.0 r.1.now) }
+{
+    let mut nodes = Listed::new(alloc);
+    let mut rest = s;
+    'nodes: loop {
+        let Some(below) = pass_header(alloc, rest, Header::Node) else {
+            return Some((nodes, rest));
+        };
+        let (node, next) = read_node(alloc, below)?;
+        match nodes.push(node) {
+            Ok(()) => rest = next,
+            Err(_) => return None,
+        }
+    }
+}
+
+/// True only if the pairs on top are those of a plan of the first version, without the tables below headers.
+fn is_top(row: &Row) -> bool
+    ensures { IsTrue result → IsTopRow (pairs_of row.now) }
+{
+    value(row, Key::Node).is_none()
+        && value(row, Key::Disturbance).is_none()
+        && number_of(value(row, Key::Version)) == FIRST_VERSION
+        && has_required(row, &[Key::Version, Key::End, Key::Per])
+        && has_optional_key(row, Key::Sync)
+        && has_only(row, keys::top_keys())
+}
+
+/// The plan text that its parts say.
+fn plan(row: &Row, node: Listed<NodeText>, disturbance: Listed<DisturbanceText>) -> PlanText
+    ensures { result ≡ plan_of_pairs (pairs_of row.now) node disturbance }
+{
+    PlanText {
+        version: number_of(value(row, Key::Version)),
+        end: number_of(value(row, Key::End)),
+        per: number_of(value(row, Key::Per)),
+        node,
+        disturbance,
+        sync: sync_choice_of(value(row, Key::Sync)),
+    }
+}
+
+/// Returns what a text says, if it is of the usual form and has no fault but of its names.
+fn quick_text(alloc: Global, text: &str) -> Option<PlanText>
+    ensures { IfSome result (Says (parse_document text.now)) }
+{
+    if first(text) == 0xEF {
+        return None;
+    }
+    let (row, below) = read_row(alloc, text)?;
+    if !is_top(&row) {
+        return None;
+    }
+    let (nodes, after) = read_nodes(alloc, below)?;
+    let (disturbances, rest) = read_tables(alloc, after, Header::Disturbance)?;
+    if nodes.is_empty() || !is_over(rest) {
+        return None;
+    }
+    Some(plan(&row, nodes, disturbances))
+}
+
+/// Returns what a plan's text says, if it is of the usual form and has no fault but of its names.
+pub(crate) fn quick_plan(alloc: Global, text: &[u8]) -> Option<PlanText>
+    ensures { IfSome result (Says (document_of text.now)) }
+{
+    match std::str::from_utf8(text) {
+        Ok(text) => quick_text(alloc, text),
+        Err(_) => None,
+    }
+}

@@ -1,0 +1,5 @@
+mod GoesLemmas
+mod LineLemmas
+mod TableLemmas
+mod ArrayLemmas
+pub mod Callers

@@ -1,0 +1,7 @@
+use Rattle.wl_tables.proofs.GoesLemmas.{goes_header}
+use Rattle.wl_tables.proofs.header.pass_header.Goals as goal
+
+pub returns-then-is_named-clause-line : goal.returns-then-is_named-clause-line
+returns-then-is_named-clause-line c =
+    goes_header c.args.s.now c.skip_blank-start.result.now c.in_ok-key.rest.now _ _ c.skip_blank-start.ensures.rest c.skip_blank-start.ensures.within
+    c.in_ok-key.ensures.line c.in_ok-key.ensures.shorter (c.is_named.ensures c.if-is_named.true)

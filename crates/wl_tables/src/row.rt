@@ -1,0 +1,120 @@
+//! The pairs of a table.
+ghost use Rattle.std.specs.Prelude.{◌≡◌, ◌<◌, true, [], length, map, Some, IfSome, option_map};
+ghost use Rattle.std.specs.List.{prefix_len};
+ghost use Rattle.toml_parser.specs.Lexical.{first, is_bare, skip_ws};
+ghost use Rattle.toml.specs.View.{view};
+ghost use Rattle.toml.specs.Parse as spec;
+ghost use Rattle.wl_tables.specs.Tables.{pair_expression, Goes, IsTable, first_value};
+ghost use Rattle.wl_tables.specs.Rows.{pair_view, pairs_of};
+
+use crate::value::value;
+use std::alloc::Global;
+use toml::Value;
+use toml_parser::bytes::is_bare;
+use toml_parser::text::{first, skip, skip_blank, skip_ws};
+
+/// A key without quotes and dots, and its value.
+#[derive(Drop)]
+pub struct Pair<'a> {
+    pub key: &'a str,
+    pub value: Value,
+}
+
+/// The pairs of a table, in the order of their lines.
+#[derive(Drop)]
+pub struct Row<'a> {
+    pairs: Vec<Pair<'a>>,
+}
+
+/// Returns how many bytes at the front are those of a key without quotes and dots.
+fn bare_len(bytes: &[u8]) -> usize
+    ensures { result ≡ prefix_len is_bare bytes.now }
+{
+    bytes.iter().take_while(|b| is_bare(**b)).count()
+}
+
+/// Returns the key at the front, which has no quotes and no dots, and the text after its `=`.
+fn key_equals(s: &str) -> Option<(&str, &str)>
+    ensures key { IfSome result (λ r. spec.key_equals s.now ≡ Some (([], r.0.now), r.1.now)) }
+    ensures bare { IfSome result (λ r. is_bare (first s.now) ≡ true) }
+    ensures shorter { IfSome result (λ r. length r.1.now < length s.now) }
+{
+    let len = bare_len(s.as_bytes());
+    if len == 0 {
+        return None;
+    }
+    let (key, after) = s.split_at(len);
+    let rest = skip_ws(after);
+    if first(rest) != b'=' {
+        return None;
+    }
+    Some((key, skip_ws(skip(rest, 1))))
+}
+
+/// True if nothing but white space or a comment is left of the line.
+pub(crate) fn ends_line(s: &str) -> bool
+    ensures { result ≡ spec.ends_line (skip_ws s.now) }
+{
+    let end = skip_ws(s);
+    end.is_empty() || matches!(first(end), b'#' | b'\n' | b'\r')
+}
+
+/// Returns the pair on the line at the front, and the text after it.
+fn read_pair(alloc: Global, s: &str) -> Option<(Pair<'_>, &str)>
+    ensures line { IfSome result (λ r. spec.line s.now ≡ Some (pair_expression (pair_view r.0), r.1.now)) }
+    ensures shorter { IfSome result (λ r. length r.1.now < length s.now) }
+{
+    let (key, at_value) = key_equals(s)?;
+    let (value, rest) = value(alloc, at_value)?;
+    if ends_line(rest) {
+        Some((Pair { key, value }, rest))
+    } else {
+        None
+    }
+}
+
+impl<'a> Row<'a> {
+    /// Returns the pairs in order.
+    pub fn pairs(&self) -> &[Pair<'a>]
+        ensures { map pair_view result.now ≡ pairs_of self.now }
+    {
+        self.pairs.as_slice()
+    }
+
+    /// Returns the value of a key.
+    pub fn get(&self, name: &str) -> Option<&Value>
+        ensures { option_map (λ v. view v.now) result ≡ first_value name.now (pairs_of self.now) }
+    {
+        for pair in self.pairs.as_slice() {
+            if pair.key == name {
+                return Some(&pair.value);
+            }
+        }
+        None
+    }
+}
+
+/// Returns the pairs up to the next header or the end, and the text from there.
+pub fn read_row(alloc: Global, s: &str) -> Option<(Row<'_>, &str)>
+    ensures lines { IfSome result (λ r. Goes s.now (map pair_expression (pairs_of r.0)) r.1.now) }
+    ensures table { IfSome result (λ r. IsTable (pairs_of r.0)) }
+{
+    let mut row = Row {
+        pairs: Vec::new(alloc),
+    };
+    let mut rest = s;
+    'lines: loop {
+        let start = skip_blank(rest, true);
+        if start.is_empty() || first(start) == b'[' {
+            return Some((row, rest));
+        }
+        let (pair, after) = read_pair(alloc, start)?;
+        if row.get(pair.key).is_some() {
+            return None;
+        }
+        match row.pairs.push(pair) {
+            Ok(()) => rest = after,
+            Err(_) => return None,
+        }
+    }
+}
