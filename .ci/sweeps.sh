@@ -19,9 +19,9 @@ long=examples/cable_too_long.toml
 for name in clean_500k canopen_125k drifting_listener j1939_250k one_megabit_25m priorities sampled_late_500k sixteen_nodes; do
   swept "$name" "examples/$name.toml" 0 'clean in 40 of 40\n' '' --runs 40
 done
-"$program" sweep --runs 700 < "$long" > "$room/wanted" 2> /dev/null
+"$program" sweep --runs 700 --step 1 < "$long" > "$room/wanted" 2> /dev/null
 for workers in 1 2 3 8; do
-  "$program" sweep --runs 700 --workers "$workers" < "$long" > "$room/out" 2> "$room/err"
+  "$program" sweep --runs 700 --step 1 --workers "$workers" < "$long" > "$room/out" 2> "$room/err"
   is "a sweep by $workers threads" [ $? = 1 -a ! -s "$room/err" ] && is "its text by $workers threads" cmp -s "$room/out" "$room/wanted"
 done
 # By hand: perfect clocks, a bit of 16 quanta, five offsets a quantum; the start of frame comes in the quantum of the listener's sample at one
