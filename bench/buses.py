@@ -87,7 +87,7 @@ def line_of(program, k, texts, runs):
     bad, total = power_ups(program, random.Random(k), deepcopy(nodes), senders, texts, runs)
     rate = 1_000_000 // (quantum * nodes[0].quanta())
     said = f"{rate} | {', '.join(map(str, segments))} | {quantum} | {out + into} | {', '.join(map(str, places))} | {senders} | {ppm} | {checked}"
-    return f"| {said} | {spared(program.said(nodes, 'margin'))} | {bad} of {total} |", bad, total
+    return f"| {said} | {spared(program.said(nodes, 'margin'))} | {bad} of {total} |", total
 
 
 def main():
@@ -97,14 +97,14 @@ def main():
     asked.add_argument("--runs", type=int, default=100)
     asked.add_argument("rows", type=int, nargs="*")
     asked = asked.parse_intermixed_args()
-    program, every = Program(asked.program), 0
+    program, rows, every = Program(asked.program), asked.rows or range(len(ROWS)), 0
     print("| kbit/s | prop, ps1, ps2, sjw | quantum, ns | loop, ns | places, m | send | tolerance, ppm | `check`, ppm | `margin` | not clean |")
     print("|---|---|---|---|---|---|---|---|---|---|")
-    for k in asked.rows or range(len(ROWS)):
-        line, _, total = line_of(program, k, asked.texts, asked.runs)
+    for k in rows:
+        line, total = line_of(program, k, asked.texts, asked.runs)
         every += total
         print(line, flush=True)
-    print(f"\n{len(ROWS)} buses, {every} power-ups")
+    print(f"\n{len(rows)} buses, {every} power-ups")
 
 
 if __name__ == "__main__":
