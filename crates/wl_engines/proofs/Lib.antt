@@ -4,3 +4,4 @@ mod NamedNodes
 mod Working
 mod Viewing
 mod PageProofs
+mod TrafficProofs

@@ -6,6 +6,7 @@ pub mod Merge
 pub mod Plans
 pub mod Explained
 pub mod Margin
+pub mod TrafficRun
 pub mod Workers
 pub mod Keeping
 pub mod Paged

@@ -6,7 +6,7 @@
 //! report, which `workers_run` writes too, by workers in threads. `candump_run` and `vcd_run` read a plan text too: the one writes the
 //! log of the frames that were sent, the other the waveform. `explain_run` writes what is doubtful of a plan, and the figures of its
 //! nodes; of a plan that is refused, what is wrong and what to change. `margin_run` writes whether the plan's bus works, with how much to
-//! spare. `page_run` writes one page of HTML that shows a run.
+//! spare. `page_run` writes one page of HTML that shows a run. `traffic_run` writes how busy the bus was and how long messages waited.
 #![tactic(auto)]
 
 mod check;
@@ -21,6 +21,7 @@ mod merge;
 mod plan;
 mod records;
 mod run_page;
+mod traffic;
 mod views;
 mod workers;
 
@@ -34,6 +35,8 @@ pub use merge::merge_run;
 pub use plan::plan_run;
 pub use records::records_run;
 pub use run_page::page_run;
+pub use traffic::traffic_run;
 pub use views::{candump_run, trace_run, vcd_run};
+pub use wl_traffic::Reason;
 pub use wl_worker::LinkKind;
 pub use workers::{workers_run, workers_run_by};
