@@ -1,5 +1,5 @@
 -- What is found of one setting more.
-use Rattle.std.proofs.Common.{◌≡◌, ◌∙◌, ◌<◌, ◌+◌, sym, subst, ap, ap₂, refl, ℕ, true, false, Bool, if◌then◌else◌, List, [], ◌∷◌, ◌++◌, All, map, filter, take, Option, Some, None, length, get_or}
+use Rattle.std.proofs.Common.{◌≡◌, ◌∙◌, ◌<◌, ◌+◌, sym, subst, ap, ap₂, refl, ℕ, true, false, Bool, List, [], ◌∷◌, ◌++◌, All, map, filter, take, Option, Some, None, length, get_or}
 use Rattle.std.proofs.lemmas.List.{append-nil, map-append, take_more}
 use Rattle.std.proofs.lemmas.List.Elements.{All-push, filter-append}
 use Rattle.wl_settings.specs.declared.asked.Asked.{Asked}

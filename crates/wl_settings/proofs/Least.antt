@@ -1,7 +1,7 @@
 -- The least refusal, by those so far and those that are left.
-use Rattle.std.proofs.Common.{◌≡◌, ◌<◌, ◌≤◌, ℕ, nat_lt, if◌then◌else◌, Bool, true, false, refl, List, [], ◌∷◌, Option, Some, None, inl, inr, arith}
+use Rattle.std.proofs.Common.{◌≡◌, refl, Option, Some, None, arith}
 use Rattle.wl_settings.specs.declared.judged.Refusal.{Refusal}
-use Rattle.wl_settings.specs.Rankings.{least_refusal, lesser_of}
+use Rattle.wl_settings.specs.Rankings.{lesser_of}
 
 -- the lesser of the least one so far and the least one that is left
 abbrev pub merged : Option Refusal → Option Refusal → Option Refusal

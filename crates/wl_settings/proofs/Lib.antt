@@ -4,6 +4,7 @@ mod Found
 mod Growing
 mod Least
 mod MadeTables
+mod Rows
 mod Saying
 mod Unknown
 mod ValueLemmas

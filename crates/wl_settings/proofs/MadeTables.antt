@@ -1,5 +1,5 @@
 -- What is made of an array's tables one by one.
-use Rattle.std.proofs.Common.{◌≡◌, ℕ, List, ◌++◌, map, drop, Option}
+use Rattle.std.proofs.Common.{◌≡◌, ℕ, List, ◌++◌, map, drop}
 use Rattle.toml.specs.View.{view}
 use Rattle.toml.specs.declared.value.Value.{Value}
 use Rattle.wl_setup.specs.Faults.{first_some}

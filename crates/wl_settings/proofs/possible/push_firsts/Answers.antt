@@ -1,4 +1,4 @@
-use Rattle.std.proofs.Common.{◌+◌, ◌-◌}
+use Rattle.std.proofs.Common.{◌+◌}
 use Rattle.wl_settings.specs.Settings.{by_second}
 use Rattle.wl_settings.proofs.Growing.{none_more, one_more}
 use Rattle.wl_settings.proofs.possible.push_firsts.Goals as goal

@@ -1,4 +1,4 @@
-use Rattle.std.proofs.Common.{◌≡◌, ◌++◌, ◌+◌, ◌-◌}
+use Rattle.std.proofs.Common.{◌≡◌, ◌++◌, ◌-◌}
 use Rattle.wl_settings.specs.Settings.{each_under, only}
 use Rattle.wl_settings.proofs.possible.push_jumps.Given as goal
 

@@ -1,4 +1,4 @@
-use Rattle.std.proofs.Common.{◌≡◌, ◌++◌, ◌+◌, ◌-◌}
+use Rattle.std.proofs.Common.{◌≡◌, ◌++◌, ◌+◌}
 use Rattle.wl_settings.specs.Settings.{each_under, by_jump}
 use Rattle.wl_settings.proofs.possible.push_seconds.Given as goal
 

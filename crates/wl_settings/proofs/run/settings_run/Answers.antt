@@ -1,4 +1,4 @@
-use Rattle.std.proofs.Common.{◌⊎◌, inl, inr, rules}
+use Rattle.std.proofs.Common.{inl, inr, rules}
 use Rattle.wl_settings.proofs.FaultLemmas.{memory_or_not}
 use Rattle.wl_settings.proofs.run.settings_run.Goals as goal
 

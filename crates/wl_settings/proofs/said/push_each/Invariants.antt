@@ -1,4 +1,4 @@
-use Rattle.std.proofs.Common.{◌≡◌, take, string_bytes}
+use Rattle.std.proofs.Common.{take, string_bytes}
 use Rattle.wl_settings.specs.Said.{GrowsBySaid}
 use Rattle.wl_settings.proofs.said.push_each.Given as goal
 
