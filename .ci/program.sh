@@ -9,6 +9,7 @@
 # - two nodes with full queues, as bench/plain.py reports them
 # - each row of .ci/refused.txt: the status, the one line on standard error, nothing on standard output but what explain says of it, and the hint
 # - files for input and output: what stands at the named place on each outcome; devices, rights, full disks, closed descriptors, odd names
+# - settings: lists and plans as bench/settings.py has them, and what is refused (.ci/settings.sh)
 # - sweeps: known answers, what is refused, files, memory (.ci/sweeps.sh)
 # - command lines that name no task, or are no text: status 2, and nothing on standard output
 # - a run that doesn't end in 300 seconds, as one whose workers wait for each other for ever, has failed
@@ -52,6 +53,8 @@ for report in examples/*.report; do
   runs "explain of $name" "examples/$name.toml" 0 "$room/explained" "$room/none" explain
   python3 bench/plain.py trace < "examples/$name.toml" > "$room/traced"
   runs "trace of $name" "examples/$name.toml" 0 "$room/traced" "$room/none" trace
+  python3 -B bench/traffic.py text < "examples/$name.toml" > "$room/traffic"
+  runs "traffic of $name" "examples/$name.toml" 0 "$room/traffic" "$room/none" traffic
   "$program" candump < "examples/$name.toml" > "$room/out" 2> "$room/err"
   is "candump of $name" [ $? = 0 -a ! -s "$room/err" ]
   is "lines of candump of $name" [ "$(grep -c '^frame [0-9]* sent ' "$report")" = "$(wc -l < "$room/out")" ]
@@ -59,12 +62,18 @@ for report in examples/*.report; do
   runs "vcd of $name" "examples/$name.toml" 0 "$room/waved" "$room/none" vcd
 done
 
+# The status says whether a run works only if that is asked for.
+runs "traffic of a plan that works" examples/cyclic_500k.toml 0 examples/cyclic_500k.traffic "$room/none" traffic --strict
+python3 -B bench/traffic.py text 100ps < examples/burst.toml > "$room/traffic"
+runs "traffic of a plan with errors" examples/burst.toml 1 "$room/traffic" "$room/none" traffic --strict --tick 100ps
+runs "traffic of that plan, not strict" examples/burst.toml 0 "$room/traffic" "$room/none" traffic --tick 100ps
+
 # Full queues: each of two nodes sends 64 frames and receives the other's 64, more than in any example.
 python3 -Bc 'import sys; sys.path.insert(0, "bench"); import worst; print(worst.plan(nodes=2, quanta=200_000))' > "$room/full.toml"
 python3 bench/plain.py run < "$room/full.toml" > "$room/full"
 is "frames of full queues" [ "$(grep -c '^frame 0' "$room/full")" = 128 ]
 runs "run of full queues" "$room/full.toml" 0 "$room/full" "$room/none" run
-for word in candump vcd page margin; do
+for word in candump vcd page margin traffic; do
   "$program" "$word" < "$room/full.toml" > "$room/$word" 2> "$room/err"
   is "$word of full queues" [ $? = 0 -a -s "$room/$word" -a ! -s "$room/err" ]
 done
@@ -154,6 +163,7 @@ is "faults without a row: $(tr '\n' ' ' < "$room/out")" [ ! -s "$room/out" ]
 
 . .ci/files.sh
 . .ci/sweeps.sh
+. .ci/settings.sh
 
 while IFS= read -r words; do
   # shellcheck disable=SC2086
@@ -194,6 +204,14 @@ check --link hub
 run --tick 1ns
 explain --tick 1ns
 trace --tick 1ns
+settings --best
+settings --best 0
+settings --best many
+settings --best 1 --best 2
+settings --plan --plan
+settings --tick 1
+run --best 1
+run --plan
 candump --tick
 candump --tick 1
 candump --tick 0ns
@@ -207,20 +225,20 @@ WORDS
 printf 'error: --link wants hub or mail\n' > "$room/fault"
 runs "a link that is none" examples/clean_500k.toml 2 "$room/none" "$room/fault" run --link post
 printf 'error: --tick wants 1 to 999 and ps, ns or us, as 125ps\n' > "$room/fault"
-for word in candump vcd page margin; do
+for word in candump vcd page margin traffic settings; do
   runs "a tick that is none, $word" examples/clean_500k.toml 2 "$room/none" "$room/fault" "$word" --tick 1ms
 done
 
 printf "error: the arguments can't be read\n" > "$room/fault"
 runs "words that are no text" examples/clean_500k.toml 2 "$room/none" "$room/fault" run $'\xff'
 
-for word in merge horizon check records run explain trace candump vcd page margin sweep; do
+for word in merge horizon check records run explain trace candump vcd page margin traffic settings sweep; do
   printf 'fault: Read\n' > "$room/fault"
   runs "$word of a reader that fails" / 3 "$room/none" "$room/fault" "$word"
 done
-for word in merge horizon check records run explain trace candump vcd page margin sweep; do
+for word in merge horizon check records run explain trace candump vcd page margin traffic settings sweep; do
   input=examples/clean_500k.toml
-  case "$word" in merge | horizon) input=examples/records.txt ;; esac
+  case "$word" in merge | horizon) input=examples/records.txt ;; settings) input=examples/settings/mcp2515_500k.toml ;; esac
   printf 'fault: Write\n' > "$room/fault"
   ended=0
   "$program" "$word" < "$input" > /dev/full 2> "$room/err" || ended=$?
@@ -265,6 +283,7 @@ if command -v gcc > /dev/null; then
   is "run FILE -o FILE, each allocation refused" refused_files
   is "run, each allocation refused" bench/refuse.sh "$program" run examples/clean_500k.toml
   is "run --workers 2, each allocation refused" bench/refuse.sh "$program" run examples/clean_500k.toml --workers 2
+  is "settings, each allocation refused" bench/refuse.sh "$program" settings examples/settings/narrow_1m.toml
   is "sweep, each allocation refused" bench/refuse.sh "$program" sweep examples/clean_500k.toml --runs 3 --workers 2
   [ ! -x "$world" ] || is "worlds, each allocation refused" python3 bench/worlds.py "$world" refused
 fi

@@ -16,9 +16,9 @@ is() { # is WHAT STATUS FAULT: how the last run ended, as $ended and $room/err s
 }
 
 printf 'E 0 0 100\nS 0 1 300\n' > "$room/records"
-for word in merge horizon check records run explain trace candump vcd page margin sweep; do
+for word in merge horizon check records run explain trace candump vcd page margin traffic settings sweep; do
   input=$plan
-  case "$word" in merge | horizon) input=$room/records ;; esac
+  case "$word" in merge | horizon) input=$room/records ;; settings) input=$here/examples/settings/narrow_1m.toml ;; esac
   "$program" "$word" < "$input" > /dev/full 2> "$room/err"; ended=$?
   is "$word onto a full disk" 3 'fault: Write'
   "$program" "$word" < "$input" >&- 2> "$room/err"; ended=$?

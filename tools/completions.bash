@@ -9,10 +9,12 @@ _wireline() {
   case ${COMP_WORDS[1]} in
     run) options+=' --workers --link' ;;
     candump | vcd | page | margin) options+=' --tick' ;;
+    traffic) options+=' --tick --strict' ;;
+    settings) options+=' --tick --best --plan' ;;
     sweep) options+=' --vary --step --runs --seed --keep-offsets --keep-ppm --worst --workers --print' ;;
   esac
   if [ "$COMP_CWORD" = 1 ]; then
-    mapfile -t COMPREPLY < <(compgen -W 'run check explain trace candump vcd page margin records merge horizon sweep build completions help' -- "$word")
+    mapfile -t COMPREPLY < <(compgen -W 'run check explain trace candump vcd page margin traffic settings records merge horizon sweep build completions help' -- "$word")
   elif [[ $word = -* ]]; then mapfile -t COMPREPLY < <(compgen -W "$options" -- "$word")
   else mapfile -t COMPREPLY < <(compgen -f -- "$word"); fi
 }

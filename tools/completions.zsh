@@ -3,12 +3,14 @@
 _wireline() {
   local -a options=('--hint[what to change after a fault]' '--progress[how long the run has taken]' '-o[the file to write]:file:_files' '--help' '*:file:_files')
   if (( CURRENT == 2 )); then
-    compadd run check explain trace candump vcd page margin records merge horizon sweep build completions help
+    compadd run check explain trace candump vcd page margin traffic settings records merge horizon sweep build completions help
     return
   fi
   case $words[2] in
     run) options+=('--workers[how many threads]:number:(1 2 3 4 5 6 7 8)' '--link[what they hand records over by]:link:(hub mail)') ;;
     candump | vcd | page | margin) options+=('--tick[how long a tick takes]:time:') ;;
+    traffic) options+=('--tick[how long a tick takes]:time:' '--strict[status 1 unless the run works]') ;;
+    settings) options+=('--tick[how long a tick takes]:time:' '--best[the most settings that are listed]:number:' '--plan[the plan of the best one]') ;;
     sweep) options+=(
       '*--vary[a row for each value]:[NODE.]KEY=A..B[\:STEP]:' '--step[ticks between two offsets]:ticks:' '--runs[the most members of a row that are run]:number:'
       '--seed[which random part]:number:' '--keep-offsets[offsets as the plan has them]' '--keep-ppm[signs as the plan has them]'

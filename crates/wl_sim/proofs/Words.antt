@@ -21,6 +21,9 @@ use Rattle.wl_device.specs.Devices.{Answer}
 use Rattle.wl_engines.specs.declared.fault.RunFault.{RunFault}
 use Rattle.wl_engines.specs.declared.fault.RunFault.TheVariants as run
 use Rattle.wl_sweep_engine.specs.declared.fault.SweepFault.TheVariants as sweep
+use Rattle.wl_settings.specs.declared.fault.SettingsFault.TheVariants as settings
+use Rattle.wl_settings.specs.declared.said.Shown.{Shown}
+use Rattle.wl_settings.specs.declared.said.Shown.TheVariants.{Best}
 use Rattle.wl_sim.specs.CommandLine.{program, task_word, tick_among, workers_among, read_link, link_among, entered, file_among, file_in, file_named, is_flagged, is_set, number_among, number_or_zero, plain_values, plainly_swept, ranges_among, ranges_in, values_among, word_in, Enters, FoundTask, NamedTask, HasValues, NamesTask}
 use Rattle.wl_worker.specs.declared.kinds.LinkKind.{LinkKind}
 use Rattle.wl_worker.specs.declared.kinds.LinkKind.TheVariants.{Hub}
@@ -37,7 +40,7 @@ use Rattle.wl_sim.specs.declared.command.Order.{Order}
 use Rattle.wl_sim.specs.declared.command.Refusal.{Refusal}
 use Rattle.wl_sim.specs.declared.command.Refusal.TheVariants.{Words, Memory}
 use Rattle.wl_sim.specs.declared.command.Task.{Task}
-use Rattle.wl_sim.specs.declared.command.Task.TheVariants.{Merge, Horizon, Check, Records, Run, Explain, Trace, Candump, Vcd, Page, Margin, Sweep}
+use Rattle.wl_sim.specs.declared.command.Task.TheVariants.{Merge, Horizon, Check, Records, Run, Explain, Trace, Candump, Vcd, Page, Margin, Traffic, Settings, Sweep}
 use Rattle.wl_sim.specs.declared.sweep.Swept.{Swept}
 use Rattle.wl_sim.specs.declared.values.Values.{Values}
 
@@ -63,6 +66,8 @@ word_enters (Candump tick) name h = ((refl, h), refl)
 word_enters (Vcd tick) name h = ((refl, h), refl)
 word_enters (Page tick) name h = ((refl, h), refl)
 word_enters (Margin tick) name h = ((refl, h), refl)
+word_enters (Traffic tick strict) name h = ((refl, h), refl)
+word_enters (Settings tick shown) name h = ((refl, h), refl)
 word_enters (Sweep swept) name h = ((refl, h), refl)
 
 -- and names no file and no range
@@ -83,6 +88,8 @@ word_names_none (Candump tick) name = (refl, refl, refl)
 word_names_none (Vcd tick) name = (refl, refl, refl)
 word_names_none (Page tick) name = (refl, refl, refl)
 word_names_none (Margin tick) name = (refl, refl, refl)
+word_names_none (Traffic tick strict) name = (refl, refl, refl)
+word_names_none (Settings tick shown) name = (refl, refl, refl)
 word_names_none (Sweep swept) name = (refl, refl, refl)
 
 names_none : (t : Task) (words : List Text) → NamesTask t words → NamesNothing words
@@ -161,7 +168,7 @@ file_text f id = ap (option_and_then file_named) (sym (first_value-rows f id))
 pub flag_text : (f : Found) (id : Text) → is_flagged id (rows_of f) ≡ option_map_or is_set (first_value f id) false
 flag_text f id = ap (λ o. option_map_or is_set o false) (sym (first_value-rows f id))
 
--- which task has a word, by its first two letters, and the values of its options
+-- which task has a word, by its first two letters, but for `traffic` by its fourth, and the values of its options
 tick_in : Option Values → Tick
 tick_in given = unwrap_or (option_and_then (λ v. v.tick) given) (record { count = 1; unit = Nanosecond })
 
@@ -174,19 +181,27 @@ link_in given = unwrap_or (option_and_then (λ v. v.link) given) Hub
 swept_in : Option Values → Swept
 swept_in given = unwrap_or (option_and_then (λ v. v.swept) given) plainly_swept
 
+strict_in : Option Values → Bool
+strict_in given = unwrap_or (option_map (λ v. v.strict) given) false
+
+shown_in : Option Values → Shown
+shown_in given = unwrap_or (option_map (λ v. v.shown) given) (Best None)
+
 task_by : Option Values → ℕ → Task
 task_by given n =
     if n == 412 then Merge else (if n == 437 then Horizon else (if n == 411 then Check else (if n == 417 then Records else
     (if n == 461 then Explain else (if n == 390 then Candump (tick_in given) else (if n == 415 then Vcd (tick_in given) else
     (if n == 458 then Trace else (if n == 403 then Page (tick_in given) else (if n == 400 then Margin (tick_in given) else
-    (if n == 472 then Sweep (swept_in given) else Run (workers_in given) (link_in given)))))))))))
+    (if n == 472 then Sweep (swept_in given) else (if n == 418 then Settings (tick_in given) (shown_in given) else
+    Run (workers_in given) (link_in given))))))))))))
 
 task_at : Option Values → Option Text → Task
 task_at given None = Merge
-task_at given (Some w) = task_by given (slice_index w 0 + 3 * slice_index w 1)
+task_at given (Some w) =
+    if slice_index w 3 == 102 then Traffic (tick_in given) (strict_in given) else task_by given (slice_index w 0 + 3 * slice_index w 1)
 
 task_at_word : (given : Option Values) (t : Task) → HasValues given t → task_at given (Some (task_word t)) ≡ t
-unfolding task_at task_by tick_in workers_in link_in swept_in
+unfolding task_at task_by tick_in strict_in workers_in link_in swept_in shown_in
 task_at_word given Merge h = refl
 task_at_word given Horizon h = refl
 task_at_word given Check h = refl
@@ -198,6 +213,10 @@ task_at_word given (Candump tick) h = ap (λ o. Candump (unwrap_or o (record { c
 task_at_word given (Vcd tick) h = ap (λ o. Vcd (unwrap_or o (record { count = 1; unit = Nanosecond }))) h
 task_at_word given (Page tick) h = ap (λ o. Page (unwrap_or o (record { count = 1; unit = Nanosecond }))) h
 task_at_word given (Margin tick) h = ap (λ o. Margin (unwrap_or o (record { count = 1; unit = Nanosecond }))) h
+task_at_word given (Traffic tick strict) h =
+    ap₂ (λ o p. Traffic (unwrap_or o (record { count = 1; unit = Nanosecond })) (unwrap_or p false)) h.0 h.1
+task_at_word given (Settings tick shown) h =
+    ap₂ (λ o p. Settings (unwrap_or o (record { count = 1; unit = Nanosecond })) (unwrap_or p (Best None))) h.0 h.1
 task_at_word given (Sweep swept) h = ap (λ o. Sweep (unwrap_or o plainly_swept)) h
 
 -- what was found makes at most one task
@@ -234,6 +253,8 @@ module _ {S T : Type 0} (gives : S → Answer → S → Type 0) (takes : T → A
   does_nothing s s' t t' (Vcd tick) h = (Err run.Memory, h, refl)
   does_nothing s s' t t' (Page tick) h = (Err run.Memory, h, refl)
   does_nothing s s' t t' (Margin tick) h = (Err run.Memory, h, refl)
+  does_nothing s s' t t' (Traffic tick strict) h = (Err run.Memory, h, refl)
+  does_nothing s s' t t' (Settings tick shown) h = (Err settings.Memory, inl (h, inl refl), refl)
   does_nothing s s' t t' (Sweep swept) h = sweeps_nothing s s' t t' swept swept.print h
 
 -- what is done over an order without files is done over the standard devices

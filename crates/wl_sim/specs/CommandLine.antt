@@ -10,10 +10,12 @@ use Rattle.clap.specs.Walk.{byte_or_zero}
 use Rattle.clap.specs.declared.builder.action.ArgAction.TheVariants.{Append, SetTrue}
 use Rattle.clap.specs.declared.builder.value_parser.ValueParser.TheVariants.{Signed, Unsigned}
 use Rattle.clap.specs.Simple.{on_top}
+use Rattle.wl_settings.specs.declared.said.Shown.{Shown}
+use Rattle.wl_settings.specs.declared.said.Shown.TheVariants.{Best, Plan}
 use Rattle.wl_worker.specs.declared.kinds.LinkKind.{LinkKind}
 use Rattle.wl_worker.specs.declared.kinds.LinkKind.TheVariants.{Hub, Mail}
 use Rattle.wl_sim.specs.declared.command.Task.{Task}
-use Rattle.wl_sim.specs.declared.command.Task.TheVariants.{Merge, Horizon, Check, Records, Run, Explain, Trace, Candump, Vcd, Page, Margin, Sweep}
+use Rattle.wl_sim.specs.declared.command.Task.TheVariants.{Merge, Horizon, Check, Records, Run, Explain, Trace, Candump, Vcd, Page, Margin, Traffic, Settings, Sweep}
 use Rattle.wl_sim.specs.declared.sweep.Swept.{Swept}
 use Rattle.wl_sim.specs.declared.values.Values.{Values}
 use Rattle.wl_views.specs.declared.tick.Tick.{Tick}
@@ -33,6 +35,8 @@ task_word (Candump tick) = codes "candump"
 task_word (Vcd tick) = codes "vcd"
 task_word (Page tick) = codes "page"
 task_word (Margin tick) = codes "margin"
+task_word (Traffic tick strict) = codes "traffic"
+task_word (Settings tick shown) = codes "settings"
 task_word (Sweep swept) = codes "sweep"
 
 -- the argument that names the file to read
@@ -64,6 +68,10 @@ tick_rule = record (new_rule (codes "tick")) { long = Some (codes "tick"); value
 abbrev pub timed : Text → App
 timed word = with_rule (filed word) tick_rule
 
+-- the subcommand `traffic`, with its options
+abbrev pub traffic_app : App
+traffic_app = with_rule (timed (codes "traffic")) (flag_rule (codes "strict"))
+
 -- the option `--workers`, a number from 1 to 8, which is 1 where it isn't given
 abbrev pub workers_rule : Rule
 workers_rule =
@@ -76,6 +84,14 @@ link_rule = record (new_rule (codes "link")) { long = Some (codes "link"); value
 -- the subcommand `run`, with its options
 abbrev pub run_app : App
 run_app = with_rule (with_rule (filed (codes "run")) workers_rule) link_rule
+
+-- the options of `settings`: how many are listed, a number above 0, and that the plan of the best one is written
+abbrev pub best_rule : Rule
+best_rule = record (new_rule (codes "best")) { long = Some (codes "best"); value_names = 1; parser = Some (Signed (pos 1) (pos (2 ^ 32 - 1))) }
+
+-- the subcommand `settings`
+abbrev pub settings_app : App
+settings_app = with_rule (with_rule (timed (codes "settings")) best_rule) (flag_rule (codes "plan"))
 
 -- the options of `sweep`, of which `--vary` may come several times; the members that are run are 1000 at most, and drawn by seed 1, where nothing else is said
 abbrev pub vary_rule : Rule
@@ -121,12 +137,16 @@ untimed_program =
 -- the command line of single runs: after those, the trace and the tasks with one
 abbrev pub single_program : App
 single_program =
-    with_subcommand (with_subcommand (with_subcommand (with_subcommand (with_task untimed_program Trace)
-    (timed (codes "candump")).top) (timed (codes "vcd")).top) (timed (codes "page")).top) (timed (codes "margin")).top
+    with_subcommand (with_subcommand (with_subcommand (with_subcommand (with_subcommand (with_task untimed_program Trace)
+    (timed (codes "candump")).top) (timed (codes "vcd")).top) (timed (codes "page")).top) (timed (codes "margin")).top) traffic_app.top
+
+-- and with the search for settings
+abbrev pub search_program : App
+search_program = with_subcommand single_program settings_app.top
 
 -- the program's command line: after those, the sweep
 abbrev pub program : App
-program = with_subcommand single_program sweep_app.top
+program = with_subcommand search_program sweep_app.top
 
 -- the subcommand that clap enters at these words, with what it finds there
 abbrev pub entered : List Text → Option (Text × List Row)
@@ -216,9 +236,20 @@ abbrev pub swept_among : List Row → Option Swept
 swept_among rows =
     option_and_then (λ runs. option_map (swept_by rows runs) (number_among 32 (codes "seed") rows)) (number_among 32 (codes "runs") rows)
 
+-- what the options say of the settings of a bus
+abbrev pub shown_among : List Row → Shown
+shown_among rows = if is_flagged (codes "plan") rows then Plan else Best (number_among 32 (codes "best") rows)
+
 -- what the options say that only some tasks have
 abbrev pub values_among : List Row → Values
-values_among rows = record { tick = tick_among rows; workers = workers_among rows; link = link_among rows; swept = swept_among rows }
+values_among rows = record {
+  tick = tick_among rows;
+  workers = workers_among rows;
+  link = link_among rows;
+  swept = swept_among rows;
+  shown = shown_among rows;
+  strict = is_flagged (codes "strict") rows;
+}
 
 -- a task that has values of options has these
 abbrev pub HasValues : Option Values → Task → Type 0
@@ -226,6 +257,8 @@ HasValues given (Candump tick) = option_and_then (λ v. v.tick) given ≡ Some t
 HasValues given (Vcd tick) = option_and_then (λ v. v.tick) given ≡ Some tick
 HasValues given (Page tick) = option_and_then (λ v. v.tick) given ≡ Some tick
 HasValues given (Margin tick) = option_and_then (λ v. v.tick) given ≡ Some tick
+HasValues given (Traffic tick strict) = (option_and_then (λ v. v.tick) given ≡ Some tick) × (option_map (λ v. v.strict) given ≡ Some strict)
+HasValues given (Settings tick shown) = (option_and_then (λ v. v.tick) given ≡ Some tick) × (option_map (λ v. v.shown) given ≡ Some shown)
 HasValues given (Run workers kind) = (option_and_then (λ v. v.workers) given ≡ Some workers) × (option_and_then (λ v. v.link) given ≡ Some kind)
 HasValues given (Sweep swept) = option_and_then (λ v. v.swept) given ≡ Some swept
 HasValues given Merge = Unit {0}
@@ -255,13 +288,16 @@ plainly_swept = record {
   print = None;
 }
 
--- where the words say nothing of it a tick is a nanosecond, and one worker runs, over a hub if it were several
+-- where the words say nothing of it a tick is a nanosecond, one worker runs, over a hub if it were several, all settings are listed, and the status
+-- says nothing of a run
 abbrev pub plain_values : Values
 plain_values = record {
   tick = Some (record { count = 1; unit = Nanosecond });
   workers = Some 1;
   link = Some Hub;
   swept = Some plainly_swept;
+  strict = false;
+  shown = Best None;
 }
 
 -- the program's own name, and after it the word of the task alone: clap enters the task there, with plain values

@@ -13,7 +13,13 @@ use Rattle.wl_engines.specs.Margin.{IsMarginOutput, RunsBus}
 use Rattle.wl_engines.specs.Merge.{Merges}
 use Rattle.wl_engines.specs.Paged.{Pages}
 use Rattle.wl_engines.specs.Plans.{RunsPlan, IsRecordsOutput, IsRunOutput, IsTraceOutput, IsCandumpOutput, IsVcdOutput}
+use Rattle.wl_engines.specs.TrafficRun.{RunsTraffic}
 use Rattle.wl_engines.specs.Workers.{RunsByWorkers}
+use Rattle.wl_setup.specs.declared.fault.SetupFault.TheVariants as setup
+use Rattle.wl_settings.specs.declared.fault.SettingsFault.{SettingsFault}
+use Rattle.wl_settings.specs.declared.fault.SettingsFault.TheVariants as settings
+use Rattle.wl_settings.specs.Runs.{RunsSettings}
+use Rattle.wl_views.specs.declared.tick.Tick.{Tick}
 use Rattle.wl_sweep.specs.declared.finding.Finding.{Finding}
 use Rattle.wl_sweep.specs.declared.tally.Tally.{Tally}
 use Rattle.wl_sweep.specs.Findings.{is_clean}
@@ -21,6 +27,8 @@ use Rattle.wl_sweep.specs.Tallies.{tally_of}
 use Rattle.wl_sweep_engine.specs.declared.fault.SweepFault.{SweepFault}
 use Rattle.wl_sweep_engine.specs.declared.fault.SweepFault.TheVariants as sweep
 use Rattle.wl_sweep_engine.specs.Sweeping.{Sweeps, Prints}
+use Rattle.wl_traffic.specs.declared.reason.Reason.{Reason}
+use Rattle.wl_traffic.specs.declared.reason.Reason.TheVariants.{Works}
 use Rattle.wl_sim.specs.declared.answer.Done.{Done}
 use Rattle.wl_sim.specs.declared.answer.Done.TheVariants.{Plain, Unclean}
 use Rattle.wl_sim.specs.declared.answer.Fault.{Fault}
@@ -28,8 +36,9 @@ use Rattle.wl_sim.specs.declared.answer.Fault.TheVariants as fault
 use Rattle.wl_sim.specs.declared.command.Refusal.{Refusal}
 use Rattle.wl_sim.specs.declared.command.Refusal.TheVariants.{Words, Memory}
 use Rattle.wl_sim.specs.declared.command.Task.{Task}
-use Rattle.wl_sim.specs.declared.command.Task.TheVariants.{Merge, Horizon, Check, Records, Run, Explain, Trace, Candump, Vcd, Page, Margin, Sweep}
+use Rattle.wl_sim.specs.declared.command.Task.TheVariants.{Merge, Horizon, Check, Records, Run, Explain, Trace, Candump, Vcd, Page, Margin, Traffic, Settings, Sweep}
 use Rattle.wl_sim.specs.declared.sweep.Swept.{Swept}
+use Rattle.wl_views.specs.Ticks.{tick_picoseconds}
 
 -- what an engine answered, as an answer of the program
 abbrev pub plainly : Result (Unit {0}) RunFault → Result Done Fault
@@ -57,13 +66,32 @@ abbrev pub of_print : Result (Unit {0}) SweepFault → Result Done Fault
 of_print (Ok u) = Ok Plain
 of_print (Err f) = Err (of_sweep f)
 
--- the status of a run: 0; 1 where the input was refused for what it says, or some member of a sweep isn't clean; 2 where its plan doesn't allow the words of a sweep;
+-- a fault of a search for settings: of its devices or memory it is that of any engine; else it is one of its text
+abbrev pub of_settings_fault : SettingsFault → Fault
+of_settings_fault settings.Read = fault.Run (run.Setup setup.Read)
+of_settings_fault settings.Write = fault.Run run.Write
+of_settings_fault settings.Memory = fault.Run run.Memory
+of_settings_fault f = fault.Settings f
+
+abbrev pub of_settings : Result (Unit {0}) SettingsFault → Result Done Fault
+of_settings (Ok u) = Ok Plain
+of_settings (Err f) = Err (of_settings_fault f)
+
+-- what is answered for the traffic of a run: if the status is to say so, whether the run works
+abbrev pub of_traffic : (strict : Bool) → Result Reason RunFault → Result Done Fault
+of_traffic strict (Ok Works) = Ok Plain
+of_traffic true (Ok reason) = Ok Unclean
+of_traffic false (Ok reason) = Ok Plain
+of_traffic strict (Err f) = Err (fault.Run f)
+
+-- the status of a run: 0; 1 where the input was refused for what it says, some member of a sweep isn't clean, or a strict run doesn't work; 2 where its plan doesn't allow the words of a sweep;
 -- 3 when out of memory or for a fault of reading, writing or workers
 abbrev pub run_status : Result Done Fault → ℕ
 run_status (Ok Plain) = 0
 run_status (Ok Unclean) = 1
 run_status (Err (fault.Run f)) = if is_refusal f then 1 else 3
 run_status (Err (fault.Word f)) = 2
+run_status (Err (fault.Settings f)) = 1
 
 -- the status of a command line that named no task
 abbrev pub refusal_status : Refusal → ℕ
@@ -88,6 +116,10 @@ module _ {S T : Type 0} (gives : S → Answer → S → Type 0) (takes : T → A
   DoesSweep swept ranges (Some n) r =
       (answer : Result (Unit {0}) SweepFault) × Prints gives takes ranges swept.asked s s' t t' n answer × (r ≡ of_print answer)
 
+  -- the traffic of a run was written
+  abbrev pub DoesTraffic : Tick → Bool → Result Done Fault → Type 0
+  DoesTraffic tick strict r = (answer : Result Reason RunFault) × RunsTraffic gives takes tick s s' t t' answer × (r ≡ of_traffic strict answer)
+
   -- what was done for a task, over the ranges of a sweep
   abbrev pub Does : Task → List Text → Result Done Fault → Type 0
   Does Merge ranges r = Plainly (Merges gives takes s s' t t') r
@@ -102,6 +134,9 @@ module _ {S T : Type 0} (gives : S → Answer → S → Type 0) (takes : T → A
   Does (Vcd tick) ranges r = Plainly (RunsPlan gives takes (IsVcdOutput tick) s s' t t') r
   Does (Page tick) ranges r = Plainly (Pages gives takes tick s s' t t') r
   Does (Margin tick) ranges r = Plainly (RunsBus gives takes (IsMarginOutput tick) s s' t t') r
+  Does (Traffic tick strict) ranges r = DoesTraffic tick strict r
+  Does (Settings tick shown) ranges r =
+      (answer : Result (Unit {0}) SettingsFault) × RunsSettings gives takes (tick_picoseconds tick) shown s s' t t' answer × (r ≡ of_settings answer)
   Does (Sweep swept) ranges r = DoesSweep swept ranges swept.print r
 
   -- the task was done, nothing else was read or written, and the status is that of what was answered

@@ -4,10 +4,12 @@ ghost use Rattle.std.specs.List.{list_all};
 ghost use Rattle.wl_sweep.specs.Findings.{is_clean};
 ghost use Rattle.wl_sweep.specs.Tallies.{tally_of};
 ghost use Rattle.wl_sweep.specs.declared.finding.Finding.{Finding};
-ghost use Rattle.wl_sim.specs.Tasks.{AnswersSweep, done_by, of_print, of_sweep, plainly};
+ghost use Rattle.wl_sim.specs.Tasks.{AnswersSweep, done_by, of_print, of_settings, of_settings_fault, of_sweep, of_traffic, plainly};
 
 use thiserror::Error;
-use wl_engines::RunFault;
+use wl_engines::{Reason, RunFault};
+use wl_settings::SettingsFault;
+use wl_setup::SetupFault;
 use wl_sweep_engine::{SweepFault, Tally};
 
 /// What came of a task whose output was written whole.
@@ -15,7 +17,7 @@ use wl_sweep_engine::{SweepFault, Tally};
 pub enum Done {
     /// The output says all.
     Plain,
-    /// Some member of a sweep isn't clean.
+    /// Some member of a sweep isn't clean, or a run doesn't work whose status is to say so.
     Unclean,
 }
 
@@ -28,6 +30,9 @@ pub enum Fault {
     /// The plan doesn't allow the words of a sweep.
     #[error("{0}")]
     Word(SweepFault),
+    /// The text that says what settings are asked for was refused, or there is no setting whose plan could be written.
+    #[error("{0}")]
+    Settings(SettingsFault),
 }
 
 /// What an engine answered, as an answer of the program.
@@ -80,5 +85,39 @@ pub(crate) fn of_print(answer: Result<(), SweepFault>) -> Result<Done, Fault>
     match answer {
         Ok(()) => Ok(Done::Plain),
         Err(fault) => Err(of_sweep(fault)),
+    }
+}
+
+/// A fault of a search for settings: of its devices or memory it is that of any engine, else it is one of its text.
+fn of_settings_fault(fault: SettingsFault) -> Fault
+    ensures { result ≡ of_settings_fault fault }
+{
+    match fault {
+        SettingsFault::Read => Fault::Run(RunFault::Setup(SetupFault::Read)),
+        SettingsFault::Write => Fault::Run(RunFault::Write),
+        SettingsFault::Memory => Fault::Run(RunFault::Memory),
+        other => Fault::Settings(other),
+    }
+}
+
+/// What a search for settings answered.
+pub(crate) fn of_settings(answer: Result<(), SettingsFault>) -> Result<Done, Fault>
+    ensures { result ≡ of_settings answer }
+{
+    match answer {
+        Ok(()) => Ok(Done::Plain),
+        Err(fault) => Err(of_settings_fault(fault)),
+    }
+}
+
+/// What the traffic of a run answered, whose status is to say whether it works.
+pub(crate) fn of_traffic(strict: bool, answer: Result<Reason, RunFault>) -> Result<Done, Fault>
+    ensures { result ≡ of_traffic strict answer }
+{
+    match answer {
+        Ok(Reason::Works) => Ok(Done::Plain),
+        Ok(_) if strict => Ok(Done::Unclean),
+        Ok(_) => Ok(Done::Plain),
+        Err(fault) => Err(Fault::Run(fault)),
     }
 }

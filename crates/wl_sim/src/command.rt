@@ -2,9 +2,9 @@
 ghost use Rattle.std.specs.Prelude.{◌≡◌, ◌≢◌, ◌↔◌, map, string_bytes, codes, IfOk, IfErr, false, Some, option_map};
 ghost use Rattle.clap.specs.Words.{app_of, kind_of, new_app, rule_of, subcommand_rows_of, with_rule};
 ghost use Rattle.clap.specs.declared.builder.command.Command.TheViews.{out-Command};
-ghost use Rattle.wl_sim.specs.CommandLine.{untimed_program, single_program, program, sweep_app, Enters, FoundTask, NamedTask};
+ghost use Rattle.wl_sim.specs.CommandLine.{untimed_program, single_program, search_program, program, settings_app, sweep_app, Enters, FoundTask, NamedTask};
 ghost use Rattle.wl_sim.specs.CommandLine.{file_in, has_flag, ranges_in};
-ghost use Rattle.wl_sim.specs.CommandLine.{filed, flag_rule, input_rule, link_rule, output_rule, run_app, tick_rule, workers_rule};
+ghost use Rattle.wl_sim.specs.CommandLine.{best_rule, filed, flag_rule, input_rule, link_rule, output_rule, run_app, tick_rule, traffic_app, workers_rule};
 ghost use Rattle.wl_sim.specs.Orders.{FindsOrder, ReadsOrder};
 
 use crate::sweep::{Swept, with_sweep_options};
@@ -17,6 +17,7 @@ use std::alloc::{AllocError, Global};
 use std::io;
 use std::rt::Env;
 use wl_engines::LinkKind;
+use wl_settings::Shown;
 use wl_setup::Text;
 use wl_views::Tick;
 
@@ -51,6 +52,11 @@ pub enum Task {
     Page(Tick),
     /// Whether a plan's bus works, and with how much to spare, at ticks that take so long.
     Margin(Tick),
+    /// How busy a plan's bus was, how long its messages waited, and why the run didn't work, at ticks that take so long; the status says, if
+    /// that is asked for, whether it worked.
+    Traffic(Tick, bool),
+    /// The settings with which a bus works, or the plan of the best one, at ticks that take so long.
+    Settings(Tick, Shown),
     /// How many members of a family of plans are clean, or one member as a plan.
     Sweep(Swept),
 }
@@ -261,6 +267,31 @@ fn sweep_command<'a>(alloc: Global) -> Result<Command<'a>, AllocError>
     with_sweep_options(alloc, sub)
 }
 
+/// The option that makes the status say whether the run works.
+fn strict_option<'a>(alloc: Global) -> Arg<'a>
+    ensures rule { rule_of result ≡ flag_rule (codes "strict") }
+    ensures local { result.global ≡ false }
+{
+    Arg::new(alloc, "strict")
+        .long("strict")
+        .action(ArgAction::SetTrue)
+        .help("Ends with status 1 if the verdict is another than works")
+}
+
+/// The subcommand `traffic`, with its options.
+fn traffic_command<'a>(alloc: Global) -> Result<Command<'a>, AllocError>
+    ensures app { IfOk result (λ sub. app_of sub ≡ traffic_app) }
+    ensures local { IfOk result (λ sub. (out-Command sub).has_globals ≡ false) }
+{
+    let traffic = optioned(
+        alloc,
+        "traffic",
+        "Simulates the plan, and writes how busy the bus was, how long messages waited, and whether it works",
+        tick_option(alloc),
+    )?;
+    traffic.arg(strict_option(alloc))
+}
+
 /// The command line of single runs: after those, the trace and the subcommands that have a tick.
 fn without_sweep<'a>(alloc: Global) -> Result<Command<'a>, AllocError>
     ensures { IfOk result (λ all. app_of all ≡ single_program) }
@@ -294,12 +325,64 @@ fn without_sweep<'a>(alloc: Global) -> Result<Command<'a>, AllocError>
         "Tests the plan, and writes whether its bus works at all phases and clocks, and with how much to spare",
         tick_option(alloc),
     )?;
+    let traffic = traffic_command(alloc)?;
     let all = untimed(alloc)?
         .subcommand(trace)?
         .subcommand(candump)?
         .subcommand(vcd)?
         .subcommand(page)?
-        .subcommand(margin)?;
+        .subcommand(margin)?
+        .subcommand(traffic)?;
+    Ok(all)
+}
+
+/// The option that says how many settings are listed.
+fn best_option<'a>(alloc: Global) -> Arg<'a>
+    ensures rule { rule_of result ≡ best_rule }
+    ensures local { result.global ≡ false }
+{
+    Arg::new(alloc, "best")
+        .long("best")
+        .value_name("N")
+        .help("The most settings of a controller that are listed; without it all")
+        .value_parser(value_parser!(u32).range(1..))
+}
+
+/// The flag that asks for the plan of the best setting.
+fn plan_option<'a>(alloc: Global) -> Arg<'a>
+    ensures rule { rule_of result ≡ flag_rule (codes "plan") }
+    ensures local { result.global ≡ false }
+{
+    Arg::new(alloc, "plan")
+        .long("plan")
+        .action(ArgAction::SetTrue)
+        .help(
+            "Writes the plan of the first controller's first setting: two nodes at the ends of the cable",
+        )
+}
+
+/// The subcommand `settings`, with its options.
+fn settings_command<'a>(alloc: Global) -> Result<Command<'a>, AllocError>
+    ensures app { IfOk result (λ sub. app_of sub ≡ settings_app) }
+    ensures local { IfOk result (λ sub. (out-Command sub).has_globals ≡ false) }
+{
+    let timed = optioned(
+        alloc,
+        "settings",
+        "Finds the bit timings with which a bus works for a clock, a bit rate and a cable, the best first",
+        tick_option(alloc),
+    )?;
+    let counted = timed.arg(best_option(alloc))?;
+    counted.arg(plan_option(alloc))
+}
+
+/// The command line without the sweep: single runs, and the search for settings.
+fn with_search<'a>(alloc: Global) -> Result<Command<'a>, AllocError>
+    ensures { IfOk result (λ all. app_of all ≡ search_program) }
+{
+    let settings = settings_command(alloc)?;
+    let single = without_sweep(alloc)?;
+    let all = single.subcommand(settings)?;
     Ok(all)
 }
 
@@ -308,8 +391,8 @@ fn command<'a>(alloc: Global) -> Result<Command<'a>, AllocError>
     ensures { IfOk result (λ all. app_of all ≡ program) }
 {
     let sweep = sweep_command(alloc)?;
-    let single = without_sweep(alloc)?;
-    let all = single.subcommand(sweep)?;
+    let searching = with_search(alloc)?;
+    let all = searching.subcommand(sweep)?;
     Ok(all)
 }
 
@@ -332,6 +415,14 @@ fn task_named(name: Option<&str>, values: Option<Values>) -> Option<Task>
         "vcd" => Some(Task::Vcd(values?.tick?)),
         "page" => Some(Task::Page(values?.tick?)),
         "margin" => Some(Task::Margin(values?.tick?)),
+        "traffic" => {
+            let values = values?;
+            Some(Task::Traffic(values.tick?, values.strict))
+        }
+        "settings" => {
+            let values = values?;
+            Some(Task::Settings(values.tick?, values.shown))
+        }
         "sweep" => Some(Task::Sweep(values?.swept?)),
         _ => None,
     }

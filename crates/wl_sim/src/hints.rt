@@ -10,6 +10,7 @@ use wl_hint::{
     FREE_MEMORY, Hint, READ, READ_FILE, THREADS, WRITE, WRITE_FILE, hint_of_plan, hint_of_records,
 };
 use wl_record::TextFault;
+use wl_settings::SettingsFault;
 use wl_setup::{SetupFault, Text};
 use wl_sweep_engine::{RangeFault, SweepFault};
 
@@ -152,6 +153,22 @@ fn say_of_word(rt: &impl Eprint, alloc: Global, order: &Order, fault: &SweepFaul
     }
 }
 
+/// What to change of a text that says what settings are asked for.
+fn settings_advice(fault: &SettingsFault) -> &'static str {
+    match fault {
+        SettingsFault::Toml => "Correct the TOML.",
+        SettingsFault::Missing(_) => "Add the key: docs/settings.md has all of them.",
+        SettingsFault::Kind(_) => "Give it a value as docs/settings.md says.",
+        SettingsFault::Unknown(_) =>
+            "Remove or rename the key; TOML puts a key into the table last begun.",
+        SettingsFault::NoController => "Add a `[[controller]]`.",
+        SettingsFault::NoSetting =>
+            "Leave out --plan: the list says which inequality refuses the best setting.",
+        SettingsFault::Size => "Pass a text of at most 1,048,576 bytes.",
+        SettingsFault::Read | SettingsFault::Write | SettingsFault::Memory => FREE_MEMORY,
+    }
+}
+
 /// Says beside the fault of a run the file that couldn't be read or written, and where the order asks for it a hint.
 fn say_of_run<F: Folder>(
     rt: &impl Eprint,
@@ -182,6 +199,12 @@ pub fn say_fault<F: Folder>(
         Fault::Word(fault) => {
             if order.hint {
                 say_of_word(rt, alloc, order, fault);
+            }
+        }
+        Fault::Settings(fault) => {
+            if order.hint {
+                let advice = settings_advice(fault);
+                let _ = eprintln!(rt; "hint: {advice}");
             }
         }
     }

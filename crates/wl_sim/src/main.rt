@@ -7,7 +7,8 @@
 //! `candump`, `vcd` and `page` read a plan text too: the first writes the frames that were sent as can-utils logs them, the second the
 //! waveform, the third one page of HTML that shows all of it. `margin` writes whether the plan's bus works, and with how much to spare.
 //! `explain` writes what is doubtful of a plan, and the figures of its nodes, or what is wrong with a plan that is refused; `trace` what
-//! happened to each node, and where; `sweep` how many members of a family of plans are clean.
+//! happened to each node, and where; `sweep` how many members of a family of plans are clean. `settings` reads a text of its own kind, and
+//! writes the bit timings with which a bus works.
 #![tactic(auto)]
 
 ghost use Rattle.std.specs.Prelude.{◌≡◌, ◌≢◌, ◌≤◌, map, string_bytes, IfOk, IfErr, Err, option_map};
@@ -28,6 +29,7 @@ use std::time::Clock;
 use std::{io, thread};
 use wl_device::{Host, Sink, Source};
 use wl_files::{BeginFault, Folder, SystemFolder};
+use wl_settings::settings_run;
 use wl_setup::{SetupFault, Text};
 use wl_sweep_engine::{Workers, print_run, sweep_run};
 
@@ -38,13 +40,13 @@ mod progress;
 mod sweep;
 mod values;
 
-use crate::answer::{of_print, of_tally, plainly};
+use crate::answer::{of_print, of_settings, of_tally, of_traffic, plainly};
 pub use answer::{Done, Fault};
 pub use command::{Order, Refusal, Task};
 pub use sweep::Swept;
 pub use wl_engines::{
     LinkKind, RunFault, candump_run, check_run, explain_run, horizon_run, margin_run, merge_run,
-    merges_as_one, page_run, plan_run, records_run, trace_run, vcd_run, workers_run,
+    merges_as_one, page_run, plan_run, records_run, trace_run, traffic_run, vcd_run, workers_run,
     workers_run_by,
 };
 
@@ -315,6 +317,10 @@ fn run<H: Threads + Wait + Sync + Eprint + Clock, R: Source, W: Sink>(
         Task::Vcd(tick) => plainly(vcd_run(alloc, tick, reader, writer)),
         Task::Page(tick) => plainly(page_run(alloc, tick, reader, writer)),
         Task::Margin(tick) => plainly(margin_run(alloc, tick, reader, writer)),
+        Task::Traffic(tick, strict) => of_traffic(strict, traffic_run(alloc, tick, reader, writer)),
+        Task::Settings(tick, shown) => {
+            of_settings(settings_run(alloc, tick.picoseconds(), shown, reader, writer))
+        }
         Task::Sweep(swept) => run_sweep(rt, alloc, swept, work, reader, writer),
     }
 }
@@ -334,6 +340,7 @@ fn status_of(answer: &Result<Done, Fault>) -> ExitCode
             }
         }
         Err(Fault::Word(_)) => ExitCode::from(REFUSED_COMMAND),
+        Err(Fault::Settings(_)) => ExitCode::from(REFUSED_INPUT),
     }
 }
 

@@ -3,12 +3,13 @@ ghost use Rattle.std.specs.Prelude.{◌≡◌, map, string_bytes, IfOk, false, o
 ghost use Rattle.std.specs.Option.{option_map_or};
 ghost use Rattle.clap.specs.Words.{found_of, rows_of, subcommand_rows_of};
 ghost use Rattle.wl_sim.specs.CommandLine.{file_among, file_named, is_flagged, is_set, link_among, number_among, ranges_among, ranges_in};
-ghost use Rattle.wl_sim.specs.CommandLine.{read_link, swept_among, swept_by, tick_among, values_among, workers_among};
+ghost use Rattle.wl_sim.specs.CommandLine.{read_link, shown_among, swept_among, swept_by, tick_among, values_among, workers_among};
 
 use crate::sweep::Swept;
 use clap::ArgMatches;
 use std::alloc::{AllocError, Global};
 use wl_engines::LinkKind;
+use wl_settings::Shown;
 use wl_setup::Text;
 use wl_sweep_engine::{Asked, Options};
 use wl_views::Tick;
@@ -24,6 +25,10 @@ pub(crate) struct Values {
     pub(crate) link: Option<LinkKind>,
     /// What is swept.
     pub(crate) swept: Option<Swept>,
+    /// What is written of the settings of a bus.
+    pub(crate) shown: Shown,
+    /// Whether the status says if a run works.
+    pub(crate) strict: bool,
 }
 
 /// The tick that a subcommand's option gives.
@@ -180,6 +185,17 @@ fn swept_in(matches: &ArgMatches) -> Option<Swept>
     Some(swept_by(matches, runs, seed))
 }
 
+/// What the options of a subcommand say of the settings of a bus: its plan if that is asked for, else the list.
+fn shown_in(matches: &ArgMatches) -> Shown
+    ensures { result ≡ shown_among (rows_of (found_of matches.now)) }
+{
+    if flag_in(matches, "plan") {
+        Shown::Plan
+    } else {
+        Shown::Best(small_number_in(matches, "best"))
+    }
+}
+
 /// What the options of a subcommand say.
 fn values_in(matches: &ArgMatches) -> Values
     ensures { result ≡ values_among (rows_of (found_of matches.now)) }
@@ -189,6 +205,8 @@ fn values_in(matches: &ArgMatches) -> Values
         workers: workers_in(matches),
         link: link_in(matches),
         swept: swept_in(matches),
+        shown: shown_in(matches),
+        strict: flag_in(matches, "strict"),
     }
 }
 

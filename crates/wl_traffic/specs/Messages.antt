@@ -3,7 +3,7 @@ use Rattle.std.specs.Prelude.{ℕ, ◌*◌, ◌/◌, ◌==◌, ◌&&◌, min, ma
 use Rattle.std.specs.List.{filter, list_any, sum_by, enumerate_from, flat_map}
 use Rattle.std.specs.Fmt.{decimal}
 use Rattle.wl_clock.specs.Timing.{Timing}
-use Rattle.wl_explain.specs.Words.{each_below, hundredths, joined}
+use Rattle.wl_margin.specs.Pieces.{each_below, hundredths, joined}
 use Rattle.wl_frame.specs.Grammar.{Content}
 use Rattle.wl_plan.specs.declared.plan.Plan.{Plan}
 use Rattle.wl_plan.specs.PlanLine.{setup_at}

@@ -1,7 +1,7 @@
 -- The traffic of a run as text: the bus, the messages, and why the run didn't work (this project's profile).
 use Rattle.std.specs.Prelude.{ℕ, min, List, [], ◌∷◌, ◌++◌, codes}
 use Rattle.std.specs.Fmt.{decimal}
-use Rattle.wl_explain.specs.Words.{hundredths, joined}
+use Rattle.wl_margin.specs.Pieces.{hundredths, joined}
 use Rattle.wl_plan.specs.declared.plan.Plan.{Plan}
 use Rattle.wl_views.specs.declared.tick.Tick.{Tick}
 use Rattle.wl_views.specs.Ticks.{microseconds}

@@ -12,7 +12,7 @@ pub(crate) struct Hundredths(pub(crate) u128);
 
 impl fmt::Display for Hundredths {
     ghost use Rattle.std.specs.Prelude.{Some};
-    ghost use Rattle.wl_explain.specs.Words.{hundredths};
+    ghost use Rattle.wl_margin.specs.Pieces.{hundredths};
 
     ghost output = { λ n. Some (hundredths n.0) };
 

@@ -7,4 +7,4 @@ top_of a = a.top
 
 pub returns : goal.returns
 returns c =
-    c.in_ok-all.ensures.shape c.in_ok-sweep.ensures.local ∙ ap₂ with_subcommand c.in_ok-single.ensures (ap top_of c.in_ok-sweep.ensures.app)
+    c.in_ok-all.ensures.shape c.in_ok-sweep.ensures.local ∙ ap₂ with_subcommand c.in_ok-searching.ensures (ap top_of c.in_ok-sweep.ensures.app)

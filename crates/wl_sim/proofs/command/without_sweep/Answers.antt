@@ -15,5 +15,6 @@ returns c =
     ∙ ap₂ with_subcommand two (ap top_of (c.in_ok-vcd.ensures.app ∙ ap (with_rule (filed (codes "vcd"))) c.tick_option-2.ensures.rule)) in
     let four = c.in_ok-subcommand-4.ensures.shape c.in_ok-page.ensures.local
     ∙ ap₂ with_subcommand three (ap top_of (c.in_ok-page.ensures.app ∙ ap (with_rule (filed (codes "page"))) c.tick_option-3.ensures.rule)) in
-    c.in_ok-all.ensures.shape c.in_ok-margin.ensures.local
-    ∙ ap₂ with_subcommand four (ap top_of (c.in_ok-margin.ensures.app ∙ ap (with_rule (filed (codes "margin"))) c.tick_option-4.ensures.rule))
+    let five = c.in_ok-subcommand-5.ensures.shape c.in_ok-margin.ensures.local
+    ∙ ap₂ with_subcommand four (ap top_of (c.in_ok-margin.ensures.app ∙ ap (with_rule (filed (codes "margin"))) c.tick_option-4.ensures.rule)) in
+    c.in_ok-all.ensures.shape c.in_ok-traffic.ensures.local ∙ ap₂ with_subcommand five (ap top_of c.in_ok-traffic.ensures.app)

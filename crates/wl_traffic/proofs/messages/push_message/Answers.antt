@@ -1,7 +1,7 @@
 use Rattle.std.proofs.Common.{◌≡◌, ◌∙◌, ◌++◌, ap, string_bytes, ℕ, Option}
 use Rattle.std.proofs.lemmas.Result.{on_ok_weaker}
 use Rattle.wl_clock.specs.Timing.{Timing}
-use Rattle.wl_explain.proofs.Callers.{grown_twice}
+use Rattle.wl_margin.proofs.Callers.{grown_twice}
 use Rattle.wl_node.specs.declared.setup.NodeSetup.{NodeSetup}
 use Rattle.wl_plan.specs.PlanLine.{setup_at}
 use Rattle.wl_serial.specs.declared.outcome.NodeOutcome.{NodeOutcome}

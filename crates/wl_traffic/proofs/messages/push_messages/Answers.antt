@@ -1,5 +1,5 @@
 use Rattle.std.proofs.Common.{string_bytes}
-use Rattle.wl_explain.proofs.Callers.{each_more}
+use Rattle.wl_margin.proofs.Callers.{each_more}
 use Rattle.wl_traffic.specs.Messages.{node_lines}
 use Rattle.wl_traffic.proofs.messages.push_messages.Goals as goal
 

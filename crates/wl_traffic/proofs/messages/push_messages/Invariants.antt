@@ -1,5 +1,5 @@
 use Rattle.std.proofs.Common.{◌≡◌, ◌++◌, string_bytes}
-use Rattle.wl_explain.specs.Words.{each_below}
+use Rattle.wl_margin.specs.Pieces.{each_below}
 use Rattle.wl_traffic.specs.Messages.{node_lines}
 use Rattle.wl_traffic.proofs.messages.push_messages.Given as goal
 
