@@ -1,6 +1,7 @@
-use Rattle.std.proofs.Common.{◌∙◌, ap, ap₂, codes}
-use Rattle.clap.specs.Words.{App, Shape, with_rule, with_subcommand}
-use Rattle.wl_sim.specs.CommandLine.{filed}
+use Rattle.std.proofs.Common.{◌≡◌, ◌∙◌, ap, ap₂, sym, subst, codes, IfOk}
+use Rattle.std.proofs.lemmas.Result.{err_from_is_err_and}
+use Rattle.clap.specs.Words.{App, Shape, app_of, with_rule, with_subcommand}
+use Rattle.wl_sim.specs.CommandLine.{filed, single_program}
 use Rattle.wl_sim.proofs.command.without_sweep.Goals as goal
 
 abbrev top_of : App → Shape
@@ -18,3 +19,8 @@ returns c =
     let five = c.in_ok-subcommand-5.ensures.shape c.in_ok-margin.ensures.local
     ∙ ap₂ with_subcommand four (ap top_of (c.in_ok-margin.ensures.app ∙ ap (with_rule (filed (codes "margin"))) c.tick_option-4.ensures.rule)) in
     c.in_ok-all.ensures.shape c.in_ok-traffic.ensures.local ∙ ap₂ with_subcommand five (ap top_of c.in_ok-traffic.ensures.app)
+
+pub returns-in_err-untimed : goal.returns-in_err-untimed
+returns-in_err-untimed c =
+    let p = err_from_is_err_and c.from_residual-in_err-untimed.result c.from_residual-in_err-untimed.ensures.1 in
+    subst (λ r. IfOk r (λ all. app_of all ≡ single_program)) (sym p.1) tt
