@@ -277,7 +277,7 @@ if command -v gcc > /dev/null; then
   gcc -O2 -shared -fPIC -o "$room/refuse.so" bench/refuse.c -ldl
   calls() { REFUSE=0 LD_PRELOAD="$room/refuse.so" timeout 300 "$program" run --workers 2 --link "$1" < examples/clean_500k.toml 2>&1 > /dev/null | sed -n 's/^calls //p'; }
   by_hub=$(calls hub) by_mail=$(calls mail)
-  is "the links (allocations by hub: $by_hub, by mail: $by_mail)" [ "${by_mail:-0}" -gt $((${by_hub:-999999} * 3 / 2)) ]
+  is "the links (allocations by hub: $by_hub, by mail: $by_mail)" [ "${by_mail:-0}" -gt $((${by_hub:-999999} * 5 / 4)) ]
   is "merge, each allocation refused" bench/refuse.sh "$program" merge examples/records.txt
   is "horizon, each allocation refused" bench/refuse.sh "$program" horizon examples/records.txt
   is "run FILE -o FILE, each allocation refused" refused_files
