@@ -557,18 +557,19 @@ class Place(NamedTuple):
     x: int
     out_delay: int
     in_delay: int
+    listens: bool = False  # what its node drives comes back to it, and to no other one (ISO 11898-1, bus monitoring)
 
 
 class Line:
     def __init__(self, plan, nodes):
         self.nodes = nodes
         every = range(len(nodes))
-        self.delays = [[plan.delay(i, j) for i in every] for j in every]
-        self.disturbed = [[(start + plan.place_delay(x, j), end + plan.place_delay(x, j)) for x, start, end in plan.disturbances]
-                          for j in every]
+        self.sources = [[(node, plan.delay(i, j)) for i, node in enumerate(nodes) if i == j or not plan.places[i].listens] for j in every]
+        self.disturbed = [[(start + delay, end + delay) for node, x, start, end in plan.disturbances if node in (None, j)
+                           for delay in [plan.places[j].in_delay if node == j else plan.place_delay(x, j)]] for j in every]
 
     def driven(self, j, tick):
-        for node, delay in zip(self.nodes, self.delays[j]):
+        for node, delay in self.sources[j]:
             if bisect_right(node.changes, tick - delay) % 2 == 1: return True
         return False
 
@@ -611,8 +612,9 @@ class Plan(NamedTuple):
     nodes: list
     places: list
     per: int
-    disturbances: list  # of (x, from, to)
+    disturbances: list  # of (number of the one node or None, x, from, to)
     end: int
+    queued: int = 64  # the most frames that wait at a node
 
     def delay(self, i, j):
         a, b = self.places[i], self.places[j]
@@ -636,9 +638,9 @@ class Plan(NamedTuple):
             short = node.segments.book and node.segments.sample_at() == 3  # it may sample every third quantum
             if node.clock.quanta_before(self.end) > (786_432 if short else 1_048_576): return f"Quanta({i})"
         for i, node in enumerate(self.nodes):
-            if len(node.queue) > 64: return f"Queue({i})"
-        for n, (x, start, end) in enumerate(self.disturbances):
-            far = any(self.place_delay(x, j) > 2**20 for j in range(len(self.places)))
+            if len(node.queue) > self.queued: return f"Queue({i})"
+        for n, (node, x, start, end) in enumerate(self.disturbances):
+            far = any(self.place_delay(x, j) > 2**20 for j in range(len(self.places))) if node is None else node >= len(self.places)
             if start >= end or end > 2**36 or n > 63 or far: return f"Disturbance({n})"
 
 
@@ -650,6 +652,7 @@ def array_of(kind):
     return lambda value: type(value) is list and all(map(kind, value))
 
 
+POSITIVE = whole(1, NUMBER_END)
 NUMBER, SMALL, BYTE, PPM = whole(0, NUMBER_END), whole(0, SMALL_END), whole(0, 256), whole(-10**9, 10**9 + 1)
 TOLERANCE = whole(0, 100_001)
 TABLES = array_of(lambda value: type(value) is dict)
@@ -660,7 +663,18 @@ TOP = {"version": NUMBER, "end": NUMBER, "per": NUMBER, "node": TABLES}
 FRACTION, NOMINAL = {"num": NUMBER, "den": NUMBER}, {"quantum": NUMBER, "ppm": PPM}
 LENGTHS = dict.fromkeys(("prop", "ps1", "ps2", "sjw"), NUMBER) | {"x": SMALL, "out": NUMBER, "in": NUMBER}
 FRAME = {"id": SMALL, "dlc": SMALL}, {"remote": TRUTH, "bytes": array_of(BYTE), "ready": NUMBER, "extended": TRUTH}
-DISTURBANCE = {"x": SMALL, "from": NUMBER, "to": NUMBER}, {}
+INTERVAL = {"from": NUMBER, "to": NUMBER}
+
+
+def frame_keys(version, table):
+    required, optional = FRAME
+    if version < 3: return required, optional
+    if "count" in table: required = required | {"every": POSITIVE}
+    return required, optional | {"every": POSITIVE, "count": POSITIVE}
+
+
+def disturbance_keys(version, table):
+    return {"node": NAME} | INTERVAL if version == 3 and "node" in table else {"x": SMALL} | INTERVAL
 
 
 def test_keys(table, required, optional):
@@ -696,20 +710,25 @@ def clock_keys(table):
 
 def read_plan(text):
     top = read_toml(text)
-    if "version" in top and NUMBER(top["version"]) and top["version"] not in (1, 2): raise Fault("Version")
+    if "version" in top and NUMBER(top["version"]) and top["version"] not in (1, 2, 3): raise Fault("Version")
     test_keys(top, TOP, {"disturbance": TABLES, "sync": SYNC})
+    version = top["version"]
     for node in top["node"]:
-        clock = {"rates": TABLES} if top["version"] == 2 else clock_keys(node)
-        test_keys(node, {"name": NAME, "offset": NUMBER} | clock | LENGTHS, {"frame": TABLES, "tolerance": TOLERANCE})
+        clock = {"rates": TABLES} if version == 2 or version == 3 and "rates" in node else clock_keys(node)
+        listen = {"listen": TRUTH} if version == 3 else {}
+        test_keys(node, {"name": NAME, "offset": NUMBER} | clock | LENGTHS, {"frame": TABLES, "tolerance": TOLERANCE} | listen)
         for rate in node.get("rates", []): test_keys(rate, {"from": NUMBER} | clock_keys(rate), {})
-        for frame in node.get("frame", []): test_keys(frame, *FRAME)
-    for disturbance in top.get("disturbance", []): test_keys(disturbance, *DISTURBANCE)
+        for frame in node.get("frame", []): test_keys(frame, *frame_keys(version, frame))
+    for disturbance in top.get("disturbance", []): test_keys(disturbance, disturbance_keys(version, disturbance), {})
     if len({node["name"] for node in top["node"]}) < len(top["node"]): raise Fault("SameName")
     book = top.get("sync") == "book"
-    nodes = [read_node(i, node, book) for i, node in enumerate(top["node"])]
-    places = [Place(node["x"], node["out"], node["in"]) for node in top["node"]]
-    disturbances = [(table["x"], table["from"], table["to"]) for table in top.get("disturbance", [])]
-    plan = Plan(nodes, places, top["per"], disturbances, top["end"])
+    nodes = [read_node(i, node, book, top) for i, node in enumerate(top["node"])]
+    places = [Place(node["x"], node["out"], node["in"], node.get("listen", False)) for node in top["node"]]
+    names = [node["name"] for node in top["node"]]
+    number = lambda table: names.index(table["node"]) if table["node"] in names else len(names)
+    disturbances = [(number(table) if "node" in table else None, table.get("x", 0), table["from"], table["to"])
+                    for table in top.get("disturbance", [])]
+    plan = Plan(nodes, places, top["per"], disturbances, top["end"], 4096 if version == 3 else 64)
     refuse("Topology(%s)", plan.topology_fault())
     refuse("Plan(%s)", plan.fault())
     return plan
@@ -725,7 +744,14 @@ def table_rate(i, start, table):
     return Rate(start, table["quantum"] * (1_000_000 + table["ppm"]), 1_000_000)
 
 
-def read_node(i, node, book):
+def instances(clock, end, table, ready):
+    """The quanta at which a frame becomes ready: those of one that comes again only before the plan ends (P)."""
+    if "every" not in table: return [ready]
+    last = min(clock.quanta_before(end), ready + table["every"] * min(table.get("count", 4097), 4097))
+    return range(ready, last, table["every"])
+
+
+def read_node(i, node, book, top):
     if "rates" in node:
         rates = [table_rate(i, table["from"], table) for table in node["rates"]]
     else:
@@ -738,7 +764,9 @@ def read_node(i, node, book):
     for n, table in enumerate(node.get("frame", [])):
         frame = table_frame(table)
         refuse(f"NodeFrame({i}, {n}, %s)", frame.fault())
-        queue.append(Queued(frame, table.get("ready", 0)))
+        queue += [Queued(frame, ready) for ready in instances(clock, min(top["end"], 2**36), table, table.get("ready", 0))]
+        if top["version"] == 3: queue = queue[:4097]  # one more than may wait is enough to refuse it
+    if top["version"] == 3: queue.sort(key=lambda queued: queued.ready)
     return Setup(node["name"], clock, segments, queue)
 
 

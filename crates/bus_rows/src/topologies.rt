@@ -74,5 +74,6 @@ fn place(word: &str) -> Result<Place, Stop> {
         x: x.parse::<u32>()?,
         out_delay: number(out_delay)?,
         in_delay: number(in_delay)?,
+        listens: false,
     })
 }

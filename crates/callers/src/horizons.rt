@@ -33,6 +33,7 @@ fn found_at_16(replica: &Replica) -> Result<Level>
         x: 0,
         out_delay: 0,
         in_delay: 1,
+        listens: false,
     };
     let topology = Topology::new(&[place], 1).context("a place")?;
     if topology.nodes() != 1 || replica.place_horizon(&topology, 0) <= 16 {

@@ -16,6 +16,7 @@ fn topology() -> Result<Topology> {
         x: 0,
         out_delay: 0,
         in_delay: 1,
+        listens: false,
     };
     let far = Place { x: 50, ..near };
     Ok(Topology::new(&[near, far], 1).context("two places")?)

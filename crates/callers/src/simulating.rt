@@ -27,6 +27,7 @@ fn place(x: u32) -> Place {
         x,
         out_delay: 0,
         in_delay: 1,
+        listens: false,
     }
 }
 

@@ -92,6 +92,7 @@ fn place(x: u32) -> Place {
         x,
         out_delay: 120,
         in_delay: 130,
+        listens: false,
     }
 }
 

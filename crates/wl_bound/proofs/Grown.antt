@@ -5,7 +5,7 @@ use Rattle.std.specs.Option.{is_some}
 use Rattle.std.proofs.lemmas.Bool.{cases_lt}
 use Rattle.std.proofs.lemmas.Nat.{le-div}
 use Rattle.std.proofs.Math.Nat.{div-mul-le_self, div-zero, mod-zero, mul-le-mul_left, mul-le-mul_right}
-use Rattle.wl_topology.specs.Delays.{Cable, delay_of, place_at}
+use Rattle.wl_topology.specs.Delays.{Cable, propagation_of, place_at}
 use Rattle.wl_bound.specs.declared.condition.Failure.{Failure}
 use Rattle.wl_bound.specs.declared.condition.Senders.{Senders}
 use Rattle.wl_bound.specs.declared.condition.Senders.TheVariants.{Any, One}
@@ -89,11 +89,11 @@ longer_harder f o long per n m h =
       sends = λ i. refl;
       shorter = λ i. omega arith;
       longer = λ i. omega arith;
-      own = λ i. ap (λ w. 1000000 * (long * delay_of f.cable i i + n * per * w)) (no_way f.cable i)
-          ∙ sym (ap (λ w. 1000000 * (long * delay_of f.cable i i + m * per * w)) (no_way f.cable i) ∙ still (long * delay_of f.cable i i) (n * per) (m * per));
-      delays = λ i j. mul-le-mul_left 1000000 (apart (long * delay_of f.cable i j) (mul-le-mul_right (way_between f.cable i j) more));
+      own = λ i. ap (λ w. 1000000 * (long * propagation_of f.cable i i + n * per * w)) (no_way f.cable i)
+          ∙ sym (ap (λ w. 1000000 * (long * propagation_of f.cable i i + m * per * w)) (no_way f.cable i) ∙ still (long * propagation_of f.cable i i) (n * per) (m * per));
+      delays = λ i j. mul-le-mul_left 1000000 (apart (long * propagation_of f.cable i j) (mul-le-mul_right (way_between f.cable i j) more));
       detours = λ k j i. millions _ _ _ _ _ _
-          (detour long (n * per) (m * per) (delay_of f.cable k j) (delay_of f.cable j i) (delay_of f.cable k i)
+          (detour long (n * per) (m * per) (propagation_of f.cable k j) (propagation_of f.cable j i) (propagation_of f.cable k i)
           (way_between f.cable k j) (way_between f.cable j i) (way_between f.cable k i) more (triangle f.cable k j i));
     }
   where

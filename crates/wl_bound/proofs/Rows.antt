@@ -25,7 +25,7 @@ abbrev lengths : ℕ → ℕ → ℕ → ℕ → Lengths
 lengths prop ps1 ps2 sjw = record { prop = prop; ps1 = ps1; ps2 = ps2; sjw = sjw; sync = Book }
 
 abbrev place : ℕ → Place
-place x = record { x = x; out_delay = 120; in_delay = 130 }
+place x = record { x = x; out_delay = 120; in_delay = 130; listens = false }
 
 abbrev member : Lengths → Pace → Bool → Member
 member l p sends = record { oscillator = p; segments = l; sends = sends }

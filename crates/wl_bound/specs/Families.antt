@@ -3,7 +3,7 @@ use Rattle.std.specs.Prelude.{◌≡◌, ℕ, ◌+◌, ◌-◌, ◌*◌, ◌==�
 use Rattle.std.specs.Int.{abs_diff}
 use Rattle.wl_segments.specs.declared.SegmentsFault.{SegmentsFault}
 use Rattle.wl_segments.specs.Lengths.{Lengths, segments_of}
-use Rattle.wl_topology.specs.Delays.{Cable, delay_of, place_at}
+use Rattle.wl_topology.specs.Delays.{Cable, propagation_of, place_at}
 use Rattle.wl_node.specs.declared.setup.NodeSetup.{NodeSetup}
 use Rattle.wl_plan.specs.declared.plan.Plan.{Plan}
 use Rattle.wl_plan.specs.PlanLine.{no_setup}
@@ -81,7 +81,7 @@ longest_in f s i = s.length * longest_of (member_at f i).oscillator s.wider
 
 -- On a cable of `length` ticks that becomes longer by `longer` ticks each way along it becomes longer by the same factor.
 unfoldable pub delay_in : Buses → Setting → ℕ → ℕ → ℕ
-delay_in f s i j = 1000000 * (s.length * delay_of f.cable i j + s.longer * way_between f.cable i j)
+delay_in f s i j = 1000000 * (s.length * propagation_of f.cable i j + s.longer * way_between f.cable i j)
 
 -- The segments with one of them a quantum wider or narrower: the jump width; or PHASE_SEG1 instead of PHASE_SEG2, so that the bit keeps its length.
 abbrev pub changed : Change → Lengths → Result Lengths SegmentsFault

@@ -203,8 +203,8 @@ impl Family {
         ensures value { result ≡ way_between self.now.cable i j }
         ensures most { result ≤ 2 ^ 20 }
     {
-        let there_and_back = self.cable.delay(i, j) + self.cable.delay(j, i);
-        let own = self.cable.delay(i, i) + self.cable.delay(j, j);
+        let there_and_back = self.cable.propagation(i, j) + self.cable.propagation(j, i);
+        let own = self.cable.propagation(i, i) + self.cable.propagation(j, j);
         (there_and_back - own) / 2
     }
 
@@ -216,7 +216,7 @@ impl Family {
         ensures value { result ≡ delay_in self.now setting i j }
         ensures most { result < 2 ^ 73 }
     {
-        let nominal = setting.length as u128 * self.cable.delay(i, j) as u128;
+        let nominal = setting.length as u128 * self.cable.propagation(i, j) as u128;
         let more = setting.longer as u128 * self.way_between(i, j) as u128;
         1_000_000 * (nominal + more)
     }

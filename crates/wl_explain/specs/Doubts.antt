@@ -4,7 +4,7 @@ use Rattle.std.specs.Int.{abs_diff}
 use Rattle.std.specs.List.{position, sum_by}
 use Rattle.wl_clock.specs.Timing.{tick_of}
 use Rattle.wl_segments.specs.Lengths.{Lengths, bit_quanta, least_way}
-use Rattle.wl_topology.specs.Delays.{delay_of}
+use Rattle.wl_topology.specs.Delays.{propagation_of}
 use Rattle.wl_frame.specs.Grammar.{Content}
 use Rattle.wl_node.specs.declared.setup.NodeSetup.{NodeSetup}
 use Rattle.wl_plan.specs.declared.plan.Plan.{Plan}
@@ -38,7 +38,7 @@ left plan i = margin_below plan i (length plan.topology.places)
 
 -- from node i to node j and back, in ticks
 abbrev pub round_trip : Plan → ℕ → ℕ → ℕ
-round_trip plan i j = delay_of plan.topology i j + delay_of plan.topology j i
+round_trip plan i j = propagation_of plan.topology i j + propagation_of plan.topology j i
 
 -- the longest that is back, with a quantum, at the earlier of the two samples
 abbrev pub longest_round : ℕ → NodeSetup → NodeSetup → ℕ

@@ -1,7 +1,7 @@
 -- The words of an explanation: a line for each doubt, and one for the figures of each node (this project's profile).
 use Rattle.std.specs.Prelude.{ℕ, ◌/◌, nat_lt, List, [], ◌∷◌, ◌++◌, codes, if◌then◌else◌, Option, Some, None}
 use Rattle.std.specs.Fmt.{decimal}
-use Rattle.wl_topology.specs.Delays.{delay_of}
+use Rattle.wl_topology.specs.Delays.{propagation_of}
 use Rattle.wl_segments.specs.Lengths.{Lengths}
 use Rattle.wl_node.specs.declared.setup.NodeSetup.{NodeSetup}
 use Rattle.wl_plan.specs.declared.plan.Plan.{Plan}
@@ -114,7 +114,7 @@ cable_words (Some time) =
 
 abbrev pub cable_figure : Plan → ℕ → List ℕ
 cable_figure plan i =
-    cable_words (longest_cable (furthest_way (mean_quantum plan.end (setup_at plan i).clock) (setup_at plan i).segments) (delay_of plan.topology i i) 1)
+    cable_words (longest_cable (furthest_way (mean_quantum plan.end (setup_at plan i).clock) (setup_at plan i).segments) (propagation_of plan.topology i i) 1)
 
 abbrev pub figures_line : Plan → List (List ℕ) → ℕ → List ℕ
 figures_line plan names i = timing_figures plan names i ++ margin_figures plan i ++ cable_figure plan i

@@ -71,7 +71,7 @@ pub fn round_trip(plan: &Plan, i: u8, j: u8) -> u64
     requires to { j < length plan.now.topology.places }
     ensures { result ≡ round_trip plan.now i j }
 {
-    plan.topology.delay(i, j) + plan.topology.delay(j, i)
+    plan.topology.propagation(i, j) + plan.topology.propagation(j, i)
 }
 
 /// The most ticks there and back with which a level is there at the earlier sample of two nodes, by their mean quanta up to tick `end`, which is

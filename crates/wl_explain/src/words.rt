@@ -339,7 +339,7 @@ fn push_cable(text: &mut String, plan: &Plan, i: u8) -> Result<(), AllocError>
 {
     let node = setup(plan, i);
     let way = Quantum::of_clock(&node.clock, plan.end).furthest_way(&node.segments);
-    push_cable_words(text, longest_cable(way, plan.topology.delay(i, i), 1))
+    push_cable_words(text, longest_cable(way, plan.topology.propagation(i, i), 1))
 }
 
 /// Adds the figures of node `i`.

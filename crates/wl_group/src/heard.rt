@@ -320,7 +320,7 @@ fn undisturbed_until(plan: &Plan, j: u8, t: u64) -> u64
     let mut until = u64::MAX;
     for i in 0..plan.disturbances.len() {
         let d = plan.disturbances.as_slice()[i];
-        let delay = plan.topology.place_delay(d.x, j) as u64;
+        let delay = plan.disturbance_delay(d, j);
         until = first_after(d.from + delay, t, until);
         until = first_after(d.to + delay, t, until);
     }

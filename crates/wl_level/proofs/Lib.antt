@@ -1,4 +1,5 @@
 mod Places
 mod FirstPlace
 mod Rows
+mod ByTick
 pub mod Callers

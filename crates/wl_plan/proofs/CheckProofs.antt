@@ -14,9 +14,9 @@ use Rattle.wl_topology.specs.Limits.{most_places, longest_delay}
 use Rattle.wl_plan.specs.declared.plan.Disturbance.{Disturbance}
 use Rattle.wl_plan.specs.declared.plan.Plan.{Plan}
 use Rattle.wl_plan.specs.declared.check.PlanFault.TheVariants as faults
-use Rattle.wl_plan.specs.Limits.{latest_end, most_disturbances}
+use Rattle.wl_plan.specs.Limits.{latest_end, most_queued, most_disturbances}
 use Rattle.wl_plan.specs.PlanLine.{no_setup}
-use Rattle.wl_plan.specs.Checked.{IsChecked, most_quanta_of, IsDisturbance, first_fault, has_wrong_nodes, has_many_quanta, has_long_queue, is_refused, is_far, FaultlessIsChecked}
+use Rattle.wl_plan.specs.Checked.{IsChecked, most_quanta_of, IsDisturbance, first_fault, has_wrong_nodes, has_many_quanta, has_long_queue, is_refused, is_far, is_far_by, IsNear, HasShortQueues, FaultlessIsChecked}
 
 -- where numbers grow, the first that is not below the end is above `most` exactly where that of `most` is below the end
 pub many_below : (q : ℕ → ℕ) → ((j k : ℕ) → j < k → q j < q k) → (most last r : ℕ) → last ≤ q r → ((k : ℕ) → k < r → q k < last)
@@ -105,7 +105,7 @@ few_to q most last h =
     ]
 
 abbrev pub no_disturbance : Disturbance
-no_disturbance = record { x = 0; from = 0; to = 0 }
+no_disturbance = record { node = None; x = 0; from = 0; to = 0 }
 
 module _ (plan : Plan) where
   refused_at : (n : ℕ) (d : Disturbance) → n < length plan.disturbances
@@ -150,6 +150,14 @@ module _ (later : (t : Timing) → IsTiming t → (j k : ℕ) → j < k → tick
       (ne_eqb (length plan.nodes) 0 (λ e. omega arith))
       (or_from (nat_lt most_places (length plan.nodes)) (not (length plan.nodes == length plan.topology.places)) (le-ltb _ _ few) (not_from_true _ (eq-eqb _ _ placed)))
 
+  near_from : (node : Option ℕ) (x : ℕ) → is_far_by plan node x ≡ false → IsNear plan node x
+  near_from None x h = λ j below. ltb-false _ _ (none_any (length plan.nodes) (λ j. nat_lt longest_delay (disturbance_delay plan.topology x j)) h j below)
+  near_from (Some n) x h = leb-false _ _ h
+
+  not_far : (node : Option ℕ) (x : ℕ) → IsNear plan node x → is_far_by plan node x ≡ false
+  not_far None x h = any_none (length plan.nodes) (λ j. nat_lt longest_delay (disturbance_delay plan.topology x j)) (λ j below. le-ltb _ _ (h j below))
+  not_far (Some n) x h = lt-leb _ _ h
+
   -- what is not refused
   accepted : (n : ℕ) (d : Disturbance) → is_refused plan (n, d) ≡ false → IsDisturbance plan d × (n < most_disturbances)
   accepted n d h =
@@ -159,7 +167,7 @@ module _ (later : (t : Timing) → IsTiming t → (j k : ℕ) → j < k → tick
         record {
           lasts = leb-false _ _ a.0;
           ends = ltb-false _ _ b.0;
-          near = λ j below. ltb-false _ _ (none_any (length plan.nodes) (λ j. nat_lt longest_delay (disturbance_delay plan.topology d.x j)) e.1 j below);
+          near = near_from d.node d.x e.1;
         },
         leb-false _ _ e.0,
       )
@@ -169,7 +177,7 @@ module _ (later : (t : Timing) → IsTiming t → (j k : ℕ) → j < k → tick
       or_from (nat_le d.to d.from) (nat_lt latest_end d.to || (nat_le most_disturbances n || is_far plan d)) (lt-leb _ _ h.lasts)
       (or_from (nat_lt latest_end d.to) (nat_le most_disturbances n || is_far plan d) (le-ltb _ _ h.ends)
       (or_from (nat_le most_disturbances n) (is_far plan d) (lt-leb _ _ b)
-      (any_none (length plan.nodes) (λ j. nat_lt longest_delay (disturbance_delay plan.topology d.x j)) (λ j below. le-ltb _ _ (h.near j below)))))
+      (not_far d.node d.x h.near)))
 
   few_accepted : ((k : ℕ) (d : Disturbance) → k < length plan.disturbances → is_refused plan (k, get_or plan.disturbances k d) ≡ false)
       → length plan.disturbances ≤ most_disturbances
@@ -179,11 +187,16 @@ module _ (later : (t : Timing) → IsTiming t → (j k : ℕ) → j < k → tick
         | inr fine ↦ fine
       ]
 
-  pub checked_from : All (λ node. IsTiming node.clock) plan.nodes → All (λ node. AreLengths node.segments) plan.nodes → IsTopology plan.topology
-      → IsFaultless (has_wrong_nodes plan) (nat_lt latest_end plan.end) (position (has_many_quanta plan.end) plan.nodes) (position has_long_queue plan.nodes)
+  -- the queues of a plan without a fault
+  short_from : (queued : ℕ) → position (has_long_queue queued) plan.nodes ≡ None → HasShortQueues queued plan
+  short_from queued h i d b = ltb-false _ _ (none_position (has_long_queue queued) plan.nodes h i d b)
+
+  checked_from : (queued : ℕ) → queued ≤ most_queued → All (λ node. IsTiming node.clock) plan.nodes → All (λ node. AreLengths node.segments) plan.nodes
+      → IsTopology plan.topology
+      → IsFaultless (has_wrong_nodes plan) (nat_lt latest_end plan.end) (position (has_many_quanta plan.end) plan.nodes) (position (has_long_queue queued) plan.nodes)
       (position (is_refused plan) (enumerate_from 0 plan.disturbances))
       → IsChecked plan
-  checked_from clocks segments cable h =
+  checked_from queued fewer clocks segments cable h =
       let nodes = right_nodes h.right in
       let accepts = none_refused plan h.accepted in
       record {
@@ -197,28 +210,30 @@ module _ (later : (t : Timing) → IsTiming t → (j k : ℕ) → j < k → tick
         few_quanta = λ i d b k below.
             few_from (tick_of (get_or plan.nodes i d).clock) (later (get_or plan.nodes i d).clock (clocks i d b)) (most_quanta_of (get_or plan.nodes i d).segments) plan.end
             (none_position (has_many_quanta plan.end) plan.nodes h.few i d b) k below;
-        short_queues = λ i d b. ltb-false _ _ (none_position has_long_queue plan.nodes h.short i d b);
+        short_queues = λ i d b. omega (arith, fewer, short_from queued h.short i d b);
         few_disturbances = few_accepted accepts;
         disturbances = λ n d b. (accepted n (get_or plan.disturbances n d) (accepts n d b)).0;
       }
 
-  pub faultless_from : IsChecked plan
-      → IsFaultless (has_wrong_nodes plan) (nat_lt latest_end plan.end) (position (has_many_quanta plan.end) plan.nodes) (position has_long_queue plan.nodes)
+  faultless_from : (queued : ℕ) → IsChecked plan → HasShortQueues queued plan
+      → IsFaultless (has_wrong_nodes plan) (nat_lt latest_end plan.end) (position (has_many_quanta plan.end) plan.nodes) (position (has_long_queue queued) plan.nodes)
       (position (is_refused plan) (enumerate_from 0 plan.disturbances))
-  faultless_from h = record {
+  faultless_from queued h short = record {
     right = wrong_nodes h.some_node h.few_nodes h.placed;
     early = le-ltb _ _ h.ends;
     few = position_none (has_many_quanta plan.end) plan.nodes no_setup
         (λ i b. few_to (tick_of (get_or plan.nodes i no_setup).clock) (most_quanta_of (get_or plan.nodes i no_setup).segments) plan.end (h.few_quanta i no_setup b));
-    short = position_none has_long_queue plan.nodes no_setup (λ i b. le-ltb _ _ (h.short_queues i no_setup b));
+    short = position_none (has_long_queue queued) plan.nodes no_setup (λ i b. le-ltb _ _ (short i no_setup b));
     accepted = refused_none plan no_disturbance
         (λ n b. not_refused n (get_or plan.disturbances n no_disturbance) (h.disturbances n no_disturbance b) (let few = h.few_disturbances in omega arith));
   }
 
 pub faultless_is_checked : ((t : Timing) → IsTiming t → (j k : ℕ) → j < k → tick_of t j < tick_of t k) → FaultlessIsChecked
-faultless_is_checked later plan clocks segments cable = (
-  (λ h. checked_from later plan clocks segments cable (faultless_by _ _ _ _ _ h)),
-  (λ h. faultless _ _ _ _ _ (faultless_from later plan h)),
+faultless_is_checked later plan queued fewer clocks segments cable = (
+  (λ h.
+      let found = faultless_by _ _ _ _ _ h in
+      (checked_from later plan queued fewer clocks segments cable found, short_from later plan queued found.short)),
+  (λ h. faultless _ _ _ _ _ (faultless_from later plan queued h.0 h.1)),
 )
 
 -- the later faults

@@ -1,5 +1,6 @@
 mod ChangeProofs
 mod LineProofs
+mod NearProofs
 mod OutcomeProofs
 mod QuantumProofs
 mod RestProofs

@@ -121,7 +121,7 @@ quiet_is : most_quiet ≡ 65536
 unfolding most_quiet
 quiet_is = refl
 
-queued_are : most_queued ≡ 64
+queued_are : most_queued ≡ 4096
 queued_are = refl
 
 disturbances_are : most_disturbances ≡ 64

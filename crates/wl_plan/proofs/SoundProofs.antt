@@ -10,6 +10,7 @@ use Rattle.wl_segments.specs.declared.SyncRules.{SyncRules}
 use Rattle.wl_segments.specs.declared.SyncRules.TheVariants.{After, Book}
 use Rattle.wl_segments.specs.Lengths.{Lengths, least_way, found_by}
 use Rattle.std.proofs.lemmas.Bool.{ltb-false}
+use Rattle.wl_topology.proofs.Callers.{delay_positive}
 use Rattle.wl_clock.specs.Timing.{Timing, IsTiming, tick_of, slowest_rate, largest_offset}
 use Rattle.wl_record_core.specs.Limits.{most_nodes-is, most_edges, most_edges-is, tick_end, tick_end-is}
 use Rattle.wl_node.specs.declared.setup.NodeSetup.{NodeSetup}
@@ -78,7 +79,7 @@ module _ (places : PlaceLaws) (clocks : ClockLaws) (drives : QuietLaws) (laws : 
 
   causal : IsCausal (line_of plan)
   causal = record {
-    delays = λ i j b d. h.cable.positive i j (let e = h.placed in omega arith) (let e = h.placed in omega arith);
+    delays = λ i j b d. delay_positive plan.topology i j h.cable (let e = h.placed in omega arith) (let e = h.placed in omega arith);
     clocks = λ i k b. clocks.later (setup_at plan i).clock (timed i b) k (suc k) (omega arith);
     quiet_stays = λ i levels more b e. ap is_dominant (drives.stays (setup_at plan i) levels more e);
     begins = λ i b. begins (setup_at plan i);

@@ -23,11 +23,16 @@ most_quanta_of l = if nat_lt (least_way l) 3 then most_short_quanta else most_qu
 abbrev pub HasFewQuanta : ℕ → NodeSetup → Type 0
 HasFewQuanta end node = (k : ℕ) → tick_of node.clock k < end → k < most_quanta_of node.segments
 
--- A disturbance takes some ticks, ends in time, and comes to each node soon.
+-- what is at a place on the cable comes to each node soon; what is at one node is at one that is there
+abbrev pub IsNear : Plan → Option ℕ → ℕ → Type 0
+IsNear plan None x = (j : ℕ) → j < length plan.nodes → disturbance_delay plan.topology x j ≤ longest_delay
+IsNear plan (Some n) x = n < length plan.nodes
+
+-- A disturbance takes some ticks, ends in time, and is near.
 pub record IsDisturbance (plan : Plan) (d : Disturbance) : Type 0 where
   pub lasts : d.from < d.to
   pub ends : d.to ≤ latest_end
-  pub near : (j : ℕ) → j < length plan.nodes → disturbance_delay plan.topology d.x j ≤ longest_delay
+  pub near : IsNear plan d.node d.x
 
 -- A plan can be run: its clocks, its segments and its cable are some, and it keeps the limits.
 pub record IsChecked (plan : Plan) : Type 0 where
@@ -52,12 +57,21 @@ has_wrong_nodes plan =
 abbrev pub has_many_quanta : ℕ → NodeSetup → Bool
 has_many_quanta end node = nat_lt (tick_of node.clock (most_quanta_of node.segments)) end
 
-abbrev pub has_long_queue : NodeSetup → Bool
-has_long_queue node = nat_lt most_queued (length node.queue)
+-- more frames wait at it than so many
+abbrev pub has_long_queue : ℕ → NodeSetup → Bool
+has_long_queue queued node = nat_lt queued (length node.queue)
 
--- a disturbance takes too long to some node
+-- a place on the cable takes too long to some node
+abbrev pub is_far_from : Plan → ℕ → Bool
+is_far_from plan x = any_below (length plan.nodes) (λ j. nat_lt longest_delay (disturbance_delay plan.topology x j))
+
+-- and a node that isn't there is far, too
+abbrev pub is_far_by : Plan → Option ℕ → ℕ → Bool
+is_far_by plan None x = is_far_from plan x
+is_far_by plan (Some n) x = nat_le (length plan.nodes) n
+
 abbrev pub is_far : Plan → Disturbance → Bool
-is_far plan d = any_below (length plan.nodes) (λ j. nat_lt longest_delay (disturbance_delay plan.topology d.x j))
+is_far plan d = is_far_by plan d.node d.x
 
 -- what is wrong with a disturbance and its number, which counts from 0: it takes no tick, ends too late, is one too many, or is far
 abbrev pub is_refused : Plan → ℕ × Disturbance → Bool
@@ -73,15 +87,24 @@ first_fault false false None (Some i) refused = Some (faults.Queue i)
 first_fault false false None None (Some n) = Some (faults.Disturbance n)
 first_fault false false None None None = None
 
-abbrev pub fault_of : Plan → Option PlanFault
-fault_of plan =
-    first_fault (has_wrong_nodes plan) (nat_lt latest_end plan.end) (position (has_many_quanta plan.end) plan.nodes) (position has_long_queue plan.nodes)
-    (position (is_refused plan) (enumerate_from 0 plan.disturbances))
+-- if at most so many frames may wait at a node
+abbrev pub fault_within : ℕ → Plan → Option PlanFault
+fault_within queued plan =
+    first_fault (has_wrong_nodes plan) (nat_lt latest_end plan.end) (position (has_many_quanta plan.end) plan.nodes)
+    (position (has_long_queue queued) plan.nodes) (position (is_refused plan) (enumerate_from 0 plan.disturbances))
 
--- a plan of clocks, segments and a cable has no fault exactly where it can be run
+abbrev pub fault_of : Plan → Option PlanFault
+fault_of plan = fault_within most_queued plan
+
+-- at most so many frames wait at each node
+abbrev pub HasShortQueues : ℕ → Plan → Type 0
+HasShortQueues queued plan = All (λ node. length node.queue ≤ queued) plan.nodes
+
+-- a plan of clocks, segments and a cable has no fault exactly if it can be run, and few enough frames wait
 abbrev pub FaultlessIsChecked : Type 0
-FaultlessIsChecked = (plan : Plan) → All (λ node. IsTiming node.clock) plan.nodes → All (λ node. AreLengths node.segments) plan.nodes
-    → IsTopology plan.topology → (fault_of plan ≡ None) ↔ IsChecked plan
+FaultlessIsChecked = (plan : Plan) (queued : ℕ) → queued ≤ most_queued → All (λ node. IsTiming node.clock) plan.nodes
+    → All (λ node. AreLengths node.segments) plan.nodes → IsTopology plan.topology
+    → (fault_within queued plan ≡ None) ↔ (IsChecked plan × HasShortQueues queued plan)
 
 -- what a plan that can be run means keeps all on which its simulation rests
 abbrev pub CheckedIsSound : Type 0

@@ -1,9 +1,9 @@
 -- The line that a plan means, and the truth of records of a plan. This project's profile.
-use Rattle.std.specs.Prelude.{ℕ, ◌+◌, ◌&&◌, ◌↔◌, nat_le, nat_lt, Bool, IsTrue, List, [], ◌∷◌, length, slice_index_or}
+use Rattle.std.specs.Prelude.{ℕ, ◌+◌, ◌&&◌, ◌↔◌, nat_le, nat_lt, Bool, IsTrue, Option, Some, None, List, [], ◌∷◌, length, slice_index_or}
 use Rattle.std.specs.List.{list_any}
 use Rattle.wl_level.specs.Levels.{is_dominant}
 use Rattle.wl_clock.specs.Timing.{tick_of}
-use Rattle.wl_topology.specs.Delays.{delay_of, disturbance_delay}
+use Rattle.wl_topology.specs.Delays.{Cable, delay_of, disturbance_delay, local_delay}
 use Rattle.wl_segments.specs.declared.SyncRules.TheVariants.{After}
 use Rattle.wl_record_core.specs.declared.record.Record.{Record}
 use Rattle.wl_record_core.specs.Truth.{IsTrueOf, is_true_of}
@@ -26,10 +26,18 @@ no_setup = record {
 abbrev pub setup_at : Plan → ℕ → NodeSetup
 setup_at plan i = slice_index_or plan.nodes i no_setup
 
+-- how many ticks it takes until node j finds what is at one node, or at a place on the cable
+abbrev pub delay_from : Cable → Option ℕ → ℕ → ℕ → ℕ
+delay_from cable None x j = disturbance_delay cable x j
+delay_from cable (Some n) x j = local_delay cable n j
+
+-- until node j finds a disturbance
+abbrev pub delay_to : Cable → Disturbance → ℕ → ℕ
+delay_to cable d j = delay_from cable d.node d.x j
+
 -- a disturbance has come to node j by tick t, and is not yet over there
 abbrev pub is_at : Plan → ℕ → ℕ → Disturbance → Bool
-is_at plan j t d =
-    nat_le (d.from + disturbance_delay plan.topology d.x j) t && nat_lt t (d.to + disturbance_delay plan.topology d.x j)
+is_at plan j t d = nat_le (d.from + delay_to plan.topology d j) t && nat_lt t (d.to + delay_to plan.topology d j)
 
 -- some disturbance is at node j
 abbrev pub disturbed : Plan → ℕ → ℕ → Bool

@@ -1,7 +1,9 @@
 -- When two plans are equal: where nodes, topology, disturbances and end are, number by number (this project's profile).
-use Rattle.std.specs.Prelude.{◌≡◌, ◌==◌, ◌&&◌, Bool}
-use Rattle.std.specs.Bool.{Decides}
-use Rattle.std.specs.Cmp.{IsEquivalence, IsPartialEquivalence, decided, partial_equiv_from_equiv, unsigned_Decides}
+use Rattle.std.specs.Prelude.{◌≡◌, ℕ, ◌==◌, ◌&&◌, Bool, Option, Some, None, refl}
+use Rattle.std.proofs.Common.{ap}
+use Rattle.std.specs.Bool.{Decides, beq}
+use Rattle.std.specs.Option.{option_eq}
+use Rattle.std.specs.Cmp.{IsEquivalence, IsPartialEquivalence, decided, partial_equiv_from_equiv, booleans_Decides, unsigned_Decides}
 use Rattle.std.specs.Cmp.Lexicographic.{pointwise, pointwise_decides}
 use Rattle.std.proofs.lemmas.Bool.Decides.{Decides-and}
 use Rattle.wl_topology.specs.declared.Place.{Place}
@@ -12,7 +14,7 @@ use Rattle.wl_plan.specs.declared.plan.Disturbance.{Disturbance}
 use Rattle.wl_plan.specs.declared.plan.Plan.{Plan}
 
 abbrev pub same_disturbance : Disturbance → Disturbance → Bool
-same_disturbance a b = a.x == b.x && (a.from == b.from && a.to == b.to)
+same_disturbance a b = option_eq ◌==◌ a.node b.node && (a.x == b.x && (a.from == b.from && a.to == b.to))
 
 -- the test whether two plans are equal
 abbrev pub same_plan : Plan → Plan → Bool
@@ -27,10 +29,11 @@ decided_by x d there back = (λ h. there (d.0 h), λ q. d.1 (back q))
 place_decides : (a b : Place) → Decides (same_place a b) (a ≡ b)
 place_decides a b =
     decided_by (same_place a b)
-    (Decides-and (a.x == b.x) (a.out_delay == b.out_delay && a.in_delay == b.in_delay) (unsigned_Decides a.x b.x)
-    (Decides-and (a.out_delay == b.out_delay) (a.in_delay == b.in_delay) (unsigned_Decides a.out_delay b.out_delay) (unsigned_Decides a.in_delay b.in_delay)))
-    (λ e i. record { x = e.0 i; out_delay = e.1.0 i; in_delay = e.1.1 i })
-    (λ e. (λ i. (e i).x, (λ i. (e i).out_delay, λ i. (e i).in_delay)))
+    (Decides-and (a.x == b.x) (a.out_delay == b.out_delay && (a.in_delay == b.in_delay && beq a.listens b.listens)) (unsigned_Decides a.x b.x)
+    (Decides-and (a.out_delay == b.out_delay) (a.in_delay == b.in_delay && beq a.listens b.listens) (unsigned_Decides a.out_delay b.out_delay)
+    (Decides-and (a.in_delay == b.in_delay) (beq a.listens b.listens) (unsigned_Decides a.in_delay b.in_delay) (booleans_Decides a.listens b.listens))))
+    (λ e i. record { x = e.0 i; out_delay = e.1.0 i; in_delay = e.1.1.0 i; listens = e.1.1.1 i })
+    (λ e. (λ i. (e i).x, (λ i. (e i).out_delay, (λ i. (e i).in_delay, λ i. (e i).listens))))
 
 cable_decides : (a b : Cable) → Decides (same_cable a b) (a ≡ b)
 cable_decides a b =
@@ -39,13 +42,20 @@ cable_decides a b =
     (λ e i. record { places = e.0 i; per = e.1 i })
     (λ e. (λ i. (e i).places, λ i. (e i).per))
 
+node_decides : (a b : Option ℕ) → Decides (option_eq ◌==◌ a b) (a ≡ b)
+node_decides None None = (λ e. refl, λ e. refl)
+node_decides None (Some n) = (λ e. cc, λ e. cc)
+node_decides (Some m) None = (λ e. cc, λ e. cc)
+node_decides (Some m) (Some n) = decided_by (m == n) (unsigned_Decides m n) (λ e. ap Some e) (λ e. cc)
+
 pub disturbance_decides : (a b : Disturbance) → Decides (same_disturbance a b) (a ≡ b)
 disturbance_decides a b =
     decided_by (same_disturbance a b)
+    (Decides-and (option_eq ◌==◌ a.node b.node) (a.x == b.x && (a.from == b.from && a.to == b.to)) (node_decides a.node b.node)
     (Decides-and (a.x == b.x) (a.from == b.from && a.to == b.to) (unsigned_Decides a.x b.x)
-    (Decides-and (a.from == b.from) (a.to == b.to) (unsigned_Decides a.from b.from) (unsigned_Decides a.to b.to)))
-    (λ e i. record { x = e.0 i; from = e.1.0 i; to = e.1.1 i })
-    (λ e. (λ i. (e i).x, (λ i. (e i).from, λ i. (e i).to)))
+    (Decides-and (a.from == b.from) (a.to == b.to) (unsigned_Decides a.from b.from) (unsigned_Decides a.to b.to))))
+    (λ e i. record { node = e.0 i; x = e.1.0 i; from = e.1.1.0 i; to = e.1.1.1 i })
+    (λ e. (λ i. (e i).node, (λ i. (e i).x, (λ i. (e i).from, λ i. (e i).to))))
 
 pub plan_decides : (a b : Plan) → Decides (same_plan a b) (a ≡ b)
 plan_decides a b =

@@ -5,8 +5,8 @@ ghost use Rattle.std.specs.List.{enumerate_from};
 ghost use Rattle.wl_clock.specs.Timing.{IsTiming, tick_of};
 ghost use Rattle.wl_segments.specs.Lengths.{AreLengths};
 ghost use Rattle.wl_topology.specs.Delays.{IsTopology};
-ghost use Rattle.wl_plan.specs.Checked.{IsChecked, most_quanta_of, fault_of, has_wrong_nodes, has_many_quanta, has_long_queue, is_refused, is_far};
-ghost use Rattle.wl_plan.specs.Limits.{latest_end};
+ghost use Rattle.wl_plan.specs.Checked.{IsChecked, most_quanta_of, fault_of, fault_within, has_wrong_nodes, has_many_quanta, has_long_queue, is_refused, is_far, is_far_from};
+ghost use Rattle.wl_plan.specs.Limits.{latest_end, most_queued};
 
 use crate::laws::faultless_is_checked;
 use crate::limits::{LATEST_END, MOST_DISTURBANCES, MOST_QUANTA, MOST_QUEUED, MOST_SHORT_QUANTA};
@@ -30,18 +30,28 @@ pub enum PlanFault {
     /// SYNC_SEG, and the sample is at place 3.
     #[error("Quanta({0})")]
     Quanta(u64),
-    /// More than 64 frames wait at this node.
+    /// More frames wait at this node than may.
     #[error("Queue({0})")]
     Queue(u64),
-    /// This disturbance takes no tick, ends after tick 2^36, has 64 or more before it, or takes more than 1,048,576 ticks to some node.
+    /// This disturbance takes no tick, ends after tick 2^36, has 64 or more before it, takes more than 1,048,576 ticks to some node, or is at a
+    /// node that isn't there.
     #[error("Disturbance({0})")]
     Disturbance(u64),
 }
 
 impl Plan {
-    /// Whether the plan can be run, or the first refusal that applies. It takes no memory.
+    /// Whether the plan can be run, or the first refusal that applies. At most 4,096 frames wait at a node. It takes no memory.
     pub fn check(&self) -> Result<(), PlanFault>
         ensures fault { result_err result ≡ fault_of self.now }
+        ensures checked { OnOk result (IsChecked self.now) }
+    {
+        self.check_within(MOST_QUEUED)
+    }
+
+    /// The same, if at most so many frames may wait at a node.
+    pub fn check_within(&self, queued: usize) -> Result<(), PlanFault>
+        requires { queued ≤ most_queued }
+        ensures fault { result_err result ≡ fault_within queued self.now }
         ensures checked { OnOk result (IsChecked self.now) }
     {
         faultless_is_checked();
@@ -55,7 +65,7 @@ impl Plan {
         if let Some(i) = first_with_many_quanta(nodes, self.end) {
             return Err(PlanFault::Quanta(i as u64));
         }
-        if let Some(i) = first_with_long_queue(nodes) {
+        if let Some(i) = first_with_long_queue(nodes, queued) {
             return Err(PlanFault::Queue(i as u64));
         }
         if let Some(n) = self.first_refused() {
@@ -102,13 +112,24 @@ impl Plan {
         d.to <= d.from || d.to > LATEST_END || n >= MOST_DISTURBANCES || self.is_far(d)
     }
 
-    /// Whether the disturbance takes too long to some node.
+    /// Whether the disturbance takes too long to some node, or is at a node that isn't there.
     fn is_far(&self, d: Disturbance) -> bool
         requires { length self.now.nodes ≡ length self.now.topology.places }
         ensures { result ≡ is_far self.now d }
     {
+        match d.node {
+            Some(n) => n >= self.topology.nodes(),
+            None => self.is_far_from(d.x),
+        }
+    }
+
+    /// Whether a place takes too long to some node.
+    fn is_far_from(&self, x: u32) -> bool
+        requires { length self.now.nodes ≡ length self.now.topology.places }
+        ensures { result ≡ is_far_from self.now x }
+    {
         for j in 0..self.topology.nodes() {
-            if self.topology.place_delay(d.x, j) > LONGEST_DELAY as u128 {
+            if self.topology.place_delay(x, j) > LONGEST_DELAY as u128 {
                 return true;
             }
         }
@@ -156,8 +177,8 @@ fn first_with_many_quanta(nodes: &[NodeSetup], end: u64) -> Option<usize>
 }
 
 /// The first node at which too many frames wait.
-fn first_with_long_queue(nodes: &[NodeSetup]) -> Option<usize>
-    ensures { result ≡ position has_long_queue nodes.now }
+fn first_with_long_queue(nodes: &[NodeSetup], queued: usize) -> Option<usize>
+    ensures { result ≡ position (has_long_queue queued) nodes.now }
 {
-    nodes.iter().position(|node| node.queue.len() > MOST_QUEUED)
+    nodes.iter().position(|node| node.queue.len() > queued)
 }

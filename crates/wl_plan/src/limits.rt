@@ -11,7 +11,7 @@ pub const MOST_QUANTA: u64 = 1_048_576;
 pub const MOST_SHORT_QUANTA: u64 = 786_432;
 
 /// The most frames that wait at a node.
-pub const MOST_QUEUED: usize = 64;
+pub const MOST_QUEUED: usize = 4_096;
 
 /// The most disturbances of a plan.
 pub const MOST_DISTURBANCES: usize = 64;

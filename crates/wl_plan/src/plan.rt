@@ -1,23 +1,41 @@
 //! Plans: what is to be simulated.
 ghost use Rattle.std.specs.Prelude.{◌≡◌, ◌+◌, ◌<◌, ◌≤◌, ◌↔◌, nat_lt, nat_le, ◌&&◌, IsTrue, IfOk, length};
-ghost use Rattle.wl_topology.specs.Delays.{disturbance_delay};
+ghost use Rattle.wl_topology.specs.Limits.{never};
+ghost use Rattle.wl_plan.specs.PlanLine.{delay_to};
+ghost use Rattle.wl_plan.specs.Checked.{IsChecked, IsDisturbance};
 
 use std::alloc::{AllocError, Global};
 use wl_level::Listed;
 use wl_node::NodeSetup;
 use wl_topology::Topology;
 
-/// A fault of the cable: the line is dominant at the place `x` from tick `from` up to tick `to`, which no longer counts.
+/// A fault: the cable is dominant at the place `x`, or the input of one node is, from tick `from` up to tick `to`, which no longer counts.
 ///
-/// It reaches each node a delay later, which goes by the node's place and by what the node takes from the cable to a level that it sees.
+/// What is on the cable reaches each node a delay later, which goes by the node's place and by what the node takes from the cable to a level
+/// that it sees. What is at one node alone reaches it after what it takes from the cable to such a level, and no other node.
 #[derive(Clone, Copy, Debug, Default, PartialEq, Eq)]
 pub struct Disturbance {
-    /// In units of length from the end of the cable from which the nodes' places count.
+    /// The one node at which it is, or that it is on the cable.
+    pub node: Option<u8>,
+    /// In units of length from the end of the cable from which the nodes' places count. What is at one node has none: it isn't asked for.
     pub x: u32,
     /// The first tick at which it is dominant there.
     pub from: u64,
     /// The first tick after it.
     pub to: u64,
+}
+
+impl Disturbance {
+    /// How many ticks it takes until node `j` finds it, on this cable.
+    pub fn delay(&self, cable: &Topology, j: u8) -> u128
+        requires { j < length cable.now.places }
+        ensures { result ≡ delay_to cable.now self.now j }
+    {
+        match self.node {
+            Some(n) => cable.local_delay(n, j) as u128,
+            None => cable.place_delay(self.x, j),
+        }
+    }
 }
 
 /// The nodes of a plan: node `i` is the one at place `i`.
@@ -51,6 +69,18 @@ impl Plan {
             .as_slice()
             .iter()
             .any(|d| is_at(&self.topology, *d, j, t))
+    }
+
+    /// How many ticks it takes until node `j` finds a disturbance: 0 to 1,048,576, or `NEVER` if it is at another node.
+    #[tactic(auto, using(crate::proofs::NearProofs::near_by))]
+    pub fn disturbance_delay(&self, d: Disturbance, j: u8) -> u64
+        requires checked { IsChecked self.now }
+        requires disturbance { IsDisturbance self.now d }
+        requires node { j < length self.now.nodes }
+        ensures ticks { result ≡ delay_to self.now.topology d j }
+        ensures short { result ≤ never }
+    {
+        d.delay(&self.topology, j) as u64
     }
 
     /// An equal plan. Refused only when out of memory.
@@ -94,10 +124,9 @@ impl Eq for Plan {
 /// Whether the disturbance has come to node `j` by tick `t` and is not yet over there.
 fn is_at(topology: &Topology, d: Disturbance, j: u8, t: u64) -> bool
     requires { j < length topology.now.places }
-    ensures { result ≡ (nat_le (d.from + disturbance_delay topology.now d.x j) t
-        && nat_lt t (d.to + disturbance_delay topology.now d.x j)) }
+    ensures { result ≡ (nat_le (d.from + delay_to topology.now d j) t && nat_lt t (d.to + delay_to topology.now d j)) }
 {
-    let delay = topology.place_delay(d.x, j);
+    let delay = d.delay(topology, j);
     let now = t as u128;
     if now < delay {
         return false;

@@ -34,7 +34,7 @@ fn next_edge(plan: &Plan, j: usize, t: u64) -> u64
     let mut until = u64::MAX;
     for i in 0..plan.disturbances.len() {
         let d = plan.disturbances.as_slice()[i];
-        let delay = plan.topology.place_delay(d.x, j as u8) as u64;
+        let delay = plan.disturbance_delay(d, j as u8);
         until = first_after(d.from + delay, t, until);
         until = first_after(d.to + delay, t, until);
     }

@@ -7,7 +7,6 @@ use Rattle.wl_plan.specs.declared.plan.Plan.{Plan}
 use Rattle.wl_plan.specs.declared.check.PlanFault.{PlanFault}
 use Rattle.wl_plan.specs.Checked.{fault_of}
 use Rattle.wl_node.specs.declared.setup.NodeSetup.{NodeSetup}
-use Rattle.wl_segments.specs.declared.SyncRules.{SyncRules}
 use Rattle.wl_setup.specs.declared.bus.Bus.{Bus}
 use Rattle.wl_setup.specs.declared.bus.Deviation.{Deviation}
 use Rattle.wl_setup.specs.declared.fault.SetupFault.{SetupFault}
@@ -65,24 +64,24 @@ under-made i None rates made = made
 under-made i (Some ppm) rates made = rates-made i rates
 
 -- a node that is made has rates
-deviation-made : (sync : SyncRules) (i : ℕ) (node : NodeText) (s : NodeSetup) → setup_of sync (i, node) ≡ Ok s → IsMade (deviation_of (i, node))
-deviation-made sync i node s is =
+deviation-made : (plan : PlanText) (i : ℕ) (node : NodeText) (s : NodeSetup) → setup_of plan (i, node) ≡ Ok s → IsMade (deviation_of (i, node))
+deviation-made plan i node s is =
     let clock = after-made _ _ s is in
     let rates = after-made (each (rate_in i) node.rates) _ clock.0 clock.1 in
     let under = under-made i node.tolerance node.rates (rates.0, rates.1) in
     (record { rates = under.0; tolerance = unwrap_or node.tolerance 0 }, rw under.1 refl)
 
-deviations-made : (sync : SyncRules) (n : ℕ) (nodes : List NodeText) (setups : List NodeSetup) → each (setup_of sync) (enumerate_from n nodes) ≡ Ok setups
+deviations-made : (plan : PlanText) (n : ℕ) (nodes : List NodeText) (setups : List NodeSetup) → each (setup_of plan) (enumerate_from n nodes) ≡ Ok setups
     → IsMade (each deviation_of (enumerate_from n nodes))
-deviations-made sync n [] setups is = ([], refl)
-deviations-made sync n (node ∷ nodes) setups is =
-    let first = after-made (setup_of sync (n, node)) _ setups is in
-    let rest = after-made (each (setup_of sync) (enumerate_from (n + 1) nodes)) _ setups first.2 in
-    let one = deviation-made sync n node first.0 first.1 in
-    let more = deviations-made sync (n + 1) nodes rest.0 rest.1 in
+deviations-made plan n [] setups is = ([], refl)
+deviations-made plan n (node ∷ nodes) setups is =
+    let first = after-made (setup_of plan (n, node)) _ setups is in
+    let rest = after-made (each (setup_of plan) (enumerate_from (n + 1) nodes)) _ setups first.2 in
+    let one = deviation-made plan n node first.0 first.1 in
+    let more = deviations-made plan (n + 1) nodes rest.0 rest.1 in
     (one.0 ∷ more.0, rw (one.1, more.1) refl)
 
-enumerate-length : {T : Type 0} (n : ℕ) (xs : List T) → length (enumerate_from n xs) ≡ length xs
+pub enumerate-length : {T : Type 0} (n : ℕ) (xs : List T) → length (enumerate_from n xs) ≡ length xs
 enumerate-length n [] = refl
 enumerate-length n (x ∷ xs) = ap suc (enumerate-length (n + 1) xs)
 
@@ -99,11 +98,11 @@ Deviates text plan =
 
 deviates : (text : PlanText) (plan : Plan) → plan_of_text text ≡ Ok plan → Deviates text plan
 deviates text plan is =
-    let nodes = after-made (each (setup_of text.sync) (enumerate_from 0 text.node)) _ plan is in
+    let nodes = after-made (each (setup_of text) (enumerate_from 0 text.node)) _ plan is in
     let cable = after-made (cable_of text) _ plan nodes.2 in
     let same = ran plan _ _ cable.2 in
-    let all = deviations-made text.sync 0 text.node nodes.0 nodes.1 in
-    let count = each-length (setup_of text.sync) (enumerate_from 0 text.node) nodes.0 nodes.1 ∙ enumerate-length 0 text.node in
+    let all = deviations-made text 0 text.node nodes.0 nodes.1 in
+    let count = each-length (setup_of text) (enumerate_from 0 text.node) nodes.0 nodes.1 ∙ enumerate-length 0 text.node in
     let counted : length nodes.0 ≡ length plan.nodes = ap (λ p. length p.nodes) same in (
       all.0,
       all.1,

@@ -8,9 +8,9 @@ use Rattle.wl_setup.specs.declared.keys.Key.TheVariants as key
 use Rattle.wl_setup.specs.declared.fault.SetupFault.{SetupFault}
 use Rattle.wl_setup.specs.declared.fault.SetupFault.TheVariants.{Unknown, Version, Toml}
 use Rattle.wl_setup.specs.declared.plan_text.PlanText.{PlanText}
-use Rattle.wl_setup.specs.Keys.{kind_of, TableKeys, top_keys, frame_keys, disturbance_keys}
+use Rattle.wl_setup.specs.Keys.{kind_of, TableKeys, top_keys}
 use Rattle.wl_setup.specs.Kinds.{has_kind, value_at, number_at, tables_at}
-use Rattle.wl_setup.specs.Faults.{first_some, kind_fault, required_fault_of, required_fault, optional_fault_of, optional_fault, unknown_fault, table_fault, node_keys, rate_keys, rate_fault, is_known_version, version_fault, node_fault}
+use Rattle.wl_setup.specs.Faults.{first_some, kind_fault, required_fault_of, required_fault, optional_fault_of, optional_fault, unknown_fault, table_fault, node_keys, rate_keys, frame_keys, disturbance_keys, frame_fault, disturbance_fault, rate_fault, is_known_version, version_fault, node_fault}
 use Rattle.wl_setup.specs.Names.{has_repeat, names_of, same_name_fault}
 use Rattle.wl_setup.specs.Texts.{plan_of}
 use Rattle.wl_setup.specs.Document.{document_fault, is_document_fault, unless, OnlyDocumentFaults}
@@ -59,8 +59,8 @@ table_of_document keys table = first_some_of (
 
 node_of_document : (version : ℕ) (node : Members) → IsOfDocument (node_fault version node)
 node_of_document version node = first_some_of (
-    table_fault (node_keys version node) node ∷ first_some (map rate_fault (tables_at key.Rates node)) ∷ first_some (map (table_fault frame_keys) (tables_at key.Frame node)) ∷ []
-    ) (table_of_document (node_keys version node) node, (each_of rate_fault (λ r. table_of_document (rate_keys r) r) (tables_at key.Rates node), (each_of (table_fault frame_keys) (table_of_document frame_keys) (tables_at key.Frame node), tt)))
+    table_fault (node_keys version node) node ∷ first_some (map rate_fault (tables_at key.Rates node)) ∷ first_some (map (frame_fault version) (tables_at key.Frame node)) ∷ []
+    ) (table_of_document (node_keys version node) node, (each_of rate_fault (λ r. table_of_document (rate_keys r) r) (tables_at key.Rates node), (each_of (frame_fault version) (λ f. table_of_document (frame_keys version f) f) (tables_at key.Frame node), tt)))
 
 known_of_document : (version : ℕ) → IsOfDocument (if is_known_version version then None else Some Version)
 known_of_document version =
@@ -86,9 +86,9 @@ document_of_document top = first_some_of (
     version_fault top
     ∷ table_fault top_keys top
     ∷ first_some (map (node_fault (number_at key.Version top)) (tables_at key.Node top))
-    ∷ first_some (map (table_fault disturbance_keys) (tables_at key.Disturbance top))
+    ∷ first_some (map (disturbance_fault (number_at key.Version top)) (tables_at key.Disturbance top))
     ∷ same_name_fault (plan_of top) ∷ []
-    ) (version_of_document top, (table_of_document top_keys top, (each_of (node_fault (number_at key.Version top)) (node_of_document (number_at key.Version top)) (tables_at key.Node top), (each_of (table_fault disturbance_keys) (table_of_document disturbance_keys) (tables_at key.Disturbance top), (names_of_document (plan_of top), tt)))))
+    ) (version_of_document top, (table_of_document top_keys top, (each_of (node_fault (number_at key.Version top)) (node_of_document (number_at key.Version top)) (tables_at key.Node top), (each_of (disturbance_fault (number_at key.Version top)) (λ d. table_of_document (disturbance_keys (number_at key.Version top) d) d) (tables_at key.Disturbance top), (names_of_document (plan_of top), tt)))))
 
 -- the fault of a document is one that documents have
 pub only_document_faults : OnlyDocumentFaults

@@ -10,4 +10,6 @@ mod BusLemmas
 mod CheckLemmas
 mod FaultLemmas
 mod SpotLemmas
+mod Repeats
+mod Named
 mod Rows

@@ -1,5 +1,5 @@
 -- The worked rows of a text's plan, as the definition gives them.
-use Rattle.std.proofs.Common.{◌≡◌, ℕ, List, [], ◌∷◌, true, false, Some, Ok, Err, refl}
+use Rattle.std.proofs.Common.{◌≡◌, ℕ, List, [], ◌∷◌, true, false, Some, None, Ok, Err, refl}
 use Rattle.std.specs.Prelude.{codes}
 use Rattle.wl_clock.specs.Timing.{tick_of}
 use Rattle.wl_frame.specs.declared.frame.FrameFault.TheVariants.{Id, Dlc, ExtendedId}
@@ -23,7 +23,7 @@ use Rattle.wl_setup.specs.Limits.{most_bytes, largest_number, largest_small, lar
 use Rattle.wl_setup.specs.Plans.{plan_of_text, queued_of}
 
 abbrev frame_text : ℕ → FrameText
-frame_text id = record { id = id; dlc = 0; remote = false; bytes = []; ready = 0; extended = false }
+frame_text id = record { id = id; dlc = 0; remote = false; bytes = []; ready = 0; extended = false; every = None; count = None }
 
 abbrev node_text : List ℕ → ℕ → ℕ → List FrameText → NodeText
 node_text name x in_delay frames = record {
@@ -39,6 +39,7 @@ node_text name x in_delay frames = record {
   in_delay = in_delay;
   frame = frames;
   tolerance = Some 250;
+  listens = false;
 }
 
 -- two nodes 50 ticks apart, the first with a frame; its identifier, its way from the cable and the end differ from row to row
@@ -61,7 +62,7 @@ setup_with queue = record {
 
 abbrev cable : Cable
 cable = record {
-  places = record { x = 0; out_delay = 0; in_delay = 1 } ∷ record { x = 50; out_delay = 0; in_delay = 1 } ∷ [];
+  places = record { x = 0; out_delay = 0; in_delay = 1; listens = false } ∷ record { x = 50; out_delay = 0; in_delay = 1; listens = false } ∷ [];
   per = 1;
 }
 
@@ -81,7 +82,7 @@ plan-id : plan_of_text (text_with 2048 0 68719476737) ≡ Err (fault.NodeFrame 0
 plan-id = refl
 
 abbrev extended_with : ℕ → ℕ → FrameText
-extended_with id dlc = record { id = id; dlc = dlc; remote = false; bytes = []; ready = 0; extended = true }
+extended_with id dlc = record { id = id; dlc = dlc; remote = false; bytes = []; ready = 0; extended = true; every = None; count = None }
 
 plan-extended_id : queued_of 0 (0, extended_with 536870912 0) ≡ Err (fault.NodeFrame 0 0 ExtendedId)
 plan-extended_id = refl

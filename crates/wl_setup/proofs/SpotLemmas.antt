@@ -6,9 +6,9 @@ use Rattle.toml.specs.Data.{Data, Members, as_table}
 use Rattle.wl_setup.specs.declared.fault.SetupFault.{SetupFault}
 use Rattle.wl_setup.specs.declared.keys.Key.{Key}
 use Rattle.wl_setup.specs.declared.keys.Key.TheVariants as key
-use Rattle.wl_setup.specs.Keys.{TableKeys, frame_keys}
+use Rattle.wl_setup.specs.Keys.{TableKeys}
 use Rattle.wl_setup.specs.Kinds.{elements_at, tables_at}
-use Rattle.wl_setup.specs.Faults.{first_some, node_fault, node_keys, optional_fault, rate_fault, rates_fault, required_fault, table_fault, unknown_fault}
+use Rattle.wl_setup.specs.Faults.{first_some, frame_fault, node_fault, node_keys, optional_fault, rate_fault, rates_fault, required_fault, table_fault, unknown_fault}
 use Rattle.wl_setup.specs.Document.{tables_in}
 use Rattle.wl_setup.specs.Spots.{first_faulty, has_fault, is_faulty}
 
@@ -87,12 +87,12 @@ table_has keys table =
 
 -- and a node where its table, a rate or a frame does
 pub node_has : (version : ℕ) (node : Members)
-    → ((has_fault (node_keys version node) node || is_some (first_faulty rate_fault key.Rates node)) || is_some (first_faulty (table_fault frame_keys) key.Frame node))
+    → ((has_fault (node_keys version node) node || is_some (first_faulty rate_fault key.Rates node)) || is_some (first_faulty (frame_fault version) key.Frame node))
     ≡ is_some (node_fault version node)
 node_has version node =
-    or_three (has_fault (node_keys version node) node) (is_some (first_faulty rate_fault key.Rates node)) (is_some (first_faulty (table_fault frame_keys) key.Frame node))
-    ∙ sym (some_of_three (table_fault (node_keys version node) node) (rates_fault node) (first_some (map (table_fault frame_keys) (tables_at key.Frame node)))
-    ∙ ap₂ (λ a b. has_fault (node_keys version node) node || a || b) (row rate_fault key.Rates) (row (table_fault frame_keys) key.Frame))
+    or_three (has_fault (node_keys version node) node) (is_some (first_faulty rate_fault key.Rates node)) (is_some (first_faulty (frame_fault version) key.Frame node))
+    ∙ sym (some_of_three (table_fault (node_keys version node) node) (rates_fault node) (first_some (map (frame_fault version) (tables_at key.Frame node)))
+    ∙ ap₂ (λ a b. has_fault (node_keys version node) node || a || b) (row rate_fault key.Rates) (row (frame_fault version) key.Frame))
   where
     row : (fault : Members → Option SetupFault) (k : Key) → is_some (first_some (map fault (tables_at k node))) ≡ is_some (first_faulty fault k node)
     row fault k = some_table fault (elements_at k node) ∙ sym (some_position (is_faulty fault) (elements_at k node))

@@ -3,7 +3,7 @@ use Rattle.std.specs.Prelude.{◌≡◌, ℕ, ◌≤◌, nat_lt, Bool, List, [],
 use Rattle.std.specs.List.{enumerate_from, filter, flat_map}
 use Rattle.std.specs.Fmt.{decimal}
 use Rattle.wl_segments.specs.Lengths.{Lengths, bit_quanta, sample_at, IsTolerated}
-use Rattle.wl_topology.specs.Delays.{Cable, delay_of, row, pairs}
+use Rattle.wl_topology.specs.Delays.{Cable, propagation_of, row, pairs}
 use Rattle.wl_node.specs.declared.setup.NodeSetup.{NodeSetup}
 use Rattle.wl_plan.specs.declared.plan.Plan.{Plan}
 use Rattle.wl_setup.specs.declared.check.NodeLine.{NodeLine}
@@ -47,7 +47,7 @@ abbrev pub pair_words : PairLine → List ℕ
 pair_words l = words_of_pair l.i l.j l.there l.back
 
 abbrev pub pair_line : Cable → ℕ × ℕ → List ℕ
-pair_line cable (i, j) = words_of_pair i j (delay_of cable i j) (delay_of cable j i) ++ 10 ∷ []
+pair_line cable (i, j) = words_of_pair i j (propagation_of cable i j) (propagation_of cable j i) ++ 10 ∷ []
 
 abbrev pub is_upward : ℕ × ℕ → Bool
 is_upward (i, j) = nat_lt i j

@@ -6,10 +6,10 @@ use Rattle.wl_setup.specs.declared.keys.Key.TheVariants as key
 use Rattle.wl_setup.specs.declared.fault.SetupFault.{SetupFault}
 use Rattle.wl_setup.specs.declared.fault.SetupFault.TheVariants.{Version, Missing, Kind, Unknown, SameName, Memory}
 use Rattle.wl_setup.specs.declared.plan_text.PlanText.{PlanText}
-use Rattle.wl_setup.specs.Keys.{top_keys, disturbance_keys}
+use Rattle.wl_setup.specs.Keys.{top_keys}
 use Rattle.wl_setup.specs.Kinds.{number_at, tables_at}
 use Rattle.wl_setup.specs.Texts.{plan_of}
-use Rattle.wl_setup.specs.Faults.{first_some, version_fault, table_fault, node_fault}
+use Rattle.wl_setup.specs.Faults.{first_some, version_fault, table_fault, node_fault, disturbance_fault}
 use Rattle.wl_setup.specs.Names.{names_of, same_name_fault}
 
 -- the first fault: of the version, the top table, each node followed by its rates and its frames, the disturbances, the names
@@ -19,7 +19,7 @@ document_fault top =
     version_fault top
     ∷ table_fault top_keys top
     ∷ first_some (map (node_fault (number_at key.Version top)) (tables_at key.Node top))
-    ∷ first_some (map (table_fault disturbance_keys) (tables_at key.Disturbance top))
+    ∷ first_some (map (disturbance_fault (number_at key.Version top)) (tables_at key.Disturbance top))
     ∷ same_name_fault (plan_of top) ∷ [])
 
 -- a value, unless there is a fault

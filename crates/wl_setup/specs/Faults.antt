@@ -1,5 +1,5 @@
 -- The faults of a plan's tables, in the order in which they are answered (this project's profile).
-use Rattle.std.specs.Prelude.{ℕ, ◌==◌, Bool, not, ◌||◌, if◌then◌else◌, List, [], ◌∷◌, map, filter, find, Option, Some, None, option_map, is_some}
+use Rattle.std.specs.Prelude.{ℕ, ◌==◌, Bool, not, ◌||◌, ◌&&◌, if◌then◌else◌, List, [], ◌∷◌, map, filter, find, Option, Some, None, option_map, is_some}
 use Rattle.std.specs.List.{list_any}
 use Rattle.std.specs.Ordering.{nat_cmp, is_lt}
 use Rattle.std.specs.Str.{bytes_eq}
@@ -9,9 +9,9 @@ use Rattle.wl_setup.specs.declared.keys.Key.{Key}
 use Rattle.wl_setup.specs.declared.keys.Key.TheVariants as key
 use Rattle.wl_setup.specs.declared.fault.SetupFault.{SetupFault}
 use Rattle.wl_setup.specs.declared.fault.SetupFault.TheVariants.{Version, Missing, Kind, Unknown}
-use Rattle.wl_setup.specs.Keys.{key_text, kind_of, TableKeys, node_keys_by_rate, node_keys_by_ppm, node_keys_by_rates, rate_keys_by_fraction, rate_keys_by_ppm, frame_keys}
+use Rattle.wl_setup.specs.Keys.{key_text, kind_of, TableKeys, required_by_rate, required_by_ppm, required_by_rates, node_optional, rate_keys_by_fraction, rate_keys_by_ppm, frame_required, frame_optional, disturbance_required}
 use Rattle.wl_setup.specs.Kinds.{has_kind, value_at, number_at, tables_at}
-use Rattle.wl_setup.specs.Limits.{first_version, version_of_rates}
+use Rattle.wl_setup.specs.Limits.{first_version, version_of_rates, version_of_traffic}
 
 -- the first of those that are there
 abbrev pub first_some : {A : Type 0} → List (Option A) → Option A
@@ -76,12 +76,43 @@ table_fault keys table =
     ∷ first_some (map (optional_fault table) keys.optional)
     ∷ unknown_fault keys table ∷ [])
 
--- the keys of a node go by the version, and in the first one by whether `quantum` is there
+-- a version in which frames come again, nodes only listen and disturbances are at one node
+abbrev pub has_traffic : ℕ → Bool
+has_traffic version = version == version_of_traffic
+
+-- a node's rates are tables of their own: in the version of rates always, later on if the key is there
+abbrev pub has_rates : ℕ → Members → Bool
+has_rates version table = (version == version_of_rates) || (has_traffic version && is_some (value_at key.Rates table))
+
+-- the keys of a node go by the version, and by whether `rates` or `quantum` is there
+abbrev pub node_required : ℕ → Members → List Key
+node_required version table =
+    if has_rates version table then required_by_rates
+    else if is_some (value_at key.Quantum table) then required_by_ppm
+    else required_by_rate
+
 abbrev pub node_keys : ℕ → Members → TableKeys
-node_keys version table =
-    if version == version_of_rates then node_keys_by_rates
-    else if is_some (value_at key.Quantum table) then node_keys_by_ppm
-    else node_keys_by_rate
+node_keys version table = record { required = node_required version table; optional = node_optional (has_traffic version) }
+
+-- those of a frame by the version, and by whether `count` is there
+abbrev pub frame_keys : ℕ → Members → TableKeys
+frame_keys version table = record {
+  required = frame_required (has_traffic version && is_some (value_at key.Count table));
+  optional = frame_optional (has_traffic version);
+}
+
+-- those of a disturbance by the version, and by whether `node` is there
+abbrev pub disturbance_keys : ℕ → Members → TableKeys
+disturbance_keys version table = record {
+  required = disturbance_required (has_traffic version && is_some (value_at key.AtNode table));
+  optional = [];
+}
+
+abbrev pub frame_fault : ℕ → Members → Option SetupFault
+frame_fault version table = table_fault (frame_keys version table) table
+
+abbrev pub disturbance_fault : ℕ → Members → Option SetupFault
+disturbance_fault version table = table_fault (disturbance_keys version table) table
 
 -- and so do those of a rate
 abbrev pub rate_keys : Members → TableKeys
@@ -96,7 +127,7 @@ rates_fault node = first_some (map rate_fault (tables_at key.Rates node))
 
 -- whether a version is known
 abbrev pub is_known_version : ℕ → Bool
-is_known_version version = (version == first_version) || (version == version_of_rates)
+is_known_version version = (version == first_version) || (version == version_of_rates) || (version == version_of_traffic)
 
 -- a version that is missing, of another kind, or not known
 abbrev pub version_fault : Members → Option SetupFault
@@ -109,4 +140,4 @@ node_fault version node =
     first_some (
     table_fault (node_keys version node) node
     ∷ rates_fault node
-    ∷ first_some (map (table_fault frame_keys) (tables_at key.Frame node)) ∷ [])
+    ∷ first_some (map (frame_fault version) (tables_at key.Frame node)) ∷ [])

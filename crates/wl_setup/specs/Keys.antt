@@ -1,7 +1,7 @@
 -- The keys of a plan's tables (this project's profile).
-use Rattle.std.specs.Prelude.{ℕ, List, [], ◌∷◌, codes}
+use Rattle.std.specs.Prelude.{ℕ, Bool, true, false, List, [], ◌∷◌, codes}
 use Rattle.wl_setup.specs.declared.keys.Key.{Key}
-use Rattle.wl_setup.specs.declared.keys.Key.TheVariants.{Version, End, Per, Node, Disturbance, Sync, Name, Offset, Num, Den, Quantum, Ppm, Rates, Prop, Ps1, Ps2, Sjw, X, Out, In, Frame, Id, Dlc, Remote, Bytes, Ready, Extended, From, To, Tolerance}
+use Rattle.wl_setup.specs.declared.keys.Key.TheVariants.{Version, End, Per, Node, Disturbance, Sync, Name, Offset, Num, Den, Quantum, Ppm, Rates, Prop, Ps1, Ps2, Sjw, X, Out, In, Frame, Id, Dlc, Remote, Bytes, Ready, Extended, From, To, Tolerance, Every, Count, Listen, AtNode}
 use Rattle.wl_setup.specs.declared.keys.Kind.{Kind}
 use Rattle.wl_setup.specs.declared.keys.Kind.TheVariants as kind
 
@@ -37,6 +37,10 @@ key_text Extended = codes "extended"
 key_text From = codes "from"
 key_text To = codes "to"
 key_text Tolerance = codes "tolerance"
+key_text Every = codes "every"
+key_text Count = codes "count"
+key_text Listen = codes "listen"
+key_text AtNode = codes "node"
 
 -- what its value has to be
 abbrev pub kind_of : Key → Kind
@@ -54,6 +58,10 @@ kind_of Extended = kind.Truth
 kind_of Bytes = kind.Bytes
 kind_of Sync = kind.Sync
 kind_of Tolerance = kind.Tolerance
+kind_of Every = kind.Positive
+kind_of Count = kind.Positive
+kind_of Listen = kind.Truth
+kind_of AtNode = kind.Name
 kind_of _ = kind.Number
 
 -- the keys of a table, in the order in which they are tested
@@ -64,26 +72,22 @@ pub record TableKeys : Type 0 where
 abbrev pub top_keys : TableKeys
 top_keys = record { required = Version ∷ End ∷ Per ∷ Node ∷ []; optional = Disturbance ∷ Sync ∷ [] }
 
--- of a node whose rate is written as a fraction
-abbrev pub node_keys_by_rate : TableKeys
-node_keys_by_rate = record {
-  required = Name ∷ Offset ∷ Num ∷ Den ∷ Prop ∷ Ps1 ∷ Ps2 ∷ Sjw ∷ X ∷ Out ∷ In ∷ [];
-  optional = Frame ∷ Tolerance ∷ [];
-}
+-- the required keys of a node whose rate is written as a fraction
+abbrev pub required_by_rate : List Key
+required_by_rate = Name ∷ Offset ∷ Num ∷ Den ∷ Prop ∷ Ps1 ∷ Ps2 ∷ Sjw ∷ X ∷ Out ∷ In ∷ []
 
--- of a node whose rate is written as a whole number of ticks and an error in parts per million
-abbrev pub node_keys_by_ppm : TableKeys
-node_keys_by_ppm = record {
-  required = Name ∷ Offset ∷ Quantum ∷ Ppm ∷ Prop ∷ Ps1 ∷ Ps2 ∷ Sjw ∷ X ∷ Out ∷ In ∷ [];
-  optional = Frame ∷ Tolerance ∷ [];
-}
+-- of one whose rate is written as a whole number of ticks and an error in parts per million
+abbrev pub required_by_ppm : List Key
+required_by_ppm = Name ∷ Offset ∷ Quantum ∷ Ppm ∷ Prop ∷ Ps1 ∷ Ps2 ∷ Sjw ∷ X ∷ Out ∷ In ∷ []
 
--- of a node whose rates are tables of their own
-abbrev pub node_keys_by_rates : TableKeys
-node_keys_by_rates = record {
-  required = Name ∷ Offset ∷ Rates ∷ Prop ∷ Ps1 ∷ Ps2 ∷ Sjw ∷ X ∷ Out ∷ In ∷ [];
-  optional = Frame ∷ Tolerance ∷ [];
-}
+-- of one whose rates are tables of their own
+abbrev pub required_by_rates : List Key
+required_by_rates = Name ∷ Offset ∷ Rates ∷ Prop ∷ Ps1 ∷ Ps2 ∷ Sjw ∷ X ∷ Out ∷ In ∷ []
+
+-- the optional keys of a node; from the version of traffic on it may only listen
+abbrev pub node_optional : Bool → List Key
+node_optional false = Frame ∷ Tolerance ∷ []
+node_optional true = Frame ∷ Tolerance ∷ Listen ∷ []
 
 -- of a rate that is written as a fraction, and of one that is a whole number of ticks and an error in parts per million
 abbrev pub rate_keys_by_fraction : TableKeys
@@ -92,11 +96,19 @@ rate_keys_by_fraction = record { required = From ∷ Num ∷ Den ∷ []; optiona
 abbrev pub rate_keys_by_ppm : TableKeys
 rate_keys_by_ppm = record { required = From ∷ Quantum ∷ Ppm ∷ []; optional = [] }
 
-abbrev pub frame_keys : TableKeys
-frame_keys = record { required = Id ∷ Dlc ∷ []; optional = Remote ∷ Bytes ∷ Ready ∷ Extended ∷ [] }
+-- of a frame; from the version of traffic on it may come again, and one with a count does
+abbrev pub frame_required : Bool → List Key
+frame_required false = Id ∷ Dlc ∷ []
+frame_required true = Id ∷ Dlc ∷ Every ∷ []
 
-abbrev pub disturbance_keys : TableKeys
-disturbance_keys = record { required = X ∷ From ∷ To ∷ []; optional = [] }
+abbrev pub frame_optional : Bool → List Key
+frame_optional false = Remote ∷ Bytes ∷ Ready ∷ Extended ∷ []
+frame_optional true = Remote ∷ Bytes ∷ Ready ∷ Extended ∷ Every ∷ Count ∷ []
+
+-- of a disturbance at a place on the cable, and of one at a node
+abbrev pub disturbance_required : Bool → List Key
+disturbance_required false = X ∷ From ∷ To ∷ []
+disturbance_required true = AtNode ∷ From ∷ To ∷ []
 
 abbrev pub table_keys : List Key → List Key → TableKeys
 table_keys required optional = record { required = required; optional = optional }

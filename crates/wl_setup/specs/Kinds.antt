@@ -1,5 +1,5 @@
 -- What the value of a key has to be, and what it says (this project's profile).
-use Rattle.std.specs.Prelude.{ℕ, ℤ, pos, unsigned_abs, ◌||◌, ◌&&◌, ◌==◌, nat_le, Bool, false, if◌then◌else◌, List, [], ◌∷◌, length, Option, Some, None, is_some, unwrap_or, option_and_then, codes}
+use Rattle.std.specs.Prelude.{ℕ, suc, ℤ, pos, unsigned_abs, ◌||◌, ◌&&◌, ◌==◌, nat_le, Bool, false, if◌then◌else◌, List, [], ◌∷◌, length, Option, Some, None, is_some, unwrap_or, option_and_then, codes}
 use Rattle.std.specs.List.{list_all, filter_map}
 use Rattle.toml.specs.Data.{Data, integer, array, Items, no_items, item, Members, get_member, as_str, as_integer, as_bool, as_table}
 use Rattle.std.specs.Str.{bytes_eq}
@@ -15,6 +15,14 @@ use Rattle.wl_setup.specs.Limits.{largest_number, largest_small, largest_ppm, la
 abbrev pub number_in : ℕ → Data → Option ℕ
 number_in most (integer (pos n)) = if nat_le n most then Some n else None
 number_in most _ = None
+
+-- and one from 1 on
+abbrev pub positive_by : Option ℕ → Option ℕ
+positive_by (Some (suc n)) = Some (suc n)
+positive_by _ = None
+
+abbrev pub positive_in : Data → Option ℕ
+positive_in d = positive_by (number_in largest_number d)
 
 -- an ASCII letter or digit, `_` or `-`
 abbrev pub is_name_letter : ℕ → Bool
@@ -62,6 +70,7 @@ has_kind kind.Bytes d = holds (list_all (λ e. is_some (byte_in e))) (elements_o
 has_kind kind.Tables d = holds (list_all (λ e. is_some (as_table e))) (elements_of d)
 has_kind kind.Sync d = is_some (sync_in d)
 has_kind kind.Tolerance d = is_some (number_in largest_tolerance d)
+has_kind kind.Positive d = is_some (positive_in d)
 
 -- the value of a key
 abbrev pub value_at : Key → Members → Option Data
@@ -86,6 +95,13 @@ sync_choice_at key table = unwrap_or (option_and_then sync_in (value_at key tabl
 -- a tolerance has no default
 abbrev pub tolerance_at : Key → Members → Option ℕ
 tolerance_at key table = option_and_then (number_in largest_tolerance) (value_at key table)
+
+-- nor has a number from 1 on, and a name that may be absent
+abbrev pub positive_at : Key → Members → Option ℕ
+positive_at key table = option_and_then positive_in (value_at key table)
+
+abbrev pub some_name_at : Key → Members → Option (List ℕ)
+some_name_at key table = option_and_then as_str (value_at key table)
 
 abbrev pub name_at : Key → Members → List ℕ
 name_at key table = unwrap_or (option_and_then as_str (value_at key table)) []

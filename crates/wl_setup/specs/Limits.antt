@@ -1,6 +1,6 @@
 -- The limits of a plan's text (this project's profile), each that of the constant of its name.
 use Rattle.std.specs.Prelude.{◌≡◌, ℕ, refl}
-use Rattle.wl_setup.specs.declared.limits.TheConstants.{MOST_BYTES, LARGEST_NUMBER, LARGEST_SMALL, LARGEST_PPM, LARGEST_TOLERANCE, LARGEST_BYTE, LONGEST_NAME, FIRST_VERSION, VERSION_OF_RATES}
+use Rattle.wl_setup.specs.declared.limits.TheConstants.{MOST_BYTES, LARGEST_NUMBER, LARGEST_SMALL, LARGEST_PPM, LARGEST_TOLERANCE, LARGEST_BYTE, LONGEST_NAME, FIRST_VERSION, VERSION_OF_RATES, VERSION_OF_TRAFFIC, FEW_QUEUED}
 
 -- the most bytes of a plan's text
 unfoldable pub most_bytes : ℕ
@@ -34,9 +34,17 @@ longest_name = LONGEST_NAME
 abbrev pub first_version : ℕ
 first_version = FIRST_VERSION
 
--- and the last that is known, in which it has a list of them
+-- the one in which it has a list of them
 abbrev pub version_of_rates : ℕ
 version_of_rates = VERSION_OF_RATES
+
+-- and the last that is known, in which frames come again, nodes only listen and disturbances are at one node
+abbrev pub version_of_traffic : ℕ
+version_of_traffic = VERSION_OF_TRAFFIC
+
+-- the most frames that wait at a node in the versions before
+abbrev pub few_queued : ℕ
+few_queued = FEW_QUEUED
 
 -- what each large name stands for, for proofs
 pub most_bytes-is : most_bytes ≡ MOST_BYTES

@@ -1,14 +1,16 @@
 -- Which plan, or which fault, belongs to a plan's text (this project's profile).
-use Rattle.std.specs.Prelude.{◌≡◌, ◌≢◌, ℕ, List, [], ◌∷◌, map, Option, Some, None, Result, Ok, Err, MatchResult}
-use Rattle.std.specs.List.{enumerate_from}
+use Rattle.std.specs.Prelude.{◌≡◌, ◌≢◌, ℕ, zero, suc, ◌+◌, ◌^◌, nat_lt, min, Bool, true, false, if◌then◌else◌, List, [], ◌∷◌, ◌++◌, map, take, Option, Some, None, option_map, unwrap_or, Result, Ok, Err, MatchResult}
+use Rattle.std.specs.List.{enumerate_from, position_or_len}
+use Rattle.std.specs.Str.{bytes_eq}
+use Rattle.wl_level.specs.ByTick.{by_tick}
 use Rattle.wl_device.specs.Devices.{Answer}
-use Rattle.wl_clock.specs.Timing.{Timing, timing_of_rates, rate_of_ppm}
+use Rattle.wl_clock.specs.Timing.{Timing, tick_of, timing_of_rates, rate_of_ppm}
 use Rattle.wl_clock.specs.declared.Rate.{Rate}
 use Rattle.wl_clock.specs.declared.ClockFault.{ClockFault}
 use Rattle.wl_segments.specs.Lengths.{Lengths, segments_of}
 use Rattle.wl_segments.specs.declared.SegmentsFault.{SegmentsFault}
 use Rattle.wl_segments.specs.declared.SyncRules.{SyncRules}
-use Rattle.wl_frame.specs.Grammar.{frame_of_numbers}
+use Rattle.wl_frame.specs.Grammar.{Content, frame_of_numbers}
 use Rattle.wl_topology.specs.declared.Place.{Place}
 use Rattle.wl_topology.specs.Delays.{Cable, topology_of}
 use Rattle.wl_node.specs.declared.setup.Queued.{Queued}
@@ -16,7 +18,8 @@ use Rattle.wl_node.specs.declared.setup.NodeSetup.{NodeSetup}
 use Rattle.wl_plan.specs.declared.plan.Disturbance.{Disturbance}
 use Rattle.wl_plan.specs.declared.plan.Plan.{Plan}
 use Rattle.wl_plan.specs.declared.check.PlanFault.{PlanFault}
-use Rattle.wl_plan.specs.Checked.{fault_of}
+use Rattle.wl_plan.specs.Checked.{fault_within}
+use Rattle.wl_plan.specs.Limits.{latest_end, most_queued}
 use Rattle.wl_setup.specs.declared.fault.SetupFault.{SetupFault}
 use Rattle.wl_setup.specs.declared.fault.SetupFault.TheVariants as fault
 use Rattle.wl_setup.specs.declared.plan_text.PlanText.{PlanText}
@@ -26,6 +29,8 @@ use Rattle.wl_setup.specs.declared.plan_text.DisturbanceText.{DisturbanceText}
 use Rattle.wl_setup.specs.declared.plan_text.ClockText.{ClockText}
 use Rattle.wl_setup.specs.declared.plan_text.ClockText.TheVariants as text
 use Rattle.wl_setup.specs.declared.plan_text.RateText.{RateText}
+use Rattle.wl_setup.specs.Limits.{few_queued}
+use Rattle.wl_setup.specs.Faults.{has_traffic}
 use Rattle.wl_setup.specs.Names.{names_of}
 use Rattle.wl_setup.specs.Reading.{ReadsPlan}
 
@@ -72,38 +77,82 @@ queued_of i (n, text) =
     after (with_fault (fault.NodeFrame i n) (frame_of_numbers text.extended text.id text.remote text.dlc text.bytes))
     (λ frame. Ok (record { frame = frame; ready = text.ready }))
 
+-- A frame and its later instances, `every` quanta apart: at most so many, and only those that become ready before the plan ends. Each is
+-- beside the quantum at which it becomes ready.
+abbrev pub repeated : Timing → ℕ → ℕ → ℕ → ℕ → Content → List (ℕ × Content)
+repeated clock end every zero ready frame = []
+repeated clock end every (suc most) ready frame =
+    if nat_lt (tick_of clock ready) end then (ready, frame) ∷ repeated clock end every most (ready + every) frame else []
+
+-- of one that comes once, it alone
+abbrev pub instances_by : Timing → ℕ → Option ℕ → ℕ → Queued → List (ℕ × Content)
+instances_by clock end None most q = (q.ready, q.frame) ∷ []
+instances_by clock end (Some every) most q = repeated clock end every most q.ready q.frame
+
+-- as many as it says, and one more than may wait at a node is enough
+abbrev pub instances_of : Timing → ℕ → FrameText → Queued → List (ℕ × Content)
+instances_of clock end text q = instances_by clock end text.every (min (unwrap_or text.count (suc most_queued)) (suc most_queued)) q
+
+-- of all frames of a node, frame by frame
+abbrev pub all_instances : Timing → ℕ → List FrameText → List Queued → List (ℕ × Content)
+all_instances clock end (text ∷ texts) (q ∷ qs) = instances_of clock end text q ++ all_instances clock end texts qs
+all_instances clock end _ _ = []
+
+abbrev pub as_queued : ℕ × Content → Queued
+as_queued (ready, frame) = record { frame = frame; ready = ready }
+
+-- They wait in the order in which they become ready, those of one quantum in the order of the text. One more than may wait is kept, so that
+-- the plan is refused.
+abbrev pub queue_of : Timing → ℕ → List FrameText → List Queued → List Queued
+queue_of clock end texts qs = map as_queued (by_tick (2 ^ 64) (take (suc most_queued) (all_instances clock end texts qs)))
+
+-- before the version of traffic frames wait in the order of the text
+abbrev pub queue_in : Bool → Timing → ℕ → List FrameText → List Queued → List Queued
+queue_in false clock end texts qs = qs
+queue_in true clock end texts qs = queue_of clock end texts qs
+
+-- Only what becomes ready before the plan ends comes again; a plan whose end is too late is refused.
 -- a numbered node: its clock, then its segments, then its frames in order
-abbrev pub setup_of : SyncRules → ℕ × NodeText → Result NodeSetup SetupFault
-setup_of sync (i, node) =
+abbrev pub setup_of : PlanText → ℕ × NodeText → Result NodeSetup SetupFault
+setup_of text (i, node) =
     after (clock_in i node)
-    (λ clock. after (with_fault (fault.NodeSegments i) (segments_of_node sync node))
+    (λ clock. after (with_fault (fault.NodeSegments i) (segments_of_node text.sync node))
     (λ segments. after (each (queued_of i) (enumerate_from 0 node.frame))
-    (λ queue. Ok (record { clock = clock; segments = segments; queue = queue }))))
+    (λ queue. Ok (record { clock = clock; segments = segments; queue = queue_in (has_traffic text.version) clock (min text.end latest_end) node.frame queue }))))
 
 -- where a node sits
 abbrev pub place_of : NodeText → Place
-place_of node = record { x = node.x; out_delay = node.out_delay; in_delay = node.in_delay }
+place_of node = record { x = node.x; out_delay = node.out_delay; in_delay = node.in_delay; listens = node.listens }
 
 abbrev pub cable_of : PlanText → Result Cable SetupFault
 cable_of text = with_fault fault.Topology (topology_of (map place_of text.node) text.per)
 
-abbrev pub disturbance_in : DisturbanceText → Disturbance
-disturbance_in text = record { x = text.x; from = text.from; to = text.to }
+-- the number of the node with this name, and where none has it the number of no node
+abbrev pub node_named : List (List ℕ) → List ℕ → ℕ
+node_named names name = position_or_len (bytes_eq name) names
+
+abbrev pub disturbance_in : List (List ℕ) → DisturbanceText → Disturbance
+disturbance_in names text = record { node = option_map (node_named names) text.node; x = text.x; from = text.from; to = text.to }
 
 -- a plan, unless it can't be run
 abbrev pub unless_refused : Plan → Option PlanFault → Result Plan SetupFault
 unless_refused plan None = Ok plan
 unless_refused plan (Some refusal) = Err (fault.Plan refusal)
 
-abbrev pub runnable : Plan → Result Plan SetupFault
-runnable plan = unless_refused plan (fault_of plan)
+-- how many frames may wait at a node goes by the version
+abbrev pub queued_in : ℕ → ℕ
+queued_in version = if has_traffic version then most_queued else few_queued
+
+abbrev pub runnable : ℕ → Plan → Result Plan SetupFault
+runnable version plan = unless_refused plan (fault_within (queued_in version) plan)
 
 -- the plan of a text, or its first fault: of the nodes in order, of the topology, of the whole plan
 abbrev pub plan_of_text : PlanText → Result Plan SetupFault
 plan_of_text text =
-    after (each (setup_of text.sync) (enumerate_from 0 text.node))
+    after (each (setup_of text) (enumerate_from 0 text.node))
     (λ nodes. after (cable_of text)
-    (λ cable. runnable (record { nodes = nodes; topology = cable; disturbances = map disturbance_in text.disturbance; end = text.end })))
+    (λ cable. runnable text.version
+    (record { nodes = nodes; topology = cable; disturbances = map (disturbance_in (names_of text)) text.disturbance; end = text.end })))
 
 -- the plan and the names of its nodes
 abbrev pub named_plan_of : PlanText → Result (Plan × List (List ℕ)) SetupFault

@@ -7,9 +7,9 @@ use Rattle.wl_setup.specs.declared.keys.Key.TheVariants as key
 use Rattle.wl_setup.specs.declared.fault.SetupFault.{SetupFault}
 use Rattle.wl_setup.specs.declared.spot.Spot.{Spot}
 use Rattle.wl_setup.specs.declared.spot.Spot.TheVariants.{Top, Node, Rate, Frame, Disturbance}
-use Rattle.wl_setup.specs.Keys.{TableKeys, top_keys, frame_keys, disturbance_keys}
+use Rattle.wl_setup.specs.Keys.{TableKeys, top_keys}
 use Rattle.wl_setup.specs.Kinds.{elements_at, number_at}
-use Rattle.wl_setup.specs.Faults.{first_some, table_fault, node_keys, rate_fault, node_fault}
+use Rattle.wl_setup.specs.Faults.{first_some, table_fault, node_keys, rate_fault, frame_fault, disturbance_fault, node_fault}
 
 -- whether a table has a fault of its own, and whether a value is a table of which there is a fault
 abbrev pub has_fault : TableKeys → Members → Bool
@@ -28,7 +28,7 @@ spot_in_node version i node =
     first_some (
     (if has_fault (node_keys version node) node then Some (Node i) else None)
     ∷ option_map (Rate i) (first_faulty rate_fault key.Rates node)
-    ∷ option_map (Frame i) (first_faulty (table_fault frame_keys) key.Frame node) ∷ [])
+    ∷ option_map (Frame i) (first_faulty (frame_fault version) key.Frame node) ∷ [])
 
 -- the table with this number in the array at a key
 abbrev pub row_at : Key → ℕ → Members → Option Members
@@ -43,7 +43,7 @@ faulty_spot top =
     first_some (
     (if has_fault top_keys top then Some Top else None)
     ∷ option_and_then (spot_of_node (number_at key.Version top) top) (first_faulty (node_fault (number_at key.Version top)) key.Node top)
-    ∷ option_map Disturbance (first_faulty (table_fault disturbance_keys) key.Disturbance top) ∷ [])
+    ∷ option_map Disturbance (first_faulty (disturbance_fault (number_at key.Version top)) key.Disturbance top) ∷ [])
 
 -- the table at a spot
 abbrev pub table_at : Spot → Members → Option Members

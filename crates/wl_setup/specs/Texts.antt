@@ -1,5 +1,5 @@
 -- What the tables of a plan say (this project's profile).
-use Rattle.std.specs.Prelude.{ℕ, ◌==◌, List, [], ◌∷◌, map, if◌then◌else◌, is_some}
+use Rattle.std.specs.Prelude.{ℕ, List, [], ◌∷◌, map, if◌then◌else◌, is_some}
 use Rattle.toml.specs.Data.{Members}
 use Rattle.wl_setup.specs.declared.keys.Key.TheVariants as key
 use Rattle.wl_setup.specs.declared.plan_text.PlanText.{PlanText}
@@ -9,8 +9,8 @@ use Rattle.wl_setup.specs.declared.plan_text.DisturbanceText.{DisturbanceText}
 use Rattle.wl_setup.specs.declared.plan_text.RateText.{RateText}
 use Rattle.wl_setup.specs.declared.plan_text.ClockText.{ClockText}
 use Rattle.wl_setup.specs.declared.plan_text.ClockText.TheVariants.{Rate, Ppm}
-use Rattle.wl_setup.specs.Limits.{version_of_rates}
-use Rattle.wl_setup.specs.Kinds.{value_at, number_at, small_at, tolerance_at, ppm_at, truth_at, name_at, bytes_at, tables_at, sync_choice_at}
+use Rattle.wl_setup.specs.Faults.{has_rates}
+use Rattle.wl_setup.specs.Kinds.{value_at, number_at, small_at, tolerance_at, positive_at, some_name_at, ppm_at, truth_at, name_at, bytes_at, tables_at, sync_choice_at}
 
 abbrev pub frame_of : Members → FrameText
 frame_of table = record {
@@ -20,10 +20,13 @@ frame_of table = record {
   bytes = bytes_at key.Bytes table;
   ready = number_at key.Ready table;
   extended = truth_at key.Extended table;
+  every = positive_at key.Every table;
+  count = positive_at key.Count table;
 }
 
 abbrev pub disturbance_of : Members → DisturbanceText
 disturbance_of table = record {
+  node = some_name_at key.AtNode table;
   x = small_at key.X table;
   from = number_at key.From table;
   to = number_at key.To table;
@@ -38,10 +41,10 @@ clock_of table =
 abbrev pub rate_of : Members → RateText
 rate_of table = record { from = number_at key.From table; clock = clock_of table }
 
--- the rates of a node's clock: its tables, or in the first version the one that its own keys say, from quantum 0 on
+-- the rates of a node's clock: its tables, or the one that its own keys say, from quantum 0 on
 abbrev pub rates_of : ℕ → Members → List RateText
 rates_of version table =
-    if version == version_of_rates then map rate_of (tables_at key.Rates table)
+    if has_rates version table then map rate_of (tables_at key.Rates table)
     else record { from = 0; clock = clock_of table } ∷ []
 
 abbrev pub node_text_of : ℕ → Members → NodeText
@@ -58,6 +61,7 @@ node_text_of version table = record {
   in_delay = number_at key.In table;
   frame = map frame_of (tables_at key.Frame table);
   tolerance = tolerance_at key.Tolerance table;
+  listens = truth_at key.Listen table;
 }
 
 abbrev pub plan_of : Members → PlanText

@@ -115,8 +115,8 @@ fn pair_line(alloc: Global, topology: &Topology, i: u8, j: u8) -> Result<String,
     let line = PairLine {
         i,
         j,
-        there: topology.delay(i, j),
-        back: topology.delay(j, i),
+        there: topology.propagation(i, j),
+        back: topology.propagation(j, i),
     };
     spelled_pair(alloc, &line)
 }

@@ -1,20 +1,19 @@
 //! The plan text of a parsed document.
 ghost use Rattle.std.specs.Prelude.{◌≡◌, map};
 ghost use Rattle.toml.specs.View.{view, table_view};
-ghost use Rattle.wl_setup.specs.Keys.{frame_keys, disturbance_keys};
-ghost use Rattle.wl_setup.specs.Faults.{table_fault, rate_fault, rates_fault, node_fault, version_fault};
+ghost use Rattle.wl_setup.specs.Faults.{frame_fault, disturbance_fault, rate_fault, rates_fault, node_fault, version_fault};
 ghost use Rattle.wl_setup.specs.Texts.{frame_of, disturbance_of, clock_of, rate_of, rates_of, node_text_of};
 ghost use Rattle.wl_setup.specs.Document.{Answers, AnswersTable, AnswersEach, Passes, document_fault, named_text_of};
 
 use crate::fault::SetupFault;
 use crate::keys::{self, Key};
-use crate::limits::{FIRST_VERSION, VERSION_OF_RATES};
+use crate::limits::{FIRST_VERSION, VERSION_OF_RATES, VERSION_OF_TRAFFIC};
 use crate::names::Names;
 use crate::plan_text::{ClockText, DisturbanceText, FrameText, NodeText, PlanText, RateText};
 use crate::tables::{check_required, check_table};
 use crate::values::{
-    bytes_at, elements_at, name_at, number_at, ppm_at, small_at, sync_choice_at, tolerance_at,
-    truth_at, value_at,
+    bytes_at, elements_at, name_at, number_at, positive_at, ppm_at, small_at, some_name_at,
+    sync_choice_at, tolerance_at, truth_at, value_at,
 };
 use std::alloc::Global;
 use toml::{Table, Value};
@@ -25,7 +24,7 @@ fn check_version(alloc: Global, top: &Table) -> Result<(), SetupFault>
 {
     check_required(alloc, top, Key::Version)?;
     match number_at(top, Key::Version) {
-        FIRST_VERSION | VERSION_OF_RATES => Ok(()),
+        FIRST_VERSION | VERSION_OF_RATES | VERSION_OF_TRAFFIC => Ok(()),
         _ => Err(SetupFault::Version),
     }
 }
@@ -60,12 +59,12 @@ fn rows<T: Row>(alloc: Global, version: u64, values: &[Value]) -> Result<Listed<
 }
 
 impl Row for FrameText {
-    ghost fault = { λ _. table_fault frame_keys };
+    ghost fault = { frame_fault };
 
     ghost make = { λ _. frame_of };
 
-    fn read(alloc: Global, _version: u64, table: &Table) -> Result<FrameText, SetupFault> {
-        check_table(alloc, table, keys::frame_keys())?;
+    fn read(alloc: Global, version: u64, table: &Table) -> Result<FrameText, SetupFault> {
+        check_table(alloc, table, keys::frame_keys(version, table))?;
         Ok(FrameText {
             id: small_at(table, Key::Id),
             dlc: small_at(table, Key::Dlc),
@@ -73,18 +72,21 @@ impl Row for FrameText {
             bytes: bytes_at(alloc, table, Key::Bytes)?,
             ready: number_at(table, Key::Ready),
             extended: truth_at(table, Key::Extended),
+            every: positive_at(table, Key::Every),
+            count: positive_at(table, Key::Count),
         })
     }
 }
 
 impl Row for DisturbanceText {
-    ghost fault = { λ _. table_fault disturbance_keys };
+    ghost fault = { disturbance_fault };
 
     ghost make = { λ _. disturbance_of };
 
-    fn read(alloc: Global, _version: u64, table: &Table) -> Result<DisturbanceText, SetupFault> {
-        check_table(alloc, table, keys::disturbance_keys())?;
+    fn read(alloc: Global, version: u64, table: &Table) -> Result<DisturbanceText, SetupFault> {
+        check_table(alloc, table, keys::disturbance_keys(version, table))?;
         Ok(DisturbanceText {
+            node: some_name_at(alloc, table, Key::AtNode)?,
             x: small_at(table, Key::X),
             from: number_at(table, Key::From),
             to: number_at(table, Key::To),
@@ -128,7 +130,7 @@ fn rates(alloc: Global, version: u64, table: &Table) -> Result<Listed<RateText>,
     ensures { AnswersTable rates_fault (rates_of version) (table_view table.now) result }
 {
     let written = rows(alloc, version, elements_at(table, Key::Rates))?;
-    if version == VERSION_OF_RATES {
+    if keys::has_rates(version, table) {
         return Ok(written);
     }
     let mut rates = Listed::new(alloc);
@@ -161,6 +163,7 @@ impl Row for NodeText {
             in_delay: number_at(table, Key::In),
             frame,
             tolerance: tolerance_at(table, Key::Tolerance),
+            listens: truth_at(table, Key::Listen),
         })
     }
 }

@@ -1,10 +1,10 @@
 //! The keys of each table, and what their values have to be.
 ghost use Rattle.std.specs.Prelude.{◌≡◌};
 ghost use Rattle.toml.specs.View.{table_view};
-ghost use Rattle.wl_setup.specs.Keys.{key_text, kind_of, top_keys, node_keys_by_rate, node_keys_by_ppm, node_keys_by_rates, frame_keys, disturbance_keys};
-ghost use Rattle.wl_setup.specs.Faults.{node_keys, rate_keys};
+ghost use Rattle.wl_setup.specs.Keys.{key_text, kind_of, top_keys, required_by_rate, required_by_ppm, required_by_rates, node_optional, frame_required, frame_optional, disturbance_required};
+ghost use Rattle.wl_setup.specs.Faults.{has_rates, has_traffic, node_required, node_keys, rate_keys, frame_keys, disturbance_keys};
 
-use crate::limits::VERSION_OF_RATES;
+use crate::limits::{VERSION_OF_RATES, VERSION_OF_TRAFFIC};
 use crate::values::value_at;
 use toml::Table;
 
@@ -29,6 +29,8 @@ pub enum Kind {
     Sync,
     /// A whole number from 0 to 100,000.
     Tolerance,
+    /// A whole number from 1 to 2^48 - 1.
+    Positive,
 }
 
 /// A key of one of the tables of a plan.
@@ -64,6 +66,11 @@ pub enum Key {
     From,
     To,
     Tolerance,
+    Every,
+    Count,
+    Listen,
+    /// The key `node` of a disturbance.
+    AtNode,
 }
 
 impl Key {
@@ -102,6 +109,10 @@ impl Key {
             Key::From => "from",
             Key::To => "to",
             Key::Tolerance => "tolerance",
+            Key::Every => "every",
+            Key::Count => "count",
+            Key::Listen => "listen",
+            Key::AtNode => "node",
         }
     }
 
@@ -112,12 +123,13 @@ impl Key {
         match self {
             Key::Node | Key::Rates | Key::Frame | Key::Disturbance => Kind::Tables,
             Key::X | Key::Id | Key::Dlc => Kind::Small,
-            Key::Name => Kind::Name,
+            Key::Name | Key::AtNode => Kind::Name,
             Key::Ppm => Kind::Ppm,
-            Key::Remote | Key::Extended => Kind::Truth,
+            Key::Remote | Key::Extended | Key::Listen => Kind::Truth,
             Key::Bytes => Kind::Bytes,
             Key::Sync => Kind::Sync,
             Key::Tolerance => Kind::Tolerance,
+            Key::Every | Key::Count => Kind::Positive,
             _ => Kind::Number,
         }
     }
@@ -141,85 +153,108 @@ pub(crate) fn top_keys() -> Keys
     }
 }
 
-/// The keys of a node whose rate is written as a fraction.
-pub(crate) fn node_keys_by_rate() -> Keys
-    ensures required { result.required.now ≡ node_keys_by_rate.required }
-    ensures optional { result.optional.now ≡ node_keys_by_rate.optional }
+/// Whether frames come again, nodes only listen and disturbances are at one node.
+pub(crate) fn has_traffic(version: u64) -> bool
+    ensures { result ≡ has_traffic version }
 {
-    Keys {
-        required: &[
-            Key::Name,
-            Key::Offset,
-            Key::Num,
-            Key::Den,
-            Key::Prop,
-            Key::Ps1,
-            Key::Ps2,
-            Key::Sjw,
-            Key::X,
-            Key::Out,
-            Key::In,
-        ],
-        optional: &[Key::Frame, Key::Tolerance],
+    version == VERSION_OF_TRAFFIC
+}
+
+/// Whether a node's rates are tables of their own.
+pub(crate) fn has_rates(version: u64, table: &Table) -> bool
+    ensures { result ≡ has_rates version (table_view table.now) }
+{
+    version == VERSION_OF_RATES || has_traffic(version) && value_at(table, Key::Rates).is_some()
+}
+
+/// The required keys of a node whose rate is written as a fraction.
+fn required_by_rate() -> &'static [Key]
+    ensures { result.now ≡ required_by_rate }
+{
+    &[
+        Key::Name,
+        Key::Offset,
+        Key::Num,
+        Key::Den,
+        Key::Prop,
+        Key::Ps1,
+        Key::Ps2,
+        Key::Sjw,
+        Key::X,
+        Key::Out,
+        Key::In,
+    ]
+}
+
+/// The required keys of a node whose rate is written as a whole number of ticks and an error in ppm.
+fn required_by_ppm() -> &'static [Key]
+    ensures { result.now ≡ required_by_ppm }
+{
+    &[
+        Key::Name,
+        Key::Offset,
+        Key::Quantum,
+        Key::Ppm,
+        Key::Prop,
+        Key::Ps1,
+        Key::Ps2,
+        Key::Sjw,
+        Key::X,
+        Key::Out,
+        Key::In,
+    ]
+}
+
+/// The required keys of a node whose rates are tables of their own.
+fn required_by_rates() -> &'static [Key]
+    ensures { result.now ≡ required_by_rates }
+{
+    &[
+        Key::Name,
+        Key::Offset,
+        Key::Rates,
+        Key::Prop,
+        Key::Ps1,
+        Key::Ps2,
+        Key::Sjw,
+        Key::X,
+        Key::Out,
+        Key::In,
+    ]
+}
+
+/// The required keys of a node: they go by the version, and by whether `rates` or `quantum` is there.
+fn node_required(version: u64, table: &Table) -> &'static [Key]
+    ensures { result.now ≡ node_required version (table_view table.now) }
+{
+    if has_rates(version, table) {
+        required_by_rates()
+    } else if value_at(table, Key::Quantum).is_some() {
+        required_by_ppm()
+    } else {
+        required_by_rate()
     }
 }
 
-/// The keys of a node whose rate is written as a whole number of ticks and an error in ppm.
-pub(crate) fn node_keys_by_ppm() -> Keys
-    ensures required { result.required.now ≡ node_keys_by_ppm.required }
-    ensures optional { result.optional.now ≡ node_keys_by_ppm.optional }
+/// The optional keys of a node, which may only listen or not.
+fn node_optional(traffic: bool) -> &'static [Key]
+    ensures { result.now ≡ node_optional traffic }
 {
-    Keys {
-        required: &[
-            Key::Name,
-            Key::Offset,
-            Key::Quantum,
-            Key::Ppm,
-            Key::Prop,
-            Key::Ps1,
-            Key::Ps2,
-            Key::Sjw,
-            Key::X,
-            Key::Out,
-            Key::In,
-        ],
-        optional: &[Key::Frame, Key::Tolerance],
+    if traffic {
+        &[Key::Frame, Key::Tolerance, Key::Listen]
+    } else {
+        &[Key::Frame, Key::Tolerance]
     }
 }
 
-/// The keys of a node whose rates are tables of their own.
-fn node_keys_by_rates() -> Keys
-    ensures required { result.required.now ≡ node_keys_by_rates.required }
-    ensures optional { result.optional.now ≡ node_keys_by_rates.optional }
-{
-    Keys {
-        required: &[
-            Key::Name,
-            Key::Offset,
-            Key::Rates,
-            Key::Prop,
-            Key::Ps1,
-            Key::Ps2,
-            Key::Sjw,
-            Key::X,
-            Key::Out,
-            Key::In,
-        ],
-        optional: &[Key::Frame, Key::Tolerance],
-    }
-}
-
-/// The keys of a node's table, by the version of the text, and in the first one by whether the table has `quantum`.
+/// The keys of a node's table.
 pub(crate) fn node_keys(version: u64, table: &Table) -> Keys
     ensures required { result.required.now ≡ (node_keys version (table_view table.now)).required }
     ensures optional { result.optional.now ≡ (node_keys version (table_view table.now)).optional }
 {
-    if version == VERSION_OF_RATES {
-        node_keys_by_rates()
-    } else if value_at(table, Key::Quantum).is_some() {
-        node_keys_by_ppm()
-    } else {
-        node_keys_by_rate()
+    Keys {
+        required: node_required(version, table),
+        optional: node_optional(has_traffic(version)),
     }
 }
 
@@ -241,24 +276,66 @@ pub(crate) fn rate_keys(table: &Table) -> Keys
     }
 }
 
-/// The keys of a frame's table.
-pub(crate) fn frame_keys() -> Keys
-    ensures required { result.required.now ≡ frame_keys.required }
-    ensures optional { result.optional.now ≡ frame_keys.optional }
+/// The required keys of a frame, which has a count or not.
+fn frame_required(counted: bool) -> &'static [Key]
+    ensures { result.now ≡ frame_required counted }
 {
+    if counted {
+        &[Key::Id, Key::Dlc, Key::Every]
+    } else {
+        &[Key::Id, Key::Dlc]
+    }
+}
+
+/// The optional keys of a frame, which may come again or not.
+fn frame_optional(traffic: bool) -> &'static [Key]
+    ensures { result.now ≡ frame_optional traffic }
+{
+    if traffic {
+        &[
+            Key::Remote,
+            Key::Bytes,
+            Key::Ready,
+            Key::Extended,
+            Key::Every,
+            Key::Count,
+        ]
+    } else {
+        &[Key::Remote, Key::Bytes, Key::Ready, Key::Extended]
+    }
+}
+
+/// The keys of a frame's table.
+pub(crate) fn frame_keys(version: u64, table: &Table) -> Keys
+    ensures required { result.required.now ≡ (frame_keys version (table_view table.now)).required }
+    ensures optional { result.optional.now ≡ (frame_keys version (table_view table.now)).optional }
+{
+    let traffic = has_traffic(version);
     Keys {
-        required: &[Key::Id, Key::Dlc],
-        optional: &[Key::Remote, Key::Bytes, Key::Ready, Key::Extended],
+        required: frame_required(traffic && value_at(table, Key::Count).is_some()),
+        optional: frame_optional(traffic),
+    }
+}
+
+/// The required keys of a disturbance, at a node or at a place on the cable.
+fn disturbance_required(at_node: bool) -> &'static [Key]
+    ensures { result.now ≡ disturbance_required at_node }
+{
+    if at_node {
+        &[Key::AtNode, Key::From, Key::To]
+    } else {
+        &[Key::X, Key::From, Key::To]
     }
 }
 
 /// The keys of a disturbance's table.
-pub(crate) fn disturbance_keys() -> Keys
-    ensures required { result.required.now ≡ disturbance_keys.required }
-    ensures optional { result.optional.now ≡ disturbance_keys.optional }
+pub(crate) fn disturbance_keys(version: u64, table: &Table) -> Keys
+    ensures required { result.required.now ≡ (disturbance_keys version (table_view table.now)).required }
+    ensures optional { result.optional.now ≡ (disturbance_keys version (table_view table.now)).optional }
 {
+    let at_node = has_traffic(version) && value_at(table, Key::AtNode).is_some();
     Keys {
-        required: &[Key::X, Key::From, Key::To],
+        required: disturbance_required(at_node),
         optional: &[],
     }
 }

@@ -16,6 +16,7 @@ mod read;
 mod spot;
 mod tables;
 mod text;
+mod traffic;
 mod values;
 
 pub use bus::{Bus, Deviation, bus_of_bytes, read_bus};

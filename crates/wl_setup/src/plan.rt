@@ -1,24 +1,42 @@
 //! Plans from their texts.
-ghost use Rattle.std.specs.Prelude.{◌≡◌, ◌≢◌, Err, map, length, IfOk};
+ghost use Rattle.std.specs.Prelude.{◌≡◌, ◌≢◌, ◌≤◌, Err, map, min, length, IfOk};
 ghost use Rattle.std.specs.List.{enumerate_from};
 ghost use Rattle.wl_plan.specs.Checked.{IsChecked};
+ghost use Rattle.wl_plan.specs.Limits.{latest_end, most_queued};
+ghost use Rattle.wl_topology.specs.Limits.{most_places};
+ghost use Rattle.wl_setup.specs.Faults.{has_traffic};
 ghost use Rattle.wl_setup.specs.Names.{names_of};
-ghost use Rattle.wl_setup.specs.Plans.{with_fault, each, rate_from, rate_in, clock_in, segments_of_node, queued_of, setup_of, place_of, cable_of, disturbance_in, plan_of_text, named_plan_of, after, GivesPlan, IsAnswer};
+ghost use Rattle.wl_setup.specs.Plans.{with_fault, each, rate_from, rate_in, clock_in, segments_of_node, queued_of, setup_of, queue_in, queued_in, place_of, cable_of, node_named, disturbance_in, plan_of_text, named_plan_of, after, GivesPlan, IsAnswer};
 ghost use Rattle.wl_setup.specs.Reading.{text_answer};
 
 use crate::fault::SetupFault;
+use crate::keys::has_traffic;
+use crate::limits::FEW_QUEUED;
 use crate::names::Names;
 use crate::plan_text::{ClockText, DisturbanceText, FrameText, NodeText, PlanText, RateText};
 use crate::read::{parse, read_named};
+use crate::traffic::in_order;
 use std::alloc::{AllocError, Global};
 use wl_clock::{Clock, ClockFault, Rate};
 use wl_device::Source;
 use wl_frame::frame::Frame;
 use wl_level::Listed;
 use wl_node::{NodeSetup, Queue, Queued};
-use wl_plan::{Disturbance, Disturbances, Nodes, Plan};
+use wl_plan::{Disturbance, Disturbances, LATEST_END, MOST_QUEUED, Nodes, Plan};
 use wl_segments::{Segments, SegmentsFault, SyncRules};
 use wl_topology::{Place, Topology};
+
+/// How many frames may wait at a node.
+fn queued_in(version: u64) -> usize
+    ensures most { result ≡ queued_in version }
+    ensures few { result ≤ most_queued }
+{
+    if has_traffic(version) {
+        MOST_QUEUED
+    } else {
+        FEW_QUEUED
+    }
+}
 
 impl FrameText {
     /// The frame, as it waits: the `n`th of node `i`.
@@ -41,9 +59,10 @@ impl FrameText {
     }
 }
 
-/// The frames that wait at node `i`, or the first that is none.
+/// The frames that are written at node `i`, or the first that is none.
 fn queue(alloc: Global, i: u64, frames: &[FrameText]) -> Result<Queue, SetupFault>
-    ensures { IsAnswer (each (queued_of i) (enumerate_from 0 frames.now)) result }
+    ensures frames { IsAnswer (each (queued_of i) (enumerate_from 0 frames.now)) result }
+    ensures each { IfOk result (λ queue. length queue ≡ length frames.now) }
 {
     let mut queue = Listed::new(alloc);
     for (n, frame) in frames.iter().enumerate() {
@@ -105,21 +124,42 @@ impl NodeText {
         }
     }
 
-    /// What node `i` is made of: its clock, its segments and its frames, or the first fault of these in order.
-    fn setup(&self, alloc: Global, i: u64, sync: SyncRules) -> Result<NodeSetup, SetupFault>
-        ensures { IsAnswer (setup_of sync (i, self.now)) result }
+    /// What node `i` of a plan is made of: its clock, its segments and its frames, or the first fault of these in order.
+    fn setup(&self, alloc: Global, i: u64, plan: &PlanText) -> Result<NodeSetup, SetupFault>
+        ensures { IsAnswer (setup_of plan.now (i, self.now)) result }
     {
         let clock = self.make_clock(alloc, i)?;
-        let segments = match self.make_segments(sync) {
+        let segments = match self.make_segments(plan.sync) {
             Ok(segments) => segments,
             Err(fault) => return Err(SetupFault::NodeSegments(i, fault)),
         };
-        let queue = queue(alloc, i, self.frame.as_slice())?;
+        let written = queue(alloc, i, self.frame.as_slice())?;
+        let queue = self.waiting(alloc, &clock, plan, written)?;
         Ok(NodeSetup {
             clock,
             segments,
             queue,
         })
+    }
+
+    /// The frames that wait at the node, of those that are written: from the version of traffic on each of them comes again.
+    fn waiting(
+        &self,
+        alloc: Global,
+        clock: &Clock,
+        plan: &PlanText,
+        written: Queue,
+    ) -> Result<Queue, AllocError>
+        requires { length written ≡ length self.now.frame }
+        ensures { IfOk result (λ queue. queue
+            ≡ queue_in (has_traffic plan.now.version) clock.now (min plan.now.end latest_end) self.now.frame written) }
+    {
+        if has_traffic(plan.version) {
+            let end = plan.end.min(LATEST_END);
+            in_order(alloc, clock, end, self.frame.as_slice(), written.as_slice())
+        } else {
+            Ok(written)
+        }
     }
 
     /// Where the node sits.
@@ -130,17 +170,18 @@ impl NodeText {
             x: self.x,
             out_delay: self.out_delay,
             in_delay: self.in_delay,
+            listens: self.listens,
         }
     }
 }
 
 /// What the nodes are made of, or the first fault, node by node.
-fn setups(alloc: Global, nodes: &[NodeText], sync: SyncRules) -> Result<Nodes, SetupFault>
-    ensures { IsAnswer (each (setup_of sync) (enumerate_from 0 nodes.now)) result }
+fn setups(alloc: Global, plan: &PlanText) -> Result<Nodes, SetupFault>
+    ensures { IsAnswer (each (setup_of plan.now) (enumerate_from 0 plan.now.node)) result }
 {
     let mut setups = Listed::new(alloc);
-    for (i, node) in nodes.iter().enumerate() {
-        setups.push(node.setup(alloc, i as u64, sync)?)?;
+    for (i, node) in plan.node.as_slice().iter().enumerate() {
+        setups.push(node.setup(alloc, i as u64, plan)?)?;
     }
     Ok(setups)
 }
@@ -156,11 +197,31 @@ fn places(alloc: Global, nodes: &[NodeText]) -> Result<Listed<Place>, AllocError
     Ok(places)
 }
 
+/// The number of the node with this name, and where none has it the number of no node.
+fn node_named(nodes: &[NodeText], name: &str) -> usize
+    ensures number { result ≡ node_named (map (λ node. node.name) nodes.now) name.now }
+    ensures few { result ≤ length nodes.now }
+{
+    for (i, node) in nodes.iter().enumerate() {
+        if name == node.name.as_str() {
+            return i;
+        }
+    }
+    nodes.len()
+}
+
 impl DisturbanceText {
-    fn disturbance(&self) -> Disturbance
-        ensures { result ≡ disturbance_in self.now }
+    /// The disturbance that the keys make in a bus of these nodes.
+    fn disturbance(&self, nodes: &[NodeText]) -> Disturbance
+        requires { length nodes.now ≤ most_places }
+        ensures { result ≡ disturbance_in (map (λ node. node.name) nodes.now) self.now }
     {
+        let node = match &self.node {
+            Some(name) => Some(node_named(nodes, name.as_str()) as u8),
+            None => None,
+        };
         Disturbance {
+            node,
             x: self.x,
             from: self.from,
             to: self.to,
@@ -168,12 +229,13 @@ impl DisturbanceText {
     }
 }
 
-fn disturbances(alloc: Global, texts: &[DisturbanceText]) -> Result<Disturbances, AllocError>
-    ensures { IfOk result (λ all. all ≡ map disturbance_in texts.now) }
+fn disturbances(alloc: Global, plan: &PlanText) -> Result<Disturbances, AllocError>
+    requires { length plan.now.node ≤ most_places }
+    ensures { IfOk result (λ all. all ≡ map (disturbance_in (names_of plan.now)) plan.now.disturbance) }
 {
     let mut all = Listed::new(alloc);
-    for text in texts {
-        all.push(text.disturbance())?;
+    for text in plan.disturbance.as_slice() {
+        all.push(text.disturbance(plan.node.as_slice()))?;
     }
     Ok(all)
 }
@@ -185,14 +247,15 @@ impl PlanText {
         ensures answer { IsAnswer (plan_of_text self.now) result }
         ensures checked { IfOk result IsChecked }
     {
-        let nodes = setups(alloc, self.node.as_slice(), self.sync)?;
+        let nodes = setups(alloc, self)?;
+        let topology = self.topology(alloc)?;
         let plan = Plan {
             nodes,
-            topology: self.topology(alloc)?,
-            disturbances: disturbances(alloc, self.disturbance.as_slice())?,
+            topology,
+            disturbances: disturbances(alloc, self)?,
             end: self.end,
         };
-        match plan.check() {
+        match plan.check_within(queued_in(self.version)) {
             Ok(()) => Ok(plan),
             Err(fault) => Err(SetupFault::Plan(fault)),
         }

@@ -8,7 +8,7 @@ use wl_segments::SyncRules;
 /// Nothing is known of the numbers but the bounds of their keys: whole numbers are below 2^48.
 #[derive(Debug, Drop)]
 pub struct PlanText {
-    /// The version of the text: 1 or 2.
+    /// The version of the text: 1 to 3.
     pub version: u64,
     /// The tick at which the plan ends.
     pub end: u64,
@@ -68,6 +68,8 @@ pub struct NodeText {
     pub frame: Listed<FrameText>,
     /// By how many parts per million each rate may deviate either way from what it is without `ppm`: at most 100,000. No run uses it.
     pub tolerance: Option<u32>,
+    /// Whether the node only listens, false where the key is absent.
+    pub listens: bool,
 }
 
 /// A frame that waits at a node, as it is written.
@@ -85,12 +87,18 @@ pub struct FrameText {
     pub ready: u64,
     /// Whether it is an extended frame, false where the key is absent.
     pub extended: bool,
+    /// After how many quanta it becomes ready again, if it does.
+    pub every: Option<u64>,
+    /// How many times it becomes ready at most, if that is said.
+    pub count: Option<u64>,
 }
 
-/// A disturbance as it is written: at a place of the cable something drives dominant for a while.
-#[derive(Clone, Copy, Debug, PartialEq, Eq)]
+/// A disturbance as it is written: at a place of the cable, or at one node, something drives dominant for a while.
+#[derive(Debug, Drop)]
 pub struct DisturbanceText {
-    /// The place on the cable, in units of length, below 2^31.
+    /// The name of the node, if it is at one.
+    pub node: Option<Text>,
+    /// The place on the cable, in units of length, below 2^31; 0 if it is at a node.
     pub x: u32,
     /// The first tick.
     pub from: u64,

@@ -2,8 +2,8 @@
 ghost use Rattle.std.specs.Prelude.{◌≡◌, ◌∷◌, [], Some, None, if◌then◌else◌, is_some, option_and_then, option_map};
 ghost use Rattle.std.specs.List.{list_any, position};
 ghost use Rattle.toml.specs.View.{view, table_view};
-ghost use Rattle.wl_setup.specs.Keys.{table_keys, top_keys, disturbance_keys, frame_keys};
-ghost use Rattle.wl_setup.specs.Faults.{first_some, node_fault, optional_fault, rate_fault, required_fault, table_fault, unknown_fault};
+ghost use Rattle.wl_setup.specs.Keys.{table_keys, top_keys};
+ghost use Rattle.wl_setup.specs.Faults.{disturbance_fault, first_some, frame_fault, node_fault, optional_fault, rate_fault, required_fault, unknown_fault};
 ghost use Rattle.wl_setup.specs.Spots.{faulty_spot, first_faulty, has_fault, is_faulty, row_at, spot_in_node, spot_of_node, table_at};
 
 use crate::keys::{self, Key, Keys};
@@ -81,20 +81,20 @@ fn is_faulty_rate(value: &Value) -> bool
     }
 }
 
-fn is_faulty_frame(value: &Value) -> bool
-    ensures { result ≡ is_faulty (table_fault frame_keys) (view value.now) }
+fn is_faulty_frame(version: u64, value: &Value) -> bool
+    ensures { result ≡ is_faulty (frame_fault version) (view value.now) }
 {
     match value.as_table() {
-        Some(table) => has_fault(table, keys::frame_keys()),
+        Some(table) => has_fault(table, keys::frame_keys(version, table)),
         None => false,
     }
 }
 
-fn is_faulty_disturbance(value: &Value) -> bool
-    ensures { result ≡ is_faulty (table_fault disturbance_keys) (view value.now) }
+fn is_faulty_disturbance(version: u64, value: &Value) -> bool
+    ensures { result ≡ is_faulty (disturbance_fault version) (view value.now) }
 {
     match value.as_table() {
-        Some(table) => has_fault(table, keys::disturbance_keys()),
+        Some(table) => has_fault(table, keys::disturbance_keys(version, table)),
         None => false,
     }
 }
@@ -111,28 +111,32 @@ fn first_faulty_rate(node: &Table) -> Option<usize>
     first_rate_in(elements_at(node, Key::Rates))
 }
 
-fn first_frame_in(values: &[Value]) -> Option<usize>
-    ensures { result ≡ position (λ v. is_faulty (table_fault frame_keys) (view v)) values.now }
+fn first_frame_in(version: u64, values: &[Value]) -> Option<usize>
+    ensures { result ≡ position (λ v. is_faulty (frame_fault version) (view v)) values.now }
 {
-    values.iter().position(|value| is_faulty_frame(value))
+    values
+        .iter()
+        .position(|value| is_faulty_frame(version, value))
 }
 
-fn first_faulty_frame(node: &Table) -> Option<usize>
-    ensures { result ≡ first_faulty (table_fault frame_keys) Key.Frame (table_view node.now) }
+fn first_faulty_frame(version: u64, node: &Table) -> Option<usize>
+    ensures { result ≡ first_faulty (frame_fault version) Key.Frame (table_view node.now) }
 {
-    first_frame_in(elements_at(node, Key::Frame))
+    first_frame_in(version, elements_at(node, Key::Frame))
 }
 
-fn first_disturbance_in(values: &[Value]) -> Option<usize>
-    ensures { result ≡ position (λ v. is_faulty (table_fault disturbance_keys) (view v)) values.now }
+fn first_disturbance_in(version: u64, values: &[Value]) -> Option<usize>
+    ensures { result ≡ position (λ v. is_faulty (disturbance_fault version) (view v)) values.now }
 {
-    values.iter().position(|value| is_faulty_disturbance(value))
+    values
+        .iter()
+        .position(|value| is_faulty_disturbance(version, value))
 }
 
-fn first_faulty_disturbance(top: &Table) -> Option<usize>
-    ensures { result ≡ first_faulty (table_fault disturbance_keys) Key.Disturbance (table_view top.now) }
+fn first_faulty_disturbance(version: u64, top: &Table) -> Option<usize>
+    ensures { result ≡ first_faulty (disturbance_fault version) Key.Disturbance (table_view top.now) }
 {
-    first_disturbance_in(elements_at(top, Key::Disturbance))
+    first_disturbance_in(version, elements_at(top, Key::Disturbance))
 }
 
 /// Whether a node, one of its rates or one of its frames has a fault.
@@ -141,7 +145,7 @@ fn has_node_fault(version: u64, node: &Table) -> bool
 {
     let own = has_fault(node, keys::node_keys(version, node));
     let rates = first_faulty_rate(node).is_some();
-    own | rates | first_faulty_frame(node).is_some()
+    own | rates | first_faulty_frame(version, node).is_some()
 }
 
 fn is_faulty_node(version: u64, value: &Value) -> bool
@@ -196,21 +200,21 @@ fn spot_in_rates(i: u64, node: &Table) -> Option<Spot>
     }
 }
 
-fn spot_in_frames(i: u64, node: &Table) -> Option<Spot>
+fn spot_in_frames(version: u64, i: u64, node: &Table) -> Option<Spot>
     ensures { result
-        ≡ option_map (Spot.Frame i) (first_faulty (table_fault frame_keys) Key.Frame (table_view node.now)) }
+        ≡ option_map (Spot.Frame i) (first_faulty (frame_fault version) Key.Frame (table_view node.now)) }
 {
-    match first_faulty_frame(node) {
+    match first_faulty_frame(version, node) {
         Some(n) => Some(Spot::Frame(i, n as u64)),
         None => None,
     }
 }
 
-fn spot_in_disturbances(top: &Table) -> Option<Spot>
+fn spot_in_disturbances(version: u64, top: &Table) -> Option<Spot>
     ensures { result ≡ option_map Spot.Disturbance
-        (first_faulty (table_fault disturbance_keys) Key.Disturbance (table_view top.now)) }
+        (first_faulty (disturbance_fault version) Key.Disturbance (table_view top.now)) }
 {
-    match first_faulty_disturbance(top) {
+    match first_faulty_disturbance(version, top) {
         Some(n) => Some(Spot::Disturbance(n as u64)),
         None => None,
     }
@@ -224,7 +228,7 @@ fn spot_in_node(version: u64, i: u64, node: &Table) -> Option<Spot>
     first_spot(
         spot_if(own, Spot::Node(i)),
         spot_in_rates(i, node),
-        spot_in_frames(i, node),
+        spot_in_frames(version, i, node),
     )
 }
 
@@ -260,10 +264,11 @@ fn spot_in_top(top: &Table) -> Option<Spot>
 pub fn faulty_spot(top: &Table) -> Option<Spot>
     ensures { result ≡ faulty_spot (table_view top.now) }
 {
+    let version = number_at(top, Key::Version);
     first_spot(
         spot_in_top(top),
-        spot_in_nodes(number_at(top, Key::Version), top),
-        spot_in_disturbances(top),
+        spot_in_nodes(version, top),
+        spot_in_disturbances(version, top),
     )
 }
 

@@ -3,7 +3,7 @@ ghost use Rattle.std.specs.Prelude.{◌≡◌, ◌≤◌, ◌^◌, ◌<◌, Some
 ghost use Rattle.std.specs.List.{list_all};
 ghost use Rattle.toml.specs.Data.{as_table, get_member};
 ghost use Rattle.toml.specs.View.{view, table_view, items_view};
-ghost use Rattle.wl_setup.specs.Kinds.{number_in, byte_in, is_name, is_name_letter, is_ppm, has_kind, value_at, number_at, small_at, tolerance_at, ppm_at, truth_at, name_at, elements_of, elements_at, bytes_at, sync_named, sync_in, sync_choice_at};
+ghost use Rattle.wl_setup.specs.Kinds.{number_in, positive_in, positive_at, some_name_at, byte_in, is_name, is_name_letter, is_ppm, has_kind, value_at, number_at, small_at, tolerance_at, ppm_at, truth_at, name_at, elements_of, elements_at, bytes_at, sync_named, sync_in, sync_choice_at};
 ghost use Rattle.wl_setup.specs.Quick.{value_data, number_said, small_said, ppm_said, tolerance_said, truth_said, sync_said, name_said, elements_said, bytes_said};
 
 use crate::keys::{Key, Kind};
@@ -36,6 +36,17 @@ fn number_in(most: u64, value: &Value) -> Option<u64>
 {
     match value.as_integer() {
         Some(n) if n >= 0 && n as u64 <= most => Some(n as u64),
+        _ => None,
+    }
+}
+
+/// A whole number from 1 on.
+#[tactic(auto, unfolding(crate::specs::Limits::largest_number))]
+fn positive_in(value: &Value) -> Option<u64>
+    ensures { result ≡ positive_in (view value.now) }
+{
+    match number_in(LARGEST_NUMBER, value) {
+        Some(n) if n > 0 => Some(n),
         _ => None,
     }
 }
@@ -128,6 +139,7 @@ pub(crate) fn has_kind(kind: Kind, value: &Value) -> bool
         },
         Kind::Sync => sync_in(value).is_some(),
         Kind::Tolerance => number_in(LARGEST_TOLERANCE, value).is_some(),
+        Kind::Positive => positive_in(value).is_some(),
         Kind::Tables => match elements_of(value) {
             Some(values) => are_tables(values),
             None => false,
@@ -218,6 +230,13 @@ pub(crate) fn truth_of(value: Option<&Value>) -> bool
     }
 }
 
+/// Returns the number from 1 on at a key, if it has one.
+pub(crate) fn positive_at(table: &Table, key: Key) -> Option<u64>
+    ensures { result ≡ positive_at key (table_view table.now) }
+{
+    positive_in(value_at(table, key)?)
+}
+
 /// The truth value at a key, false where it has none.
 pub(crate) fn truth_at(table: &Table, key: Key) -> bool
     ensures { result ≡ truth_at key (table_view table.now) }
@@ -266,6 +285,23 @@ fn elements_in(value: Option<&Value>) -> &[Value]
     match value {
         Some(value) => elements_of(value).unwrap_or(&[]),
         None => &[],
+    }
+}
+
+/// The text at a key, if it has one.
+pub(crate) fn some_name_at(
+    alloc: Global,
+    table: &Table,
+    key: Key,
+) -> Result<Option<Text>, AllocError>
+    ensures { IfOk result (λ name. name ≡ some_name_at key (table_view table.now)) }
+{
+    let Some(value) = value_at(table, key) else {
+        return Ok(None);
+    };
+    match value.as_str() {
+        Some(text) => Ok(Some(Text::new(alloc, text)?)),
+        None => Ok(None),
     }
 }
 

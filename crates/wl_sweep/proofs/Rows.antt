@@ -42,6 +42,7 @@ node name clock = record {
   in_delay = 130;
   frame = [];
   tolerance = Some 250;
+  listens = false;
 }
 
 abbrev engine : NodeText

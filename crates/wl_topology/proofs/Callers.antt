@@ -1,7 +1,17 @@
--- What the proofs of upper crates may use: some number below n passes a test, or none does.
-use Rattle.std.proofs.Common.{◌≡◌, ℕ, zero, suc, ◌+◌, ◌-◌, ◌<◌, Bool, true, false, ◌&&◌, ◌||◌, inl, inr, refl, sym, ◌∙◌, ap, subst, arith, add-one, nat_le}
+-- What the proofs of upper crates may use: that each level takes a tick, and that some number below n passes a test, or none does.
+use Rattle.std.proofs.Common.{◌≡◌, ℕ, zero, suc, ◌+◌, ◌-◌, ◌<◌, ◌≤◌, ◌==◌, Bool, true, false, ◌&&◌, ◌||◌, not, length, inl, inr, refl, sym, ◌∙◌, ap, subst, arith, add-one, nat_le}
 use Rattle.std.proofs.lemmas.Bool.{cases_lt, or_cases, or_left, or_right}
+use Rattle.wl_topology.specs.Limits.{never}
+use Rattle.wl_topology.specs.Delays.{Cable, IsTopology, place_at, propagation_of, delay_of}
 use Rattle.wl_topology.specs.Driven.{any_below, driven}
+
+-- what a node drives isn't found in the same tick
+pub delay_positive : (cable : Cable) (i j : ℕ) → IsTopology cable → i < length cable.places → j < length cable.places → 1 ≤ delay_of cable i j
+delay_positive cable i j is from to = by_test _ refl
+  where
+    by_test : (b : Bool) → ((place_at cable i).listens && not (i == j)) ≡ b → 1 ≤ delay_of cable i j
+    by_test true e = let here : delay_of cable i j ≡ never = cc in omega (arith, here)
+    by_test false e = let here : delay_of cable i j ≡ propagation_of cable i j = cc in omega (arith, here, is.positive i j from to)
 
 -- one that passes is enough
 pub any_from : (n i : ℕ) (p : ℕ → Bool) → i < n → p i ≡ true → any_below n p ≡ true

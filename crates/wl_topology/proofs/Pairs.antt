@@ -5,7 +5,7 @@ use Rattle.std.proofs.lemmas.Bool.{cases_lt, eqb-false, ltb-false, ne_eqb, le-lt
 use Rattle.std.proofs.lemmas.List.Folds.{find-append}
 use Rattle.std.proofs.Math.Nat.{pos_of_ne-zero}
 use Rattle.wl_topology.specs.Limits.{most_places}
-use Rattle.wl_topology.specs.Delays.{Cable, delay_of, row, rows, pairs, is_zero, is_long, IsTopology}
+use Rattle.wl_topology.specs.Delays.{Cable, propagation_of, row, rows, pairs, is_zero, is_long, IsTopology}
 
 none_left : (a b : Option (ℕ × ℕ)) → option_or a b ≡ None → a ≡ None
 none_left None b h = refl
@@ -94,14 +94,14 @@ pub topology_from : (cable : Cable) → 1 ≤ length cable.places → length cab
 topology_from cable some_node few_nodes zeros longs = record {
   some_node = some_node;
   few_nodes = few_nodes;
-  positive = λ i j hi hj. pos_of_ne-zero (eqb-false (delay_of cable i j) 0 (none_in_rows (is_zero cable) _ _ i j hi hj zeros));
+  positive = λ i j hi hj. pos_of_ne-zero (eqb-false (propagation_of cable i j) 0 (none_in_rows (is_zero cable) _ _ i j hi hj zeros));
   short = λ i j hi hj. ltb-false _ _ (none_in_rows (is_long cable) _ _ i j hi hj longs);
 }
 
 -- and the other way
 pub no_zeros : (cable : Cable) → IsTopology cable → find (is_zero cable) (pairs cable) ≡ None
 no_zeros cable h =
-    none_of_rows (is_zero cable) (length cable.places) (length cable.places) (λ i j hi hj. ne_eqb (delay_of cable i j) 0 (λ e. omega (arith, h.positive i j hi hj)))
+    none_of_rows (is_zero cable) (length cable.places) (length cable.places) (λ i j hi hj. ne_eqb (propagation_of cable i j) 0 (λ e. omega (arith, h.positive i j hi hj)))
 
 pub no_longs : (cable : Cable) → IsTopology cable → find (is_long cable) (pairs cable) ≡ None
 no_longs cable h = none_of_rows (is_long cable) _ _ (λ i j hi hj. le-ltb _ _ (h.short i j hi hj))

@@ -2,11 +2,12 @@
 use Rattle.std.proofs.Common.{◌≡◌, ℕ, Bool, true, false, List, [], ◌∷◌, Ok, Err, refl, nat_le, nat_lt, ◌&&◌, ◌==◌, if◌then◌else◌}
 use Rattle.wl_topology.specs.declared.Place.{Place}
 use Rattle.wl_topology.specs.declared.TopologyFault.TheVariants.{NoNodes, ZeroDelay, TooLong}
-use Rattle.wl_topology.specs.Delays.{Cable, delay_of, disturbance_delay, pairs, topology_of}
+use Rattle.wl_topology.specs.Limits.{never}
+use Rattle.wl_topology.specs.Delays.{Cable, propagation_of, delay_of, disturbance_delay, pairs, topology_of}
 use Rattle.wl_topology.specs.Driven.{driven}
 
 abbrev at_x : ℕ → ℕ → ℕ → Place
-at_x x out into = record { x = x; out_delay = out; in_delay = into }
+at_x x out into = record { x = x; out_delay = out; in_delay = into; listens = false }
 
 abbrev two : List Place
 two = at_x 0 0 1 ∷ at_x 50 0 1 ∷ []
@@ -25,6 +26,25 @@ back = refl
 
 own : delay_of cable 0 0 ≡ 1
 own = refl
+
+-- node 1 only listens: its propagation delay stays, what it drives comes back to itself, and never to node 0, which it hears
+abbrev tap : Cable
+tap = record { places = at_x 0 0 1 ∷ record (at_x 50 0 1) { listens = true } ∷ []; per = 1 }
+
+tap_accepted : topology_of tap.places 1 ≡ Ok tap
+tap_accepted = refl
+
+tap_way : propagation_of tap 1 0 ≡ 51
+tap_way = refl
+
+tap_own : delay_of tap 1 1 ≡ 1
+tap_own = refl
+
+tap_heard : delay_of tap 1 0 ≡ never
+tap_heard = refl
+
+tap_hears : delay_of tap 0 1 ≡ 51
+tap_hears = refl
 
 disturbed : disturbance_delay cable 20 1 ≡ 31
 disturbed = refl

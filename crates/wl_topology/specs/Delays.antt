@@ -1,10 +1,10 @@
 -- How long a level takes along the cable: this project's profile.
-use Rattle.std.specs.Prelude.{◌≡◌, ℕ, zero, suc, ◌+◌, ◌*◌, ◌<◌, ◌≤◌, ◌==◌, nat_lt, Bool, List, [], ◌∷◌, ◌++◌, length, find, slice_index_or, Option, Some, None, Result, Ok, Err, IsOk, ◌↔◌, if◌then◌else◌}
+use Rattle.std.specs.Prelude.{◌≡◌, ℕ, zero, suc, ◌+◌, ◌*◌, ◌<◌, ◌≤◌, ◌==◌, ◌&&◌, nat_lt, not, Bool, false, List, [], ◌∷◌, ◌++◌, length, find, slice_index_or, Option, Some, None, Result, Ok, Err, IsOk, ◌↔◌, if◌then◌else◌}
 use Rattle.std.specs.Int.{abs_diff}
 use Rattle.wl_topology.specs.declared.Place.{Place}
 use Rattle.wl_topology.specs.declared.TopologyFault.{TopologyFault}
 use Rattle.wl_topology.specs.declared.TopologyFault.TheVariants.{NoNodes, TooManyNodes, ZeroDelay, TooLong}
-use Rattle.wl_topology.specs.Limits.{most_places, longest_delay}
+use Rattle.wl_topology.specs.Limits.{most_places, longest_delay, never}
 
 -- the places of the nodes, in order, and how many ticks a level takes along one unit of length
 pub record Cable : Type 0 where
@@ -12,7 +12,7 @@ pub record Cable : Type 0 where
   pub per : ℕ
 
 abbrev pub nowhere : Place
-nowhere = record { x = 0; out_delay = 0; in_delay = 0 }
+nowhere = record { x = 0; out_delay = 0; in_delay = 0; listens = false }
 
 abbrev pub place_at : Cable → ℕ → Place
 place_at cable i = slice_index_or cable.places i nowhere
@@ -21,20 +21,29 @@ place_at cable i = slice_index_or cable.places i nowhere
 abbrev pub delay_between : ℕ → Place → Place → ℕ
 delay_between per a b = a.out_delay + abs_diff a.x b.x * per + b.in_delay
 
--- from node i to node j, in ticks
+-- the propagation delay from node i to node j, in ticks
+abbrev pub propagation_of : Cable → ℕ → ℕ → ℕ
+propagation_of cable i j = delay_between cable.per (place_at cable i) (place_at cable j)
+
+-- How many ticks it takes until node j finds what node i drives. What a node drives that only listens comes back to itself and to no other
+-- one (ISO 11898-1, bus monitoring).
 abbrev pub delay_of : Cable → ℕ → ℕ → ℕ
-delay_of cable i j = delay_between cable.per (place_at cable i) (place_at cable j)
+delay_of cable i j = if (place_at cable i).listens && not (i == j) then never else propagation_of cable i j
 
 -- from a disturbance at x to node j, in ticks: it has no way out of a node
 abbrev pub disturbance_delay : Cable → ℕ → ℕ → ℕ
 disturbance_delay cable x j = abs_diff x (place_at cable j).x * cable.per + (place_at cable j).in_delay
 
+-- from a disturbance that is at node n alone to node j, in ticks: the way in of that node, and it never comes to another one
+abbrev pub local_delay : Cable → ℕ → ℕ → ℕ
+local_delay cable n j = if n == j then (place_at cable j).in_delay else never
+
 -- What each cable keeps.
 pub record IsTopology (cable : Cable) : Type 0 where
   pub some_node : 1 ≤ length cable.places
   pub few_nodes : length cable.places ≤ most_places
-  pub positive : (i j : ℕ) → i < length cable.places → j < length cable.places → 1 ≤ delay_of cable i j
-  pub short : (i j : ℕ) → i < length cable.places → j < length cable.places → delay_of cable i j ≤ longest_delay
+  pub positive : (i j : ℕ) → i < length cable.places → j < length cable.places → 1 ≤ propagation_of cable i j
+  pub short : (i j : ℕ) → i < length cable.places → j < length cable.places → propagation_of cable i j ≤ longest_delay
 
 -- d is the delay from node i to one of the first n, and none of these is nearer.
 pub record IsLeastFrom (cable : Cable) (i n d : ℕ) : Type 0 where
@@ -65,10 +74,10 @@ abbrev pub pairs : Cable → List (ℕ × ℕ)
 pairs cable = rows (length cable.places) (length cable.places)
 
 abbrev pub is_zero : Cable → ℕ × ℕ → Bool
-is_zero cable p = delay_of cable p.0 p.1 == 0
+is_zero cable p = propagation_of cable p.0 p.1 == 0
 
 abbrev pub is_long : Cable → ℕ × ℕ → Bool
-is_long cable p = nat_lt longest_delay (delay_of cable p.0 p.1)
+is_long cable p = nat_lt longest_delay (propagation_of cable p.0 p.1)
 
 -- the cable, unless a pair of nodes is too far apart
 abbrev pub unless_long : Cable → Option (ℕ × ℕ) → Result Cable TopologyFault

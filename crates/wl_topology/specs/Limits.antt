@@ -7,3 +7,7 @@ most_places = 16
 -- in ticks
 abbrev pub longest_delay : ℕ
 longest_delay = 1048576
+
+-- the delay of what comes to no node: longer than any plan lasts
+abbrev pub never : ℕ
+never = 137438953472

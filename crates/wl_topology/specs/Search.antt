@@ -4,14 +4,14 @@ use Rattle.wl_topology.specs.declared.Place.{Place}
 use Rattle.wl_topology.specs.declared.Flaw.{Flaw}
 use Rattle.wl_topology.specs.declared.Flaw.TheVariants.{Zero, Long}
 use Rattle.wl_topology.specs.Limits.{longest_delay}
-use Rattle.wl_topology.specs.Delays.{Cable, delay_of}
+use Rattle.wl_topology.specs.Delays.{Cable, propagation_of}
 
 abbrev pub is_flawed : Flaw → ℕ → Bool
 is_flawed Zero delay = delay == 0
 is_flawed Long delay = nat_lt longest_delay delay
 
 abbrev pub has_flaw : Flaw → Cable → ℕ × ℕ → Bool
-has_flaw flaw cable p = is_flawed flaw (delay_of cable p.0 p.1)
+has_flaw flaw cable p = is_flawed flaw (propagation_of cable p.0 p.1)
 
 -- the first of some pairs of these places with this flaw
 abbrev pub first_flaw : Flaw → List Place → ℕ → List (ℕ × ℕ) → Option (ℕ × ℕ)

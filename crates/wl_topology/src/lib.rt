@@ -7,8 +7,8 @@ mod laws;
 
 ghost use Rattle.std.specs.Prelude.{◌≡◌, ◌<◌, ◌≤◌, length, IfSome};
 ghost use Rattle.std.specs.Option.{option_map};
-ghost use Rattle.wl_topology.specs.Limits.{most_places, longest_delay};
-ghost use Rattle.wl_topology.specs.Delays.{IsTopology, IsLeastFrom, IsLeastDelay, delay_between, delay_of, disturbance_delay, topology_of, row, pairs};
+ghost use Rattle.wl_topology.specs.Limits.{most_places, longest_delay, never};
+ghost use Rattle.wl_topology.specs.Delays.{IsTopology, IsLeastFrom, IsLeastDelay, delay_between, propagation_of, delay_of, disturbance_delay, local_delay, topology_of, row, pairs};
 ghost use Rattle.wl_topology.specs.Search.{is_flawed, first_flaw};
 ghost use Rattle.wl_topology.specs.Stored.{padded_places};
 
@@ -25,6 +25,8 @@ pub struct Place {
     pub out_delay: u64,
     /// How many it takes from the cable to what the node sees.
     pub in_delay: u64,
+    /// Whether its node only listens: what it drives comes back to itself and to no other node (ISO 11898-1, bus monitoring).
+    pub listens: bool,
 }
 
 /// Why places make no topology. The numbers of nodes count from 0, and the pair is the first by its first node, then by its second.
@@ -47,8 +49,11 @@ pub enum TopologyFault {
 /// The most nodes of a bus: this project's profile.
 pub const MOST_NODES: usize = 16;
 
-/// The longest delay between two nodes, in ticks: this project's profile.
+/// The longest propagation delay between two nodes, in ticks: this project's profile.
 pub const LONGEST_DELAY: u64 = 1_048_576;
+
+/// The delay, in ticks, of what comes to no node: longer than any plan lasts. It is 2^37.
+pub const NEVER: u64 = 137_438_953_472;
 
 /// The places of the nodes of a bus, and the ticks that a level takes along one unit of length.
 #[derive(Clone, Copy, Debug)]
@@ -120,13 +125,14 @@ const NOWHERE: Place = Place {
     x: 0,
     out_delay: 0,
     in_delay: 0,
+    listens: false,
 };
 
 impl Topology {
     /// The topology of nodes at these places, node `i` at place `i`, on a cable along which a level takes `per` ticks a unit of length.
     ///
-    /// A level goes from node to node in 1 to 1,048,576 ticks, and back to the node that drives it too. Where several refusals apply, the
-    /// answer is the first of `TopologyFault`.
+    /// A level takes 1 to 1,048,576 ticks along the cable from node to node, and back to the node that drives it too. So it is asked of
+    /// nodes that only listen, too. Where several refusals apply, the answer is the first of `TopologyFault`.
     pub fn new(places: &[Place], per: u64) -> Result<Topology, TopologyFault>
         ensures { result ≡ topology_of places.now per }
     {
@@ -157,12 +163,12 @@ impl Topology {
         self.nodes
     }
 
-    /// How many ticks a level takes from node `i` to node `j`: 1 to 1,048,576. It is `out_delay` of `i`, then the distance times the ticks a
+    /// The propagation delay from node `i` to node `j`, in ticks: 1 to 1,048,576. It is `out_delay` of `i`, then the distance times the ticks a
     /// unit of length, then `in_delay` of `j` (this project's profile).
-    pub fn delay(&self, i: u8, j: u8) -> u64
+    pub fn propagation(&self, i: u8, j: u8) -> u64
         requires from { i < length self.now.places }
         requires to { j < length self.now.places }
-        ensures ticks { result ≡ delay_of self.now i j }
+        ensures ticks { result ≡ propagation_of self.now i j }
         ensures positive { 1 ≤ result }
         ensures short { result ≤ longest_delay }
         ensures topology { IsTopology self.now }
@@ -170,6 +176,23 @@ impl Topology {
         let from = self.places[i as usize];
         let to = self.places[j as usize];
         from.out_delay + from.x.abs_diff(to.x) as u64 * self.per + to.in_delay
+    }
+
+    /// How many ticks it takes until node `j` finds what node `i` drives: the propagation delay, and `NEVER` from a node that only listens to
+    /// another one.
+    pub fn delay(&self, i: u8, j: u8) -> u64
+        requires from { i < length self.now.places }
+        requires to { j < length self.now.places }
+        ensures ticks { result ≡ delay_of self.now i j }
+        ensures positive { 1 ≤ result }
+        ensures short { result ≤ never }
+        ensures topology { IsTopology self.now }
+    {
+        if self.places[i as usize].listens && i != j {
+            NEVER
+        } else {
+            self.propagation(i, j)
+        }
     }
 
     /// The least delay of all pairs of nodes, in ticks. A node's own delay counts.
@@ -194,6 +217,18 @@ impl Topology {
     {
         let to = self.places[j as usize];
         x.abs_diff(to.x) as u128 * self.per as u128 + to.in_delay as u128
+    }
+
+    /// How many ticks a disturbance that is at node `n` alone takes to node `j`: `in_delay` of that node, and `NEVER` to another one.
+    pub fn local_delay(&self, n: u8, j: u8) -> u64
+        requires { j < length self.now.places }
+        ensures { result ≡ local_delay self.now n j }
+    {
+        if n == j {
+            self.places[j as usize].in_delay
+        } else {
+            NEVER
+        }
     }
 
     /// The places of the nodes, in order.

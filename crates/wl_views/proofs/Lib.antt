@@ -1,4 +1,3 @@
-mod ByTick
 mod InTime
 mod Lists
 mod Pieces

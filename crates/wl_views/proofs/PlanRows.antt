@@ -14,7 +14,7 @@ small = record {
     segments = record { prop = 1; ps1 = 1; ps2 = 2; sjw = 1; sync = After };
     queue = [];
   } ∷ [];
-  topology = record { places = record { x = 0; out_delay = 0; in_delay = 1 } ∷ []; per = 1 };
+  topology = record { places = record { x = 0; out_delay = 0; in_delay = 1; listens = false } ∷ []; per = 1 };
   disturbances = record { x = 0; from = 1; to = 3 } ∷ [];
   end = 6;
 }

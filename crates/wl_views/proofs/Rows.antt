@@ -6,7 +6,7 @@ use Rattle.wl_views.specs.declared.tick.TimeUnit.{TimeUnit}
 use Rattle.wl_views.specs.declared.tick.TimeUnit.TheVariants.{Picosecond, Nanosecond, Microsecond}
 use Rattle.wl_views.specs.Candump.{log_line}
 use Rattle.wl_views.specs.Digits.{digits_of}
-use Rattle.wl_views.specs.Sent.{by_tick}
+use Rattle.wl_level.specs.ByTick.{by_tick}
 use Rattle.wl_views.specs.Ticks.{read_tick}
 
 abbrev tick : ℕ → TimeUnit → Tick

@@ -1,6 +1,6 @@
 -- The frames that were sent, each with the tick of its completion.
-use Rattle.std.specs.Prelude.{◌≡◌, ℕ, ◌^◌, ◌<◌, ◌≤◌, ◌==◌, List, map, length}
-use Rattle.std.specs.List.{filter, flat_map, range_with_len, enumerate_from, All}
+use Rattle.std.specs.Prelude.{◌≡◌, ℕ, ◌^◌, ◌<◌, ◌≤◌, List, map, length}
+use Rattle.std.specs.List.{filter, flat_map, enumerate_from, All}
 use Rattle.wl_clock.specs.Timing.{Timing, tick_of}
 use Rattle.wl_frame.specs.Grammar.{Content}
 use Rattle.wl_node.specs.declared.setup.Passed.{Passed}
@@ -19,10 +19,6 @@ sent_by clock frames = map (λ p. (tick_of clock p.quantum, p.frame)) (filter is
 -- those of all nodes, node by node
 abbrev pub all_sent : Plan → Outcome → List (ℕ × Content)
 all_sent plan outcome = flat_map (λ n. sent_by (setup_at plan n.0).clock n.1.frames) (enumerate_from 0 outcome.nodes)
-
--- tick by tick up to the end, and at each tick in their order (this project's profile)
-abbrev pub by_tick : {X : Type 0} → ℕ → List (ℕ × X) → List (ℕ × X)
-by_tick end sent = flat_map (λ t. filter (λ s. s.0 == t) sent) (range_with_len 0 end)
 
 -- Each node has its clock, each frame was completed at a quantum that clocks know, and below the end.
 pub record AreInTime (plan : Plan) (outcome : Outcome) : Type 0 where

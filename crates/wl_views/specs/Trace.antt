@@ -22,7 +22,7 @@ use Rattle.wl_trace.specs.declared.event.Noted.{Noted}
 use Rattle.wl_trace.specs.declared.event.Place.{Place}
 use Rattle.wl_trace.specs.Events.{events_of}
 use Rattle.wl_trace.specs.Synced.{syncs_of}
-use Rattle.wl_views.specs.Sent.{by_tick}
+use Rattle.wl_level.specs.ByTick.{by_tick}
 
 abbrev pub field_word : FrameField → List ℕ
 field_word fields.StartOfFrame = codes "sof"

@@ -1,7 +1,8 @@
 //! The frames that were sent, each with the tick of its completion.
 ghost use Rattle.std.specs.Prelude.{◌≡◌, ◌≤◌, ◌^◌, ◌++◌, OnOk, IfOk};
 ghost use Rattle.std.specs.List.{All};
-ghost use Rattle.wl_views.specs.Sent.{AreInTime, all_sent, by_tick, sent_by};
+ghost use Rattle.wl_level.specs.ByTick.{by_tick};
+ghost use Rattle.wl_views.specs.Sent.{AreInTime, all_sent, sent_by};
 
 use std::alloc::{AllocError, Global};
 use wl_clock::Clock;

@@ -1,8 +1,8 @@
 //! The signals of a simulation's nodes at a tick, and how long they stay.
 ghost use Rattle.std.specs.Prelude.{◌≡◌, ℕ, ◌+◌, ◌-◌, ◌<◌, ◌≤◌, ◌&&◌, ◌++◌, nat_le, nat_lt, IfOk, length};
 ghost use Rattle.arrayvec.specs.ArrayVec.{array_vec_len};
-ghost use Rattle.wl_topology.specs.Limits.{longest_delay};
-ghost use Rattle.wl_topology.specs.Delays.{delay_of, disturbance_delay};
+ghost use Rattle.wl_topology.specs.Limits.{never};
+ghost use Rattle.wl_topology.specs.Delays.{delay_of};
 ghost use Rattle.wl_topology.specs.Driven.{driven};
 ghost use Rattle.wl_plan.specs.Checked.{IsChecked};
 ghost use Rattle.wl_plan.specs.Limits.{latest_end};
@@ -107,7 +107,7 @@ fn disturbed_by(from: u64, to: u64, delay: u64, t: u64) -> Held
     requires starts { from < to }
     requires early { t ≤ latest_end }
     requires ends { to ≤ latest_end }
-    requires near { delay ≤ longest_delay }
+    requires near { delay ≤ never }
     ensures { Lasts (λ u. nat_le (from + delay) u && nat_lt u (to + delay)) t result }
 {
     let come = from + delay;
@@ -142,7 +142,7 @@ pub(crate) fn disturbed(plan: &Plan, j: usize, t: u64) -> Held
         until: u64::MAX,
     };
     for d in plan.disturbances.as_slice() {
-        let delay = plan.topology.place_delay(d.x, j as u8) as u64;
+        let delay = plan.disturbance_delay(*d, j as u8);
         let from = disturbed_by(d.from, d.to, delay, t);
         held = held.or(from);
     }

@@ -6,7 +6,7 @@ ghost use Rattle.wl_report.specs.Lines.{GrowsBy};
 ghost use Rattle.wl_serial.specs.Outcome.{outcome_of};
 ghost use Rattle.wl_trace.specs.Events.{noted};
 ghost use Rattle.wl_trace.specs.Synced.{with_next};
-ghost use Rattle.wl_views.specs.Sent.{by_tick};
+ghost use Rattle.wl_level.specs.ByTick.{by_tick};
 ghost use Rattle.wl_views.specs.Trace.{all_told, error_kind_word, event_text, events_at_end, field_word, flag_word, line_start, place_text, sample_words, syncs_at_end, told_at_end, told_by, trace_line, trace_text};
 
 use crate::watched::Watched;

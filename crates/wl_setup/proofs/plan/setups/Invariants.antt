@@ -3,4 +3,4 @@ use Rattle.wl_setup.proofs.PlanLemmas.{IsSoFar}
 use Rattle.wl_setup.proofs.plan.setups.Given as goal
 
 abbrev pub invariant-loop-i : goal.invariant-loop-i
-invariant-loop-i l = IsSoFar (setup_of l.sync) l.setups l.i l.nodes
+invariant-loop-i l = IsSoFar (setup_of l.plan) l.setups l.i l.plan.node

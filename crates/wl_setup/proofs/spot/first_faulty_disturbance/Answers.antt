@@ -1,13 +1,12 @@
 use Rattle.std.proofs.Common.{◌∙◌, ap}
 use Rattle.std.specs.List.{position}
 use Rattle.toml.specs.View.{view}
-use Rattle.wl_setup.specs.Keys.{disturbance_keys}
-use Rattle.wl_setup.specs.Faults.{table_fault}
+use Rattle.wl_setup.specs.Faults.{disturbance_fault}
 use Rattle.wl_setup.specs.Spots.{is_faulty}
 use Rattle.wl_setup.proofs.SpotLemmas.{position_map}
 use Rattle.wl_setup.proofs.spot.first_faulty_disturbance.Goals as goal
 
 pub returns : goal.returns
 returns c =
-    c.first_disturbance_in.ensures ∙ position_map (is_faulty (table_fault disturbance_keys)) view c.elements_at.result.now
-    ∙ ap (position (is_faulty (table_fault disturbance_keys))) c.elements_at.ensures
+    c.first_disturbance_in.ensures ∙ position_map (is_faulty (disturbance_fault c.args.version)) view c.elements_at.result.now
+    ∙ ap (position (is_faulty (disturbance_fault c.args.version))) c.elements_at.ensures

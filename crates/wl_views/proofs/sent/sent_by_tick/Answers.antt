@@ -2,8 +2,8 @@ use Rattle.std.proofs.Common.{◌≡◌, ◌∙◌, ◌<◌, rules, ap, sym, sub
 use Rattle.std.specs.List.{All}
 use Rattle.std.proofs.lemmas.List.Sorted.{IsNonDecreasingBy-from_sort_by_key, answers_always}
 use Rattle.wl_frame.specs.Grammar.{Content}
-use Rattle.wl_views.specs.Sent.{by_tick}
-use Rattle.wl_views.proofs.ByTick.{sorted_is_by_tick}
+use Rattle.wl_level.specs.ByTick.{by_tick}
+use Rattle.wl_level.proofs.Callers.{sorted_is_by_tick}
 use Rattle.wl_views.proofs.sent.sent_by_tick.Goals as goal
 
 -- some frame

@@ -4,8 +4,8 @@ use Rattle.std.proofs.lemmas.List.Sorted.{IsNonDecreasingBy-from_sort_by_key, an
 use Rattle.wl_trace.specs.declared.event.Event.TheVariants as events
 use Rattle.wl_trace.specs.declared.event.FlagForm.TheVariants.{Active}
 use Rattle.wl_trace.specs.declared.event.Noted.{Noted}
-use Rattle.wl_views.specs.Sent.{by_tick}
-use Rattle.wl_views.proofs.ByTick.{sorted_is_by_tick}
+use Rattle.wl_level.specs.ByTick.{by_tick}
+use Rattle.wl_level.proofs.Callers.{sorted_is_by_tick}
 use Rattle.wl_views.proofs.Telling.{told_below}
 use Rattle.wl_views.proofs.told.told_in_order.Goals as goal
 

@@ -5,6 +5,7 @@ use Rattle.std.specs.List.Sorted.{IsNonDecreasingBy, IsPermutation, IsStableByKe
 use Rattle.std.specs.Ordering.{nat_cmp, is_lt}
 use Rattle.std.specs.Prelude.{cond}
 use Rattle.std.specs.declared.cmp.Ordering.TheVariants.{Less, Equal, Greater}
+use Rattle.wl_level.specs.ByTick.{by_tick}
 use Rattle.std.proofs.lemmas.List.Concat.{flat_map-append}
 use Rattle.std.proofs.lemmas.List.Elements.{filter_agree, All-head, All-tail}
 use Rattle.std.proofs.lemmas.List.Sorted.{All-permutation}
@@ -101,7 +102,7 @@ module _ {X : Type 0} where
   -- a stable sort by the ticks of a list whose ticks are below n lists them tick by tick
   pub sorted_is_by_tick : (n : ℕ) (d : X) (xs ys : List (ℕ × X)) → IsPermutation xs ys → IsNonDecreasingBy (λ s. s.0) ys
       → IsStableByKey (λ s. s.0) nat_cmp xs ys → All (λ s. s.0 < n) xs
-      → ys ≡ flat_map (λ t. filter (λ s. s.0 == t) xs) (range_with_len 0 n)
+      → ys ≡ by_tick n xs
   sorted_is_by_tick n d xs ys moved rises stable low =
       sym (all_before n ys (All-permutation (λ s. s.0 < n) xs ys moved low))
       ∙ sym (listed n ys rises)
