@@ -5,7 +5,7 @@ ghost use Rattle.wl_level.specs.Levels.{level_of};
 ghost use Rattle.wl_record_core.specs.Limits.{tick_end};
 ghost use Rattle.wl_record_core.specs.Truth.{odd};
 ghost use Rattle.wl_replica.specs.State.{slots_of};
-ghost use Rattle.wl_topology.specs.Limits.{most_places, longest_delay};
+ghost use Rattle.wl_topology.specs.Limits.{most_places, never};
 ghost use Rattle.wl_replica.specs.Known.{tick_in, horizon, place_horizon};
 ghost use Rattle.wl_replica.specs.Slots.{HoldsTrue};
 ghost use Rattle.wl_plan.specs.Line.{Line};
@@ -275,7 +275,7 @@ fn driven_from(
 pub(crate) fn known_of(replica: &Replica, ways: &Ways, i: u8) -> u64
     requires node { i < replica.now.nodes }
     requires few { replica.now.nodes ≤ most_places }
-    requires short { (k : ℕ) → way_in ways.now k ≤ longest_delay }
+    requires short { (k : ℕ) → way_in ways.now k ≤ never }
     ensures { result ≡ horizon (slots_of replica.now) i + way_in ways.now i }
 {
     replica.horizon(i) + ways[i as usize]
@@ -285,7 +285,7 @@ pub(crate) fn known_of(replica: &Replica, ways: &Ways, i: u8) -> u64
 pub(crate) fn known_by(replica: &Replica, ways: &Ways) -> u64
     requires some { 0 < replica.now.nodes }
     requires few { replica.now.nodes ≤ most_places }
-    requires short { (k : ℕ) → way_in ways.now k ≤ longest_delay }
+    requires short { (k : ℕ) → way_in ways.now k ≤ never }
     ensures { result ≡ place_horizon replica.now.nodes (λ i j. way_in ways.now i) (slots_of replica.now) 0 }
 {
     let mut least = known_of(replica, ways, 0);

@@ -1,10 +1,10 @@
 use Rattle.std.proofs.Common.{◌≤◌, arith}
 use Rattle.wl_record_core.specs.Limits.{tick_end-is}
-use Rattle.wl_topology.specs.Limits.{longest_delay}
+use Rattle.wl_topology.specs.Limits.{never}
 use Rattle.wl_group.specs.Ways.{way_in}
 use Rattle.wl_group.proofs.heard.known_of.Goals as goal
 
 pub overflow_add-result : goal.overflow_add-result
 overflow_add-result c =
-    let short : way_in c.args.ways.now c.args.i ≤ longest_delay = c.requires.short c.args.i in
+    let short : way_in c.args.ways.now c.args.i ≤ never = c.requires.short c.args.i in
     omega (arith, c.horizon.ensures.early, short, tick_end-is)
