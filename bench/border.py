@@ -1,11 +1,12 @@
 #!/usr/bin/env python3
 """Power-ups at the border: random families of buses with a cable as long as `margin` allows, run by `sweep`, which should find each of them clean.
 
-usage: border.py PROGRAM [--families N] [--first K] [--seed N] [--followed N]
+usage: border.py PROGRAM [--families N] [--first K] [--seed N] [--followed N] [--listeners]
 
 A family has two to five nodes, equal or unlike settings, loops from a tick to four quanta, one to all nodes that send, and a tolerance for each.
 Its cable holds for any senders; one tick more doesn't. At the border it is run with random frames, and with long frames whose edges are far
-apart. Then, with --followed, failures of some families with longer cables are followed back by shorter ones, around their offsets and signs.
+apart. With --listeners a family has three to five nodes, and one at least that only listens: anywhere on the cable, and some with a loop as long as
+the way to its sample. Then, with --followed, failures of some families with longer cables are followed back by shorter ones, around their offsets and signs.
 """
 import argparse
 import random
@@ -40,6 +41,7 @@ class Node:
     offset: int = 0
     ppm: int = 0
     tolerance: int = 0
+    listens: bool = False
     frames: list = field(default_factory=list)
 
     def quanta(self):
@@ -51,6 +53,7 @@ class Node:
     def lines(self, name):
         said = f'\n[[node]]\nname = "{name}"\noffset = {self.offset}\nquantum = {self.quantum}\nppm = {self.ppm}\nprop = {self.prop}\nps1 = {self.ps1}\n'
         said += f"ps2 = {self.ps2}\nsjw = {self.sjw}\nx = {self.x}\nout = {self.out}\nin = {self.into}\n"
+        if self.listens: said += "listen = true\n"
         if self.tolerance is not None: said += f"tolerance = {self.tolerance}\n"
         return said + (f"frame = [{', '.join(map(frame_words, self.frames))}]\n" if self.frames else "")
 
@@ -66,7 +69,8 @@ def plan_text(nodes):
     bit = max(node.bit() for node in nodes) * 11 // 10
     ready = max([frame[4] * node.quantum + node.offset for node in nodes for frame in node.frames], default=0)
     end = ready * 11 // 10 + bit * (40 + 200 * sum(len(node.frames) for node in nodes))
-    return f'version = 1\nend = {end}\nper = 1\nsync = "book"\n' + "".join(node.lines(f"n{i}") for i, node in enumerate(nodes))
+    version = 3 if any(node.listens for node in nodes) else 1
+    return f'version = {version}\nend = {end}\nper = 1\nsync = "book"\n' + "".join(node.lines(f"n{i}") for i, node in enumerate(nodes))
 
 
 class Program:
@@ -142,19 +146,34 @@ def longest(program, nodes, shares):
     return low
 
 
-def family(rng, program):
+def with_listeners(rng, nodes, senders):
+    """Some of the nodes without frames only listen, the last one at least; two don't, so that each sender is acknowledged."""
+    for node in nodes[max(senders, 2):]:
+        node.listens = node is nodes[-1] or rng.random() < 0.5
+
+
+def with_long_loops(rng, nodes):
+    """Some listeners' own bits come back at their sample."""
+    for node in nodes:
+        sample = node.quantum * (1 + node.prop + node.ps1) * (1_000_000 - node.tolerance) // 1_000_000
+        if node.listens and rng.random() < 0.5: node.out = sample - node.into
+
+
+def family(rng, program, listeners):
     """Nodes without frames at the border, how many of them send, and their shares of the cable; None if they bear no cable at all."""
-    count = rng.randint(2, 5)
-    nodes, senders = settings(rng, count), rng.randint(1, count)
+    count = rng.randint(3 if listeners else 2, 5)
+    nodes, senders = settings(rng, count), rng.randint(1, count - listeners)
+    if listeners: with_listeners(rng, nodes, senders)
     with_loops(rng, nodes)
     for i in range(senders): nodes[i].frames = [(False, i, False, [], 30 * nodes[i].quanta())]
     shares = [rng.choice([0, 1000, rng.randint(0, 1000)]) for _ in nodes]
-    near, far = rng.sample(range(count), 2)
+    near, far = rng.sample([i for i in range(count) if not nodes[i].listens], 2)
     shares[near], shares[far] = 0, 1000
     wider = program.wider(nodes)
     if wider is None: return None
     most = rng.choice([0, wider, rng.randint(0, wider), wider * 9 // 10])
     for node in nodes: node.tolerance = most * rng.choice([100, rng.randint(0, 100)]) // 100
+    with_long_loops(rng, nodes)
     length = longest(program, nodes, shares)
     if length == 0: return None
     assert program.holds(placed(nodes, shares, length)) and not program.holds(placed(nodes, shares, length + 1))
@@ -300,11 +319,12 @@ def main():
     asked = argparse.ArgumentParser(usage=__doc__.split("usage: ")[1].split("\n")[0])
     asked.add_argument("program")
     for name, value in (("families", 3000), ("first", 0), ("seed", 1), ("followed", 0)): asked.add_argument(f"--{name}", type=int, default=value)
+    asked.add_argument("--listeners", action="store_true")
     asked = asked.parse_args()
     program, counts, followed, k = Program(asked.program), Counter(), Counter(), asked.first
     while counts["families"] < asked.families:
         rng = random.Random(f"{asked.seed} {k}")
-        k, border = k + 1, family(rng, program)
+        k, border = k + 1, family(rng, program, asked.listeners)
         if border is None: continue
         counts["families"] += 1
         counts.update(at_border(rng, program, border))

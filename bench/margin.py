@@ -27,6 +27,7 @@ class Bus:
     def __init__(self, plan, clocks, senders, wider=0, stretch=Fraction(1), changes=(0, 0, 0)):
         self.plan, self.n = plan, len(plan.nodes)
         self.sends, self.parts = senders, stretch.denominator
+        self.listens = [place.listens for place in plan.places]
         self.tick = T * self.parts
         self.low, self.high = [], []
         for rates, tolerance in clocks:
@@ -92,6 +93,11 @@ class Bus:
             return way + min(self.apart(i, j), max(0, self.tour(i, j) - way)) + 11 * max(self.drift(j, w) for w in self.others(j))
         return self.look[j] + 10 * self.drift(i, j) + min(self.apart(j, i), max(0, self.early[j] - self.delay(j, j))) + self.tick
 
+    def is_asked(self, kind, i, j):
+        """Whether nodes i and j are asked: of one node only whether its own bit is back, of what a listener drives nothing, of two listeners nothing."""
+        if kind == LATE: return i == j or not self.listens[j]
+        return i != j and not (self.listens[j] and (kind == EARLY or self.listens[i]))
+
     def right(self, kind, i, j):
         if kind == DRIFT: return min(self.jump[i], self.jump[j])
         return (self.sample[i] if kind == LATE else self.ps2[i]) * self.low[i]
@@ -119,14 +125,14 @@ class Family:
     def failures(self, one, **changes):
         buses = self.buses(one, **changes)
         for kind, i, j in product(KINDS, range(buses[0].n), range(buses[0].n)):
-            if i == j and kind != LATE: continue
+            if not buses[0].is_asked(kind, i, j): continue
             left, right = self.sides(buses, kind, i, j)
             if left > right: yield kind, i, j, left, right
 
     def reserve(self, one, **changes):
         """Returns the least that is to spare, below 0 if an inequality fails. Here the cable isn't stretched."""
         buses = self.buses(one, **changes)
-        pairs = [(kind, i, j) for kind, i, j in product(KINDS, range(buses[0].n), range(buses[0].n)) if i != j or kind == LATE]
+        pairs = [pair for pair in product(KINDS, range(buses[0].n), range(buses[0].n)) if buses[0].is_asked(*pair)]
         return min(right - left for left, right in (self.sides(buses, *pair) for pair in pairs))
 
     def holds(self, one, **changes):
@@ -155,6 +161,12 @@ def outside(plan):
     names = [node.name for node in plan.nodes]
     if len(names) < 2: return "does not hold: there is one node, and nobody acknowledges its frames"
     if not any(node.queue for node in plan.nodes): return "no bound is known: no node has a frame to send"
+    listens = [place.listens for place in plan.places]
+    for i, name in enumerate(names):
+        if listens[i] and plan.nodes[i].queue: return f"does not hold: {name} only listens, and nobody hears the frames that it has"
+    for i, name in enumerate(names):
+        if plan.nodes[i].queue and all(listens[j] for j in range(len(names)) if j != i):
+            return f"does not hold: all nodes but {name} only listen, and nobody acknowledges its frames"
     for node in plan.nodes:
         if not node.segments.book:
             return (f"no bound is known: {node.name} synchronises after an edge, so it can miss a start of frame or an edge at its sample; "
@@ -165,7 +177,7 @@ def outside(plan):
             return f"does not hold: {names[i]} and {names[j]} have frames of one identifier, which no arbitration parts"
     idle = [node.clock.at(11 * node.segments.bit_quanta()) for node in plan.nodes]
     for i, node in enumerate(plan.nodes):
-        if node.queue and not any(node.clock.at(node.queue[0].ready) >= idle[j] for j in range(len(names)) if j != i):
+        if node.queue and not any(node.clock.at(node.queue[0].ready) >= idle[j] for j in range(len(names)) if j != i and not listens[j]):
             return f"does not hold: the first frame of {names[i]} becomes ready before any other node is idle, and nobody may acknowledge it"
     return None
 
@@ -218,18 +230,22 @@ class Text:
                 rates = [point(floor(10**9 / bits[k]), 3) for k in (i, j)]
                 if i < j: yield f"{self.names[i]} and {self.names[j]} have unlike bit rates, {rates[0]} and {rates[1]} kbit/s"
                 continue
-            for kind in KINDS if i != j else (LATE,):
+            for kind in KINDS:
+                if not asked[0][1][0].is_asked(kind, i, j): continue
                 fails = [(lead, *self.family.sides(buses, kind, i, j)) for lead, buses in asked]
                 for lead, left, right in [one for one in fails if one[1] > one[2]][:1]:
                     yield lead + self.failure(kind, i, j, left, right)
         for node, (_, tolerance), low, high in zip(plan.nodes, self.family.clocks, asked[1][1][0].low, asked[1][1][0].high):
             if strays(node.clock, plan.end, low, high): yield f"the clock of {node.name} deviates by more than its tolerance of {tolerance} ppm"
 
+    def spare_of(self, buses, kind, i, j):
+        return self.spare(*self.family.sides(buses, kind, i, j), i) if buses[0].is_asked(kind, i, j) else "none"
+
     def pairs(self, one):
         buses = self.family.buses(one)
         for i, j in product(range(len(self.names)), repeat=2):
             if i == j: continue
-            late, early, drift = (self.spare(*self.family.sides(buses, kind, i, j), i) for kind in (LATE, EARLY, DRIFT))
+            late, early, drift = (self.spare_of(buses, kind, i, j) for kind in (LATE, EARLY, DRIFT))
             yield f"pair {self.names[i]} {self.names[j]}: late {late}, early {early}, drift {drift}"
 
     def lines(self):

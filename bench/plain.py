@@ -939,7 +939,7 @@ def pair_doubts(plan, i, j, quanta):
     elif apart > borne:
         yield f"doubt: the clocks of {one.name} and {other.name} are {apart} ppm apart, and their segments bear {borne}"
     trip, room = plan.delay(i, j) + plan.delay(j, i), min(int((plan.nodes[k].segments.sample_at() - 1) * quanta[k]) for k in (i, j))
-    if trip > room:
+    if trip > room and not (plan.places[i].listens or plan.places[j].listens):
         yield f"doubt: {one.name} to {other.name} and back takes {trip} ticks, and the earlier sample leaves {room}"
 
 

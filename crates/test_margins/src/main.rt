@@ -12,7 +12,7 @@ use wl_plan::Plan;
 use wl_segments::{Segments, SyncRules};
 use wl_topology::{Place, Topology};
 
-/// A bus of two nodes with quanta of 125 ns.
+/// A bus of two nodes with quanta of 125 ns, and perhaps of a third one.
 #[derive(Clone, Copy)]
 struct Row {
     /// PROP_SEG, PHASE_SEG1, PHASE_SEG2 and jump width.
@@ -23,6 +23,10 @@ struct Row {
     x: u32,
     /// Whether the second node sends too.
     both: bool,
+    /// Whether the second node only listens.
+    listens: bool,
+    /// The ticks out of a third node, which is beside the second one and only listens.
+    third: Option<u64>,
 }
 
 const SLOW_AND_LONG: Row = Row {
@@ -31,6 +35,8 @@ const SLOW_AND_LONG: Row = Row {
     ppm: 7000,
     x: 98,
     both: false,
+    listens: false,
+    third: None,
 };
 
 const WIDEST: Row = Row {
@@ -39,6 +45,8 @@ const WIDEST: Row = Row {
     ppm: 3115,
     x: 5,
     both: false,
+    listens: false,
+    third: None,
 };
 
 const CRYSTALS: Row = Row {
@@ -47,6 +55,8 @@ const CRYSTALS: Row = Row {
     ppm: 100,
     x: 5,
     both: true,
+    listens: false,
+    third: None,
 };
 
 const AFTER: Row = Row {
@@ -55,10 +65,46 @@ const AFTER: Row = Row {
     ppm: 100,
     x: 5,
     both: true,
+    listens: false,
+    third: None,
+};
+
+/// A listener beside both: what it drives reaches nobody, so all is as without it.
+const BESIDE: Row = Row {
+    third: Some(120),
+    ..CRYSTALS
+};
+
+/// Its own bits come back to it after its sample.
+const LONG_LOOP: Row = Row {
+    third: Some(1630),
+    ..CRYSTALS
+};
+
+/// A lone sender and a listener.
+const LONE: Row = Row {
+    both: false,
+    listens: true,
+    ..CRYSTALS
+};
+
+/// A listener with a frame to send.
+const MUTE: Row = Row {
+    listens: true,
+    ..CRYSTALS
 };
 
 fn main(rt: HostRuntime) -> Result<()> {
-    for row in [SLOW_AND_LONG, WIDEST, CRYSTALS, AFTER] {
+    for row in [
+        SLOW_AND_LONG,
+        WIDEST,
+        CRYSTALS,
+        AFTER,
+        BESIDE,
+        LONG_LOOP,
+        LONE,
+        MUTE,
+    ] {
         println!(rt; "{}", told(rt.alloc(), row)?)?;
     }
     Ok(())
@@ -87,12 +133,25 @@ fn node(alloc: Global, row: Row, id: u32, sends: bool) -> Result<NodeSetup> {
     })
 }
 
-fn place(x: u32) -> Place {
+fn place(x: u32, out_delay: u64, listens: bool) -> Place {
     Place {
         x,
-        out_delay: 120,
+        out_delay,
         in_delay: 130,
-        listens: false,
+        listens,
+    }
+}
+
+/// The cable of two nodes, or of three.
+fn topology(row: Row) -> Result<Topology> {
+    let two = [place(0, 120, false), place(row.x, 120, row.listens)];
+    match row.third {
+        None => Topology::new(&two, 5).context("two places"),
+        Some(out) => {
+            let [first, second] = two;
+            let third = place(row.x, out, true);
+            Topology::new(&[first, second, third], 5).context("three places")
+        }
     }
 }
 
@@ -100,9 +159,12 @@ fn plan(alloc: Global, row: Row) -> Result<Plan> {
     let mut nodes = Listed::new(alloc);
     nodes.push(node(alloc, row, 1, true)?)?;
     nodes.push(node(alloc, row, 2, row.both)?)?;
+    if row.third.is_some() {
+        nodes.push(node(alloc, row, 3, false)?)?;
+    }
     Ok(Plan {
         nodes,
-        topology: Topology::new(&[place(0), place(row.x)], 5).context("two places")?,
+        topology: topology(row)?,
         disturbances: Listed::new(alloc),
         end: 1_000_000,
     })
@@ -118,11 +180,16 @@ fn told(alloc: Global, row: Row) -> Result<String> {
         den: 1,
     };
     let oscillator = Oscillator::new(&[rate], row.ppm).context("an oscillator")?;
-    let oscillators = [oscillator, oscillator];
+    let three = [oscillator, oscillator, oscillator];
+    let oscillators = if row.third.is_some() {
+        &three[..]
+    } else {
+        &three[..2]
+    };
     if plan.nodes.len() != oscillators.len() {
         return Ok(String::new(alloc));
     }
-    let family = Family::of_plan(alloc, &plan, &oscillators)?;
+    let family = Family::of_plan(alloc, &plan, oscillators)?;
     let any = Senders::Any;
     Ok(format!(in alloc;
         "{:?}\n  fails {:?}\n  cable {:?} m, tolerance {:?} ppm, help {:?}",

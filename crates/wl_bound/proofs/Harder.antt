@@ -1,5 +1,5 @@
 -- A bus that is no easier in any respect: if the condition holds for it, it holds for the other.
-use Rattle.std.proofs.Common.{◌≡◌, ℕ, zero, suc, ◌+◌, ◌-◌, ◌*◌, ◌<◌, ◌≤◌, ◌==◌, ◌&&◌, ◌∙◌, ◌⊎◌, nat_lt, nat_le, not, min, max, Bool, true, false, cond, inl, inr, refl, ap, subst, arith}
+use Rattle.std.proofs.Common.{◌≡◌, ℕ, zero, suc, ◌+◌, ◌-◌, ◌*◌, ◌<◌, ◌≤◌, ◌==◌, ◌&&◌, ◌||◌, ◌∙◌, ◌⊎◌, nat_lt, nat_le, not, min, max, Bool, true, false, cond, inl, inr, refl, ap, subst, sym, arith}
 use Rattle.std.specs.Int.{div_ceil}
 use Rattle.std.proofs.lemmas.Bool.{cases_lt, le-leb, lt-leb}
 use Rattle.std.proofs.lemmas.Grind.{div_ceil_times}
@@ -11,14 +11,15 @@ use Rattle.wl_bound.specs.declared.condition.Inequality.{Inequality}
 use Rattle.wl_bound.specs.declared.condition.Inequality.TheVariants.{DriftFitsJump, BitIsThereAtSample, NoBitTooEarly}
 use Rattle.wl_bound.specs.Families.{Bus}
 use Rattle.wl_bound.specs.Terms.{apart, chase, drift, early, edges, greatest, is_third, jump, late, look, lost, sends_but, sends_third, several, strays, tour, trip, way}
-use Rattle.wl_bound.specs.Conditions.{IsSound, left_of, right_of}
+use Rattle.wl_bound.specs.Conditions.{IsSound, is_asked, left_of, right_of}
 
--- c is no easier than b: the same nodes, segments and senders, quanta that may be shorter and longer, the same own loops, longer delays and detours
+-- c is no easier than b: the same nodes, segments, senders and listeners, quanta that may be shorter and longer, the same own loops, longer delays and detours
 pub record IsHarder (b c : Bus) : Type 0 where
   pub nodes : b.nodes ≡ c.nodes
   pub tick : b.tick ≡ c.tick
   pub lengths : (i : ℕ) → b.lengths i ≡ c.lengths i
   pub sends : (i : ℕ) → b.sends i ≡ c.sends i
+  pub listens : (i : ℕ) → b.listens i ≡ c.listens i
   pub shorter : (i : ℕ) → c.shortest i ≤ b.shortest i
   pub longer : (i : ℕ) → b.longest i ≤ c.longest i
   pub own : (i : ℕ) → b.delay i i ≡ c.delay i i
@@ -224,15 +225,21 @@ right_le b c h NoBitTooEarly i j =
     subst (λ (l : Lengths). l.ps2 * c.shortest i ≤ (b.lengths i).ps2 * b.shortest i) (h.lengths i)
     (mul-le-mul_left (b.lengths i).ps2 (h.shorter i))
 
+-- what is asked of a pair of the one is asked of the other
+asked_same : (b c : Bus) → IsHarder b c → (e : Inequality) (i j : ℕ) → is_asked b.listens e i j ≡ is_asked c.listens e i j
+asked_same b c h DriftFitsJump i j = (let one = h.listens i in let other = h.listens j in cc)
+asked_same b c h BitIsThereAtSample i j = ap (λ v. i == j || not v) (h.listens j)
+asked_same b c h NoBitTooEarly i j = ap (λ v. not (i == j) && not v) (h.listens j)
+
 pub sound_le : (b c : Bus) → IsHarder b c → IsSound c → IsSound b
 sound_le b c h s = record {
-  drift_fits_jump = λ i j bi bj ne.
+  drift_fits_jump = λ i j bi bj asked.
       (let l = left_le b c h DriftFitsJump i j in let r = right_le b c h DriftFitsJump i j in let n = h.nodes in
-      let m = s.drift_fits_jump i j (omega arith) (omega arith) ne in omega arith);
-  bit_is_there_at_sample = λ i j bi bj.
+      let m = s.drift_fits_jump i j (omega arith) (omega arith) (sym (asked_same b c h DriftFitsJump i j) ∙ asked) in omega arith);
+  bit_is_there_at_sample = λ i j bi bj asked.
       (let l = left_le b c h BitIsThereAtSample i j in let r = right_le b c h BitIsThereAtSample i j in let n = h.nodes in
-      let m = s.bit_is_there_at_sample i j (omega arith) (omega arith) in omega arith);
-  no_bit_too_early = λ i j bi bj ne.
+      let m = s.bit_is_there_at_sample i j (omega arith) (omega arith) (sym (asked_same b c h BitIsThereAtSample i j) ∙ asked) in omega arith);
+  no_bit_too_early = λ i j bi bj asked.
       (let l = left_le b c h NoBitTooEarly i j in let r = right_le b c h NoBitTooEarly i j in let n = h.nodes in
-      let m = s.no_bit_too_early i j (omega arith) (omega arith) ne in omega arith);
+      let m = s.no_bit_too_early i j (omega arith) (omega arith) (sym (asked_same b c h NoBitTooEarly i j) ∙ asked) in omega arith);
 }

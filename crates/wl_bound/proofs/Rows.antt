@@ -1,9 +1,12 @@
 -- Worked buses: two or three nodes in a row, 120 ns out and 130 ns in, 5 ns a metre. A tick is a nanosecond.
-use Rattle.std.proofs.Common.{◌≡◌, ℕ, Bool, true, false, [], ◌∷◌, Some, None, refl}
+use Rattle.std.proofs.Common.{◌≡◌, ◌==◌, ℕ, Bool, true, false, [], ◌∷◌, Some, None, refl}
 use Rattle.wl_clock.specs.declared.Rate.{Rate}
 use Rattle.wl_topology.specs.declared.Place.{Place}
 use Rattle.wl_segments.specs.declared.SyncRules.TheVariants.{Book}
 use Rattle.wl_segments.specs.Lengths.{Lengths}
+use Rattle.wl_node.specs.declared.setup.NodeSetup.{NodeSetup}
+use Rattle.wl_plan.specs.declared.plan.Plan.{Plan}
+use Rattle.wl_plan.specs.PlanLine.{no_setup}
 use Rattle.wl_bound.specs.declared.family.Member.{Member}
 use Rattle.wl_bound.specs.declared.condition.Failure.{Failure}
 use Rattle.wl_bound.specs.declared.condition.Inequality.{Inequality}
@@ -12,7 +15,9 @@ use Rattle.wl_bound.specs.declared.condition.Senders.TheVariants.{Any, One}
 use Rattle.wl_bound.specs.Oscillators.{Pace, longest_of, oscillator_of, shortest_of}
 use Rattle.wl_bound.specs.Families.{Buses, delay_in, lengths_in, longest_in, sends_in, shortest_in}
 use Rattle.wl_bound.specs.Terms.{apart, chase, drift, early, edges, jump, late, look, lost, several, strays, tour, trip, way}
-use Rattle.wl_bound.specs.Conditions.{first_failure_of, left_of, plain, right_of}
+use Rattle.wl_bound.specs.Conditions.{first_failure_of, is_asked, left_of, plain, right_of}
+use Rattle.wl_bound.specs.declared.verdict.Outside.TheVariants.{ListenerSends, NobodyAcknowledges, NotByTheBook}
+use Rattle.wl_bound.specs.Verdicts.{outside_of}
 
 abbrev rate : ℕ → ℕ → Rate
 rate num den = record { from = 0; num = num; den = den }
@@ -125,3 +130,67 @@ too_early : first_failure_of (one_way (lengths 8 4 4 4) (pace 120 11610) 0) plai
     ≡ Some (failing NoBitTooEarly 474688000 474427200)
 unfolding first_failure_of left_of right_of shortest_in longest_in delay_in sends_in drift jump look trip way several early lost edges chase apart tour late strays lengths_in
 too_early = refl
+
+-- ---- A third node that only listens, beside two senders
+
+abbrev ear : ℕ → ℕ → Place
+ear x out = record { x = x; out_delay = out; in_delay = 130; listens = true }
+
+abbrev with_third : Lengths → Pace → Place → Buses
+with_third l p third = record {
+  members = member l p true ∷ member l p true ∷ member l p false ∷ [];
+  cable = record { places = place 0 ∷ place 5 ∷ third ∷ []; per = 5 };
+}
+
+-- over 1000 m a node's bits come far too late, and those of a listener come to nobody
+far_node : first_failure_of (with_third (lengths 6 7 2 1) (pace 125 100) (place 1000)) plain Any
+    ≡ Some (record { inequality = BitIsThereAtSample; node = 0; other = 2; sides = record { left = 10504400000; right = 1749825000 } })
+unfolding first_failure_of left_of right_of shortest_in longest_in delay_in sends_in drift jump look trip way several early lost edges chase apart tour late strays lengths_in
+far_node = refl
+
+far_listener : first_failure_of (with_third (lengths 6 7 2 1) (pace 125 100) (ear 1000 120)) plain Any ≡ None
+unfolding first_failure_of left_of right_of shortest_in longest_in delay_in sends_in drift jump look trip way several early lost edges chase apart tour late strays lengths_in
+far_listener = refl
+
+-- its own bit has to be back at its sample: 1630 ns out and 130 ns in are beyond 14 quanta
+own_bit : first_failure_of (with_third (lengths 6 7 2 1) (pace 125 100) (ear 5 1630)) plain Any
+    ≡ Some (record { inequality = BitIsThereAtSample; node = 2; other = 2; sides = record { left = 1760000000; right = 1749825000 } })
+unfolding first_failure_of left_of right_of shortest_in longest_in delay_in sends_in drift jump look trip way several early lost edges chase apart tour late strays lengths_in
+own_bit = refl
+
+-- of a listener 2 and a node 0
+listener_follows : is_asked (λ i. i == 2) BitIsThereAtSample 2 0 ≡ true
+listener_follows = refl
+
+nobody_follows : is_asked (λ i. i == 2) BitIsThereAtSample 0 2 ≡ false
+nobody_follows = refl
+
+its_clock_counts : is_asked (λ i. i == 2) DriftFitsJump 0 2 ≡ true
+its_clock_counts = refl
+
+two_listeners : is_asked (λ i. true) DriftFitsJump 0 2 ≡ false
+two_listeners = refl
+
+-- ---- What lies outside
+
+abbrev sending : NodeSetup
+sending = record no_setup { queue = record { frame = record { extended = false; id = 1; remote = false; dlc = 0; bytes = [] }; ready = 400 } ∷ [] }
+
+abbrev two_of : NodeSetup → NodeSetup → Place → Plan
+two_of one other at = record {
+  nodes = one ∷ other ∷ [];
+  topology = record { places = place 0 ∷ at ∷ []; per = 5 };
+  disturbances = [];
+  end = 1000000;
+}
+
+-- a lone sender beside a listener, and a listener that has a frame, whose cause comes first
+lone_sender : outside_of (two_of sending no_setup (ear 5 120)) ≡ Some (NobodyAcknowledges 0)
+lone_sender = refl
+
+listener_with_frames : outside_of (two_of sending sending (ear 5 120)) ≡ Some (ListenerSends 1)
+listener_with_frames = refl
+
+-- one that acknowledges, and rules of synchronisation that aren't the book's
+heard : outside_of (two_of sending no_setup (place 5)) ≡ Some (NotByTheBook 0)
+heard = refl

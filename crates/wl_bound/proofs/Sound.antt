@@ -11,7 +11,7 @@ use Rattle.wl_bound.specs.declared.condition.Senders.{Senders}
 use Rattle.wl_bound.specs.declared.condition.Senders.TheVariants.{Any, One}
 use Rattle.wl_bound.specs.declared.family.Setting.{Setting}
 use Rattle.wl_bound.specs.declared.family.Source.TheVariants.{Alone}
-use Rattle.wl_bound.specs.Families.{Buses, bus_of, lengths_in, member_at, shortest_in}
+use Rattle.wl_bound.specs.Families.{Buses, bus_of, lengths_in, member_at, only_listens, shortest_in}
 use Rattle.wl_bound.specs.Terms.{jump}
 use Rattle.wl_bound.specs.Conditions.{IsSound, failure_at, failure_in, failure_of, fails, fails_at, first_failure_of, is_asked, left_by, left_of, or_else, right_of}
 use Rattle.wl_bound.proofs.Greatest.{bounded, bounds_each}
@@ -35,7 +35,7 @@ pair_in false l r h = refl
 -- an inequality holds for each pair of which it is asked
 Fits : Buses → Setting → Senders → Inequality → Type 0
 Fits f s who e =
-    (i j : ℕ) → i < length f.members → j < length f.members → is_asked e i j ≡ true → left_by f s who e i j ≤ right_of (bus_of f s) e i j
+    (i j : ℕ) → i < length f.members → j < length f.members → is_asked (only_listens f.cable) e i j ≡ true → left_by f s who e i j ≤ right_of (bus_of f s) e i j
 
 row_is : (f : Buses) (s : Setting) (who : Senders) (e : Inequality) (i : ℕ) (q : Option ℕ)
     → is_some q ≡ true → failure_at f s who e i q ≡ None → ⊥
@@ -55,7 +55,7 @@ fits_from f s who e h i j bi bj asked =
     let n : ℕ = length f.members in
     let none = top f s who e (first_place (fails_at f s who e) n) refl h in
     let row = is_none_of (first_place (fails f s who e i) n) (first_none (fails_at f s who e) n none i bi) in
-    pair_out (is_asked e i j) (left_by f s who e i j) (right_of (bus_of f s) e i j)
+    pair_out (is_asked (only_listens f.cable) e i j) (left_by f s who e i j) (right_of (bus_of f s) e i j)
     (first_none (fails f s who e i) n row j bj) asked
 
 none_from : (f : Buses) (s : Setting) (who : Senders) (e : Inequality) → Fits f s who e → failure_of f s who e ≡ None
@@ -66,7 +66,7 @@ none_from f s who e h =
     (none_first (fails_at f s who e) n
     (λ i bi. ap is_some
     (none_first (fails f s who e i) n
-    (λ j bj. pair_in (is_asked e i j) (left_by f s who e i j) (right_of (bus_of f s) e i j) (λ asked. h i j bi bj asked)))))
+    (λ j bj. pair_in (is_asked (only_listens f.cable) e i j) (left_by f s who e i j) (right_of (bus_of f s) e i j) (λ asked. h i j bi bj asked)))))
 
 all_from : (f : Buses) (s : Setting) (who : Senders) → first_failure_of f s who ≡ None → (e : Inequality) → Fits f s who e
 unfolding first_failure_of
@@ -85,28 +85,22 @@ from_all f s who h =
     ap₂ or_else (none_from f s who DriftFitsJump (h DriftFitsJump))
     (ap₂ or_else (none_from f s who BitIsThereAtSample (h BitIsThereAtSample)) (none_from f s who NoBitTooEarly (h NoBitTooEarly)))
 
-asked : (i j : ℕ) → i ≢ j → not (i == j) ≡ true
-asked i j h = ap not (ne_eqb i j h)
-
-unlike : (i j : ℕ) → not (i == j) ≡ true → i ≢ j
-unlike i j h e = (let same = ap not (eq-eqb i j e) in cc)
-
 sound_from : (f : Buses) (s : Setting) → ((e : Inequality) → Fits f s Any e) → IsSound (bus_of f s)
 unfolding Fits
 sound_from f s h = record {
-  drift_fits_jump = λ i j bi bj ne. h DriftFitsJump i j bi bj (asked i j ne);
-  bit_is_there_at_sample = λ i j bi bj. h BitIsThereAtSample i j bi bj refl;
-  no_bit_too_early = λ i j bi bj ne. h NoBitTooEarly i j bi bj (asked i j ne);
+  drift_fits_jump = λ i j bi bj asked. h DriftFitsJump i j bi bj asked;
+  bit_is_there_at_sample = λ i j bi bj asked. h BitIsThereAtSample i j bi bj asked;
+  no_bit_too_early = λ i j bi bj asked. h NoBitTooEarly i j bi bj asked;
 }
 
 from_sound : (f : Buses) (s : Setting) → IsSound (bus_of f s) → (e : Inequality) → Fits f s Any e
 unfolding Fits
 from_sound f s h e =
-    elim e as (λ v. (i j : ℕ) → i < length f.members → j < length f.members → is_asked v i j ≡ true
+    elim e as (λ v. (i j : ℕ) → i < length f.members → j < length f.members → is_asked (only_listens f.cable) v i j ≡ true
     → left_by f s Any v i j ≤ right_of (bus_of f s) v i j) [
-      | DriftFitsJump ↦ (λ i j bi bj a. h.drift_fits_jump i j bi bj (unlike i j a))
-      | BitIsThereAtSample ↦ (λ i j bi bj a. h.bit_is_there_at_sample i j bi bj)
-      | NoBitTooEarly ↦ (λ i j bi bj a. h.no_bit_too_early i j bi bj (unlike i j a))
+      | DriftFitsJump ↦ (λ i j bi bj a. h.drift_fits_jump i j bi bj a)
+      | BitIsThereAtSample ↦ (λ i j bi bj a. h.bit_is_there_at_sample i j bi bj a)
+      | NoBitTooEarly ↦ (λ i j bi bj a. h.no_bit_too_early i j bi bj a)
     ]
 
 -- the time that there is doesn't rest on who sends

@@ -1,5 +1,5 @@
 -- The condition for a sound bus: three inequalities for each pair of nodes. This project's; what is taken from public texts is named.
-use Rattle.std.specs.Prelude.{◌≢◌, ℕ, ◌+◌, ◌-◌, ◌*◌, ◌<◌, ◌≤◌, ◌==◌, ◌&&◌, nat_lt, not, min, Bool, true, length, Option, Some, None, if◌then◌else◌}
+use Rattle.std.specs.Prelude.{◌≡◌, ℕ, ◌+◌, ◌-◌, ◌*◌, ◌<◌, ◌≤◌, ◌==◌, ◌&&◌, ◌||◌, nat_lt, not, min, Bool, true, length, Option, Some, None, if◌then◌else◌}
 use Rattle.std.specs.Option.{is_some}
 use Rattle.wl_level.specs.Places.{first_place}
 use Rattle.wl_segments.specs.Lengths.{sample_at}
@@ -11,7 +11,7 @@ use Rattle.wl_bound.specs.declared.condition.Senders.{Senders}
 use Rattle.wl_bound.specs.declared.condition.Senders.TheVariants.{Any, One}
 use Rattle.wl_bound.specs.declared.family.Setting.{Setting}
 use Rattle.wl_bound.specs.declared.family.Source.TheVariants.{Together, Alone}
-use Rattle.wl_bound.specs.Families.{Buses, Bus, bus_of, member_at}
+use Rattle.wl_bound.specs.Families.{Buses, Bus, bus_of, member_at, only_listens}
 use Rattle.wl_bound.specs.Terms.{greatest, drift, jump, look, early, apart, late, strays}
 
 -- What takes time. Ten bits of drift: stuffing gives an edge every ten bits at least (Bosch CAN 2.0 part B, section 10).
@@ -26,24 +26,27 @@ right_of b DriftFitsJump i j = min (jump b i) (jump b j)
 right_of b BitIsThereAtSample i j = sample_at (b.lengths i) * b.shortest i
 right_of b NoBitTooEarly i j = (b.lengths i).ps2 * b.shortest i
 
--- A node is no pair, but for its own bit, which must be back at its sample.
-abbrev pub is_asked : Inequality → ℕ → ℕ → Bool
-is_asked DriftFitsJump i j = not (i == j)
-is_asked BitIsThereAtSample i j = true
-is_asked NoBitTooEarly i j = not (i == j)
+-- Of which pairs an inequality is asked. A node is no pair, but for its own bit, which must be back at its sample. What a node drives that only
+-- listens comes back to itself and to no other node (ISO 11898-1, bus monitoring): it keeps up with the others, and they needn't with its bits.
+abbrev pub is_asked : (ℕ → Bool) → Inequality → ℕ → ℕ → Bool
+is_asked listens DriftFitsJump i j = not (i == j) && not (listens i && listens j)
+is_asked listens BitIsThereAtSample i j = i == j || not (listens j)
+is_asked listens NoBitTooEarly i j = not (i == j) && not (listens j)
 
--- The condition for one bus.
+-- The condition for one bus, for each pair of which an inequality is asked.
 pub record IsSound (b : Bus) : Type 0 where
   -- Ten bits of drift are within the jump width of both nodes. Else an edge doesn't put right what has gathered since the one before, and the nodes
   -- drift apart over a frame (Bosch CAN 2.0 part B, section 10; Hartwich and Bassemir, The configuration of the CAN bit timing).
-  pub drift_fits_jump : (i j : ℕ) → i < b.nodes → j < b.nodes → i ≢ j → left_of b DriftFitsJump i j ≤ right_of b DriftFitsJump i j
+  pub drift_fits_jump : (i j : ℕ) → i < b.nodes → j < b.nodes → is_asked b.listens DriftFitsJump i j ≡ true
+      → left_of b DriftFitsJump i j ≤ right_of b DriftFitsJump i j
   -- There and back, the looks, and eleven bits of drift are within the way to the sample. Else a node samples before the other's bit has come: it
   -- takes a recessive bit for a dominant one or the other way round, in an arbitration or at an acknowledgement (Hartwich and Bassemir: PROP_SEG).
-  pub bit_is_there_at_sample : (i j : ℕ) → i < b.nodes → j < b.nodes
+  pub bit_is_there_at_sample : (i j : ℕ) → i < b.nodes → j < b.nodes → is_asked b.listens BitIsThereAtSample i j ≡ true
       → left_of b BitIsThereAtSample i j ≤ right_of b BitIsThereAtSample i j
   -- The look, ten bits of drift and a tick are within PHASE_SEG2. Else the next bit of a fast node, or its acknowledgement, comes before the
   -- sample of the bit in front of it (Hartwich and Bassemir: the Phase_Seg2 of a late sampler; the look is this project's).
-  pub no_bit_too_early : (i j : ℕ) → i < b.nodes → j < b.nodes → i ≢ j → left_of b NoBitTooEarly i j ≤ right_of b NoBitTooEarly i j
+  pub no_bit_too_early : (i j : ℕ) → i < b.nodes → j < b.nodes → is_asked b.listens NoBitTooEarly i j ≡ true
+      → left_of b NoBitTooEarly i j ≤ right_of b NoBitTooEarly i j
 
 -- the left side for all senders at once, or the greatest for each of them alone
 abbrev pub left_by : Buses → Setting → Senders → Inequality → ℕ → ℕ → ℕ
@@ -57,7 +60,7 @@ sides_in f s senders inequality i j = record { left = left_by f s senders inequa
 -- an inequality fails for a pair
 abbrev pub fails : Buses → Setting → Senders → Inequality → ℕ → ℕ → Bool
 fails f s senders inequality i j =
-    is_asked inequality i j && nat_lt (right_of (bus_of f s) inequality i j) (left_by f s senders inequality i j)
+    is_asked (only_listens f.cable) inequality i j && nat_lt (right_of (bus_of f s) inequality i j) (left_by f s senders inequality i j)
 
 -- it fails for node i and some other
 abbrev pub fails_at : Buses → Setting → Senders → Inequality → ℕ → Bool

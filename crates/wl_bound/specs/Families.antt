@@ -59,6 +59,11 @@ pub record Bus : Type 0 where
   pub lengths : ℕ → Lengths
   pub sends : ℕ → Bool
   pub delay : ℕ → ℕ → ℕ
+  pub listens : ℕ → Bool
+
+-- a node that only listens: what it drives reaches no other node (ISO 11898-1, bus monitoring)
+abbrev pub only_listens : Cable → ℕ → Bool
+only_listens cable i = (place_at cable i).listens
 
 -- how many ticks a level takes along the cable between two nodes, without the nodes' own
 abbrev pub way_between : Cable → ℕ → ℕ → ℕ
@@ -114,4 +119,5 @@ bus_of f s = record {
   lengths = lengths_in f s;
   sends = sends_in f s;
   delay = delay_in f s;
+  listens = only_listens f.cable;
 }

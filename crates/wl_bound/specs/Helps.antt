@@ -10,7 +10,7 @@ use Rattle.wl_bound.specs.declared.family.Change.TheVariants.{WiderJump, Narrowe
 use Rattle.wl_bound.specs.declared.family.Setting.{Setting}
 use Rattle.wl_bound.specs.declared.help.Reserve.{Reserve}
 use Rattle.wl_bound.specs.declared.help.Best.{Best}
-use Rattle.wl_bound.specs.Families.{Buses, bus_of, changed, member_at}
+use Rattle.wl_bound.specs.Families.{Buses, bus_of, changed, member_at, only_listens}
 use Rattle.wl_bound.specs.Terms.{greatest}
 use Rattle.wl_bound.specs.Searches.{each}
 use Rattle.wl_bound.specs.Conditions.{is_asked, left_by, plain, right_of}
@@ -33,10 +33,10 @@ spare_at f s senders inequality i j = right_of (bus_of f s) inequality i j - lef
 
 -- the same of the worst pair with node i, and of the worst pair of all
 abbrev pub lack_row : Buses → Setting → Senders → Inequality → ℕ → ℕ
-lack_row f s senders inequality i = greatest (length f.members) (is_asked inequality i) (lack_at f s senders inequality i)
+lack_row f s senders inequality i = greatest (length f.members) (is_asked (only_listens f.cable) inequality i) (lack_at f s senders inequality i)
 
 abbrev pub spare_row : Buses → Setting → Senders → Inequality → ℕ → ℕ
-spare_row f s senders inequality i = least (length f.members) (is_asked inequality i) (spare_at f s senders inequality i)
+spare_row f s senders inequality i = least (length f.members) (is_asked (only_listens f.cable) inequality i) (spare_at f s senders inequality i)
 
 abbrev pub reserve_of : Buses → Setting → Senders → Inequality → Reserve
 reserve_of f s senders inequality = record {

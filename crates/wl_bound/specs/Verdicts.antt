@@ -17,10 +17,10 @@ use Rattle.wl_plan.specs.PlanLine.{setup_at}
 use Rattle.wl_bound.specs.declared.condition.Failure.{Failure}
 use Rattle.wl_bound.specs.declared.condition.Senders.TheVariants.{Any, One}
 use Rattle.wl_bound.specs.declared.verdict.Outside.{Outside}
-use Rattle.wl_bound.specs.declared.verdict.Outside.TheVariants.{FewNodes, NoFrames, NotByTheBook, SameIdentifier, NobodyIdle}
+use Rattle.wl_bound.specs.declared.verdict.Outside.TheVariants.{FewNodes, NoFrames, ListenerSends, NobodyAcknowledges, NotByTheBook, SameIdentifier, NobodyIdle}
 use Rattle.wl_bound.specs.declared.verdict.Verdict.{Verdict}
 use Rattle.wl_bound.specs.declared.verdict.Verdict.TheVariants.{ForAny, ForOne, DoesNotHold, NoBound}
-use Rattle.wl_bound.specs.Families.{Buses}
+use Rattle.wl_bound.specs.Families.{Buses, only_listens}
 use Rattle.wl_bound.specs.Conditions.{plain, first_failure_of}
 
 abbrev pub is_after : SyncRules → Bool
@@ -48,11 +48,15 @@ abbrev pub is_ready_from : NodeSetup → List Queued → ℕ → Bool
 is_ready_from node [] t = true
 is_ready_from node (first ∷ later) t = not (nat_lt (tick_of node.clock first.ready) t)
 
--- some other node is idle if the first frame of node i becomes ready
+-- another node acknowledges: it doesn't only listen (ISO 11898-1, bus monitoring)
+abbrev pub acknowledges : Plan → ℕ → ℕ → Bool
+acknowledges plan i j = not (j == i) && not (only_listens plan.topology j)
+
+-- some node that acknowledges is idle if the first frame of node i becomes ready
 abbrev pub finds_one_idle : Plan → ℕ → Bool
 finds_one_idle plan i =
     any_below (length plan.nodes)
-    (λ j. not (j == i) && is_ready_from (setup_at plan i) (setup_at plan i).queue (idle_at (setup_at plan j)))
+    (λ j. acknowledges plan i j && is_ready_from (setup_at plan i) (setup_at plan i).queue (idle_at (setup_at plan j)))
 
 -- what lies outside, node by node
 abbrev pub without_book : Plan → ℕ → Bool
@@ -69,6 +73,14 @@ finds_nobody_idle plan i = not (finds_one_idle plan i)
 
 abbrev pub sends_something : Plan → ℕ → Bool
 sends_something plan i = has_frames (setup_at plan i)
+
+-- a node that only listens has frames, which no other node ever hears
+abbrev pub listener_sends : Plan → ℕ → Bool
+listener_sends plan i = only_listens plan.topology i && sends_something plan i
+
+-- a node has frames, and every other node only listens (Bosch CAN 2.0 part B, section 3.2.1: a frame that nobody acknowledges is an error)
+abbrev pub is_unacknowledged : Plan → ℕ → Bool
+is_unacknowledged plan i = sends_something plan i && not (any_below (length plan.nodes) (acknowledges plan i))
 
 -- the pair of nodes with one identifier, if there is one
 abbrev pub pair_at : ℕ → Option ℕ → Option Outside
@@ -88,14 +100,21 @@ abbrev pub at_node : (ℕ → Outside) → Option ℕ → Option Outside
 at_node name None = None
 at_node name (Some i) = Some (name i)
 
+-- what nodes that only listen spoil
+abbrev pub of_listeners : Plan → Option Outside
+of_listeners plan =
+    or_cause (at_node ListenerSends (first_place (listener_sends plan) (length plan.nodes)))
+    (at_node NobodyAcknowledges (first_place (is_unacknowledged plan) (length plan.nodes)))
+
 -- the first cause, in their order
 abbrev pub outside_of : Plan → Option Outside
 outside_of plan =
     if nat_lt (length plan.nodes) 2 then Some FewNodes
     else if not (any_below (length plan.nodes) (sends_something plan)) then Some NoFrames
-    else or_cause (at_node NotByTheBook (first_place (without_book plan) (length plan.nodes)))
+    else or_cause (of_listeners plan)
+    (or_cause (at_node NotByTheBook (first_place (without_book plan) (length plan.nodes)))
     (or_cause (pair_in plan (first_place (shares plan) (length plan.nodes)))
-    (at_node NobodyIdle (first_place (finds_nobody_idle plan) (length plan.nodes))))
+    (at_node NobodyIdle (first_place (finds_nobody_idle plan) (length plan.nodes)))))
 
 abbrev pub for_one : Option Failure → Verdict
 for_one None = ForOne

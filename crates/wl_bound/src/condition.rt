@@ -2,7 +2,7 @@
 ghost use Rattle.std.specs.Prelude.{◌≡◌, ◌^◌, ◌<◌, length, IfSome};
 ghost use Rattle.wl_level.specs.Places.{first_place};
 ghost use Rattle.wl_topology.specs.Driven.{any_below};
-ghost use Rattle.wl_bound.specs.Families.{bus_of, member_at};
+ghost use Rattle.wl_bound.specs.Families.{bus_of, member_at, only_listens};
 ghost use Rattle.wl_bound.specs.declared.condition.Senders.TheVariants.{One};
 ghost use Rattle.wl_bound.specs.Conditions.{failure_of, fails, fails_at, first_failure_of, is_asked, left_by, left_of, plain, right_of, sides_in, pair_failure};
 
@@ -71,7 +71,21 @@ impl Family {
         self.sides_by(PLAIN, senders, inequality, i, j)
     }
 
-    /// What goes wrong for nodes `i` and `j` by one inequality. None if it holds for them, or isn't asked of a node and itself.
+    /// Whether an inequality is asked of nodes `i` and `j`. Of a node and itself it is only whether its own bit is back at its sample. Of a node `j`
+    /// that only listens nothing reaches node `i`, so its bits needn't come to `i` in time. The drift of two such nodes isn't asked either.
+    pub fn is_asked(&self, inequality: Inequality, i: u8, j: u8) -> bool
+        requires one { i < length self.now.members }
+        requires other { j < length self.now.members }
+        ensures { result ≡ is_asked (only_listens self.now.cable) inequality i j }
+    {
+        match inequality {
+            Inequality::DriftFitsJump => i != j && !(self.listens(i, j) && self.listens(j, i)),
+            Inequality::BitIsThereAtSample => i == j || !self.listens(j, i),
+            Inequality::NoBitTooEarly => i != j && !self.listens(j, i),
+        }
+    }
+
+    /// What goes wrong for nodes `i` and `j` by one inequality. None if it holds for them, or isn't asked of them.
     pub fn pair_failure(
         &self,
         senders: Senders,
@@ -210,7 +224,7 @@ impl Family {
         requires other { j < length self.now.members }
         ensures { result ≡ fails self.now setting senders inequality i j }
     {
-        if !is_asked(inequality, i, j) {
+        if !self.is_asked(inequality, i, j) {
             return false;
         }
         let sides = self.sides_by(setting, senders, inequality, i, j);
@@ -286,15 +300,5 @@ impl Family {
             return Some(failure);
         }
         self.failure(setting, senders, Inequality::NoBitTooEarly)
-    }
-}
-
-/// Whether an inequality is asked of a pair: of a node and itself only whether its own bit is back.
-pub(crate) fn is_asked(inequality: Inequality, i: u8, j: u8) -> bool
-    ensures { result ≡ is_asked inequality i j }
-{
-    match inequality {
-        Inequality::BitIsThereAtSample => true,
-        Inequality::DriftFitsJump | Inequality::NoBitTooEarly => i != j,
     }
 }

@@ -1,7 +1,7 @@
 //! Families of buses: what of a plan the condition is about.
-ghost use Rattle.std.specs.Prelude.{◌≡◌, ◌^◌, ◌<◌, ◌≤◌, ◌++◌, length, IfOk, OnOk};
+ghost use Rattle.std.specs.Prelude.{◌≡◌, ◌≢◌, ◌^◌, ◌<◌, ◌≤◌, ◌++◌, length, IfOk, OnOk};
 ghost use Rattle.wl_plan.specs.Checked.{IsChecked};
-ghost use Rattle.wl_bound.specs.Families.{Buses, IsFamily, bus_of, changed, delay_in, family_of, lengths_in, longest_in, member_at, member_of, members_of, sends_in, shortest_in, units, way_between};
+ghost use Rattle.wl_bound.specs.Families.{Buses, IsFamily, bus_of, changed, delay_in, family_of, lengths_in, longest_in, member_at, member_of, members_of, only_listens, sends_in, shortest_in, units, way_between};
 
 use crate::oscillator::Oscillator;
 use std::alloc::{AllocError, Global};
@@ -131,6 +131,16 @@ impl Family {
         members[place]
     }
 
+    /// Whether node `i` only listens, so that nothing of what it drives reaches the other node.
+    pub(crate) fn listens(&self, i: u8, other: u8) -> bool
+        requires one { i < length self.now.members }
+        requires beside { other < length self.now.members }
+        requires apart { i ≢ other }
+        ensures { result ≡ only_listens self.now.cable i }
+    {
+        only_listens(&self.cable, i, other)
+    }
+
     /// The ticks that a level takes along one unit of length.
     pub(crate) fn per(&self) -> u128
         ensures { result ≡ self.now.cable.per }
@@ -220,6 +230,16 @@ impl Family {
         let more = setting.longer as u128 * self.way_between(i, j) as u128;
         1_000_000 * (nominal + more)
     }
+}
+
+/// Whether node `i` of a cable only listens: nothing of what it drives reaches the other node (ISO 11898-1, bus monitoring).
+pub fn only_listens(cable: &Topology, i: u8, other: u8) -> bool
+    requires one { i < length cable.now.places }
+    requires beside { other < length cable.now.places }
+    requires apart { i ≢ other }
+    ensures { result ≡ only_listens cable.now i }
+{
+    cable.propagation(i, other) < cable.delay(i, other)
 }
 
 /// A node and its oscillator.

@@ -1,9 +1,8 @@
 //! Which change by a quantum helps most.
 ghost use Rattle.std.specs.Prelude.{◌≡◌, ◌^◌, ◌<◌, ◌≤◌, length};
-ghost use Rattle.wl_bound.specs.Conditions.{is_asked};
 ghost use Rattle.wl_bound.specs.Helps.{best_change, is_greater, is_possible, lack_row, or_better, reserve_in, reserve_of, spare_row, worse_of};
 
-use crate::condition::{Inequality, PLAIN, Senders, is_asked};
+use crate::condition::{Inequality, PLAIN, Senders};
 use crate::family::{Change, Family, Setting};
 
 /// More than any margin.
@@ -104,7 +103,7 @@ impl Family {
     {
         let mut lack = 0;
         for j in 0..self.nodes() {
-            if is_asked(inequality, i, j) {
+            if self.is_asked(inequality, i, j) {
                 let sides = self.sides_by(setting, senders, inequality, i, j);
                 lack = lack.max(sides.left.saturating_sub(sides.right));
             }
@@ -119,7 +118,7 @@ impl Family {
     {
         let mut spare = NO_MARGIN;
         for j in 0..self.nodes() {
-            if is_asked(inequality, i, j) {
+            if self.is_asked(inequality, i, j) {
                 let sides = self.sides_by(setting, senders, inequality, i, j);
                 spare = spare.min(sides.right.saturating_sub(sides.left));
             }

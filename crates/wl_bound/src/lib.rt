@@ -15,7 +15,7 @@ mod terms;
 mod verdict;
 
 pub use condition::{Failure, Inequality, Senders, Sides};
-pub use family::{Change, Family, Member};
+pub use family::{Change, Family, Member, only_listens};
 pub use laws::{condition_laws, search_laws};
 pub use oscillator::Oscillator;
 pub use verdict::{Outside, Verdict, cause_outside, first_without_book, judge};

@@ -5,10 +5,11 @@ ghost use Rattle.wl_level.specs.Places.{first_place};
 ghost use Rattle.wl_topology.specs.Driven.{any_below};
 ghost use Rattle.wl_plan.specs.Checked.{IsChecked};
 ghost use Rattle.wl_plan.specs.PlanLine.{setup_at};
-ghost use Rattle.wl_bound.specs.Verdicts.{finds_nobody_idle, finds_one_idle, has_frames, has_same_field, idle_at, is_after, is_ready_from, outside_of, pair_in, sends_something, share_field, shares, shares_with, verdict_of, without_book};
+ghost use Rattle.wl_bound.specs.Families.{only_listens};
+ghost use Rattle.wl_bound.specs.Verdicts.{acknowledges, finds_nobody_idle, finds_one_idle, has_frames, has_same_field, idle_at, is_after, is_ready_from, is_unacknowledged, listener_sends, of_listeners, outside_of, pair_in, sends_something, share_field, shares, shares_with, verdict_of, without_book};
 
 use crate::condition::{Failure, Senders};
-use crate::family::Family;
+use crate::family::{Family, only_listens};
 use wl_frame::frame::Frame;
 use wl_node::NodeSetup;
 use wl_plan::Plan;
@@ -21,13 +22,17 @@ pub enum Outside {
     FewNodes,
     /// No frame waits at any node.
     NoFrames,
+    /// This node only listens, and frames wait at it. No other node ever hears them.
+    ListenerSends(u8),
+    /// Frames wait at this node, and every other node only listens: nobody acknowledges them.
+    NobodyAcknowledges(u8),
     /// This node's rules of synchronisation are `After`. No such condition is known for them: a node that has decided to send isn't moved by another's
     /// start of frame beyond its jump width, and an edge in the sample's quantum is lost.
     NotByTheBook(u8),
     /// Two frames of these nodes have one identifier, format and RTR bit, so no arbitration parts them.
     SameIdentifier(u8, u8),
-    /// The first frame of this node becomes ready before any other node has seen the 11 recessive bits that make it idle: nobody may be there to
-    /// acknowledge it.
+    /// The first frame of this node becomes ready before any other node that acknowledges has seen the 11 recessive bits that make it idle: nobody
+    /// may be there to acknowledge it.
     NobodyIdle(u8),
 }
 
@@ -74,6 +79,9 @@ pub fn cause_outside(plan: &Plan) -> Option<Outside>
     if !any_frames(plan) {
         return Some(Outside::NoFrames);
     }
+    if let Some(cause) = first_of_listeners(plan) {
+        return Some(cause);
+    }
     if let Some(i) = first_without_book(plan) {
         return Some(Outside::NotByTheBook(i));
     }
@@ -84,6 +92,76 @@ pub fn cause_outside(plan: &Plan) -> Option<Outside>
         Some(i) => Some(Outside::NobodyIdle(i)),
         None => None,
     }
+}
+
+/// What nodes that only listen spoil: frames of such a node, or frames that nobody acknowledges.
+fn first_of_listeners(plan: &Plan) -> Option<Outside>
+    requires checked { IsChecked plan.now }
+    requires two { 2 ≤ length plan.now.nodes }
+    ensures { result ≡ of_listeners plan.now }
+{
+    if let Some(i) = first_listener_that_sends(plan) {
+        return Some(Outside::ListenerSends(i));
+    }
+    match first_unacknowledged(plan) {
+        Some(i) => Some(Outside::NobodyAcknowledges(i)),
+        None => None,
+    }
+}
+
+/// Whether node `i` of a plan only listens.
+fn listens(plan: &Plan, i: u8) -> bool
+    requires checked { IsChecked plan.now }
+    requires two { 2 ≤ length plan.now.nodes }
+    requires node { i < length plan.now.nodes }
+    ensures { result ≡ only_listens plan.now.topology i }
+{
+    let other = if i == 0 { 1 } else { 0 };
+    only_listens(&plan.topology, i, other)
+}
+
+/// The first node that only listens and at which frames wait.
+fn first_listener_that_sends(plan: &Plan) -> Option<u8>
+    requires checked { IsChecked plan.now }
+    requires two { 2 ≤ length plan.now.nodes }
+    ensures { result ≡ first_place (listener_sends plan.now) (length plan.now.nodes) }
+{
+    let mut first = None;
+    for i in 0..plan.topology.nodes() {
+        if first.is_none() && listens(plan, i) && has_frames(setup(plan, i)) {
+            first = Some(i);
+        }
+    }
+    first
+}
+
+/// Whether some other node than `i` doesn't only listen.
+fn is_acknowledged(plan: &Plan, i: u8) -> bool
+    requires checked { IsChecked plan.now }
+    requires two { 2 ≤ length plan.now.nodes }
+    requires node { i < length plan.now.nodes }
+    ensures { result ≡ any_below (length plan.now.nodes) (acknowledges plan.now i) }
+{
+    let mut is = false;
+    for j in 0..plan.topology.nodes() {
+        is = is || j != i && !listens(plan, j);
+    }
+    is
+}
+
+/// The first node at which frames wait that nobody acknowledges.
+fn first_unacknowledged(plan: &Plan) -> Option<u8>
+    requires checked { IsChecked plan.now }
+    requires two { 2 ≤ length plan.now.nodes }
+    ensures { result ≡ first_place (is_unacknowledged plan.now) (length plan.now.nodes) }
+{
+    let mut first = None;
+    for i in 0..plan.topology.nodes() {
+        if first.is_none() && has_frames(setup(plan, i)) && !is_acknowledged(plan, i) {
+            first = Some(i);
+        }
+    }
+    first
 }
 
 /// Node `i` of a plan.
@@ -234,22 +312,27 @@ fn is_ready_from(node: &NodeSetup, t: u64) -> bool
     }
 }
 
-/// Whether some other node is idle if the first frame of node `i` becomes ready.
+/// Whether some other node that acknowledges is idle if the first frame of node `i` becomes ready.
 fn finds_one_idle(plan: &Plan, i: u8) -> bool
     requires checked { IsChecked plan.now }
+    requires two { 2 ≤ length plan.now.nodes }
     requires node { i < length plan.now.nodes }
     ensures { result ≡ finds_one_idle plan.now i }
 {
     let mut finds = false;
     for j in 0..plan.topology.nodes() {
-        finds = finds || j != i && is_ready_from(setup(plan, i), idle_at(setup(plan, j)));
+        finds = finds
+            || j != i
+                && !listens(plan, j)
+                && is_ready_from(setup(plan, i), idle_at(setup(plan, j)));
     }
     finds
 }
 
 /// The first node whose first frame may find nobody idle.
 fn first_unheard(plan: &Plan) -> Option<u8>
-    requires { IsChecked plan.now }
+    requires checked { IsChecked plan.now }
+    requires two { 2 ≤ length plan.now.nodes }
     ensures { result ≡ first_place (finds_nobody_idle plan.now) (length plan.now.nodes) }
 {
     let mut first = None;

@@ -29,7 +29,7 @@ abbrev book_lengths : ℕ → ℕ → ℕ → ℕ → Lengths
 book_lengths prop ps1 ps2 sjw = record { prop = prop; ps1 = ps1; ps2 = ps2; sjw = sjw; sync = Book }
 
 abbrev metre_place : ℕ → Place
-metre_place x = record { x = x; out_delay = 120; in_delay = 130 }
+metre_place x = record { x = x; out_delay = 120; in_delay = 130; listens = false }
 
 abbrev like_node : Lengths → Pace → Bool → Member
 like_node l p sends = record { oscillator = p; segments = l; sends = sends }

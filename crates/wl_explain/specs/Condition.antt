@@ -13,7 +13,7 @@ use Rattle.wl_bound.specs.declared.condition.Inequality.TheVariants.{DriftFitsJu
 use Rattle.wl_bound.specs.declared.condition.Failure.{Failure}
 use Rattle.wl_bound.specs.declared.condition.Senders.TheVariants.{Any, One}
 use Rattle.wl_bound.specs.declared.verdict.Outside.{Outside}
-use Rattle.wl_bound.specs.declared.verdict.Outside.TheVariants.{FewNodes, NoFrames, NotByTheBook, SameIdentifier, NobodyIdle}
+use Rattle.wl_bound.specs.declared.verdict.Outside.TheVariants.{FewNodes, NoFrames, ListenerSends, NobodyAcknowledges, NotByTheBook, SameIdentifier, NobodyIdle}
 use Rattle.wl_bound.specs.Families.{Buses, family_of, member_at}
 use Rattle.wl_bound.specs.Oscillators.{Pace, shortest_of, longest_of}
 use Rattle.wl_bound.specs.Conditions.{plain, pair_failure}
@@ -28,6 +28,8 @@ use Rattle.wl_explain.specs.Words.{bit_rate, unlike_words, doubts_with, node_dou
 abbrev pub doubt_lead : Outside → List ℕ
 doubt_lead FewNodes = codes "doubt: "
 doubt_lead NoFrames = codes "doubt: no bound is known: "
+doubt_lead (ListenerSends i) = codes "doubt: "
+doubt_lead (NobodyAcknowledges i) = codes "doubt: "
 doubt_lead (NotByTheBook i) = codes "doubt: no bound is known: "
 doubt_lead (SameIdentifier i j) = codes "doubt: "
 doubt_lead (NobodyIdle i) = codes "doubt: "

@@ -125,7 +125,7 @@ plan_subject top plan.Nodes = subject_words top Top (key.Node ∷ [])
 plan_subject top plan.End = subject_words top Top (key.End ∷ [])
 plan_subject top (plan.Quanta i) = quanta_words top i
 plan_subject top (plan.Queue i) = subject_words top (Node i) (key.Frame ∷ [])
-plan_subject top (plan.Disturbance n) = subject_words top (Disturbance n) (key.X ∷ key.From ∷ key.To ∷ [])
+plan_subject top (plan.Disturbance n) = subject_words top (Disturbance n) (key.X ∷ key.AtNode ∷ key.From ∷ key.To ∷ [])
 
 -- the table in which the first fault of keys stands, and there a key that is missing, or one with its value
 abbrev pub fault_spot : Members → Spot

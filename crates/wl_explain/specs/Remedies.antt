@@ -21,12 +21,13 @@ missing_remedy key =
     if bytes_eq key (codes "version") then codes "Pass a plan on standard input, with `version = 1` at its top."
     else if bytes_eq key (codes "num") then codes "Give it `quantum` and `ppm`, or `num` and `den`."
     else if bytes_eq key (codes "rates") then codes "Give each node its rates, as `rates = [{ from = 0, num = 100, den = 1 }]`."
+    else if bytes_eq key (codes "every") then codes "Give `every` beside `count`: the quanta from one instance to the next."
     else codes "Add the key to the table that lacks it, or correct its spelling there."
 
 -- what to change where a key is of another kind
 abbrev pub kind_remedy : List ℕ → List ℕ
 kind_remedy key =
-    if bytes_eq key (codes "version") then codes "Set `version = 1` or `version = 2`."
+    if bytes_eq key (codes "version") then codes "Set `version = 1`, `version = 2` or `version = 3`."
     else if bytes_eq key (codes "end") then codes "Give `end` as a whole number of ticks, up to 281,474,976,710,655."
     else if bytes_eq key (codes "name") then codes "Give `name` as 1 to 32 ASCII letters, digits, `_` or `-`."
     else if bytes_eq key (codes "x") then codes "Give `x` as a whole number from 0 to 2,147,483,647; choose a smaller unit of length for parts of one."
@@ -38,10 +39,13 @@ kind_remedy key =
     else if bytes_eq key (codes "remote") then codes "Write `remote = true`, or leave the key out."
     else if bytes_eq key (codes "extended") then codes "Write `extended = true`, or leave the key out."
     else if bytes_eq key (codes "bytes") then codes "Give `bytes` as an array of numbers from 0 to 255."
-    else if bytes_eq key (codes "node") then codes "Write each node under a header `[[node]]`."
+    else if bytes_eq key (codes "node") then codes "Write each node under a header `[[node]]`; of a disturbance give `node` as a name."
     else if bytes_eq key (codes "rates") then codes "Write each rate under a header `[[node.rates]]`."
     else if bytes_eq key (codes "frame") then codes "Write each frame under a header `[[node.frame]]`."
     else if bytes_eq key (codes "disturbance") then codes "Write each disturbance under a header `[[disturbance]]`."
+    else if bytes_eq key (codes "every") then codes "Give `every` as a whole number of quanta, from 1 on."
+    else if bytes_eq key (codes "count") then codes "Give `count` as a whole number, from 1 on."
+    else if bytes_eq key (codes "listen") then codes "Write `listen = true`, or leave the key out."
     else codes "Give the key a whole number from 0 to 281,474,976,710,655; choose a smaller tick for parts of one, or `num` and `den` for a quantum."
 
 -- what to change where a key is not one of its table
@@ -52,6 +56,11 @@ unknown_remedy key =
     else if bytes_eq key (codes "ppm") then codes "Remove `ppm`, or give `quantum` in the place of `num` and `den`; in version 2 put them into a rate."
     else if bytes_eq key (codes "quantum") then codes "Put `quantum` and `ppm` into a rate."
     else if bytes_eq key (codes "rates") then codes "Set `version = 2`, and remove the node's own clock keys."
+    else if bytes_eq key (codes "every") then codes "Put the key into a frame of a plan with `version = 3`, or remove it."
+    else if bytes_eq key (codes "count") then codes "Put the key into a frame of a plan with `version = 3`, or remove it."
+    else if bytes_eq key (codes "listen") then codes "Put the key into a node of a plan with `version = 3`, or remove it."
+    else if bytes_eq key (codes "node") then codes "Set `version = 3`, and give a disturbance `node` or `x`, but not both."
+    else if bytes_eq key (codes "x") then codes "Remove the key; a disturbance has `x` or `node`, but not both."
     else codes "Remove the key, or correct its spelling."
 
 abbrev pub clock_cause : ClockFault → List ℕ
@@ -89,8 +98,8 @@ abbrev pub plan_cause : PlanFault → List ℕ
 plan_cause plan.Nodes = codes "the places are not as many as the nodes"
 plan_cause plan.End = codes "end is above 68,719,476,736 ticks"
 plan_cause (plan.Quanta i) = codes "more quanta begin before end than may"
-plan_cause (plan.Queue i) = codes "more than 64 frames wait"
-plan_cause (plan.Disturbance n) = codes "it ends before it begins, ends too late, is too far from a node, or is one of more than 64"
+plan_cause (plan.Queue i) = codes "more than 64 frames wait, or 4,096 in version 3"
+plan_cause (plan.Disturbance n) = codes "it ends before it begins, ends too late, is too far from a node, names no node, or is one of more than 64"
 
 abbrev pub clock_remedy : ClockFault → List ℕ
 clock_remedy clock.BadPpm = codes "Set `ppm` from -100,000 to 100,000 (a positive one is slow)."
@@ -127,8 +136,8 @@ abbrev pub plan_remedy : PlanFault → List ℕ
 plan_remedy plan.Nodes = codes "Give each node a place."
 plan_remedy plan.End = codes "Set `end` to at most 68,719,476,736."
 plan_remedy (plan.Quanta i) = codes "Lower `end` to at most `offset` + 1,048,576 quanta of that node in ticks (786,432 for `sync = \"book\"` with `prop` and `ps1` of 1)."
-plan_remedy (plan.Queue i) = codes "Keep at most 64 frames a node."
-plan_remedy (plan.Disturbance n) = codes "Give at most 64 disturbances, each with `from` below `to` and near enough to each node."
+plan_remedy (plan.Queue i) = codes "Keep at most 64 frames a node, or 4,096 in version 3."
+plan_remedy (plan.Disturbance n) = codes "Give at most 64 disturbances, each with `from` below `to`, and near enough to each node or at a node of the plan."
 
 -- what is wrong at a fault
 abbrev pub cause : SetupFault → List ℕ
@@ -150,7 +159,7 @@ cause fault.Memory = codes "memory was refused"
 -- what to change at a fault
 abbrev pub remedy : SetupFault → List ℕ
 remedy fault.Toml = codes "Correct the TOML there."
-remedy fault.Version = codes "Set `version = 1`, or `version = 2` for rates that change."
+remedy fault.Version = codes "Set `version = 1`, `version = 2` for rates that change, or `version = 3` for frames that come again, listeners and disturbances at one node."
 remedy (fault.Missing k) = missing_remedy k
 remedy (fault.Kind k) = kind_remedy k
 remedy (fault.Unknown k) = unknown_remedy k

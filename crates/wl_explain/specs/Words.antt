@@ -1,5 +1,5 @@
 -- The words of an explanation: a line for each doubt, and one for the figures of each node (this project's profile).
-use Rattle.std.specs.Prelude.{ℕ, ◌/◌, nat_lt, List, [], ◌∷◌, ◌++◌, codes, if◌then◌else◌, Option, Some, None}
+use Rattle.std.specs.Prelude.{ℕ, ◌/◌, ◌||◌, nat_lt, List, [], ◌∷◌, ◌++◌, codes, if◌then◌else◌, Option, Some, None}
 use Rattle.std.specs.Fmt.{decimal}
 use Rattle.wl_topology.specs.Delays.{propagation_of}
 use Rattle.wl_segments.specs.Lengths.{Lengths}
@@ -7,6 +7,7 @@ use Rattle.wl_node.specs.declared.setup.NodeSetup.{NodeSetup}
 use Rattle.wl_plan.specs.declared.plan.Plan.{Plan}
 use Rattle.wl_plan.specs.PlanLine.{setup_at}
 use Rattle.wl_setup.specs.Names.{name_of}
+use Rattle.wl_bound.specs.Families.{only_listens}
 use Rattle.wl_margin.specs.Pieces.{joined, each_below, thousandths, hundredths}
 use Rattle.wl_explain.specs.Figures.{mean_quantum, picoseconds, bits_per_second, sample_point, furthest_way, longest_cable, metres, tolerance}
 use Rattle.wl_explain.specs.Doubts.{difference, borne, greatest_difference, left, round_trip, longest_round, wanted_bits, idle_from, first_early, first_late, has_no_room}
@@ -40,11 +41,17 @@ trip_words a b trip most =
 abbrev pub trip_line : List ℕ → List ℕ → ℕ → ℕ → List ℕ
 trip_line a b trip most = if nat_lt most trip then trip_words a b trip most else []
 
+-- No level comes back from a node that only listens (ISO 11898-1, bus monitoring).
+abbrev pub way_line : Plan → List (List ℕ) → ℕ → ℕ → List ℕ
+way_line plan names i j =
+    if only_listens plan.topology i || only_listens plan.topology j then []
+    else trip_line (name_of names i) (name_of names j) (round_trip plan i j) (longest_round plan.end (setup_at plan i) (setup_at plan j))
+
 -- what is doubtful of nodes i and j
 abbrev pub pair_doubts : Plan → List (List ℕ) → ℕ → ℕ → List ℕ
 pair_doubts plan names i j =
     clocks_line plan.end (name_of names i) (name_of names j) (setup_at plan i) (setup_at plan j)
-    ++ trip_line (name_of names i) (name_of names j) (round_trip plan i j) (longest_round plan.end (setup_at plan i) (setup_at plan j))
+    ++ way_line plan names i j
 
 -- of the nodes before node j and node j
 abbrev pub doubts_with : Plan → List (List ℕ) → ℕ → List ℕ

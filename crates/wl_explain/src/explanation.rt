@@ -18,6 +18,8 @@ fn doubt_lead(cause: Outside) -> &'static str
     match cause {
         Outside::FewNodes => "doubt: ",
         Outside::NoFrames => "doubt: no bound is known: ",
+        Outside::ListenerSends(_) => "doubt: ",
+        Outside::NobodyAcknowledges(_) => "doubt: ",
         Outside::NotByTheBook(_) => "doubt: no bound is known: ",
         Outside::SameIdentifier(_, _) => "doubt: ",
         Outside::NobodyIdle(_) => "doubt: ",

@@ -292,7 +292,7 @@ fn plan_subject(alloc: Global, top: &Table, fault: PlanFault) -> Result<String, 
             alloc,
             top,
             Spot::Disturbance(n),
-            &[Key::X, Key::From, Key::To],
+            &[Key::X, Key::AtNode, Key::From, Key::To],
         ),
     }
 }

@@ -29,6 +29,7 @@ fn missing_remedy(key: &str) -> &'static str
         "version" => "Pass a plan on standard input, with `version = 1` at its top.",
         "num" => "Give it `quantum` and `ppm`, or `num` and `den`.",
         "rates" => "Give each node its rates, as `rates = [{ from = 0, num = 100, den = 1 }]`.",
+        "every" => "Give `every` beside `count`: the quanta from one instance to the next.",
         _ => "Add the key to the table that lacks it, or correct its spelling there.",
     }
 }
@@ -37,7 +38,7 @@ fn kind_remedy(key: &str) -> &'static str
     ensures { result.now ≡ kind_remedy key.now }
 {
     match key {
-        "version" => "Set `version = 1` or `version = 2`.",
+        "version" => "Set `version = 1`, `version = 2` or `version = 3`.",
         "end" => "Give `end` as a whole number of ticks, up to 281,474,976,710,655.",
         "name" => "Give `name` as 1 to 32 ASCII letters, digits, `_` or `-`.",
         "x" =>
@@ -52,10 +53,14 @@ fn kind_remedy(key: &str) -> &'static str
         "remote" => "Write `remote = true`, or leave the key out.",
         "extended" => "Write `extended = true`, or leave the key out.",
         "bytes" => "Give `bytes` as an array of numbers from 0 to 255.",
-        "node" => "Write each node under a header `[[node]]`.",
+        "node" =>
+            "Write each node under a header `[[node]]`; of a disturbance give `node` as a name.",
         "rates" => "Write each rate under a header `[[node.rates]]`.",
         "frame" => "Write each frame under a header `[[node.frame]]`.",
         "disturbance" => "Write each disturbance under a header `[[disturbance]]`.",
+        "every" => "Give `every` as a whole number of quanta, from 1 on.",
+        "count" => "Give `count` as a whole number, from 1 on.",
+        "listen" => "Write `listen = true`, or leave the key out.",
         _ =>
             "Give the key a whole number from 0 to 281,474,976,710,655; choose a smaller tick for parts of one, or `num` and `den` for a quantum.",
     }
@@ -73,6 +78,11 @@ fn unknown_remedy(key: &str) -> &'static str
             "Remove `ppm`, or give `quantum` in the place of `num` and `den`; in version 2 put them into a rate.",
         "quantum" => "Put `quantum` and `ppm` into a rate.",
         "rates" => "Set `version = 2`, and remove the node's own clock keys.",
+        "every" => "Put the key into a frame of a plan with `version = 3`, or remove it.",
+        "count" => "Put the key into a frame of a plan with `version = 3`, or remove it.",
+        "listen" => "Put the key into a node of a plan with `version = 3`, or remove it.",
+        "node" => "Set `version = 3`, and give a disturbance `node` or `x`, but not both.",
+        "x" => "Remove the key; a disturbance has `x` or `node`, but not both.",
         _ => "Remove the key, or correct its spelling.",
     }
 }
@@ -137,9 +147,9 @@ fn plan_cause(fault: PlanFault) -> &'static str
         PlanFault::Nodes => "the places are not as many as the nodes",
         PlanFault::End => "end is above 68,719,476,736 ticks",
         PlanFault::Quanta(_) => "more quanta begin before end than may",
-        PlanFault::Queue(_) => "more than 64 frames wait",
+        PlanFault::Queue(_) => "more than 64 frames wait, or 4,096 in version 3",
         PlanFault::Disturbance(_) =>
-            "it ends before it begins, ends too late, is too far from a node, or is one of more than 64",
+            "it ends before it begins, ends too late, is too far from a node, names no node, or is one of more than 64",
     }
 }
 
@@ -205,9 +215,9 @@ fn plan_remedy(fault: PlanFault) -> &'static str
         PlanFault::End => "Set `end` to at most 68,719,476,736.",
         PlanFault::Quanta(_) =>
             "Lower `end` to at most `offset` + 1,048,576 quanta of that node in ticks (786,432 for `sync = \"book\"` with `prop` and `ps1` of 1).",
-        PlanFault::Queue(_) => "Keep at most 64 frames a node.",
+        PlanFault::Queue(_) => "Keep at most 64 frames a node, or 4,096 in version 3.",
         PlanFault::Disturbance(_) =>
-            "Give at most 64 disturbances, each with `from` below `to` and near enough to each node.",
+            "Give at most 64 disturbances, each with `from` below `to`, and near enough to each node or at a node of the plan.",
     }
 }
 
@@ -239,7 +249,8 @@ pub(crate) fn remedy(fault: &SetupFault) -> &'static str
 {
     match fault {
         SetupFault::Toml => CORRECT,
-        SetupFault::Version => "Set `version = 1`, or `version = 2` for rates that change.",
+        SetupFault::Version =>
+            "Set `version = 1`, `version = 2` for rates that change, or `version = 3` for frames that come again, listeners and disturbances at one node.",
         SetupFault::Missing(k) => missing_remedy(k.as_str()),
         SetupFault::Kind(k) => kind_remedy(k.as_str()),
         SetupFault::Unknown(k) => unknown_remedy(k.as_str()),

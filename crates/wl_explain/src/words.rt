@@ -1,8 +1,8 @@
 //! The words of an explanation.
-ghost use Rattle.std.specs.Prelude.{◌≡◌, ◌^◌, ◌<◌, ◌++◌, string_bytes, length, OnOk, IfOk};
+ghost use Rattle.std.specs.Prelude.{◌≡◌, ◌≢◌, ◌^◌, ◌<◌, ◌++◌, string_bytes, length, OnOk, IfOk};
 ghost use Rattle.wl_plan.specs.Checked.{IsChecked};
 ghost use Rattle.wl_setup.specs.Names.{name_of};
-ghost use Rattle.wl_explain.specs.Words.{apart_words, bit_rate, cable_figure, cable_words, clocks_line, doubts_with, early_line, figures_line, jump_line, jump_words, late_line, margin_figures, margin_words, node_doubts, pair_doubts, room_doubts, room_line, room_words, timing_figures, timing_words, trip_line, trip_words, unlike_words};
+ghost use Rattle.wl_explain.specs.Words.{apart_words, bit_rate, cable_figure, cable_words, clocks_line, doubts_with, early_line, figures_line, jump_line, jump_words, late_line, margin_figures, margin_words, node_doubts, pair_doubts, room_doubts, room_line, room_words, timing_figures, timing_words, trip_line, trip_words, unlike_words, way_line};
 ghost use Rattle.wl_margin.specs.Pieces.{each_below};
 
 use crate::doubts::{
@@ -11,6 +11,7 @@ use crate::doubts::{
 };
 use crate::{Quantum, longest_cable, metres, sample_point, tolerance};
 use std::alloc::AllocError;
+use wl_bound::only_listens;
 use wl_margin::{Hundredths, Thousandths};
 use wl_node::NodeSetup;
 use wl_plan::Plan;
@@ -113,23 +114,39 @@ fn push_trip(text: &mut String, a: &str, b: &str, trip: u64, most: u64) -> Resul
     }
 }
 
+/// Adds what is doubtful of the way from node `i` to node `j` and back: nothing if one of them only listens, since nothing comes back from it.
+fn push_way(text: &mut String, plan: &Plan, names: &Names, i: u8, j: u8) -> Result<(), AllocError>
+    requires checked { IsChecked plan.now }
+    requires first { i < length plan.now.nodes }
+    requires second { j < length plan.now.nodes }
+    requires apart { i ≢ j }
+    ensures { OnOk result (string_bytes text.new ≡ string_bytes text.old ++ way_line plan.now names.now i j) }
+{
+    if only_listens(&plan.topology, i, j) || only_listens(&plan.topology, j, i) {
+        return Ok(());
+    }
+    let (one, other) = (setup(plan, i), setup(plan, j));
+    push_trip(
+        text,
+        names.name_of(i as usize),
+        names.name_of(j as usize),
+        round_trip(plan, i, j),
+        longest_round(plan.end, one, other),
+    )
+}
+
 /// Adds what is doubtful of nodes `i` and `j`.
 fn push_pair(text: &mut String, plan: &Plan, names: &Names, i: u8, j: u8) -> Result<(), AllocError>
     requires checked { IsChecked plan.now }
     requires first { i < length plan.now.nodes }
     requires second { j < length plan.now.nodes }
+    requires apart { i ≢ j }
     ensures { OnOk result (string_bytes text.new ≡ string_bytes text.old ++ pair_doubts plan.now names.now i j) }
 {
     let (one, other) = (setup(plan, i), setup(plan, j));
     let (a, b) = (names.name_of(i as usize), names.name_of(j as usize));
     push_clocks(text, plan.end, a, b, one, other)?;
-    push_trip(
-        text,
-        a,
-        b,
-        round_trip(plan, i, j),
-        longest_round(plan.end, one, other),
-    )
+    push_way(text, plan, names, i, j)
 }
 
 /// Adds what is doubtful of node `j` with each node before it.

@@ -5,9 +5,9 @@ use Rattle.wl_plan.specs.declared.plan.Plan.{Plan}
 use Rattle.wl_setup.specs.declared.bus.Bus.{Bus}
 use Rattle.wl_setup.specs.declared.bus.Deviation.{Deviation}
 use Rattle.wl_setup.specs.Names.{name_of}
-use Rattle.wl_bound.specs.Families.{Buses, family_of}
+use Rattle.wl_bound.specs.Families.{Buses, family_of, only_listens}
 use Rattle.wl_bound.specs.Oscillators.{Pace, oscillator_of}
-use Rattle.wl_bound.specs.Conditions.{plain, sides_in, first_failure_of}
+use Rattle.wl_bound.specs.Conditions.{first_failure_of, is_asked, plain, sides_in}
 use Rattle.wl_bound.specs.Helps.{best_change}
 use Rattle.wl_bound.specs.declared.family.Change.{Change}
 use Rattle.wl_bound.specs.declared.family.Change.TheVariants.{WiderJump, NarrowerJump, LaterSample, EarlierSample}
@@ -19,7 +19,7 @@ use Rattle.wl_bound.specs.declared.condition.Failure.{Failure}
 use Rattle.wl_bound.specs.declared.condition.Senders.{Senders}
 use Rattle.wl_bound.specs.declared.condition.Senders.TheVariants.{Any, One}
 use Rattle.wl_bound.specs.declared.verdict.Outside.{Outside}
-use Rattle.wl_bound.specs.declared.verdict.Outside.TheVariants.{FewNodes, NoFrames, NotByTheBook, SameIdentifier, NobodyIdle}
+use Rattle.wl_bound.specs.declared.verdict.Outside.TheVariants.{FewNodes, NoFrames, ListenerSends, NobodyAcknowledges, NotByTheBook, SameIdentifier, NobodyIdle}
 use Rattle.wl_bound.specs.declared.verdict.Verdict.{Verdict}
 use Rattle.wl_bound.specs.declared.verdict.Verdict.TheVariants.{ForAny, ForOne, DoesNotHold, NoBound}
 use Rattle.wl_margin.specs.Pieces.{joined, each_below}
@@ -41,10 +41,19 @@ unheard_words a =
     joined (codes "the first frame of " ∷ a
     ∷ codes " becomes ready before any other node is idle, and nobody may acknowledge it\n" ∷ [])
 
+-- frames of a node that only listens, and frames of the one node that doesn't
+abbrev pub mute_words : List ℕ → List ℕ
+mute_words a = joined (a ∷ codes " only listens, and nobody hears the frames that it has\n" ∷ [])
+
+abbrev pub lone_words : List ℕ → List ℕ
+lone_words a = joined (codes "all nodes but " ∷ a ∷ codes " only listen, and nobody acknowledges its frames\n" ∷ [])
+
 -- what is said of a plan outside of the condition, and why
 abbrev pub outside_lead : Outside → List ℕ
 outside_lead FewNodes = codes "does not hold: "
 outside_lead NoFrames = codes "no bound is known: "
+outside_lead (ListenerSends i) = codes "does not hold: "
+outside_lead (NobodyAcknowledges i) = codes "does not hold: "
 outside_lead (NotByTheBook i) = codes "no bound is known: "
 outside_lead (SameIdentifier i j) = codes "does not hold: "
 outside_lead (NobodyIdle i) = codes "does not hold: "
@@ -52,6 +61,8 @@ outside_lead (NobodyIdle i) = codes "does not hold: "
 abbrev pub outside_reason : List (List ℕ) → Outside → List ℕ
 outside_reason names FewNodes = codes "there is one node, and nobody acknowledges its frames\n"
 outside_reason names NoFrames = codes "no node has a frame to send\n"
+outside_reason names (ListenerSends i) = mute_words (name_of names i)
+outside_reason names (NobodyAcknowledges i) = lone_words (name_of names i)
 outside_reason names (NotByTheBook i) =
     joined (name_of names i
     ∷ codes " synchronises after an edge, so it can miss a start of frame or an edge at its sample; for sync = \"book\" one is known\n" ∷ [])
@@ -61,9 +72,11 @@ outside_reason names (NobodyIdle i) = unheard_words (name_of names i)
 abbrev pub outside_words : List (List ℕ) → Outside → List ℕ
 outside_words names cause = outside_lead cause ++ outside_reason names cause
 
--- what is to spare for nodes i and j, by the quantum of node i
+-- what is to spare for nodes i and j, by the quantum of node i; none if the inequality isn't asked of them
 abbrev pub spare_of : ℕ → Buses → Senders → Inequality → ℕ → ℕ → List ℕ
-spare_of tick f senders inequality i j = spare_words (measure_of tick f i) (sides_in f plain senders inequality i j)
+spare_of tick f senders inequality i j =
+    if is_asked (only_listens f.cable) inequality i j then spare_words (measure_of tick f i) (sides_in f plain senders inequality i j)
+    else codes "none"
 
 module _ (tick : ℕ) (f : Buses) (names : List (List ℕ)) where
   abbrev pub pair_line : Senders → ℕ → ℕ → List ℕ

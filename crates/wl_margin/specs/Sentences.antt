@@ -8,6 +8,8 @@ use Rattle.wl_bound.specs.declared.condition.Inequality.{Inequality}
 use Rattle.wl_bound.specs.declared.condition.Inequality.TheVariants.{DriftFitsJump, BitIsThereAtSample, NoBitTooEarly}
 use Rattle.wl_bound.specs.declared.condition.Sides.{Sides}
 use Rattle.wl_bound.specs.declared.condition.Failure.{Failure}
+use Rattle.wl_margin.specs.declared.sentences.Rest.{Rest}
+use Rattle.wl_margin.specs.declared.sentences.Rest.TheVariants.{NotAsked, Asked}
 use Rattle.wl_margin.specs.Pieces.{joined, thousandths, hundredths}
 
 -- how many picoseconds a tick takes, and how many millionths of a tick a quantum
@@ -58,6 +60,11 @@ spare_words m sides =
     if nat_le sides.left sides.right
     then signed_words false (picoseconds_within m (sides.right - sides.left)) (quanta_within m (sides.right - sides.left))
     else signed_words true (picoseconds_around m (sides.left - sides.right)) (quanta_around m (sides.left - sides.right))
+
+-- the same, or none if an inequality isn't asked of a pair
+abbrev pub rest_words : Rest → List ℕ
+rest_words NotAsked = codes "none"
+rest_words (Asked spare) = signed_words spare.is_below spare.amount.picoseconds spare.amount.quanta
 
 -- What goes wrong where an inequality fails for a and b: what is taken, and the time that there is.
 abbrev pub drift_words : List ℕ → List ℕ → List ℕ → List ℕ → List ℕ

@@ -5,12 +5,12 @@ ghost use Rattle.wl_bound.specs.Conditions.{first_failure_of, plain};
 ghost use Rattle.wl_bound.specs.Families.{member_at};
 ghost use Rattle.wl_bound.specs.Oscillators.{shortest_of};
 ghost use Rattle.wl_bound.specs.declared.condition.Senders.TheVariants.{Any};
-ghost use Rattle.wl_margin.specs.Sentences.{failure_words, measure_of, signed_words};
+ghost use Rattle.wl_margin.specs.Sentences.{failure_words, measure_of, rest_words};
 ghost use Rattle.wl_margin.specs.Pieces.{each_below};
-ghost use Rattle.wl_margin.specs.Margins.{IsFamilyText, IsMarginText, all_pairs, any_failure, failure_line, outside_lead, outside_reason, outside_words, paces_of, pair_line, pair_words, pairs_of, shared_words, spare_of, unheard_words, verdict_words};
+ghost use Rattle.wl_margin.specs.Margins.{IsFamilyText, IsMarginText, all_pairs, any_failure, failure_line, lone_words, mute_words, outside_lead, outside_reason, outside_words, paces_of, pair_line, pair_words, pairs_of, shared_words, spare_of, unheard_words, verdict_words};
 
 use crate::found::{push_found, search};
-use crate::sentences::{Spare, push_failure};
+use crate::sentences::{Rest, Spare, push_failure};
 use crate::units::Units;
 use std::alloc::{AllocError, Global};
 use wl_bound::{Failure, Family, Inequality, Oscillator, Outside, Senders, Verdict, judge};
@@ -55,6 +55,26 @@ fn push_unheard(text: &mut String, a: &str) -> Result<(), AllocError>
     )
 }
 
+/// Adds the reason of a node that only listens and has frames.
+fn push_mute(text: &mut String, a: &str) -> Result<(), AllocError>
+    ensures { OnOk result (string_bytes text.new ≡ string_bytes text.old ++ mute_words a.now) }
+{
+    writeln!(
+        text,
+        "{a} only listens, and nobody hears the frames that it has"
+    )
+}
+
+/// Adds the reason of a node whose frames nobody acknowledges.
+fn push_lone(text: &mut String, a: &str) -> Result<(), AllocError>
+    ensures { OnOk result (string_bytes text.new ≡ string_bytes text.old ++ lone_words a.now) }
+{
+    writeln!(
+        text,
+        "all nodes but {a} only listen, and nobody acknowledges its frames"
+    )
+}
+
 /// Returns what is said of a plan outside of the condition.
 fn outside_lead(cause: Outside) -> &'static str
     ensures { result.now ≡ outside_lead cause }
@@ -62,6 +82,8 @@ fn outside_lead(cause: Outside) -> &'static str
     match cause {
         Outside::FewNodes => "does not hold: ",
         Outside::NoFrames => "no bound is known: ",
+        Outside::ListenerSends(_) => "does not hold: ",
+        Outside::NobodyAcknowledges(_) => "does not hold: ",
         Outside::NotByTheBook(_) => "no bound is known: ",
         Outside::SameIdentifier(_, _) => "does not hold: ",
         Outside::NobodyIdle(_) => "does not hold: ",
@@ -77,6 +99,8 @@ pub fn push_reason(text: &mut String, names: &Names, cause: Outside) -> Result<(
             "there is one node, and nobody acknowledges its frames\n",
         ),
         Outside::NoFrames => text.push_str("no node has a frame to send\n"),
+        Outside::ListenerSends(i) => push_mute(text, names.name_of(i as usize)),
+        Outside::NobodyAcknowledges(i) => push_lone(text, names.name_of(i as usize)),
         Outside::NotByTheBook(i) => {
             let a = names.name_of(i as usize);
             writeln!(
@@ -118,25 +142,20 @@ fn units(family: &Family, tick: u64, i: u8) -> Units
     Units::new(tick, shortest(family, i).max(1))
 }
 
-/// Returns what is to spare of an inequality for nodes `i` and `j`.
-fn spare(
-    family: &Family,
-    tick: u64,
-    senders: Senders,
-    inequality: Inequality,
-    i: u8,
-    j: u8,
-) -> Spare
+/// Returns what is to spare of an inequality for nodes `i` and `j`, if it is asked of them.
+fn spare(family: &Family, tick: u64, senders: Senders, inequality: Inequality, i: u8, j: u8) -> Rest
     requires tick { tick < 2 ^ 36 }
     requires one { i < length family.now.members }
     requires other { j < length family.now.members }
-    ensures { signed_words result.is_below result.amount.picoseconds result.amount.quanta
-        ≡ spare_of tick family.now senders inequality i j }
+    ensures { rest_words result ≡ spare_of tick family.now senders inequality i j }
 {
-    Spare::between(
+    if !family.is_asked(inequality, i, j) {
+        return Rest::NotAsked;
+    }
+    Rest::Asked(Spare::between(
         units(family, tick, i),
         family.sides(senders, inequality, i, j),
-    )
+    ))
 }
 
 /// Adds what is to spare for nodes `i` and `j`.

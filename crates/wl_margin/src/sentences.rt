@@ -97,6 +97,29 @@ impl Spare {
     }
 }
 
+/// What an inequality leaves to a pair of nodes.
+#[derive(Clone, Copy)]
+pub(crate) enum Rest {
+    /// It isn't asked of them.
+    NotAsked,
+    /// This is to spare.
+    Asked(Spare),
+}
+
+impl fmt::Display for Rest {
+    ghost use Rattle.std.specs.Prelude.{Some};
+    ghost use Rattle.wl_margin.specs.Sentences.{rest_words};
+
+    ghost output = { λ r. Some (rest_words r) };
+
+    fn fmt<W: fmt::Write>(&self, f: &mut fmt::Formatter<W>) -> fmt::Result {
+        match self {
+            Rest::NotAsked => write!(f, "none"),
+            Rest::Asked(spare) => write!(f, "{spare}"),
+        }
+    }
+}
+
 /// Adds the sentence of two nodes that drift apart by more than an edge puts right.
 fn push_drift(
     text: &mut String,

@@ -4,7 +4,6 @@ use Rattle.wl_explain.proofs.words.push_pair.Goals as goal
 
 pub returns : goal.returns
 returns c =
-    grown_ok c.push_trip.result (string_bytes c.args.text.now) (string_bytes c.push_clocks.new.text) (string_bytes c.push_trip.new.text) _ _
+    grown_ok c.push_way.result (string_bytes c.args.text.now) (string_bytes c.push_clocks.new.text) (string_bytes c.push_way.new.text) _ _
     (rw (c.name_of-a.ensures, c.name_of-b.ensures, c.setup-one.ensures, c.setup-other.ensures) at c.in_ok-push_clocks.ensures)
-    (rw (c.name_of-a.ensures, c.name_of-b.ensures, c.round_trip.ensures, c.longest_round.ensures, c.setup-one.ensures, c.setup-other.ensures)
-    at c.push_trip.ensures)
+    c.push_way.ensures

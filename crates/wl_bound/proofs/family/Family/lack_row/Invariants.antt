@@ -1,4 +1,5 @@
 use Rattle.std.proofs.Common.{◌≡◌}
+use Rattle.wl_bound.specs.Families.{only_listens}
 use Rattle.wl_bound.specs.Conditions.{is_asked}
 use Rattle.wl_bound.specs.Helps.{lack_at}
 use Rattle.wl_bound.specs.Terms.{greatest}
@@ -6,4 +7,4 @@ use Rattle.wl_bound.proofs.family.Family.lack_row.Given as goal
 
 -- the worst pair so far
 abbrev pub invariant-loop-j : goal.invariant-loop-j
-invariant-loop-j l = l.lack ≡ greatest l.j (is_asked l.inequality l.i) (lack_at l.self l.setting l.senders l.inequality l.i)
+invariant-loop-j l = l.lack ≡ greatest l.j (is_asked (only_listens l.self.cable) l.inequality l.i) (lack_at l.self l.setting l.senders l.inequality l.i)
