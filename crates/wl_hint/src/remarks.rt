@@ -10,10 +10,10 @@ use wl_setup::{SetupFault, Spot, Text, table_at, value_named};
 
 /// The keys that plans have.
 #[rattlefmt::skip]
-const KNOWN: [&str; 30] = [
+const KNOWN: [&str; 33] = [
     "version", "end", "per", "sync", "node", "disturbance", "name", "offset", "quantum", "ppm", "num", "den", "rates", "prop", "ps1",
     "ps2", "sjw", "x", "out", "in", "frame", "id", "dlc", "remote", "extended", "bytes", "ready", "from", "to",
-    "tolerance",
+    "tolerance", "every", "count", "listen",
 ];
 
 /// The most nodes among which a repeated name is looked for.
@@ -121,7 +121,7 @@ fn unit_of(key: &str, spot: Spot) -> &'static str {
     match (key, spot) {
         ("from", Spot::Rate(_, _)) => " (it is in quanta)",
         ("end" | "offset" | "quantum" | "out" | "in" | "from" | "to", _) => " (it is in ticks)",
-        ("ready" | "prop" | "ps1" | "ps2" | "sjw", _) => " (it is in quanta)",
+        ("ready" | "every" | "prop" | "ps1" | "ps2" | "sjw", _) => " (it is in quanta)",
         ("per", _) => " (it is in ticks a unit of length)",
         ("x", _) => " (it is in units of length)",
         _ => "",
@@ -133,9 +133,22 @@ fn home_of(key: &str, spot: Spot) -> &'static str {
     match (key, spot) {
         (_, Spot::Top) => "",
         ("version" | "end" | "per" | "sync", _) => " (it belongs above the first `[[node]]`)",
+        ("every" | "count", Spot::Node(_) | Spot::Rate(_, _) | Spot::Disturbance(_)) => {
+            " (it belongs into a frame)"
+        }
         (_, Spot::Node(_) | Spot::Disturbance(_)) => "",
         (
-            "name" | "offset" | "prop" | "ps1" | "ps2" | "sjw" | "x" | "out" | "in" | "tolerance",
+            "name"
+            | "offset"
+            | "prop"
+            | "ps1"
+            | "ps2"
+            | "sjw"
+            | "x"
+            | "out"
+            | "in"
+            | "tolerance"
+            | "listen",
             _,
         ) => { " (it belongs right under `[[node]]`, above the tables in it)" }
         _ => "",
