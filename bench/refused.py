@@ -31,9 +31,19 @@ PPM = is_number(-10**9, 10**9)
 NODE_NAME = lambda value: isinstance(value, str) and 1 <= len(value) <= 32 and set(value) <= set("ABCDEFGHIJKLMNOPQRSTUVWXYZabcdefghijklmnopqrstuvwxyz0123456789_-")
 TABLE_KEYS = {
     "plan": ((("version", ANY), ("end", ANY), ("per", ANY), ("node", TABLES)), (("disturbance", TABLES), ("sync", lambda value: value in ("after", "book")))),
-    "frame": ((("id", PLACE), ("dlc", PLACE)), (("remote", TRUTH), ("bytes", are(is_number(0, 255))), ("ready", ANY), ("extended", TRUTH))),
-    "disturbance": ((("x", PLACE), ("from", ANY), ("to", ANY)), ()),
 }
+
+
+def frame_keys(table, version):
+    required, optional = (("id", PLACE), ("dlc", PLACE)), (("remote", TRUTH), ("bytes", are(is_number(0, 255))), ("ready", ANY), ("extended", TRUTH))
+    if version < 3: return required, optional
+    again = is_number(1, 2**48 - 1)
+    return (required + (("every", again),), optional + (("count", again),)) if "count" in table else (required, optional + (("every", again),))
+
+
+def disturbance_keys(table, version):
+    place = ("node", NODE_NAME) if version == 3 and "node" in table else ("x", PLACE)
+    return (place, ("from", ANY), ("to", ANY)), ()
 
 
 def clock_pair(table):
@@ -42,8 +52,8 @@ def clock_pair(table):
 
 def node_keys(table, version):
     lengths = tuple((key, ANY) for key in ("prop", "ps1", "ps2", "sjw"))
-    clock = clock_pair(table) if version == 1 else (("rates", TABLES),)
-    return (("name", NODE_NAME), ("offset", ANY)) + clock + lengths + (("x", PLACE), ("out", ANY), ("in", ANY)), (("frame", TABLES), ("tolerance", is_number(0, 100_000)))
+    clock = (("rates", TABLES),) if version == 2 or version == 3 and "rates" in table else clock_pair(table)
+    return (("name", NODE_NAME), ("offset", ANY)) + clock + lengths + (("x", PLACE), ("out", ANY), ("in", ANY)), (("frame", TABLES), ("tolerance", is_number(0, 100_000))) + ((("listen", TRUTH),) if version == 3 else ())
 
 
 def test_table(spot, table, keys):
@@ -60,9 +70,9 @@ def delay_of(a, b, per):
     return a["out"] + abs(a["x"] - b["x"]) * per + b["in"]
 
 
-def rates_of(node, version):
+def rates_of(node):
     found = []
-    for rate in node["rates"] if version == 2 else [node | {"from": 0}]:
+    for rate in node["rates"] if "rates" in node else [node | {"from": 0}]:
         found.append((rate["from"], rate["quantum"] * (10**6 + rate["ppm"]), 10**6, rate["ppm"]) if "quantum" in rate else (rate["from"], rate["num"], rate["den"], 0))
     return found
 
@@ -78,15 +88,15 @@ def read(text):
     version = top.get("version")
     if "version" not in top: raise Refused("Missing(version)", ("plan",), "version")
     if not ANY(version): raise Refused("Kind(version)", ("plan",), "version")
-    if version not in (1, 2): raise Refused("Version", ("plan",), "version")
+    if version not in (1, 2, 3): raise Refused("Version", ("plan",), "version")
     test_table(("plan",), top, TABLE_KEYS["plan"])
     for i, node in enumerate(top["node"]):
         test_table(("node", i), node, node_keys(node, version))
         for n, rate in enumerate(node.get("rates", [])): test_table(("rate", i, n), rate, ((("from", ANY),) + clock_pair(rate), ()))
-        for n, frame in enumerate(node.get("frame", [])): test_table(("frame", i, n), frame, TABLE_KEYS["frame"])
-    for n, disturbance in enumerate(top.get("disturbance", [])): test_table(("disturbance", n), disturbance, TABLE_KEYS["disturbance"])
+        for n, frame in enumerate(node.get("frame", [])): test_table(("frame", i, n), frame, frame_keys(frame, version))
+    for n, disturbance in enumerate(top.get("disturbance", [])): test_table(("disturbance", n), disturbance, disturbance_keys(disturbance, version))
     if any(node["name"] in [one["name"] for one in top["node"][:i]] for i, node in enumerate(top["node"])): raise Refused("SameName")
-    for i, node in enumerate(top["node"]): test_node(i, node, version)
+    for i, node in enumerate(top["node"]): test_node(i, node)
     test_topology(top)
     test_plan(top, version)
     return top
@@ -101,8 +111,8 @@ def lengths_of(node):
     return tuple(node[key] for key in ("prop", "ps1", "ps2", "sjw"))
 
 
-def test_node(i, node, version):
-    rates = rates_of(node, version)
+def test_node(i, node):
+    rates = rates_of(node)
     fault = "BadPpm" if any(abs(ppm) > 100_000 for *_, ppm in rates) else clock_fault(node["offset"], [rate[:3] for rate in rates])
     if fault: raise Refused(f"NodeClock({i}, {fault})", ("node", i), *(["offset"] if fault == "BigOffset" else ["quantum", "ppm", "num", "den", "rates"]))
     fault = segments_fault(*lengths_of(node))
@@ -123,17 +133,26 @@ def test_topology(top):
                 if holds(delay_of(a, b, top["per"])): raise Refused(f"Topology({word}({i}, {j}))", ("node", i), "x", "out", ("node", j), "x", "in")
 
 
+def instances(top, node, frame):
+    """How often a frame waits: one that comes again at each of its quanta that begins before the end."""
+    if "every" not in frame: return 1
+    rates, many = [rate[:3] for rate in rates_of(node)], 0
+    while many < min(frame.get("count", 4097), 4097) and tick_of(node["offset"], rates, frame.get("ready", 0) + many * frame["every"]) < top["end"]: many += 1
+    return many
+
+
 def test_plan(top, version):
     if top["end"] > 2**36: raise Refused("Plan(End)", ("plan",), "end")
     for i, node in enumerate(top["node"]):
         most = 786_432 if top.get("sync") == "book" and node["prop"] == node["ps1"] == 1 else 2**20
-        if tick_of(node["offset"], [rate[:3] for rate in rates_of(node, version)], most) < top["end"]:
+        if tick_of(node["offset"], [rate[:3] for rate in rates_of(node)], most) < top["end"]:
             raise Refused(f"Plan(Quanta({i}))", ("plan",), "end", "sync", ("node", i), "offset", "quantum", "ppm", "num", "den", "rates")
     for i, node in enumerate(top["node"]):
-        if len(node.get("frame", [])) > 64: raise Refused(f"Plan(Queue({i}))", ("node", i), "frame")
+        if sum(instances(top, node, frame) for frame in node.get("frame", [])) > (4096 if version == 3 else 64): raise Refused(f"Plan(Queue({i}))", ("node", i), "frame")
     for n, one in enumerate(top.get("disturbance", [])):
-        far = any(abs(one["x"] - node["x"]) * top["per"] + node["in"] > 2**20 for node in top["node"])
-        if one["from"] >= one["to"] or one["to"] > 2**36 or n >= 64 or far: raise Refused(f"Plan(Disturbance({n}))", ("disturbance", n), "x", "from", "to")
+        if "node" in one: far = one["node"] not in [node["name"] for node in top["node"]]
+        else: far = any(abs(one["x"] - node["x"]) * top["per"] + node["in"] > 2**20 for node in top["node"])
+        if one["from"] >= one["to"] or one["to"] > 2**36 or n >= 64 or far: raise Refused(f"Plan(Disturbance({n}))", ("disturbance", n), "x", "node", "from", "to")
 
 
 # ---- docs/explain.md, "Of a plan that is refused", and the table of faults of docs/commands.md, whose last column says what to change
@@ -150,8 +169,8 @@ CAUSES = {
     "Id": "id is above 0x7FF in a base frame", "Dlc": "dlc is above 15", "DataLength": "the bytes are not as many as dlc says, or a remote frame has some",
     "ExtendedId": "id is above 0x1FFFFFFF", "NoNodes": "there is no node", "TooManyNodes": "there are more than 16 nodes",
     "ZeroDelay": "a level takes no tick from the one to the other", "TooLong": "a level takes more than 1,048,576 ticks from the one to the other",
-    "End": "end is above 68,719,476,736 ticks", "Quanta": "more quanta begin before end than may", "Queue": "more than 64 frames wait",
-    "Disturbance": "it ends before it begins, ends too late, is too far from a node, or is one of more than 64", "Toml": "the text is no TOML 1.1",
+    "End": "end is above 68,719,476,736 ticks", "Quanta": "more quanta begin before end than may", "Queue": "more than 64 frames wait, or 4,096 in version 3",
+    "Disturbance": "it ends before it begins, ends too late, is too far from a node, names no node, or is one of more than 64", "Toml": "the text is no TOML 1.1",
 }
 ESCAPES = {"\b": "\\b", "\t": "\\t", "\n": "\\n", "\f": "\\f", "\r": "\\r"}
 
