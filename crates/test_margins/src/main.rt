@@ -69,7 +69,7 @@ const AFTER: Row = Row {
     third: None,
 };
 
-/// A listener beside both: what it drives reaches nobody, so all is as without it.
+/// A listener beside the second node. Its bits reach nobody, and it has to follow both senders.
 const BESIDE: Row = Row {
     third: Some(120),
     ..CRYSTALS
