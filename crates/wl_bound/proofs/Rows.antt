@@ -144,7 +144,7 @@ with_third l p third = record {
 
 -- over 1000 m a node's bits come far too late, and those of a listener come to nobody
 far_node : first_failure_of (with_third (lengths 6 7 2 1) (pace 125 100) (place 1000)) plain Any
-    ≡ Some (record { inequality = BitIsThereAtSample; node = 0; other = 2; sides = record { left = 10504400000; right = 1749825000 } })
+    ≡ Some (record { inequality = BitIsThereAtSample; node = 0; other = 2; sides = record { left = 10516475000; right = 1749825000 } })
 unfolding first_failure_of left_of right_of shortest_in longest_in delay_in sends_in drift jump look trip way several early lost edges chase apart tour late strays lengths_in
 far_node = refl
 
