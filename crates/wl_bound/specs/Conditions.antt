@@ -26,14 +26,14 @@ right_of b DriftFitsJump i j = min (jump b i) (jump b j)
 right_of b BitIsThereAtSample i j = sample_at (b.lengths i) * b.shortest i
 right_of b NoBitTooEarly i j = (b.lengths i).ps2 * b.shortest i
 
--- Of which pairs an inequality is asked. A node is no pair, but for its own bit, which must be back at its sample. What a node drives that only
+-- The pairs that are asked. A node is no pair, but for its own bit, which must be back at its sample. What a node drives that only
 -- listens comes back to itself and to no other node (ISO 11898-1, bus monitoring): it keeps up with the others, and they needn't with its bits.
 abbrev pub is_asked : (ℕ → Bool) → Inequality → ℕ → ℕ → Bool
 is_asked listens DriftFitsJump i j = not (i == j) && not (listens i && listens j)
 is_asked listens BitIsThereAtSample i j = i == j || not (listens j)
 is_asked listens NoBitTooEarly i j = not (i == j) && not (listens j)
 
--- The condition for one bus, for each pair of which an inequality is asked.
+-- The condition for one bus, for each pair that is asked.
 pub record IsSound (b : Bus) : Type 0 where
   -- Ten bits of drift are within the jump width of both nodes. Else an edge doesn't put right what has gathered since the one before, and the nodes
   -- drift apart over a frame (Bosch CAN 2.0 part B, section 10; Hartwich and Bassemir, The configuration of the CAN bit timing).
