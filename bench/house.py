@@ -1,7 +1,7 @@
 #!/usr/bin/env python3
 """Looks for what makes the sources hard to read: a search, not a verdict.
 
-usage: house.py [repeats|wide|names|unused|long|english]..     all of them if none is named
+usage: house.py [repeats|wide|names|unused|long|english|comments|links|quotes]..     all of them if none is named
 
 repeats  lemma statements that stand more than once, up to the names of their variables (definitions and proofs are read, bodies not)
 wide     clauses of more than 120 columns
@@ -9,6 +9,10 @@ names    words of specs/ that two crates define
 unused   definitions of specs/ that no clause and no other definition names, but for `most_x-is`: they belong into proofs/
 long     files of more than 800 lines, functions of more than 40
 english  of each page: sentences of more than 30 words, lines of more than 100 columns, and words that CONTRIBUTING asks not to use
+comments of the doc comments of src/: sentences of more than 30 words, words to avoid, and functions with an answer whose comment doesn't begin with
+         it ('Returns ..', 'True if ..') or with a verb
+links    links of pages that lead to no file or to no heading
+quotes   code that a page quotes from a file that it names just above, and that isn't there
 """
 import re
 import sys
@@ -169,7 +173,7 @@ def plain_lines(text):
 
 def english():
     total = [0, 0, 0]
-    for path in sorted([*TOP.glob("*.md"), *TOP.glob("docs/**/*.md"), *TOP.glob("crates/*/README.md")]):
+    for path in pages():
         text = path.read_text(encoding="utf-8")
         lengthy = [(line, len(words)) for line, words in sentences(text) if len(words) > 30]
         wide = [at + 1 for at, line in plain_lines(text) if len(line) > 100]
@@ -182,7 +186,88 @@ def english():
     print(f"english: {total[0]} sentences of more than 30 words, {total[1]} lines of more than 100 columns, {total[2]} words to avoid")
 
 
+def doc_blocks(text):
+    """Yields the place of each doc comment, its text, and the line of code below it."""
+    said, begun = [], 0
+    for at, line in enumerate([*text.splitlines(), ""]):
+        found = re.match(r"\s*//[/!] ?(.*)", line)
+        if found:
+            begun = begun if said else at + 1
+            said.append(found[1])
+        elif said and not re.match(r"\s*#\[", line):
+            yield begun, "\n".join(said), line
+            said = []
+
+
+# What the comment of a function begins with: what it returns, or what it does
+BEGINS = re.compile(r"Returns|True if|False if|Nothing|Law\b|A law|[A-Z][a-z]+s\b(?! (of|is|are|that|which|in|from|on|by|and|at|with)\b)|`?Ok|`?Some|`?None|Always")
+
+
+def comments():
+    total = [0, 0, 0]
+    for path, text in files("rt", "src"):
+        for line, said, code in doc_blocks(text):
+            lengthy = [len(words) for _, words in sentences(said) if len(words) > 30]
+            avoided = [it for it in AVOIDED if re.search(rf"\b{it}\b", re.sub(r"`[^`]*`", "x", said.replace("\n", " ")))]
+            answers = re.match(r"\s*(pub(\(crate\))? )?(const )?fn ", code) and "->" in code
+            begins = answers and not re.search(r"-> (Self|Result<Self)", code) and not BEGINS.match(said)
+            for at, it in enumerate((len(lengthy), len(avoided), bool(begins))): total[at] += it
+            if lengthy or avoided or begins:
+                print(f"  {path}:{line} {lengthy or ''} {avoided or ''} {'begins: ' + said[:50] if begins else ''}")
+    print(f"comments: {total[0]} sentences of more than 30 words, {total[1]} words to avoid, {total[2]} that don't begin with what is returned")
+
+
+def pages():
+    return sorted([*TOP.glob("*.md"), *TOP.glob("docs/**/*.md"), *TOP.glob("crates/*/README.md")])
+
+
+def anchors(text):
+    """Returns the anchors of a page's headings, as GitHub makes them."""
+    found, fenced = [], False
+    for line in text.splitlines():
+        if line.startswith("```"): fenced = not fenced
+        heading = None if fenced else re.match(r"#+ (.*)", line)
+        if heading:
+            plain = re.sub(r"\[([^\]]*)\]\([^)]*\)", r"\1", heading[1]).lower()
+            anchor = re.sub(r"[^\w\- ]", "", plain).replace(" ", "-")
+            found.append(f"{anchor}-{found.count(anchor)}" if anchor in found else anchor)
+    return found
+
+
+def links():
+    count = 0
+    for path in pages():
+        text = re.sub(r"`[^`\n]*`", "x", re.sub(r"^```.*?^```", "", path.read_text(encoding="utf-8"), flags=re.M | re.S))
+        for target in re.findall(r"\]\(([^)]+)\)", text):
+            target = re.sub(r"\s+", "", target)
+            if re.match(r"https?:", target): continue
+            name, _, anchor = target.partition("#")
+            file = (path.parent / name).resolve() if name else path
+            if not file.exists() or anchor and anchor not in anchors(file.read_text(encoding="utf-8")):
+                count += 1
+                print(f"  {path.relative_to(TOP)}: {target}")
+    print(f"links: {count} links that lead nowhere")
+
+
+def quotes():
+    """A quoted block is antt or Rust; it may leave lines out, and be the end of a page's sentence about its file."""
+    count = missed = 0
+    for path in pages():
+        text, last = path.read_text(encoding="utf-8"), None
+        for found in re.finditer(r"\]\(([^)]*\.(?:antt|rt))\)|^```(antt|rust)\n(.*?)^```", text, re.M | re.S):
+            if found[1]:
+                last = path.parent / found[1]
+            elif last:
+                source = last.read_text(encoding="utf-8")
+                count += 1
+                for part in re.split(r"\n\n+", found[3].strip("\n")):
+                    if part not in source:
+                        missed += 1
+                        print(f"  {path.relative_to(TOP)}: not in {last.resolve().relative_to(TOP)}: {part.splitlines()[0]}")
+    print(f"quotes: {missed} parts of {count} quoted blocks that their file hasn't")
+
+
 if __name__ == "__main__":
-    every = {it.__name__: it for it in (repeats, wide, names, unused, long, english)}
+    every = {it.__name__: it for it in (repeats, wide, names, unused, long, english, comments, links, quotes)}
     for word in sys.argv[1:] or every:
         every[word]()
