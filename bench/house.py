@@ -250,7 +250,10 @@ def links():
 
 
 def quotes():
-    """A quoted block is antt or Rust; it may leave lines out, and be the end of a page's sentence about its file."""
+    """A quoted block is antt or Rust, of the file that was linked last; it may leave paragraphs out, and be indented otherwise."""
+    def flat(lines):
+        return "\n".join(line.strip() for line in lines.splitlines())
+
     count = missed = 0
     for path in pages():
         text, last = path.read_text(encoding="utf-8"), None
@@ -258,10 +261,10 @@ def quotes():
             if found[1]:
                 last = path.parent / found[1]
             elif last:
-                source = last.read_text(encoding="utf-8")
+                source = flat(last.read_text(encoding="utf-8"))
                 count += 1
                 for part in re.split(r"\n\n+", found[3].strip("\n")):
-                    if part not in source:
+                    if flat(part) not in source:
                         missed += 1
                         print(f"  {path.relative_to(TOP)}: not in {last.resolve().relative_to(TOP)}: {part.splitlines()[0]}")
     print(f"quotes: {missed} parts of {count} quoted blocks that their file hasn't")
