@@ -20,7 +20,8 @@ import plain
 MASK = 2**64 - 1
 CLOCK = ("num", "den", "quantum", "ppm")
 TOP = ("end", "per")
-KEYS = TOP + CLOCK + ("offset", "prop", "ps1", "ps2", "sjw", "x", "out", "in", "tolerance")
+REPEAT = ("every", "count")
+KEYS = TOP + CLOCK + REPEAT + ("offset", "prop", "ps1", "ps2", "sjw", "x", "out", "in", "tolerance")
 FAULT = "fault: {}, of a word: {}, of the plan: {}\n"
 
 
@@ -31,7 +32,7 @@ class Refused(Exception):
         self.line = FAULT.format(fault, str(of_word).lower(), str(not of_word).lower())
 
 
-# ---- A plan's text: a table of its keys, with the rates of each node as a list in both versions
+# ---- A plan's text: a table of its keys, with the rates of each node as a list in all versions
 
 def read(text):
     try:
@@ -51,22 +52,30 @@ def clock_lines(rate):
 
 def frame_lines(frame):
     said = f"\n[[node.frame]]\nid = 0x{frame['id']:x}\ndlc = {frame['dlc']}\nready = {frame.get('ready', 0)}\n"
+    said += "".join(f"{key} = {frame[key]}\n" for key in REPEAT if key in frame)
     said += "".join(f"{key} = true\n" for key in ("extended", "remote") if frame.get(key))
     return said + (f"bytes = [{', '.join(f'0x{byte:02x}' for byte in frame['bytes'])}]\n" if frame.get("bytes") else "")
 
 
 def node_lines(version, node):
     said = f"\n[[node]]\nname = \"{node['name']}\"\noffset = {node['offset']}\n"
-    if version == 1: said += clock_lines(node["rates"][0])
+    own = version == 1 or version == 3 and [rate["from"] for rate in node["rates"]] == [0]
+    if own: said += clock_lines(node["rates"][0])
     said += "".join(f"{key} = {node[key]}\n" for key in ("prop", "ps1", "ps2", "sjw", "x", "out", "in", "tolerance") if key in node)
-    if version == 2: said += "".join(f"\n[[node.rates]]\nfrom = {rate['from']}\n{clock_lines(rate)}" for rate in node["rates"])
+    if node.get("listen"): said += "listen = true\n"
+    if not own: said += "".join(f"\n[[node.rates]]\nfrom = {rate['from']}\n{clock_lines(rate)}" for rate in node["rates"])
     return said + "".join(map(frame_lines, node.get("frame", [])))
 
 
 def plan_text(plan):
     said = f"version = {plan['version']}\nend = {plan['end']}\nper = {plan['per']}\nsync = \"{plan.get('sync', 'after')}\"\n"
     said += "".join(node_lines(plan["version"], node) for node in plan["node"])
-    return said + "".join(f"\n[[disturbance]]\nx = {it['x']}\nfrom = {it['from']}\nto = {it['to']}\n" for it in plan.get("disturbance", []))
+    return said + "".join(map(disturbance_lines, plan.get("disturbance", [])))
+
+
+def disturbance_lines(it):
+    spot = f"node = \"{it['node']}\"" if "node" in it else f"x = {it['x']}"
+    return f"\n[[disturbance]]\n{spot}\nfrom = {it['from']}\nto = {it['to']}\n"
 
 
 # ---- What is found of a text, by plain.py or by a program's report
@@ -208,8 +217,13 @@ def named_node(nodes, name):
     return it if (it := number(name)) is not None and 0 <= it < len(nodes) else None
 
 
+def tables_of(node, key):
+    """The tables of a node in which a key may stand."""
+    return node["rates"] if key in CLOCK else node.get("frame", []) if key in REPEAT else [node]
+
+
 def has(node, key):
-    return key not in CLOCK or any(key in rate for rate in node["rates"])
+    return key not in CLOCK + REPEAT or any(key in table for table in tables_of(node, key))
 
 
 def target_of(nodes, called):
@@ -227,7 +241,7 @@ def target_of(nodes, called):
 
 
 def values_of(key, low, high, step, is_said):
-    least, most = {"ppm": (-10**9, 10**9), "x": (0, 2**31 - 1), "tolerance": (0, 100_000)}.get(key, (0, 2**48 - 1))
+    least, most = {"ppm": (-10**9, 10**9), "x": (0, 2**31 - 1), "tolerance": (0, 100_000), "every": (1, 2**48 - 1), "count": (1, 2**48 - 1)}.get(key, (0, 2**48 - 1))
     if not (least <= low <= most and least <= high <= most): raise ValueError("Bounds")
     if high < low: raise ValueError("Order")
     if is_said and step <= 0: raise ValueError("Step")
@@ -263,8 +277,8 @@ def rows_of(plan, ranges):
         row = deepcopy(plan)
         if key in TOP: row[key] = value
         for i in nodes:
-            for table in row["node"][i]["rates"] if key in CLOCK else [row["node"][i]]:
-                if key not in CLOCK or key in table: table[key] = value
+            for table in tables_of(row["node"][i], key):
+                if key not in CLOCK + REPEAT or key in table: table[key] = value
         rows += [([(called, value)] + later, it) for later, it in rows_of(row, ranges[1:])]
     return rows
 
@@ -346,7 +360,7 @@ class Sweep:
         said += self.first("first that isn't", places, all_found, lambda word: word not in ("clean", "refused"))
         said += self.first("first refused", places, all_found, lambda word: word == "refused")
         if self.options["worst"]: said += "each sender has one frame more, with edges ten bits apart\n"
-        frames = [plain.table_frame(frame) for node in self.plan["node"] for frame in node.get("frame", [])]
+        frames = {waiting.frame for node in plain.read_plan(plan_text(self.plan).encode()).nodes for waiting in node.queue}
         if not any(map(tests_clocks, frames)):
             said += "no frame has edges ten bits apart, so none tests the clocks; --worst adds some that do\n"
         return said, tally["clean"] == tally.total()

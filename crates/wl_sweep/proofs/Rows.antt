@@ -1,5 +1,5 @@
 -- Worked rows: members, findings, tallies and lines of sweeps, computed.
-use Rattle.std.specs.Prelude.{◌≡◌, ℕ, pos, negsuc, Bool, true, false, List, [], ◌∷◌, codes, map, Some, None, Ok, Err, refl}
+use Rattle.std.specs.Prelude.{◌≡◌, ℕ, pos, negsuc, Bool, true, false, List, [], ◌∷◌, codes, map, Option, Some, None, Ok, Err, refl}
 use Rattle.std.specs.List.{range_with_len}
 use Rattle.std.specs.Fmt.{digits}
 use Rattle.wl_confine.specs.Counts.{Counts, no_counts}
@@ -23,7 +23,7 @@ use Rattle.wl_sweep.specs.Rows.{row_count}
 use Rattle.wl_sweep.specs.Tallies.{part_start, tally_of}
 use Rattle.wl_setup.specs.declared.plan_text.PlanText.{PlanText}
 use Rattle.wl_sweep.specs.declared.vary.RangeFault.TheVariants as range
-use Rattle.wl_sweep.specs.Vary.{ends_of, number_of, step_of, values_of}
+use Rattle.wl_sweep.specs.Vary.{ends_of, has_key, number_of, step_of, values_of}
 use Rattle.wl_sweep.specs.Worst.{last_ready, later_end, next_id}
 use Rattle.wl_sweep.specs.Words.{choice_words, finding_words, members_line, row_line}
 
@@ -147,6 +147,22 @@ no_num = refl
 new_tolerance : node_set key.Tolerance (pos 99) probe ≡ record probe { tolerance = Some 99 }
 new_tolerance = refl
 
+-- a value of a key of frames is one of the frames that have it
+abbrev periodic : Option ℕ → NodeText
+periodic every = record engine { frame = (record { id = 1; dlc = 0; remote = false; bytes = []; ready = 0; extended = false; every = every; count = None }) ∷ [] }
+
+new_every : node_set key.Every (pos 99) (periodic (Some 16000)) ≡ periodic (Some 99)
+new_every = refl
+
+once_only : node_set key.Every (pos 99) (periodic None) ≡ periodic None
+once_only = refl
+
+no_count : has_key key.Count (periodic (Some 16000)) ≡ false
+no_count = refl
+
+has_every : has_key key.Every (periodic (Some 16000)) ≡ true
+has_every = refl
+
 -- ten runs by three workers: four, four and two
 parts : map (part_start 0 10 4) (range_with_len 0 4) ≡ 0 ∷ 4 ∷ 8 ∷ 10 ∷ []
 parts = refl
@@ -239,6 +255,9 @@ last_not_reached = refl
 wide_tolerance : values_of key.Tolerance (record { low = pos 0; high = pos 100001; step = None }) ≡ Err range.Bounds
 wide_tolerance = refl
 
+never_again : values_of key.Every (record { low = pos 0; high = pos 10; step = None }) ≡ Err range.Bounds
+never_again = refl
+
 reversed : values_of key.X (record { low = pos 40; high = pos 30; step = None }) ≡ Err range.Order
 reversed = refl
 
@@ -247,7 +266,7 @@ too_many = refl
 
 -- frames that test the clocks have identifiers of their own, and come after the frames that wait
 abbrev sender : NodeText
-sender = record engine { frame = (record { id = 2031; dlc = 0; remote = false; bytes = []; ready = 480; extended = false }) ∷ [] }
+sender = record engine { frame = (record { id = 2031; dlc = 0; remote = false; bytes = []; ready = 480; extended = false; every = None; count = None }) ∷ [] }
 
 new_id : next_id (sender ∷ probe ∷ []) 2032 sender ≡ 2030
 new_id = refl

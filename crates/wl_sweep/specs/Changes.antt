@@ -5,6 +5,7 @@ use Rattle.std.specs.List.{enumerate_from}
 use Rattle.wl_setup.specs.declared.plan_text.PlanText.{PlanText}
 use Rattle.wl_setup.specs.declared.plan_text.NodeText.{NodeText}
 use Rattle.wl_setup.specs.declared.plan_text.RateText.{RateText}
+use Rattle.wl_setup.specs.declared.plan_text.FrameText.{FrameText}
 use Rattle.wl_setup.specs.declared.plan_text.ClockText.{ClockText}
 use Rattle.wl_setup.specs.declared.plan_text.ClockText.TheVariants as text
 use Rattle.wl_sweep.specs.declared.change.SweptKey.{SweptKey}
@@ -23,11 +24,22 @@ clock_with k value clock = clock
 abbrev pub rate_with : SweptKey → ℤ → RateText → RateText
 rate_with k value rate = record rate { clock = clock_with k value rate.clock }
 
+-- a number in the place of another one, if there is one
+abbrev pub replaced : ℤ → Option ℕ → Option ℕ
+replaced value None = None
+replaced value (Some old) = Some (unsigned_abs value)
+
+-- a frame with another value of a key, if it has that key
+abbrev pub frame_with : SweptKey → ℤ → FrameText → FrameText
+frame_with key.Every value frame = record frame { every = replaced value frame.every }
+frame_with key.Count value frame = record frame { count = replaced value frame.count }
+frame_with k value frame = frame
+
 -- a value of a key that has 32 bits: of a place or a tolerance
 abbrev pub narrowed : ℕ → ℕ
 narrowed size = min size (2 ^ 32 - 1)
 
--- a node with another value of a key that is no clock's
+-- a node with another value of a key that is no clock's and no frame's
 abbrev pub node_with : SweptKey → ℤ → NodeText → NodeText
 node_with key.Offset value node = record node { offset = unsigned_abs value }
 node_with key.Prop value node = record node { prop = unsigned_abs value }
@@ -42,7 +54,8 @@ node_with k value node = node
 
 -- a node with another value of any key, if it has that key
 abbrev pub node_set : SweptKey → ℤ → NodeText → NodeText
-node_set k value node = node_with k value (record node { rates = map (rate_with k value) node.rates })
+node_set k value node =
+    node_with k value (record node { rates = map (rate_with k value) node.rates; frame = map (frame_with k value) node.frame })
 
 -- a value is one of node i: each node's where none is named
 abbrev pub is_of : Option ℕ → ℕ → Bool

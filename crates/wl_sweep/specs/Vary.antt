@@ -1,5 +1,5 @@
 -- The words of a sweep's ranges, [NODE.]KEY=A..B[:STEP] (this project's profile).
-use Rattle.std.specs.Prelude.{◌≡◌, ◌≢◌, ℕ, ℤ, pos, ◌+◌, ◌-◌, ◌*◌, ◌/◌, ◌^◌, ◌==◌, ◌&&◌, ◌||◌, ◌+ℤ◌, ◌-ℤ◌, nat_lt, nat_le, int_lt, max, unsigned_abs, Bool, true, false, not, List, [], ◌∷◌, length, map, fold, codes, neg_ℤ, option_map, slice_get, Option, Some, None, Result, Ok, Err, MatchResult, if◌then◌else◌}
+use Rattle.std.specs.Prelude.{◌≡◌, ◌≢◌, ℕ, ℤ, pos, ◌+◌, ◌-◌, ◌*◌, ◌/◌, ◌^◌, ◌==◌, ◌&&◌, ◌||◌, ◌+ℤ◌, ◌-ℤ◌, nat_lt, nat_le, int_lt, max, unsigned_abs, Bool, true, false, not, List, [], ◌∷◌, length, map, fold, codes, neg_ℤ, option_map, is_some, slice_get, Option, Some, None, Result, Ok, Err, MatchResult, if◌then◌else◌}
 use Rattle.std.specs.Option.{option_or}
 use Rattle.std.specs.List.{position_or_len, position_from, before_first, after_first, range_with_len, list_any}
 use Rattle.std.specs.Str.{all_ascii_digits, bytes_eq}
@@ -7,6 +7,7 @@ use Rattle.std.specs.Str.Parse.{digits_value}
 use Rattle.wl_setup.specs.declared.plan_text.PlanText.{PlanText}
 use Rattle.wl_setup.specs.declared.plan_text.NodeText.{NodeText}
 use Rattle.wl_setup.specs.declared.plan_text.RateText.{RateText}
+use Rattle.wl_setup.specs.declared.plan_text.FrameText.{FrameText}
 use Rattle.wl_setup.specs.declared.plan_text.ClockText.{ClockText}
 use Rattle.wl_setup.specs.declared.plan_text.ClockText.TheVariants as text
 use Rattle.wl_sweep.specs.declared.change.SweptKey.{SweptKey}
@@ -82,7 +83,8 @@ key_of name =
     else if bytes_eq name (codes "ps1") then Some key.Ps1 else if bytes_eq name (codes "ps2") then Some key.Ps2
     else if bytes_eq name (codes "sjw") then Some key.Sjw else if bytes_eq name (codes "x") then Some key.X
     else if bytes_eq name (codes "out") then Some key.Out else if bytes_eq name (codes "in") then Some key.In
-    else if bytes_eq name (codes "tolerance") then Some key.Tolerance else None
+    else if bytes_eq name (codes "tolerance") then Some key.Tolerance else if bytes_eq name (codes "every") then Some key.Every
+    else if bytes_eq name (codes "count") then Some key.Count else None
 
 -- a key of the top table
 abbrev pub is_top : SweptKey → Bool
@@ -105,9 +107,26 @@ is_clock key.Quantum = true
 is_clock key.Ppm = true
 is_clock k = false
 
--- a node has a key: one of a clock where one of its rates has it
+abbrev pub rate_has : SweptKey → RateText → Bool
+rate_has k rate = clock_has k rate.clock
+
+-- a frame has a key; it has none that isn't a frame's
+abbrev pub frame_has : SweptKey → FrameText → Bool
+frame_has key.Every frame = is_some frame.every
+frame_has key.Count frame = is_some frame.count
+frame_has k frame = false
+
+abbrev pub is_frame : SweptKey → Bool
+is_frame key.Every = true
+is_frame key.Count = true
+is_frame k = false
+
+-- a node has a key: one of a clock if one of its rates has it, one of a frame if one of its frames has it
 abbrev pub has_key : SweptKey → NodeText → Bool
-has_key k node = not (is_clock k) || list_any (λ (rate : RateText). clock_has k rate.clock) node.rates
+has_key k node =
+    if is_clock k then list_any (rate_has k) node.rates
+    else if is_frame k then list_any (frame_has k) node.frame
+    else true
 
 -- a number as that of a node
 abbrev pub numbered : ℕ → Option ℤ → Option ℕ
@@ -142,6 +161,8 @@ abbrev pub takes : SweptKey → ℤ → Bool
 takes key.Ppm value = nat_le (unsigned_abs value) 1000000000
 takes key.X value = not (int_lt value (pos 0)) && nat_le (unsigned_abs value) (2 ^ 31 - 1)
 takes key.Tolerance value = not (int_lt value (pos 0)) && nat_le (unsigned_abs value) 100000
+takes key.Every value = int_lt (pos 0) value && nat_le (unsigned_abs value) (2 ^ 48 - 1)
+takes key.Count value = int_lt (pos 0) value && nat_le (unsigned_abs value) (2 ^ 48 - 1)
 takes k value = not (int_lt value (pos 0)) && nat_le (unsigned_abs value) (2 ^ 48 - 1)
 
 -- the first of some steps by which there are fewer than twenty over a distance, and else the distance

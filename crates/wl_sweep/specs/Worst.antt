@@ -1,5 +1,5 @@
 -- Frames that test the clocks (this project's profile; that no frame tests them harder: Bosch CAN 2.0 part B, sections 6 and 10).
-use Rattle.std.specs.Prelude.{ℕ, zero, suc, ◌+◌, ◌*◌, ◌==◌, ◌&&◌, max, min, Bool, true, false, not, List, [], ◌∷◌, ◌++◌, fold, replicate, if◌then◌else◌}
+use Rattle.std.specs.Prelude.{ℕ, zero, suc, ◌+◌, ◌*◌, ◌==◌, ◌&&◌, max, min, Bool, true, false, not, List, [], ◌∷◌, ◌++◌, fold, replicate, None, if◌then◌else◌}
 use Rattle.std.specs.List.{list_any}
 use Rattle.wl_setup.specs.declared.plan_text.PlanText.{PlanText}
 use Rattle.wl_setup.specs.declared.plan_text.NodeText.{NodeText}
@@ -9,7 +9,16 @@ use Rattle.wl_sweep.specs.Family.{bit_in, capped}
 
 -- a data frame whose data, with stuff bits, are five dominant and five recessive bits in turn
 abbrev pub worst_frame : ℕ → ℕ → FrameText
-worst_frame id ready = record { id = id; dlc = BYTES; remote = false; bytes = replicate BYTES WORST_BYTE; ready = ready; extended = false }
+worst_frame id ready = record {
+  id = id;
+  dlc = BYTES;
+  remote = false;
+  bytes = replicate BYTES WORST_BYTE;
+  ready = ready;
+  extended = false;
+  every = None;
+  count = None;
+}
 
 -- a base identifier is one of a frame of a node, or of several nodes
 abbrev pub has_id : ℕ → NodeText → Bool

@@ -1,11 +1,11 @@
 //! A plan text with other values.
 ghost use Rattle.std.specs.Prelude.{◌≡◌, ◌<◌, ◌^◌, IfOk, map};
 ghost use Rattle.std.specs.List.{enumerate_from};
-ghost use Rattle.wl_sweep.specs.Changes.{clock_on, clock_with, is_of, moved_node, narrowed, node_with, num_on, ppm_on, rate_on, rate_with, refined, refinement, set_at, text_with, tolerance_on, top_with};
+ghost use Rattle.wl_sweep.specs.Changes.{clock_on, clock_with, frame_with, is_of, moved_node, narrowed, node_set, node_with, num_on, ppm_on, rate_on, rate_with, refined, refinement, replaced, set_at, text_with, tolerance_on, top_with};
 
 use std::alloc::{AllocError, Global};
 use wl_level::Listed;
-use wl_setup::{ClockText, FrameText, NodeText, PlanText, RateText, Text};
+use wl_setup::{ClockText, DisturbanceText, FrameText, NodeText, PlanText, RateText, Text};
 
 /// A key of a plan text that a sweep gives other values.
 #[derive(Clone, Copy, Debug, PartialEq, Eq)]
@@ -40,6 +40,10 @@ pub enum SweptKey {
     In,
     /// `tolerance`
     Tolerance,
+    /// `every`, of each frame that has it.
+    Every,
+    /// `count`, of each frame that has it.
+    Count,
 }
 
 /// On which side of its rates without `ppm` a clock is.
@@ -104,7 +108,7 @@ fn narrowed(size: u64) -> u32
     size.min(u64::from(u32::MAX)) as u32
 }
 
-/// A node with another value of a key that is no clock's.
+/// A node with another value of a key that is no clock's and no frame's.
 fn node_with(node: NodeText, key: SweptKey, value: i64) -> NodeText
     ensures { result ≡ node_with key value node }
 {
@@ -149,6 +153,8 @@ fn frame_again(alloc: Global, frame: &FrameText) -> Result<FrameText, AllocError
         bytes: frame.bytes.clone_in(alloc)?,
         ready: frame.ready,
         extended: frame.extended,
+        every: frame.every,
+        count: frame.count,
     })
 }
 
@@ -163,14 +169,58 @@ fn frames_again(alloc: Global, frames: &[FrameText]) -> Result<Listed<FrameText>
     Ok(copies)
 }
 
-/// A node with another offset and other rates.
-pub(crate) fn node_again(
+/// A number in the place of another one, if there is one.
+fn replaced(old: Option<u64>, value: i64) -> Option<u64>
+    ensures { result ≡ replaced value old }
+{
+    match old {
+        Some(_) => Some(value.unsigned_abs()),
+        None => None,
+    }
+}
+
+/// A frame with another value of a key, if it has that key.
+fn frame_with(frame: FrameText, key: SweptKey, value: i64) -> FrameText
+    ensures { result ≡ frame_with key value frame }
+{
+    match key {
+        SweptKey::Every => FrameText {
+            every: replaced(frame.every, value),
+            ..frame
+        },
+        SweptKey::Count => FrameText {
+            count: replaced(frame.count, value),
+            ..frame
+        },
+        _ => frame,
+    }
+}
+
+/// The frames with another value of a key, each that has it.
+fn frames_with(
+    alloc: Global,
+    frames: &[FrameText],
+    key: SweptKey,
+    value: i64,
+) -> Result<Listed<FrameText>, AllocError>
+    ensures { IfOk result (λ all. all ≡ map (frame_with key value) frames.now) }
+{
+    let mut all = Listed::new(alloc);
+    for frame in frames {
+        all.push(frame_with(frame_again(alloc, frame)?, key, value))?;
+    }
+    Ok(all)
+}
+
+/// A node with another offset, other rates and other frames.
+fn node_made(
     alloc: Global,
     node: &NodeText,
     offset: u64,
     rates: Listed<RateText>,
+    frame: Listed<FrameText>,
 ) -> Result<NodeText, AllocError>
-    ensures { IfOk result (λ copy. copy ≡ record node.now { offset = offset; rates = rates }) }
+    ensures { IfOk result (λ made. made ≡ record node.now { offset = offset; rates = rates; frame = frame }) }
 {
     Ok(NodeText {
         name: Text::new(alloc, node.name.as_str())?,
@@ -183,9 +233,23 @@ pub(crate) fn node_again(
         x: node.x,
         out_delay: node.out_delay,
         in_delay: node.in_delay,
-        frame: frames_again(alloc, node.frame.as_slice())?,
+        frame,
         tolerance: node.tolerance,
+        listens: node.listens,
     })
+}
+
+/// A node with another offset and other rates.
+pub(crate) fn node_again(
+    alloc: Global,
+    node: &NodeText,
+    offset: u64,
+    rates: Listed<RateText>,
+) -> Result<NodeText, AllocError>
+    ensures { IfOk result (λ copy. copy ≡ record node.now { offset = offset; rates = rates }) }
+{
+    let frame = frames_again(alloc, node.frame.as_slice())?;
+    node_made(alloc, node, offset, rates, frame)
 }
 
 /// Equal nodes.
@@ -196,6 +260,35 @@ fn nodes_same(alloc: Global, nodes: &[NodeText]) -> Result<Listed<NodeText>, All
     for node in nodes {
         let rates = node.rates.clone_in(alloc)?;
         copies.push(node_again(alloc, node, node.offset, rates)?)?;
+    }
+    Ok(copies)
+}
+
+/// An equal name, if there is one.
+fn name_again(alloc: Global, name: &Option<Text>) -> Result<Option<Text>, AllocError>
+    ensures { IfOk result (λ copy. copy ≡ name.now) }
+{
+    match name {
+        Some(name) => Ok(Some(Text::new(alloc, name.as_str())?)),
+        None => Ok(None),
+    }
+}
+
+/// Equal disturbances.
+fn disturbances_again(
+    alloc: Global,
+    disturbances: &[DisturbanceText],
+) -> Result<Listed<DisturbanceText>, AllocError>
+    ensures { IfOk result (λ copies. copies ≡ disturbances.now) }
+{
+    let mut copies = Listed::new(alloc);
+    for disturbance in disturbances {
+        copies.push(DisturbanceText {
+            node: name_again(alloc, &disturbance.node)?,
+            x: disturbance.x,
+            from: disturbance.from,
+            to: disturbance.to,
+        })?;
     }
     Ok(copies)
 }
@@ -221,7 +314,7 @@ pub(crate) fn text_again(
         end: text.end,
         per: text.per,
         node,
-        disturbance: text.disturbance.clone_in(alloc)?,
+        disturbance: disturbances_again(alloc, text.disturbance.as_slice())?,
         sync: text.sync,
     })
 }
@@ -333,11 +426,12 @@ fn node_set(
     key: SweptKey,
     value: i64,
 ) -> Result<NodeText, AllocError>
-    ensures { IfOk result (λ n. n ≡ node_with key value (record node.now { rates = map (rate_with key value) node.now.rates })) }
+    ensures { IfOk result (λ n. n ≡ node_set key value node.now) }
 {
     let rates = rates_with(alloc, node.rates.as_slice(), key, value)?;
-    let copy = node_again(alloc, node, node.offset, rates)?;
-    Ok(node_with(copy, key, value))
+    let frames = frames_with(alloc, node.frame.as_slice(), key, value)?;
+    let made = node_made(alloc, node, node.offset, rates, frames)?;
+    Ok(node_with(made, key, value))
 }
 
 /// Whether a value is one of node `i`: each node's where no node is named.

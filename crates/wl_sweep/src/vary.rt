@@ -2,7 +2,7 @@
 ghost use Rattle.std.specs.Prelude.{◌≡◌, ◌*◌, ◌^◌, ◌<◌, ◌+ℤ◌, pos, unsigned_abs, slice_get, neg_ℤ, option_map, None, IfOk, if◌then◌else◌};
 ghost use Rattle.std.specs.List.{list_any, position_from};
 ghost use Rattle.std.specs.Str.{bytes_eq};
-ghost use Rattle.wl_sweep.specs.Vary.{after_byte, clock_has, ends_of, ends_with_step, farthest, few_values, first_step, greatest_x, has_key, is_clock, is_top, key_of, node_of, number_of, numbered, owned, parted, size_of, range_of, step_of, swept_in, swept_of, takes, target_of, values_from, values_of, IsRead};
+ghost use Rattle.wl_sweep.specs.Vary.{after_byte, clock_has, ends_of, ends_with_step, farthest, few_values, first_step, frame_has, greatest_x, has_key, is_clock, is_frame, is_top, key_of, node_of, number_of, numbered, owned, parted, rate_has, size_of, range_of, step_of, swept_in, swept_of, takes, target_of, values_from, values_of, IsRead};
 
 use crate::change::SweptKey;
 use crate::range::SweptRange;
@@ -10,7 +10,7 @@ use crate::sweep::MOST_ROWS;
 use std::alloc::{AllocError, Global};
 use thiserror::Error;
 use wl_level::Listed;
-use wl_setup::{ClockText, NodeText, PlanText, Text};
+use wl_setup::{ClockText, FrameText, NodeText, PlanText, RateText, Text};
 
 /// The greatest number of a range, either way: that of a plan text.
 const LARGEST_NUMBER: u64 = (1 << 48) - 1;
@@ -47,7 +47,7 @@ pub enum RangeFault {
     /// No node has this name or number, or the key is one of the top table.
     #[error("Node")]
     Node,
-    /// The nodes have no such key: one of a clock in another form.
+    /// The nodes have no such key: one of a clock in another form, or of frames that don't come again.
     #[error("Absent")]
     Absent,
     /// A value that no plan text may have at the key.
@@ -195,6 +195,8 @@ fn key_of(name: &str) -> Option<SweptKey>
         "out" => Some(SweptKey::Out),
         "in" => Some(SweptKey::In),
         "tolerance" => Some(SweptKey::Tolerance),
+        "every" => Some(SweptKey::Every),
+        "count" => Some(SweptKey::Count),
         _ => None,
     }
 }
@@ -219,6 +221,16 @@ fn is_clock(key: SweptKey) -> bool
     }
 }
 
+/// Whether a key is one of a frame.
+fn is_frame(key: SweptKey) -> bool
+    ensures { result ≡ is_frame key }
+{
+    match key {
+        SweptKey::Every | SweptKey::Count => true,
+        _ => false,
+    }
+}
+
 /// Whether a clock has a key.
 fn clock_has(key: SweptKey, clock: ClockText) -> bool
     ensures { result ≡ clock_has key clock }
@@ -235,19 +247,52 @@ fn clock_has(key: SweptKey, clock: ClockText) -> bool
     }
 }
 
-/// Whether a node has a key.
-fn has_key(key: SweptKey, node: &NodeText) -> bool
-    ensures { result ≡ has_key key node.now }
+/// Whether the clock of one of some rates has a key.
+fn rates_have(key: SweptKey, rates: &[RateText]) -> bool
+    ensures { result ≡ list_any (rate_has key) rates.now }
 {
-    if !is_clock(key) {
-        return true;
-    }
-    for rate in node.rates.as_slice() {
+    for rate in rates {
         if clock_has(key, rate.clock) {
             return true;
         }
     }
     false
+}
+
+/// Whether a frame has a key.
+fn frame_has(key: SweptKey, frame: &FrameText) -> bool
+    ensures { result ≡ frame_has key frame.now }
+{
+    match key {
+        SweptKey::Every => frame.every.is_some(),
+        SweptKey::Count => frame.count.is_some(),
+        _ => false,
+    }
+}
+
+/// Whether one of some frames has a key.
+fn frames_have(key: SweptKey, frames: &[FrameText]) -> bool
+    ensures { result ≡ list_any (frame_has key) frames.now }
+{
+    for frame in frames {
+        if frame_has(key, frame) {
+            return true;
+        }
+    }
+    false
+}
+
+/// Whether a node has a key.
+fn has_key(key: SweptKey, node: &NodeText) -> bool
+    ensures { result ≡ has_key key node.now }
+{
+    if is_clock(key) {
+        rates_have(key, node.rates.as_slice())
+    } else if is_frame(key) {
+        frames_have(key, node.frame.as_slice())
+    } else {
+        true
+    }
 }
 
 /// Whether one of the nodes has a key.
@@ -380,6 +425,7 @@ fn takes(key: SweptKey, value: i64) -> bool
         SweptKey::Ppm => size <= LARGEST_PPM,
         SweptKey::X => value >= 0 && size <= LARGEST_SMALL,
         SweptKey::Tolerance => value >= 0 && size <= LARGEST_TOLERANCE,
+        SweptKey::Every | SweptKey::Count => value > 0 && size <= LARGEST_NUMBER,
         _ => value >= 0 && size <= LARGEST_NUMBER,
     }
 }
@@ -493,8 +539,8 @@ fn swept_in(nodes: &[NodeText], called: &str) -> Result<(SweptKey, Option<usize>
 
 /// The range that a word means in a plan's text.
 ///
-/// The word is `[NODE.]KEY=A..B[:STEP]`: NODE the name of a node or its number from 0; KEY one of the numbers of the top table or of a node;
-/// A and B whole numbers; STEP one above 0, the roundest that makes few rows where it is left out. Without NODE the key of a node is
+/// The word is `[NODE.]KEY=A..B[:STEP]`: NODE the name of a node or its number from 0; KEY one of the numbers of the top table or of a node,
+/// or `every` or `count` of its frames; A and B whole numbers; STEP one above 0, the roundest that makes few rows where it is left out. Without NODE the key of a node is
 /// that of each node, but `x` that of the first of those that are farthest away.
 ///
 /// The first of these faults: `Form`; `Key`; `Node`; `Absent`; `Bounds`; `Order`; `Step`; `Rows`. `Memory` may be answered at any point.

@@ -33,6 +33,8 @@ fn worst_frame(alloc: Global, id: u32, ready: u64) -> Result<FrameText, AllocErr
         bytes: Listed::from_vec(bytes),
         ready,
         extended: false,
+        every: None,
+        count: None,
     })
 }
 

@@ -1,5 +1,5 @@
 -- A plan text as TOML, key by key (this project's profile; the keys are those of a plan's text).
-use Rattle.std.specs.Prelude.{ℕ, ◌/◌, ◌%◌, ◌==◌, Bool, true, false, List, [], ◌∷◌, ◌++◌, codes, Option, Some, None, if◌then◌else◌}
+use Rattle.std.specs.Prelude.{ℕ, ◌/◌, ◌%◌, ◌==◌, ◌&&◌, ◌||◌, Bool, true, false, List, [], ◌∷◌, ◌++◌, codes, Option, Some, None, if◌then◌else◌}
 use Rattle.std.specs.List.{flat_map}
 use Rattle.std.specs.Fmt.{decimal, digits, digit_glyph, signed_decimal}
 use Rattle.wl_segments.specs.declared.SyncRules.{SyncRules}
@@ -11,6 +11,7 @@ use Rattle.wl_setup.specs.declared.plan_text.FrameText.{FrameText}
 use Rattle.wl_setup.specs.declared.plan_text.DisturbanceText.{DisturbanceText}
 use Rattle.wl_setup.specs.declared.plan_text.ClockText.{ClockText}
 use Rattle.wl_setup.specs.declared.plan_text.ClockText.TheVariants as text
+use Rattle.wl_setup.specs.Limits.{first_version, version_of_traffic}
 
 abbrev pub sync_word : SyncRules → List ℕ
 sync_word sync.After = codes "after"
@@ -40,12 +41,20 @@ from_line from = codes "from = " ++ decimal from ++ codes "\n"
 abbrev pub rate_lines : RateText → List ℕ
 rate_lines r = header_line (codes "node.rates") ++ from_line r.from ++ clock_lines r.clock
 
--- the clock keys of a node are its own in version 1, and from version 2 on those of tables
+-- there is one rate, from quantum 0 on
+abbrev pub is_one : List RateText → Bool
+is_one (rate ∷ []) = rate.from == 0
+is_one rates = false
+
+-- the clock keys of a node are its own in version 1, and in version 3 if it has one rate, from quantum 0 on; else those of tables
+abbrev pub is_own : ℕ → List RateText → Bool
+is_own version rates = (version == first_version) || (version == version_of_traffic && is_one rates)
+
 abbrev pub own_clock_lines : ℕ → List RateText → List ℕ
-own_clock_lines version rates = if version == 1 then flat_map rate_clock_lines rates else []
+own_clock_lines version rates = if is_own version rates then flat_map rate_clock_lines rates else []
 
 abbrev pub rate_tables : ℕ → List RateText → List ℕ
-rate_tables version rates = if version == 1 then [] else flat_map rate_lines rates
+rate_tables version rates = if is_own version rates then [] else flat_map rate_lines rates
 
 unfoldable pub segment_lines : NodeText → List ℕ
 segment_lines n =
@@ -56,10 +65,10 @@ unfoldable pub place_lines : NodeText → List ℕ
 place_lines n =
     codes "x = " ++ decimal n.x ++ codes "\nout = " ++ decimal n.out_delay ++ codes "\nin = " ++ decimal n.in_delay ++ codes "\n"
 
--- a tolerance, if the node has one
-unfoldable pub tolerance_line : Option ℕ → List ℕ
-tolerance_line None = []
-tolerance_line (Some ppm) = codes "tolerance = " ++ decimal ppm ++ codes "\n"
+-- a key that may be left out, with a number
+unfoldable pub number_line : List ℕ → Option ℕ → List ℕ
+number_line key None = []
+number_line key (Some number) = key ++ codes " = " ++ decimal number ++ codes "\n"
 
 -- a byte in two hexadecimal digits
 abbrev pub byte_words : ℕ → List ℕ
@@ -84,7 +93,8 @@ frame_keys f = codes "id = 0x" ++ digits 16 false f.id ++ codes "\ndlc = " ++ de
 
 abbrev pub frame_lines : FrameText → List ℕ
 frame_lines f =
-    header_line (codes "node.frame") ++ frame_keys f ++ flag_line (codes "extended") f.extended ++ flag_line (codes "remote") f.remote ++ data_line f.bytes
+    header_line (codes "node.frame") ++ frame_keys f ++ number_line (codes "every") f.every ++ number_line (codes "count") f.count
+    ++ flag_line (codes "extended") f.extended ++ flag_line (codes "remote") f.remote ++ data_line f.bytes
 
 unfoldable pub name_lines : NodeText → List ℕ
 name_lines n = codes "name = \"" ++ n.name ++ codes "\"\noffset = " ++ decimal n.offset ++ codes "\n"
@@ -92,13 +102,18 @@ name_lines n = codes "name = \"" ++ n.name ++ codes "\"\noffset = " ++ decimal n
 abbrev pub node_lines : ℕ → NodeText → List ℕ
 node_lines version n =
     header_line (codes "node") ++ name_lines n ++ own_clock_lines version n.rates ++ segment_lines n ++ place_lines n
-    ++ tolerance_line n.tolerance ++ rate_tables version n.rates ++ flat_map frame_lines n.frame
+    ++ number_line (codes "tolerance") n.tolerance ++ flag_line (codes "listen") n.listens ++ rate_tables version n.rates ++ flat_map frame_lines n.frame
+
+-- at the node of a name alone, or at a place on the cable
+unfoldable pub spot_line : Option (List ℕ) → ℕ → List ℕ
+spot_line None x = codes "x = " ++ decimal x ++ codes "\n"
+spot_line (Some name) x = codes "node = \"" ++ name ++ codes "\"\n"
 
 unfoldable pub interval_lines : DisturbanceText → List ℕ
-interval_lines d = codes "x = " ++ decimal d.x ++ codes "\nfrom = " ++ decimal d.from ++ codes "\nto = " ++ decimal d.to ++ codes "\n"
+interval_lines d = codes "from = " ++ decimal d.from ++ codes "\nto = " ++ decimal d.to ++ codes "\n"
 
 abbrev pub disturbance_lines : DisturbanceText → List ℕ
-disturbance_lines d = header_line (codes "disturbance") ++ interval_lines d
+disturbance_lines d = header_line (codes "disturbance") ++ spot_line d.node d.x ++ interval_lines d
 
 -- the whole text
 abbrev pub plan_words : PlanText → List ℕ

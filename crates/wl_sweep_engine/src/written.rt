@@ -2,11 +2,11 @@
 ghost use Rattle.std.specs.Prelude.{◌≡◌, OnOk};
 ghost use Rattle.std.specs.List.{flat_map};
 ghost use Rattle.wl_report.specs.Lines.{GrowsBy};
-ghost use Rattle.wl_sweep_engine.specs.Written.{byte_words, clock_lines, data_line, disturbance_lines, flag_line, frame_keys, frame_lines, from_line, header_line, interval_lines, later_words, name_lines, node_lines, own_clock_lines, place_lines, plan_words, rate_clock_lines, rate_lines, rate_tables, segment_lines, sync_word, tolerance_line, top_lines};
+ghost use Rattle.wl_sweep_engine.specs.Written.{byte_words, clock_lines, data_line, disturbance_lines, flag_line, frame_keys, frame_lines, from_line, header_line, interval_lines, is_own, later_words, name_lines, node_lines, number_line, own_clock_lines, place_lines, plan_words, rate_clock_lines, rate_lines, rate_tables, segment_lines, spot_line, sync_word, top_lines};
 
 use std::alloc::AllocError;
 use wl_segments::SyncRules;
-use wl_setup::{ClockText, DisturbanceText, FrameText, NodeText, PlanText, RateText};
+use wl_setup::{ClockText, DisturbanceText, FrameText, NodeText, PlanText, RateText, Text};
 
 /// The word of a choice of rules.
 fn sync_word(sync: SyncRules) -> &'static str
@@ -108,14 +108,24 @@ fn push_place(text: &mut String, node: &NodeText) -> Result<(), AllocError>
     write!(text, "x = {x}\nout = {out}\nin = {into}\n")
 }
 
-/// Adds the key of a node's tolerance, if it has one.
-#[tactic(auto, unfolding(crate::specs::Written::tolerance_line))]
-fn push_tolerance(text: &mut String, tolerance: Option<u32>) -> Result<(), AllocError>
-    ensures { OnOk result (GrowsBy text.old text.new (tolerance_line tolerance)) }
+/// Adds a key with a number, if there is one.
+#[tactic(auto, unfolding(crate::specs::Written::number_line))]
+fn push_number(text: &mut String, key: &str, number: Option<u64>) -> Result<(), AllocError>
+    ensures { OnOk result (GrowsBy text.old text.new (number_line key.now number)) }
+{
+    match number {
+        Some(number) => write!(text, "{key} = {number}\n"),
+        None => Ok(()),
+    }
+}
+
+/// A tolerance with more bits.
+fn widened(tolerance: Option<u32>) -> Option<u64>
+    ensures { result ≡ tolerance }
 {
     match tolerance {
-        Some(ppm) => write!(text, "tolerance = {ppm}\n"),
-        None => Ok(()),
+        Some(ppm) => Some(u64::from(ppm)),
+        None => None,
     }
 }
 
@@ -188,6 +198,8 @@ fn push_frame(text: &mut String, frame: &FrameText) -> Result<(), AllocError>
 {
     push_header(text, "node.frame")?;
     push_frame_keys(text, frame)?;
+    push_number(text, "every", frame.every)?;
+    push_number(text, "count", frame.count)?;
     push_flag(text, "extended", frame.extended)?;
     push_flag(text, "remote", frame.remote)?;
     push_data(text, frame.bytes.as_slice())
@@ -203,22 +215,32 @@ fn push_frames(text: &mut String, frames: &[FrameText]) -> Result<(), AllocError
     Ok(())
 }
 
-/// Adds the clock keys of a node, if they are its own: in version 1.
+/// True if the clock keys of a node are its own: in version 1, and in version 3 if it has one rate, from quantum 0 on.
+fn is_own(version: u64, rates: &[RateText]) -> bool
+    ensures { result ≡ is_own version rates.now }
+{
+    match rates {
+        [rate] => version == 1 || (version == 3 && rate.from == 0),
+        _ => version == 1,
+    }
+}
+
+/// Adds the clock keys of a node, if they are its own.
 fn push_own_clocks(text: &mut String, version: u64, rates: &[RateText]) -> Result<(), AllocError>
     ensures { OnOk result (GrowsBy text.old text.new (own_clock_lines version rates.now)) }
 {
-    if version == 1 {
+    if is_own(version, rates) {
         push_clocks(text, rates)
     } else {
         Ok(())
     }
 }
 
-/// Adds the tables of a node's rates, if it has such: from version 2 on.
+/// Adds the tables of a node's rates, if its clock keys aren't its own.
 fn push_rate_tables(text: &mut String, version: u64, rates: &[RateText]) -> Result<(), AllocError>
     ensures { OnOk result (GrowsBy text.old text.new (rate_tables version rates.now)) }
 {
-    if version == 1 {
+    if is_own(version, rates) {
         Ok(())
     } else {
         push_rates(text, rates)
@@ -243,7 +265,8 @@ fn push_node(text: &mut String, version: u64, node: &NodeText) -> Result<(), All
     push_own_clocks(text, version, node.rates.as_slice())?;
     push_segments(text, node)?;
     push_place(text, node)?;
-    push_tolerance(text, node.tolerance)?;
+    push_number(text, "tolerance", widened(node.tolerance))?;
+    push_flag(text, "listen", node.listens)?;
     push_rate_tables(text, version, node.rates.as_slice())?;
     push_frames(text, node.frame.as_slice())
 }
@@ -258,13 +281,27 @@ fn push_nodes(text: &mut String, version: u64, nodes: &[NodeText]) -> Result<(),
     Ok(())
 }
 
-/// Adds the keys of a disturbance.
+/// Adds where a disturbance is: at one node, or at a place on the cable.
+#[tactic(auto, unfolding(crate::specs::Written::spot_line))]
+fn push_spot(text: &mut String, node: &Option<Text>, x: u32) -> Result<(), AllocError>
+    ensures { OnOk result (GrowsBy text.old text.new (spot_line node.now x)) }
+{
+    match node {
+        Some(name) => {
+            let name = name.as_str();
+            write!(text, "node = \"{name}\"\n")
+        }
+        None => write!(text, "x = {x}\n"),
+    }
+}
+
+/// Adds from when to when a disturbance is.
 #[tactic(auto, unfolding(crate::specs::Written::interval_lines))]
 fn push_interval(text: &mut String, disturbance: &DisturbanceText) -> Result<(), AllocError>
     ensures { OnOk result (GrowsBy text.old text.new (interval_lines disturbance.now)) }
 {
-    let (x, from, to) = (disturbance.x, disturbance.from, disturbance.to);
-    write!(text, "x = {x}\nfrom = {from}\nto = {to}\n")
+    let (from, to) = (disturbance.from, disturbance.to);
+    write!(text, "from = {from}\nto = {to}\n")
 }
 
 /// Adds the table of a disturbance.
@@ -272,6 +309,7 @@ fn push_disturbance(text: &mut String, disturbance: &DisturbanceText) -> Result<
     ensures { OnOk result (GrowsBy text.old text.new (disturbance_lines disturbance.now)) }
 {
     push_header(text, "disturbance")?;
+    push_spot(text, &disturbance.node, disturbance.x)?;
     push_interval(text, disturbance)
 }
 
