@@ -11,7 +11,6 @@ use Rattle.wl_setup.specs.declared.plan_text.FrameText.{FrameText}
 use Rattle.wl_setup.specs.declared.plan_text.DisturbanceText.{DisturbanceText}
 use Rattle.wl_setup.specs.declared.plan_text.ClockText.{ClockText}
 use Rattle.wl_setup.specs.declared.plan_text.ClockText.TheVariants as text
-use Rattle.wl_setup.specs.Limits.{first_version, version_of_traffic}
 
 abbrev pub sync_word : SyncRules → List ℕ
 sync_word sync.After = codes "after"
@@ -48,7 +47,7 @@ is_one rates = false
 
 -- the clock keys of a node are its own in version 1, and in version 3 if it has one rate, from quantum 0 on; else those of tables
 abbrev pub is_own : ℕ → List RateText → Bool
-is_own version rates = (version == first_version) || (version == version_of_traffic && is_one rates)
+is_own version rates = (version == 1) || ((version == 3) && is_one rates)
 
 abbrev pub own_clock_lines : ℕ → List RateText → List ℕ
 own_clock_lines version rates = if is_own version rates then flat_map rate_clock_lines rates else []

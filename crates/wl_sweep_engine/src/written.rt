@@ -2,7 +2,7 @@
 ghost use Rattle.std.specs.Prelude.{◌≡◌, OnOk};
 ghost use Rattle.std.specs.List.{flat_map};
 ghost use Rattle.wl_report.specs.Lines.{GrowsBy};
-ghost use Rattle.wl_sweep_engine.specs.Written.{byte_words, clock_lines, data_line, disturbance_lines, flag_line, frame_keys, frame_lines, from_line, header_line, interval_lines, is_own, later_words, name_lines, node_lines, number_line, own_clock_lines, place_lines, plan_words, rate_clock_lines, rate_lines, rate_tables, segment_lines, spot_line, sync_word, top_lines};
+ghost use Rattle.wl_sweep_engine.specs.Written.{byte_words, clock_lines, data_line, disturbance_lines, flag_line, frame_keys, frame_lines, from_line, header_line, interval_lines, is_one, is_own, later_words, name_lines, node_lines, number_line, own_clock_lines, place_lines, plan_words, rate_clock_lines, rate_lines, rate_tables, segment_lines, spot_line, sync_word, top_lines};
 
 use std::alloc::AllocError;
 use wl_segments::SyncRules;
@@ -215,14 +215,22 @@ fn push_frames(text: &mut String, frames: &[FrameText]) -> Result<(), AllocError
     Ok(())
 }
 
+/// True if there is one rate, from quantum 0 on.
+fn is_one(rates: &[RateText]) -> bool
+    ensures { result ≡ is_one rates.now }
+{
+    match rates {
+        [] => false,
+        [rate] => rate.from == 0,
+        [_, _, ..] => false,
+    }
+}
+
 /// True if the clock keys of a node are its own: in version 1, and in version 3 if it has one rate, from quantum 0 on.
 fn is_own(version: u64, rates: &[RateText]) -> bool
     ensures { result ≡ is_own version rates.now }
 {
-    match rates {
-        [rate] => version == 1 || (version == 3 && rate.from == 0),
-        _ => version == 1,
-    }
+    version == 1 || (version == 3 && is_one(rates))
 }
 
 /// Adds the clock keys of a node, if they are its own.
