@@ -10,6 +10,7 @@ mod BusLemmas
 mod CheckLemmas
 mod FaultLemmas
 mod SpotLemmas
+mod ReadyLemmas
 mod Repeats
 mod Named
 mod Rows

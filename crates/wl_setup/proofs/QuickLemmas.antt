@@ -1,6 +1,6 @@
 -- What the tables of a text of the usual form say.
-use Rattle.std.proofs.Common.{◌<◌, length, IfSome, subst, ◌≡◌, ℕ, Bool, true, false, not, ◌==◌, if◌then◌else◌, List, [], ◌∷◌, ◌++◌, map, filter, codes, Option, Some, None, is_some, unwrap_or, option_map, option_and_then, refl, sym, ap, ◌∙◌}
-use Rattle.std.proofs.lemmas.Bool.{and_parts}
+use Rattle.std.proofs.Common.{◌<◌, length, IfSome, subst, ◌≡◌, ℕ, Bool, true, false, not, ◌==◌, if◌then◌else◌, List, [], ◌∷◌, ◌++◌, map, filter, codes, Option, Some, None, is_some, unwrap_or, option_map, option_and_then, inl, inr, refl, sym, ap, ◌∙◌}
+use Rattle.std.proofs.lemmas.Bool.{and_parts, cases_Bool, false≢true}
 use Rattle.std.proofs.lemmas.Option.{none-some}
 use Rattle.std.proofs.lemmas.List.{map-append}
 use Rattle.std.specs.List.{AllByRecursion, filter_map, list_all}
@@ -8,11 +8,12 @@ use Rattle.toml.specs.Data.{Data, array, table, Members, no_members, member, as_
 use Rattle.toml.specs.Tables.{Nodes, close, Document}
 use Rattle.toml.specs.Parse.{lines, parse_document}
 use Rattle.toml_parser.specs.Lexical.{first}
-use Rattle.std.specs.Str.{IsUtf8}
+use Rattle.std.specs.Str.{IsUtf8, bytes_eq}
+use Rattle.std.proofs.lemmas.Slice.Eq.{bytes_eq-Decides}
 use Rattle.std.proofs.lemmas.Str.{is_utf8-from_IsUtf8}
 use Rattle.wl_setup.specs.Reading.{document_of}
 use Rattle.toml.specs.View.{items_of}
-use Rattle.wl_tables.specs.Tables.{Pairs, pair_expression, header_expression, Goes, nodes_of, IsTable, lines_of_each, table_lines, key_of_header, with_tables, Group, group_lines, group_nodes, plan_nodes, IsNodeTable}
+use Rattle.wl_tables.specs.Tables.{Pairs, pair_expression, header_expression, Goes, nodes_of, IsTable, lines_of_each, table_lines, key_of_header, with_tables, Group, group_lines, group_nodes, plan_nodes, IsNodeTable, first_value}
 use Rattle.wl_tables.specs.declared.header.Header.{Header}
 use Rattle.wl_tables.specs.declared.header.Header.TheVariants as which
 use Rattle.wl_tables.proofs.Callers.{all_keys, tables_value, goes_none, goes_twice, each_more, plan_parsed, value_of_table, value_beside, value_of_tables, keys_of_table, keys_of_tables}
@@ -26,13 +27,13 @@ use Rattle.wl_setup.specs.declared.plan_text.NodeText.{NodeText}
 use Rattle.wl_setup.specs.declared.plan_text.FrameText.{FrameText}
 use Rattle.wl_setup.specs.declared.plan_text.DisturbanceText.{DisturbanceText}
 use Rattle.wl_setup.specs.Limits.{first_version}
-use Rattle.wl_setup.specs.Keys.{key_text, table_keys, TableKeys, top_keys, frame_keys, disturbance_keys, node_keys_by_rate, node_keys_by_ppm}
+use Rattle.wl_setup.specs.Keys.{key_text, table_keys, TableKeys, top_keys, required_by_rate, required_by_ppm, node_optional}
 use Rattle.wl_setup.specs.Kinds.{has_kind, value_at, number_at, tables_at, elements_of}
-use Rattle.wl_setup.specs.Faults.{first_some, required_fault_of, optional_fault_of, required_fault, optional_fault, keys_in, least, is_known, unknown_fault, table_fault, node_keys, rate_fault, rates_fault, is_known_version, version_fault, node_fault}
+use Rattle.wl_setup.specs.Faults.{first_some, required_fault_of, optional_fault_of, required_fault, optional_fault, keys_in, least, is_known, unknown_fault, table_fault, node_keys, frame_fault, disturbance_fault, rate_fault, rates_fault, is_known_version, version_fault, node_fault}
 use Rattle.wl_setup.specs.Texts.{frame_of, disturbance_of, node_text_of, plan_of}
 use Rattle.wl_setup.specs.Names.{same_name_fault}
 use Rattle.wl_setup.specs.Document.{document_fault}
-use Rattle.wl_setup.specs.Quick.{pair_value, required_pairs, optional_pairs, HasKeys, frame_of_pairs, disturbance_of_pairs, pair_keys, node_of_pairs, members, AreTables, IsGood, node_of_group, IsNodeText, AreNodes, IsTopRow, plan_of_pairs, Says, number_said}
+use Rattle.wl_setup.specs.Quick.{pair_value, required_pairs, optional_pairs, has_only, HasKeys, first_frame_keys, first_disturbance_keys, frame_of_pairs, disturbance_of_pairs, pair_keys, node_of_pairs, members, AreTables, IsGood, node_of_group, IsNodeText, AreNodes, IsTopRow, plan_of_pairs, Says, number_said}
 use Rattle.wl_setup.proofs.ValueLemmas.{list_of-items_of}
 
 -- the first of several faults
@@ -88,6 +89,20 @@ table_none : (keys : TableKeys) (M : Members) → first_some (map (required_faul
     → unknown_fault keys M ≡ None → table_fault keys M ≡ None
 table_none keys M a b c = pass _ _ a ∙ pass _ _ b ∙ only _ ∙ c
 
+-- a key that the pairs don't have
+other_key : (keys : TableKeys) (k j : List ℕ) → is_known keys k ≡ false → is_known keys j ≡ true → bytes_eq j k ≡ false
+other_key keys k j strange known =
+    elim (cases_Bool (bytes_eq j k)) [
+      | inl same ↦ absurd (false≢true (sym strange ∙ sym (ap (is_known keys) ((bytes_eq-Decides j k).0 same)) ∙ known))
+      | inr other ↦ other
+    ]
+
+no_value : (keys : TableKeys) (k : List ℕ) (ps : Pairs) → is_known keys k ≡ false → has_only keys ps ≡ true → first_value k ps ≡ None
+no_value keys k [] strange h = refl
+no_value keys k (p ∷ ps) strange h =
+    let (here, more) = and_parts (is_known keys p.0) (list_all (λ q. is_known keys q.0) ps) h in
+    rw (other_key keys k p.0 strange here) (no_value keys k ps strange more)
+
 -- the table of some pairs
 module _ (ps : Pairs) (h : IsTable ps) where
   at_pair : (k : Key) → value_at k (members ps) ≡ pair_value ps k
@@ -102,11 +117,15 @@ module _ (ps : Pairs) (h : IsTable ps) where
       table_none keys (members ps) (required_same (members ps) ps keys.required (each_pair keys.required) fit.0) (optional_same (members ps) ps keys.optional (each_pair keys.optional) fit.1)
       (unknown_none keys (members ps) (keys_of_table (is_known keys) ps h fit.2))
 
-  pub frame_same : frame_of_pairs ps ≡ frame_of (members ps)
-  frame_same = rw (at_pair key.Id, at_pair key.Dlc, at_pair key.Remote, at_pair key.Bytes, at_pair key.Ready, at_pair key.Extended) refl
+  absent : (keys : TableKeys) (k : Key) → is_known keys (key_text k) ≡ false → HasKeys keys ps → value_at k (members ps) ≡ None
+  absent keys k strange fit = at_pair k ∙ no_value keys (key_text k) ps strange fit.2
 
-  pub disturbance_same : disturbance_of_pairs ps ≡ disturbance_of (members ps)
-  disturbance_same = rw (at_pair key.X, at_pair key.From, at_pair key.To) refl
+  -- the keys of the first version alone
+  pub frame_same : HasKeys first_frame_keys ps → frame_of_pairs ps ≡ frame_of (members ps)
+  frame_same fit = rw (absent first_frame_keys key.Every refl fit, absent first_frame_keys key.Count refl fit, at_pair key.Id, at_pair key.Dlc, at_pair key.Remote, at_pair key.Bytes, at_pair key.Ready, at_pair key.Extended) refl
+
+  pub disturbance_same : HasKeys first_disturbance_keys ps → disturbance_of_pairs ps ≡ disturbance_of (members ps)
+  disturbance_same fit = rw (absent first_disturbance_keys key.AtNode refl fit, at_pair key.X, at_pair key.From, at_pair key.To) refl
 
 -- the tables in an array
 tables_only : (ns : List Nodes) → filter_map as_table (map (λ m. table (close m)) ns) ≡ map close ns
@@ -144,9 +163,13 @@ none_in : {A : Type 0} (f : Members → Option SetupFault) (g : A → Nodes) (P 
 none_in f g P ok [] all = refl
 none_in f g P ok (x ∷ xs) all = pass (f (close (g x))) _ (ok x all.0) ∙ none_in f g P ok xs all.1
 
+-- the keys of a node of the first version, by whether `quantum` is there
+abbrev keys_by : Bool → TableKeys
+keys_by b = record { required = if b then required_by_ppm else required_by_rate; optional = node_optional false }
+
 -- a node and its frames
 module _ (ps : Pairs) (rows : List Pairs) (h : IsTable ps) (no_frame : pair_value ps key.Frame ≡ None) (no_rates : pair_value ps key.Rates ≡ None)
-    (all : AllByRecursion (λ r. IsTable r × (table_fault frame_keys (members r) ≡ None)) rows) where
+    (all : AllByRecursion (λ r. IsTable r × (frame_fault first_version (members r) ≡ None)) rows) where
   abbrev inner : List Nodes
   inner = map nodes_of rows
 
@@ -165,9 +188,9 @@ module _ (ps : Pairs) (rows : List Pairs) (h : IsTable ps) (no_frame : pair_valu
   rates_none : rates_fault M ≡ None
   rates_none = ap (λ o. first_some (map rate_fault (tables_in o))) (at_node key.Rates refl ∙ no_rates)
 
-  frames_none : first_some (map (table_fault frame_keys) (tables_at key.Frame M)) ≡ None
-  frames_none = ap (λ ts. first_some (map (table_fault frame_keys) ts)) frames_at
-      ∙ none_in (table_fault frame_keys) nodes_of (λ r. IsTable r × (table_fault frame_keys (members r) ≡ None)) (λ r p. p.1) rows all
+  frames_none : first_some (map (frame_fault first_version) (tables_at key.Frame M)) ≡ None
+  frames_none = ap (λ ts. first_some (map (frame_fault first_version) ts)) frames_at
+      ∙ none_in (frame_fault first_version) nodes_of (λ r. IsTable r × (frame_fault first_version (members r) ≡ None)) (λ r p. p.1) rows all
 
   optional_node : optional_pairs (key.Frame ∷ key.Tolerance ∷ []) ps ≡ None → first_some (map (optional_fault M) (key.Frame ∷ key.Tolerance ∷ [])) ≡ None
   optional_node none =
@@ -176,32 +199,39 @@ module _ (ps : Pairs) (rows : List Pairs) (h : IsTable ps) (no_frame : pair_valu
       pass (optional_fault M key.Frame) _ (ap (optional_fault_of key.Frame) frame_value ∙ frame_kind inner)
       ∙ pass (optional_fault M key.Tolerance) [] (ap (optional_fault_of key.Tolerance) (at_node key.Tolerance refl) ∙ last)
 
-  table_by : (b : Bool) → HasKeys (if b then node_keys_by_ppm else node_keys_by_rate) ps → table_fault (if b then node_keys_by_ppm else node_keys_by_rate) M ≡ None
+  table_by : (b : Bool) → HasKeys (keys_by b) ps → table_fault (keys_by b) M ≡ None
   table_by true fit =
-      table_none node_keys_by_ppm M
-      (required_same M ps node_keys_by_ppm.required
+      table_none (keys_by true) M
+      (required_same M ps (keys_by true).required
       (at_node key.Name refl, (at_node key.Offset refl, (at_node key.Quantum refl, (at_node key.Ppm refl, (at_node key.Prop refl, (at_node key.Ps1 refl, (at_node key.Ps2 refl, (at_node key.Sjw refl, (at_node key.X refl, (at_node key.Out refl, (at_node key.In refl, tt))))))))))) fit.0)
       (optional_node fit.1)
-      (unknown_none node_keys_by_ppm M (keys_of_tables (is_known node_keys_by_ppm) (codes "frame") inner (nodes_of ps) refl (keys_of_table (is_known node_keys_by_ppm) ps h fit.2)))
+      (unknown_none (keys_by true) M (keys_of_tables (is_known (keys_by true)) (codes "frame") inner (nodes_of ps) refl (keys_of_table (is_known (keys_by true)) ps h fit.2)))
   table_by false fit =
-      table_none node_keys_by_rate M
-      (required_same M ps node_keys_by_rate.required
+      table_none (keys_by false) M
+      (required_same M ps (keys_by false).required
       (at_node key.Name refl, (at_node key.Offset refl, (at_node key.Num refl, (at_node key.Den refl, (at_node key.Prop refl, (at_node key.Ps1 refl, (at_node key.Ps2 refl, (at_node key.Sjw refl, (at_node key.X refl, (at_node key.Out refl, (at_node key.In refl, tt))))))))))) fit.0)
       (optional_node fit.1)
-      (unknown_none node_keys_by_rate M (keys_of_tables (is_known node_keys_by_rate) (codes "frame") inner (nodes_of ps) refl (keys_of_table (is_known node_keys_by_rate) ps h fit.2)))
+      (unknown_none (keys_by false) M (keys_of_tables (is_known (keys_by false)) (codes "frame") inner (nodes_of ps) refl (keys_of_table (is_known (keys_by false)) ps h fit.2)))
 
   keys_same : node_keys first_version M ≡ pair_keys ps
-  keys_same = ap (λ o. if is_some o then node_keys_by_ppm else node_keys_by_rate) (at_node key.Quantum refl)
+  keys_same = ap (λ o. keys_by (is_some o)) (at_node key.Quantum refl)
 
   node_none : HasKeys (pair_keys ps) ps → node_fault first_version M ≡ None
   node_none fit =
       pass _ _ (ap (λ ks. table_fault ks M) keys_same ∙ table_by (is_some (pair_value ps key.Quantum)) fit) ∙ pass _ _ rates_none ∙ pass _ _ frames_none
 
-  node_same : (frames : List FrameText) → frames ≡ map (λ r. frame_of (members r)) rows → node_of_pairs ps frames ≡ node_text_of first_version M
-  node_same frames is =
+  no_listen : HasKeys (pair_keys ps) ps → value_at key.Listen M ≡ None
+  no_listen fit = at_node key.Listen refl ∙ no_value (pair_keys ps) (codes "listen") ps (strange (is_some (pair_value ps key.Quantum))) fit.2 where
+    strange : (b : Bool) → is_known (keys_by b) (codes "listen") ≡ false
+    strange true = refl
+    strange false = refl
+
+  node_same : HasKeys (pair_keys ps) ps → (frames : List FrameText) → frames ≡ map (λ r. frame_of (members r)) rows → node_of_pairs ps frames ≡ node_text_of first_version M
+  node_same fit frames is =
       let read : frames ≡ map frame_of (tables_at key.Frame M) = is ∙ map_three frame_of close nodes_of rows ∙ ap (map frame_of) (sym frames_at) in
       rw (
         read,
+        no_listen fit,
         at_node key.Name refl,
         at_node key.Offset refl,
         at_node key.Quantum refl,
@@ -223,13 +253,13 @@ module _ (ps : Pairs) (rows : List Pairs) (h : IsTable ps) (no_frame : pair_valu
 
 -- a node that was read
 pub read_group : (text below rest : List ℕ) (ps : Pairs) (frames : List FrameText) (n : NodeText) → Goes text (map pair_expression ps) below → IsTable ps → HasKeys (pair_keys ps) ps → pair_value ps key.Frame ≡ None
-    → pair_value ps key.Rates ≡ None → AreTables (table_fault frame_keys) frame_of below which.Frame frames rest → n ≡ node_of_pairs ps frames → IsNodeText text n rest
+    → pair_value ps key.Rates ≡ None → AreTables (frame_fault first_version) frame_of below which.Frame frames rest → n ≡ node_of_pairs ps frames → IsNodeText text n rest
 read_group text below rest ps frames n g h fit no_frame no_rates tables is =
     let (rows, goes, all, made) = tables in (
       (ps, rows),
       goes_twice text below rest (map pair_expression ps) (lines_of_each (table_lines (key_of_header which.Frame)) rows) g goes,
       (good_group ps rows h no_frame no_rates all, node_none ps rows h no_frame no_rates all fit),
-      is ∙ node_same ps rows h no_frame no_rates all frames made,
+      is ∙ node_same ps rows h no_frame no_rates all fit frames made,
     )
 
 -- one table more, and one node more
@@ -265,7 +295,7 @@ nodes_more text nodes new rest below next n before head node grown =
 
 -- a plan
 module _ (ps : Pairs) (first_group : Group) (others : List Group) (rows : List Pairs) (h : IsTable ps) (top : IsTopRow ps)
-    (good : AllByRecursion IsGood (first_group ∷ others)) (all : AllByRecursion (λ r. IsTable r × (table_fault disturbance_keys (members r) ≡ None)) rows) where
+    (good : AllByRecursion IsGood (first_group ∷ others)) (all : AllByRecursion (λ r. IsTable r × (disturbance_fault first_version (members r) ≡ None)) rows) where
   abbrev groups : List Group
   groups = first_group ∷ others
 
@@ -337,10 +367,11 @@ module _ (ps : Pairs) (first_group : Group) (others : List Group) (rows : List P
       ap (λ v. first_some (map (node_fault v) (tables_at key.Node P))) version_is ∙ ap (λ ts. first_some (map (node_fault first_version) ts)) nodes_at
       ∙ none_in (node_fault first_version) group_nodes IsGood (λ g p. p.1) groups good
 
-  rows_none : first_some (map (table_fault disturbance_keys) (tables_at key.Disturbance P)) ≡ None
+  rows_none : first_some (map (disturbance_fault (number_at key.Version P)) (tables_at key.Disturbance P)) ≡ None
   rows_none =
-      ap (λ ts. first_some (map (table_fault disturbance_keys) ts)) rows_at
-      ∙ none_in (table_fault disturbance_keys) nodes_of (λ r. IsTable r × (table_fault disturbance_keys (members r) ≡ None)) (λ r p. p.1) rows all
+      ap (λ v. first_some (map (disturbance_fault v) (tables_at key.Disturbance P))) version_is
+      ∙ ap (λ ts. first_some (map (disturbance_fault first_version) ts)) rows_at
+      ∙ none_in (disturbance_fault first_version) nodes_of (λ r. IsTable r × (disturbance_fault first_version (members r) ≡ None)) (λ r p. p.1) rows all
 
   fault_same : document_fault P ≡ same_name_fault (plan_of P)
   fault_same = pass _ _ version_none ∙ pass _ _ table_top ∙ pass _ _ nodes_none ∙ pass _ _ rows_none ∙ only _
@@ -364,17 +395,17 @@ module _ (text below after rest : List ℕ) (ps : Pairs) (nodes : List NodeText)
     (own : Goes text (map pair_expression ps) below) (h : IsTable ps) (top : IsTopRow ps) (some : nodes ≡ [] → ⊥)
     (over : (n : ℕ) (doc : Document) → length rest < n → lines n doc rest ≡ Some doc) (is : plan ≡ plan_of_pairs ps nodes made) where
   from_groups : (groups : List Group) → Goes below (lines_of_each group_lines groups) after → AllByRecursion IsGood groups → nodes ≡ map node_of_group groups
-      → AreTables (table_fault disturbance_keys) disturbance_of after which.Disturbance made rest → Says (parse_document text) plan
+      → AreTables (disturbance_fault first_version) disturbance_of after which.Disturbance made rest → Says (parse_document text) plan
   from_groups [] goes good nodes_are tables = absurd (some nodes_are)
   from_groups (g ∷ gs) goes good nodes_are tables =
       let (rows, rowed, all, made_are) = tables in
       let tail = goes_twice below after rest (lines_of_each group_lines (g ∷ gs)) (lines_of_each (table_lines (key_of_header which.Disturbance)) rows) goes rowed in
       let whole = goes_twice text below rest (map pair_expression ps) (lines_of_each group_lines (g ∷ gs) ++ lines_of_each (table_lines (key_of_header which.Disturbance)) rows) own tail in
       let parsed = plan_parsed text rest ps (g ∷ gs) rows mark (h, top.0, top.1) (all_map IsGood IsNodeTable (λ x p. p.0) (g ∷ gs) good)
-      (all_map (λ r. IsTable r × (table_fault disturbance_keys (members r) ≡ None)) IsTable (λ r p. p.0) rows all) whole over in
+      (all_map (λ r. IsTable r × (disturbance_fault first_version (members r) ≡ None)) IsTable (λ r p. p.0) rows all) whole over in
       says ps g gs rows h top good all text nodes made plan parsed nodes_are made_are is
 
-  pub quick_says : AreNodes below nodes after → AreTables (table_fault disturbance_keys) disturbance_of after which.Disturbance made rest → Says (parse_document text) plan
+  pub quick_says : AreNodes below nodes after → AreTables (disturbance_fault first_version) disturbance_of after which.Disturbance made rest → Says (parse_document text) plan
   quick_says read tables = let (groups, goes, good, nodes_are) = read in from_groups groups goes good nodes_are tables
 
 pub utf8_says : (text s : List ℕ) (r : Option PlanText) → s ≡ text → IsUtf8 text → IfSome r (Says (parse_document s)) → IfSome r (Says (document_of text))

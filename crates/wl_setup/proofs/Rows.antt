@@ -1,11 +1,15 @@
 -- The worked rows of a text's plan, as the definition gives them.
-use Rattle.std.proofs.Common.{◌≡◌, ℕ, List, [], ◌∷◌, true, false, Some, None, Ok, Err, refl}
+use Rattle.std.proofs.Common.{◌≡◌, ℕ, Bool, List, [], ◌∷◌, map, true, false, Option, Some, None, Ok, Err, pos, refl}
 use Rattle.std.specs.Prelude.{codes}
-use Rattle.wl_clock.specs.Timing.{tick_of}
+use Rattle.std.specs.List.{range_with_len}
+use Rattle.std.specs.Result.{result_err}
+use Rattle.toml.specs.Data.{Members, no_members, member, integer, string, boolean, array, no_items}
+use Rattle.wl_clock.specs.Timing.{Timing, tick_of}
+use Rattle.wl_frame.specs.Grammar.{Content}
 use Rattle.wl_frame.specs.declared.frame.FrameFault.TheVariants.{Id, Dlc, ExtendedId}
 use Rattle.wl_topology.specs.Delays.{Cable}
 use Rattle.wl_topology.specs.declared.TopologyFault.TheVariants.{ZeroDelay}
-use Rattle.wl_plan.specs.Limits.{most_quanta}
+use Rattle.wl_plan.specs.Limits.{most_quanta, most_queued}
 use Rattle.wl_plan.specs.declared.check.PlanFault.TheVariants as refusal
 use Rattle.wl_node.specs.declared.setup.Queued.{Queued}
 use Rattle.wl_node.specs.declared.setup.NodeSetup.{NodeSetup}
@@ -17,10 +21,13 @@ use Rattle.wl_setup.specs.declared.fault.SetupFault.TheVariants as fault
 use Rattle.wl_setup.specs.declared.plan_text.PlanText.{PlanText}
 use Rattle.wl_setup.specs.declared.plan_text.NodeText.{NodeText}
 use Rattle.wl_setup.specs.declared.plan_text.FrameText.{FrameText}
+use Rattle.wl_setup.specs.declared.plan_text.DisturbanceText.{DisturbanceText}
 use Rattle.wl_setup.specs.declared.plan_text.ClockText.TheVariants.{Rate}
 use Rattle.wl_segments.specs.declared.SyncRules.TheVariants.{After}
-use Rattle.wl_setup.specs.Limits.{most_bytes, largest_number, largest_small, largest_ppm, largest_tolerance, largest_byte, longest_name, first_version, version_of_rates}
-use Rattle.wl_setup.specs.Plans.{plan_of_text, queued_of}
+use Rattle.wl_setup.specs.Limits.{most_bytes, largest_number, largest_small, largest_ppm, largest_tolerance, largest_byte, longest_name, first_version, version_of_rates, version_of_traffic, few_queued}
+use Rattle.wl_setup.specs.Faults.{table_fault, node_keys, frame_fault, disturbance_fault, node_fault}
+use Rattle.wl_setup.specs.Texts.{frame_of, disturbance_of, node_text_of}
+use Rattle.wl_setup.specs.Plans.{plan_of_text, queued_of, instances_of, queue_in, queue_of, place_of, node_named, disturbance_in}
 
 abbrev frame_text : ℕ → FrameText
 frame_text id = record { id = id; dlc = 0; remote = false; bytes = []; ready = 0; extended = false; every = None; count = None }
@@ -136,6 +143,199 @@ first_version_is = refl
 
 version_of_rates_is : version_of_rates ≡ 2
 version_of_rates_is = refl
+
+version_of_traffic_is : version_of_traffic ≡ 3
+version_of_traffic_is = refl
+
+few_are : few_queued ≡ 64
+few_are = refl
+
+most_are : most_queued ≡ 4096
+most_are = refl
+
+-- tables of version 3, and what the versions before say of them
+abbrev numbers : List (List ℕ × ℕ) → Members → Members
+numbers [] more = more
+numbers ((k, n) ∷ ks) more = member k (integer (pos n)) (numbers ks more)
+
+abbrev frame_with : List (List ℕ × ℕ) → Members
+frame_with more = numbers ((codes "id", 1) ∷ (codes "dlc", 0) ∷ more) no_members
+
+frame-every : frame_fault 3 (frame_with ((codes "every", 1) ∷ [])) ≡ None
+unfolding largest_number largest_small
+frame-every = refl
+
+frame-says : frame_of (frame_with ((codes "count", 2) ∷ (codes "every", 5) ∷ [])) ≡
+    record { id = 1; dlc = 0; remote = false; bytes = []; ready = 0; extended = false; every = Some 5; count = Some 2 }
+unfolding largest_number largest_small
+frame-says = refl
+
+frame-every_zero : frame_fault 3 (frame_with ((codes "every", 0) ∷ [])) ≡ Some (fault.Kind (codes "every"))
+unfolding largest_number largest_small
+frame-every_zero = refl
+
+frame-count_zero : frame_fault 3 (frame_with ((codes "every", 1) ∷ (codes "count", 0) ∷ [])) ≡ Some (fault.Kind (codes "count"))
+unfolding largest_number largest_small
+frame-count_zero = refl
+
+frame-count_alone : frame_fault 3 (frame_with ((codes "count", 2) ∷ [])) ≡ Some (fault.Missing (codes "every"))
+unfolding largest_number largest_small
+frame-count_alone = refl
+
+frame-every_before : frame_fault 2 (frame_with ((codes "every", 1) ∷ [])) ≡ Some (fault.Unknown (codes "every"))
+unfolding largest_number largest_small
+frame-every_before = refl
+
+-- of two unknown keys the first in the order of their bytes
+frame-count_before : frame_fault 1 (frame_with ((codes "every", 1) ∷ (codes "count", 2) ∷ [])) ≡ Some (fault.Unknown (codes "count"))
+unfolding largest_number largest_small
+frame-count_before = refl
+
+abbrev disturbance_with : Members → Members
+disturbance_with more = numbers ((codes "from", 5) ∷ (codes "to", 9) ∷ []) more
+
+abbrev at_b : Members
+at_b = member (codes "node") (string (codes "b")) no_members
+
+disturbance-at : disturbance_fault 3 (disturbance_with at_b) ≡ None
+unfolding largest_number largest_small
+disturbance-at = refl
+
+disturbance-says : disturbance_of (disturbance_with at_b) ≡ record { node = Some (codes "b"); x = 0; from = 5; to = 9 }
+unfolding largest_number largest_small
+disturbance-says = refl
+
+disturbance-both : disturbance_fault 3 (disturbance_with (numbers ((codes "x", 1) ∷ []) at_b)) ≡ Some (fault.Unknown (codes "x"))
+unfolding largest_number largest_small
+disturbance-both = refl
+
+disturbance-number : disturbance_fault 3 (disturbance_with (numbers ((codes "node", 1) ∷ []) no_members)) ≡ Some (fault.Kind (codes "node"))
+unfolding largest_number largest_small
+disturbance-number = refl
+
+disturbance-none : disturbance_fault 3 (disturbance_with no_members) ≡ Some (fault.Missing (codes "x"))
+unfolding largest_number largest_small
+disturbance-none = refl
+
+disturbance-before : disturbance_fault 2 (disturbance_with (numbers ((codes "x", 1) ∷ []) at_b)) ≡ Some (fault.Unknown (codes "node"))
+unfolding largest_number largest_small
+disturbance-before = refl
+
+abbrev segment_keys : List (List ℕ × ℕ)
+segment_keys = (codes "prop", 3) ∷ (codes "ps1", 3) ∷ (codes "ps2", 3) ∷ (codes "sjw", 2) ∷ (codes "x", 0) ∷ (codes "out", 0) ∷ (codes "in", 1) ∷ []
+
+abbrev listener : Members → Members
+listener clock = member (codes "name") (string (codes "a")) (numbers ((codes "offset", 0) ∷ segment_keys) (member (codes "listen") (boolean true) clock))
+
+abbrev fraction : Members
+fraction = numbers ((codes "num", 100) ∷ (codes "den", 1) ∷ []) no_members
+
+abbrev no_rates : Members
+no_rates = member (codes "rates") (array no_items) no_members
+
+node-listen : node_fault 3 (listener fraction) ≡ None
+unfolding largest_number largest_small
+node-listen = refl
+
+node-listen_by_rates : node_fault 3 (listener no_rates) ≡ None
+unfolding largest_number largest_small
+node-listen_by_rates = refl
+
+node-says : (node_text_of 3 (listener fraction)).listens ≡ true
+node-says = refl
+
+node-listen_1 : node_fault 1 (listener fraction) ≡ Some (fault.Unknown (codes "listen"))
+unfolding largest_number largest_small
+node-listen_1 = refl
+
+node-listen_2 : node_fault 2 (listener no_rates) ≡ Some (fault.Unknown (codes "listen"))
+unfolding largest_number largest_small
+node-listen_2 = refl
+
+place-listens : place_of (record (node_text (codes "a") 7 1 []) { listens = true }) ≡ record { x = 7; out_delay = 0; in_delay = 1; listens = true }
+place-listens = refl
+
+-- frames that come again, of a clock whose quanta take 100 ticks
+abbrev hundreds : Timing
+hundreds = record { offset = 0; rates = record { from = 0; num = 100; den = 1 } ∷ [] }
+
+abbrev content : ℕ → Content
+content id = record { extended = false; id = id; remote = false; dlc = 0; bytes = [] }
+
+abbrev waits : ℕ → ℕ → Queued
+waits id ready = record { frame = content id; ready = ready }
+
+abbrev again : ℕ → ℕ → Option ℕ → Option ℕ → FrameText
+again id ready every count = record (frame_text id) { ready = ready; every = every; count = count }
+
+-- quantum 10 begins at the end, and one tick before
+instances-at_the_end : instances_of hundreds 1000 (again 1 0 (Some 5) None) (waits 1 0) ≡ (0, content 1) ∷ (5, content 1) ∷ []
+unfolding tick_of
+instances-at_the_end = refl
+
+instances-before_the_end : instances_of hundreds 1001 (again 1 0 (Some 5) None) (waits 1 0) ≡ (0, content 1) ∷ (5, content 1) ∷ (10, content 1) ∷ []
+unfolding tick_of
+instances-before_the_end = refl
+
+-- the first time counts
+instances-counted : instances_of hundreds 1000 (again 1 3 (Some 1) (Some 2)) (waits 1 3) ≡ (3, content 1) ∷ (4, content 1) ∷ []
+unfolding tick_of
+instances-counted = refl
+
+-- one that comes again is dropped if its first time is not before the end, and one that comes once is not
+instances-late : instances_of hundreds 1000 (again 1 10 (Some 1) (Some 1)) (waits 1 10) ≡ []
+unfolding tick_of
+instances-late = refl
+
+instances-once : instances_of hundreds 1000 (again 1 10 None None) (waits 1 10) ≡ (10, content 1) ∷ []
+instances-once = refl
+
+-- by their quanta; at quanta 4 and 8 the first table's frame comes first
+queue-order : queue_of hundreds 1000 (again 1 4 (Some 4) None ∷ again 2 0 (Some 4) None ∷ []) (waits 1 4 ∷ waits 2 0 ∷ [])
+    ≡ waits 2 0 ∷ waits 1 4 ∷ waits 2 4 ∷ waits 1 8 ∷ waits 2 8 ∷ []
+unfolding tick_of
+queue-order = refl
+
+-- in the versions before by the text alone
+queue-before : queue_in false hundreds 1000 (again 1 4 None None ∷ again 2 0 None None ∷ []) (waits 1 4 ∷ waits 2 0 ∷ []) ≡ waits 1 4 ∷ waits 2 0 ∷ []
+queue-before = refl
+
+abbrev versioned : ℕ → List FrameText → List DisturbanceText → PlanText
+versioned version frames disturbances =
+    record (text_with 0 1 1000) { version = version; node = node_text (codes "a") 0 1 frames ∷ node_text (codes "b") 50 1 [] ∷ []; disturbance = disturbances }
+
+abbrev many : ℕ → List FrameText
+many n = map (λ id. frame_text 1) (range_with_len 0 n)
+
+plan-most_before : result_err (plan_of_text (versioned 2 (many 64) [])) ≡ None
+unfolding most_quanta tick_of
+plan-most_before = refl
+
+plan-too_many_before : plan_of_text (versioned 2 (many 65) []) ≡ Err (fault.Plan (refusal.Queue 0))
+unfolding most_quanta tick_of
+plan-too_many_before = refl
+
+plan-most : result_err (plan_of_text (versioned 3 (many 4096) [])) ≡ None
+unfolding most_quanta tick_of
+plan-most = refl
+
+plan-too_many : plan_of_text (versioned 3 (many 4097) []) ≡ Err (fault.Plan (refusal.Queue 0))
+unfolding most_quanta tick_of
+plan-too_many = refl
+
+abbrev disturbed_at : List ℕ → DisturbanceText
+disturbed_at name = record { node = Some name; x = 0; from = 5; to = 9 }
+
+disturbance-number_of : disturbance_in (codes "a" ∷ codes "b" ∷ []) (disturbed_at (codes "b")) ≡ record { node = Some 1; x = 0; from = 5; to = 9 }
+disturbance-number_of = refl
+
+plan-at_node : result_err (plan_of_text (versioned 3 [] (disturbed_at (codes "b") ∷ []))) ≡ None
+unfolding most_quanta tick_of
+plan-at_node = refl
+
+plan-at_nobody : plan_of_text (versioned 3 [] (disturbed_at (codes "c") ∷ [])) ≡ Err (fault.Plan (refusal.Disturbance 0))
+unfolding most_quanta tick_of
+plan-at_nobody = refl
 
 -- control characters, separators of lines and marks of direction are shown by TOML's escapes, and no other letter is
 shown_escape : shown_letter 27 ≡ codes "\\u001B"

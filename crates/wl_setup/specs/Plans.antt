@@ -1,5 +1,5 @@
 -- Which plan, or which fault, belongs to a plan's text (this project's profile).
-use Rattle.std.specs.Prelude.{◌≡◌, ◌≢◌, ℕ, zero, suc, ◌+◌, ◌^◌, nat_lt, min, Bool, true, false, if◌then◌else◌, List, [], ◌∷◌, ◌++◌, map, take, Option, Some, None, option_map, unwrap_or, Result, Ok, Err, MatchResult}
+use Rattle.std.specs.Prelude.{◌≡◌, ◌≢◌, ℕ, zero, suc, ◌+◌, nat_lt, min, max, Bool, true, false, if◌then◌else◌, List, [], ◌∷◌, ◌++◌, map, take, Option, Some, None, option_map, unwrap_or, Result, Ok, Err, MatchResult}
 use Rattle.std.specs.List.{enumerate_from, position_or_len}
 use Rattle.std.specs.Str.{bytes_eq}
 use Rattle.wl_level.specs.ByTick.{by_tick}
@@ -101,10 +101,19 @@ all_instances clock end _ _ = []
 abbrev pub as_queued : ℕ × Content → Queued
 as_queued (ready, frame) = record { frame = frame; ready = ready }
 
+-- the greatest quantum beside a frame
+abbrev pub latest_ready : List (ℕ × Content) → ℕ
+latest_ready [] = 0
+latest_ready (x ∷ xs) = max x.0 (latest_ready xs)
+
+-- in the order of their quanta, those of one quantum in the order of the list
+abbrev pub by_ready : List (ℕ × Content) → List (ℕ × Content)
+by_ready xs = by_tick (suc (latest_ready xs)) xs
+
 -- They wait in the order in which they become ready, those of one quantum in the order of the text. One more than may wait is kept, so that
 -- the plan is refused.
 abbrev pub queue_of : Timing → ℕ → List FrameText → List Queued → List Queued
-queue_of clock end texts qs = map as_queued (by_tick (2 ^ 64) (take (suc most_queued) (all_instances clock end texts qs)))
+queue_of clock end texts qs = map as_queued (by_ready (take (suc most_queued) (all_instances clock end texts qs)))
 
 -- before the version of traffic frames wait in the order of the text
 abbrev pub queue_in : Bool → Timing → ℕ → List FrameText → List Queued → List Queued

@@ -21,9 +21,9 @@ use Rattle.wl_setup.specs.declared.plan_text.DisturbanceText.{DisturbanceText}
 use Rattle.wl_setup.specs.declared.plan_text.ClockText.{ClockText}
 use Rattle.wl_setup.specs.declared.plan_text.ClockText.TheVariants.{Rate, Ppm}
 use Rattle.wl_setup.specs.Limits.{largest_number, largest_small, largest_tolerance, first_version}
-use Rattle.wl_setup.specs.Keys.{key_text, TableKeys, table_keys, top_keys, frame_keys, node_keys_by_rate, node_keys_by_ppm}
+use Rattle.wl_setup.specs.Keys.{key_text, TableKeys, table_keys, top_keys, required_by_rate, required_by_ppm, node_optional, frame_required, frame_optional, disturbance_required}
 use Rattle.wl_setup.specs.Kinds.{number_in, byte_in, sync_in, elements_of}
-use Rattle.wl_setup.specs.Faults.{first_some, required_fault_of, optional_fault_of, is_known, table_fault, node_fault}
+use Rattle.wl_setup.specs.Faults.{first_some, required_fault_of, optional_fault_of, is_known, node_fault}
 use Rattle.wl_setup.specs.Texts.{node_text_of}
 use Rattle.wl_setup.specs.Names.{same_name_fault}
 use Rattle.wl_setup.specs.Document.{document_fault}
@@ -82,6 +82,13 @@ HasKeys keys ps =
     (required_pairs keys.required ps ≡ None) × (optional_pairs keys.optional ps ≡ None)
     × (has_only keys ps ≡ true)
 
+-- the keys of a frame and of a disturbance of the first version
+abbrev pub first_frame_keys : TableKeys
+first_frame_keys = record { required = frame_required false; optional = frame_optional false }
+
+abbrev pub first_disturbance_keys : TableKeys
+first_disturbance_keys = record { required = disturbance_required false; optional = [] }
+
 abbrev pub frame_of_pairs : Pairs → FrameText
 frame_of_pairs ps = record {
   id = small_said (pair_value ps key.Id);
@@ -90,10 +97,13 @@ frame_of_pairs ps = record {
   bytes = bytes_said (pair_value ps key.Bytes);
   ready = number_said (pair_value ps key.Ready);
   extended = truth_said (pair_value ps key.Extended);
+  every = None;
+  count = None;
 }
 
 abbrev pub disturbance_of_pairs : Pairs → DisturbanceText
 disturbance_of_pairs ps = record {
+  node = None;
   x = small_said (pair_value ps key.X);
   from = number_said (pair_value ps key.From);
   to = number_said (pair_value ps key.To);
@@ -106,7 +116,10 @@ clock_of_pairs ps =
 
 -- the keys of a node of the first version
 abbrev pub pair_keys : Pairs → TableKeys
-pair_keys ps = if is_some (pair_value ps key.Quantum) then node_keys_by_ppm else node_keys_by_rate
+pair_keys ps = record {
+  required = if is_some (pair_value ps key.Quantum) then required_by_ppm else required_by_rate;
+  optional = node_optional false;
+}
 
 abbrev pub node_of_pairs : Pairs → List FrameText → NodeText
 node_of_pairs ps frames = record {
@@ -122,6 +135,7 @@ node_of_pairs ps frames = record {
   in_delay = number_said (pair_value ps key.In);
   frame = frames;
   tolerance = tolerance_said (pair_value ps key.Tolerance);
+  listens = false;
 }
 
 -- the table of some pairs

@@ -168,7 +168,7 @@ pub(crate) fn has_rates(version: u64, table: &Table) -> bool
 }
 
 /// The required keys of a node whose rate is written as a fraction.
-fn required_by_rate() -> &'static [Key]
+pub(crate) fn required_by_rate() -> &'static [Key]
     ensures { result.now ≡ required_by_rate }
 {
     &[
@@ -187,7 +187,7 @@ fn required_by_rate() -> &'static [Key]
 }
 
 /// The required keys of a node whose rate is written as a whole number of ticks and an error in ppm.
-fn required_by_ppm() -> &'static [Key]
+pub(crate) fn required_by_ppm() -> &'static [Key]
     ensures { result.now ≡ required_by_ppm }
 {
     &[
@@ -237,7 +237,7 @@ fn node_required(version: u64, table: &Table) -> &'static [Key]
 }
 
 /// The optional keys of a node, which may only listen or not.
-fn node_optional(traffic: bool) -> &'static [Key]
+pub(crate) fn node_optional(traffic: bool) -> &'static [Key]
     ensures { result.now ≡ node_optional traffic }
 {
     if traffic {
@@ -277,7 +277,7 @@ pub(crate) fn rate_keys(table: &Table) -> Keys
 }
 
 /// The required keys of a frame, which has a count or not.
-fn frame_required(counted: bool) -> &'static [Key]
+pub(crate) fn frame_required(counted: bool) -> &'static [Key]
     ensures { result.now ≡ frame_required counted }
 {
     if counted {
@@ -288,7 +288,7 @@ fn frame_required(counted: bool) -> &'static [Key]
 }
 
 /// The optional keys of a frame, which may come again or not.
-fn frame_optional(traffic: bool) -> &'static [Key]
+pub(crate) fn frame_optional(traffic: bool) -> &'static [Key]
     ensures { result.now ≡ frame_optional traffic }
 {
     if traffic {
@@ -318,7 +318,7 @@ pub(crate) fn frame_keys(version: u64, table: &Table) -> Keys
 }
 
 /// The required keys of a disturbance, at a node or at a place on the cable.
-fn disturbance_required(at_node: bool) -> &'static [Key]
+pub(crate) fn disturbance_required(at_node: bool) -> &'static [Key]
     ensures { result.now ≡ disturbance_required at_node }
 {
     if at_node {

@@ -1,15 +1,16 @@
 //! Plans' texts of the usual form: a line for each key, the nodes with their frames, then the disturbances. `None` says nothing
-//! of a text.
+//! of a text. Only texts of the first version are of the usual form.
 ghost use Rattle.std.specs.Prelude.{◌≡◌, IsTrue, None, true, IfSome, Some};
 ghost use Rattle.toml.specs.Data.{Members};
 ghost use Rattle.toml.specs.Parse.{parse_document};
 ghost use Rattle.wl_tables.specs.Tables.{IsTable, Goes};
 ghost use Rattle.wl_tables.specs.Rows.{pairs_of};
 ghost use Rattle.wl_setup.specs.declared.keys.Key.TheVariants as key;
-ghost use Rattle.wl_setup.specs.Keys.{table_keys, frame_keys, disturbance_keys};
-ghost use Rattle.wl_setup.specs.Faults.{required_fault_of, optional_fault_of, table_fault};
+ghost use Rattle.wl_setup.specs.Keys.{table_keys};
+ghost use Rattle.wl_setup.specs.Limits.{first_version};
+ghost use Rattle.wl_setup.specs.Faults.{required_fault_of, optional_fault_of, frame_fault, disturbance_fault};
 ghost use Rattle.wl_setup.specs.Texts.{frame_of, disturbance_of};
-ghost use Rattle.wl_setup.specs.Quick.{pair_value, required_pairs, optional_pairs, has_only, HasKeys, frame_of_pairs, disturbance_of_pairs, clock_of_pairs, pair_keys, node_of_pairs, members, AreTables, IsNodeText, AreNodes, IsTopRow, plan_of_pairs, Says, value_data};
+ghost use Rattle.wl_setup.specs.Quick.{pair_value, required_pairs, optional_pairs, has_only, HasKeys, first_frame_keys, first_disturbance_keys, frame_of_pairs, disturbance_of_pairs, clock_of_pairs, pair_keys, node_of_pairs, members, AreTables, IsNodeText, AreNodes, IsTopRow, plan_of_pairs, Says, value_data};
 ghost use Rattle.wl_setup.specs.Reading.{document_of};
 
 use crate::fault::SetupFault;
@@ -113,6 +114,17 @@ trait QuickRow: Drop {
         ensures value { IfSome result (λ r. r ≡ Self.make (members (pairs_of row.now))) };
 }
 
+/// The keys of a frame of the first version.
+fn frame_keys() -> Keys
+    ensures required { result.required.now ≡ first_frame_keys.required }
+    ensures optional { result.optional.now ≡ first_frame_keys.optional }
+{
+    Keys {
+        required: keys::frame_required(false),
+        optional: keys::frame_optional(false),
+    }
+}
+
 /// The frame that pairs say.
 fn frame(alloc: Global, row: &Row) -> Option<FrameText>
     ensures { IfSome result (λ f. f ≡ frame_of_pairs (pairs_of row.now)) }
@@ -125,22 +137,35 @@ fn frame(alloc: Global, row: &Row) -> Option<FrameText>
             bytes,
             ready: number_of(value(row, Key::Ready)),
             extended: truth_of(value(row, Key::Extended)),
+            every: None,
+            count: None,
         }),
         Err(_) => None,
     }
 }
 
 impl QuickRow for FrameText {
-    ghost fault = { table_fault frame_keys };
+    ghost fault = { frame_fault first_version };
 
     ghost make = { frame_of };
 
     fn quick(alloc: Global, row: &Row) -> Option<FrameText> {
-        if fits(row, keys::frame_keys()) {
+        if fits(row, frame_keys()) {
             frame(alloc, row)
         } else {
             None
         }
+    }
+}
+
+/// The keys of a disturbance of the first version.
+fn disturbance_keys() -> Keys
+    ensures required { result.required.now ≡ first_disturbance_keys.required }
+    ensures optional { result.optional.now ≡ first_disturbance_keys.optional }
+{
+    Keys {
+        required: keys::disturbance_required(false),
+        optional: &[],
     }
 }
 
@@ -149,6 +174,7 @@ fn disturbance(row: &Row) -> DisturbanceText
     ensures { result ≡ disturbance_of_pairs (pairs_of row.now) }
 {
     DisturbanceText {
+        node: None,
         x: small_of(value(row, Key::X)),
         from: number_of(value(row, Key::From)),
         to: number_of(value(row, Key::To)),
@@ -156,12 +182,12 @@ fn disturbance(row: &Row) -> DisturbanceText
 }
 
 impl QuickRow for DisturbanceText {
-    ghost fault = { table_fault disturbance_keys };
+    ghost fault = { disturbance_fault first_version };
 
     ghost make = { disturbance_of };
 
     fn quick(_alloc: Global, row: &Row) -> Option<DisturbanceText> {
-        if fits(row, keys::disturbance_keys()) {
+        if fits(row, disturbance_keys()) {
             Some(disturbance(row))
         } else {
             None
@@ -205,14 +231,19 @@ fn clock(row: &Row) -> ClockText
     }
 }
 
+/// The keys of a node of the first version.
 fn node_keys(row: &Row) -> Keys
     ensures required { result.required.now ≡ (pair_keys (pairs_of row.now)).required }
     ensures optional { result.optional.now ≡ (pair_keys (pairs_of row.now)).optional }
 {
-    if value(row, Key::Quantum).is_some() {
-        keys::node_keys_by_ppm()
+    let required = if value(row, Key::Quantum).is_some() {
+        keys::required_by_ppm()
     } else {
-        keys::node_keys_by_rate()
+        keys::required_by_rate()
+    };
+    Keys {
+        required,
+        optional: keys::node_optional(false),
     }
 }
 
@@ -239,6 +270,7 @@ fn node(alloc: Global, row: &Row, frame: Listed<FrameText>) -> Option<NodeText>
             in_delay: number_of(value(row, Key::In)),
             frame,
             tolerance: tolerance_of(value(row, Key::Tolerance)),
+            listens: false,
         }),
         _ => None,
     }

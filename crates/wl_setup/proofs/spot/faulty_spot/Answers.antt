@@ -5,4 +5,5 @@ use Rattle.wl_setup.proofs.spot.faulty_spot.Goals as goal
 pub returns : goal.returns
 returns c =
     c.first_spot.ensures
-    ∙ first_three c.spot_in_top.ensures (rw c.number_at.ensures at c.spot_in_nodes.ensures) c.spot_in_disturbances.ensures
+    ∙ first_three c.spot_in_top.ensures (rw c.number_at-version.ensures at c.spot_in_nodes.ensures)
+    (rw c.number_at-version.ensures at c.spot_in_disturbances.ensures)
