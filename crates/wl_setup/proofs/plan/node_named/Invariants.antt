@@ -1,6 +1,4 @@
 use Rattle.std.proofs.Common.{◌≡◌, ◌+◌, map, drop}
-use Rattle.std.specs.List.{position_or_len}
-use Rattle.std.specs.Str.{bytes_eq}
 use Rattle.wl_setup.specs.Plans.{node_named}
 use Rattle.wl_setup.proofs.plan.node_named.Given as goal
 
