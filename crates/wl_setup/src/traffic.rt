@@ -29,6 +29,7 @@ fn push_instances(
     let enough = MOST_QUEUED as u64 + 1;
     let most = text.count.unwrap_or(enough).min(enough);
     let last = clock.first_not_before(end);
+    wl_clock::ticks_increase();
     let mut ready = queued.ready;
     for _ in 0..most {
         if ready >= last {

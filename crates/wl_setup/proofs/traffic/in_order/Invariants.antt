@@ -8,3 +8,7 @@ abbrev pub invariant-loop-n : goal.invariant-loop-n
 invariant-loop-n l =
     take (suc most_queued) (l.all.items ++ all_instances l.clock l.end (drop l.n l.texts) (drop l.n l.queue))
     ≡ take (suc most_queued) (all_instances l.clock l.end l.texts l.queue)
+
+-- those that are left follow on these
+abbrev pub invariant-loop-ready : goal.invariant-loop-ready
+invariant-loop-ready l = l.waiting ++ map as_queued (drop l.ready-index l.ready-items) ≡ map as_queued l.ready-items

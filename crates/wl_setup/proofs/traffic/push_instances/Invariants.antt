@@ -1,10 +1,9 @@
-use Rattle.std.proofs.Common.{◌≡◌, ℕ, ◌-◌, List, ◌++◌}
-use Rattle.wl_frame.specs.Grammar.{Content}
+use Rattle.std.proofs.Common.{◌≡◌, ◌-◌, ◌++◌}
 use Rattle.wl_setup.specs.Plans.{repeated}
 use Rattle.wl_setup.proofs.traffic.push_instances.Given as goal
 
--- those so far, and then those that are left
+-- those so far, and then those that are left, are all
 abbrev pub invariant-loop : goal.invariant-loop
 invariant-loop l =
-    (front : List (ℕ × Content)) × (l.all.items ≡ l.initial.all.items ++ front)
-    × (front ++ repeated l.clock l.end l.every (l.most - l.counter) l.ready l.queued.frame ≡ repeated l.clock l.end l.every l.most l.queued.ready l.queued.frame)
+    l.all.items ++ repeated l.clock l.end l.every (l.most - l.counter) l.ready l.fn.queued.frame
+    ≡ l.initial.all.items ++ repeated l.clock l.end l.every l.most l.fn.queued.ready l.fn.queued.frame
