@@ -1,77 +1,204 @@
 #!/usr/bin/env python3
-"""Opens pages of runs in a browser (chromium, headless), and looks at what they show.
+"""Opens pages of runs and of sweeps in a browser (chromium, headless), and looks at what they show and do.
 
-usage: page.py PROGRAM [PLAN..]               the examples where no plan is named
+usage: page.py PROGRAM [PLAN..]               the pages of these plans; without one those of all examples, and the pages of some sweeps
+       page.py PROGRAM --sweeps               the pages of sweeps alone
+       page.py PROGRAM --busy [SECONDS]       how long the page of 16 nodes with 60,000 quanta each takes to open; it may be 2 seconds
+       page.py PROGRAM --lint                 the scripts of the pages through ESLint (its recommended rules), if `npx eslint` is there
        page.py PROGRAM --picture PLAN FROM-TO FILE.png
 
-Each page has to draw itself whole, with no error in the browser's console. The frames that it counts have to be those of the report; so do its
-nodes and its verdict. A part of the run that the address names has to be what is shown. Says how long each page took to open.
+Each page has to draw itself whole, with no word in the browser's console. The page of a run has to draw each frame of the report, with the
+report's nodes and verdict, and a row or a paragraph for each line of margin and traffic. Keys, wheel and drag have to zoom and scroll. A part of
+the run that the address names has to be what is shown. The page of a sweep has to have a cell for each row of the sweep, coloured by what the
+sweep says of that row alone, and to show the words of the first member that isn't clean.
 """
 import re
 import subprocess
 import sys
 import tempfile
-import time
 from pathlib import Path
 
+from browser import Browser, is_here
+
 TOP = Path(__file__).resolve().parent.parent
-BROWSER = ["chromium", "--headless", "--no-sandbox", "--disable-gpu", "--window-size=1400,900", "--virtual-time-budget=10000"]
+SWEEPS = [
+    ("drifting_listener", ["--runs", "40", "--vary", "ps1=2..6:1", "--vary", "tolerance=0..6000:1500"]),
+    ("cable_too_long", ["--runs", "10", "--keep-offsets", "--vary", "x=100..900:200", "--vary", "out=0..200:50", "--vary", "in=10..20:10"]),
+    ("clean_500k", ["--runs", "4", "--vary", "prop=0..7:1"]),
+]
 
 
-def made(program, plan, folder):
-    page = Path(folder) / (Path(plan).stem + ".html")
-    subprocess.run([program, "page", str(plan), "-o", str(page)], check=True)
-    return page
+def said(program, *words, status=(0,)):
+    ran = subprocess.run([program, *map(str, words)], capture_output=True)
+    if ran.returncode not in status: sys.exit(f"{' '.join(map(str, words))}: status {ran.returncode}: {ran.stderr.decode()}")
+    return ran.stdout.decode()
 
 
-def opened(page, named=""):
-    """What the page became, and what the console said."""
-    ran = subprocess.run([*BROWSER, "--enable-logging=stderr", "--dump-dom", f"file://{page}{named}"], capture_output=True, timeout=120)
-    said = [line for line in ran.stderr.decode().splitlines() if "CONSOLE" in line]
-    return ran.stdout.decode(), said
+class Checked:
+    """What is wrong with a page, one after the other."""
+
+    def __init__(self, browser): self.browser, self.wrong = browser, []
+
+    def want(self, holds, fault):
+        if not holds: self.wrong.append(fault)
+
+    def same(self, of, wanted, what):
+        found = self.browser.value(of)
+        self.want(found == wanted, f"{what}: {found} in the page, {wanted} wanted")
+
+    def shown(self):
+        """The ticks from and to which the run is shown."""
+        found = re.match(r"ticks ([\d,]+) to ([\d,]+) of", self.browser.value("document.getElementById('status').textContent") or "")
+        return tuple(int(number.replace(",", "")) for number in found.groups()) if found else (0, 0)
 
 
-def told(page, name):
-    found = re.search(rf'id="{name}"[^>]*>([^<]*)<', page)
-    return found[1] if found else ""
+def moves(check, browser, end):
+    """Keys, wheel and drag change the part that is shown, and the picture with it."""
+    picture = "document.getElementById('plot').toDataURL()"
+    browser.value("document.getElementById('plot').scrollIntoView(), document.getElementById('plot').focus()")
+    whole = browser.value(picture)
+    x, y = browser.value("(({x, y}) => [x + 500, y + 60])(document.getElementById('plot').getBoundingClientRect())")
+    browser.press("+", 4)
+    low, high = check.shown()
+    check.want(abs((high - low) - max(20, end / 16)) < 4, f"four presses of + show {low} to {high} of {end}")
+    check.want(browser.value(picture) != whole, "zooming changes nothing in the picture")
+    browser.press("ArrowRight")
+    check.want(check.shown()[0] > low, "the right arrow doesn't scroll")
+    browser.press("Home")
+    check.want(check.shown()[0] == 0, "Home doesn't show the start")
+    browser.drag(x, y, -300)
+    check.want(check.shown()[0] > 0, "a drag doesn't scroll")
+    width = high - low
+    browser.wheel(x, y, -120, 2)
+    low, high = check.shown()
+    check.want(high - low < width, "the wheel doesn't zoom")
+    browser.wheel(x, y, 120, 40)
+    check.want(check.shown() == (0, end), "the wheel doesn't lead back to the whole run")
+    browser.press("n")
+    check.want(" at tick " in browser.value("document.getElementById('status').textContent"), "n leads to no event")
+    browser.press("0")
+    check.want(check.shown() == (0, end) and browser.value("document.getElementById('status').textContent") != "", "0 doesn't show the whole run")
 
 
-def faults(program, plan, folder):
-    report = subprocess.run([program, "run", str(plan)], capture_output=True, check=True).stdout.decode()
-    page = made(program, plan, folder)
-    begun = time.monotonic()
-    shown, said = opened(page)
-    took = time.monotonic() - begun
+def run_faults(program, plan, browser, folder):
+    report = said(program, "run", plan)
+    page = folder / (Path(plan).stem + ".html")
+    said(program, "page", plan, "-o", page)
+    took, check = browser.open(f"file://{page}"), Checked(browser)
     frames, nodes = report.count("\nframe "), len(re.findall(r"^node ", report, re.M))
-    wrong = list(said)
-    if 'data-ready="yes"' not in shown:
-        wrong.append("the page was not drawn whole")
-    if f'data-frames="{frames}"' not in shown:
-        wrong.append(f"the report has {frames} frames, the page another number")
-    if told(shown, "verdict") != report.strip().splitlines()[-1]:
-        wrong.append("the verdict differs")
-    if len(re.findall(r'<th scope="row">', shown)) != nodes:
-        wrong.append(f"the report has {nodes} nodes, the page another number")
-    part, said = opened(page, "#1000-3000")
-    if "ticks 1,000 to 3,000" not in told(part, "status") or said:
-        wrong.append("the named part is not what is shown")
-    print(f"{Path(plan).stem}: {page.stat().st_size:,} bytes, {frames} frames, {took:.1f} s in the browser{'' if not wrong else ': ' + '; '.join(wrong)}")
-    return len(wrong)
+    check.same("document.documentElement.dataset.ready", "yes", "drawn whole")
+    check.same("document.documentElement.dataset.frames", str(frames), "frames that are drawn")
+    check.same("document.getElementById('verdict').textContent", report.strip().splitlines()[-1], "verdict")
+    check.same("document.querySelectorAll('#nodes tbody tr').length", nodes, "nodes")
+    for name in ("margin", "traffic"):
+        lines = said(program, name, plan).splitlines()
+        check.same(f"document.querySelectorAll('#{name}-table p, #{name}-table tbody tr').length", len(lines), f"lines of {name}")
+    end = check.shown()[1]
+    moves(check, browser, end)
+    for scheme in ("dark", "light"):
+        browser.media(scheme)
+        check.same("document.documentElement.dataset.frames", str(frames), f"frames in {scheme} colours")
+    check.want(not browser.said, f"the console says {browser.said}")
+    browser.open(f"file://{page}#1000-3000")
+    check.want(check.shown() == (1000, min(3000, end)) and not browser.said, f"the named part is not what is shown, but {check.shown()}")
+    print(f"{Path(plan).stem}: {page.stat().st_size:,} bytes, {frames} frames, shown after {took / 1000:.2f} s", *check.wrong, sep="\n  ")
+    return len(check.wrong)
+
+
+def word_of(told):
+    """How a row of a sweep is coloured, by what the sweep says."""
+    return "failing" if "\nfirst that isn't: " in told else "refused" if "\nfirst refused: " in told else "clean"
+
+
+def rows_of(told):
+    """The rows of a sweep that varies something, each as the values of its keys."""
+    return [re.findall(r"(\S+) (-?\d+) ", found) for found in re.findall(r"^((?:\S+ -?\d+ )+)clean in ", told, re.M)]
+
+
+def first_values(words):
+    """The words of a sweep, in which each range after the second has its first value alone."""
+    found, kept = 0, list(words)
+    for at, word in enumerate(words):
+        if words[at - 1] == "--vary":
+            found += 1
+            key, values = word.split("=")
+            first = values.split("..")[0]
+            if found > 2: kept[at] = f"{key}={first}..{first}"
+    return kept
+
+
+def sweep_faults(program, name, words, browser, folder):
+    plan, page = TOP / "examples" / (name + ".toml"), folder / f"{name}_sweep.html"
+    told = said(program, "sweep", plan, *first_values(words), status=(0, 1))
+    said(program, "sweep", plan, *words, "--page", "-o", page, status=(0, 1))
+    took, check, rows = browser.open(f"file://{page}"), Checked(browser), rows_of(told)
+    check.same("document.documentElement.dataset.ready", "yes", "drawn whole")
+    check.same("document.querySelectorAll('#map td').length", len(rows), "cells")
+    options = [word for at, word in enumerate(words) if "--vary" not in words[max(0, at - 1):at + 1]]
+    for number in sorted({0, 1, len(rows) // 2, len(rows) - 1}):
+        alone = [word for key, value in rows[number] for word in ("--vary", f"{key}={value}..{value}")]
+        found = said(program, "sweep", plan, *options, *alone, status=(0, 1))
+        check.same(f"document.querySelectorAll('#map td')[{number}].dataset.found", word_of("\n" + found), f"cell {number}")
+        x, y = browser.value(f"((cell) => {{ cell.scrollIntoView(); const {{x, y, width, height}} = cell.getBoundingClientRect(); return [x + width / 2, y + height / 2]; }})"
+                             f"(document.querySelectorAll('#map td')[{number}])")
+        browser.click(x, y)
+        shown = browser.value("document.getElementById('told').textContent")
+        for line in found.splitlines(): check.want(line in shown, f"cell {number} doesn't show: {line}")
+        check.want(word_of("\n" + found) != "failing" or "errors" not in found or "first error: " in shown, f"cell {number} shows no error")
+    browser.value("document.querySelector('#map td').focus()")
+    before = browser.value("document.activeElement.dataset.cell")
+    browser.press("End")
+    check.want(browser.value("document.activeElement.dataset.cell") != before or len(rows) == 1, "End moves nothing")
+    check.want(not browser.said, f"the console says {browser.said}")
+    print(f"sweep of {name}: {page.stat().st_size:,} bytes, {len(rows)} cells, shown after {took / 1000:.2f} s", *check.wrong, sep="\n  ")
+    return len(check.wrong)
+
+
+def busy(program, most, browser, folder):
+    plan, page = folder / "busy.toml", folder / "busy.html"
+    plan.write_text(subprocess.run([sys.executable, TOP / "bench" / "plan.py"], capture_output=True, check=True).stdout.decode())
+    said(program, "page", plan, "-o", page)
+    times = sorted(browser.open(f"file://{page}") / 1000 for _ in range(5))
+    frames = browser.value("document.documentElement.dataset.frames")
+    print(f"16 nodes of 60,000 quanta: {page.stat().st_size:,} bytes, {frames} frames, shown after {times[0]:.2f} to {times[-1]:.2f} s, five times")
+    return 0 if times[0] < most and frames != "0" else 1
+
+
+def lint(program, folder):
+    pages = [("run", ["page", TOP / "examples" / "burst.toml"]), ("map", ["sweep", TOP / "examples" / "burst.toml", "--runs", "1", "--page"])]
+    (folder / "eslint.config.mjs").write_text(
+        'import js from "@eslint/js";\nexport default [js.configs.recommended, { languageOptions: { sourceType: "script", globals: Object.fromEntries(\n'
+        '  ["document", "window", "location", "addEventListener", "matchMedia", "getComputedStyle"].map((name) => [name, "readonly"])) } }];\n')
+    for name, words in pages:
+        page = said(program, *words, status=(0, 1))
+        script = page[page.index("<script>\n") + 9:page.rindex("</script>")]
+        (folder / f"{name}.js").write_text(script)
+        print(f"{name}: {len(script.splitlines())} lines")
+    subprocess.run(["npm", "install", "--silent", "--no-save", "eslint", "@eslint/js"], cwd=folder, check=True)
+    return subprocess.run(["npx", "eslint", "--max-warnings", "0", *(name + ".js" for name, _ in pages)], cwd=folder).returncode
 
 
 def main():
     words = sys.argv[1:]
-    if not words:
-        sys.exit(__doc__)
-    program = words[0]
-    with tempfile.TemporaryDirectory() as folder:
-        if words[1:2] == ["--picture"]:
-            page = made(program, words[2], folder)
-            subprocess.run([*BROWSER, "--hide-scrollbars", f"--screenshot={Path(words[4]).resolve()}", f"file://{page}#{words[3]}"], check=True, capture_output=True)
-            return
-        plans = words[1:] or sorted((TOP / "examples").glob("*.toml"))
-        wrong = sum(faults(program, plan, folder) for plan in plans)
-    print(f"{len(plans)} pages, {wrong} faults")
+    if not words: sys.exit(__doc__)
+    program, words = Path(words[0]).resolve(), words[1:]
+    with tempfile.TemporaryDirectory() as room:
+        folder = Path(room)
+        if words[:1] == ["--lint"]: sys.exit(lint(program, folder))
+        if not is_here(): sys.exit("no chromium here")
+        with Browser() as browser:
+            if words[:1] == ["--busy"]: sys.exit(busy(program, float((words + ["2", "2"])[1]), browser, folder))
+            if words[:1] == ["--picture"]:
+                page = folder / "page.html"
+                said(program, "page", words[1], "-o", page)
+                browser.open(f"file://{page}#{words[2]}")
+                browser.picture(Path(words[3]))
+                return
+            plans = [] if words == ["--sweeps"] else words or sorted((TOP / "examples").glob("*.toml"))
+            sweeps = SWEEPS if words in ([], ["--sweeps"]) else []
+            wrong = sum(run_faults(program, plan, browser, folder) for plan in plans)
+            wrong += sum(sweep_faults(program, name, asked, browser, folder) for name, asked in sweeps)
+    print(f"{len(plans) + len(sweeps)} pages, {wrong} faults")
     sys.exit(1 if wrong else 0)
 
 

@@ -2,7 +2,7 @@
 use Rattle.std.specs.Prelude.{ℕ, List, [], ◌∷◌, ◌++◌, ◌==◌, if◌then◌else◌, codes}
 use Rattle.std.specs.List.{flat_map}
 use Rattle.wl_page.specs.declared.texts.Texts.{Texts}
-use Rattle.wl_page.specs.declared.template.TheConstants.{HEAD, TO_SETTINGS, TO_REPORT, TO_PLAN, TO_TRACE, TO_WAVE, SCRIPT}
+use Rattle.wl_page.specs.declared.template.TheConstants.{HEAD, TO_SETTINGS, TO_MARGIN, TO_TRAFFIC, TO_REPORT, TO_PLAN, TO_TRACE, TO_WAVE, SCRIPT}
 
 -- a byte as text within HTML: `&`, `<`, `>` and a carriage return are references to the character, which a browser shows as the byte
 abbrev pub escaped_byte : ℕ → List ℕ
@@ -20,16 +20,38 @@ escaped bytes = flat_map escaped_byte bytes
 abbrev pub with_part : List ℕ → List ℕ → List ℕ → List ℕ
 with_part page layout text = page ++ (layout ++ escaped text)
 
--- each text once and whole, after its part of the layout; the script comes last
-unfoldable pub page_of : List ℕ → List ℕ → List ℕ → List ℕ → List ℕ → List ℕ → List ℕ
-page_of figures settings report plan trace wave =
-    let to_figures = with_part [] HEAD.now figures in
-    let to_settings = with_part to_figures TO_SETTINGS.now settings in
-    let to_report = with_part to_settings TO_REPORT.now report in
-    let to_plan = with_part to_report TO_PLAN.now plan in
-    let to_trace = with_part to_plan TO_TRACE.now trace in
-    with_part to_trace TO_WAVE.now wave ++ SCRIPT.now
+-- the texts of a run
+pub record Run : Type 0 where
+  pub figures : List ℕ
+  pub settings : List ℕ
+  pub margin : List ℕ
+  pub traffic : List ℕ
+  pub report : List ℕ
+  pub plan : List ℕ
+  pub trace : List ℕ
+  pub wave : List ℕ
 
--- of texts by their names
-abbrev pub page_of_texts : Texts → List ℕ
-page_of_texts t = page_of t.figures.now t.settings.now t.report.now t.plan.now t.trace.now t.wave.now
+-- each text once and whole, after its part of the layout; the script comes last
+unfoldable pub page_of : Run → List ℕ
+page_of run =
+    let to_figures = with_part [] HEAD.now run.figures in
+    let to_settings = with_part to_figures TO_SETTINGS.now run.settings in
+    let to_margin = with_part to_settings TO_MARGIN.now run.margin in
+    let to_traffic = with_part to_margin TO_TRAFFIC.now run.traffic in
+    let to_report = with_part to_traffic TO_REPORT.now run.report in
+    let to_plan = with_part to_report TO_PLAN.now run.plan in
+    let to_trace = with_part to_plan TO_TRACE.now run.trace in
+    with_part to_trace TO_WAVE.now run.wave ++ SCRIPT.now
+
+-- the texts that are handed over
+abbrev pub run_of : Texts → Run
+run_of t = record {
+  figures = t.figures.now;
+  settings = t.settings.now;
+  margin = t.margin.now;
+  traffic = t.traffic.now;
+  report = t.report.now;
+  plan = t.plan.now;
+  trace = t.trace.now;
+  wave = t.wave.now;
+}

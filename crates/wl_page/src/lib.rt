@@ -7,4 +7,4 @@ mod escape;
 mod template;
 mod texts;
 
-pub use texts::{Texts, page};
+pub use texts::{Texts, page, push_part};

@@ -23,6 +23,7 @@ table button.bad, .bad { color: var(--error); }
 table { border-collapse: collapse; font-variant-numeric: tabular-nums; }
 th, td { text-align: left; padding: 2px 12px 2px 0; border-bottom: 1px solid var(--faint); vertical-align: top; }
 .scroll { max-height: 320px; overflow: auto; }
+section p { margin: 4px 0; max-width: 100ch; } section .scroll { margin: 6px 0; }
 pre { margin: 0; padding: 8px; border: 1px solid var(--faint); overflow: auto; max-height: 480px; font: 12px/1.4 ui-monospace, monospace; }
 svg { width: 100%; height: auto; max-width: 900px; }
 svg text { fill: var(--text); font: 12px system-ui, sans-serif; } svg .delay { font-size: 10px; opacity: .8; }
@@ -49,12 +50,16 @@ svg .wire { stroke: var(--text); stroke-width: 1.5; } svg .node { fill: var(--fo
 <canvas id="plot" tabindex="0" role="img" aria-labelledby="waveform" aria-describedby="help"></canvas>
 <p id="help">Each node has what it drives and what it finds, high for recessive; the fields of frames above; bit starts and samples (triangles) below; errors, flags and frames where they are. Arrow keys move, + and - zoom, 0 shows the whole run, n and p go to the next and previous event; so do wheel, drag and double click.</p>
 <h2>Events</h2>
-<div class="scroll" tabindex="0" role="region" aria-label="Events"><table id="events"><thead><tr><th scope="col">tick</th><th scope="col">node</th><th scope="col">bit</th><th scope="col">what</th></tr></thead><tbody></tbody></table></div>
+<div class="scroll" tabindex="0" role="region" aria-label="Events"><table id="events"><thead><tr><th scope="col">tick</th><th scope="col">node</th><th scope="col">bit</th><th scope="col">what</th></tr></thead><tbody></tbody></table><button type="button" id="more" hidden></button></div>
 <h2>Nodes at the end</h2>
-<div class="scroll"><table id="nodes"><thead><tr><th scope="col">node</th></tr></thead><tbody></tbody></table></div>
+<section id="nodes" aria-label="Nodes at the end"></section>
 <h2>Cable</h2>
 <svg id="cable" viewBox="0 0 800 90" role="img" aria-label="The nodes along the cable, with the delay in ticks between neighbours"></svg>
-<h2>Margins and figures</h2>
+<h2>Margin</h2>
+<section id="margin-table" aria-label="Margin"></section>
+<h2>Traffic</h2>
+<section id="traffic-table" aria-label="Traffic"></section>
+<h2>Figures and doubts</h2>
 <pre id="figures">"##;
 
 /// From the figures to the settings.
@@ -62,7 +67,15 @@ pub(crate) const TO_SETTINGS: &str = r##"</pre>
 <h2>Settings</h2>
 <pre id="settings">"##;
 
-/// From the settings to the report.
+/// From the settings to the margin.
+pub(crate) const TO_MARGIN: &str = r##"</pre>
+<pre id="margin" hidden>"##;
+
+/// From the margin to the traffic.
+pub(crate) const TO_TRAFFIC: &str = r##"</pre>
+<pre id="traffic" hidden>"##;
+
+/// From the traffic to the report.
 pub(crate) const TO_REPORT: &str = r##"</pre>
 <h2>Report</h2>
 <pre id="report">"##;
@@ -84,8 +97,8 @@ pub(crate) const TO_WAVE: &str = r##"</pre>
 pub(crate) const SCRIPT: &str = r##"</pre>
 <script>
 "use strict";
-// Draws the run of a plan. All that is drawn is read from the texts of the page: the waveform (IEEE 1364 value changes), the trace, the
-// report and the settings, as the program writes them. Times are ticks.
+// Draws the run of a plan. All that is drawn is read from the texts of the page, as the program writes them: the waveform (IEEE 1364 value
+// changes), the trace, the report, the settings, the margin and the traffic. Times are ticks.
 
 const text = (id) => document.getElementById(id).textContent;
 const create = (tag, attributes = {}, ...children) => {
@@ -94,52 +107,53 @@ const create = (tag, attributes = {}, ...children) => {
   made.append(...children);
   return made;
 };
+const linesOf = (id) => text(id).split("\n").filter((line) => line !== "");
 
 // ---- Reading
 
 // The changes of each signal, in order: {times, values}. A signal is named by its letter and its node's number, as t0.
 function readWave(dump) {
   const wave = { nodes: [], signals: new Map(), end: 0, unit: "" };
-  const head = dump.indexOf("$enddefinitions");
-  const scale = dump.slice(0, head).match(/\$timescale\s+(\d+\s*\w+)/);
+  const head = dump.slice(0, dump.indexOf("$enddefinitions"));
+  const scale = head.match(/\$timescale\s+(\d+\s*\w+)/);
   wave.unit = scale ? scale[1].replace(/\s+/, " ") : "ticks";
-  for (const found of dump.slice(0, head).matchAll(/\$var \w+ \d+ ([a-z])(\d+) (\S+) \$end/g)) {
-    const node = Number(found[2]);
-    if (found[1] === "t") wave.nodes[node] = found[3].replace(/_tx$/, "");
-    wave.signals.set(found[1] + node, { times: [], values: [] });
+  for (const [, letter, node, name] of head.matchAll(/\$var \w+ \d+ ([a-z])(\d+) (\S+) \$end/g)) {
+    if (letter === "t") wave.nodes[Number(node)] = name.replace(/_tx$/, "");
+    wave.signals.set(letter + node, { times: [], values: [] });
   }
   let now = 0;
-  for (const line of dump.slice(head).split("\n")) {
-    const kind = line[0];
-    let name, value;
-    if (kind === "#") { now = Number(line.slice(1)); continue; }
-    if (kind === "0" || kind === "1") { name = line.slice(1); value = Number(kind); }
-    else if (kind === "r" || kind === "s") {
-      const space = line.indexOf(" ");
-      name = line.slice(space + 1);
-      value = kind === "r" ? Number(line.slice(1, space)) : line.slice(1, space);
-    } else continue;
+  const change = (name, value) => {
     const signal = wave.signals.get(name);
     if (signal) { signal.times.push(now); signal.values.push(value); }
+  };
+  // Line by line in place: a list of all lines takes longer than all that is made of them.
+  for (let at = head.length, end; at < dump.length; at = end + 1) {
+    end = dump.indexOf("\n", at);
+    if (end < 0) end = dump.length;
+    const kind = dump[at];
+    if (kind === "#") now = Number(dump.slice(at + 1, end));
+    else if (kind === "0" || kind === "1") change(dump.slice(at + 1, end), kind === "1" ? 1 : 0);
+    else if (kind === "r" || kind === "s") {
+      const space = dump.indexOf(" ", at), value = dump.slice(at + 1, space);
+      change(dump.slice(space + 1, end), kind === "r" ? Number(value) : value);
+    }
   }
   wave.end = Math.max(1, now);
   return wave;
 }
 
-// The events of the trace: {tick, node, name, quantum, bit, what}. No word of an event looks like ` q 1 b 2 `, so the last such piece ends the name.
+// The events of the trace: {tick, node, name, bit, what, kind}. No word of an event looks like ` q 1 b 2 `, so the last such piece ends the name.
 function readTrace(lines) {
   const events = [];
-  for (const line of lines.split("\n")) {
-    const found = line.match(/^(\d+) (\d+) (.*) q (\d+) b (\d+) (.*)$/);
-    if (found) events.push({ tick: Number(found[1]), node: Number(found[2]), name: found[3], quantum: Number(found[4]), bit: Number(found[5]), what: found[6] });
+  for (const [, tick, node, name, bit, what] of lines.matchAll(/^(\d+) (\d+) (.*) q \d+ b (\d+) (.*)$/gm)) {
+    events.push({ tick: Number(tick), node: Number(node), name, bit: Number(bit), what, kind: what.slice(0, what.indexOf(" ")) });
   }
   return events;
 }
 
-const isError = (event) => event.what.startsWith("error");
-const isFlag = (event) => event.what.startsWith("flag");
-const isFrame = (event) => /^(sent|received) /.test(event.what);
-const isSync = (event) => event.what.startsWith("sync");
+const isBad = (event) => event.kind === "error" || event.kind === "flag";
+const isFrame = (event) => event.kind === "sent" || event.kind === "received";
+const isSync = (event) => event.kind === "sync";
 
 // ---- Searching
 
@@ -154,87 +168,105 @@ function countUpTo(times, time) {
 }
 const valueAt = (signal, time) => signal.values[Math.max(0, countUpTo(signal.times, time) - 1)];
 
+// The place of the last of some times at or below a time, for times that only grow: each is found from the one before.
+function follow(times) {
+  let at = 0;
+  return (time) => {
+    while (at + 1 < times.length && times[at + 1] <= time) at += 1;
+    return at;
+  };
+}
+
 // ---- Fields of frames
 
-// The field of each bit of a frame without stuff bits, from the start of frame on, as far as the bits tell (Bosch CAN 2.0 part B, section 3.2.1).
+// The field of each bit of a frame without stuff bits, up to the CRC sequence, as far as the bits tell (Bosch CAN 2.0 part B, section 3.2.1).
 function fieldNames(bits) {
-  const extended = bits.length > 13 && bits[13] === 1;
-  const row = (name, count) => Array(Math.max(0, count)).fill(name);
-  const names = [...row("sof", 1), ...row("id", 11)];
-  if (extended) names.push("srr", "ide", ...row("ext id", 18), "rtr", "r1", "r0"); else names.push("rtr", "ide", "r0");
-  const at = names.length;
+  const row = (name, count) => Array(count).fill(name), extended = bits[13] === 1;
+  const names = ["sof", ...row("id", 11), ...(extended ? ["srr", "ide", ...row("ext id", 18), "rtr", "r1", "r0"] : ["rtr", "ide", "r0"])];
+  const at = names.length, code = bits.slice(at, at + 4).reduce((sum, bit) => 2 * sum + bit, 0);
   names.push(...row("dlc", 4));
-  if (bits.length < at + 4) return { names, length: Infinity };
-  const code = bits.slice(at, at + 4).reduce((sum, bit) => 2 * sum + bit, 0);
+  if (bits.length < names.length) return { names, length: Infinity };
   const remote = bits[extended ? 32 : 12] === 1;
   names.push(...row("data", remote ? 0 : 8 * Math.min(code, 8)), ...row("crc", 15));
   return { names, length: names.length };
 }
+const SHAPED = new Set([14, 19, 39]); // after so many bits a frame's form, or its length, is known
+const TAIL = ["crc del", "ack", "ack del", "eof"];
+
+// A frame bit by bit: what each bit is by its number in the frame without stuff bits, or by its name.
+class FrameBits {
+  constructor() { Object.assign(this, { bits: [], run: 0, last: 1, after: 0, shape: fieldNames([]), told: [] }); }
+  push(level, tick) {
+    const isWhole = this.bits.length >= this.shape.length;
+    if (isWhole && !(this.run === 5 && this.after === 0)) {
+      this.told.push({ tick, what: TAIL[Math.min(this.after, 3)] });
+      this.after += 1;
+      return;
+    }
+    const isStuff = this.run === 5;
+    this.told.push({ tick, what: isStuff ? "stuff" : this.bits.length });
+    this.run = !isStuff && this.bits.length > 0 && level === this.last ? this.run + 1 : 1;
+    this.last = level;
+    if (isStuff) return;
+    this.bits.push(level);
+    if (SHAPED.has(this.bits.length)) this.shape = fieldNames(this.bits);
+  }
+  nameOf(what) { return typeof what === "number" ? this.shape.names[what] ?? "?" : what; }
+}
 
 // The fields of the frames that a node takes part in: {from, to, name}, with the ticks at which their bits begin and end.
 function readFields(wave, node) {
-  const samples = wave.signals.get("s" + node).times.slice(1);
-  const starts = wave.signals.get("b" + node).times;
+  const starts = wave.signals.get("b" + node).times, samples = wave.signals.get("s" + node).times.slice(1);
   const rx = wave.signals.get("r" + node), states = wave.signals.get("d" + node);
-  const beginOf = (tick) => starts[Math.max(0, countUpTo(starts, tick) - 1)] ?? 0;
-  const endOf = (tick) => starts[countUpTo(starts, tick)] ?? wave.end;
+  const rxAt = follow(rx.times), stateAt = follow(states.times), stateBefore = follow(states.times), startAt = follow(starts);
+  const isFraming = (place) => states.values[place] === "receiving" || states.values[place] === "transmitting";
   const fields = [];
-  const add = (name, tick) => {
-    const last = fields[fields.length - 1];
-    if (last && last.name === name && last.to === beginOf(tick)) last.to = endOf(tick);
-    else fields.push({ from: beginOf(tick), to: endOf(tick), name });
+  const end = (frame) => {
+    for (const { tick, what } of frame?.told ?? []) {
+      const start = startAt(tick), from = starts[start] ?? 0, to = starts[start + 1] ?? wave.end, name = frame.nameOf(what), before = fields.at(-1);
+      if (before && before.name === name && before.to === from) before.to = to; else fields.push({ from, to, name });
+    }
+    return null;
   };
-  const tail = ["crc del", "ack", "ack del", ...Array(7).fill("eof")];
-  let bits = null, run = 0, last = 1, after = 0, shape = null;
+  let frame = null;
   for (const tick of samples) {
-    const level = valueAt(rx, tick), state = valueAt(states, tick), before = valueAt(states, tick - 1);
-    const framing = state === "receiving" || state === "transmitting";
-    const was = before === "receiving" || before === "transmitting";
-    if (!framing && !was) { bits = null; continue; }
-    if (bits === null || !was) {
-      if (level === 1) { bits = null; continue; }
-      bits = []; run = 0; last = 1; after = 0; shape = null;
-    }
-    if (shape && bits.length >= shape.length && !(run === 5 && after === 0)) {
-      add(tail[after] ?? "eof", tick);
-      after += 1;
-      if (!framing) bits = null;
-      continue;
-    }
-    if (run === 5) { add("stuff", tick); run = 1; last = level; if (!framing) bits = null; continue; }
-    run = bits.length > 0 && level === last ? run + 1 : 1;
-    last = level;
-    bits.push(level);
-    shape = fieldNames(bits);
-    add(shape.names[bits.length - 1] ?? "?", tick);
-    if (!framing) bits = null;
+    const level = rx.values[rxAt(tick)], framing = isFraming(stateAt(tick)), was = isFraming(stateBefore(tick - 1));
+    if (!was) frame = end(frame);
+    if (frame === null && level === 0 && (framing || was)) frame = new FrameBits();
+    frame?.push(level, tick);
+    if (!framing) frame = end(frame);
   }
+  end(frame);
   return fields;
 }
 
 // ---- The view
 
-const data = {
-  wave: readWave(text("wave")),
-  events: readTrace(text("trace")),
-};
-data.fields = data.wave.nodes.map((_, node) => readFields(data.wave, node));
-data.marks = data.wave.nodes.map((_, node) => data.events.filter((event) => event.node === node && !isSync(event)));
-data.syncs = data.wave.nodes.map((_, node) => data.events.filter((event) => event.node === node && isSync(event)));
+const data = { wave: readWave(text("wave")), events: readTrace(text("trace")) };
+const { signals } = data.wave;
+const events = data.events.filter((event) => !isSync(event));
+data.nodes = data.wave.nodes.map((name, node) => {
+  const fields = readFields(data.wave, node);
+  return { name, fields, ends: fields.map((field) => field.to), samples: signals.get("s" + node).times.slice(1), marks: [], ticks: [], syncs: [] };
+});
+for (const event of data.events) {
+  const node = data.nodes[event.node];
+  if (isSync(event)) node.syncs.push(event.tick); else { node.marks.push(event); node.ticks.push(event.tick); }
+}
 
-const view = { from: 0, to: data.wave.end, cursor: null };
+const view = { from: 0, to: data.wave.end, cursor: null, frames: 0 };
 const canvas = document.getElementById("plot");
 const status = document.getElementById("status");
-const LEFT = 96, AXIS = 22, ROW = 86, PAD = 8;
+const LEFT = 96, AXIS = 22, ROW = 86, PAD = 8, SHORTEST = 20;
+const INKS = ["text", "faint", "drive", "found", "sample", "sync", "field", "stuff", "error", "good", "cursor"];
+const ink = {};
 
-const colour = (name) => getComputedStyle(document.documentElement).getPropertyValue("--" + name).trim();
-const places = () => canvas.clientWidth - LEFT - PAD;
+const places = () => view.width - LEFT - PAD;
 const place = (tick) => LEFT + ((tick - view.from) / (view.to - view.from)) * places();
 const tickAt = (x) => view.from + ((x - LEFT) / places()) * (view.to - view.from);
-const shortest = 20;
 
 function show(from, to) {
-  const width = Math.min(data.wave.end, Math.max(shortest, to - from));
+  const width = Math.min(data.wave.end, Math.max(SHORTEST, to - from));
   view.from = Math.min(Math.max(0, from), data.wave.end - width);
   view.to = view.from + width;
   draw();
@@ -248,16 +280,15 @@ const jump = (tick) => {
 };
 // The mean of a bit of node 0, in ticks.
 function bitLength() {
-  const starts = data.wave.signals.get("b0")?.times ?? [];
+  const starts = signals.get("b0")?.times ?? [];
   return starts.length > 2 ? (starts[starts.length - 1] - starts[1]) / (starts.length - 2) : 100;
 }
 
 // ---- Drawing
 
-function drawLevel(pen, signal, top, height, ink) {
-  const { times, values } = signal;
+function drawLevel(pen, { times, values }, top, height, colour) {
   const first = Math.max(0, countUpTo(times, view.from) - 1), last = countUpTo(times, view.to);
-  pen.strokeStyle = ink;
+  pen.strokeStyle = pen.fillStyle = colour;
   pen.beginPath();
   let y = top + (values[first] ? 0 : height);
   pen.moveTo(LEFT, y);
@@ -268,7 +299,6 @@ function drawLevel(pen, signal, top, height, ink) {
     pen.lineTo(x, y);
     if (last - at > 3 && place(times[at + 1]) - x < 0.25) { // more changes than points: a block up to the next one that shows
       const next = Math.min(last - 1, countUpTo(times, tickAt(x + 1)));
-      pen.fillStyle = ink;
       pen.fillRect(x, top, Math.max(1, place(times[next]) - x), height);
       at = Math.max(at, next - 1);
     }
@@ -277,56 +307,66 @@ function drawLevel(pen, signal, top, height, ink) {
   pen.stroke();
 }
 
-function drawMarks(pen, times, y, ink, shape) {
+function drawMarks(pen, times, y, colour, shape) {
   const first = countUpTo(times, view.from), last = countUpTo(times, view.to);
   if ((last - first) * 3 > places()) return;
-  pen.fillStyle = pen.strokeStyle = ink;
+  pen.fillStyle = pen.strokeStyle = colour;
   for (let at = first; at < last; at += 1) shape(pen, place(times[at]), y);
 }
 const triangle = (pen, x, y) => { pen.beginPath(); pen.moveTo(x, y); pen.lineTo(x - 3, y + 5); pen.lineTo(x + 3, y + 5); pen.fill(); };
 const stroke = (pen, x, y) => { pen.beginPath(); pen.moveTo(x, y); pen.lineTo(x, y + 5); pen.stroke(); };
 
-function drawFields(pen, fields, y) {
-  const first = countUpTo(fields.map((field) => field.to), view.from);
+// Text between two places, if it fits there.
+function drawWords(pen, said, x, end, y, centred) {
+  if (end - x < 10) return;
+  const wide = pen.measureText(said).width;
+  pen.fillStyle = ink.text;
+  if (end - x > wide + 4) pen.fillText(said, centred ? (x + end - wide) / 2 : x + 2, y);
+}
+
+function drawFields(pen, { fields, ends }, y) {
   pen.font = "10px system-ui, sans-serif";
-  for (let at = first; at < fields.length && fields[at].from < view.to; at += 1) {
+  let drawn = LEFT;
+  for (let at = countUpTo(ends, view.from); at < fields.length && fields[at].from < view.to; at += 1) {
     const field = fields[at], x = Math.max(LEFT, place(field.from)), end = Math.min(LEFT + places(), place(field.to));
-    pen.fillStyle = colour(field.name === "stuff" ? "stuff" : "field");
+    if (end - drawn < 0.5) continue; // finer than the screen
+    pen.fillStyle = field.name === "stuff" ? ink.stuff : ink.field;
     pen.fillRect(x, y, Math.max(0.5, end - x - 0.5), 12);
-    const wide = pen.measureText(field.name).width;
-    if (end - x > wide + 4) { pen.fillStyle = colour("text"); pen.fillText(field.name, (x + end - wide) / 2, y + 9.5); }
+    drawWords(pen, field.name, x, end, y + 9.5, true);
+    drawn = end;
   }
 }
 
+// Counters, mode and state of a node, as steps.
 function drawSteps(pen, node, y) {
-  const { signals } = data.wave;
-  const words = (time) => `tec ${valueAt(signals.get("e" + node), time)} rec ${valueAt(signals.get("c" + node), time)} ${valueAt(signals.get("m" + node), time)} ${valueAt(signals.get("d" + node), time).replace("_", " ")}`;
-  const times = [...new Set([view.from, ...["e", "c", "m", "d"].flatMap((letter) => {
-    const all = signals.get(letter + node).times;
-    return all.slice(countUpTo(all, view.from), countUpTo(all, view.to)).slice(0, 400);
-  })])].sort((a, b) => a - b);
+  const all = ["e", "c", "m", "d"].map((letter) => signals.get(letter + node)), places0 = LEFT + places();
+  const times = [...new Set([view.from, ...all.flatMap((one) => one.times.slice(countUpTo(one.times, view.from), countUpTo(one.times, view.to)))])].sort((a, b) => a - b);
   pen.font = "10px system-ui, sans-serif";
+  let drawn = LEFT;
   times.forEach((time, at) => {
-    const x = Math.max(LEFT, place(time)), end = at + 1 < times.length ? place(times[at + 1]) : LEFT + places();
-    const said = words(time);
-    pen.fillStyle = colour(/passive|off/.test(said) || /flag/.test(said) ? "error" : "faint");
+    const x = Math.max(LEFT, place(time)), end = at + 1 < times.length ? place(times[at + 1]) : places0;
+    if (end - drawn < 0.5) return;
+    const [tec, rec, mode, state] = all.map((one) => valueAt(one, time));
+    pen.fillStyle = mode !== "active" || state.includes("flag") ? ink.error : ink.faint;
     pen.fillRect(x, y + 11, Math.max(0.5, end - x - 1), 1.5);
-    if (end - x > pen.measureText(said).width + 4) { pen.fillStyle = colour("text"); pen.fillText(said, x + 2, y + 9); }
+    drawWords(pen, `tec ${tec} rec ${rec} ${mode} ${state.replace("_", " ")}`, x, end, y + 9, false);
+    drawn = end;
   });
 }
 
-function drawEvents(pen, node, y) {
+function drawEvents(pen, { marks, ticks }, y) {
   pen.font = "10px system-ui, sans-serif";
-  let free = -Infinity;
-  for (const event of data.marks[node]) {
-    if (event.tick < view.from || event.tick > view.to) continue;
-    const x = place(event.tick);
-    pen.fillStyle = colour(isError(event) || isFlag(event) ? "error" : isFrame(event) ? "good" : "sync");
+  let free = -Infinity, drawn = "";
+  for (let at = countUpTo(ticks, view.from - 1); at < marks.length && ticks[at] <= view.to; at += 1) {
+    const event = marks[at], x = place(event.tick), colour = isBad(event) ? ink.error : isFrame(event) ? ink.good : ink.sync;
+    if (isFrame(event)) view.frames += 1;
+    if (drawn === colour + Math.round(x)) continue;
+    drawn = colour + Math.round(x);
+    pen.fillStyle = colour;
     pen.fillRect(x - 0.75, y - 34, 1.5, 52);
-    if (x > free && x + pen.measureText(event.what).width < LEFT + places()) {
-      pen.fillText(event.what, x + 3, y + 18);
-      free = x + pen.measureText(event.what).width + 8;
-    }
+    if (x <= free) continue;
+    const wide = pen.measureText(event.what).width;
+    if (x + wide < LEFT + places()) { pen.fillText(event.what, x + 3, y + 18); free = x + wide + 8; }
   }
 }
 
@@ -335,79 +375,89 @@ function niceStep(width, most) {
   return [1, 2, 5, 10].map((by) => by * base).find((step) => width / step <= most) ?? 10 * base;
 }
 
+function drawAxis(pen, height) {
+  const step = Math.max(1, niceStep(view.to - view.from, places() / 90));
+  pen.font = "11px system-ui, sans-serif";
+  for (let tick = Math.ceil(view.from / step) * step; tick <= view.to; tick += step) {
+    pen.fillStyle = ink.faint;
+    pen.fillRect(place(tick), AXIS - 4, 0.5, height);
+    pen.fillStyle = ink.text;
+    pen.fillText(tick.toLocaleString("en"), place(tick) + 2, 12);
+  }
+}
+
+function drawNode(pen, node, number, top) {
+  pen.fillStyle = ink.text;
+  pen.font = "12px system-ui, sans-serif";
+  pen.fillText(node.name.slice(0, 14), 4, top + 22);
+  pen.font = "10px system-ui, sans-serif";
+  pen.fillText("drives", 4, top + 38);
+  pen.fillText("finds", 4, top + 56);
+  pen.save();
+  pen.beginPath();
+  pen.rect(LEFT, 0, places(), top + ROW);
+  pen.clip();
+  drawFields(pen, node, top + 14);
+  drawLevel(pen, signals.get("t" + number), top + 30, 10, ink.drive);
+  drawLevel(pen, signals.get("r" + number), top + 46, 12, ink.found);
+  drawMarks(pen, node.samples, top + 60, ink.sample, triangle);
+  drawMarks(pen, signals.get("b" + number).times, top + 40, ink.faint, stroke);
+  drawMarks(pen, node.syncs, top + 53, ink.sync, stroke);
+  drawEvents(pen, node, top + 60);
+  drawSteps(pen, number, top);
+  pen.restore();
+}
+
 function draw() {
-  const height = AXIS + ROW * data.wave.nodes.length, dense = window.devicePixelRatio || 1;
+  const height = AXIS + ROW * data.nodes.length, dense = window.devicePixelRatio || 1, style = getComputedStyle(document.documentElement);
+  for (const name of INKS) ink[name] = style.getPropertyValue("--" + name).trim();
+  view.width = canvas.clientWidth;
+  view.frames = 0;
   canvas.style.height = height + "px";
-  canvas.width = canvas.clientWidth * dense;
+  canvas.width = view.width * dense;
   canvas.height = height * dense;
   const pen = canvas.getContext("2d");
   pen.scale(dense, dense);
-  pen.clearRect(0, 0, canvas.clientWidth, height);
   pen.lineWidth = 1.2;
-  pen.font = "11px system-ui, sans-serif";
-  const step = Math.max(1, niceStep(view.to - view.from, places() / 90));
-  for (let tick = Math.ceil(view.from / step) * step; tick <= view.to; tick += step) {
-    pen.fillStyle = colour("faint");
-    pen.fillRect(place(tick), AXIS - 4, 0.5, height);
-    pen.fillStyle = colour("text");
-    pen.fillText(tick.toLocaleString("en"), place(tick) + 2, 12);
-  }
-  data.wave.nodes.forEach((name, node) => {
-    const top = AXIS + ROW * node, signals = data.wave.signals;
-    pen.fillStyle = colour("text");
-    pen.font = "12px system-ui, sans-serif";
-    pen.fillText(name.slice(0, 14), 4, top + 22);
-    pen.font = "10px system-ui, sans-serif";
-    pen.fillText("drives", 4, top + 38);
-    pen.fillText("finds", 4, top + 56);
-    pen.save();
-    pen.beginPath();
-    pen.rect(LEFT, 0, places(), height);
-    pen.clip();
-    drawFields(pen, data.fields[node], top + 14);
-    drawLevel(pen, signals.get("t" + node), top + 30, 10, colour("drive"));
-    drawLevel(pen, signals.get("r" + node), top + 46, 12, colour("found"));
-    drawMarks(pen, signals.get("s" + node).times.slice(1), top + 60, colour("sample"), triangle);
-    drawMarks(pen, signals.get("b" + node).times, top + 40, colour("faint"), stroke);
-    drawMarks(pen, data.syncs[node].map((event) => event.tick), top + 53, colour("sync"), stroke);
-    drawEvents(pen, node, top + 60);
-    drawSteps(pen, node, top);
-    pen.restore();
-  });
+  drawAxis(pen, height);
+  data.nodes.forEach((node, number) => drawNode(pen, node, number, AXIS + ROW * number));
   if (view.cursor !== null) {
-    pen.fillStyle = colour("cursor");
+    pen.fillStyle = ink.cursor;
     pen.fillRect(place(view.cursor), AXIS - 6, 1, height);
   }
-  status.textContent = `ticks ${Math.round(view.from).toLocaleString("en")} to ${Math.round(view.to).toLocaleString("en")} of ${data.wave.end.toLocaleString("en")}, in ${data.wave.unit}; ${((view.to - view.from) / bitLength()).toFixed(1)} bits`;
+  const [from, to, end] = [view.from, view.to, data.wave.end].map((tick) => Math.round(tick).toLocaleString("en"));
+  status.textContent = `ticks ${from} to ${to} of ${end}, in ${data.wave.unit}; ${((view.to - view.from) / bitLength()).toFixed(1)} bits`;
+  document.documentElement.dataset.frames = String(view.frames);
 }
 
 // ---- Hands and keys
 
 let held = null;
+const xOf = (hand) => hand.clientX - canvas.getBoundingClientRect().left;
 canvas.addEventListener("pointerdown", (press) => { held = { x: press.clientX, from: view.from, to: view.to }; canvas.setPointerCapture(press.pointerId); });
 canvas.addEventListener("pointermove", (moved) => {
-  const box = canvas.getBoundingClientRect(), tick = tickAt(moved.clientX - box.left);
   if (held) { const by = ((moved.clientX - held.x) / places()) * (held.to - held.from); show(held.from - by, held.to - by); return; }
-  const node = Math.floor((moved.clientY - box.top - AXIS) / ROW), near = (view.to - view.from) / places() * 5;
-  const found = data.events.filter((event) => event.node === node && Math.abs(event.tick - tick) < near);
-  const field = data.fields[node]?.find((it) => it.from <= tick && tick < it.to);
-  canvas.title = [`tick ${Math.round(tick)}`, field ? field.name : "", ...found.map((event) => event.what)].filter(Boolean).join("; ");
+  const tick = tickAt(xOf(moved)), near = ((view.to - view.from) / places()) * 5;
+  const node = data.nodes[Math.floor((moved.clientY - canvas.getBoundingClientRect().top - AXIS) / ROW)];
+  if (!node) { canvas.title = ""; return; }
+  const field = node.fields[countUpTo(node.ends, tick)], found = node.marks.slice(countUpTo(node.ticks, tick - near), countUpTo(node.ticks, tick + near));
+  canvas.title = [`tick ${Math.round(tick)}`, field && field.from <= tick ? field.name : "", ...found.map((event) => event.what)].filter(Boolean).join("; ");
 });
-canvas.addEventListener("pointerup", () => { held = null; });
+for (const ended of ["pointerup", "pointercancel"]) canvas.addEventListener(ended, () => { held = null; });
 canvas.addEventListener("wheel", (turned) => {
   turned.preventDefault();
   if (Math.abs(turned.deltaX) > Math.abs(turned.deltaY) || turned.shiftKey) move((turned.deltaX || turned.deltaY) / 1000);
-  else zoom(turned.deltaY > 0 ? 1.25 : 0.8, tickAt(turned.clientX - canvas.getBoundingClientRect().left));
+  else zoom(turned.deltaY > 0 ? 1.25 : 0.8, tickAt(xOf(turned)));
 }, { passive: false });
-canvas.addEventListener("dblclick", (pressed) => zoom(0.25, tickAt(pressed.clientX - canvas.getBoundingClientRect().left)));
-const middle = () => view.cursor !== null && view.cursor > view.from && view.cursor < view.to ? view.cursor : (view.from + view.to) / 2;
-const events = data.events.filter((event) => !isSync(event));
+canvas.addEventListener("dblclick", (pressed) => zoom(0.25, tickAt(xOf(pressed))));
+const middle = () => (view.cursor !== null && view.cursor > view.from && view.cursor < view.to ? view.cursor : (view.from + view.to) / 2);
 const next = (by) => {
   const at = view.cursor ?? (by > 0 ? -1 : data.wave.end + 1);
   const found = by > 0 ? events.find((event) => event.tick > at) : events.findLast((event) => event.tick < at);
-  if (found) { jump(found.tick); say(found); }
+  if (!found) return;
+  jump(found.tick);
+  status.textContent += `; ${found.name}: ${found.what} at tick ${found.tick.toLocaleString("en")}`;
 };
-const say = (event) => { status.textContent += `; ${event.name}: ${event.what} at tick ${event.tick.toLocaleString("en")}`; };
 const keys = {
   "+": () => zoom(0.5, middle()), "=": () => zoom(0.5, middle()), "-": () => zoom(2, middle()), 0: () => show(0, data.wave.end),
   ArrowLeft: () => move(-0.2), ArrowRight: () => move(0.2), Home: () => show(0, view.to - view.from),
@@ -419,40 +469,79 @@ canvas.addEventListener("keydown", (pressed) => {
 });
 for (const button of document.querySelectorAll("button[data-key]")) button.addEventListener("click", () => keys[button.dataset.key]());
 
-// ---- Tables and the cable
+// ---- Tables
 
+const cell = (said, attributes = {}) => create("td", attributes, said);
+const heads = (names) => create("thead", {}, create("tr", {}, ...names.map((name) => create("th", { scope: "col" }, name))));
+const named = (name, cells) => create("tr", {}, create("th", { scope: "row" }, name), ...cells.map((said) => cell(said, said.startsWith("-") && said !== "-" ? { class: "bad" } : {})));
+const table = (names, rows) => create("div", { class: "scroll" }, create("table", {}, heads(names), create("tbody", {}, ...rows)));
+
+const STEP = 500; // lines that the table of events has at first, and that a press adds
 function fillEvents() {
-  const body = document.querySelector("#events tbody");
-  const shown = events.slice(0, 2000);
-  for (const event of shown) {
-    const link = create("button", { type: "button", class: isError(event) || isFlag(event) ? "bad" : "plain" }, event.tick.toLocaleString("en"));
-    link.addEventListener("click", () => { jump(event.tick); canvas.focus(); });
-    body.append(create("tr", {}, create("td", {}, link), create("td", {}, event.name), create("td", {}, String(event.bit)), create("td", {}, event.what)));
-  }
-  document.getElementById("counted").textContent = `${events.filter(isFrame).length} frames, ${events.filter(isError).length} errors, ${data.events.filter(isSync).length} synchronisations`
-    + (events.length > shown.length ? `; the first ${shown.length} of ${events.length} lines` : "");
+  const body = document.querySelector("#events tbody"), more = document.getElementById("more");
+  let shown = 0;
+  const add = () => {
+    const made = events.slice(shown, shown + STEP).map((event, at) => create("tr", {},
+      cell(create("button", { type: "button", "data-event": shown + at, class: isBad(event) ? "bad" : "plain" }, event.tick.toLocaleString("en"))),
+      cell(event.name), cell(String(event.bit)), cell(event.what)));
+    body.append(...made);
+    shown += made.length;
+    more.hidden = shown >= events.length;
+    more.textContent = `${Math.min(STEP, events.length - shown)} more of ${events.length}`;
+  };
+  body.addEventListener("click", (pressed) => {
+    const number = pressed.target.dataset.event;
+    if (number !== undefined) { jump(events[number].tick); canvas.focus(); }
+  });
+  more.addEventListener("click", add);
+  add();
+  const counts = [["frames", isFrame], ["errors", (event) => event.kind === "error"], ["synchronisations", isSync]];
+  document.getElementById("counted").textContent = counts.map(([name, is]) => `${data.events.filter(is).length} ${name}`).join(", ");
 }
 
 // A row of words as a table: `node 0 tec 0 rec 0 ..` has a name before each value.
 function fillReport() {
-  const table = document.querySelector("#nodes tbody"), head = document.querySelector("#nodes thead tr");
-  const lines = text("report").split("\n").filter((line) => line.startsWith("node "));
-  lines.forEach((line, node) => {
-    const words = line.split(" ");
-    if (node === 0) for (let at = 2; at < words.length; at += 2) head.append(create("th", { scope: "col" }, words[at]));
-    const row = create("tr", {}, create("th", { scope: "row" }, data.wave.nodes[node] ?? words[1]));
-    for (let at = 3; at < words.length; at += 2) row.append(create("td", {}, words[at]));
-    table.append(row);
-  });
-  document.getElementById("verdict").textContent = text("report").trim().split("\n").pop();
+  const rows = linesOf("report").filter((line) => line.startsWith("node ")).map((line) => line.split(" "));
+  const odd = (words) => words.slice(2).filter((_, at) => at % 2 === 0), even = (words) => words.slice(2).filter((_, at) => at % 2 === 1);
+  document.getElementById("nodes").append(table(["node", ...odd(rows[0] ?? [])], rows.map((words, node) => named(data.wave.nodes[node] ?? words[1], even(words)))));
+  document.getElementById("verdict").textContent = linesOf("report").at(-1);
+}
+
+// Lines of one form as the rows of a table, each once; all others as they are, in their places before or after it.
+function fillLines(id, form, names, row) {
+  const section = document.getElementById(id + "-table"), lines = linesOf(id);
+  const rows = lines.map((line) => line.match(form)).filter(Boolean);
+  const first = lines.findIndex((line) => form.test(line)), plain = lines.map((line, at) => [line, at]).filter(([line]) => !form.test(line));
+  const said = (isHere) => plain.filter(([, at]) => isHere(at)).map(([line]) => create("p", {}, line));
+  section.append(...said((at) => rows.length === 0 || at < first));
+  if (rows.length > 0) section.append(table(names(rows[0]), rows.map(row)), ...said((at) => at > first));
+}
+
+// The words of a message's line as pairs of name and value: `sent 5 .. us least 232 mean 259.80`.
+function pairsOf(said) {
+  const pairs = [];
+  let group = "";
+  for (const words = said.split(" "); words.length > 1;) {
+    if (/^[a-z]/.test(words[1])) { group = words.shift() + " "; continue; }
+    const [name, value] = words.splice(0, 2);
+    pairs.push([group + name, value]);
+  }
+  return pairs;
+}
+
+function fillTables() {
+  const MESSAGE = /^message \d+ (.*) ([0-9a-f]{8}|[0-9a-f]{3}) (sent .*)$/, PAIR = /^pair (.*): late (.*), early (.*), drift (.*)$/;
+  fillLines("margin", PAIR, () => ["pair", "late", "early", "drift"], ([, pair, ...spare]) => named(pair, spare));
+  fillLines("traffic", MESSAGE, (first) => ["node", "identifier", ...pairsOf(first[3]).map(([name]) => name)],
+    ([, node, identifier, said]) => named(node, [identifier, ...pairsOf(said).map(([, value]) => value)]));
 }
 
 // The cable: nodes in the order of their delays from the first end that the delays show, each at its own place, with the delays between neighbours.
 function drawCable() {
-  const delays = new Map(), count = data.wave.nodes.length;
-  for (const found of text("settings").matchAll(/^pair (\d+) (\d+) delay (\d+) back (\d+)$/gm)) {
-    delays.set(`${found[1]} ${found[2]}`, (Number(found[3]) + Number(found[4])) / 2);
-    delays.set(`${found[2]} ${found[1]}`, (Number(found[3]) + Number(found[4])) / 2);
+  const delays = new Map(), count = data.nodes.length;
+  for (const [, i, j, delay, back] of text("settings").matchAll(/^pair (\d+) (\d+) delay (\d+) back (\d+)$/gm)) {
+    delays.set(`${i} ${j}`, (Number(delay) + Number(back)) / 2);
+    delays.set(`${j} ${i}`, (Number(delay) + Number(back)) / 2);
   }
   const way = (i, j) => delays.get(`${i} ${j}`) ?? 0;
   let end = 0, far = 0;
@@ -477,18 +566,18 @@ function drawCable() {
 
 // The page's address may name what is shown, as #1000-2000.
 function showNamed() {
-  const named = location.hash.match(/^#(\d+)-(\d+)$/);
-  if (named) show(Number(named[1]), Number(named[2])); else draw();
+  const range = location.hash.match(/^#(\d+)-(\d+)$/);
+  if (range) show(Number(range[1]), Number(range[2])); else draw();
 }
 
 fillReport();
 fillEvents();
+fillTables();
 drawCable();
 showNamed();
 addEventListener("resize", draw);
 addEventListener("hashchange", showNamed);
 matchMedia("(prefers-color-scheme: dark)").addEventListener("change", draw);
-document.documentElement.dataset.frames = String(events.filter(isFrame).length);
 document.documentElement.dataset.ready = "yes";
 </script>
 </body>

@@ -1,9 +1,11 @@
 //! The page of a run.
 ghost use Rattle.std.specs.Prelude.{◌≡◌, IfOk, OnOk};
-ghost use Rattle.wl_page.specs.Page.{page_of_texts, with_part};
+ghost use Rattle.wl_page.specs.Page.{page_of, run_of, with_part};
 
 use crate::escape::push_escaped;
-use crate::template::{HEAD, SCRIPT, TO_PLAN, TO_REPORT, TO_SETTINGS, TO_TRACE, TO_WAVE};
+use crate::template::{
+    HEAD, SCRIPT, TO_MARGIN, TO_PLAN, TO_REPORT, TO_SETTINGS, TO_TRACE, TO_TRAFFIC, TO_WAVE,
+};
 use std::alloc::{AllocError, Global};
 
 /// The texts of a run that a page shows, as the program's commands write them.
@@ -13,6 +15,10 @@ pub struct Texts<'a> {
     pub figures: &'a [u8],
     /// The settings of the nodes, and the delays between them.
     pub settings: &'a [u8],
+    /// Whether the bus works with any phases and clocks within their tolerance, and with how much to spare.
+    pub margin: &'a [u8],
+    /// How busy the bus was, and how long its messages waited.
+    pub traffic: &'a [u8],
     /// The report.
     pub report: &'a [u8],
     /// The plan itself.
@@ -23,8 +29,10 @@ pub struct Texts<'a> {
     pub wave: &'a [u8],
 }
 
-/// Adds a part of the page and a text after it.
-fn push_part(page: &mut Vec<u8>, part: &str, text: &[u8]) -> Result<(), AllocError>
+/// Adds a part of a page's layout, and after it a text as HTML shows it.
+///
+/// Refused only when out of memory.
+pub fn push_part(page: &mut Vec<u8>, part: &str, text: &[u8]) -> Result<(), AllocError>
     ensures { OnOk result (page.new.items ≡ with_part page.old.items part.now text.now) }
 {
     page.extend_from_slice(part.as_bytes())?;
@@ -35,11 +43,13 @@ fn push_part(page: &mut Vec<u8>, part: &str, text: &[u8]) -> Result<(), AllocErr
 ///
 /// Refused only when out of memory.
 pub fn page(alloc: Global, texts: &Texts) -> Result<Vec<u8>, AllocError>
-    ensures { IfOk result (λ page. page.items ≡ page_of_texts texts.now) }
+    ensures { IfOk result (λ page. page.items ≡ page_of (run_of texts.now)) }
 {
     let mut page = Vec::new(alloc);
     push_part(&mut page, HEAD, texts.figures)?;
     push_part(&mut page, TO_SETTINGS, texts.settings)?;
+    push_part(&mut page, TO_MARGIN, texts.margin)?;
+    push_part(&mut page, TO_TRAFFIC, texts.traffic)?;
     push_part(&mut page, TO_REPORT, texts.report)?;
     push_part(&mut page, TO_PLAN, texts.plan)?;
     push_part(&mut page, TO_TRACE, texts.trace)?;

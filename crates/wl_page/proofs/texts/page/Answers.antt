@@ -7,6 +7,8 @@ pub returns : goal.returns
 unfolding page_of
 returns c =
     rw c.in_ok-extend_from_slice.ensures.items
+    rw c.in_ok-push_part-8.ensures
+    rw c.in_ok-push_part-7.ensures
     rw c.in_ok-push_part-6.ensures
     rw c.in_ok-push_part-5.ensures
     rw c.in_ok-push_part-4.ensures
