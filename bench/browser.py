@@ -65,13 +65,16 @@ class Browser:
                 return answer["result"]
             self.events.append(answer.get("method"))
 
-    def open(self, address):
-        """Opens a page, and says after how many milliseconds it was shown; what the console says is kept from here on."""
-        self.said, self.events = [], []
-        self.ask("Page.navigate", url="about:blank")
+    def load(self, address):
         self.events = []
         self.ask("Page.navigate", url=address)
         while "Page.loadEventFired" not in self.events: self.events.append(self.read().get("method"))
+
+    def open(self, address):
+        """Opens a page, and says after how many milliseconds it was shown; what the console says is kept from here on."""
+        self.load("about:blank")
+        self.said = []
+        self.load(address)
         return self.value("new Promise((done) => requestAnimationFrame(() => setTimeout(() => done(performance.now()))))")
 
     def value(self, of):

@@ -42,7 +42,37 @@ pages_whole gives takes tick s s' t t' text reads (Err (Work fault)) h = (text, 
 pages_whole gives takes tick s s' t t' text reads (Err Write) h = (text, reading.End, reads, h)
 
 -- pages of equal texts are equal
-pub same_page : {figures figures' settings settings' report report' trace trace' wave wave' : List ℕ} (plan : List ℕ)
-    → figures ≡ figures' → settings ≡ settings' → report ≡ report' → trace ≡ trace' → wave ≡ wave'
-    → page_of figures settings report plan trace wave ≡ page_of figures' settings' report' plan trace' wave'
-same_page plan f s r t w = λ i. page_of (f i) (s i) (r i) plan (t i) (w i)
+pub same_page : {figures figures' settings settings' margin margin' traffic traffic' report report' trace trace' wave wave' : List ℕ}
+    (plan : List ℕ) → figures ≡ figures' → settings ≡ settings' → margin ≡ margin' → traffic ≡ traffic' → report ≡ report'
+    → trace ≡ trace' → wave ≡ wave'
+    → page_of (record {
+      figures = figures;
+      settings = settings;
+      margin = margin;
+      traffic = traffic;
+      report = report;
+      plan = plan;
+      trace = trace;
+      wave = wave;
+    })
+    ≡ page_of (record {
+      figures = figures';
+      settings = settings';
+      margin = margin';
+      traffic = traffic';
+      report = report';
+      plan = plan;
+      trace = trace';
+      wave = wave';
+    })
+same_page plan f s m b r t w =
+    λ i. page_of (record {
+      figures = f i;
+      settings = s i;
+      margin = m i;
+      traffic = b i;
+      report = r i;
+      plan = plan;
+      trace = t i;
+      wave = w i;
+    })

@@ -6,6 +6,7 @@ use Rattle.wl_device.specs.declared.bounded.Ended.{Ended}
 use Rattle.wl_device.specs.declared.bounded.Ended.TheVariants as ended
 use Rattle.wl_device.specs.declared.device.WriteFault.{WriteFault}
 use Rattle.wl_explain.specs.Condition.{IsExplanation}
+use Rattle.wl_margin.specs.Margins.{IsMarginText}
 use Rattle.wl_page.specs.Page.{page_of}
 use Rattle.wl_report.specs.Report.{report_text}
 use Rattle.wl_serial.specs.Outcome.{outcome_of}
@@ -13,7 +14,9 @@ use Rattle.wl_setup.specs.Check.{IsPlanCheck}
 use Rattle.wl_setup.specs.Limits.{most_bytes}
 use Rattle.wl_setup.specs.declared.bus.Bus.{Bus}
 use Rattle.wl_setup.specs.declared.fault.SetupFault.TheVariants as setup
+use Rattle.wl_traffic.specs.Traffic.{traffic_text}
 use Rattle.wl_views.specs.declared.tick.Tick.{Tick}
+use Rattle.wl_views.specs.Ticks.{tick_picoseconds}
 use Rattle.wl_views.specs.Trace.{trace_text}
 use Rattle.wl_views.specs.Vcd.{vcd_text}
 use Rattle.wl_engines.specs.Explained.{bus_answer}
@@ -24,9 +27,18 @@ use Rattle.wl_engines.specs.declared.fault.RunFault.TheVariants.{Setup, Memory}
 -- the page of a bus with its text: what the other commands write of it, each once and whole, and the text itself
 unfoldable pub IsPage : Tick → List ℕ → Bus → List ℕ → Type 0
 IsPage tick text bus whole =
-    (figures settings : List ℕ) × IsExplanation bus figures × IsPlanCheck bus.plan bus.names settings
-    × (whole ≡ page_of figures settings (report_text (outcome_of bus.plan)) text (trace_text bus.plan bus.names)
-    (vcd_text tick bus.plan bus.names))
+    (figures settings margin : List ℕ) × IsExplanation bus figures × IsPlanCheck bus.plan bus.names settings
+    × IsMarginText (tick_picoseconds tick) bus margin
+    × (whole ≡ page_of (record {
+      figures = figures;
+      settings = settings;
+      margin = margin;
+      traffic = traffic_text tick bus.plan bus.names;
+      report = report_text (outcome_of bus.plan);
+      plan = text;
+      trace = trace_text bus.plan bus.names;
+      wave = vcd_text tick bus.plan bus.names;
+    }))
 
 module _ {T : Type 0} (takes : T → Answer → T → Type 0) (tick : Tick) (text : List ℕ) (t t' : T) where
   -- the page of the text's bus went out, as far as it went

@@ -10,11 +10,13 @@ use crate::kept::Kept;
 use std::alloc::{AllocError, Global};
 use wl_device::{Ended, Sink, Source, write_all};
 use wl_explain::explain_plan;
+use wl_margin::margin_text;
 use wl_page::{Texts, page};
 use wl_plan::Plan;
 use wl_report::report;
 use wl_serial::{Outcome, run_serial};
 use wl_setup::{Bus, Names, SetupFault, bus_of_bytes, check_plan, read_bytes};
+use wl_traffic::traffic_of;
 use wl_views::{Tick, trace, vcd};
 
 /// The waveform of a plan's simulation, whole.
@@ -45,7 +47,9 @@ fn page_of_bus(alloc: Global, tick: Tick, text: &[u8], bus: &Bus) -> Result<Vec<
     let figures = explain_plan(alloc, bus)?;
     let (plan, names) = (&bus.plan, &bus.names);
     let settings = check_plan(alloc, plan, names)?;
+    let margin = margin_text(alloc, tick.picoseconds(), bus)?;
     let outcome = run_serial(alloc, plan)?;
+    let traffic = traffic_of(alloc, tick, plan, names, &outcome)?;
     let report = report(alloc, &outcome)?;
     let trace = trace(alloc, plan, names, &outcome)?;
     let wave = wave_of(alloc, tick, plan, names, &outcome)?;
@@ -54,6 +58,8 @@ fn page_of_bus(alloc: Global, tick: Tick, text: &[u8], bus: &Bus) -> Result<Vec<
         &Texts {
             figures: figures.as_bytes(),
             settings: settings.as_bytes(),
+            margin: margin.as_bytes(),
+            traffic: traffic.text.as_bytes(),
             report: &report,
             plan: text,
             trace: &trace,
@@ -77,8 +83,8 @@ fn page_text<W: Sink>(
     Ok(())
 }
 
-/// Reads a plan's text, simulates the plan, and writes one page of HTML. The page has the plan, its figures and settings, its report,
-/// trace and waveform, and a script that draws them; a tick of the plan takes as long as `tick` says.
+/// Reads a plan's text, simulates the plan, and writes one page of HTML. The page has the plan, its figures and settings, its margin,
+/// traffic, report, trace and waveform, and a script that draws them; a tick of the plan takes as long as `tick` says.
 ///
 /// The whole output is made before the first write. If the input is refused, or memory runs out, the writer isn't called;
 /// if the writer fails, a prefix of the output has been written.

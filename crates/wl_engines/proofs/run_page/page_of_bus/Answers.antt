@@ -1,4 +1,5 @@
-use Rattle.std.proofs.Common.{◌∙◌, ap, string_bytes}
+use Rattle.std.proofs.Common.{◌∙◌, ap, string_bytes, subst}
+use Rattle.wl_margin.specs.Margins.{IsMarginText}
 use Rattle.wl_report.specs.Report.{report_text}
 use Rattle.wl_engines.specs.Paged.{IsPage}
 use Rattle.wl_engines.proofs.PageProofs.{ok_so, same_page}
@@ -10,15 +11,21 @@ unfolding IsPage
 returns c =
     let figures = c.as_bytes.ensures.value in
     let settings = c.as_bytes-2.ensures.value in
+    let margin = c.as_bytes-3.ensures.value in
+    let traffic = c.as_bytes-4.ensures.value ∙ c.in_ok-traffic.ensures.text in
     let report = c.deref.ensures.value ∙ (c.in_ok-report.ensures ∙ ap report_text c.in_ok-outcome.ensures) in
     let trace = c.deref-2.ensures.value ∙ c.in_ok-trace.ensures in
     let wave = c.deref-3.ensures.value ∙ c.in_ok-wave.ensures in
-    let same = same_page c.args.text.now figures settings report trace wave in
+    let same = same_page c.args.text.now figures settings margin traffic report trace wave in
+    let spare =
+    subst (λ p. IsMarginText p c.args.bus.now (string_bytes c.in_ok-margin.margin)) c.picoseconds.ensures.value c.in_ok-margin.ensures in
     ok_so c.page.result
     (λ whole is. (
       string_bytes c.in_ok-figures.figures,
       string_bytes c.in_ok-settings.settings,
+      string_bytes c.in_ok-margin.margin,
       c.in_ok-figures.ensures,
       c.in_ok-settings.ensures,
+      spare,
       is ∙ same,
     )) c.page.ensures
