@@ -1,13 +1,9 @@
 -- A bus is made exactly where its plan is.
-use Rattle.std.proofs.Common.{◌≡◌, ◌∙◌, ℕ, suc, ◌+◌, pos, List, [], ◌∷◌, map, length, Option, Some, None, unwrap_or, Result, Ok, Err, refl, ap, sym}
+use Rattle.std.proofs.Common.{◌≡◌, ◌∙◌, ℕ, suc, ◌+◌, List, [], ◌∷◌, map, length, Option, Some, None, unwrap_or, Result, Ok, Err, refl, ap, sym}
 use Rattle.std.specs.List.{enumerate_from}
-use Rattle.wl_clock.specs.declared.Rate.{Rate}
-use Rattle.wl_topology.specs.Delays.{Cable}
 use Rattle.wl_plan.specs.declared.plan.Plan.{Plan}
 use Rattle.wl_plan.specs.declared.check.PlanFault.{PlanFault}
-use Rattle.wl_plan.specs.Checked.{fault_of}
 use Rattle.wl_node.specs.declared.setup.NodeSetup.{NodeSetup}
-use Rattle.wl_setup.specs.declared.bus.Bus.{Bus}
 use Rattle.wl_setup.specs.declared.bus.Deviation.{Deviation}
 use Rattle.wl_setup.specs.declared.fault.SetupFault.{SetupFault}
 use Rattle.wl_setup.specs.declared.fault.SetupFault.TheVariants as fault
@@ -17,8 +13,8 @@ use Rattle.wl_setup.specs.declared.plan_text.RateText.{RateText}
 use Rattle.wl_setup.specs.declared.plan_text.ClockText.{ClockText}
 use Rattle.wl_setup.specs.declared.plan_text.ClockText.TheVariants as text
 use Rattle.wl_setup.specs.Names.{names_of}
-use Rattle.wl_setup.specs.Plans.{after, each, rate_from, rate_in, with_fault, setup_of, cable_of, disturbance_in, runnable, unless_refused, plan_of_text}
-use Rattle.wl_setup.specs.Buses.{nominal, nominal_clock, rates_under, rate_texts, deviation_of, bus_of_text, IsOfPlan, BusesAreOfPlans}
+use Rattle.wl_setup.specs.Plans.{after, each, rate_from, rate_in, with_fault, setup_of, cable_of, unless_refused, plan_of_text}
+use Rattle.wl_setup.specs.Buses.{nominal, nominal_clock, rates_under, deviation_of, IsOfPlan, BusesAreOfPlans}
 
 -- it is made
 abbrev pub IsMade : {T : Type 0} → Result T SetupFault → Type 0

@@ -15,7 +15,7 @@ use Rattle.wl_setup.specs.Names.{has_repeat, names_of, same_name_fault}
 use Rattle.wl_setup.specs.Texts.{plan_of}
 use Rattle.wl_setup.specs.Document.{document_fault, is_document_fault, unless, OnlyDocumentFaults}
 use Rattle.wl_setup.specs.Reading.{document_answer}
-use Rattle.std.specs.Prelude.{◌==◌, if◌then◌else◌}
+use Rattle.std.specs.Prelude.{if◌then◌else◌}
 
 -- a fault that a document can have, if any
 abbrev pub IsOfDocument : Option SetupFault → Type 0

@@ -1,5 +1,5 @@
 -- The worked rows of a text's plan, as the definition gives them.
-use Rattle.std.proofs.Common.{◌≡◌, ℕ, Bool, List, [], ◌∷◌, map, true, false, Option, Some, None, Ok, Err, pos, refl}
+use Rattle.std.proofs.Common.{◌≡◌, ℕ, List, [], ◌∷◌, map, true, false, Option, Some, None, Ok, Err, pos, refl}
 use Rattle.std.specs.Prelude.{codes}
 use Rattle.std.specs.List.{range_with_len}
 use Rattle.std.specs.Result.{result_err}
@@ -25,9 +25,9 @@ use Rattle.wl_setup.specs.declared.plan_text.DisturbanceText.{DisturbanceText}
 use Rattle.wl_setup.specs.declared.plan_text.ClockText.TheVariants.{Rate}
 use Rattle.wl_segments.specs.declared.SyncRules.TheVariants.{After}
 use Rattle.wl_setup.specs.Limits.{most_bytes, largest_number, largest_small, largest_ppm, largest_tolerance, largest_byte, longest_name, first_version, version_of_rates, version_of_traffic, few_queued}
-use Rattle.wl_setup.specs.Faults.{table_fault, node_keys, frame_fault, disturbance_fault, node_fault}
+use Rattle.wl_setup.specs.Faults.{frame_fault, disturbance_fault, node_fault}
 use Rattle.wl_setup.specs.Texts.{frame_of, disturbance_of, node_text_of}
-use Rattle.wl_setup.specs.Plans.{plan_of_text, queued_of, instances_of, queue_in, queue_of, place_of, node_named, disturbance_in}
+use Rattle.wl_setup.specs.Plans.{plan_of_text, queued_of, instances_of, queue_in, queue_of, place_of, disturbance_in}
 
 abbrev frame_text : ℕ → FrameText
 frame_text id = record { id = id; dlc = 0; remote = false; bytes = []; ready = 0; extended = false; every = None; count = None }
