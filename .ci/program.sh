@@ -263,7 +263,7 @@ ended=0
 limited "$limit" --workers 8 || ended=$?
 is "eight workers where there is room for two (status $ended)" [ "$ended" = 3 -a ! -s "$room/out" ]
 
-world=crates/world_rows/out/world_rows
+world=crates/test_worlds/out/test_worlds
 if [ -x "$world" ]; then
   for wanted in bench/world/*.stdout; do
     [ -e "$wanted" ] || continue

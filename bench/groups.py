@@ -1,5 +1,5 @@
 #!/usr/bin/env python3
-"""Settles worlds of groups by the built `world_rows`, with twice as many quanta at each step, and prints a table: seconds of processor time
+"""Settles worlds of groups by the built `test_worlds`, with twice as many quanta at each step, and prints a table: seconds of processor time
 (the least of RUNS, 3 by default) and peak memory; where COUNT is set, also the instructions (in millions, by valgrind's cachegrind), and how many
 times as many as in the row before, which a busy machine does not change.
 
@@ -15,7 +15,7 @@ import tempfile
 from pathlib import Path
 
 HERE = Path(__file__).resolve().parent
-WORDS = sys.argv[1:] + [str(HERE / "../crates/world_rows/out/world_rows"), "64000", "16000"][len(sys.argv) - 1:]
+WORDS = sys.argv[1:] + [str(HERE / "../crates/test_worlds/out/test_worlds"), "64000", "16000"][len(sys.argv) - 1:]
 
 
 def of_two(quanta: int) -> str:

@@ -1,12 +1,12 @@
 #!/usr/bin/env bash
-# Refuses each allocation of the letters of worker_rows in turn:
-#   bench/mail.sh PROGRAM      the built worker_rows
-# Every run must end with a fault and nothing on standard output, with the rows of crates/worker_rows/stdout, or with rows of which one answer more is
+# Refuses each allocation of the letters of test_workers in turn:
+#   bench/mail.sh PROGRAM      the built test_workers
+# Every run must end with a fault and nothing on standard output, with the rows of crates/test_workers/stdout, or with rows of which one answer more is
 # Memory. Where memory was refused while a group took the letter of many records, that is a line of its own, which says how many records the group
 # kept; and the letter comes again.
 set -euo pipefail
 program=$1
-rows=$(dirname "$0")/../crates/worker_rows
+rows=$(dirname "$0")/../crates/test_workers
 scratch=$(mktemp -d)
 trap 'rm -rf "$scratch"' EXIT
 sed -n '/^letters$/,/^---$/p' "$rows/stdin" | sed '/^---$/d' > "$scratch/stdin"

@@ -1,14 +1,14 @@
 #!/usr/bin/env bash
 # Restarts random workers before random turns, and counts the runs that come to what one thread comes to: the plan of those
-# steps in crates/worker_rows/stdin RUNS times over each kind of link, by 2 and by 3 workers.
-# usage: bench/restarts.sh [PROGRAM]      PROGRAM is the built worker_rows; RUNS is 200 by default; status 1 where a run differs
+# steps in crates/test_workers/stdin RUNS times over each kind of link, by 2 and by 3 workers.
+# usage: bench/restarts.sh [PROGRAM]      PROGRAM is the built test_workers; RUNS is 200 by default; status 1 where a run differs
 set -euo pipefail
 here=$(cd "$(dirname "$0")" && pwd)
-program=${1:-$here/../crates/worker_rows/out/worker_rows}
+program=${1:-$here/../crates/test_workers/out/test_workers}
 runs=${RUNS:-200}
-[ -x "$program" ] || { echo "no program at $program: 'rt run' in crates/worker_rows builds it"; exit 1; }
+[ -x "$program" ] || { echo "no program at $program: 'rt run' in crates/test_workers builds it"; exit 1; }
 differs=0
-plan=$(sed -n '/^random /,/^---$/p' "$here/../crates/worker_rows/stdin" | sed -n '/^---$/d; /^plan$/,$p')
+plan=$(sed -n '/^random /,/^---$/p' "$here/../crates/test_workers/stdin" | sed -n '/^---$/d; /^plan$/,$p')
 for mail in '' 'mail '; do
   for workers in 2 3; do
     begun=$(date +%s%N)

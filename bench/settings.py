@@ -2,7 +2,7 @@
 """The settings of a bus, by an independent program: what `settings` has to write of a text, from the three inequalities as margin.py has them.
 
 usage: settings.py [--tick TIME] [--best N | --plan] < TEXT
-       settings.py rows < crates/settings_rows/stdin        what settings_rows has to write
+       settings.py rows < crates/test_settings/stdin        what test_settings has to write
 """
 import sys
 from fractions import Fraction

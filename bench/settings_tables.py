@@ -1,5 +1,5 @@
 #!/usr/bin/env python3
-"""Makes the tables of docs/settings.md, by the built programs settings_rows and, for sweeps, wl_sim.
+"""Makes the tables of docs/settings.md, by the built programs test_settings and, for sweeps, wl_sim.
 
 usage: settings_tables.py pairs ROWS PROGRAM            20 pairs of a clock and a bit rate: count, first row, sweeps at its longest cable
        settings_tables.py can-calc ROWS [CAN_CALC]      beside can-calc-bit-timing of can-utils, for its controllers, clocks and bit rates
@@ -26,7 +26,7 @@ def text(name, clock, rate, rate_error=0, prescaler=1024):
 
 
 def ask(rows, given, request):
-    """Returns the lines of what settings_rows answers, with ticks of a nanosecond."""
+    """Returns the lines of what test_settings answers, with ticks of a nanosecond."""
     asked = f"{given}asked\n{request} 1000\n"
     return subprocess.run([rows], input=asked.encode(), capture_output=True, check=False).stdout.decode().splitlines()[1:-1]
 

@@ -1,8 +1,8 @@
 #!/usr/bin/env python3
-"""Lists of takes and joins for `slot_rows`, and what is to be told after them, by plain.py.
+"""Lists of takes and joins for `test_replica`, and what is to be told after them, by plain.py.
 
 usage: slots.py rows COUNT [SEED]        so many lists, one a line; the same numbers give the same lists
-       slots.py answers < ROWS           the lines that `slot_rows` has to write
+       slots.py answers < ROWS           the lines that `test_replica` has to write
        slots.py PROGRAM COUNT [SEED]     runs the program on so many lists, compares, and tells how many differ
 
 A list is of two holders: a record is taken, `join` joins in what the other holder knows, `tell` tells what is known; after `+` the second one does so.

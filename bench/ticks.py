@@ -1,7 +1,7 @@
 #!/usr/bin/env python3
 """Runs random plans by the engine that jumps and by one that goes quantum by quantum, and counts where they differ.
 
-usage: ticks.py TICK_ROWS [COUNT [SEED [JOBS]]]      TICK_ROWS is the proved program crates/tick_rows/out/tick_rows
+usage: ticks.py TICK_ROWS [COUNT [SEED [JOBS]]]      TICK_ROWS is the proved program crates/test_engine/out/test_engine
 
 Half of the plans are those of differ.py; the others have 1 to 16 nodes, clocks that are off by up to 5 %, delays up to 800,000 ticks, and
 disturbances from tick 0 on. Prints how many plans were the same, refused and different, and how many samples, frames and changes the engines

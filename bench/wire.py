@@ -5,7 +5,7 @@ usage: wire.py same [COUNT [SEED]]      compares the machine with that of plain.
        wire.py search [COUNT [SEED]]    plays random schedules of 2 to 6 machines, and counts those that refuse the claim
        wire.py wrong [COUNT [SEED]]     the same with each condition left out or changed: each has to be refused
        wire.py edges [COUNT [SEED]]     measures the longest way from one edge to the next, in random frames
-       wire.py rows < FILE              answers the rows of crates/wire_rows/stdin, which say how they are written
+       wire.py rows < FILE              answers the rows of crates/test_wire/stdin, which say how they are written
 
 The wire. All machines are idle at first. At a bit of the bus each samples the same level: dominant where some machine drives dominant.
 A machine that is between frames (idle, suspended, or in intermission after two bits) and drives recessive may also sample a recessive bit by

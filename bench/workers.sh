@@ -1,18 +1,18 @@
 #!/usr/bin/env bash
 # Runs plans by workers in threads, and counts the runs that come to what one thread comes to, over a hub and by letters: the first plan of
-# crates/worker_rows/stdin RUNS times by 2, by 3 and by 8 workers, and each plan of examples/ once by each of 1 to 8 workers.
-# usage: bench/workers.sh [PROGRAM]      PROGRAM is the built worker_rows; RUNS is 1000 by default; status 1 where a run differs
+# crates/test_workers/stdin RUNS times by 2, by 3 and by 8 workers, and each plan of examples/ once by each of 1 to 8 workers.
+# usage: bench/workers.sh [PROGRAM]      PROGRAM is the built test_workers; RUNS is 1000 by default; status 1 where a run differs
 set -euo pipefail
 here=$(cd "$(dirname "$0")" && pwd)
-program=${1:-$here/../crates/worker_rows/out/worker_rows}
+program=${1:-$here/../crates/test_workers/out/test_workers}
 runs=${RUNS:-1000}
-[ -x "$program" ] || { echo "no program at $program: 'rt run' in crates/worker_rows builds it"; exit 1; }
+[ -x "$program" ] || { echo "no program at $program: 'rt run' in crates/test_workers builds it"; exit 1; }
 since() { echo "$((($(date +%s%N) - $1) / 1000000)) ms"; }
 differs=0
 for mail in '' 'mail '; do
   for workers in 2 3 8; do
     begun=$(date +%s%N)
-    said=$({ echo "${mail}again $workers $runs"; sed -n '/^---$/q; /^plan$/,$p' "$here/../crates/worker_rows/stdin"; } | "$program")
+    said=$({ echo "${mail}again $workers $runs"; sed -n '/^---$/q; /^plan$/,$p' "$here/../crates/test_workers/stdin"; } | "$program")
     echo "$workers workers: $said, $(since "$begun")"
     [[ $said = "$runs of $runs runs"*": as one thread" ]] || differs=1
   done

@@ -1,5 +1,0 @@
-use Rattle.std.proofs.Common.{◌≡◌}
-use Rattle.slot_rows.proofs.row.answers.Given as goal
-
-abbrev pub invariant-loop-step : goal.invariant-loop-step
-invariant-loop-step g l = (g.F.Form.count l.first ≡ 16) × (g.F.Form.count l.second ≡ 16)

@@ -1,0 +1,38 @@
+//! `test_engine`: runs plans by two engines, and says whether they come to the same.
+//!
+//! Standard input has plan texts with a line `---` between two of them. One engine is `run_serial`, which jumps over all quanta in which nothing
+//! can happen. The other one, which is only here, runs a quantum at a time in order of ticks and asks every change of every node and every
+//! disturbance for the level: what the definition of the simulation says, and no more. For each plan a line tells how many quanta, samples,
+//! frames and changes there were, or what differs at which node, or that the plan is
+//! refused.
+#![tactic(auto)]
+
+mod same;
+mod ticks;
+
+use anyhow::Result;
+use std::alloc::Global;
+use std::io::Read;
+use wl_device::Host;
+use wl_serial::run_serial;
+use wl_setup::read_plan;
+
+fn main(rt: HostRuntime) -> Result<()> {
+    let mut texts = String::new(rt.alloc());
+    rt.reader().read_to_string(&mut texts)?;
+    for text in texts.as_str().split("---\n") {
+        let told = both(rt.alloc(), text)?;
+        println!(rt; "{told}")?;
+    }
+    Ok(())
+}
+
+/// Whether both engines come to the same.
+fn both(alloc: Global, text: &str) -> Result<String> {
+    let Ok((plan, _)) = read_plan(alloc, &mut Host::new(text.as_bytes())) else {
+        return Ok(String::from_str(alloc, "refused")?);
+    };
+    let jumping = run_serial(alloc, &plan)?;
+    let ticking = ticks::run(alloc, &plan)?;
+    same::tell(alloc, &jumping, &ticking)
+}

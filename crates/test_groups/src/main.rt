@@ -1,0 +1,31 @@
+//! `test_groups`: drives groups of the nodes of plans, and prints what they answer.
+//!
+//! Standard input has plan texts with a line `---` between two of them. For each plan a group of every single node says whether the
+//! node may run at once, also after it took the others' first silences. Then a group of all nodes runs: its first advance, all the
+//! others, and all again, which is none; what it has emitted, and where each node is in the end. A group of a single node that joins in
+//! what these know runs to its end as well. Another group of all nodes runs in rows of quanta. At last the first group of all begins again.
+#![tactic(auto)]
+
+mod course;
+
+use anyhow::Result;
+use std::alloc::Global;
+use std::io::Read;
+use wl_device::Host;
+use wl_setup::read_plan;
+
+fn main(rt: HostRuntime) -> Result<()> {
+    let mut texts = String::new(rt.alloc());
+    rt.reader().read_to_string(&mut texts)?;
+    for text in texts.as_str().split("---\n") {
+        let told = answers(rt.alloc(), text)?;
+        print!(rt; "{told}")?;
+    }
+    Ok(())
+}
+
+/// What the groups of a plan answer.
+fn answers(alloc: Global, text: &str) -> Result<String> {
+    let (plan, _) = read_plan(alloc, &mut Host::new(text.as_bytes()))?;
+    course::of_plan(alloc, &plan)
+}

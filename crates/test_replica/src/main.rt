@@ -1,0 +1,67 @@
+//! `test_replica`: runs lists of takes and joins over each form in which what is known of all nodes is kept, and compares what they tell.
+//!
+//! A row is a line of steps, parted by `;`, of two holders that know nothing at first. `E 0 1 20`, `C 0 1` and `S 0 2 30` are records that
+//! the first holder takes, `join` joins in what the second one knows, and `tell` tells what the first one knows; after `+` the second one does
+//! so. At the end the first one tells. What is told is its canonical records, and of each node that they name the run length, the horizon and the
+//! wave: `H 0 1 21`, `D 0 20 21`.
+//!
+//! The row is written back, and behind it what all forms tell: a replica, which groups and worlds keep, rows, into which texts are read, and
+//! ordered maps of this program's own, the plain form. Where two differ, what each form tells stands on a line of its own. Lines that are empty or begin with `#` are written back as they are.
+#![tactic(auto)]
+
+mod form;
+mod maps;
+mod row;
+
+use maps::Maps;
+use row::{Stop, answers, steps};
+use std::alloc::Global;
+use std::io;
+use wl_replica::{Replica, Rows};
+
+/// What is written behind a row.
+fn answer(alloc: Global, row: &str) -> Result<String, Stop> {
+    let steps = steps(alloc, row)?;
+    let by_form = [
+        answers::<Replica>(alloc, steps.as_slice())?,
+        answers::<Rows>(alloc, steps.as_slice())?,
+        answers::<Maps>(alloc, steps.as_slice())?,
+    ];
+    let mut said = String::from_str(alloc, by_form[0].as_str())?;
+    if by_form
+        .iter()
+        .any(|other| other.as_str() != by_form[0].as_str())
+    {
+        said.push_str(" DIFFERS")?;
+        for other in &by_form {
+            said.push_str("\n")?;
+            said.push_str(other.as_str())?;
+        }
+    }
+    Ok(said)
+}
+
+/// A line with its answer.
+fn line_with_answer(alloc: Global, line: &str) -> Result<String, Stop> {
+    let mut out = String::from_str(alloc, line)?;
+    if line.is_empty() || line.starts_with('#') {
+        return Ok(out);
+    }
+    match answer(alloc, line) {
+        Ok(said) => out.push_str(said.as_str())?,
+        Err(Stop::Unread) => out.push_str(" = unread")?,
+        Err(Stop::Memory) => return Err(Stop::Memory),
+    }
+    Ok(out)
+}
+
+fn main(rt: HostRuntime) -> io::Result<()> {
+    let alloc = rt.alloc();
+    for line in rt.lines(alloc) {
+        match line_with_answer(alloc, line?.as_str()) {
+            Ok(said) => println!(rt; "{said}")?,
+            Err(_) => println!(rt; "out of memory")?,
+        }
+    }
+    Ok(())
+}

@@ -1,0 +1,79 @@
+//! `test_workers`: simulates plans by workers in threads, and compares what they come to with the one-thread simulation.
+//!
+//! Standard input has blocks with a line `---` between two of them. A block has a step a line, then a line `plan`, and the plan's text. The
+//! steps, each answered by a line on standard output:
+//!
+//! - `workers N`: one run by N workers.
+//! - `stop W T N`: one run by N workers, of which a gate refuses worker W its turn T; turns count from 0.
+//! - `again N K`: K runs by N workers, one after another; how many came to what one thread comes to.
+//! - `restart W T U N`: one run by N workers over watched links, of which worker W restarts before its turns T and U; whether both restarts
+//!   were asked, and both times its link was rewound and something given next.
+//! - `random N K S`: K runs by N workers, random ones of which restart before random turns; the number S seeds what is random. A run counts
+//!   where at least one restart was asked.
+//! - `hold W T P N`: one run by N workers, of which a gate holds worker W before its turn T for P polls and then refuses it; the others sleep
+//!   by then, and have had a hundred turns at most.
+//! - `turns N K`: one run by N workers; whether each of them had at least K turns.
+//! - `overlap N P`: one run by N workers, of which workers 0 and 1 are each held in their first turn until the other one is in its first
+//!   turn too, for at most P polls; then the turn is refused.
+//! - `over N`: one run by N workers, over links that this program makes and watches.
+//! - `count N`: the same, and what was counted: the turns of each worker; and of all together the records that were given, the times that some
+//!   were, the fetches that brought something, and the waits.
+//! - `links I C U`: of two links one gives the silence of node I after C changes up to tick U, where that is true of the plan; what the
+//!   other one brings to a group of node 1, twice, and how far that group knows node I then.
+//! - `handed`: node 0 alone gives what it emits by one link; what another one brings to a group of node 1, twice, and once more after a
+//!   restart and a rewind.
+//! - `silent N T`: one run by N workers over links that bring nothing, with a gate that refuses each worker its turn T.
+//! - `alone T`: the same of one worker, with node 0 alone, and the last turn that it asked for.
+//! - `gone W`: ten runs by 2 workers, over links that bring nothing; the nth time that worker W gives or fetches its link answers `Gone`, for n
+//!   from 1 to 10.
+//! - `faults A B`: one run by 2 workers, whose links fail at their first calls: 0 is Foreign, 1 Gone, 2 Memory.
+//! - `letters`: what the posts of three workers answer about the nodes of the plan, on several lines: to a letter of one silence, to the same once
+//!   more and to one of no records; where ends are given up; and to a letter of all that node 0 emits, which has to run to the plan's end without a
+//!   word of the others.
+//! - `foreign`: a letter of the plan with its end one tick later, to a group of the plan.
+//!
+//! Links are over a hub; after the word `mail` before a step they are by letters. A run comes to what one thread comes to where its report is
+//! the one-thread simulation's, byte for byte.
+#![tactic(auto)]
+
+mod failing;
+mod gates;
+mod handed;
+mod letters;
+mod links;
+mod restarts;
+mod runs;
+mod silent;
+mod steps;
+mod watched;
+
+use anyhow::Result;
+use std::io::Read;
+use std::sync::Wait;
+use std::thread::Threads;
+use wl_device::Host;
+use wl_report::report;
+use wl_serial::run_serial;
+use wl_setup::read_plan;
+
+fn main(rt: HostRuntime) -> Result<()> {
+    let mut texts = String::new(rt.alloc());
+    rt.reader().read_to_string(&mut texts)?;
+    for text in texts.as_str().split("---\n") {
+        answer(&rt, text)?;
+    }
+    Ok(())
+}
+
+/// Answers the steps of a block.
+fn answer<R: Threads + Wait + Sync + Print + AllocGlobal>(rt: &R, text: &str) -> Result<()> {
+    let alloc = rt.alloc();
+    let (steps, text) = steps::read(alloc, text)?;
+    let (plan, _) = read_plan(alloc, &mut Host::new(text.as_bytes()))?;
+    let alone = report(alloc, &run_serial(alloc, &plan)?)?;
+    for step in steps.as_slice() {
+        let said = runs::answer(rt, alloc, &plan, alone.as_slice(), *step)?;
+        println!(rt; "{said}")?;
+    }
+    Ok(())
+}

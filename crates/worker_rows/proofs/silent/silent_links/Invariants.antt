@@ -1,6 +1,0 @@
-use Rattle.std.proofs.Common.{◌≡◌, vec_len}
-use Rattle.wl_worker.specs.Shared.{AreNumbered}
-use Rattle.worker_rows.proofs.silent.silent_links.Given as goal
-
-abbrev pub invariant-loop-worker : goal.invariant-loop-worker
-invariant-loop-worker l = (vec_len l.links ≡ l.worker) × AreNumbered (λ link. link.worker) l.links.items
