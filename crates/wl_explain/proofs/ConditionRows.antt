@@ -8,7 +8,7 @@ use Rattle.wl_segments.specs.Lengths.{Lengths}
 use Rattle.wl_plan.specs.Limits.{most_quanta}
 use Rattle.wl_bound.specs.declared.family.Member.{Member}
 use Rattle.wl_bound.specs.declared.condition.Inequality.TheVariants.{DriftFitsJump, BitIsThereAtSample, NoBitTooEarly}
-use Rattle.wl_bound.specs.declared.verdict.Outside.TheVariants.{NoFrames, SameIdentifier}
+use Rattle.wl_bound.specs.declared.verdict.Outside.TheVariants.{ListenerSends, NoFrames, NobodyAcknowledges, SameIdentifier}
 use Rattle.wl_bound.specs.Oscillators.{Pace}
 use Rattle.wl_bound.specs.Families.{Buses, delay_in, lengths_in, longest_in, sends_in, shortest_in}
 use Rattle.wl_bound.specs.Terms.{apart, chase, drift, early, edges, jump, late, look, lost, several, strays, tour, trip, way}
@@ -34,7 +34,7 @@ metre_place x = record { x = x; out_delay = 120; in_delay = 130; listens = false
 abbrev like_node : Lengths → Pace → Bool → Member
 like_node l p sends = record { oscillator = p; segments = l; sends = sends }
 
--- a sender and a listener, and three senders with the third one beside the second
+-- a sender and a receiver, and three senders with the third one beside the second
 abbrev two_nodes : Lengths → Pace → ℕ → Buses
 two_nodes l p x = record {
   members = like_node l p true ∷ like_node l p false ∷ [];
@@ -92,3 +92,28 @@ nothing_to_send = refl
 
 nothing_outside : outside_line three_names None ≡ []
 nothing_outside = refl
+
+-- nodes that only listen: frames that nobody hears, and frames that nobody acknowledges
+mute : outside_line three_names (Some (ListenerSends 2)) ≡ codes "doubt: c only listens, and nobody hears the frames that it has\n"
+mute = refl
+
+lone : outside_line three_names (Some (NobodyAcknowledges 1))
+    ≡ codes "doubt: all nodes but b only listen, and nobody acknowledges its frames\n"
+lone = refl
+
+-- a listener whose own bit comes back after its sample; its bits don't come to the others
+abbrev with_listener : Buses
+with_listener = record {
+  members = like_node (book_lengths 6 7 2 1) (steady 125 100) true ∷ like_node (book_lengths 6 7 2 1) (steady 125 100) true
+      ∷ like_node (book_lengths 6 7 2 1) (steady 125 100) false ∷ [];
+  cable = record { places = metre_place 0 ∷ metre_place 5 ∷ record { x = 5; out_delay = 1630; in_delay = 130; listens = true } ∷ []; per = 5 };
+}
+
+own_bit : fail_lines with_listener three_names 2 2
+    ≡ codes "doubt: a bit of c comes back to it 1760.000 ns (14.09 quanta) after it began, and it samples after 1749.825 ns (14.00 quanta)\n"
+unfolding digits left_of right_of shortest_in longest_in delay_in sends_in drift jump look trip way several early lost edges chase apart tour late strays lengths_in
+own_bit = refl
+
+not_heard : fail_lines with_listener three_names 0 2 ≡ []
+unfolding left_of right_of shortest_in longest_in delay_in sends_in drift jump look trip way several early lost edges chase apart tour late strays lengths_in
+not_heard = refl

@@ -1,6 +1,8 @@
 -- Worked rows of a bus's margin, by the rules of docs/margins.md.
-use Rattle.std.proofs.Common.{◌≡◌, codes, refl}
+use Rattle.std.proofs.Common.{◌≡◌, ℕ, List, [], ◌∷◌, codes, refl}
 use Rattle.std.specs.Fmt.{digits}
+use Rattle.wl_bound.specs.declared.verdict.Outside.TheVariants.{ListenerSends, NobodyAcknowledges}
+use Rattle.wl_margin.specs.Margins.{outside_words}
 use Rattle.wl_margin.specs.Sentences.{Measure, picoseconds_around, picoseconds_within, quanta_around, quanta_within, spare_words}
 
 -- ticks of a nanosecond, quanta of 125 ticks
@@ -29,3 +31,13 @@ to_spare = refl
 too_much : spare_words nanoseconds (record { left = 1700000500; right = 1625000000 }) ≡ codes "-75.001 ns (-0.61 quanta)"
 unfolding digits
 too_much = refl
+
+-- frames of a listener, and those of a lone sender
+abbrev two_names : List (List ℕ)
+two_names = codes "a" ∷ codes "b" ∷ []
+
+mute : outside_words two_names (ListenerSends 1) ≡ codes "does not hold: b only listens, and nobody hears the frames that it has\n"
+mute = refl
+
+lone : outside_words two_names (NobodyAcknowledges 0) ≡ codes "does not hold: all nodes but a only listen, and nobody acknowledges its frames\n"
+lone = refl
