@@ -82,7 +82,7 @@ class Group:
 class World:
     def __init__(self, top, numbers):
         self.top, self.numbers, self.line, self.read = top, numbers, Simulation(top), []
-        self.rates = [(table["offset"], [rate[:3] for rate in rates_of(table, top["version"])]) for table in top["node"]]
+        self.rates = [(table["offset"], [rate[:3] for rate in rates_of(table)]) for table in top["node"]]
         self.tick = functools.cache(lambda i, quantum: tick_of(*self.rates[i], quantum))
         self.emitted = [self.first_silence(i) for i in range(len(numbers))]
         self.groups = [self.begun(h) for h in range(max(numbers) + 1)]

@@ -13,7 +13,7 @@ sys.dont_write_bytecode = True
 import margin
 import plain
 from again import bit_of, differ, differs, first_not_before, first_of, frame_bits, greatest_ppm, is_tolerated, random_lengths, tick_of
-from refused import Refused, delay_of, lengths_of, rates_of, read
+from refused import Refused, delay_of, instances, lengths_of, rates_of, read
 
 
 class Settings:
@@ -21,13 +21,15 @@ class Settings:
 
     def __init__(self, node, top):
         self.name, self.lengths, self.offset = node["name"], lengths_of(node), node["offset"]
-        self.rates = [rate[:3] for rate in rates_of(node, top["version"])]
+        self.rates = [rate[:3] for rate in rates_of(node)]
         prop, ps1, self.ps2, self.sjw = self.lengths
         self.quanta, self.sample = bit_of(prop, ps1, self.ps2), 1 + prop + ps1
         self.way = self.sample - (top.get("sync") == "book")
         self.quantum = Fraction(self.millionths(max(1, min(first_not_before(self.offset, self.rates, top["end"]), 2**20))), 10**6)
         self.bit, self.ppm = self.quanta * self.quantum, greatest_ppm(*self.lengths)
-        self.queue = [(frame.get("ready", 0), content_of(frame)) for frame in node.get("frame", [])]
+        self.queue = [(frame.get("ready", 0) + n * frame.get("every", 0), content_of(frame))
+                      for frame in node.get("frame", []) for n in range(instances(top, node, frame))]
+        if top["version"] == 3: self.queue.sort(key=lambda queued: queued[0])
 
     def tick(self, quantum):
         return tick_of(self.offset, self.rates, quantum)
@@ -164,7 +166,7 @@ def clock_doubts(top, nodes, text):
     else:
         for i, j in sorted(combinations(range(len(nodes)), 2), key=lambda pair: pair[::-1]):
             trip = delay_of(tables[i], tables[j], top["per"]) + delay_of(tables[j], tables[i], top["per"])
-            yield from pair_doubts(nodes[i], nodes[j], trip)
+            yield from pair_doubts(nodes[i], nodes[j], 0 if tables[i].get("listen") or tables[j].get("listen") else trip)
 
 
 def explain_text(top):

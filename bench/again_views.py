@@ -34,7 +34,7 @@ def ticks_below(offset, rates, end):
 
 
 def setup_of(top, table):
-    rates = [plain.Rate(*rate[:3]) for rate in rates_of(table, top["version"])]
+    rates = [plain.Rate(*rate[:3]) for rate in rates_of(table)]
     queue = [plain.Queued(content_of(frame), frame.get("ready", 0)) for frame in table.get("frame", [])]
     return plain.Setup(table["name"], plain.Clock(table["offset"], rates), plain.Segments(*lengths_of(table), top.get("sync") == "book"), queue)
 
@@ -69,7 +69,7 @@ class Simulation:
     def __init__(self, top):
         self.tables, self.per, self.end = top["node"], top["per"], top["end"]
         self.nodes = [Watched(setup_of(top, table)) for table in self.tables]
-        self.ticks = [ticks_below(table["offset"], [rate[:3] for rate in rates_of(table, top["version"])], self.end) for table in self.tables]
+        self.ticks = [ticks_below(table["offset"], [rate[:3] for rate in rates_of(table)], self.end) for table in self.tables]
         self.changes = [[] for _ in self.nodes]
         self.delays = [[delay_of(a, b, self.per) for a in self.tables] for b in self.tables]
         self.shocks = [[tuple(one[key] + abs(one["x"] - table["x"]) * self.per + table["in"] for key in ("from", "to")) for one in top.get("disturbance", [])]
