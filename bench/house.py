@@ -200,7 +200,8 @@ def doc_blocks(text):
 
 
 # What the comment of a function begins with: what it returns, or what it does
-BEGINS = re.compile(r"Returns|True if|False if|Nothing|Law\b|A law|[A-Z][a-z]+s\b(?! (of|is|are|that|which|in|from|on|by|and|at|with)\b)|`?Ok|`?Some|`?None|Always")
+NOUNS = "Bits|Bytes|Edges|Frames|Levels|Lines|Nodes|Numbers|Parts|Records|Rows|Texts|Ticks|Times|Words"
+BEGINS = re.compile(rf"Returns|True (if|of|only)|False if|Law\b|(?!{NOUNS})[A-Z][a-z]+s\b")
 
 
 def comments():
