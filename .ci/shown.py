@@ -12,6 +12,7 @@ Commands run in a temporary folder, one after the other, by bash. It has `wireli
 import difflib
 import os
 import re
+import signal
 import subprocess
 import sys
 import tempfile
@@ -47,9 +48,13 @@ def is_same(wanted, written):
 
 def run(command, folder, program):
     known = os.environ | {"WIRELINE_PROGRAM": program, "LC_ALL": "C.UTF-8"}
-    ran = subprocess.run(["bash", "-c", command], cwd=folder, env=known, stdin=subprocess.DEVNULL, stdout=subprocess.PIPE,
-                         stderr=subprocess.STDOUT, timeout=SECONDS)
-    return ran.stdout.decode()
+    with subprocess.Popen(["bash", "-c", command], cwd=folder, env=known, stdin=subprocess.DEVNULL, stdout=subprocess.PIPE,
+                          stderr=subprocess.STDOUT, start_new_session=True) as ran:
+        try:
+            return ran.communicate(timeout=SECONDS)[0].decode()
+        except subprocess.TimeoutExpired:
+            os.killpg(ran.pid, signal.SIGKILL)
+            return f"not ended after {SECONDS} seconds\n"
 
 
 def main():
