@@ -1,5 +1,5 @@
 -- What a node of a small plan finds, computed: a disturbance at its place from tick 1 up to tick 3, which takes a tick to it.
-use Rattle.std.specs.Prelude.{◌≡◌, true, false, [], ◌∷◌, map, refl}
+use Rattle.std.specs.Prelude.{◌≡◌, true, false, [], ◌∷◌, map, None, refl}
 use Rattle.wl_clock.specs.Timing.{tick_of}
 use Rattle.wl_segments.specs.declared.SyncRules.TheVariants.{After}
 use Rattle.wl_node.specs.History.{history_of}
@@ -15,7 +15,7 @@ small = record {
     queue = [];
   } ∷ [];
   topology = record { places = record { x = 0; out_delay = 0; in_delay = 1; listens = false } ∷ []; per = 1 };
-  disturbances = record { x = 0; from = 1; to = 3 } ∷ [];
+  disturbances = record { node = None; x = 0; from = 1; to = 3 } ∷ [];
   end = 6;
 }
 
