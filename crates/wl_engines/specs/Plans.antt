@@ -31,9 +31,9 @@ IsRecordsOutput plan names text = (text ≡ records_text plan) × All (λ told. 
 abbrev pub IsRunOutput : Plan → List (List ℕ) → List ℕ → Type 0
 IsRunOutput plan names text = text ≡ report_text (outcome_of plan)
 
--- the log of the frames that the one-thread simulation sends, at ticks that last so long
-abbrev pub IsCandumpOutput : Tick → Plan → List (List ℕ) → List ℕ → Type 0
-IsCandumpOutput tick plan names text = text ≡ log_text tick plan
+-- the log of the frames that the one-thread simulation sends, at ticks that last so long, the first of them at this second
+abbrev pub IsCandumpOutput : Tick → ℕ → Plan → List (List ℕ) → List ℕ → Type 0
+IsCandumpOutput tick from plan names text = text ≡ log_text tick from plan
 
 -- the waveform of the one-thread simulation, at ticks that last so long, under the names of the nodes
 abbrev pub IsVcdOutput : Tick → Plan → List (List ℕ) → List ℕ → Type 0

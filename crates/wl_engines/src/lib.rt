@@ -29,6 +29,7 @@ pub use check::check_run;
 pub use explain::explain_run;
 pub use fault::RunFault;
 pub use horizon::horizon_run;
+pub use kept::Kept;
 pub use laws::merges_as_one;
 pub use margin::margin_run;
 pub use merge::merge_run;

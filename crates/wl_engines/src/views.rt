@@ -14,30 +14,31 @@ use wl_setup::{Names, read_plan};
 use wl_views::{Tick, candump, sent_in_time, trace, vcd};
 
 /// The log of the frames that a plan's simulation sent.
-fn log_text(alloc: Global, tick: Tick, plan: &Plan) -> Result<Vec<u8>, AllocError>
+fn log_text(alloc: Global, tick: Tick, from: u32, plan: &Plan) -> Result<Vec<u8>, AllocError>
     requires { IsChecked plan.now }
-    ensures { IfOk result (λ text. text.items ≡ log_text tick plan.now) }
+    ensures { IfOk result (λ text. text.items ≡ log_text tick from plan.now) }
 {
     sent_in_time();
     let outcome = run_serial(alloc, plan)?;
-    candump(alloc, tick, plan, &outcome)
+    candump(alloc, tick, from, plan, &outcome)
 }
 
 /// Reads a plan's text, simulates the plan, and writes a line for each frame that was sent, in the order of their completion, as
-/// can-utils logs frames; a tick of the plan takes as long as `tick` says.
+/// can-utils logs frames; a tick of the plan takes as long as `tick` says, and tick 0 is at second `from`.
 ///
 /// The whole output stands before the first write. Where the input is refused, or memory runs out, the writer isn't called;
 /// where the writer fails, a prefix of the output has gone out.
 pub fn candump_run<R: Source, W: Sink>(
     alloc: Global,
     tick: Tick,
+    from: u32,
     reader: &mut R,
     writer: &mut W,
 ) -> Result<(), RunFault>
-    ensures { RunsPlan R.gives W.takes (IsCandumpOutput tick) reader.old reader.new writer.old writer.new result }
+    ensures { RunsPlan R.gives W.takes (IsCandumpOutput tick from) reader.old reader.new writer.old writer.new result }
 {
     let (plan, _names) = read_plan(alloc, reader)?;
-    let text = log_text(alloc, tick, &plan)?;
+    let text = log_text(alloc, tick, from, &plan)?;
     write_all(&text, writer)?;
     Ok(())
 }

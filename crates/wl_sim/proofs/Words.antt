@@ -24,7 +24,7 @@ use Rattle.wl_sweep_engine.specs.declared.fault.SweepFault.TheVariants as sweep
 use Rattle.wl_settings.specs.declared.fault.SettingsFault.TheVariants as settings
 use Rattle.wl_settings.specs.declared.said.Shown.{Shown}
 use Rattle.wl_settings.specs.declared.said.Shown.TheVariants.{Best}
-use Rattle.wl_sim.specs.CommandLine.{program, task_word, tick_among, workers_among, read_link, link_among, entered, file_among, file_in, file_named, is_flagged, is_set, number_among, number_or_zero, plain_values, plainly_swept, ranges_among, ranges_in, values_among, word_in, Enters, FoundTask, NamedTask, HasValues, NamesTask}
+use Rattle.wl_sim.specs.CommandLine.{program, task_word, tick_among, workers_among, read_link, link_among, entered, file_among, file_in, file_named, format_among, format_in, read_format, is_flagged, is_set, number_among, number_or_zero, plain_values, plainly_swept, ranges_among, ranges_in, values_among, word_in, Enters, FoundTask, NamedTask, HasValues, NamesTask}
 use Rattle.wl_worker.specs.declared.kinds.LinkKind.{LinkKind}
 use Rattle.wl_worker.specs.declared.kinds.LinkKind.TheVariants.{Hub}
 use Rattle.wl_views.specs.declared.tick.Tick.{Tick}
@@ -33,6 +33,7 @@ use Rattle.wl_views.specs.Ticks.{read_tick}
 use Rattle.wl_sim.specs.Tasks.{Does, DoesSweep, EndsTask, IsCount, Plainly, run_status, refusal_status}
 use Rattle.wl_sim.specs.Orders.{Asks, Ends, EndsPlainly, Performs, ReadsFrom, ReadsOrder}
 use Rattle.wl_files.specs.Files.{Standing}
+use Rattle.wl_formats.specs.declared.formats.Format.{Format}
 use Rattle.wl_sim.specs.declared.answer.Done.{Done}
 use Rattle.wl_sim.specs.declared.answer.Fault.{Fault}
 use Rattle.wl_sim.specs.declared.answer.Fault.TheVariants as fault
@@ -55,20 +56,20 @@ program_is_free = refl
 -- the word of a task enters its subcommand, without a fault
 word_enters : (t : Task) (name : Text) → HasValues (Some plain_values) t → Enters t (name ∷ task_word t ∷ [])
 unfolding clap_on_literals
-word_enters Merge name h = ((refl, tt), refl)
-word_enters Horizon name h = ((refl, tt), refl)
-word_enters Check name h = ((refl, tt), refl)
-word_enters Records name h = ((refl, tt), refl)
-word_enters (Run workers kind) name h = ((refl, h), refl)
-word_enters Explain name h = ((refl, tt), refl)
-word_enters Trace name h = ((refl, tt), refl)
-word_enters (Candump tick) name h = ((refl, h), refl)
-word_enters (Vcd tick) name h = ((refl, h), refl)
-word_enters (Page tick) name h = ((refl, h), refl)
-word_enters (Margin tick) name h = ((refl, h), refl)
-word_enters (Traffic tick strict) name h = ((refl, h), refl)
-word_enters (Settings tick shown) name h = ((refl, h), refl)
-word_enters (Sweep swept) name h = ((refl, h), refl)
+word_enters Merge name h = ((refl, tt), refl, refl)
+word_enters Horizon name h = ((refl, tt), refl, refl)
+word_enters Check name h = ((refl, tt), refl, refl)
+word_enters Records name h = ((refl, tt), refl, refl)
+word_enters (Run workers kind) name h = ((refl, h), refl, refl)
+word_enters Explain name h = ((refl, tt), refl, refl)
+word_enters Trace name h = ((refl, tt), refl, refl)
+word_enters (Candump tick from) name h = ((refl, h), refl, refl)
+word_enters (Vcd tick) name h = ((refl, h), refl, refl)
+word_enters (Page tick) name h = ((refl, h), refl, refl)
+word_enters (Margin tick) name h = ((refl, h), refl, refl)
+word_enters (Traffic tick strict) name h = ((refl, h), refl, refl)
+word_enters (Settings tick shown) name h = ((refl, h), refl, refl)
+word_enters (Sweep swept) name h = ((refl, h), refl, refl)
 
 -- and names no file and no range
 abbrev NamesNothing : List Text → Type 0
@@ -84,13 +85,34 @@ word_names_none Records name = (refl, refl, refl)
 word_names_none (Run workers kind) name = (refl, refl, refl)
 word_names_none Explain name = (refl, refl, refl)
 word_names_none Trace name = (refl, refl, refl)
-word_names_none (Candump tick) name = (refl, refl, refl)
+word_names_none (Candump tick from) name = (refl, refl, refl)
 word_names_none (Vcd tick) name = (refl, refl, refl)
 word_names_none (Page tick) name = (refl, refl, refl)
 word_names_none (Margin tick) name = (refl, refl, refl)
 word_names_none (Traffic tick strict) name = (refl, refl, refl)
 word_names_none (Settings tick shown) name = (refl, refl, refl)
 word_names_none (Sweep swept) name = (refl, refl, refl)
+
+-- and no format
+word_format : (t : Task) (name : Text) → format_in (entered (name ∷ task_word t ∷ [])) ≡ Some None
+unfolding clap_on_literals
+word_format Merge name = refl
+word_format Horizon name = refl
+word_format Check name = refl
+word_format Records name = refl
+word_format (Run workers kind) name = refl
+word_format Explain name = refl
+word_format Trace name = refl
+word_format (Candump tick from) name = refl
+word_format (Vcd tick) name = refl
+word_format (Page tick) name = refl
+word_format (Margin tick) name = refl
+word_format (Traffic tick strict) name = refl
+word_format (Settings tick shown) name = refl
+word_format (Sweep swept) name = refl
+
+names_format : (t : Task) (words : List Text) → NamesTask t words → format_in (entered words) ≡ Some None
+names_format t words n = subst (λ ws. format_in (entered ws) ≡ Some None) (sym n.2) (word_format t n.0)
 
 names_none : (t : Task) (words : List Text) → NamesTask t words → NamesNothing words
 names_none t words n = subst NamesNothing (sym n.2) (word_names_none t n.0)
@@ -164,6 +186,10 @@ link_text f = ap (option_and_then read_link) (sym (first_value-rows f (codes "li
 pub file_text : (f : Found) (id : Text) → file_among id (rows_of f) ≡ option_and_then file_named (first_value f id)
 file_text f id = ap (option_and_then file_named) (sym (first_value-rows f id))
 
+-- the format of an option, by its text
+pub format_text : (f : Found) → format_among (rows_of f) ≡ option_map_or read_format (first_value f (codes "format")) (Some None)
+format_text f = ap (λ o. option_map_or read_format o (Some None)) (sym (first_value-rows f (codes "format")))
+
 -- whether a flag is set, by its text
 pub flag_text : (f : Found) (id : Text) → is_flagged id (rows_of f) ≡ option_map_or is_set (first_value f id) false
 flag_text f id = ap (λ o. option_map_or is_set o false) (sym (first_value-rows f id))
@@ -184,13 +210,16 @@ swept_in given = unwrap_or (option_and_then (λ v. v.swept) given) plainly_swept
 strict_in : Option Values → Bool
 strict_in given = unwrap_or (option_map (λ v. v.strict) given) false
 
+from_in : Option Values → ℕ
+from_in given = unwrap_or (option_and_then (λ v. v.from) given) 0
+
 shown_in : Option Values → Shown
 shown_in given = unwrap_or (option_map (λ v. v.shown) given) (Best None)
 
 task_by : Option Values → ℕ → Task
 task_by given n =
     if n == 412 then Merge else (if n == 437 then Horizon else (if n == 411 then Check else (if n == 417 then Records else
-    (if n == 461 then Explain else (if n == 390 then Candump (tick_in given) else (if n == 415 then Vcd (tick_in given) else
+    (if n == 461 then Explain else (if n == 390 then Candump (tick_in given) (from_in given) else (if n == 415 then Vcd (tick_in given) else
     (if n == 458 then Trace else (if n == 403 then Page (tick_in given) else (if n == 400 then Margin (tick_in given) else
     (if n == 472 then Sweep (swept_in given) else (if n == 418 then Settings (tick_in given) (shown_in given) else
     Run (workers_in given) (link_in given))))))))))))
@@ -201,7 +230,7 @@ task_at given (Some w) =
     if slice_index w 3 == 102 then Traffic (tick_in given) (strict_in given) else task_by given (slice_index w 0 + 3 * slice_index w 1)
 
 task_at_word : (given : Option Values) (t : Task) → HasValues given t → task_at given (Some (task_word t)) ≡ t
-unfolding task_at task_by tick_in strict_in workers_in link_in swept_in shown_in
+unfolding task_at task_by tick_in from_in strict_in workers_in link_in swept_in shown_in
 task_at_word given Merge h = refl
 task_at_word given Horizon h = refl
 task_at_word given Check h = refl
@@ -209,7 +238,8 @@ task_at_word given Records h = refl
 task_at_word given (Run workers kind) h = ap₂ (λ o p. Run (unwrap_or o 1) (unwrap_or p Hub)) h.0 h.1
 task_at_word given Explain h = refl
 task_at_word given Trace h = refl
-task_at_word given (Candump tick) h = ap (λ o. Candump (unwrap_or o (record { count = 1; unit = Nanosecond }))) h
+task_at_word given (Candump tick from) h =
+    ap₂ (λ o p. Candump (unwrap_or o (record { count = 1; unit = Nanosecond })) (unwrap_or p 0)) h.0 h.1
 task_at_word given (Vcd tick) h = ap (λ o. Vcd (unwrap_or o (record { count = 1; unit = Nanosecond }))) h
 task_at_word given (Page tick) h = ap (λ o. Page (unwrap_or o (record { count = 1; unit = Nanosecond }))) h
 task_at_word given (Margin tick) h = ap (λ o. Margin (unwrap_or o (record { count = 1; unit = Nanosecond }))) h
@@ -249,7 +279,7 @@ module _ {S T : Type 0} (gives : S → Answer → S → Type 0) (takes : T → A
   does_nothing s s' t t' (Run workers kind) h = (Err run.Memory, both_same (workers == 1) h, refl)
   does_nothing s s' t t' Explain h = (Err run.Memory, h, refl)
   does_nothing s s' t t' Trace h = (Err run.Memory, h, refl)
-  does_nothing s s' t t' (Candump tick) h = (Err run.Memory, h, refl)
+  does_nothing s s' t t' (Candump tick from) h = (Err run.Memory, h, refl)
   does_nothing s s' t t' (Vcd tick) h = (Err run.Memory, h, refl)
   does_nothing s s' t t' (Page tick) h = (Err run.Memory, h, refl)
   does_nothing s s' t t' (Margin tick) h = (Err run.Memory, h, refl)
@@ -261,12 +291,14 @@ module _ {S T : Type 0} (gives : S → Answer → S → Type 0) (takes : T → A
 module _ {S T F R W : Type 0} (gives : S → Answer → S → Type 0) (takes : T → Answer → T → Type 0)
     (file_gives : R → Answer → R → Type 0) (file_takes : W → Answer → W → Type 0)
     (opens : F → Text → R → Type 0) (stands : F → Text → Standing) (holds : W → Standing) (s s' : S) (t t' : T) (f f' : F) where
-  plain_reads : (input output : Option Text) (task : Task) (ranges : List Text) (r : Result Done Fault) → input ≡ None → output ≡ None
-      → ReadsFrom gives takes file_gives file_takes opens stands holds s s' t t' f f' input task ranges output r
+  plain_reads : (input output : Option Text) (format : Option Format) (task : Task) (ranges : List Text) (r : Result Done Fault)
+      → input ≡ None → output ≡ None → format ≡ None
+      → ReadsFrom gives takes file_gives file_takes opens stands holds s s' t t' f f' input format task ranges output r
       → Does gives takes s s' t t' task ranges r × (f' ≡ f)
-  plain_reads None None task ranges r i o h = h
-  plain_reads (Some x) output task ranges r i o h = cc
-  plain_reads None (Some x) task ranges r i o h = cc
+  plain_reads None None None task ranges r i o p h = h
+  plain_reads None None (Some x) task ranges r i o p h = cc
+  plain_reads None (Some x) format task ranges r i o p h = cc
+  plain_reads (Some x) output format task ranges r i o p h = cc
 
   -- the task that was read is the one that the words name
   pub named_is_done : (words : List Text) (order : Order) (task : Task) (r : Result Done Fault) (status : ℕ) → Asks order words
@@ -275,7 +307,8 @@ module _ {S T F R W : Type 0} (gives : S → Answer → S → Type 0) (takes : T
   named_is_done words order task r status asked named done is =
       let none = names_none task words named in
       let ranges = map string_bytes order.ranges.items in
-      let plain = plain_reads order.input order.output order.task ranges r (asked.1 ∙ none.0) (asked.2 ∙ none.1) done in
+      let format = ap (λ (o : Option (Option Format)). unwrap_or o None) (sym asked.6 ∙ names_format task words named) in
+      let plain = plain_reads order.input order.output order.format order.task ranges r (asked.1 ∙ none.0) (asked.2 ∙ none.1) format done in
       let same = sym (one_task order.task task words asked.0 (names_enters task words named)) in
       let of_task = subst (λ k. Does gives takes s s' t t' k ranges r) same plain.0 in
       ((r, subst (λ rs. Does gives takes s s' t t' task rs r) (asked.5 ∙ none.2) of_task, is), plain.1)

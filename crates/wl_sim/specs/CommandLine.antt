@@ -1,5 +1,5 @@
 -- The words of the command line (this project's profile).
-use Rattle.std.specs.Prelude.{◌≡◌, ◌^◌, ◌-◌, ◌&&◌, nat_lt, ℕ, Bool, true, false, List, [], ◌∷◌, length, codes, pos, Option, Some, None, unwrap_or, if◌then◌else◌, option_and_then, option_map}
+use Rattle.std.specs.Prelude.{◌≡◌, ◌^◌, ◌-◌, ◌&&◌, nat_lt, ℕ, Bool, true, false, List, [], ◌∷◌, length, codes, pos, Option, Some, None, is_some, unwrap_or, if◌then◌else◌, option_and_then, option_map}
 use Rattle.std.specs.Char.{digit_value}
 use Rattle.std.specs.List.{list_all}
 use Rattle.std.specs.Option.{option_map_or}
@@ -10,6 +10,8 @@ use Rattle.clap.specs.Walk.{byte_or_zero}
 use Rattle.clap.specs.declared.builder.action.ArgAction.TheVariants.{Append, SetTrue}
 use Rattle.clap.specs.declared.builder.value_parser.ValueParser.TheVariants.{Signed, Unsigned}
 use Rattle.clap.specs.Simple.{on_top}
+use Rattle.wl_formats.specs.declared.formats.Format.{Format}
+use Rattle.wl_formats.specs.declared.formats.Format.TheVariants.{Json, Csv}
 use Rattle.wl_settings.specs.declared.said.Shown.{Shown}
 use Rattle.wl_settings.specs.declared.said.Shown.TheVariants.{Best, Plan}
 use Rattle.wl_worker.specs.declared.kinds.LinkKind.{LinkKind}
@@ -31,7 +33,7 @@ task_word Records = codes "records"
 task_word (Run workers kind) = codes "run"
 task_word Explain = codes "explain"
 task_word Trace = codes "trace"
-task_word (Candump tick) = codes "candump"
+task_word (Candump tick from) = codes "candump"
 task_word (Vcd tick) = codes "vcd"
 task_word (Page tick) = codes "page"
 task_word (Margin tick) = codes "margin"
@@ -68,9 +70,30 @@ tick_rule = record (new_rule (codes "tick")) { long = Some (codes "tick"); value
 abbrev pub timed : Text → App
 timed word = with_rule (filed word) tick_rule
 
+-- the option `--format`, which is `text` where it isn't given
+abbrev pub format_rule : Rule
+format_rule = record (new_rule (codes "format")) { long = Some (codes "format"); value_names = 1; defaults = codes "text" ∷ [] }
+
+-- a subcommand that has this option
+abbrev pub formatted_app : App → App
+formatted_app app = with_rule app format_rule
+
+-- the option `--from`, seconds below 2^32 as 32 bits have them, which is 0 where it isn't given
+abbrev pub from_rule : Rule
+from_rule =
+    record (new_rule (codes "from")) { long = Some (codes "from"); value_names = 1; defaults = codes "0" ∷ []; parser = Some (Signed (pos 0) (pos (2 ^ 32 - 1))) }
+
+-- the subcommand `candump`, with its options
+abbrev pub candump_app : App
+candump_app = with_rule (timed (codes "candump")) from_rule
+
+-- the subcommand `margin`, with its options
+abbrev pub margin_app : App
+margin_app = formatted_app (timed (codes "margin"))
+
 -- the subcommand `traffic`, with its options
 abbrev pub traffic_app : App
-traffic_app = with_rule (timed (codes "traffic")) (flag_rule (codes "strict"))
+traffic_app = formatted_app (with_rule (timed (codes "traffic")) (flag_rule (codes "strict")))
 
 -- the option `--workers`, a number from 1 to 8, which is 1 where it isn't given
 abbrev pub workers_rule : Rule
@@ -83,7 +106,7 @@ link_rule = record (new_rule (codes "link")) { long = Some (codes "link"); value
 
 -- the subcommand `run`, with its options
 abbrev pub run_app : App
-run_app = with_rule (with_rule (filed (codes "run")) workers_rule) link_rule
+run_app = formatted_app (with_rule (with_rule (filed (codes "run")) workers_rule) link_rule)
 
 -- the options of `settings`: how many are listed, a number above 0, and that the plan of the best one is written
 abbrev pub best_rule : Rule
@@ -125,20 +148,20 @@ swept_app app =
 
 -- the subcommand `sweep`
 abbrev pub sweep_app : App
-sweep_app = swept_app (filed (codes "sweep"))
+sweep_app = formatted_app (swept_app (filed (codes "sweep")))
 
 -- the command line of most tasks without a tick: one of the tasks has to be named
 abbrev pub untimed_program : App
 untimed_program =
-    with_task (with_subcommand (with_task (with_task (with_task (with_task
+    with_subcommand (with_subcommand (with_task (with_subcommand (with_task (with_task
     (on_top (λ s. record s { subcommand_required = true }) (on_top (λ s. record s { has_version = true }) (new_app (codes "wl_sim"))))
-    Merge) Horizon) Check) Records) run_app.top) Explain
+    Merge) Horizon) (formatted_app (filed (codes "check"))).top) Records) run_app.top) (formatted_app (filed (codes "explain"))).top
 
 -- the command line of single runs: after those, the trace and the tasks with one
 abbrev pub single_program : App
 single_program =
-    with_subcommand (with_subcommand (with_subcommand (with_subcommand (with_subcommand (with_task untimed_program Trace)
-    (timed (codes "candump")).top) (timed (codes "vcd")).top) (timed (codes "page")).top) (timed (codes "margin")).top) traffic_app.top
+    with_subcommand (with_subcommand (with_subcommand (with_subcommand (with_subcommand (with_subcommand untimed_program
+    (formatted_app (filed (codes "trace"))).top) candump_app.top) (timed (codes "vcd")).top) (timed (codes "page")).top) margin_app.top) traffic_app.top
 
 -- and with the search for settings
 abbrev pub search_program : App
@@ -173,6 +196,20 @@ read_link text = if bytes_eq text (codes "hub") then Some Hub else (if bytes_eq 
 -- the kind of link that a subcommand's option gives
 abbrev pub link_among : List Row → Option LinkKind
 link_among rows = option_and_then read_link (first_of (codes "link") rows)
+
+-- the format that a text names: `text`, or another one
+abbrev pub read_format : Text → Option (Option Format)
+read_format text =
+    if bytes_eq text (codes "text") then Some None
+    else (if bytes_eq text (codes "json") then Some (Some Json) else (if bytes_eq text (codes "csv") then Some (Some Csv) else None))
+
+-- the format that a subcommand's option gives; a subcommand that has no such option writes text
+abbrev pub format_among : List Row → Option (Option Format)
+format_among rows = option_map_or read_format (first_of (codes "format") rows) (Some None)
+
+-- that of the subcommand that was found
+abbrev pub format_in : Option (Text × List Row) → Option (Option Format)
+format_in found = option_map_or (λ p. format_among p.1) found (Some None)
 
 -- the file that a text names in the place of a standard stream, which `-` means
 abbrev pub file_named : Text → Option Text
@@ -249,11 +286,12 @@ values_among rows = record {
   swept = swept_among rows;
   shown = shown_among rows;
   strict = is_flagged (codes "strict") rows;
+  from = number_among 32 (codes "from") rows;
 }
 
 -- a task that has values of options has these
 abbrev pub HasValues : Option Values → Task → Type 0
-HasValues given (Candump tick) = option_and_then (λ v. v.tick) given ≡ Some tick
+HasValues given (Candump tick from) = (option_and_then (λ v. v.tick) given ≡ Some tick) × (option_and_then (λ v. v.from) given ≡ Some from)
 HasValues given (Vcd tick) = option_and_then (λ v. v.tick) given ≡ Some tick
 HasValues given (Page tick) = option_and_then (λ v. v.tick) given ≡ Some tick
 HasValues given (Margin tick) = option_and_then (λ v. v.tick) given ≡ Some tick
@@ -276,9 +314,9 @@ NamedTask word given t = (word ≡ Some (task_word t)) × HasValues given t
 abbrev pub FoundTask : Option (Text × List Row) → Task → Type 0
 FoundTask found t = NamedTask (word_in found) (option_map (λ p. values_among p.1) found) t
 
--- clap enters the task's subcommand at these words, with the task's values, and finds no fault in them
+-- clap enters the task's subcommand at these words, with the task's values and a format that there is, and finds no fault in them
 abbrev pub Enters : Task → List Text → Type 0
-Enters t words = FoundTask (entered words) t × (fault_of program words ≡ [])
+Enters t words = FoundTask (entered words) t × (fault_of program words ≡ []) × (is_some (format_in (entered words)) ≡ true)
 
 -- what is swept where the words say nothing of it
 abbrev pub plainly_swept : Swept
@@ -289,7 +327,7 @@ plainly_swept = record {
 }
 
 -- where the words say nothing of it a tick is a nanosecond, one worker runs, over a hub if it were several, all settings are listed, and the status
--- says nothing of a run
+-- says nothing of a run, and tick 0 is at second 0
 abbrev pub plain_values : Values
 plain_values = record {
   tick = Some (record { count = 1; unit = Nanosecond });
@@ -298,6 +336,7 @@ plain_values = record {
   swept = Some plainly_swept;
   strict = false;
   shown = Best None;
+  from = Some 0;
 }
 
 -- the program's own name, and after it the word of the task alone: clap enters the task there, with plain values

@@ -3,6 +3,7 @@ use Rattle.std.specs.Prelude.{◌≡◌, ◌⊎◌, ℕ, Bool, if◌then◌else�
 use Rattle.clap.specs.Words.{Text}
 use Rattle.wl_device.specs.Devices.{Answer}
 use Rattle.wl_files.specs.Files.{Standing, IsEmpty, Keeps, Places}
+use Rattle.wl_formats.specs.declared.formats.Format.{Format}
 use Rattle.wl_setup.specs.declared.fault.SetupFault.TheVariants as setup
 use Rattle.wl_engines.specs.declared.fault.RunFault.TheVariants.{Setup, Write, Memory}
 use Rattle.wl_sim.specs.declared.answer.Done.{Done}
@@ -12,15 +13,15 @@ use Rattle.wl_sim.specs.declared.command.Order.{Order}
 use Rattle.wl_sim.specs.declared.command.Refusal.{Refusal}
 use Rattle.wl_sim.specs.declared.command.Refusal.TheVariants as refusal
 use Rattle.wl_sim.specs.declared.command.Task.{Task}
-use Rattle.wl_sim.specs.CommandLine.{Enters, entered, file_in, has_flag, ranges_in}
-use Rattle.wl_sim.specs.Tasks.{Does, EndsTask, refusal_status, run_status}
+use Rattle.wl_sim.specs.CommandLine.{Enters, entered, file_in, format_in, has_flag, ranges_in}
+use Rattle.wl_sim.specs.Tasks.{DoesAs, EndsTask, refusal_status, run_status}
 
 -- the words ask for this: the task that they enter, with the files and the ranges that they name
 abbrev pub Asks : Order → List Text → Type 0
 Asks order words =
     Enters order.task words × (order.input ≡ file_in (codes "input") (entered words)) × (order.output ≡ file_in (codes "output") (entered words))
     × (order.hint ≡ has_flag (codes "hint") (entered words)) × (order.progress ≡ has_flag (codes "progress") (entered words))
-    × (map string_bytes order.ranges.items ≡ ranges_in (entered words))
+    × (map string_bytes order.ranges.items ≡ ranges_in (entered words)) × (format_in (entered words) ≡ Some order.format)
 
 -- what was found in the words
 abbrev pub FindsOrder : List Text → Option Order → Type 0
@@ -42,7 +43,7 @@ module _ {F W : Type 0} (stands : F → Text → Standing) (holds : W → Standi
 
 -- The output goes to standard output, or to a new file.
 module _ {S T F W : Type 0} (gives : S → Answer → S → Type 0) (takes : T → Answer → T → Type 0) (file_takes : W → Answer → W → Type 0)
-    (stands : F → Text → Standing) (holds : W → Standing) (s s' : S) (t t' : T) (f f' : F) (task : Task) (ranges : List Text) where
+    (stands : F → Text → Standing) (holds : W → Standing) (s s' : S) (t t' : T) (f f' : F) (format : Option Format) (task : Task) (ranges : List Text) where
   -- no new file was begun: nothing was read, and each name has what it had
   abbrev pub BeginsNone : Result Done Fault → Type 0
   BeginsNone r = (s' ≡ s) × Keeps (stands f) (stands f') × ((r ≡ Err (Run Write)) ⊎ (r ≡ Err (Run Memory)))
@@ -50,11 +51,11 @@ module _ {S T F W : Type 0} (gives : S → Answer → S → Type 0) (takes : T �
   -- a new file was begun, an empty one, and the task done over it
   abbrev pub WritesNew : Text → Result Done Fault → Type 0
   WritesNew name r =
-      (file : W) × (file' : W) × (answer : Result Done Fault) × IsEmpty (holds file) × Does gives file_takes s s' file file' task ranges answer
+      (file : W) × (file' : W) × (answer : Result Done Fault) × IsEmpty (holds file) × DoesAs gives file_takes s s' file file' format task ranges answer
       × MovesFile stands holds f f' name file' answer r
 
   abbrev pub WritesTo : Option Text → Result Done Fault → Type 0
-  WritesTo None r = Does gives takes s s' t t' task ranges r × (f' ≡ f)
+  WritesTo None r = DoesAs gives takes s s' t t' format task ranges r × (f' ≡ f)
   WritesTo (Some name) r = (t' ≡ t) × (BeginsNone r ⊎ WritesNew name r)
 
 -- The input comes from standard input, or from a file.
@@ -62,15 +63,15 @@ module _ {S T F R W : Type 0} (gives : S → Answer → S → Type 0) (takes : T
     (file_gives : R → Answer → R → Type 0) (file_takes : W → Answer → W → Type 0)
     (opens : F → Text → R → Type 0) (stands : F → Text → Standing) (holds : W → Standing) (s s' : S) (t t' : T) (f f' : F) where
   -- no file of the name was opened, and nothing was done; or the task was done over one
-  abbrev pub ReadsFrom : Option Text → Task → List Text → Option Text → Result Done Fault → Type 0
-  ReadsFrom None task ranges output r = WritesTo gives takes file_takes stands holds s s' t t' f f' task ranges output r
-  ReadsFrom (Some name) task ranges output r =
+  abbrev pub ReadsFrom : Option Text → Option Format → Task → List Text → Option Text → Result Done Fault → Type 0
+  ReadsFrom None format task ranges output r = WritesTo gives takes file_takes stands holds s s' t t' f f' format task ranges output r
+  ReadsFrom (Some name) format task ranges output r =
       (s' ≡ s) × (((r ≡ Err (Run (Setup setup.Read))) × (t' ≡ t) × (f' ≡ f))
-      ⊎ ((file : R) × (file' : R) × opens f name file × WritesTo file_gives takes file_takes stands holds file file' t t' f f' task ranges output r))
+      ⊎ ((file : R) × (file' : R) × opens f name file × WritesTo file_gives takes file_takes stands holds file file' t t' f f' format task ranges output r))
 
   -- what the words asked for was done
   abbrev pub Performs : Order → Result Done Fault → Type 0
-  Performs order r = ReadsFrom order.input order.task (map string_bytes order.ranges.items) order.output r
+  Performs order r = ReadsFrom order.input order.format order.task (map string_bytes order.ranges.items) order.output r
 
   -- it was done, and the status is that of what was answered; or neither device nor any file was used, and the status says why
   abbrev pub Ends : Result Order Refusal → ℕ → Type 0

@@ -1,9 +1,17 @@
 -- What the program does for its words, and the status that it ends with (this project's profile).
-use Rattle.std.specs.Prelude.{◌≡◌, ◌≤◌, ◌==◌, ℕ, Bool, true, false, MatchBool, List, [], Option, Some, None, if◌then◌else◌, Result, Ok, Err}
+use Rattle.std.specs.Prelude.{◌≡◌, ◌≤◌, ◌==◌, ◌⊎◌, ℕ, Bool, true, false, MatchBool, List, [], ◌∷◌, Option, Some, None, is_some, if◌then◌else◌, Result, Ok, Err}
 use Rattle.std.specs.List.{list_all}
 use Rattle.clap.specs.Words.{Text}
 use Rattle.wl_device.specs.Devices.{Answer}
 use Rattle.wl_setup.specs.Check.{IsPlanCheck}
+use Rattle.wl_device.specs.Devices.{Writes}
+use Rattle.wl_device.specs.declared.device.WriteFault.{WriteFault}
+use Rattle.wl_engines.specs.Keeping.{KeepsMore}
+use Rattle.wl_engines.specs.declared.kept.Kept.{Kept}
+use Rattle.wl_formats.specs.Formats.{formatted}
+use Rattle.wl_formats.specs.declared.formats.Format.{Format}
+use Rattle.wl_formats.specs.declared.tables.Subject.{Subject}
+use Rattle.wl_formats.specs.declared.tables.Subject.TheVariants as subject
 use Rattle.wl_engines.specs.declared.fault.RunFault.{RunFault}
 use Rattle.wl_engines.specs.declared.fault.RunFault.TheVariants as run
 use Rattle.wl_engines.specs.Explained.{Explains}
@@ -85,13 +93,14 @@ of_traffic false (Ok reason) = Ok Plain
 of_traffic strict (Err f) = Err (fault.Run f)
 
 -- the status of a run: 0; 1 where the input was refused for what it says, some member of a sweep isn't clean, or a strict run doesn't work; 2 where its plan doesn't allow the words of a sweep;
--- 3 when out of memory or for a fault of reading, writing or workers
+-- 3 when out of memory, for a fault of reading, writing or workers, or if a line has no other format
 abbrev pub run_status : Result Done Fault → ℕ
 run_status (Ok Plain) = 0
 run_status (Ok Unclean) = 1
 run_status (Err (fault.Run f)) = if is_refusal f then 1 else 3
 run_status (Err (fault.Word f)) = 2
 run_status (Err (fault.Settings f)) = 1
+run_status (Err fault.Format) = 3
 
 -- the status of a command line that named no task
 abbrev pub refusal_status : Refusal → ℕ
@@ -102,6 +111,23 @@ refusal_status Memory = 3
 abbrev pub IsCount : Option ℕ → ℕ → Type 0
 IsCount (Some said) count = count ≡ said
 IsCount None count = (1 ≤ count) × (count ≤ 8)
+
+-- the command of a task, if its output has other formats; a member of a sweep is a plan
+abbrev pub subject_of : Task → Option Subject
+subject_of Merge = None
+subject_of Horizon = None
+subject_of Check = Some subject.Check
+subject_of Records = None
+subject_of (Run workers kind) = Some subject.Run
+subject_of Explain = Some subject.Explain
+subject_of Trace = Some subject.Trace
+subject_of (Candump tick from) = None
+subject_of (Vcd tick) = None
+subject_of (Page tick) = None
+subject_of (Margin tick) = Some subject.Margin
+subject_of (Traffic tick strict) = Some subject.Traffic
+subject_of (Settings tick shown) = None
+subject_of (Sweep swept) = if is_some swept.print then None else Some subject.Sweep
 
 -- an engine answered, and that is what is answered
 abbrev pub Plainly : (Result (Unit {0}) RunFault → Type 0) → Result Done Fault → Type 0
@@ -130,7 +156,7 @@ module _ {S T : Type 0} (gives : S → Answer → S → Type 0) (takes : T → A
       Plainly (λ a. MatchBool (workers == 1) (RunsPlan gives takes IsRunOutput s s' t t' a) (RunsByWorkers gives takes workers s s' t t' a)) r
   Does Explain ranges r = Plainly (Explains gives takes s s' t t') r
   Does Trace ranges r = Plainly (RunsPlan gives takes IsTraceOutput s s' t t') r
-  Does (Candump tick) ranges r = Plainly (RunsPlan gives takes (IsCandumpOutput tick) s s' t t') r
+  Does (Candump tick from) ranges r = Plainly (RunsPlan gives takes (IsCandumpOutput tick from) s s' t t') r
   Does (Vcd tick) ranges r = Plainly (RunsPlan gives takes (IsVcdOutput tick) s s' t t') r
   Does (Page tick) ranges r = Plainly (Pages gives takes tick s s' t t') r
   Does (Margin tick) ranges r = Plainly (RunsBus gives takes (IsMarginOutput tick) s s' t t') r
@@ -142,3 +168,44 @@ module _ {S T : Type 0} (gives : S → Answer → S → Type 0) (takes : T → A
   -- the task was done, nothing else was read or written, and the status is that of what was answered
   abbrev pub EndsTask : Task → ℕ → Type 0
   EndsTask task status = (r : Result Done Fault) × Does task [] r × (status ≡ run_status r)
+
+-- the answer after the whole output was sent, or not
+abbrev pub after_sent : Result Done Fault → Result (Unit {0}) WriteFault → Result Done Fault
+after_sent answer (Ok u) = answer
+after_sent answer (Err f) = Err (fault.Run run.Write)
+
+-- What is written in the place of a text, after an engine has written that into memory and answered.
+module _ {T : Type 0} (takes : T → Answer → T → Type 0) (t t' : T) (format : Format) (subject : Subject) where
+  -- its bytes in another format, or nothing
+  abbrev pub WritesFormatted : List ℕ → Result Done Fault → Result Done Fault → Type 0
+  WritesFormatted text answer r =
+      ((bytes : List ℕ) × (sent : Result (Unit {0}) WriteFault) × (formatted format subject text ≡ Some bytes) × Writes takes t bytes sent t'
+      × (r ≡ after_sent answer sent))
+      ⊎ ((t' ≡ t) × (((formatted format subject text ≡ None) × (r ≡ Err fault.Format)) ⊎ (r ≡ Err (fault.Run run.Memory))))
+
+  -- after a fault: if the engine wrote nothing, nothing is written
+  abbrev pub WritesRefused : Fault → List ℕ → Result Done Fault → Type 0
+  WritesRefused fault [] r = (t' ≡ t) × (r ≡ Err fault)
+  WritesRefused fault (byte ∷ text) r = WritesFormatted (byte ∷ text) (Err fault) r
+
+  -- only for want of memory nothing can be written into memory
+  abbrev pub WritesAs : List ℕ → Result Done Fault → Result Done Fault → Type 0
+  WritesAs text (Ok done) r = WritesFormatted text (Ok done) r
+  WritesAs text (Err (fault.Run run.Write)) r = (t' ≡ t) × (r ≡ Err (fault.Run run.Memory))
+  WritesAs text (Err fault) r = WritesRefused fault text r
+
+-- what was written into memory
+abbrev pub keeps : Kept → Answer → Kept → Type 0
+keeps old answer new = KeepsMore old.bytes.items answer new.bytes.items
+
+-- What was done for a task whose output is to have a format.
+module _ {S T : Type 0} (gives : S → Answer → S → Type 0) (takes : T → Answer → T → Type 0) (s s' : S) (t t' : T) where
+  abbrev pub DoesBy : Format → Option Subject → Task → List Text → Result Done Fault → Type 0
+  DoesBy format None task ranges r = Does gives takes s s' t t' task ranges r
+  DoesBy format (Some subject) task ranges r =
+      (kept : Kept) × (kept' : Kept) × (answer : Result Done Fault) × (kept.bytes.items ≡ [])
+      × Does gives keeps s s' kept kept' task ranges answer × WritesAs takes t t' format subject kept'.bytes.items answer r
+
+  abbrev pub DoesAs : Option Format → Task → List Text → Result Done Fault → Type 0
+  DoesAs None task ranges r = Does gives takes s s' t t' task ranges r
+  DoesAs (Some format) task ranges r = DoesBy format (subject_of task) task ranges r

@@ -33,6 +33,9 @@ pub enum Fault {
     /// The text that says what settings are asked for was refused, or there is no setting whose plan could be written.
     #[error("{0}")]
     Settings(SettingsFault),
+    /// A line of the output has no other format.
+    #[error("Format")]
+    Format,
 }
 
 /// What an engine answered, as an answer of the program.

@@ -4,12 +4,13 @@ ghost use Rattle.clap.specs.Words.{app_of, kind_of, new_app, rule_of, subcommand
 ghost use Rattle.clap.specs.declared.builder.command.Command.TheViews.{out-Command};
 ghost use Rattle.wl_sim.specs.CommandLine.{untimed_program, single_program, search_program, program, settings_app, sweep_app, Enters, FoundTask, NamedTask};
 ghost use Rattle.wl_sim.specs.CommandLine.{file_in, has_flag, ranges_in};
-ghost use Rattle.wl_sim.specs.CommandLine.{best_rule, filed, flag_rule, input_rule, link_rule, output_rule, run_app, tick_rule, traffic_app, workers_rule};
+ghost use Rattle.wl_sim.specs.CommandLine.{best_rule, candump_app, filed, flag_rule, from_rule, format_rule, formatted_app, input_rule, link_rule, margin_app, output_rule, run_app, tick_rule, traffic_app, workers_rule};
 ghost use Rattle.wl_sim.specs.Orders.{FindsOrder, ReadsOrder};
 
 use crate::sweep::{Swept, with_sweep_options};
 use crate::values::{
-    Values, file_of_subcommand, flag_of_subcommand, ranges_of_subcommand, values_of_subcommand,
+    Values, file_of_subcommand, flag_of_subcommand, format_of_subcommand, ranges_of_subcommand,
+    values_of_subcommand,
 };
 use clap::error::ErrorKind;
 use clap::{Arg, ArgAction, ArgMatches, Command, Error, value_parser};
@@ -17,6 +18,7 @@ use std::alloc::{AllocError, Global};
 use std::io;
 use std::rt::Env;
 use wl_engines::LinkKind;
+use wl_formats::Format;
 use wl_settings::Shown;
 use wl_setup::Text;
 use wl_views::Tick;
@@ -44,8 +46,8 @@ pub enum Task {
     Explain,
     /// What happened to each node in a plan's simulation, and where.
     Trace,
-    /// The log of the frames that a plan's simulation sends, at ticks that take so long.
-    Candump(Tick),
+    /// The log of the frames that a plan's simulation sends, at ticks that take so long, the first of them at this second.
+    Candump(Tick, u32),
     /// The waveform of a plan's simulation, at ticks that take so long.
     Vcd(Tick),
     /// One page of HTML that shows a plan's simulation, at ticks that take so long.
@@ -76,6 +78,8 @@ pub struct Order {
     pub progress: bool,
     /// The ranges of a sweep, in the order of the words.
     pub ranges: Vec<String>,
+    /// Another format of the output than text.
+    pub format: Option<Format>,
 }
 
 /// Why no task could be read from the command line.
@@ -154,6 +158,40 @@ fn tick_option<'a>(alloc: Global) -> Arg<'a>
         .default_value("1ns")
 }
 
+/// The option that says which format the output has.
+fn format_option<'a>(alloc: Global) -> Arg<'a>
+    ensures rule { rule_of result ≡ format_rule }
+    ensures local { result.global ≡ false }
+{
+    Arg::new(alloc, "format")
+        .long("format")
+        .value_name("FORMAT")
+        .help("The format of the output: text, json or csv")
+        .default_value("text")
+}
+
+/// A subcommand that has this option too.
+fn formatted<'a>(alloc: Global, sub: Command<'a>) -> Result<Command<'a>, AllocError>
+    requires { (out-Command sub).has_globals ≡ false }
+    ensures app { IfOk result (λ all. app_of all ≡ formatted_app (app_of sub.entry)) }
+    ensures local { IfOk result (λ all. (out-Command all).has_globals ≡ false) }
+{
+    sub.arg(format_option(alloc))
+}
+
+/// A subcommand with the arguments that each has, and with this option.
+fn filed_formatted<'a>(
+    alloc: Global,
+    word: &'a str,
+    about: &'a str,
+) -> Result<Command<'a>, AllocError>
+    ensures app { IfOk result (λ sub. app_of sub ≡ formatted_app (filed word.now)) }
+    ensures local { IfOk result (λ sub. (out-Command sub).has_globals ≡ false) }
+{
+    let sub = filed(alloc, word, about)?;
+    formatted(alloc, sub)
+}
+
 /// The option that says how many workers simulate the plan.
 fn workers_option<'a>(alloc: Global) -> Arg<'a>
     ensures rule { rule_of result ≡ workers_rule }
@@ -207,7 +245,8 @@ fn run_command<'a>(alloc: Global) -> Result<Command<'a>, AllocError>
         "Simulates the plan, and writes the report of its nodes and frames",
         workers_option(alloc),
     )?;
-    run.arg(link_option(alloc))
+    let linked = run.arg(link_option(alloc))?;
+    formatted(alloc, linked)
 }
 
 /// The program's command with the subcommands that have no tick, each with one line of help.
@@ -224,7 +263,7 @@ fn untimed<'a>(alloc: Global) -> Result<Command<'a>, AllocError>
         "horizon",
         "Writes what the records tell of each node, and up to which tick",
     )?;
-    let check = filed(
+    let check = filed_formatted(
         alloc,
         "check",
         "Tests the plan, and writes what its bit segments allow and how long its cable takes",
@@ -235,7 +274,7 @@ fn untimed<'a>(alloc: Global) -> Result<Command<'a>, AllocError>
         "Simulates the plan, and writes each change of the line and the silence after it",
     )?;
     let run = run_command(alloc)?;
-    let explain = filed(
+    let explain = filed_formatted(
         alloc,
         "explain",
         "Tests the plan, and writes what is wrong or doubtful and the figures of its nodes",
@@ -264,7 +303,8 @@ fn sweep_command<'a>(alloc: Global) -> Result<Command<'a>, AllocError>
         "sweep",
         "Simulates the plan over phases, clocks and values of keys, and writes how often the bus is clean",
     )?;
-    with_sweep_options(alloc, sub)
+    let swept = with_sweep_options(alloc, sub)?;
+    formatted(alloc, swept)
 }
 
 /// The option that makes the status say whether the run works.
@@ -289,24 +329,61 @@ fn traffic_command<'a>(alloc: Global) -> Result<Command<'a>, AllocError>
         "Simulates the plan, and writes how busy the bus was, how long messages waited, and whether it works",
         tick_option(alloc),
     )?;
-    traffic.arg(strict_option(alloc))
+    let strict = traffic.arg(strict_option(alloc))?;
+    formatted(alloc, strict)
 }
 
-/// The command line of single runs: after those, the trace and the subcommands that have a tick.
-fn without_sweep<'a>(alloc: Global) -> Result<Command<'a>, AllocError>
-    ensures { IfOk result (λ all. app_of all ≡ single_program) }
+/// The option that says at which second a log begins.
+fn from_option<'a>(alloc: Global) -> Arg<'a>
+    ensures rule { rule_of result ≡ from_rule }
+    ensures local { result.global ≡ false }
 {
-    let trace = filed(
-        alloc,
-        "trace",
-        "Simulates the plan, and writes what happened to each node: errors, flags, frames, modes",
-    )?;
+    Arg::new(alloc, "from")
+        .long("from")
+        .value_name("SECONDS")
+        .help("The second of tick 0, up to 4294967295; log2asc wants one above 0")
+        .value_parser(value_parser!(u32))
+        .default_value("0")
+}
+
+/// The subcommand `candump`, with its options.
+fn candump_command<'a>(alloc: Global) -> Result<Command<'a>, AllocError>
+    ensures app { IfOk result (λ sub. app_of sub ≡ candump_app) }
+    ensures local { IfOk result (λ sub. (out-Command sub).has_globals ≡ false) }
+{
     let candump = optioned(
         alloc,
         "candump",
         "Simulates the plan, and writes the frames that were sent as can-utils logs them",
         tick_option(alloc),
     )?;
+    candump.arg(from_option(alloc))
+}
+
+/// The subcommand `margin`, with its options.
+fn margin_command<'a>(alloc: Global) -> Result<Command<'a>, AllocError>
+    ensures app { IfOk result (λ sub. app_of sub ≡ margin_app) }
+    ensures local { IfOk result (λ sub. (out-Command sub).has_globals ≡ false) }
+{
+    let margin = optioned(
+        alloc,
+        "margin",
+        "Tests the plan, and writes whether its bus works at all phases and clocks, and with how much to spare",
+        tick_option(alloc),
+    )?;
+    formatted(alloc, margin)
+}
+
+/// The command line of single runs: after those, the trace and the subcommands that have a tick.
+fn without_sweep<'a>(alloc: Global) -> Result<Command<'a>, AllocError>
+    ensures { IfOk result (λ all. app_of all ≡ single_program) }
+{
+    let trace = filed_formatted(
+        alloc,
+        "trace",
+        "Simulates the plan, and writes what happened to each node: errors, flags, frames, modes",
+    )?;
+    let candump = candump_command(alloc)?;
     let vcd = optioned(
         alloc,
         "vcd",
@@ -319,12 +396,7 @@ fn without_sweep<'a>(alloc: Global) -> Result<Command<'a>, AllocError>
         "Simulates the plan, and writes one page of HTML that shows all of it in a browser",
         tick_option(alloc),
     )?;
-    let margin = optioned(
-        alloc,
-        "margin",
-        "Tests the plan, and writes whether its bus works at all phases and clocks, and with how much to spare",
-        tick_option(alloc),
-    )?;
+    let margin = margin_command(alloc)?;
     let traffic = traffic_command(alloc)?;
     let all = untimed(alloc)?
         .subcommand(trace)?
@@ -411,7 +483,10 @@ fn task_named(name: Option<&str>, values: Option<Values>) -> Option<Task>
         }
         "explain" => Some(Task::Explain),
         "trace" => Some(Task::Trace),
-        "candump" => Some(Task::Candump(values?.tick?)),
+        "candump" => {
+            let values = values?;
+            Some(Task::Candump(values.tick?, values.from?))
+        }
         "vcd" => Some(Task::Vcd(values?.tick?)),
         "page" => Some(Task::Page(values?.tick?)),
         "margin" => Some(Task::Margin(values?.tick?)),
@@ -437,13 +512,19 @@ fn task_in(matches: &ArgMatches) -> Option<Task>
 }
 
 /// What is asked for beside a task, by the words of the subcommand.
-fn order_for(alloc: Global, matches: &ArgMatches, task: Task) -> Result<Order, AllocError>
+fn order_for(
+    alloc: Global,
+    matches: &ArgMatches,
+    task: Task,
+    format: Option<Format>,
+) -> Result<Order, AllocError>
     ensures task { IfOk result (λ order. order.task ≡ task) }
     ensures input { IfOk result (λ order. order.input ≡ file_in (codes "input") (subcommand_rows_of matches.now)) }
     ensures output { IfOk result (λ order. order.output ≡ file_in (codes "output") (subcommand_rows_of matches.now)) }
     ensures hint { IfOk result (λ order. order.hint ≡ has_flag (codes "hint") (subcommand_rows_of matches.now)) }
     ensures progress { IfOk result (λ order. order.progress ≡ has_flag (codes "progress") (subcommand_rows_of matches.now)) }
     ensures ranges { IfOk result (λ order. map string_bytes order.ranges.items ≡ ranges_in (subcommand_rows_of matches.now)) }
+    ensures format { IfOk result (λ order. order.format ≡ format) }
 {
     let input = file_of_subcommand(alloc, matches, "input")?;
     let output = file_of_subcommand(alloc, matches, "output")?;
@@ -455,6 +536,7 @@ fn order_for(alloc: Global, matches: &ArgMatches, task: Task) -> Result<Order, A
         hint: flag_of_subcommand(matches, "hint"),
         progress: flag_of_subcommand(matches, "progress"),
         ranges,
+        format,
     })
 }
 
@@ -466,10 +548,13 @@ fn order_of(alloc: Global, words: &[String]) -> Result<Option<Order>, Error>
 {
     let matches = command(alloc)?.try_get_matches_from(words)?;
     match task_in(&matches) {
-        Some(task) => {
-            let order = order_for(alloc, &matches, task)?;
-            Ok(Some(order))
-        }
+        Some(task) => match format_of_subcommand(&matches) {
+            Some(format) => {
+                let order = order_for(alloc, &matches, task, format)?;
+                Ok(Some(order))
+            }
+            None => Ok(None),
+        },
         None => Ok(None),
     }
 }
@@ -486,11 +571,18 @@ fn refusal_of(kind: ErrorKind) -> Refusal
     }
 }
 
-/// What an option wants, where clap lets in a value of it that names nothing: `--link` of `run`, and else `--tick`.
+/// What options want, where clap lets in values that name nothing.
 fn wanted(words: &[String]) -> &'static str {
     match words.get(1) {
-        Some(word) if word.as_str() == "run" => "--link wants hub or mail",
-        _ => "--tick wants 1 to 999 and ps, ns or us, as 125ps",
+        Some(word) => match word.as_str() {
+            "run" => "--link wants hub or mail, and --format text, json or csv",
+            "check" | "explain" | "trace" | "sweep" => "--format wants text, json or csv",
+            "margin" | "traffic" => {
+                "--tick wants 1 to 999 and ps, ns or us, as 125ps, and --format text, json or csv"
+            }
+            _ => "--tick wants 1 to 999 and ps, ns or us, as 125ps",
+        },
+        None => "no task is named",
     }
 }
 

@@ -207,5 +207,6 @@ pub fn say_fault<F: Folder>(
                 let _ = eprintln!(rt; "hint: {advice}");
             }
         }
+        Fault::Format => {}
     }
 }

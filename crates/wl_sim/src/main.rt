@@ -18,7 +18,7 @@ ghost use Rattle.wl_sim.specs.declared.command.Task.{Task};
 ghost use Rattle.wl_files.specs.Files.{Keeps};
 ghost use Rattle.wl_sim.specs.CommandLine.{NamesTask};
 ghost use Rattle.wl_sim.specs.Orders.{Ends, EndsPlainly, MovesFile, Performs, RunsWords, WritesTo};
-ghost use Rattle.wl_sim.specs.Tasks.{Does, DoesSweep, IsCount, run_status, refusal_status};
+ghost use Rattle.wl_sim.specs.Tasks.{Does, DoesAs, DoesBy, DoesSweep, IsCount, run_status, refusal_status};
 
 use std::alloc::Global;
 use std::io::ErrorKind;
@@ -28,13 +28,16 @@ use std::thread::Threads;
 use std::time::Clock;
 use std::{io, thread};
 use wl_device::{Host, Sink, Source};
+use wl_engines::Kept;
 use wl_files::{BeginFault, Folder, SystemFolder};
+use wl_formats::{Format, Subject};
 use wl_settings::settings_run;
 use wl_setup::{SetupFault, Text};
 use wl_sweep_engine::{Workers, print_run, sweep_run};
 
 mod answer;
 mod command;
+mod formats;
 mod hints;
 mod progress;
 mod sweep;
@@ -42,6 +45,7 @@ mod values;
 
 use crate::answer::{of_print, of_settings, of_tally, of_traffic, plainly};
 pub use answer::{Done, Fault};
+use crate::formats::{subject_of, write_kept};
 pub use command::{Order, Refusal, Task};
 pub use sweep::Swept;
 pub use wl_engines::{
@@ -67,6 +71,8 @@ const MOST_THREADS: u8 = 8;
 struct Work<'a> {
     task: Task,
     ranges: &'a [String],
+    /// Another format of the output than text.
+    format: Option<Format>,
     /// Whether a sweep says on standard error how far it is.
     progress: bool,
 }
@@ -155,6 +161,7 @@ fn perform<H: Threads + Wait + Sync + Eprint + Clock, R: Source, W: Sink, F: Fol
     let work = Work {
         task: order.task,
         ranges: order.ranges.as_slice(),
+        format: order.format,
         progress: order.progress,
     };
     let output = order.output.as_ref();
@@ -179,13 +186,13 @@ fn write_to<H: Threads + Wait + Sync + Eprint + Clock, R: Source, W: Sink, F: Fo
     folder: &mut F,
 ) -> Result<Done, Fault>
     ensures { WritesTo R.gives W.takes F.Writer.takes F.stands F.holds reader.old reader.new writer.old writer.new
-        folder.old folder.new work.entry.task (map string_bytes work.entry.ranges.now) (option_map (λ n. n.now) output.entry) result }
+        folder.old folder.new work.entry.format work.entry.task (map string_bytes work.entry.ranges.now) (option_map (λ n. n.now) output.entry) result }
 {
     match output {
-        None => run(rt, alloc, work, reader, writer),
+        None => run_as(rt, alloc, work, reader, writer),
         Some(name) => match folder.begin(alloc, name.as_str()) {
             Ok(mut file) => {
-                let answer = run(rt, alloc, work, reader, &mut file);
+                let answer = run_as(rt, alloc, work, reader, &mut file);
                 finish(folder, file, name.as_str(), answer)
             }
             Err(BeginFault::Refused) => Err(Fault::Run(RunFault::Write)),
@@ -313,7 +320,7 @@ fn run<H: Threads + Wait + Sync + Eprint + Clock, R: Source, W: Sink>(
         }
         Task::Explain => plainly(explain_run(alloc, reader, writer)),
         Task::Trace => plainly(trace_run(alloc, reader, writer)),
-        Task::Candump(tick) => plainly(candump_run(alloc, tick, reader, writer)),
+        Task::Candump(tick, from) => plainly(candump_run(alloc, tick, from, reader, writer)),
         Task::Vcd(tick) => plainly(vcd_run(alloc, tick, reader, writer)),
         Task::Page(tick) => plainly(page_run(alloc, tick, reader, writer)),
         Task::Margin(tick) => plainly(margin_run(alloc, tick, reader, writer)),
@@ -322,6 +329,44 @@ fn run<H: Threads + Wait + Sync + Eprint + Clock, R: Source, W: Sink>(
             of_settings(settings_run(alloc, tick.picoseconds(), shown, reader, writer))
         }
         Task::Sweep(swept) => run_sweep(rt, alloc, swept, work, reader, writer),
+    }
+}
+
+/// Runs the engine of a task into memory, and writes that in another format.
+fn run_formatted<H: Threads + Wait + Sync + Eprint + Clock, R: Source, W: Sink>(
+    rt: &H,
+    alloc: Global,
+    work: Work,
+    format: Format,
+    subject: Subject,
+    reader: &mut R,
+    writer: &mut W,
+) -> Result<Done, Fault>
+    ensures { DoesBy R.gives W.takes reader.old reader.new writer.old writer.new
+        format (Some subject) work.entry.task (map string_bytes work.entry.ranges.now) result }
+{
+    let mut kept = Kept::new(alloc);
+    let answer = run(rt, alloc, work, reader, &mut kept);
+    write_kept(alloc, format, subject, &kept.bytes, answer, writer)
+}
+
+/// Runs the engine of a task, whose output may have another format than text.
+fn run_as<H: Threads + Wait + Sync + Eprint + Clock, R: Source, W: Sink>(
+    rt: &H,
+    alloc: Global,
+    work: Work,
+    reader: &mut R,
+    writer: &mut W,
+) -> Result<Done, Fault>
+    ensures { DoesAs R.gives W.takes reader.old reader.new writer.old writer.new
+        work.entry.format work.entry.task (map string_bytes work.entry.ranges.now) result }
+{
+    match work.format {
+        None => run(rt, alloc, work, reader, writer),
+        Some(format) => match subject_of(work.task) {
+            None => run(rt, alloc, work, reader, writer),
+            Some(subject) => run_formatted(rt, alloc, work, format, subject, reader, writer),
+        },
     }
 }
 
@@ -341,6 +386,7 @@ fn status_of(answer: &Result<Done, Fault>) -> ExitCode
         }
         Err(Fault::Word(_)) => ExitCode::from(REFUSED_COMMAND),
         Err(Fault::Settings(_)) => ExitCode::from(REFUSED_INPUT),
+        Err(Fault::Format) => ExitCode::from(BROKEN),
     }
 }
 

@@ -3,12 +3,13 @@ ghost use Rattle.std.specs.Prelude.{◌≡◌, map, string_bytes, IfOk, false, o
 ghost use Rattle.std.specs.Option.{option_map_or};
 ghost use Rattle.clap.specs.Words.{found_of, rows_of, subcommand_rows_of};
 ghost use Rattle.wl_sim.specs.CommandLine.{file_among, file_named, is_flagged, is_set, link_among, number_among, ranges_among, ranges_in};
-ghost use Rattle.wl_sim.specs.CommandLine.{read_link, shown_among, swept_among, swept_by, tick_among, values_among, workers_among};
+ghost use Rattle.wl_sim.specs.CommandLine.{format_among, format_in, read_format, read_link, shown_among, swept_among, swept_by, tick_among, values_among, workers_among};
 
 use crate::sweep::Swept;
 use clap::ArgMatches;
 use std::alloc::{AllocError, Global};
 use wl_engines::LinkKind;
+use wl_formats::Format;
 use wl_settings::Shown;
 use wl_setup::Text;
 use wl_sweep_engine::{Asked, Options};
@@ -29,6 +30,8 @@ pub(crate) struct Values {
     pub(crate) shown: Shown,
     /// Whether the status says if a run works.
     pub(crate) strict: bool,
+    /// The second of tick 0.
+    pub(crate) from: Option<u32>,
 }
 
 /// The tick that a subcommand's option gives.
@@ -69,6 +72,39 @@ fn link_in(matches: &ArgMatches) -> Option<LinkKind>
     match matches.get_str("link") {
         Some(text) => link_named(text),
         None => None,
+    }
+}
+
+/// The format that a text names: `None` within is text. `None` if there is no such format.
+fn format_named(text: &str) -> Option<Option<Format>>
+    ensures { result ≡ read_format text.now }
+{
+    match text {
+        "text" => Some(None),
+        "json" => Some(Some(Format::Json)),
+        "csv" => Some(Some(Format::Csv)),
+        _ => None,
+    }
+}
+
+/// The format that a subcommand's option gives, text if it has no such option.
+#[tactic(auto, using(crate::proofs::Words::format_text))]
+fn format_in(matches: &ArgMatches) -> Option<Option<Format>>
+    ensures { result ≡ format_among (rows_of (found_of matches.now)) }
+{
+    match matches.get_str("format") {
+        Some(text) => format_named(text),
+        None => Some(None),
+    }
+}
+
+/// The format that the subcommand's option gives, text if there is none.
+pub(crate) fn format_of_subcommand(matches: &ArgMatches) -> Option<Option<Format>>
+    ensures { result ≡ format_in (subcommand_rows_of matches.now) }
+{
+    match matches.subcommand() {
+        Some((_, sub)) => format_in(sub),
+        None => Some(None),
     }
 }
 
@@ -207,6 +243,7 @@ fn values_in(matches: &ArgMatches) -> Values
         swept: swept_in(matches),
         shown: shown_in(matches),
         strict: flag_in(matches, "strict"),
+        from: small_number_in(matches, "from"),
     }
 }
 

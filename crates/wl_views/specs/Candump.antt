@@ -1,5 +1,5 @@
 -- The log of can-utils, as its `candump -L` writes it and its `log2asc` and `log2long` read it: a line for each frame that was sent.
-use Rattle.std.specs.Prelude.{ℕ, ◌/◌, ◌%◌, ◌==◌, nat_lt, min, List, [], ◌∷◌, ◌++◌, codes, if◌then◌else◌}
+use Rattle.std.specs.Prelude.{ℕ, ◌+◌, ◌/◌, ◌%◌, ◌==◌, nat_lt, min, List, [], ◌∷◌, ◌++◌, codes, if◌then◌else◌}
 use Rattle.std.specs.List.{flat_map}
 use Rattle.wl_frame.specs.Grammar.{Content}
 use Rattle.wl_plan.specs.declared.plan.Plan.{Plan}
@@ -24,19 +24,19 @@ wanted_word dlc = if dlc == 0 then [] else digits_of 16 1 (min dlc 8) ++ code_wo
 abbrev pub content_word : Content → List ℕ
 content_word c = if c.remote then codes "R" ++ wanted_word c.dlc else flat_map (digits_of 16 2) c.bytes ++ code_word c.dlc
 
--- seconds, and microseconds after a point
-abbrev pub time_word : ℕ → List ℕ
-time_word us = digits_of 10 10 (us / 1000000) ++ codes "." ++ digits_of 10 6 (us % 1000000)
+-- a time after so many seconds: seconds, and microseconds after a point
+abbrev pub time_word : ℕ → ℕ → List ℕ
+time_word from us = digits_of 10 10 (from + us / 1000000) ++ codes "." ++ digits_of 10 6 (us % 1000000)
 
--- a frame that was completed at a tick
-abbrev pub log_line : Tick → ℕ × Content → List ℕ
-log_line tick (t, c) =
-    codes "(" ++ time_word (microseconds tick t) ++ codes ") can0 " ++ digits_of 16 (id_digits c.extended) c.id ++ codes "#" ++ content_word c ++ 10 ∷ []
+-- a frame that was completed at a tick, if tick 0 is at this second
+abbrev pub log_line : Tick → ℕ → ℕ × Content → List ℕ
+log_line tick from (t, c) =
+    codes "(" ++ time_word from (microseconds tick t) ++ codes ") can0 " ++ digits_of 16 (id_digits c.extended) c.id ++ codes "#" ++ content_word c ++ 10 ∷ []
 
 -- the log of the frames that were sent, tick by tick
-abbrev pub log_of : Tick → Plan → Outcome → List ℕ
-log_of tick plan outcome = flat_map (log_line tick) (by_tick outcome.end (all_sent plan outcome))
+abbrev pub log_of : Tick → ℕ → Plan → Outcome → List ℕ
+log_of tick from plan outcome = flat_map (log_line tick from) (by_tick outcome.end (all_sent plan outcome))
 
 -- the log of what the one-thread simulation does
-abbrev pub log_text : Tick → Plan → List ℕ
-log_text tick plan = log_of tick plan (outcome_of plan)
+abbrev pub log_text : Tick → ℕ → Plan → List ℕ
+log_text tick from plan = log_of tick from plan (outcome_of plan)

@@ -15,11 +15,11 @@ use wl_frame::frame::Frame;
 use wl_plan::Plan;
 use wl_serial::Outcome;
 
-/// Adds seconds, and microseconds after a point.
-fn push_time(text: &mut Vec<u8>, us: u128) -> Result<(), AllocError>
-    ensures { OnOk result (Extends text.old text.new (time_word us)) }
+/// Adds a time after so many seconds: seconds, and microseconds after a point.
+fn push_time(text: &mut Vec<u8>, from: u32, us: u128) -> Result<(), AllocError>
+    ensures { OnOk result (Extends text.old text.new (time_word from us)) }
 {
-    push_digits(text, 10, 10, us / 1_000_000)?;
+    push_digits(text, 10, 10, u128::from(from) + us / 1_000_000)?;
     text.extend_from_slice(b".")?;
     push_digits(text, 10, 6, us % 1_000_000)
 }
@@ -78,11 +78,17 @@ fn push_carried(text: &mut Vec<u8>, frame: &Frame) -> Result<(), AllocError>
 }
 
 /// Adds the line of a frame that was completed at a tick.
-fn push_line(text: &mut Vec<u8>, tick: Tick, at: u64, frame: &Frame) -> Result<(), AllocError>
-    ensures { OnOk result (Extends text.old text.new (log_line tick (at, frame.now))) }
+fn push_line(
+    text: &mut Vec<u8>,
+    tick: Tick,
+    from: u32,
+    at: u64,
+    frame: &Frame,
+) -> Result<(), AllocError>
+    ensures { OnOk result (Extends text.old text.new (log_line tick from (at, frame.now))) }
 {
     text.extend_from_slice(b"(")?;
-    push_time(text, tick.microseconds(at))?;
+    push_time(text, from, tick.microseconds(at))?;
     text.extend_from_slice(b") can0 ")?;
     push_id(text, frame)?;
     text.extend_from_slice(b"#")?;
@@ -94,22 +100,23 @@ fn push_line(text: &mut Vec<u8>, tick: Tick, at: u64, frame: &Frame) -> Result<(
 /// they were completed; those of one tick node by node.
 ///
 /// The time is that of the quantum at which the sender sampled the last bit of end of frame (Bosch CAN 2.0 part B, section 5),
-/// counted from tick 0 and rounded down, 10 digits and 6. The identifier has 3 hexadecimal digits, or 8 of an extended
+/// counted from tick 0, which is at second `from`, and rounded down, 10 digits and 6. The identifier has 3 hexadecimal digits, or 8 of an extended
 /// frame. A remote frame has `R` in place of the bytes, and after it the data length code where that isn't 0. A code above 8 stands
 /// after the 8 bytes, or the `R8`, as `_9` to `_F`. Refused out of memory alone.
 pub fn candump(
     alloc: Global,
     tick: Tick,
+    from: u32,
     plan: &Plan,
     outcome: &Outcome,
 ) -> Result<Vec<u8>, AllocError>
     requires { AreInTime plan.now outcome.now }
-    ensures { IfOk result (λ text. text.items ≡ log_of tick plan.now outcome.now) }
+    ensures { IfOk result (λ text. text.items ≡ log_of tick from plan.now outcome.now) }
 {
     let sent = sent_by_tick(alloc, plan, outcome)?;
     let mut text = Vec::new(alloc);
     for (at, frame) in sent.iter() {
-        push_line(&mut text, tick, *at, frame)?;
+        push_line(&mut text, tick, from, *at, frame)?;
     }
     Ok(text)
 }

@@ -13,13 +13,15 @@ returns-in-Some-clause-order c =
     let rows = (c.in_ok-matches.ensures.matches (ap is_simple is ∙ program_is_simple)).1 ∙ ap (λ (a : App). subcommand_of a words) is in
     let clean = ap (λ (a : App). fault_of a words) (sym is) ∙ c.in_ok-matches.ensures.kinds (ap is_simple_and_free is ∙ program_is_free) in
     let found = (c.task_in.ensures c.in-Some.task).0 c.in-Some.is in
-    let enters : Enters c.in-Some.task words = (subst (λ o. FoundTask o c.in-Some.task) rows found, clean) in (
+    let format = ap format_in (sym rows) ∙ (sym c.format_of_subcommand.ensures ∙ c.in-Some-format.is) in
+    let enters : Enters c.in-Some.task words = (subst (λ o. FoundTask o c.in-Some.task) rows found, clean, ap is_some format) in (
       subst (λ t. Enters t words) (sym c.in_ok-order-in-Some.ensures.task) enters,
       c.in_ok-order-in-Some.ensures.input ∙ ap (file_in (codes "input")) rows,
       c.in_ok-order-in-Some.ensures.output ∙ ap (file_in (codes "output")) rows,
       c.in_ok-order-in-Some.ensures.hint ∙ ap (has_flag (codes "hint")) rows,
       c.in_ok-order-in-Some.ensures.progress ∙ ap (has_flag (codes "progress")) rows,
       c.in_ok-order-in-Some.ensures.ranges ∙ ap ranges_in rows,
+      format ∙ ap Some (sym c.in_ok-order-in-Some.ensures.format),
     )
 
 none_is_some : {A : Type 0} (o : Option A) (x : A) → o ≡ None → o ≡ Some x → ⊥

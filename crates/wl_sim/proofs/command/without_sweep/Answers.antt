@@ -11,13 +11,13 @@ pub returns : goal.returns
 returns c =
     let one = c.in_ok-subcommand.ensures.shape c.in_ok-trace.ensures.local ∙ ap₂ with_subcommand c.in_ok-untimed.ensures (ap top_of c.in_ok-trace.ensures.app) in
     let two = c.in_ok-subcommand-2.ensures.shape c.in_ok-candump.ensures.local
-    ∙ ap₂ with_subcommand one (ap top_of (c.in_ok-candump.ensures.app ∙ ap (with_rule (filed (codes "candump"))) c.tick_option.ensures.rule)) in
+    ∙ ap₂ with_subcommand one (ap top_of c.in_ok-candump.ensures.app) in
     let three = c.in_ok-subcommand-3.ensures.shape c.in_ok-vcd.ensures.local
-    ∙ ap₂ with_subcommand two (ap top_of (c.in_ok-vcd.ensures.app ∙ ap (with_rule (filed (codes "vcd"))) c.tick_option-2.ensures.rule)) in
+    ∙ ap₂ with_subcommand two (ap top_of (c.in_ok-vcd.ensures.app ∙ ap (with_rule (filed (codes "vcd"))) c.tick_option.ensures.rule)) in
     let four = c.in_ok-subcommand-4.ensures.shape c.in_ok-page.ensures.local
-    ∙ ap₂ with_subcommand three (ap top_of (c.in_ok-page.ensures.app ∙ ap (with_rule (filed (codes "page"))) c.tick_option-3.ensures.rule)) in
+    ∙ ap₂ with_subcommand three (ap top_of (c.in_ok-page.ensures.app ∙ ap (with_rule (filed (codes "page"))) c.tick_option-2.ensures.rule)) in
     let five = c.in_ok-subcommand-5.ensures.shape c.in_ok-margin.ensures.local
-    ∙ ap₂ with_subcommand four (ap top_of (c.in_ok-margin.ensures.app ∙ ap (with_rule (filed (codes "margin"))) c.tick_option-4.ensures.rule)) in
+    ∙ ap₂ with_subcommand four (ap top_of c.in_ok-margin.ensures.app) in
     c.in_ok-all.ensures.shape c.in_ok-traffic.ensures.local ∙ ap₂ with_subcommand five (ap top_of c.in_ok-traffic.ensures.app)
 
 pub returns-in_err-untimed : goal.returns-in_err-untimed

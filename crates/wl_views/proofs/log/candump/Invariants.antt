@@ -5,4 +5,4 @@ use Rattle.wl_views.proofs.log.candump.Given as goal
 
 -- the lines so far
 abbrev pub invariant-loop-at : goal.invariant-loop-at
-invariant-loop-at l = l.text.items ≡ flat_map (log_line l.tick) (take l.at-index l.at-items)
+invariant-loop-at l = l.text.items ≡ flat_map (log_line l.tick l.from) (take l.at-index l.at-items)

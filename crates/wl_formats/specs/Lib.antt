@@ -1,0 +1,14 @@
+pub mod Shapes
+pub mod Numbers
+pub mod Matching
+pub mod Json
+pub mod Csv
+pub mod RunLines
+pub mod CheckLines
+pub mod ExplainLines
+pub mod MarginLines
+pub mod TraceLines
+pub mod TrafficLines
+pub mod SweepLines
+pub mod Layouts
+pub mod Formats

@@ -1,0 +1,17 @@
+//! What a command writes, as JSON or CSV.
+//!
+//! The lines of each command have shapes: fixed words with named fields between them. A line becomes a record of its fields.
+#![tactic(auto)]
+
+mod csv;
+mod fault;
+mod formats;
+mod json;
+mod matching;
+mod number;
+mod shape;
+mod tables;
+
+pub use fault::FormatFault;
+pub use formats::{Format, formatted};
+pub use tables::Subject;

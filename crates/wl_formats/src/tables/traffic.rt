@@ -1,0 +1,30 @@
+//! The lines of `traffic`.
+
+use crate::shape::Class::{Hexadecimal, Measure, Number, Phrase, Word};
+use crate::shape::Piece::{Field, Fixed};
+use crate::shape::{Shape, Table};
+
+#[rattlefmt::skip]
+pub(crate) static TRAFFIC: Table = Table {
+    command: "traffic",
+    columns: &[
+        "load_percent", "gap_us", "node", "name", "id", "sent", "left", "waiting", "lost", "broken", "least_quanta",
+        "mean_quanta", "greatest_quanta", "least_us", "mean_us", "greatest_us", "verdict",
+    ],
+    shapes: &[
+        Shape { kind: "bus", pieces: &[
+            Fixed("bus load "), Field("load_percent", Number), Fixed(" % gap "), Field("gap_us", Number), Fixed(" us"),
+        ] },
+        Shape { kind: "message", pieces: &[
+            Fixed("message "), Field("node", Number), Fixed(" "), Field("name", Word), Fixed(" "), Field("id", Hexadecimal),
+            Fixed(" sent "), Field("sent", Number), Fixed(" left "), Field("left", Number), Fixed(" waiting "),
+            Field("waiting", Number), Fixed(" lost "), Field("lost", Number), Fixed(" broken "), Field("broken", Number),
+            Fixed(" quanta least "), Field("least_quanta", Measure), Fixed(" mean "), Field("mean_quanta", Measure),
+            Fixed(" greatest "), Field("greatest_quanta", Measure), Fixed(" us least "), Field("least_us", Measure),
+            Fixed(" mean "), Field("mean_us", Measure), Fixed(" greatest "), Field("greatest_us", Measure),
+        ] },
+        Shape { kind: "verdict", pieces: &[
+            Fixed("verdict "), Field("verdict", Phrase),
+        ] },
+    ],
+};

@@ -1,0 +1,84 @@
+//! The output of a task in another format.
+ghost use Rattle.std.specs.Prelude.{◌≡◌};
+ghost use Rattle.wl_sim.specs.Tasks.{WritesAs, WritesFormatted, subject_of};
+
+use crate::answer::{Done, Fault};
+use crate::command::Task;
+use std::alloc::Global;
+use wl_device::{Sink, write_all};
+use wl_engines::RunFault;
+use wl_formats::{Format, FormatFault, Subject, formatted};
+
+/// Returns the command of a task, if its output has other formats. A member of a sweep is a plan.
+pub(crate) fn subject_of(task: Task) -> Option<Subject>
+    ensures { result ≡ subject_of task }
+{
+    match task {
+        Task::Check => Some(Subject::Check),
+        Task::Run(_, _) => Some(Subject::Run),
+        Task::Explain => Some(Subject::Explain),
+        Task::Trace => Some(Subject::Trace),
+        Task::Margin(_) => Some(Subject::Margin),
+        Task::Traffic(_, _) => Some(Subject::Traffic),
+        Task::Sweep(swept) => {
+            if swept.print.is_some() {
+                None
+            } else {
+                Some(Subject::Sweep)
+            }
+        }
+        Task::Merge
+        | Task::Horizon
+        | Task::Records
+        | Task::Candump(_, _)
+        | Task::Vcd(_)
+        | Task::Page(_)
+        | Task::Settings(_, _) => None,
+    }
+}
+
+/// Writes a text in another format, and returns an answer if all of it went.
+fn write_formatted<W: Sink>(
+    alloc: Global,
+    format: Format,
+    subject: Subject,
+    text: &[u8],
+    answer: Result<Done, Fault>,
+    writer: &mut W,
+) -> Result<Done, Fault>
+    ensures { WritesFormatted W.takes writer.old writer.new format subject text.now answer result }
+{
+    match formatted(alloc, format, subject, text) {
+        Ok(bytes) => match write_all(&bytes, writer) {
+            Ok(()) => answer,
+            Err(_) => Err(Fault::Run(RunFault::Write)),
+        },
+        Err(FormatFault::Shape) => Err(Fault::Format),
+        Err(FormatFault::Memory) => Err(Fault::Run(RunFault::Memory)),
+    }
+}
+
+/// Writes what an engine wrote into memory in another format, and returns what the engine answered. Nothing is written if the engine
+/// wrote nothing, or if memory ran out.
+pub(crate) fn write_kept<W: Sink>(
+    alloc: Global,
+    format: Format,
+    subject: Subject,
+    text: &[u8],
+    answer: Result<Done, Fault>,
+    writer: &mut W,
+) -> Result<Done, Fault>
+    ensures { WritesAs W.takes writer.old writer.new format subject text.now answer result }
+{
+    match answer {
+        Ok(done) => write_formatted(alloc, format, subject, text, Ok(done), writer),
+        Err(Fault::Run(RunFault::Write)) => Err(Fault::Run(RunFault::Memory)),
+        Err(fault) => {
+            if text.is_empty() {
+                Err(fault)
+            } else {
+                write_formatted(alloc, format, subject, text, Err(fault), writer)
+            }
+        }
+    }
+}
