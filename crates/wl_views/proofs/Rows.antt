@@ -15,32 +15,37 @@ tick count unit = record { count = count; unit = unit }
 abbrev content : Bool → ℕ → Bool → ℕ → List ℕ → Content
 content extended id remote dlc bytes = record { extended = extended; id = id; remote = remote; dlc = dlc; bytes = bytes }
 
-no_byte : log_line (tick 1 Nanosecond) (60900, content false 0 false 0 []) ≡ codes "(0000000000.000060) can0 000#" ++ 10 ∷ []
+no_byte : log_line (tick 1 Nanosecond) 0 (60900, content false 0 false 0 []) ≡ codes "(0000000000.000060) can0 000#" ++ 10 ∷ []
 unfolding digits_of
 no_byte = refl
 
-extended_data : log_line (tick 1 Microsecond) (1436509052, content true 523453525 false 8 (17 ∷ 34 ∷ 51 ∷ 68 ∷ 85 ∷ 102 ∷ 119 ∷ 136 ∷ []))
+extended_data : log_line (tick 1 Microsecond) 0 (1436509052, content true 523453525 false 8 (17 ∷ 34 ∷ 51 ∷ 68 ∷ 85 ∷ 102 ∷ 119 ∷ 136 ∷ []))
     ≡ codes "(0000001436.509052) can0 1F334455#1122334455667788" ++ 10 ∷ []
 unfolding digits_of
 extended_data = refl
 
-extended_as_short : log_line (tick 1 Nanosecond) (0, content true 291 false 1 (10 ∷ [])) ≡ codes "(0000000000.000000) can0 00000123#0A" ++ 10 ∷ []
+-- from a second on
+second_of_a_log : log_line (tick 1 Microsecond) 1436509050 (2052, content false 291 false 1 (10 ∷ [])) ≡ codes "(1436509050.002052) can0 123#0A" ++ 10 ∷ []
+unfolding digits_of
+second_of_a_log = refl
+
+extended_as_short : log_line (tick 1 Nanosecond) 0 (0, content true 291 false 1 (10 ∷ [])) ≡ codes "(0000000000.000000) can0 00000123#0A" ++ 10 ∷ []
 unfolding digits_of
 extended_as_short = refl
 
-remote : log_line (tick 125 Picosecond) (16000, content false 291 true 0 []) ≡ codes "(0000000000.000002) can0 123#R" ++ 10 ∷ []
+remote : log_line (tick 125 Picosecond) 0 (16000, content false 291 true 0 []) ≡ codes "(0000000000.000002) can0 123#R" ++ 10 ∷ []
 unfolding digits_of
 remote = refl
 
-remote_of_five : log_line (tick 1 Nanosecond) (999, content false 291 true 5 []) ≡ codes "(0000000000.000000) can0 123#R5" ++ 10 ∷ []
+remote_of_five : log_line (tick 1 Nanosecond) 0 (999, content false 291 true 5 []) ≡ codes "(0000000000.000000) can0 123#R5" ++ 10 ∷ []
 unfolding digits_of
 remote_of_five = refl
 
-remote_above_eight : log_line (tick 1 Nanosecond) (0, content false 291 true 14 []) ≡ codes "(0000000000.000000) can0 123#R8_E" ++ 10 ∷ []
+remote_above_eight : log_line (tick 1 Nanosecond) 0 (0, content false 291 true 14 []) ≡ codes "(0000000000.000000) can0 123#R8_E" ++ 10 ∷ []
 unfolding digits_of
 remote_above_eight = refl
 
-data_above_eight : log_line (tick 1 Nanosecond) (0, content false 291 false 9 (1 ∷ 2 ∷ 3 ∷ 4 ∷ 5 ∷ 6 ∷ 7 ∷ 248 ∷ []))
+data_above_eight : log_line (tick 1 Nanosecond) 0 (0, content false 291 false 9 (1 ∷ 2 ∷ 3 ∷ 4 ∷ 5 ∷ 6 ∷ 7 ∷ 248 ∷ []))
     ≡ codes "(0000000000.000000) can0 123#01020304050607F8_9" ++ 10 ∷ []
 unfolding digits_of
 data_above_eight = refl
