@@ -11,6 +11,7 @@
 # - files for input and output: what stands at the named place on each outcome; devices, rights, full disks, closed descriptors, odd names
 # - settings: lists and plans as bench/settings.py has them, and what is refused (.ci/settings.sh)
 # - the commands of docs/first-hour.md, whose outputs are those that the page shows (.ci/shown.py)
+# - JSON and CSV of each command, by Python's readers (bench/formats.py)
 # - sweeps: known answers, what is refused, files, memory (.ci/sweeps.sh)
 # - command lines that name no task, or are no text: status 2, and nothing on standard output
 # - a run that doesn't end in 300 seconds, as one whose workers wait for each other for ever, has failed
@@ -113,8 +114,9 @@ done
 
 # By hand, from the report and the clocks: the engine's quantum 2384 begins at tick 2384 * 125.625 = 299,490, and the dashboard's quantum 3474 at
 # tick 777 + 3474 * 124.375, rounded down, so 432,855.
-logged() { # logged US US WORDS..: runs candump, whose two lines have these times
-  printf '(0000000000.%06d) can0 0C4#1A0B00007DFF203C\n(0000000000.%06d) can0 3E8#0155\n' "$1" "$2" > "$room/log"
+second=0000000000
+logged() { # logged US US WORDS..: runs candump, whose two lines have these times in the second
+  printf '(%s.%06d) can0 0C4#1A0B00007DFF203C\n(%s.%06d) can0 3E8#0155\n' "$second" "$1" "$second" "$2" > "$room/log"
   shift 2
   runs "candump $*" examples/clean_500k.toml 0 "$room/log" "$room/none" candump "$@"
 }
@@ -122,6 +124,9 @@ logged 299 432
 logged 299 432 --tick 1ns
 logged 37 54 --tick 125ps
 logged 299490 432855 --tick=1us
+logged 299 432 --from 0
+second=0000000001 logged 299 432 --from 1
+second=4294967295 logged 37 54 --from=4294967295 --tick 125ps
 runs "vcd" examples/one_megabit_25m.toml 0 examples/one_megabit_25m.vcd "$room/none" vcd
 sed -E 's/^(\$timescale 1 )ns/\1us/; s/^#([0-9]+)$/#\10/; s/^#00$/#0/' examples/one_megabit_25m.vcd > "$room/wave"
 runs "vcd --tick 10us" examples/one_megabit_25m.toml 0 "$room/wave" "$room/none" vcd --tick 10us
@@ -166,6 +171,9 @@ is "faults without a row: $(tr '\n' ' ' < "$room/out")" [ ! -s "$room/out" ]
 
 . .ci/files.sh
 . .ci/sweeps.sh
+ended=0
+python3 -B bench/formats.py "$program" examples/clean_500k.toml examples/burst.toml examples/bus_off.toml .ci/bounds.toml .ci/doubts.toml > "$room/out" || ended=$?
+is "JSON and CSV: $(tail -3 "$room/out" | tr '\n' '/')" [ "$ended" = 0 ]
 . .ci/settings.sh
 
 while IFS= read -r words; do
@@ -204,6 +212,30 @@ run --link post
 run --workers 2 --link hub,mail
 run --link hub --link mail
 check --link hub
+run --format
+run --format xml
+run --format JSON
+run --format json,csv
+run --format json --format csv
+check --format=
+explain --format yaml
+margin --format text/csv
+trace --format jsonl
+traffic --format 1
+sweep --format plan
+candump --format json
+vcd --format csv
+page --format json
+records --format text
+merge --format text
+horizon --format csv
+settings --format json
+candump --from
+candump --from -1
+candump --from 1.5
+candump --from 4294967296
+run --from 1
+vcd --from 1
 run --tick 1ns
 explain --tick 1ns
 trace --tick 1ns
@@ -286,6 +318,7 @@ if command -v gcc > /dev/null; then
   is "run FILE -o FILE, each allocation refused" refused_files
   is "run, each allocation refused" bench/refuse.sh "$program" run examples/clean_500k.toml
   is "run --workers 2, each allocation refused" bench/refuse.sh "$program" run examples/clean_500k.toml --workers 2
+  is "traffic --format json, each allocation refused" bench/refuse.sh "$program" traffic examples/clean_500k.toml --format json
   is "settings, each allocation refused" bench/refuse.sh "$program" settings examples/settings/narrow_1m.toml
   is "sweep, each allocation refused" bench/refuse.sh "$program" sweep examples/clean_500k.toml --runs 3 --workers 2
   [ ! -x "$world" ] || is "worlds, each allocation refused" python3 bench/worlds.py "$world" refused

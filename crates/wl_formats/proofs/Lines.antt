@@ -1,5 +1,5 @@
 -- The first line of a text, and the others.
-use Rattle.std.proofs.Common.{◌≡◌, ◌∙◌, refl, ap, arith, ℕ, ◌+◌, ◌-◌, ◌<◌, ◌≤◌, suc, Bool, true, false, List, [], ◌∷◌, length, take, drop, Option, Some, None, nat_lt, cond}
+use Rattle.std.proofs.Common.{◌≡◌, ◌∙◌, refl, ap, arith, ℕ, ◌+◌, ◌-◌, ◌<◌, ◌≤◌, suc, Bool, true, false, List, [], ◌∷◌, length, take, drop, Some, None, nat_lt, cond}
 use Rattle.std.specs.Prelude.{position}
 use Rattle.std.specs.List.{position_or_len}
 use Rattle.std.proofs.lemmas.Bool.{ltb-false}
@@ -54,11 +54,11 @@ pub others : (text : List ℕ) (n : ℕ) → 0 < length text → n ≡ newline_o
 others text n h e =
     rw (take_all (length text - (n + 1)) (drop (n + 1) text) (omega (arith, length-drop (n + 1) text)))
     rw e
-    begins text h
+    (begins text h)
 
 -- a text without a newline has no others
 pub no_others : (text : List ℕ) (n : ℕ) → 0 < length text → n ≡ newline_or_len text → length text ≤ n → lines_of text ≡ take n text ∷ []
 no_others text n h e most =
     let none : drop (newline_or_len text + 1) text ≡ [] = drop_of_length-le text (omega (arith, e, most)) in
     rw e
-    begins text h ∙ ap (λ rest. take (newline_or_len text) text ∷ lines_of rest) none
+    (begins text h ∙ ap (λ rest. take (newline_or_len text) text ∷ lines_of rest) none)

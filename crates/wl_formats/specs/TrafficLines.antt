@@ -1,5 +1,5 @@
 -- The lines of `traffic`, each kind with its fields (this project's profile).
-use Rattle.std.specs.Prelude.{List, [], ◌∷◌, codes}
+use Rattle.std.specs.Prelude.{[], ◌∷◌, codes}
 use Rattle.wl_formats.specs.declared.shape.Class.TheVariants.{Hexadecimal, Measure, Number, Phrase, Word}
 use Rattle.wl_formats.specs.Shapes.{Layout, literal, field}
 
@@ -11,21 +11,30 @@ traffic_layout = record {
       codes "waiting" ∷ codes "lost" ∷ codes "broken" ∷ codes "least_quanta" ∷ codes "mean_quanta" ∷
       codes "greatest_quanta" ∷ codes "least_us" ∷ codes "mean_us" ∷ codes "greatest_us" ∷ codes "verdict" ∷ [];
   forms =
-      record { kind = codes "bus"; parts =
-          literal (codes "bus load ") ∷ field (codes "load_percent") Number ∷ literal (codes " % gap ") ∷
-          field (codes "gap_us") Number ∷ literal (codes " us") ∷ [] } ∷
-      record { kind = codes "message"; parts =
-          literal (codes "message ") ∷ field (codes "node") Number ∷ literal (codes " ") ∷ field (codes "name") Word ∷
-          literal (codes " ") ∷ field (codes "id") Hexadecimal ∷ literal (codes " sent ") ∷
-          field (codes "sent") Number ∷ literal (codes " left ") ∷ field (codes "left") Number ∷
-          literal (codes " waiting ") ∷ field (codes "waiting") Number ∷ literal (codes " lost ") ∷
-          field (codes "lost") Number ∷ literal (codes " broken ") ∷ field (codes "broken") Number ∷
-          literal (codes " quanta least ") ∷ field (codes "least_quanta") Measure ∷ literal (codes " mean ") ∷
-          field (codes "mean_quanta") Measure ∷ literal (codes " greatest ") ∷
-          field (codes "greatest_quanta") Measure ∷ literal (codes " us least ") ∷ field (codes "least_us") Measure ∷
-          literal (codes " mean ") ∷ field (codes "mean_us") Measure ∷ literal (codes " greatest ") ∷
-          field (codes "greatest_us") Measure ∷ [] } ∷
-      record { kind = codes "verdict"; parts =
-          literal (codes "verdict ") ∷ field (codes "verdict") Phrase ∷ [] } ∷
+      record {
+        kind = codes "bus";
+        parts =
+            literal (codes "bus load ") ∷ field (codes "load_percent") Number ∷ literal (codes " % gap ") ∷
+            field (codes "gap_us") Number ∷ literal (codes " us") ∷ [];
+      } ∷
+      record {
+        kind = codes "message";
+        parts =
+            literal (codes "message ") ∷ field (codes "node") Number ∷ literal (codes " ") ∷ field (codes "name") Word ∷
+            literal (codes " ") ∷ field (codes "id") Hexadecimal ∷ literal (codes " sent ") ∷
+            field (codes "sent") Number ∷ literal (codes " left ") ∷ field (codes "left") Number ∷
+            literal (codes " waiting ") ∷ field (codes "waiting") Number ∷ literal (codes " lost ") ∷
+            field (codes "lost") Number ∷ literal (codes " broken ") ∷ field (codes "broken") Number ∷
+            literal (codes " quanta least ") ∷ field (codes "least_quanta") Measure ∷ literal (codes " mean ") ∷
+            field (codes "mean_quanta") Measure ∷ literal (codes " greatest ") ∷
+            field (codes "greatest_quanta") Measure ∷ literal (codes " us least ") ∷ field (codes "least_us") Measure ∷
+            literal (codes " mean ") ∷ field (codes "mean_us") Measure ∷ literal (codes " greatest ") ∷
+            field (codes "greatest_us") Measure ∷ [];
+      } ∷
+      record {
+        kind = codes "verdict";
+        parts =
+            literal (codes "verdict ") ∷ field (codes "verdict") Phrase ∷ [];
+      } ∷
       [];
 }

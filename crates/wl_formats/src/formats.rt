@@ -171,8 +171,8 @@ pub fn formatted(
 {
     let table = table_of(subject);
     let mut made = Vec::new(alloc);
-    push_head(&mut made, format, table)?;
-    push_lines(&mut made, format, table, text)?;
+    push_head(&mut made, format, &table)?;
+    push_lines(&mut made, format, &table, text)?;
     push_foot(&mut made, format)?;
     Ok(made)
 }

@@ -14,7 +14,11 @@ fn hexadecimal_digit(value: u8) -> u8
     requires { value < 16 }
     ensures { result ≡ hexadecimal_digit value }
 {
-    if value < 10 { b'0' + value } else { b'W' + value }
+    if value < 10 {
+        b'0' + value
+    } else {
+        b'W' + value
+    }
 }
 
 /// Adds a byte as a string of JSON has it.
@@ -91,12 +95,7 @@ fn push_value(text: &mut Vec<u8>, class: Class, value: &[u8]) -> Result<(), Allo
 }
 
 /// Adds the field of a name and a value.
-fn push_field(
-    text: &mut Vec<u8>,
-    name: &str,
-    class: Class,
-    value: &[u8],
-) -> Result<(), AllocError>
+fn push_field(text: &mut Vec<u8>, name: &str, class: Class, value: &[u8]) -> Result<(), AllocError>
     ensures { OnOk result (text.new.items ≡ text.old.items ++ field_text name.now class value.now) }
 {
     text.extend_from_slice(",".as_bytes())?;

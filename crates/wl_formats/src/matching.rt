@@ -11,9 +11,7 @@ fn takes(class: Class, byte: u8) -> bool
     ensures { result ≡ takes class byte }
 {
     match class {
-        Class::Number | Class::Measure => {
-            byte.is_ascii_digit() || byte == b'-' || byte == b'.'
-        }
+        Class::Number | Class::Measure => { byte.is_ascii_digit() || byte == b'-' || byte == b'.' }
         Class::Word => {
             byte.is_ascii_alphanumeric() || byte == b'-' || byte == b'.' || byte == b'_'
         }

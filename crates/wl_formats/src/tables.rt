@@ -12,6 +12,13 @@ mod trace;
 mod traffic;
 
 use crate::shape::Table;
+use check::check_table;
+use explain::explain_table;
+use margin::margin_table;
+use run::run_table;
+use sweep::sweep_table;
+use trace::trace_table;
+use traffic::traffic_table;
 
 /// A command whose output has other formats.
 #[derive(Clone, Copy, Debug, PartialEq, Eq)]
@@ -26,17 +33,16 @@ pub enum Subject {
 }
 
 /// Returns the shapes of a command's lines.
-#[tactic(none)]
-pub(crate) fn table_of(subject: Subject) -> &'static Table
-    ensures { layout_of result.now ≡ layout subject }
+pub(crate) fn table_of(subject: Subject) -> Table
+    ensures { layout_of result ≡ layout subject }
 {
     match subject {
-        Subject::Run => &run::RUN,
-        Subject::Check => &check::CHECK,
-        Subject::Explain => &explain::EXPLAIN,
-        Subject::Margin => &margin::MARGIN,
-        Subject::Trace => &trace::TRACE,
-        Subject::Traffic => &traffic::TRAFFIC,
-        Subject::Sweep => &sweep::SWEEP,
+        Subject::Run => *run_table(),
+        Subject::Check => *check_table(),
+        Subject::Explain => explain_table(),
+        Subject::Margin => *margin_table(),
+        Subject::Trace => *trace_table(),
+        Subject::Traffic => *traffic_table(),
+        Subject::Sweep => *sweep_table(),
     }
 }

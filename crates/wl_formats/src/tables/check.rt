@@ -1,11 +1,14 @@
 //! The lines of `check`.
+ghost use Rattle.std.specs.Prelude.{◌≡◌};
+ghost use Rattle.wl_formats.specs.Shapes.{layout_of};
+ghost use Rattle.wl_formats.specs.CheckLines.{check_layout};
 
 use crate::shape::Class::{Number, Word};
 use crate::shape::Piece::{Field, Fixed};
 use crate::shape::{Shape, Table};
 
 #[rattlefmt::skip]
-pub(crate) static CHECK: Table = Table {
+static CHECK: Table = Table {
     command: "check",
     columns: &[
         "node", "name", "bit_quanta", "sample_quanta", "jump_quanta", "tolerance_ppm", "other_node", "delay_ticks",
@@ -23,3 +26,11 @@ pub(crate) static CHECK: Table = Table {
         ] },
     ],
 };
+
+/// Returns the shapes of the lines of `check`.
+#[tactic(none)]
+pub(crate) fn check_table() -> &'static Table
+    ensures { layout_of result.now ≡ check_layout }
+{
+    &CHECK
+}

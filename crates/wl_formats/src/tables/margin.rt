@@ -1,16 +1,19 @@
 //! The lines of `margin`.
+ghost use Rattle.std.specs.Prelude.{◌≡◌};
+ghost use Rattle.wl_formats.specs.Shapes.{layout_of};
+ghost use Rattle.wl_formats.specs.MarginLines.{margin_layout};
 
 use crate::shape::Class::{Measure, Number, Phrase, Rest, Word};
 use crate::shape::Piece::{Field, Fixed, Given, Passed};
 use crate::shape::{Shape, Table};
 
 #[rattlefmt::skip]
-pub(crate) static MARGIN: Table = Table {
+static MARGIN: Table = Table {
     command: "margin",
     columns: &[
-        "verdict", "inequality", "name", "other_name", "taken_ns", "taken_quanta", "available_ns", "available_quanta",
+        "verdict", "inequality", "name", "other_name", "taken_ns", "taken_quanta", "available_ns", "available_quanta", "reason",
         "late_ns", "late_quanta", "early_ns", "early_quanta", "drift_ns", "drift_quanta", "one_sender_units",
-        "any_senders_units", "one_sender_ppm", "any_senders_ppm", "one_sender_change", "any_senders_change", "reason",
+        "any_senders_units", "one_sender_ppm", "any_senders_ppm", "one_sender_change", "any_senders_change",
     ],
     shapes: &[
         Shape { kind: "verdict", pieces: &[
@@ -44,22 +47,10 @@ pub(crate) static MARGIN: Table = Table {
             Field("available_quanta", Number), Fixed(" quanta)"),
         ] },
         Shape { kind: "any_senders", pieces: &[
-            Given("inequality", Word, "drift_fits_jump"), Fixed("any senders: in ten bits "), Field("name", Word),
-            Fixed(" falls behind "), Field("other_name", Word), Fixed(" by up to "), Field("taken_ns", Number), Fixed(" ns ("),
-            Field("taken_quanta", Number), Fixed(" quanta), and an edge puts right "), Field("available_ns", Number),
-            Fixed(" ns ("), Field("available_quanta", Number), Fixed(" quanta)"),
-        ] },
-        Shape { kind: "any_senders", pieces: &[
             Given("inequality", Word, "bit_is_there_at_sample"), Fixed("any senders: a bit of "), Field("other_name", Word),
             Fixed(" comes to "), Field("name", Word), Fixed(" up to "), Field("taken_ns", Number), Fixed(" ns ("),
             Field("taken_quanta", Number), Fixed(" quanta) after its own began, and "), Passed(Word), Fixed(" samples after "),
             Field("available_ns", Number), Fixed(" ns ("), Field("available_quanta", Number), Fixed(" quanta)"),
-        ] },
-        Shape { kind: "any_senders", pieces: &[
-            Given("inequality", Word, "bit_is_there_at_sample"), Fixed("any senders: a bit of "), Field("name", Word),
-            Fixed(" comes back to it "), Field("taken_ns", Number), Fixed(" ns ("), Field("taken_quanta", Number),
-            Fixed(" quanta) after it began, and it samples after "), Field("available_ns", Number), Fixed(" ns ("),
-            Field("available_quanta", Number), Fixed(" quanta)"),
         ] },
         Shape { kind: "any_senders", pieces: &[
             Given("inequality", Word, "no_bit_too_early"), Fixed("any senders: the next bit of "), Field("other_name", Word),
@@ -67,11 +58,56 @@ pub(crate) static MARGIN: Table = Table {
             Field("taken_quanta", Number), Fixed(" quanta) too early, and its PHASE_SEG2 has "), Field("available_ns", Number),
             Fixed(" ns ("), Field("available_quanta", Number), Fixed(" quanta)"),
         ] },
+        Shape { kind: "any_senders", pieces: &[
+            Fixed("any senders: "), Field("reason", Rest),
+        ] },
         Shape { kind: "pair", pieces: &[
             Fixed("pair "), Field("name", Word), Fixed(" "), Field("other_name", Word), Fixed(": late "),
             Field("late_ns", Number), Fixed(" ns ("), Field("late_quanta", Number), Fixed(" quanta), early "),
             Field("early_ns", Number), Fixed(" ns ("), Field("early_quanta", Number), Fixed(" quanta), drift "),
             Field("drift_ns", Number), Fixed(" ns ("), Field("drift_quanta", Number), Fixed(" quanta)"),
+        ] },
+        Shape { kind: "pair", pieces: &[
+            Fixed("pair "), Field("name", Word), Fixed(" "), Field("other_name", Word), Fixed(": late "),
+            Field("late_ns", Number), Fixed(" ns ("), Field("late_quanta", Number), Fixed(" quanta), early "),
+            Field("early_ns", Number), Fixed(" ns ("), Field("early_quanta", Number), Fixed(" quanta), drift "),
+            Given("drift_ns", Measure, "-"), Given("drift_quanta", Measure, "-"), Fixed("none"),
+        ] },
+        Shape { kind: "pair", pieces: &[
+            Fixed("pair "), Field("name", Word), Fixed(" "), Field("other_name", Word), Fixed(": late "),
+            Field("late_ns", Number), Fixed(" ns ("), Field("late_quanta", Number), Fixed(" quanta), early "),
+            Given("early_ns", Measure, "-"), Given("early_quanta", Measure, "-"), Fixed("none, drift "),
+            Field("drift_ns", Number), Fixed(" ns ("), Field("drift_quanta", Number), Fixed(" quanta)"),
+        ] },
+        Shape { kind: "pair", pieces: &[
+            Fixed("pair "), Field("name", Word), Fixed(" "), Field("other_name", Word), Fixed(": late "),
+            Field("late_ns", Number), Fixed(" ns ("), Field("late_quanta", Number), Fixed(" quanta), early "),
+            Given("early_ns", Measure, "-"), Given("early_quanta", Measure, "-"), Fixed("none, drift "),
+            Given("drift_ns", Measure, "-"), Given("drift_quanta", Measure, "-"), Fixed("none"),
+        ] },
+        Shape { kind: "pair", pieces: &[
+            Fixed("pair "), Field("name", Word), Fixed(" "), Field("other_name", Word), Fixed(": late "),
+            Given("late_ns", Measure, "-"), Given("late_quanta", Measure, "-"), Fixed("none, early "),
+            Field("early_ns", Number), Fixed(" ns ("), Field("early_quanta", Number), Fixed(" quanta), drift "),
+            Field("drift_ns", Number), Fixed(" ns ("), Field("drift_quanta", Number), Fixed(" quanta)"),
+        ] },
+        Shape { kind: "pair", pieces: &[
+            Fixed("pair "), Field("name", Word), Fixed(" "), Field("other_name", Word), Fixed(": late "),
+            Given("late_ns", Measure, "-"), Given("late_quanta", Measure, "-"), Fixed("none, early "),
+            Field("early_ns", Number), Fixed(" ns ("), Field("early_quanta", Number), Fixed(" quanta), drift "),
+            Given("drift_ns", Measure, "-"), Given("drift_quanta", Measure, "-"), Fixed("none"),
+        ] },
+        Shape { kind: "pair", pieces: &[
+            Fixed("pair "), Field("name", Word), Fixed(" "), Field("other_name", Word), Fixed(": late "),
+            Given("late_ns", Measure, "-"), Given("late_quanta", Measure, "-"), Fixed("none, early "),
+            Given("early_ns", Measure, "-"), Given("early_quanta", Measure, "-"), Fixed("none, drift "),
+            Field("drift_ns", Number), Fixed(" ns ("), Field("drift_quanta", Number), Fixed(" quanta)"),
+        ] },
+        Shape { kind: "pair", pieces: &[
+            Fixed("pair "), Field("name", Word), Fixed(" "), Field("other_name", Word), Fixed(": late "),
+            Given("late_ns", Measure, "-"), Given("late_quanta", Measure, "-"), Fixed("none, early "),
+            Given("early_ns", Measure, "-"), Given("early_quanta", Measure, "-"), Fixed("none, drift "),
+            Given("drift_ns", Measure, "-"), Given("drift_quanta", Measure, "-"), Fixed("none"),
         ] },
         Shape { kind: "cable", pieces: &[
             Fixed("cable: one sender at a time "), Field("one_sender_units", Number), Fixed(" units longer, any senders "),
@@ -114,3 +150,11 @@ pub(crate) static MARGIN: Table = Table {
         ] },
     ],
 };
+
+/// Returns the shapes of the lines of `margin`.
+#[tactic(none)]
+pub(crate) fn margin_table() -> &'static Table
+    ensures { layout_of result.now ≡ margin_layout }
+{
+    &MARGIN
+}

@@ -1,11 +1,14 @@
 //! The lines of `run`.
+ghost use Rattle.std.specs.Prelude.{◌≡◌};
+ghost use Rattle.wl_formats.specs.Shapes.{layout_of};
+ghost use Rattle.wl_formats.specs.RunLines.{run_layout};
 
 use crate::shape::Class::{Hexadecimal, Measure, Number, Word};
 use crate::shape::Piece::{Field, Fixed, Given};
 use crate::shape::{Shape, Table};
 
 #[rattlefmt::skip]
-pub(crate) static RUN: Table = Table {
+static RUN: Table = Table {
     command: "run",
     columns: &[
         "node", "tec", "rec", "mode", "errors", "samples", "hard_synchronisations", "resynchronisations",
@@ -34,3 +37,11 @@ pub(crate) static RUN: Table = Table {
         ] },
     ],
 };
+
+/// Returns the shapes of the lines of `run`.
+#[tactic(none)]
+pub(crate) fn run_table() -> &'static Table
+    ensures { layout_of result.now ≡ run_layout }
+{
+    &RUN
+}

@@ -1,11 +1,14 @@
 //! The lines of `sweep`.
+ghost use Rattle.std.specs.Prelude.{◌≡◌};
+ghost use Rattle.wl_formats.specs.Shapes.{layout_of};
+ghost use Rattle.wl_formats.specs.SweepLines.{sweep_layout};
 
 use crate::shape::Class::{Number, Rest, Series, Word};
 use crate::shape::Piece::{Field, Fixed, Given};
 use crate::shape::{Shape, Table};
 
 #[rattlefmt::skip]
-pub(crate) static SWEEP: Table = Table {
+static SWEEP: Table = Table {
     command: "sweep",
     columns: &[
         "clean", "runs", "too_early", "refused", "range_1", "value_1", "range_2", "value_2", "others", "members", "run", "seed",
@@ -105,3 +108,11 @@ pub(crate) static SWEEP: Table = Table {
         ] },
     ],
 };
+
+/// Returns the shapes of the lines of `sweep`.
+#[tactic(none)]
+pub(crate) fn sweep_table() -> &'static Table
+    ensures { layout_of result.now ≡ sweep_layout }
+{
+    &SWEEP
+}

@@ -1,11 +1,14 @@
 //! The lines of `trace`.
+ghost use Rattle.std.specs.Prelude.{◌≡◌};
+ghost use Rattle.wl_formats.specs.Shapes.{layout_of};
+ghost use Rattle.wl_formats.specs.TraceLines.{trace_layout};
 
 use crate::shape::Class::{Hexadecimal, Number, Word};
 use crate::shape::Piece::{Field, Fixed};
 use crate::shape::{Shape, Table};
 
 #[rattlefmt::skip]
-pub(crate) static TRACE: Table = Table {
+static TRACE: Table = Table {
     command: "trace",
     columns: &[
         "tick", "node", "name", "quantum", "bit", "phase_error_quanta", "field", "field_bit", "error", "role", "place", "flag",
@@ -52,3 +55,11 @@ pub(crate) static TRACE: Table = Table {
         ] },
     ],
 };
+
+/// Returns the shapes of the lines of `trace`.
+#[tactic(none)]
+pub(crate) fn trace_table() -> &'static Table
+    ensures { layout_of result.now ≡ trace_layout }
+{
+    &TRACE
+}

@@ -1,11 +1,14 @@
 //! The lines of `traffic`.
+ghost use Rattle.std.specs.Prelude.{◌≡◌};
+ghost use Rattle.wl_formats.specs.Shapes.{layout_of};
+ghost use Rattle.wl_formats.specs.TrafficLines.{traffic_layout};
 
 use crate::shape::Class::{Hexadecimal, Measure, Number, Phrase, Word};
 use crate::shape::Piece::{Field, Fixed};
 use crate::shape::{Shape, Table};
 
 #[rattlefmt::skip]
-pub(crate) static TRAFFIC: Table = Table {
+static TRAFFIC: Table = Table {
     command: "traffic",
     columns: &[
         "load_percent", "gap_us", "node", "name", "id", "sent", "left", "waiting", "lost", "broken", "least_quanta",
@@ -28,3 +31,11 @@ pub(crate) static TRAFFIC: Table = Table {
         ] },
     ],
 };
+
+/// Returns the shapes of the lines of `traffic`.
+#[tactic(none)]
+pub(crate) fn traffic_table() -> &'static Table
+    ensures { layout_of result.now ≡ traffic_layout }
+{
+    &TRAFFIC
+}

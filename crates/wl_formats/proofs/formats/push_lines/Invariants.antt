@@ -1,4 +1,4 @@
-use Rattle.std.proofs.Common.{◌≡◌, ◌++◌, ℕ, length}
+use Rattle.std.proofs.Common.{◌≡◌, ◌++◌, length}
 use Rattle.std.specs.Prelude.{true}
 use Rattle.wl_formats.specs.Shapes.{layout_of}
 use Rattle.wl_formats.specs.Formats.{all_fit, lines_bytes, lines_of}
