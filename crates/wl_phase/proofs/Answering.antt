@@ -242,7 +242,7 @@ module _ (s : Sender) (own : Lengths) (j : Listener) (seen : ℕ → Seen) (foun
       own_more s j ds dj (s.from + suc (suc d) * s.bit_quanta) (sample_at own)
       ∙ ap (λ n. n + sample_at own * Q) (next_bit s j ds dj (suc d) ∙ ap (λ n. n + A) (next_bit s j ds dj d))
 
-  ends_late : EndsInTime s own j back → answer_end j back k ≤ steady_tick s.clock (own_sample s own (suc (suc d)))
+  pub ends_late : EndsInTime s own j back → answer_end j back k ≤ steady_tick s.clock (own_sample s own (suc (suc d)))
   ends_late ends =
       reaches s j ds dj (k + j.lengths.ps2 + bit_quanta j.lengths) back (own_sample s own (suc (suc d)))
       (let h = begins_by in

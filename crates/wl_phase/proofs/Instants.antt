@@ -35,7 +35,7 @@ module _ (s : Sender) (j : Listener) (ds : 0 < s.clock.den) (dj : 0 < j.clock.de
       let m : j.clock.den * (s.clock.den * steady_tick s.clock n) ≤ j.clock.den * instant s.clock n = mul-le-mul_left j.clock.den low in
       omega arith
 
-  bit_high : (b : ℕ) → bit_instant s j b < tick_parts s j * arrival s j b + tick_parts s j
+  pub bit_high : (b : ℕ) → bit_instant s j b < tick_parts s j * arrival s j b + tick_parts s j
   bit_high b =
       let n = s.from + b * s.bit_quanta in
       let high = floor_high s.clock n ds in

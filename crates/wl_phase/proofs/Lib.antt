@@ -1,5 +1,4 @@
 mod Answering
-pub mod Callers
 mod Drift
 mod Edges
 mod Finding
@@ -13,4 +12,6 @@ mod Phases
 mod Rows
 mod Runs
 mod Starting
+mod Stays
 mod Steps
+pub mod Callers
