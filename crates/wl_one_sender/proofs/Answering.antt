@@ -12,16 +12,18 @@ use Rattle.wl_machine.specs.Stretch.Sort.{Framing}
 use Rattle.wl_machine.specs.Judged.{judged, or_next}
 use Rattle.wl_machine.specs.States.{stretch_by}
 use Rattle.wl_node.specs.declared.setup.NodeSetup.{NodeSetup}
+use Rattle.wl_node.specs.declared.setup.Passed.{Passed}
+use Rattle.wl_node.specs.History.{passed_frames}
 use Rattle.wl_phase.specs.Ways.{ByTheBook}
 use Rattle.wl_phase.proofs.Callers.{now_recessive}
 use Rattle.wl_one_sender.proofs.Frames as frames
 use Rattle.wl_one_sender.proofs.Frames.{FrameGoes}
-use Rattle.wl_one_sender.proofs.Nodes.{ClockGoes, IsGoing, IsUnmoved, Takes, node, clock_at, sees_at, step_on, step_sample, unmoved_recessive, unmoved_before, unmoved_driving}
+use Rattle.wl_one_sender.proofs.Nodes.{ClockGoes, calm_acked, IsGoing, IsUnmoved, Takes, node, clock_at, sees_at, beat_sample, sample_before, step_on, step_sample, unmoved_recessive, unmoved_before, unmoved_driving}
 use Rattle.wl_one_sender.proofs.Bits.{at_place, glide, before_sample}
 use Rattle.wl_one_sender.proofs.Silence.{given}
 
 module _ (clocks : ClockGoes) (goes : FrameGoes) (setup : NodeSetup) (book : ByTheBook setup.segments) (levels : ℕ → Level)
-    (head : Content) (c : IsContent head) (y : List Level) (is : Stuffs y (bits_of head)) (k longer : ℕ) where
+    (head : Content) (c : IsContent head) (y : List Level) (is : Stuffs y (bits_of head)) (passed : List Passed) (k longer : ℕ) where
   abbrev S : ℕ
   S = sample_at setup.segments
 
@@ -35,7 +37,7 @@ module _ (clocks : ClockGoes) (goes : FrameGoes) (setup : NodeSetup) (book : ByT
   Heard n = stretch_by (Framing None) (frames.own goes head c y is n)
 
   abbrev Going : (k p longer : ℕ) (fresh : Bool) (s : Stretch) (drive : Level) → Type 0
-  Going = IsGoing clocks setup book levels
+  Going = IsGoing clocks setup book levels passed
 
   -- the quantum with which the next bit begins
   abbrev begin : ℕ
@@ -56,7 +58,7 @@ module _ (clocks : ClockGoes) (goes : FrameGoes) (setup : NodeSetup) (book : ByT
 
     -- it drives dominant for a bit, if it finds that by the sample
     module _ (own : (p : ℕ) → S ≤ p → p < B → ((q : ℕ) → 1 ≤ q → q ≤ p → (node clocks setup book levels (begin + q)).drive ≡ Dominant) → levels (begin + p) ≡ Dominant) where
-      before : (p : ℕ) → 1 ≤ p → p ≤ S → Going (begin + p) p 0 false (Heard (suc last)) Dominant
+      pub before : (p : ℕ) → 1 ≤ p → p ≤ S → Going (begin + p) p 0 false (Heard (suc last)) Dominant
       before p low high =
           let silent = now_recessive (clock_at clocks setup book levels begin) (sees_at clocks setup book levels begin)
           (quiet begin (let few = book.lengths.ps2_low in omega arith) (omega arith)) in
@@ -71,13 +73,22 @@ module _ (clocks : ClockGoes) (goes : FrameGoes) (setup : NodeSetup) (book : ByT
           let e : judged (Heard (suc last)) (given clocks setup book levels (begin + S)) ≡ continues Acked =
           frames.receiver_acknowledges goes head c y is (given clocks setup book levels (begin + S)) now in
           record {
-            calm = inr (ap (λ j. j.happened) e);
-            ended = ap (λ j. j.ended) e;
+            calm = calm_acked (judged (Heard (suc last)) (given clocks setup book levels (begin + S))).happened (ap (λ j. j.happened) e);
+            ended = ap (λ j. passed_frames (begin + S) j.ended) e;
             stretch =
                 ap (λ j. or_next j.next (stretch_by (Framing None) (frames.own goes head c y is (suc last) ++ levels (begin + S) ∷ []))) e
                 ∙ ap (λ l. stretch_by (Framing None) (frames.own goes head c y is (suc last) ++ l ∷ [])) (now ∙ sym (frames.line_slot goes head c y is))
                 ∙ ap (stretch_by (Framing None)) (sym (frames.own_more goes head c y is (suc last) (omega arith)));
           }
+
+      -- that is dominant
+      pub sampled : (clock_at clocks setup book levels (suc (begin + S))).sample ≡ Dominant
+      sampled =
+          let few = book.lengths.ps2_low in
+          let here = before S (omega arith) (omega arith) in
+          sample_before clocks setup book levels (begin + S) (levels (begin + S))
+          (beat_sample clocks setup book levels (begin + S) S 0 false (Heard (suc last)) Dominant here (unmoved_driving clocks setup book levels (begin + S) S here.does.drives (omega arith)) refl)
+          ∙ own S (omega arith) (omega arith) (λ q low high. (before q low high).does.drives)
 
       -- so many quanta after the sample
       pub record Answers (n : ℕ) : Type 0 where

@@ -11,7 +11,7 @@ use Rattle.wl_level.proofs.Callers.{at_front, before_front, at_new, first_is, sa
 use Rattle.wl_confine.specs.declared.ErrorKind.TheVariants.{Bit, Stuff, Form}
 use Rattle.wl_confine.specs.declared.Happened.TheVariants.{Nothing, Acked}
 use Rattle.wl_frame.specs.Stuffing.{Stuffs, is_stuff, destuffed_bits}
-use Rattle.wl_frame.specs.Grammar.{Content, IsContent, bits_of, is_arbitration, is_crc_right}
+use Rattle.wl_frame.specs.Grammar.{Content, IsContent, bits_of, content_of, is_arbitration, is_crc_right}
 use Rattle.wl_frame.specs.Header.{sent_free}
 use Rattle.wl_frame.specs.Laws.{up_to_ack}
 use Rattle.wl_frame.proofs.Callers.{frame_is_read, same_back}
@@ -32,9 +32,13 @@ pub record FrameGoes : Type 0 where
   pub stays : (y more : List Level) (n : ℕ) → n ≤ length y → is_stuff (y ++ more) n ≡ is_stuff y n
   pub keeps : (y more : List Level) (n : ℕ) → n ≤ length y → destuffed_bits (y ++ more) n ≡ destuffed_bits y n
 
-crc_of : (c : Content) → IsContent c → is_crc_right (bits_of c) ≡ true
+pub crc_of : (c : Content) → IsContent c → is_crc_right (bits_of c) ≡ true
 unfolding bits_of
 crc_of c is = ((frame_is_read (bits_of c) c).0 (is, sent_free, refl)).crc
+
+pub read_of : (c : Content) → IsContent c → content_of (bits_of c) ≡ c
+unfolding bits_of
+read_of c is = ((frame_is_read (bits_of c) c).0 (is, sent_free, refl)).content
 
 first_of : (c : Content) → IsContent c → at (bits_of c) 0 ≡ Dominant
 unfolding bits_of

@@ -9,8 +9,13 @@ mod Nodes
 mod PlanProofs
 mod Planned
 mod Receiving
+mod Resting
 mod Rows
 mod Sending
+mod Settling
 mod Silence
 mod Slots
+mod Speaking
+mod Tails
+mod Through
 mod Together

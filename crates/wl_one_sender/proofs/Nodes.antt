@@ -1,6 +1,6 @@
 -- A node whose bit clock no edge moves, one quantum later.
 use Rattle.std.proofs.Common.{◌≡◌, ◌≢◌, ◌∙◌, ◌⊎◌, inl, inr, refl, sym, ap, subst, ℕ, zero, suc, ◌+◌, ◌<◌, ◌≤◌, List, [], ◌∷◌, ◌++◌, length, Bool, true, false, cond, arith, append-nil, length-append, add-one}
-use Rattle.std.specs.Prelude.{count_by, nat_le, ◌||◌}
+use Rattle.std.specs.Prelude.{count_by}
 use Rattle.std.proofs.lemmas.List.Sums.{fold-append, sum_by-append}
 use Rattle.wl_level.specs.declared.Level.{Level}
 use Rattle.wl_level.specs.declared.Level.TheVariants.{Dominant, Recessive}
@@ -13,16 +13,15 @@ use Rattle.wl_sync.specs.Bits.{beat_of}
 use Rattle.wl_sync.specs.Running.{Running, clock_after, sample_after}
 use Rattle.wl_sync.specs.Steps.{running_sync, running_after, running_beat, running_edge}
 use Rattle.wl_confine.specs.declared.Happened.{Happened}
-use Rattle.wl_confine.specs.declared.Happened.TheVariants.{Nothing, Acked}
-use Rattle.wl_confine.specs.declared.Mode.{Mode}
-use Rattle.wl_confine.specs.declared.Mode.TheVariants.{Active, Passive, Off}
-use Rattle.wl_confine.specs.Counts.{Counts, counts_of, counts_after, no_counts, mode_of, is_error, off_at, passive_at}
+use Rattle.wl_confine.specs.declared.Happened.TheVariants.{Nothing, Acked, Sent}
+use Rattle.wl_confine.specs.declared.Mode.TheVariants.{Active}
+use Rattle.wl_confine.specs.Counts.{counts_of, counts_after, no_counts, mode_of, is_error}
 use Rattle.wl_machine.specs.Stretch.{Stretch, Sampled}
 use Rattle.wl_machine.specs.Stretch.Input.{Sample as Given}
-use Rattle.wl_machine.specs.Stretch.Ended.{NoFrame}
 use Rattle.wl_machine.specs.Judged.{judged, stretch_of, stretch_after, drive_of}
 use Rattle.wl_machine.proofs.Callers.{stretch_next}
 use Rattle.wl_node.specs.declared.setup.NodeSetup.{NodeSetup}
+use Rattle.wl_node.specs.declared.setup.Passed.{Passed}
 use Rattle.wl_node.specs.History.{History, history_of, history_after, no_history, seen_next, sampled_next, by_beat, switched_off, passed_frames, error_count}
 use Rattle.wl_phase.specs.Ways.{ByTheBook}
 use Rattle.wl_phase.specs.InStep.{seen_before}
@@ -36,37 +35,24 @@ pub record ClockGoes : Type 0 where
   pub level : (l : Lengths) (past : List Seen) (x : Seen) → (clock_after l (past ++ x ∷ [])).level ≡ x.level
   pub sample : (l : Lengths) (past : List Seen) (x : Seen) → (clock_after l (past ++ x ∷ [])).sample ≡ sample_after (beat_of l past x) (clock_after l past).sample
 
-switched_none : (m : Mode) → switched_off m m ≡ []
-switched_none Active = refl
-switched_none Passive = refl
-switched_none Off = refl
-
 counts_more : (hs : List Happened) (h : Happened) → counts_of (hs ++ h ∷ []) ≡ counts_after (counts_of hs) h
 counts_more hs h = fold-append counts_after no_counts hs (h ∷ [])
 
--- nothing happens, or an acknowledgement
+-- no error, and nothing that counts if nothing did before: nothing at all, an acknowledgement, or a frame that is sent
 abbrev pub IsCalm : Happened → Type 0
-IsCalm h = (h ≡ Nothing) ⊎ (h ≡ Acked)
+IsCalm h = (counts_after no_counts h ≡ no_counts) × (is_error h ≡ false)
 
-switched_by : (off b a c d : Bool) → switched_off (cond off Off (cond (b || a) Passive Active)) (cond off Off (cond (c || d) Passive Active)) ≡ []
-switched_by true b a c d = refl
-switched_by false b a c d = switched_on (b || a) (c || d)
-  where
-    switched_on : (b c : Bool) → switched_off (cond b Passive Active) (cond c Passive Active) ≡ []
-    switched_on true true = refl
-    switched_on true false = refl
-    switched_on false true = refl
-    switched_on false false = refl
+pub calm_nothing : (h : Happened) → h ≡ Nothing → IsCalm h
+calm_nothing h e = (ap (counts_after no_counts) e, ap is_error e)
 
-calm_stays : (c : Counts) (h : Happened) → IsCalm h → switched_off (mode_of c) (mode_of (counts_after c h)) ≡ []
-calm_stays c h (inl e) = ap (λ x. switched_off (mode_of c) (mode_of (counts_after c x))) e ∙ switched_none (mode_of c)
-calm_stays c h (inr e) =
-    ap (λ x. switched_off (mode_of c) (mode_of (counts_after c x))) e
-    ∙ switched_by (nat_le off_at c.tec) (nat_le passive_at c.tec) (nat_le passive_at c.rec) (nat_le passive_at c.tec) (nat_le passive_at (counts_after c Acked).rec)
+pub calm_acked : (h : Happened) → h ≡ Acked → IsCalm h
+calm_acked h e = (ap (counts_after no_counts) e, ap is_error e)
+
+pub calm_sent : (h : Happened) → h ≡ Sent → IsCalm h
+calm_sent h e = (ap (counts_after no_counts) e, ap is_error e)
 
 calm_error : (h : Happened) → IsCalm h → count_by is_error (h ∷ []) ≡ 0
-calm_error h (inl e) = ap (λ x. count_by is_error (x ∷ [])) e
-calm_error h (inr e) = ap (λ x. count_by is_error (x ∷ [])) e
+calm_error h c = ap (λ b. 0 + cond b 1 0) c.1
 
 module _ (clocks : ClockGoes) (setup : NodeSetup) (book : ByTheBook setup.segments) (levels : ℕ → Level) where
   abbrev l : Lengths
@@ -114,6 +100,10 @@ module _ (clocks : ClockGoes) (setup : NodeSetup) (book : ByTheBook setup.segmen
   sample_before k level e =
       ap (λ v. (clock_after l v).sample) (seen_next_is k) ∙ clocks.sample l (node k).seen (sees_at k) ∙ ap (λ b. sample_after b (clock_at k).sample) e
 
+  sample_same : (k : ℕ) (b : Beat) → beat_at k ≡ b → (clock_at (suc k)).sample ≡ sample_after b (clock_at k).sample
+  sample_same k b e =
+      ap (λ v. (clock_after l v).sample) (seen_next_is k) ∙ clocks.sample l (node k).seen (sees_at k) ∙ ap (λ x. sample_after x (clock_at k).sample) e
+
   pub valid_at : (k : ℕ) → IsValid (clock_at k)
   valid_at k = valid_after clocks.goes l book (node k).seen
 
@@ -134,69 +124,96 @@ module _ (clocks : ClockGoes) (setup : NodeSetup) (book : ByTheBook setup.segmen
     pub errors_by : error_count (node (suc k)) ≡ error_count (by_beat setup (node k) (levels k) b)
     errors_by = ap error_count (node_next k) ∙ ap (λ x. error_count (by_beat setup (node k) (levels k) x)) e
 
-  -- what a node has done: its stretch, what it drives, and neither a frame nor an error so far
-  pub record Does (k : ℕ) (s : Stretch) (drive : Level) : Type 0 where
+    pub counts_by : counts_of (node (suc k)).happened ≡ counts_of (by_beat setup (node k) (levels k) b).happened
+    counts_by = ap (λ h. counts_of h.happened) (node_next k) ∙ ap (λ x. counts_of (by_beat setup (node k) (levels k) x).happened) e
+
+  -- what a node has done: its stretch, what it drives, and the frames that have passed, without an error and a count
+  pub record Does (passed : List Passed) (k : ℕ) (s : Stretch) (drive : Level) : Type 0 where
     pub stretch : stretch_of (node k).inputs ≡ s
     pub drives : (node k).drive ≡ drive
-    pub frames : (node k).frames ≡ []
+    pub frames : (node k).frames ≡ passed
     pub errors : error_count (node k) ≡ 0
+    pub counts : counts_of (node k).happened ≡ no_counts
 
-  -- a sample of this stretch that makes no error and ends no frame
-  pub record Takes (k : ℕ) (s next : Stretch) : Type 0 where
+  -- a sample of this stretch that makes no error, and completes these frames
+  pub record Completes (more : List Passed) (k : ℕ) (s next : Stretch) : Type 0 where
     pub calm : IsCalm (judged s (sampled_next setup (node k) (levels k))).happened
-    pub ended : (judged s (sampled_next setup (node k) (levels k))).ended ≡ NoFrame
+    pub ended : passed_frames k (judged s (sampled_next setup (node k) (levels k))).ended ≡ more
     pub stretch : stretch_after s (Given (sampled_next setup (node k) (levels k))) ≡ next
 
-  pub does_first : Does 0 (stretch_of []) Recessive
+  -- or none
+  abbrev pub Takes : (k : ℕ) (s next : Stretch) → Type 0
+  Takes = Completes []
+
+  pub does_first : Does [] 0 (stretch_of []) Recessive
   does_first = record {
     stretch = ap (λ h. stretch_of h.inputs) node_first;
     drives = ap (λ h. h.drive) node_first;
     frames = ap (λ h. h.frames) node_first;
     errors = ap error_count node_first;
+    counts = ap (λ h. counts_of h.happened) node_first;
   }
 
-  pub does_plain : (k : ℕ) (s : Stretch) (drive : Level) → beat_at k ≡ Plain → Does k s drive → Does (suc k) s drive
+  pub does_plain : {passed : List Passed} (k : ℕ) (s : Stretch) (drive : Level) → beat_at k ≡ Plain → Does passed k s drive → Does passed (suc k) s drive
   does_plain k s drive e d = record {
     stretch = ap stretch_of (inputs_by k Plain e) ∙ d.stretch;
     drives = drive_by k Plain e ∙ d.drives;
     frames = frames_by k Plain e ∙ d.frames;
     errors = errors_by k Plain e ∙ d.errors;
+    counts = counts_by k Plain e ∙ d.counts;
   }
 
-  pub does_start : (k : ℕ) (s : Stretch) (drive : Level) → beat_at k ≡ Start → Does k s drive → Does (suc k) s (drive_of s)
+  pub does_start : {passed : List Passed} (k : ℕ) (s : Stretch) (drive : Level) → beat_at k ≡ Start → Does passed k s drive → Does passed (suc k) s (drive_of s)
   does_start k s drive e d = record {
     stretch = ap stretch_of (inputs_by k Start e) ∙ d.stretch;
     drives = drive_by k Start e ∙ ap drive_of d.stretch;
     frames = frames_by k Start e ∙ d.frames;
     errors = errors_by k Start e ∙ d.errors;
+    counts = counts_by k Start e ∙ d.counts;
   }
 
-  pub does_sample : (k : ℕ) (s next : Stretch) (drive level : Level) → beat_at k ≡ Sample level → Does k s drive → Takes k s next → Does (suc k) next drive
-  does_sample k s next drive level e d t =
+  -- nothing has counted
+  pub mode_is : {passed : List Passed} (k : ℕ) (s : Stretch) (drive : Level) → Does passed k s drive → (sampled_next setup (node k) (levels k)).mode ≡ Active
+  mode_is k s drive d = ap mode_of d.counts
+
+  pub does_complete : {passed : List Passed} (more : List Passed) (k : ℕ) (s next : Stretch) (drive level : Level) → beat_at k ≡ Sample level → Does passed k s drive
+      → Completes more k s next → Does (passed ++ more) (suc k) next drive
+  does_complete more k s next drive level e d t =
       let x : Sampled = sampled_next setup (node k) (levels k) in
+      let h : Happened = (judged (stretch_of (node k).inputs) x).happened in
       let calm : IsCalm (judged (stretch_of (node k).inputs) x).happened = subst (λ v. IsCalm (judged v x).happened) (sym d.stretch) t.calm in
-      let no_frame : (judged (stretch_of (node k).inputs) x).ended ≡ NoFrame = ap (λ v. (judged v x).ended) d.stretch ∙ t.ended in
+      let frame : passed_frames k (judged (stretch_of (node k).inputs) x).ended ≡ more = ap (λ v. passed_frames k (judged v x).ended) d.stretch ∙ t.ended in
+      let now : counts_of ((node k).happened ++ (judged (stretch_of (node k).inputs) x).happened ∷ []) ≡ no_counts =
+      counts_more (node k).happened (judged (stretch_of (node k).inputs) x).happened
+      ∙ ap (λ c. counts_after c (judged (stretch_of (node k).inputs) x).happened) d.counts ∙ calm.0 in
       let mode : switched_off x.mode (mode_of (counts_of ((node k).happened ++ (judged (stretch_of (node k).inputs) x).happened ∷ []))) ≡ [] =
-      ap (λ c. switched_off x.mode (mode_of c)) (counts_more (node k).happened (judged (stretch_of (node k).inputs) x).happened)
-      ∙ calm_stays (counts_of (node k).happened) (judged (stretch_of (node k).inputs) x).happened calm in
+      ap (λ m. switched_off m (mode_of (counts_of ((node k).happened ++ (judged (stretch_of (node k).inputs) x).happened ∷ [])))) (mode_is k s drive d)
+      ∙ ap (λ c. switched_off Active (mode_of c)) now in
       record {
         stretch =
             ap stretch_of (inputs_by k (Sample level) e ∙ ap (λ v. ((node k).inputs ++ Given x ∷ []) ++ v) mode ∙ append-nil ((node k).inputs ++ Given x ∷ []))
             ∙ stretch_next (node k).inputs (Given x) ∙ ap (λ v. stretch_after v (Given x)) d.stretch ∙ t.stretch;
         drives = drive_by k (Sample level) e ∙ d.drives;
         frames =
-            frames_by k (Sample level) e ∙ ap (λ v. (node k).frames ++ passed_frames (length (node k).seen) v) no_frame
-            ∙ append-nil (node k).frames ∙ d.frames;
+            frames_by k (Sample level) e
+            ∙ ap (λ n. (node k).frames ++ passed_frames n (judged (stretch_of (node k).inputs) x).ended) (seen_length k)
+            ∙ ap (λ v. (node k).frames ++ v) frame ∙ ap (λ v. v ++ more) d.frames;
         errors =
             errors_by k (Sample level) e ∙ sum_by-append (λ h. cond (is_error h) 1 0) (node k).happened ((judged (stretch_of (node k).inputs) x).happened ∷ [])
             ∙ ap (λ n. error_count (node k) + n) (calm_error (judged (stretch_of (node k).inputs) x).happened calm)
             ∙ ap (λ n. n + 0) d.errors;
+        counts = counts_by k (Sample level) e ∙ now;
       }
 
+  pub does_sample : {passed : List Passed} (k : ℕ) (s next : Stretch) (drive level : Level) → beat_at k ≡ Sample level → Does passed k s drive → Takes k s next
+      → Does passed (suc k) next drive
+  does_sample {passed = passed} k s next drive level e d t =
+      subst (λ v. Does v (suc k) next drive) (append-nil passed) (does_complete [] k s next drive level e d t)
+
   -- the same, with its place in a bit that no edge has moved
-  pub record IsGoing (k p longer : ℕ) (fresh : Bool) (s : Stretch) (drive : Level) : Type 0 where
+  pub record IsGoing (passed : List Passed) (k p longer : ℕ) (fresh : Bool) (s : Stretch) (drive : Level) : Type 0 where
     pub place : IsAt (clock_at k) p longer fresh
-    pub does : Does k s drive
+    pub does : Does passed k s drive
 
   -- no edge moves the bit at quantum k
   abbrev pub IsUnmoved : ℕ → ℕ → Bool → Type 0
@@ -211,26 +228,40 @@ module _ (clocks : ClockGoes) (setup : NodeSetup) (book : ByTheBook setup.segmen
   pub unmoved_driving : (k p : ℕ) → (node k).drive ≡ Dominant → p ≤ sample_at l → IsUnmoved k p false
   unmoved_driving k p e early = inr (ap is_dominant e, early, refl)
 
-  module _ (k p longer : ℕ) (fresh : Bool) (s : Stretch) (drive : Level) (g : IsGoing k p longer fresh s drive) where
+  module _ {passed : List Passed} (k p longer : ℕ) (fresh : Bool) (s : Stretch) (drive : Level) (g : IsGoing passed k p longer fresh s drive) where
     place_on : IsUnmoved k p fresh → p < bit_quanta l → IsAt (clock_at (suc k)) (suc p) longer fresh
     place_on u less = subst (λ r. IsAt r (suc p) longer fresh) (sym (clock_next k)) (goes_on (clock_at k) (sees_at k) p longer fresh book g.place (valid_at k) u less)
 
-    pub step_on : IsUnmoved k p fresh → p < bit_quanta l → p ≢ sample_at l → IsGoing (suc k) (suc p) longer fresh s drive
+    pub step_on : IsUnmoved k p fresh → p < bit_quanta l → p ≢ sample_at l → IsGoing passed (suc k) (suc p) longer fresh s drive
     step_on u less apart = record {
       place = place_on u less;
       does = does_plain k s drive (beat_is k Plain (is_plain (clock_at k) (sees_at k) p longer fresh book g.place (valid_at k) u less apart)) g.does;
     }
 
+    -- where no sample comes the last one stays
+    pub sample_on : IsUnmoved k p fresh → p < bit_quanta l → p ≢ sample_at l → (clock_at (suc k)).sample ≡ (clock_at k).sample
+    sample_on u less apart = sample_same k Plain (beat_is k Plain (is_plain (clock_at k) (sees_at k) p longer fresh book g.place (valid_at k) u less apart))
+
+    pub sample_start : running_sync (clock_at k) (sees_at k) ≡ false → p ≡ bit_quanta l → (clock_at (suc k)).sample ≡ (clock_at k).sample
+    sample_start e over = sample_same k Start (beat_is k Start (is_start (clock_at k) (sees_at k) p longer fresh book g.place (valid_at k) e over))
+
     pub beat_sample : IsUnmoved k p fresh → p ≡ sample_at l → beat_at k ≡ Sample (levels k)
     beat_sample u here = beat_is k (Sample (levels k)) (is_sample (clock_at k) (sees_at k) p longer fresh book g.place (valid_at k) u here)
 
-    pub step_sample : (next : Stretch) → IsUnmoved k p fresh → p ≡ sample_at l → Takes k s next → IsGoing (suc k) (suc p) longer fresh next drive
+    pub step_sample : (next : Stretch) → IsUnmoved k p fresh → p ≡ sample_at l → Takes k s next → IsGoing passed (suc k) (suc p) longer fresh next drive
     step_sample next u here t = record {
       place = place_on u (let low = book.lengths.ps2_low in omega arith);
       does = does_sample k s next drive (levels k) (beat_sample u here) g.does t;
     }
 
-    pub step_start : running_sync (clock_at k) (sees_at k) ≡ false → p ≡ bit_quanta l → (f : Bool) → IsGoing (suc k) 1 0 f s (drive_of s)
+    pub step_complete : (more : List Passed) (next : Stretch) → IsUnmoved k p fresh → p ≡ sample_at l → Completes more k s next
+        → IsGoing (passed ++ more) (suc k) (suc p) longer fresh next drive
+    step_complete more next u here t = record {
+      place = place_on u (let low = book.lengths.ps2_low in omega arith);
+      does = does_complete more k s next drive (levels k) (beat_sample u here) g.does t;
+    }
+
+    pub step_start : running_sync (clock_at k) (sees_at k) ≡ false → p ≡ bit_quanta l → (f : Bool) → IsGoing passed (suc k) 1 0 f s (drive_of s)
     step_start e over f = record {
       place = subst (λ r. IsAt r 1 0 f) (sym (clock_next k)) (starts (clock_at k) (sees_at k) p longer fresh book g.place (valid_at k) e over f);
       does = does_start k s drive (beat_is k Start (is_start (clock_at k) (sees_at k) p longer fresh book g.place (valid_at k) e over)) g.does;
@@ -238,15 +269,17 @@ module _ (clocks : ClockGoes) (setup : NodeSetup) (book : ByTheBook setup.segmen
 
 -- what rests on the levels before a quantum alone
 module _ (clocks : ClockGoes) (setup : NodeSetup) (book : ByTheBook setup.segments) (u v : ℕ → Level) (k : ℕ) (e : levels_before u k ≡ levels_before v k) where
-  pub does_same : (s : Stretch) (drive : Level) → Does clocks setup book u k s drive → Does clocks setup book v k s drive
+  pub does_same : {passed : List Passed} (s : Stretch) (drive : Level) → Does clocks setup book u passed k s drive → Does clocks setup book v passed k s drive
   does_same s drive d = record {
     stretch = ap (λ ls. stretch_of (history_of setup ls).inputs) (sym e) ∙ d.stretch;
     drives = ap (λ ls. (history_of setup ls).drive) (sym e) ∙ d.drives;
     frames = ap (λ ls. (history_of setup ls).frames) (sym e) ∙ d.frames;
     errors = ap (λ ls. error_count (history_of setup ls)) (sym e) ∙ d.errors;
+    counts = ap (λ ls. counts_of (history_of setup ls).happened) (sym e) ∙ d.counts;
   }
 
-  pub going_same : (p longer : ℕ) (fresh : Bool) (s : Stretch) (drive : Level) → IsGoing clocks setup book u k p longer fresh s drive → IsGoing clocks setup book v k p longer fresh s drive
+  pub going_same : {passed : List Passed} (p longer : ℕ) (fresh : Bool) (s : Stretch) (drive : Level) → IsGoing clocks setup book u passed k p longer fresh s drive
+      → IsGoing clocks setup book v passed k p longer fresh s drive
   going_same p longer fresh s drive g = record {
     place = subst (λ ls. IsAt (clock_after setup.segments (history_of setup ls).seen) p longer fresh) e g.place;
     does = does_same s drive g.does;

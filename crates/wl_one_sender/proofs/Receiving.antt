@@ -1,5 +1,5 @@
--- A node that receives, from its power-up on a silent line to its acknowledgement.
-use Rattle.std.proofs.Common.{◌≡◌, ◌∙◌, ◌⊎◌, inl, inr, refl, sym, ap, subst, ℕ, zero, suc, ◌+◌, ◌-◌, ◌*◌, ◌<◌, ◌≤◌, List, [], ◌∷◌, ◌++◌, length, take, false, cond, None, arith, append-nil, append_assoc, length-append}
+-- A node that receives, from a start of frame that it awaits to its acknowledgement.
+use Rattle.std.proofs.Common.{◌≡◌, ◌∙◌, ◌⊎◌, inl, inr, refl, sym, ap, subst, ℕ, zero, suc, ◌+◌, ◌-◌, ◌*◌, ◌<◌, ◌≤◌, List, [], ◌∷◌, ◌++◌, length, take, true, false, cond, None, arith, append-nil, append_assoc, length-append}
 use Rattle.std.specs.Prelude.{◌==◌}
 use Rattle.std.proofs.Math.Nat.{mul-le-mul_left, mul-le-mul_right}
 use Rattle.std.proofs.lemmas.Bool.{cases_lt, ne_eqb}
@@ -14,7 +14,7 @@ use Rattle.wl_segments.specs.Lengths.{Lengths, sample_at, bit_quanta}
 use Rattle.wl_sync.specs.declared.Beat.{Beat}
 use Rattle.wl_sync.specs.declared.Beat.TheVariants.{Plain, Sample, Start}
 use Rattle.wl_sync.specs.Edges.{Seen}
-use Rattle.wl_sync.specs.Bits.{beat_of}
+use Rattle.wl_sync.specs.Bits.{beat_of, sync_of}
 use Rattle.wl_sync.specs.Skips.{moved_place}
 use Rattle.wl_sync.specs.Steps.{end_of, running_first, running_on, running_sync}
 use Rattle.wl_confine.specs.declared.Happened.TheVariants.{Nothing}
@@ -22,26 +22,24 @@ use Rattle.wl_frame.specs.Stuffing.{Stuffs}
 use Rattle.wl_frame.specs.Grammar.{Content, IsContent, bits_of}
 use Rattle.wl_frame.specs.Laws.{up_to_ack}
 use Rattle.wl_machine.specs.Stretch.{Stretch, begins}
-use Rattle.wl_machine.specs.Stretch.Sort.{Idle, Framing}
-use Rattle.wl_machine.specs.Quiet.{idle_on}
-use Rattle.wl_machine.specs.Judged.{judged, awaits_start}
+use Rattle.wl_machine.specs.Stretch.Sort.{Framing}
+use Rattle.wl_machine.specs.Judged.{judged, awaits_start, drive_of}
 use Rattle.wl_machine.specs.States.{stretch_by}
 use Rattle.wl_node.specs.declared.setup.NodeSetup.{NodeSetup}
-use Rattle.wl_node.specs.History.{ready_head}
+use Rattle.wl_node.specs.declared.setup.Passed.{Passed}
 use Rattle.wl_phase.specs.Clocks.{Steady, IsSteady, Finds, steady_tick}
 use Rattle.wl_phase.specs.Ways.{ByTheBook, WayLaws}
-use Rattle.wl_phase.specs.InStep.{Sender, Listener, Listens, IsListening, FindsTheFirst, SyncsHard, ClocksAreNear, SamplesBit, arrival, seen_before, sampled_by, samples_from, bit_parts, quantum_parts, tick_parts, quantum_instant}
+use Rattle.wl_phase.specs.InStep.{Sender, Listener, Listens, IsListening, ClocksAreNear, SamplesBit, arrival, seen_before, sampled_by, samples_from, bit_parts, quantum_parts, tick_parts, quantum_instant}
 use Rattle.wl_phase.proofs.Callers.{answer_not, bit_next, none_is, quantum_more, sync_is, unarrived_low, unarrived_from, zero_is}
 use Rattle.wl_one_sender.proofs.Frames as frames
 use Rattle.wl_one_sender.proofs.Frames.{FrameGoes}
-use Rattle.wl_one_sender.proofs.Gliding.{IsAt}
-use Rattle.wl_one_sender.proofs.Nodes.{ClockGoes, Does, Takes, node, clock_at, sees_at, beat_at, seen_are, valid_at, clock_next, does_plain, does_start, does_sample}
-use Rattle.wl_one_sender.proofs.Silence.{given, takes_on, takes_new, silent_at, idle_at}
+use Rattle.wl_one_sender.proofs.Gliding.{IsAt, syncs_hard}
+use Rattle.wl_one_sender.proofs.Nodes.{ClockGoes, IsGoing, Does, Takes, node, clock_at, sees_at, beat_at, seen_are, valid_at, clock_next, does_plain, does_start, does_sample}
+use Rattle.wl_one_sender.proofs.Silence.{AwaitsFrame, given, head_none, takes_on, takes_new}
 
 -- the laws of the crate below, of listeners
 pub record ListenGoes : Type 0 where
   pub ways : WayLaws
-  pub first : (l : Lengths) (seen : ℕ → Seen) (found : ℕ) → ByTheBook l → FindsTheFirst seen found → SyncsHard l seen found
   pub samples : (s : Sender) (j : Listener) (seen : ℕ → Seen) (found : ℕ) → IsSteady s.clock → IsSteady j.clock → ByTheBook j.lengths → ClocksAreNear s j
       → Listens s j seen found → (x y rest : List Level) → Stuffs y x → s.bits ++ rest ≡ up_to_ack y
       → (b : ℕ) → b < length s.bits → (k : ℕ) × SamplesBit s j seen found b k
@@ -78,9 +76,47 @@ cases_beat Plain = inl refl
 cases_beat Start = inr (inl refl)
 cases_beat (Sample v) = inr (inr (v, refl))
 
+-- the rest of a bit that was sampled is PHASE_SEG2
+module _ (clocks : ClockGoes) (setup : NodeSetup) (book : ByTheBook setup.segments) (levels : ℕ → Level) (ways : WayLaws) where
+  pub sampled_level : (k : ℕ) (v : Level) → beat_at clocks setup book levels k ≡ Sample v → levels k ≡ v
+  sampled_level k v e =
+      let past = (node clocks setup book levels k).seen in
+      let x = sees_at clocks setup book levels k in
+      let o = ways.only setup.segments past (sees_at clocks setup book levels k) v book e in
+      one_level (levels k) v (sym (ways.sample setup.segments past (sees_at clocks setup book levels k) book o.0 o.1) ∙ e)
+
+  pub sampled_place : (k : ℕ) (v : Level) → beat_at clocks setup book levels k ≡ Sample v
+      → (longer : ℕ) × IsAt (clock_at clocks setup book levels (suc k)) (suc (sample_at setup.segments)) longer false
+  sampled_place k value beat =
+      let past = (node clocks setup book levels k).seen in
+      let x = sees_at clocks setup book levels k in
+      let o = ways.only setup.segments past (sees_at clocks setup book levels k) value book beat in
+      let r = clock_at clocks setup book levels k in
+      let v = valid_at clocks setup book levels k in
+      let sync : running_sync r (sees_at clocks setup book levels k) ≡ false =
+      answer_not r (sees_at clocks setup book levels k) v (sym (sync_is clocks.goes setup.segments book past (sees_at clocks setup book levels k)) ∙ o.0) in
+      let here : r.quanta ≡ moved_place r = zero_is r v o.1 in
+      let shorter : r.shorter ≡ 0 = v.unshortened (omega arith) in
+      let low = book.lengths.ps2_low in
+      let begun = v.begun in
+      let after : clock_at clocks setup book levels (suc k) ≡ running_on r (levels k) =
+      clock_next clocks setup book levels k ∙ none_is r (sees_at clocks setup book levels k) book.book sync
+      ∙ ap (λ b. cond b (running_first r (levels k)) (running_on r (levels k))) (ne_eqb r.quanta (end_of r) (λ e. omega arith)) in (
+        r.longer,
+        subst (λ t. IsAt t (suc (sample_at setup.segments)) r.longer false) (sym after) (record {
+          quanta = omega arith;
+          longer_is = refl;
+          shorter = shorter;
+          nominal = λ few. absurd (omega arith);
+          low = omega arith;
+          high = omega arith;
+          unsynced = λ e. cc;
+        }),
+      )
+
 module _ (clocks : ClockGoes) (goes : FrameGoes) (setup : NodeSetup) (book : ByTheBook setup.segments) (levels : ℕ → Level)
     (head : Content) (c : IsContent head) (y : List Level) (is : Stuffs y (bits_of head)) (laws : ListenGoes)
-    (sender_clock : Steady) (sender_bit from : ℕ) (clock : Steady) (delay : ℕ) where
+    (sender_clock : Steady) (sender_bit from : ℕ) (clock : Steady) (delay : ℕ) (passed : List Passed) where
   abbrev S : ℕ
   S = sample_at setup.segments
 
@@ -99,8 +135,8 @@ module _ (clocks : ClockGoes) (goes : FrameGoes) (setup : NodeSetup) (book : ByT
   abbrev pub j : Listener
   j = record { clock = clock; lengths = setup.segments; delay = delay }
 
-  abbrev Doing : (k : ℕ) (t : Stretch) (drive : Level) → Type 0
-  Doing = Does clocks setup book levels
+  abbrev pub Doing : (k : ℕ) (t : Stretch) (drive : Level) → Type 0
+  Doing = Does clocks setup book levels passed
 
   abbrev pub seen : ℕ → Seen
   seen = sees_at clocks setup book levels
@@ -109,16 +145,22 @@ module _ (clocks : ClockGoes) (goes : FrameGoes) (setup : NodeSetup) (book : ByT
   abbrev pub Heard : ℕ → Stretch
   Heard n = stretch_by (Framing None) (frames.own goes head c y is n)
 
-  -- It has no frame of its own, and hears the sender alone.
+  -- It awaits a start of frame on a silent line, has no frame of its own, and hears the sender alone.
   pub record HearsSender (found : ℕ) : Type 0 where
     pub sender : IsSteady sender_clock
     pub listener : IsSteady clock
     pub near : ClocksAreNear s j
-    pub none : (k : ℕ) → ready_head setup.queue k ≡ None
-    pub silent : (k : ℕ) → k < found → levels k ≡ Recessive
+    pub none : setup.queue ≡ []
+    pub p : ℕ
+    pub stretch : Stretch
+    pub going : IsGoing clocks setup book levels passed found p 0 true stretch Recessive
+    pub drives : drive_of stretch ≡ Recessive
+    pub awaits : AwaitsFrame stretch
+    pub sample : (clock_at clocks setup book levels found).sample ≡ Recessive
+    pub later : 0 < found
+    pub level : (clock_at clocks setup book levels found).level ≡ Recessive
     pub heard : (k b : ℕ) → b ≤ last → arrival s j b ≤ steady_tick clock k → steady_tick clock k < arrival s j (suc b) → levels k ≡ at line b
     pub finds : Finds clock found (arrival s j 0)
-    pub idle : 10 * B + S < found
 
   module _ (found : ℕ) (hears : HearsSender found) where
     bits_length : length s.bits ≡ suc last
@@ -143,7 +185,7 @@ module _ (clocks : ClockGoes) (goes : FrameGoes) (setup : NodeSetup) (book : ByT
     found_lasts =
         let ds = hears.sender.divides in
         let dj = hears.listener.divides in
-        let idle = hears.idle in
+        let later = hears.later in
         let low = unarrived_low s j ds dj 0 (found - 1) (hears.finds.unseen (found - 1) (omega arith)) in
         let one : found - 1 + 1 ≡ found = omega arith in
         let more : quantum_instant s j found ≡ quantum_instant s j (found - 1) + 1 * quantum_parts s j =
@@ -157,39 +199,33 @@ module _ (clocks : ClockGoes) (goes : FrameGoes) (setup : NodeSetup) (book : ByT
         hears.heard found 0 (omega arith) hears.finds.seen found_lasts
         ∙ frames.line_front goes head c y is 0 (frames.some_bits goes head c y is) ∙ frames.begins_dominant goes head c y is
 
-    idle_then : (own : List Level) × Doing found (stretch_by Idle own) Recessive
-    idle_then = idle_at clocks setup book levels found hears.silent (λ n many less. hears.none (n * B + S)) found (omega arith) hears.idle
-
     -- what it is at, with so many bits
     abbrev IsReceiving : (k n : ℕ) → Type 0
-    IsReceiving k n = ((n ≡ 0) × (own : List Level) × Doing k (stretch_by Idle own) Recessive) ⊎ ((0 < n) × Doing k (Heard n) Recessive)
+    IsReceiving k n = ((n ≡ 0) × Doing k hears.stretch Recessive) ⊎ ((0 < n) × Doing k (Heard n) Recessive)
 
     stays : (k n : ℕ) → n ≤ last → ((beat_at clocks setup book levels k ≡ Plain) ⊎ (beat_at clocks setup book levels k ≡ Start)) → IsReceiving k n → IsReceiving (suc k) n
-    stays k n few (inl e) (inl g) = inl (g.0, g.1, does_plain clocks setup book levels k (stretch_by Idle g.1) Recessive e g.2)
+    stays k n few (inl e) (inl g) = inl (g.0, does_plain clocks setup book levels k hears.stretch Recessive e g.1)
     stays k n few (inl e) (inr g) = inr (g.0, does_plain clocks setup book levels k (Heard n) Recessive e g.1)
-    stays k n few (inr e) (inl g) = inl (g.0, g.1, does_start clocks setup book levels k (stretch_by Idle g.1) Recessive e g.2)
+    stays k n few (inr e) (inl g) = inl (g.0, subst (λ v. Doing (suc k) hears.stretch v) hears.drives (does_start clocks setup book levels k hears.stretch Recessive e g.1))
     stays k n few (inr e) (inr g) =
         inr (g.0, subst (λ v. Doing (suc k) (Heard n) v) (frames.receiver_is_silent goes head c y is n few) (does_start clocks setup book levels k (Heard n) Recessive e g.1))
 
     level_is : (k : ℕ) (v : Level) → beat_at clocks setup book levels k ≡ Sample v → levels k ≡ v
-    level_is k v e =
-        let past = (node clocks setup book levels k).seen in
-        let o = laws.ways.only setup.segments past (seen k) v book e in
-        one_level (levels k) v (sym (laws.ways.sample setup.segments past (seen k) book o.0 o.1) ∙ e)
+    level_is = sampled_level clocks setup book levels laws.ways
 
     samples : (k n : ℕ) (v : Level) → n ≤ last → beat_at clocks setup book levels k ≡ Sample v → v ≡ at line n → IsReceiving k n → Doing (suc k) (Heard (suc n)) Recessive
     samples k n v few e is_bit (inl g) =
         let zero_is : n ≡ 0 = g.0 in
         let now : levels k ≡ Dominant = level_is k v e ∙ is_bit ∙ ap (at line) zero_is ∙ frames.line_front goes head c y is 0 (frames.some_bits goes head c y is) ∙ frames.begins_dominant goes head c y is in
-        let new : judged (stretch_by Idle g.1) (given clocks setup book levels k) ≡ begins Nothing (Framing None) (Dominant ∷ []) =
-        ap (λ l. cond (is_dominant l) (begins Nothing (Framing None) (l ∷ [])) (idle_on (given clocks setup book levels k).head)) now in
+        let new : judged hears.stretch (given clocks setup book levels k) ≡ begins Nothing (Framing None) (Dominant ∷ []) =
+        hears.awaits.takes (given clocks setup book levels k) now (head_none clocks setup book levels k hears.none) in
         let own : Heard (suc n) ≡ stretch_by (Framing None) (Dominant ∷ []) =
         ap (λ i. Heard (suc i)) zero_is
         ∙ ap (stretch_by (Framing None)) (frames.own_more goes head c y is 0 (omega arith)
         ∙ ap (λ l. l ∷ []) (frames.line_front goes head c y is 0 (frames.some_bits goes head c y is) ∙ frames.begins_dominant goes head c y is)) in
         subst (λ t. Doing (suc k) t Recessive) (sym own)
-        (does_sample clocks setup book levels k (stretch_by Idle g.1) (stretch_by (Framing None) (Dominant ∷ [])) Recessive v e g.2
-        (takes_new clocks setup book levels k (stretch_by Idle g.1) (stretch_by (Framing None) (Dominant ∷ [])) new))
+        (does_sample clocks setup book levels k hears.stretch (stretch_by (Framing None) (Dominant ∷ [])) Recessive v e g.1
+        (takes_new clocks setup book levels k hears.stretch (stretch_by (Framing None) (Dominant ∷ [])) new))
     samples k n v few e is_bit (inr g) =
         let now : levels k ≡ at line n = level_is k v e ∙ is_bit in
         does_sample clocks setup book levels k (Heard n) (Heard (suc n)) Recessive v e g.1
@@ -224,7 +260,7 @@ module _ (clocks : ClockGoes) (goes : FrameGoes) (setup : NodeSetup) (book : ByT
     receiving zero n few e =
         let none : n ≡ 0 = sym (taken_length n few) ∙ ap length (sym e) in
         let place : found ≡ found + 0 = omega arith in
-        inl (none, idle_then.0, subst (λ k. Doing k (stretch_by Idle idle_then.0) Recessive) place idle_then.1)
+        inl (none, subst (λ k. Doing k hears.stretch Recessive) place hears.going.does)
     receiving (suc i) n few e =
         let k = found + i in
         let place : suc (found + i) ≡ found + suc i = omega arith in
@@ -266,13 +302,13 @@ module _ (clocks : ClockGoes) (goes : FrameGoes) (setup : NodeSetup) (book : ByT
     listens = record {
       level = λ k b n on less begun lasts. hears.heard k b (let e = bits_length in omega arith) begun lasts ∙ sym (bits_at b (let e = bits_length in omega arith));
       finds = hears.finds;
-      later = (let idle = hears.idle in omega arith);
-      hard = laws.first setup.segments seen found book (record {
-        silent = hears.silent;
-        edge = first_level;
-        awaits = ap awaits_start idle_then.1.stretch;
-        driving = ap is_dominant idle_then.1.drives;
-      });
+      later = hears.later;
+      hard =
+          ap (λ v. sync_of setup.segments v (seen found)) (sym (seen_are clocks setup book levels found))
+          ∙ sync_is clocks.goes setup.segments book (node clocks setup book levels found).seen (seen found)
+          ∙ syncs_hard (clock_at clocks setup book levels found) (seen found) book.book (valid_at clocks setup book levels found).begun first_level
+          (ap awaits_start hears.going.does.stretch ∙ hears.awaits.awaits) (ap is_dominant hears.going.does.drives) hears.level hears.sample
+          (hears.going.place.unsynced refl);
       awaits = λ k n on some. (let more = on.more in
           ap awaits_start (listening k n on some).stretch
           ∙ ap (λ i. i == 0) (frames.own_length goes head c y is n (let e = bits_length in omega arith)) ∙ ne_eqb n 0 (λ e. omega arith));
@@ -310,21 +346,18 @@ module _ (clocks : ClockGoes) (goes : FrameGoes) (setup : NodeSetup) (book : ByT
         )
 
     -- up to then it drives recessive
-    pub silent_up_to : (k : ℕ) → SamplesBit s j seen found last k → (i : ℕ) → i ≤ k → (node clocks setup book levels i).drive ≡ Recessive
-    silent_up_to k sampled i h = elim (cases_lt i found) [
-      | inl early ↦ (silent_at clocks setup book levels found hears.silent (λ n many less. hears.none (n * B + S)) i (omega arith)).going.does.drives
-      | inr late ↦
-          (let place = sampled.place in
-          let all : samples_from setup.segments seen found ((i - found) + (k - i)) ≡ take last s.bits =
-          ap (samples_from setup.segments seen found) (let e : (i - found) + (k - i) ≡ sampled.quanta = omega arith in e) ∙ sampled.before in
-          let front = front_samples (i - found) (k - i) all in
-          let here : found + (i - found) ≡ i = omega arith in
-          drive_of_it (subst (λ q. IsReceiving q front.0) here (receiving (i - found) front.0 front.1 front.2)))
-    ]
+    pub silent_up_to : (k : ℕ) → SamplesBit s j seen found last k → (i : ℕ) → found ≤ i → i ≤ k → (t : Stretch) × Doing i t Recessive
+    silent_up_to k sampled i late h =
+        let place = sampled.place in
+        let all : samples_from setup.segments seen found ((i - found) + (k - i)) ≡ take last s.bits =
+        ap (samples_from setup.segments seen found) (let e : (i - found) + (k - i) ≡ sampled.quanta = omega arith in e) ∙ sampled.before in
+        let front = front_samples (i - found) (k - i) all in
+        let here : found + (i - found) ≡ i = omega arith in
+        drive_of_it (subst (λ q. IsReceiving q front.0) here (receiving (i - found) front.0 front.1 front.2))
       where
-        drive_of_it : {n : ℕ} → IsReceiving i n → (node clocks setup book levels i).drive ≡ Recessive
-        drive_of_it (inl g) = g.2.drives
-        drive_of_it (inr g) = g.1.drives
+        drive_of_it : {n : ℕ} → IsReceiving i n → (t : Stretch) × Doing i t Recessive
+        drive_of_it (inl g) = (hears.stretch, g.1)
+        drive_of_it {n = n} (inr g) = (Heard n, g.1)
 
     -- it has sampled the CRC delimiter
     pub delimiter_by : (k : ℕ) → SamplesBit s j seen found last k → Doing (suc k) (Heard (suc last)) Recessive
@@ -336,28 +369,4 @@ module _ (clocks : ClockGoes) (goes : FrameGoes) (setup : NodeSetup) (book : ByT
 
     -- and the rest of that bit is PHASE_SEG2
     pub delimiter_place : (k : ℕ) → SamplesBit s j seen found last k → (longer : ℕ) × IsAt (clock_at clocks setup book levels (suc k)) (suc S) longer false
-    delimiter_place k sampled =
-        let past = (node clocks setup book levels k).seen in
-        let beat : beat_at clocks setup book levels k ≡ Sample (at s.bits last) = sym (beat_same k) ∙ sampled.level in
-        let o = laws.ways.only setup.segments past (seen k) (at s.bits last) book beat in
-        let r = clock_at clocks setup book levels k in
-        let v = valid_at clocks setup book levels k in
-        let sync : running_sync r (seen k) ≡ false = answer_not r (seen k) v (sym (sync_is clocks.goes setup.segments book past (seen k)) ∙ o.0) in
-        let here : r.quanta ≡ moved_place r = zero_is r v o.1 in
-        let shorter : r.shorter ≡ 0 = v.unshortened (omega arith) in
-        let low = book.lengths.ps2_low in
-        let begun = v.begun in
-        let after : clock_at clocks setup book levels (suc k) ≡ running_on r (levels k) =
-        clock_next clocks setup book levels k ∙ none_is r (seen k) book.book sync
-        ∙ ap (λ b. cond b (running_first r (levels k)) (running_on r (levels k))) (ne_eqb r.quanta (end_of r) (λ e. omega arith)) in (
-          r.longer,
-          subst (λ t. IsAt t (suc S) r.longer false) (sym after) (record {
-            quanta = omega arith;
-            longer_is = refl;
-            shorter = shorter;
-            nominal = λ few. absurd (omega arith);
-            low = omega arith;
-            high = omega arith;
-            unsynced = λ e. cc;
-          }),
-        )
+    delimiter_place k sampled = sampled_place clocks setup book levels laws.ways k (at s.bits last) (sym (beat_same k) ∙ sampled.level)

@@ -21,6 +21,7 @@ use Rattle.wl_machine.specs.Quiet.{idle_on}
 use Rattle.wl_machine.specs.Judged.{judged, drive_of}
 use Rattle.wl_machine.specs.States.{stretch_by}
 use Rattle.wl_node.specs.declared.setup.NodeSetup.{NodeSetup}
+use Rattle.wl_node.specs.declared.setup.Passed.{Passed}
 use Rattle.wl_node.specs.History.{ready_head}
 use Rattle.wl_phase.specs.Ways.{ByTheBook}
 use Rattle.wl_phase.proofs.Callers.{cases_level, now_recessive, before_dominant}
@@ -33,35 +34,8 @@ use Rattle.wl_one_sender.proofs.Silence.{IsSilentAt, integrated, idles, given, t
 abbrev pub fresh_of : Level → Bool
 fresh_of v = not (is_dominant v)
 
--- two ways to count quanta by bits
-same_count : (B S m c p : ℕ) → S < B → 1 ≤ S → 1 ≤ p → p ≤ B → (p ≤ S → m * B + S ≡ c * B + p) → (S < p → m * B + S + B ≡ c * B + p) → (c ≡ m) × (p ≡ S)
-same_count B S m c p less some low high early late = elim (cases_order c m) [
-  | inl e ↦
-      (let f : c * B ≡ m * B = ap (λ n. n * B) e in
-      elim (cases_lt S p) [
-        | inl after ↦ (let g = late after in absurd (omega arith))
-        | inr up_to ↦ (let g = early up_to in (e, omega arith))
-      ])
-  | inr o ↦ elim o [
-    | inl fewer ↦
-        (let f : suc c * B ≤ m * B = mul-le-mul_right B fewer in
-        let g : suc c * B ≡ c * B + B = omega arith in
-        elim (cases_lt S p) [
-          | inl after ↦ (let h = late after in absurd (omega arith))
-          | inr up_to ↦ (let h = early up_to in absurd (omega arith))
-        ])
-    | inr more ↦
-        (let f : suc m * B ≤ c * B = mul-le-mul_right B more in
-        let g : suc m * B ≡ m * B + B = omega arith in
-        elim (cases_lt S p) [
-          | inl after ↦ (let h = late after in absurd (omega arith))
-          | inr up_to ↦ (let h = early up_to in absurd (omega arith))
-        ])
-  ]
-]
-
 module _ (clocks : ClockGoes) (goes : FrameGoes) (setup : NodeSetup) (book : ByTheBook setup.segments) (levels : ℕ → Level)
-    (head : Content) (c : IsContent head) (y : List Level) (is : Stuffs y (bits_of head)) (m : ℕ) where
+    (head : Content) (c : IsContent head) (y : List Level) (is : Stuffs y (bits_of head)) (from : ℕ) (passed : List Passed) where
   abbrev l : Lengths
   l = setup.segments
 
@@ -79,87 +53,25 @@ module _ (clocks : ClockGoes) (goes : FrameGoes) (setup : NodeSetup) (book : ByT
 
   -- the quantum with which bit b begins
   abbrev pub base : ℕ → ℕ
-  base b = suc m * B + b * B
+  base b = from + b * B
 
   abbrev pub Frame : ℕ → Stretch
   Frame n = stretch_by (Framing (Some head)) (frames.own goes head c y is n)
 
-  abbrev Going : (k p longer : ℕ) (fresh : Bool) (s : Stretch) (drive : Level) → Type 0
-  Going = IsGoing clocks setup book levels
-
-  -- it begins this frame after bit m, as soon as it is ready and the bus is idle
-  pub record Begins : Type 0 where
-    pub idle : 10 ≤ m
-    pub ready : ready_head setup.queue (m * B + S) ≡ Some head
-    pub unready : (n : ℕ) → 10 ≤ n → n < m → ready_head setup.queue (n * B + S) ≡ None
+  abbrev pub Going : (k p longer : ℕ) (fresh : Bool) (s : Stretch) (drive : Level) → Type 0
+  Going = IsGoing clocks setup book levels passed
 
   -- it finds its own bits, each by the sample, and before that the bit before
   pub record HearsItself : Type 0 where
-    pub silent : (k : ℕ) → k ≤ suc m * B → levels k ≡ Recessive
+    pub silent : levels from ≡ Recessive
     pub settled : (b p : ℕ) → b ≤ last → S ≤ p → p ≤ B → levels (base b + p) ≡ at line b
     pub early : (b p : ℕ) → b ≤ last → p < S → (levels (base b + p) ≡ at line b) ⊎ ((q : ℕ) → q ≤ p → levels (base b + q) ≡ before line b)
 
-  module _ (begun : Begins) (hears : HearsItself) where
-    last_sample : ℕ
-    last_sample = m * B + S
-
-    next_bit : suc m * B ≡ m * B + B
-    next_bit = omega arith
-
-    unready_at : (n : ℕ) → 10 ≤ n → n * B + S < m * B + S → ready_head setup.queue (n * B + S) ≡ None
-    unready_at n many less = begun.unready n many (lt_of_mul-lt-mul_right B (let f : n * B < m * B = omega arith in f))
-
-    silent_node : (k : ℕ) → k ≤ m * B + S → IsSilentAt clocks setup book levels k
-    silent_node k h =
-        silent_at clocks setup book levels (m * B + S) (λ i less. hears.silent i (let e = next_bit in let low = book.lengths.ps2_low in omega arith)) unready_at k h
-
-    -- the sample at which it decides to send
-    decides : Going (suc (m * B + S)) (suc S) 0 true (Frame 0) Recessive
-    decides =
-        let a = silent_node (m * B + S) (omega arith) in
-        let low = book.lengths.ps2_low in
-        let p = same_count B S m a.count a.p (omega arith) (omega arith) a.low a.high a.early a.late in
-        let now : levels (m * B + S) ≡ Recessive = hears.silent (m * B + S) (let e = next_bit in omega arith) in
-        let head_here = head_is clocks setup book levels (m * B + S) a.stretch Recessive a.going.does now ∙ begun.ready in
-        at_place clocks setup book levels (suc (m * B + S)) (suc (m * B + S)) (suc a.p) (suc S) 0 true (Frame 0) Recessive refl (ap suc p.1)
-        (step_sample clocks setup book levels (m * B + S) a.p 0 true a.stretch Recessive a.going (Frame 0)
-        (unmoved_recessive clocks setup book levels (m * B + S) a.p true now) p.1
-        (takes_new clocks setup book levels (m * B + S) a.stretch (Frame 0) (makes a p.0 now head_here)))
-      where
-        makes : (a : IsSilentAt clocks setup book levels (m * B + S)) → a.count ≡ m → levels (m * B + S) ≡ Recessive
-            → (given clocks setup book levels (m * B + S)).head ≡ Some head
-            → judged a.stretch (given clocks setup book levels (m * B + S)) ≡ begins Nothing (Framing (Some head)) []
-        makes a count now head_here = elim (cases_eq m 10) [
-          | inl ten ↦
-              ap (λ v. judged v (given clocks setup book levels (m * B + S)))
-              (a.waiting.integrating (omega arith) ∙ ap (λ n. stretch_by Integration (replicate n Recessive)) (count ∙ ten))
-              ∙ integrated (given clocks setup book levels (m * B + S)) now ∙ ap (λ h. begins Nothing (free h) []) head_here
-          | inr more ↦
-              (let many = begun.idle in
-              let w = a.waiting.idle (omega arith) in
-              ap (λ v. judged v (given clocks setup book levels (m * B + S))) w.1
-              ∙ idles w.0 (given clocks setup book levels (m * B + S)) now ∙ ap idle_on head_here)
-        ]
-
-    waits : (p : ℕ) → S < p → p ≤ B → Going (m * B + p) p 0 true (Frame 0) Recessive
-    waits p low high =
-        at_place clocks setup book levels (suc (m * B + S) + (p - suc S)) (m * B + p) (suc S + (p - suc S)) p 0 true (Frame 0) Recessive (omega arith) (omega arith)
-        (glide clocks setup book levels (p - suc S) (suc (m * B + S)) (suc S) 0 true (Frame 0) Recessive (omega arith) (inl (omega arith))
-        (λ i less e. unmoved_recessive clocks setup book levels (suc (m * B + S) + i) (suc S + i) true (hears.silent (suc (m * B + S) + i) (let f = next_bit in omega arith)))
-        decides)
-
-    -- before its frame it drives recessive
-    pub idle_drive : (k : ℕ) → k ≤ suc m * B → (node clocks setup book levels k).drive ≡ Recessive
-    idle_drive k h = elim (cases_lt (m * B + S) k) [
-      | inl past ↦
-          (let e = next_bit in
-          let f : m * B + (k - m * B) ≡ k = omega arith in
-          subst (λ i. (node clocks setup book levels i).drive ≡ Recessive) f (waits (k - m * B) (omega arith) (omega arith)).does.drives)
-      | inr up_to ↦ (silent_node k up_to).going.does.drives
-    ]
-
+  module _ (begun : Going from B 0 true (Frame 0) Recessive) (hears : HearsItself) where
     quiet : (b : ℕ) → b ≤ suc last → running_sync (clock_at clocks setup book levels (base b)) (sees_at clocks setup book levels (base b)) ≡ false
-    quiet zero h = now_recessive (clock_at clocks setup book levels (base 0)) (sees_at clocks setup book levels (base 0)) (hears.silent (base 0) (omega arith))
+    quiet zero h =
+        let here : from ≡ base 0 = omega arith in
+        now_recessive (clock_at clocks setup book levels (base 0)) (sees_at clocks setup book levels (base 0)) (ap levels (sym here) ∙ hears.silent)
     quiet (suc b) h =
         let low = book.lengths.ps2_low in
         let here : base b + B ≡ base (suc b) = omega arith in
@@ -212,7 +124,7 @@ module _ (clocks : ClockGoes) (goes : FrameGoes) (setup : NodeSetup) (book : ByT
         (takes_on clocks setup book levels (base b + S) (Frame b) (frames.sender_goes_on goes head c y is b (given clocks setup book levels (base b + S)) (omega arith) now))
 
     -- each bit up to the CRC delimiter
-    pub bit : (b : ℕ) → b ≤ last → Going (base b) B 0 (fresh_of (before y b)) (Frame b) (before y b) → IsBit clocks setup book levels (base b) (fresh_of (at y b)) (Frame b) (Frame (suc b))
+    pub bit : (b : ℕ) → b ≤ last → Going (base b) B 0 (fresh_of (before y b)) (Frame b) (before y b) → IsBit clocks setup book levels passed (base b) (fresh_of (at y b)) (Frame b) (Frame (suc b))
     bit b h g =
         whole_bit clocks setup book levels (base b) 0 (fresh_of (before y b)) (fresh_of (at y b)) (Frame b) (before y b) g (quiet b (omega arith)) (Frame (suc b))
         (λ p low high drive. moved_by_none b p h low high (drive ∙ frames.sender_drives goes head c y is b (omega arith))) (takes b h)
@@ -220,14 +132,14 @@ module _ (clocks : ClockGoes) (goes : FrameGoes) (setup : NodeSetup) (book : ByT
     pub begins_bit : (b : ℕ) → b ≤ suc last → Going (base b) B 0 (fresh_of (before y b)) (Frame b) (before y b)
     begins_bit zero h =
         let low = book.lengths.ps2_low in
-        at_place clocks setup book levels (m * B + B) (base 0) B B 0 true (Frame 0) Recessive (omega arith) refl (waits B (omega arith) (omega arith))
+        at_place clocks setup book levels from (base 0) B B 0 true (Frame 0) Recessive (omega arith) refl begun
     begins_bit (suc b) h =
         let low = book.lengths.ps2_low in
         at_place clocks setup book levels (base b + B) (base (suc b)) B B 0 (fresh_of (at y b)) (Frame (suc b)) (at y b) (omega arith) refl
         (subst (λ v. Going (base b + B) B 0 (fresh_of (at y b)) (Frame (suc b)) v) (frames.sender_drives goes head c y is b (omega arith))
         ((bit b (omega arith) (begins_bit b (omega arith))).after B (omega arith) (omega arith)))
 
-    pub each_bit : (b : ℕ) → b ≤ last → IsBit clocks setup book levels (base b) (fresh_of (at y b)) (Frame b) (Frame (suc b))
+    pub each_bit : (b : ℕ) → b ≤ last → IsBit clocks setup book levels passed (base b) (fresh_of (at y b)) (Frame b) (Frame (suc b))
     each_bit b h = bit b h (begins_bit b (omega arith))
 
     -- what it drives in its bits

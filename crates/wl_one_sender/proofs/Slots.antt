@@ -14,17 +14,18 @@ use Rattle.wl_machine.specs.Stretch.Sort.{Framing}
 use Rattle.wl_machine.specs.Judged.{drive_of}
 use Rattle.wl_machine.specs.States.{stretch_by}
 use Rattle.wl_node.specs.declared.setup.NodeSetup.{NodeSetup}
+use Rattle.wl_node.specs.declared.setup.Passed.{Passed}
 use Rattle.wl_phase.specs.Ways.{ByTheBook, WayLaws}
 use Rattle.wl_phase.specs.InStep.{seen_before, sampled_by, samples_from}
 use Rattle.wl_phase.specs.Answer.{SamplesNext}
 use Rattle.wl_one_sender.proofs.Frames as frames
 use Rattle.wl_one_sender.proofs.Frames.{FrameGoes}
 use Rattle.wl_one_sender.proofs.Nodes.{ClockGoes, Does, Takes, node, beat_at, sees_at, seen_are, does_plain, does_start, does_sample}
-use Rattle.wl_one_sender.proofs.Receiving.{cases_beat, one_level}
+use Rattle.wl_one_sender.proofs.Receiving.{cases_beat, sampled_level}
 use Rattle.wl_one_sender.proofs.Silence.{given, takes_on}
 
 module _ (clocks : ClockGoes) (goes : FrameGoes) (setup : NodeSetup) (book : ByTheBook setup.segments) (levels : ℕ → Level)
-    (head : Content) (c : IsContent head) (y : List Level) (is : Stuffs y (bits_of head)) (ways : WayLaws) where
+    (head : Content) (c : IsContent head) (y : List Level) (is : Stuffs y (bits_of head)) (ways : WayLaws) (passed : List Passed) where
   abbrev last : ℕ
   last = length y
 
@@ -32,7 +33,7 @@ module _ (clocks : ClockGoes) (goes : FrameGoes) (setup : NodeSetup) (book : ByT
   Frame n = stretch_by (Framing (Some head)) (frames.own goes head c y is n)
 
   abbrev Doing : (k : ℕ) (t : Stretch) (drive : Level) → Type 0
-  Doing = Does clocks setup book levels
+  Doing = Does clocks setup book levels passed
 
   abbrev seen : ℕ → Seen
   seen = sees_at clocks setup book levels
@@ -50,7 +51,7 @@ module _ (clocks : ClockGoes) (goes : FrameGoes) (setup : NodeSetup) (book : ByT
       not_empty : (x : Level) (xs : List Level) → x ∷ xs ≡ [] → ⊥
       not_empty x xs e = cc
 
-  none_before : (from n e : ℕ) → samples from (n + e) ≡ [] → samples from n ≡ []
+  pub none_before : (from n e : ℕ) → samples from (n + e) ≡ [] → samples from n ≡ []
   none_before from n zero none = let place : n ≡ n + 0 = omega arith in ap (samples from) place ∙ none
   none_before from n (suc e) none =
       let place : suc (n + e) ≡ n + suc e = omega arith in
@@ -58,7 +59,7 @@ module _ (clocks : ClockGoes) (goes : FrameGoes) (setup : NodeSetup) (book : ByT
 
   -- without a sample a node stays where it is
   module _ (from : ℕ) (s : Stretch) (drives : drive_of s ≡ Recessive) (first : Doing from s Recessive) where
-    stays : (n : ℕ) → samples from n ≡ [] → Doing (from + n) s Recessive
+    pub stays : (n : ℕ) → samples from n ≡ [] → Doing (from + n) s Recessive
     stays zero none = let place : from ≡ from + 0 = omega arith in subst (λ k. Doing k s Recessive) place first
     stays (suc n) none =
         let before = stays n (empty_front (samples from n) (sampled_by (beat_of setup.segments (seen_before seen (from + n)) (seen (from + n)))) none) in
@@ -83,9 +84,7 @@ module _ (clocks : ClockGoes) (goes : FrameGoes) (setup : NodeSetup) (book : ByT
       let before : Doing m (Frame (suc last)) Recessive =
       subst (λ q. Doing q (Frame (suc last)) Recessive) place (stays (suc k) (Frame (suc last)) none first next.quanta next.first) in
       let beat : beat_at clocks setup book levels m ≡ Sample Dominant = sym (beat_same m) ∙ next.beat in
-      let past = (node clocks setup book levels m).seen in
-      let o = ways.only setup.segments past (seen m) Dominant book beat in
-      let now : levels m ≡ Dominant = one_level (levels m) Dominant (sym (ways.sample setup.segments past (seen m) book o.0 o.1) ∙ beat) in
+      let now : levels m ≡ Dominant = sampled_level clocks setup book levels ways m Dominant beat in
       does_sample clocks setup book levels m (Frame (suc last)) (Frame (suc (suc last))) Recessive Dominant beat before
       (subst (λ t. Takes clocks setup book levels m (Frame (suc last)) t)
       (ap (λ l. stretch_by (Framing (Some head)) (frames.own goes head c y is (suc last) ++ l ∷ [])) (now ∙ sym (frames.line_slot goes head c y is))

@@ -1,5 +1,5 @@
 -- A bus with one sender from the power-up of all nodes to the acknowledgement of its first frame.
-use Rattle.std.proofs.Common.{◌≡◌, ◌≢◌, ◌∙◌, ◌⊎◌, inl, inr, refl, sym, ap, subst, ℕ, suc, ◌+◌, ◌-◌, ◌*◌, ◌<◌, ◌≤◌, [], ◌∷◌, ◌++◌, length, Bool, true, false, cond, Some, None, ◌||◌, arith}
+use Rattle.std.proofs.Common.{◌≡◌, ◌≢◌, ◌∙◌, ◌⊎◌, inl, inr, refl, sym, ap, subst, ℕ, suc, ◌+◌, ◌-◌, ◌*◌, ◌<◌, ◌≤◌, List, [], ◌∷◌, ◌++◌, length, Bool, true, false, cond, Some, None, ◌||◌, arith}
 use Rattle.std.specs.Prelude.{◌==◌}
 use Rattle.std.proofs.Math.Nat.{mul-le-mul_left, lt_of_mul-lt-mul_left}
 use Rattle.std.proofs.lemmas.Bool.{cases_lt, cases_eq, eq-eqb, ne_eqb}
@@ -13,8 +13,9 @@ use Rattle.wl_sync.specs.Running.{clock_after}
 use Rattle.wl_frame.specs.Laws.{up_to_ack}
 use Rattle.wl_machine.specs.Judged.{awaits_start, stretch_of}
 use Rattle.wl_machine.specs.States.{stretch_by}
-use Rattle.wl_node.specs.History.{history_of, error_count}
-use Rattle.wl_phase.specs.Clocks.{Finds, instant}
+use Rattle.wl_node.specs.declared.setup.Passed.{Passed}
+use Rattle.wl_node.specs.History.{history_of, error_count, ready_head}
+use Rattle.wl_phase.specs.Clocks.{Finds, instant, steady_tick}
 use Rattle.wl_phase.proofs.Callers.{floor_low, floor_high}
 use Rattle.wl_phase.specs.Answer.{HearsAnswer, answer_begin, own_sample}
 use Rattle.wl_plan.specs.Line.{Line}
@@ -28,8 +29,13 @@ use Rattle.wl_one_sender.proofs.Frames as frames
 use Rattle.wl_one_sender.proofs.Leasts.{least, least_most, least_each, least_from, least_is}
 use Rattle.wl_one_sender.proofs.Nodes.{Does, IsGoing, node, sees_at, seen_are, does_same, going_same}
 use Rattle.wl_one_sender.proofs.Planned as planned
-use Rattle.wl_one_sender.proofs.Planned.{Laws, IsHeard, comes_back}
-use Rattle.wl_one_sender.proofs.Sending as sending
+use Rattle.wl_one_sender.proofs.Planned.{Laws, IsHeard}
+use Rattle.wl_one_sender.proofs.Resting.{Rests, SendsNext}
+use Rattle.wl_one_sender.proofs.Resting.{rests_first}
+use Rattle.wl_one_sender.proofs.Silence.{integrating}
+use Rattle.wl_one_sender.proofs.Speaking as speaking
+use Rattle.wl_one_sender.proofs.Speaking.{comes_back}
+use Rattle.wl_one_sender.proofs.Alone.{sent_before}
 use Rattle.wl_one_sender.proofs.Slots.{slot_sampled}
 
 module _ (laws : Laws) (b : SenderBus) (is : IsBus b) (sends : SendsFirst b) (meets : IsInStepWithAll b) (ends : EndsAfterSlot b) where
@@ -42,17 +48,61 @@ module _ (laws : Laws) (b : SenderBus) (is : IsBus b) (sends : SendsFirst b) (me
   abbrev last : ℕ
   last = length b.stuffed
 
+  abbrev rest : Rests laws.clocks b is 0
+  rest = rests_first laws.clocks b is
+
+  abbrev from : ℕ
+  from = suc b.decides * bit_quanta (lengths_of b b.sender)
+
+  pub first_frame : SendsNext laws.clocks b is 0 (rests_first laws.clocks b is) b.frame b.stuffed (suc b.decides * bit_quanta (lengths_of b b.sender)) b.decides
+  unfolding rests_first integrating
+  first_frame = record {
+    content = sends.content;
+    stuffs = sends.stuffs;
+    decides = record {
+      idle = sends.idle;
+      ready = ap (ready_head (b.setups b.sender).queue) (zero_first (b.decides * bit_quanta (lengths_of b b.sender)) (sample_at (lengths_of b b.sender))) ∙ sends.ready;
+      unready = λ n many less.
+          ap (ready_head (b.setups b.sender).queue) (zero_first (n * bit_quanta (lengths_of b b.sender)) (sample_at (lengths_of b b.sender))) ∙ sends.unready n many less;
+    };
+    from_is = omega arith;
+    alone = sends.alone;
+    spaced = λ j p.
+        (let e = sends.others j p in
+        let none : suc b.decides * bit_quanta (lengths_of b b.sender) + 0 * bit_quanta (lengths_of b b.sender) ≡ suc b.decides * bit_quanta (lengths_of b b.sender) = omega arith in
+        let here = ap (steady_tick (b.clocks b.sender)) none in
+        let ten = ap (steady_tick (b.clocks j)) (zero_first (10 * bit_quanta (lengths_of b j)) (sample_at (lengths_of b j))) in
+        omega arith);
+  }
+    where
+      zero_first : (m n : ℕ) → 0 + m + n ≡ m + n
+      zero_first m n = omega arith
+
   abbrev tick : ℕ → ℕ → ℕ
-  tick i k = planned.tick laws b is sends meets i k
+  tick i k = planned.tick laws b is meets 0 rest b.frame b.stuffed from b.decides first_frame i k
 
   abbrev up : (i : ℕ) → i < l.nodes → (k n : ℕ) → k ≤ n → tick i k ≤ tick i n
-  up = planned.up laws b is sends meets
+  up = planned.up laws b is meets 0 rest b.frame b.stuffed from b.decides first_frame
 
   abbrev Heard : ℕ → Type 0
-  Heard = IsHeard laws b is sends meets
+  Heard = IsHeard laws b is meets 0 rest b.frame b.stuffed from b.decides first_frame
+
+  abbrev begins : ℕ → ℕ
+  begins = planned.begins laws b is meets 0 rest b.frame b.stuffed from b.decides first_frame
+
+  abbrev begins_later : (n k : ℕ) → n ≤ k → begins n ≤ begins k
+  begins_later = speaking.begins_later laws.clocks laws.frame b is meets 0 rest b.frame b.stuffed from b.decides first_frame
+
+  -- all are at rest from the first quantum on
+  starts_first : (i : ℕ) → (inside : i < l.nodes) → ((rests_first laws.clocks b is).node i inside).start ≡ 0
+  unfolding rests_first integrating
+  starts_first i inside = refl
+
+  begun_first : (i : ℕ) → (h : Heard i) → (k : ℕ) → (rest.node i h.listener.0).start ≤ k
+  begun_first i h k = let e = starts_first i h.listener.0 in omega arith
 
   abbrev drove : ℕ → ℕ → Bool
-  drove = planned.drove laws b is sends meets
+  drove = planned.drove laws b is meets 0 rest b.frame b.stuffed from b.decides first_frame
 
   -- when each listener begins its acknowledgement, if no other one moves it
   who : (j : ℕ) → IsListener b j ⊎ (IsListener b j → ⊥)
@@ -62,7 +112,7 @@ module _ (laws : Laws) (b : SenderBus) (is : IsBus b) (sends : SendsFirst b) (me
   ]
 
   begin_by : (j : ℕ) → (IsListener b j ⊎ (IsListener b j → ⊥)) → ℕ
-  begin_by j (inl p) = tick j (planned.answer laws b is sends meets j (planned.heard_by laws b is sends meets j p))
+  begin_by j (inl p) = tick j (planned.answer laws b is meets 0 rest b.frame b.stuffed from b.decides first_frame j (planned.heard_by laws b is meets 0 rest b.frame b.stuffed from b.decides first_frame j p))
   begin_by j (inr n) = l.stop
 
   pub begin : ℕ → ℕ
@@ -70,14 +120,14 @@ module _ (laws : Laws) (b : SenderBus) (is : IsBus b) (sends : SendsFirst b) (me
 
   pub record IsPlanned (j : ℕ) : Type 0 where
     pub heard : Heard j
-    pub begin_is : begin j ≡ tick j (planned.answer laws b is sends meets j heard)
+    pub begin_is : begin j ≡ tick j (planned.answer laws b is meets 0 rest b.frame b.stuffed from b.decides first_frame j heard)
 
   pub plan_of : (j : ℕ) → IsListener b j → IsPlanned j
   unfolding begin begin_by
   plan_of j p = by (who j) refl
     where
       by : (w : IsListener b j ⊎ (IsListener b j → ⊥)) → who j ≡ w → IsPlanned j
-      by (inl q) e = record { heard = planned.heard_by laws b is sends meets j q; begin_is = ap (begin_by j) e }
+      by (inl q) e = record { heard = planned.heard_by laws b is meets 0 rest b.frame b.stuffed from b.decides first_frame j q; begin_is = ap (begin_by j) e }
       by (inr n) e = absurd (n p)
 
   begin_sender : begin a ≡ l.stop
@@ -145,7 +195,7 @@ module _ (laws : Laws) (b : SenderBus) (is : IsBus b) (sends : SendsFirst b) (me
       omega arith
 
   comes_by : (i : ℕ) → (p : IsPlanned i) → begin i + l.delay i a ≤ slot_tick
-  comes_by i p = let e = p.begin_is in let f = (planned.answered laws b is sends meets i p.heard).before in omega arith
+  comes_by i p = let e = p.begin_is in let f = (planned.answered laws b is meets 0 rest b.frame b.stuffed from b.decides first_frame i p.heard).before in omega arith
 
   begin_inside : (i : ℕ) → IsPlanned i → begin i < l.stop
   begin_inside i p = let e = comes_by i p in let f = slot_inside in omega arith
@@ -193,9 +243,10 @@ module _ (laws : Laws) (b : SenderBus) (is : IsBus b) (sends : SendsFirst b) (me
         | inl here ↦
             (let e = is.ticks i 0 inside in
             let f : tick i 0 ≡ tick a 0 = ap (λ n. tick n 0) here in
-            let rise = up a is.sender 0 (planned.base laws b is sends meets 0) (omega arith) in
-            subst (λ n. drove n t ≡ false) (sym here) (planned.sender_silent laws b is sends meets t (omega arith)))
-        | inr apart ↦ planned.others_silent laws b is sends meets i t apart
+            let rise = up a is.sender 0 (planned.base laws b is meets 0 rest b.frame b.stuffed from b.decides first_frame 0) (omega arith) in
+            subst (λ n. drove n t ≡ false) (sym here)
+            (planned.sender_sends laws b is meets 0 rest b.frame b.stuffed from b.decides first_frame t (omega arith) ∙ sent_before b.stuffed begins begins_later t (omega arith)))
+        | inr apart ↦ planned.others_silent laws b is meets 0 rest b.frame b.stuffed from b.decides first_frame i t apart (omega arith)
       ]
 
       drives : (i k t : ℕ) → i < l.nodes → t < until i → l.instant i k ≤ t → t < l.instant i (suc k) → drove i t ≡ l.drives i (levels_before (levels_found l drove i) (suc k))
@@ -211,7 +262,7 @@ module _ (laws : Laws) (b : SenderBus) (is : IsBus b) (sends : SendsFirst b) (me
               let g : until i ≡ until a = ap until here in
               let h : tick i k ≡ tick a k = ap (λ n. tick n k) here in
               let m : tick i (suc k) ≡ tick a (suc k) = ap (λ n. tick n (suc k)) here in
-              planned.sender_drives laws b is sends meets (until a) sender_until k t (omega arith) (omega arith) (omega arith)
+              planned.sender_drives laws b is meets 0 rest b.frame b.stuffed from b.decides first_frame (until a) sender_until k t (omega arith) (omega arith) (omega arith) (omega arith)
               ∙ sym (is.drives a (levels_before (levels_found l drove a) (suc k)) is.sender)
 
           by_other : IsPlanned i → drove i t ≡ l.drives i (levels_before (levels_found l drove i) (suc k))
@@ -220,12 +271,12 @@ module _ (laws : Laws) (b : SenderBus) (is : IsBus b) (sends : SendsFirst b) (me
               let f = until_each i i inside in
               let g = gap_self i i refl in
               let h = p.begin_is in
-              let before : k < planned.answer laws b is sends meets i p.heard = elim (cases_lt k (planned.answer laws b is sends meets i p.heard)) [
+              let before : k < planned.answer laws b is meets 0 rest b.frame b.stuffed from b.decides first_frame i p.heard = elim (cases_lt k (planned.answer laws b is meets 0 rest b.frame b.stuffed from b.decides first_frame i p.heard)) [
                 | inl less ↦ less
-                | inr more ↦ (let rise = up i inside (planned.answer laws b is sends meets i p.heard) k more in absurd (omega arith))
+                | inr more ↦ (let rise = up i inside (planned.answer laws b is meets 0 rest b.frame b.stuffed from b.decides first_frame i p.heard) k more in absurd (omega arith))
               ] in
-              planned.others_silent laws b is sends meets i t p.heard.listener.1
-              ∙ sym (is.drives i (levels_before (levels_found l drove i) (suc k)) inside ∙ ap is_dominant (planned.silent laws b is sends meets i p.heard (suc k) before))
+              planned.others_silent laws b is meets 0 rest b.frame b.stuffed from b.decides first_frame i t p.heard.listener.1 (omega arith)
+              ∙ sym (is.drives i (levels_before (levels_found l drove i) (suc k)) inside ∙ ap is_dominant (planned.silent laws b is meets 0 rest b.frame b.stuffed from b.decides first_frame i p.heard (suc k) (begun_first i p.heard (suc k)) before).2.drives)
 
   driven_there : (i t : ℕ) → i < l.nodes → t < until i → level l i t ≡ drove i t
   driven_there = driven_is laws.simulation l until drove is.causal expected
@@ -233,12 +284,12 @@ module _ (laws : Laws) (b : SenderBus) (is : IsBus b) (sends : SendsFirst b) (me
   -- each listener samples the CRC delimiter before that
   sampled_before : (j : ℕ) → j < l.nodes → (p : IsPlanned j) → tick j p.heard.quantum < until j
   sampled_before j inside p =
-      let answer = planned.answer laws b is sends meets j p.heard in
+      let answer = planned.answer laws b is meets 0 rest b.frame b.stuffed from b.decides first_frame j p.heard in
       let low = (is.book j inside).lengths.ps2_low in
       let next = is.causal.clocks j p.heard.quantum inside in
       let e = is.ticks j p.heard.quantum inside in
       let f = is.ticks j (suc p.heard.quantum) inside in
-      let rise = up j inside (suc p.heard.quantum) (planned.answer laws b is sends meets j p.heard) (omega arith) in
+      let rise = up j inside (suc p.heard.quantum) (planned.answer laws b is meets 0 rest b.frame b.stuffed from b.decides first_frame j p.heard) (omega arith) in
       let g = p.begin_is in
       let h = begin_inside j p in
       until_from j (suc (tick j p.heard.quantum)) (omega arith) (λ i less. each i less)
@@ -250,7 +301,7 @@ module _ (laws : Laws) (b : SenderBus) (is : IsBus b) (sends : SendsFirst b) (me
             let next = is.causal.clocks j p.heard.quantum inside in
             let e = is.ticks j p.heard.quantum inside in
             let f = is.ticks j (suc p.heard.quantum) inside in
-            let rise = up j inside (suc p.heard.quantum) (planned.answer laws b is sends meets j p.heard) (omega arith) in
+            let rise = up j inside (suc p.heard.quantum) (planned.answer laws b is meets 0 rest b.frame b.stuffed from b.decides first_frame j p.heard) (omega arith) in
             let g = p.begin_is in
             let same : begin i ≡ begin j = ap begin here in
             omega arith)
@@ -258,14 +309,14 @@ module _ (laws : Laws) (b : SenderBus) (is : IsBus b) (sends : SendsFirst b) (me
           | inl sender ↦
               (let h = begin_inside j p in
               let g = p.begin_is in
-              let rise = up j inside p.heard.quantum (planned.answer laws b is sends meets j p.heard) (omega arith) in
+              let rise = up j inside p.heard.quantum (planned.answer laws b is meets 0 rest b.frame b.stuffed from b.decides first_frame j p.heard) (omega arith) in
               let same : begin i ≡ begin a = ap begin sender in
               let stop = begin_sender in
               omega arith)
           | inr q ↦
               (let far = gap_other i j apart in
               let g = q.begin_is in
-              let after = planned.answers_after laws b is sends meets i j q.heard p.heard apart in
+              let after = planned.answers_after laws b is meets 0 rest b.frame b.stuffed from b.decides first_frame i j q.heard p.heard apart in
               omega arith)
         ]
       ]
@@ -279,13 +330,13 @@ module _ (laws : Laws) (b : SenderBus) (is : IsBus b) (sends : SendsFirst b) (me
       λ k less. (let e = is.ticks j k inside in let rise = up j inside k p.heard.quantum (omega arith) in let f = sampled_before j inside p in omega arith) in
       let same : seen l j (suc p.heard.quantum) ≡ levels_before (levels_found l drove j) (suc p.heard.quantum) =
       seen_is laws.simulation l until drove is.causal expected j (suc p.heard.quantum) inside before in
-      let place = planned.place laws b is sends meets j p.heard in
+      let place = planned.place laws b is meets 0 rest b.frame b.stuffed from b.decides first_frame j p.heard in
       record {
         quanta = suc p.heard.quantum;
         inside = λ k less. (let e = before k less in let f = until_stop j in omega arith);
         stretch =
             ap (λ v. stretch_of (history_of (b.setups j) v).inputs) same ∙ place.1.does.stretch
-            ∙ ap (stretch_by (Framing None)) (frames.own_delimited laws.frame b.frame sends.content b.stuffed sends.stuffs);
+            ∙ ap (stretch_by (Framing None)) (frames.own_delimited laws.frame b.frame first_frame.content b.stuffed first_frame.stuffs);
         fine = ap (λ v. error_count (history_of (b.setups j) v)) same ∙ place.1.does.errors;
       }
 
@@ -302,8 +353,14 @@ module _ (laws : Laws) (b : SenderBus) (is : IsBus b) (sends : SendsFirst b) (me
     abbrev there_is : i < l.nodes
     there_is = h.listener.0
 
+    abbrev gone : List Passed
+    gone = planned.frames_of laws b is meets 0 rest b.frame b.stuffed from b.decides first_frame i h.listener
+
+    abbrev sent_frames : List Passed
+    sent_frames = planned.sent_frames laws b is meets 0 rest b.frame b.stuffed from b.decides first_frame
+
     abbrev answer : ℕ
-    answer = planned.answer laws b is sends meets i h
+    answer = planned.answer laws b is meets 0 rest b.frame b.stuffed from b.decides first_frame i h
 
     abbrev actual : ℕ → Level
     actual k = levels_found l (level l) i k
@@ -357,17 +414,17 @@ module _ (laws : Laws) (b : SenderBus) (is : IsBus b) (sends : SendsFirst b) (me
     same_levels : (k : ℕ) → k ≤ suc answer → levels_before (levels_found l drove i) k ≡ levels_before actual k
     same_levels k few = levels_same (levels_found l drove i) actual k (λ j less. sym (same_level j (omega arith)))
 
-    place : (longer : ℕ) × IsGoing laws.clocks (b.setups i) (is.book i there_is) actual (suc h.quantum) (suc (sample_at (lengths_of b i))) longer false
-        (planned.Heard laws b is sends meets i h (suc last)) Recessive
+    place : (longer : ℕ) × IsGoing laws.clocks (b.setups i) (is.book i there_is) actual gone (suc h.quantum) (suc (sample_at (lengths_of b i))) longer false
+        (planned.Heard laws b is meets 0 rest b.frame b.stuffed from b.decides first_frame i h (suc last)) Recessive
     place =
-        let p = planned.place laws b is sends meets i h in (
+        let p = planned.place laws b is meets 0 rest b.frame b.stuffed from b.decides first_frame i h in (
           p.0,
           going_same laws.clocks (b.setups i) (is.book i there_is) (levels_found l drove i) actual (suc h.quantum) (same_levels (suc h.quantum) (omega arith))
-              (suc (sample_at (lengths_of b i))) p.0 false (planned.Heard laws b is sends meets i h (suc last)) Recessive p.1,
+              (suc (sample_at (lengths_of b i))) p.0 false (planned.Heard laws b is meets 0 rest b.frame b.stuffed from b.decides first_frame i h (suc last)) Recessive p.1,
         )
 
     quiet : (k : ℕ) → h.quantum < k → k ≤ answer → actual k ≡ Recessive
-    quiet k low high = same_level k high ∙ planned.quiet laws b is sends meets i h k low high
+    quiet k low high = same_level k high ∙ planned.quiet laws b is meets 0 rest b.frame b.stuffed from b.decides first_frame i h k low high
 
     abbrev drives_at : ℕ → Level
     drives_at k = (node laws.clocks (b.setups i) (is.book i there_is) actual k).drive
@@ -413,14 +470,14 @@ module _ (laws : Laws) (b : SenderBus) (is : IsBus b) (sends : SendsFirst b) (me
 
     acts : (q : ℕ) → 1 ≤ q → q ≤ bit_quanta (lengths_of b i) → drives_at (answer + q) ≡ Dominant
     acts =
-        answering.answer_drive laws.clocks laws.frame (b.setups i) (is.book i there_is) actual b.frame sends.content b.stuffed sends.stuffs h.quantum place.0 place.1 quiet own
+        answering.answer_drive laws.clocks laws.frame (b.setups i) (is.book i there_is) actual b.frame first_frame.content b.stuffed first_frame.stuffs gone h.quantum place.0 place.1 quiet own
 
     -- and it samples that
     answered : IsAtStretch b i (stretch_by (Framing None) (up_to_ack b.stuffed))
     answered =
         let few = (is.book i there_is).lengths.ps2_low in
         let done =
-        answering.answers laws.clocks laws.frame (b.setups i) (is.book i there_is) actual b.frame sends.content b.stuffed sends.stuffs h.quantum place.0 place.1 quiet own 0
+        answering.answers laws.clocks laws.frame (b.setups i) (is.book i there_is) actual b.frame first_frame.content b.stuffed first_frame.stuffs gone h.quantum place.0 place.1 quiet own 0
         (omega arith) in
         let quanta = answer + (suc (sample_at (lengths_of b i)) + 0) in
         let same : seen l i (answer + (suc (sample_at (lengths_of b i)) + 0)) ≡ levels_before actual (answer + (suc (sample_at (lengths_of b i)) + 0)) =
@@ -434,7 +491,7 @@ module _ (laws : Laws) (b : SenderBus) (is : IsBus b) (sends : SendsFirst b) (me
               omega arith);
           stretch =
               ap (λ v. stretch_of (history_of (b.setups i) v).inputs) same ∙ done.going.does.stretch
-              ∙ ap (stretch_by (Framing None)) (frames.own_all laws.frame b.frame sends.content b.stuffed sends.stuffs);
+              ∙ ap (stretch_by (Framing None)) (frames.own_all laws.frame b.frame first_frame.content b.stuffed first_frame.stuffs);
           fine = ap (λ v. error_count (history_of (b.setups i) v)) same ∙ done.going.does.errors;
         }
       where
@@ -478,16 +535,16 @@ module _ (laws : Laws) (b : SenderBus) (is : IsBus b) (sends : SendsFirst b) (me
     delimiter_soon : (q : ℕ) → q < suc delimiter → tick a q < until a
     delimiter_soon q less =
         let e = comes in
-        let after = (planned.answered laws b is sends meets i h).after in
+        let after = (planned.answered laws b is meets 0 rest b.frame b.stuffed from b.decides first_frame i h).after in
         let rise = up a is.sender q delimiter (omega arith) in
         omega arith
 
     -- where it is when it finds the acknowledgement
     waits : (k : ℕ) → Finds (b.clocks a) k (answer_begin (listener_of b i) (l.delay i a) h.quantum)
-        → Does laws.clocks (b.setups a) (is.book a is.sender) own_levels k (planned.Frame laws b is sends meets (suc last)) Recessive
+        → Does laws.clocks (b.setups a) (is.book a is.sender) own_levels sent_frames k (planned.Frame laws b is meets 0 rest b.frame b.stuffed from b.decides first_frame (suc last)) Recessive
     waits k finds =
         let e = comes in
-        let answered = planned.answered laws b is sends meets i h in
+        let answered = planned.answered laws b is meets 0 rest b.frame b.stuffed from b.decides first_frame i h in
         let after = answered.after in
         let before = answered.before in
         let seen_it = finds.seen in
@@ -500,37 +557,37 @@ module _ (laws : Laws) (b : SenderBus) (is : IsBus b) (sends : SendsFirst b) (me
           | inr more ↦ more
         ] in
         does_same laws.clocks (b.setups a) (is.book a is.sender) (levels_found l drove a) own_levels k (sender_lists k (λ q less. (let unseen = finds.unseen q less in omega arith)))
-        (planned.Frame laws b is sends meets (suc last)) Recessive (planned.delimited laws b is sends meets k low high)
+        (planned.Frame laws b is meets 0 rest b.frame b.stuffed from b.decides first_frame (suc last)) Recessive (planned.delimited laws b is meets 0 rest b.frame b.stuffed from b.decides first_frame k low high)
 
     hears : HearsAnswer (sender_of b) (lengths_of b a) (listener_of b i) (l.delay i a) last h.quantum own_seen
     hears = record {
       clock =
           ap (clock_after (lengths_of b a)) (sym (seen_are laws.clocks (b.setups a) (is.book a is.sender) own_levels (suc delimiter)))
           ∙ ap (λ ls. clock_after (lengths_of b a) (history_of (b.setups a) ls).seen) (sym (sender_lists (suc delimiter) delimiter_soon))
-          ∙ sending.delimited laws.clocks laws.frame (b.setups a) (is.book a is.sender) (levels_found l drove a) b.frame sends.content b.stuffed sends.stuffs b.decides
-          (planned.begun laws b is sends meets) (planned.hears laws b is sends meets);
+          ∙ speaking.delimited_clock laws.clocks laws.frame b is meets 0 rest b.frame b.stuffed from b.decides first_frame (levels_found l drove a)
+          (planned.own laws b is meets 0 rest b.frame b.stuffed from b.decides first_frame);
       silent = λ k low soon.
           (let e = comes in
-          let come = planned.loop laws b is sends meets last in
+          let come = speaking.loop laws.clocks laws.frame b is meets 0 rest b.frame b.stuffed from b.decides first_frame last in
           let rise = up a is.sender delimiter k (omega arith) in
-          sender_same k (omega arith) ∙ planned.finds_late laws b is sends meets a k is.sender (omega arith));
+          sender_same k (omega arith) ∙ planned.finds_late laws b is meets 0 rest b.frame b.stuffed from b.decides first_frame a is.sender k (let e = starts_first a is.sender in omega arith) (omega arith));
       there = λ k low soon.
           (let e = is.ticks a k is.sender in
           let g = begins_at in
           found_dominant a k i there_is (omega arith)
           (level_there (bit_quanta (lengths_of b i)) (l.instant a k - l.delay i a) acts (omega arith) (omega arith)));
       awaits = λ k finds. ap awaits_start (waits k finds).stretch
-          ∙ ap (λ n. n == 0) (frames.own_length laws.frame b.frame sends.content b.stuffed sends.stuffs (suc last) (omega arith)) ∙ ne_eqb (suc last) 0 (λ e. omega arith);
+          ∙ ap (λ n. n == 0) (frames.own_length laws.frame b.frame first_frame.content b.stuffed first_frame.stuffs (suc last) (omega arith)) ∙ ne_eqb (suc last) 0 (λ e. omega arith);
       driving = λ k finds. ap is_dominant (waits k finds).drives;
     }
 
     sent : IsAtStretch b a (stretch_by (Framing (Some b.frame)) (up_to_ack b.stuffed))
     sent =
-        let m = planned.samples_answer laws b is sends meets i h own_seen hears in
+        let m = planned.samples_answer laws b is meets 0 rest b.frame b.stuffed from b.decides first_frame i h own_seen hears in
         let start = does_same laws.clocks (b.setups a) (is.book a is.sender) (levels_found l drove a) own_levels (suc delimiter) (sender_lists (suc delimiter) delimiter_soon)
-        (planned.Frame laws b is sends meets (suc last)) Recessive
-        (planned.delimited laws b is sends meets (suc delimiter) (omega arith) (let low = (is.book a is.sender).lengths.low in omega arith)) in
-        let done = slot_sampled laws.clocks laws.frame (b.setups a) (is.book a is.sender) own_levels b.frame sends.content b.stuffed sends.stuffs laws.listens.ways delimiter m.0 start m.2 in
+        (planned.Frame laws b is meets 0 rest b.frame b.stuffed from b.decides first_frame (suc last)) Recessive
+        (planned.delimited laws b is meets 0 rest b.frame b.stuffed from b.decides first_frame (suc delimiter) (omega arith) (let low = (is.book a is.sender).lengths.low in omega arith)) in
+        let done = slot_sampled laws.clocks laws.frame (b.setups a) (is.book a is.sender) own_levels b.frame first_frame.content b.stuffed first_frame.stuffs laws.listens.ways sent_frames delimiter m.0 start m.2 in
         let same : seen l a (suc m.0) ≡ levels_before own_levels (suc m.0) = seen_by_quanta l a (suc m.0) in
         record {
           quanta = suc m.0;
@@ -542,7 +599,7 @@ module _ (laws : Laws) (b : SenderBus) (is : IsBus b) (sends : SendsFirst b) (me
               omega arith);
           stretch =
               ap (λ v. stretch_of (history_of (b.setups a) v).inputs) same ∙ done.stretch
-              ∙ ap (stretch_by (Framing (Some b.frame))) (frames.own_all laws.frame b.frame sends.content b.stuffed sends.stuffs);
+              ∙ ap (stretch_by (Framing (Some b.frame))) (frames.own_all laws.frame b.frame first_frame.content b.stuffed first_frame.stuffs);
           fine = ap (λ v. error_count (history_of (b.setups a) v)) same ∙ done.errors;
         }
 

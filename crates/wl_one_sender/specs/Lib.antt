@@ -2,3 +2,4 @@ pub mod Levels
 pub mod Expected
 pub mod OneSender
 pub mod Plans
+pub mod Through

@@ -13,6 +13,7 @@ ghost use Rattle.wl_one_sender.specs.Expected.{IsExpected, levels_found};
 ghost use Rattle.wl_one_sender.specs.Levels.{levels_before};
 ghost use Rattle.wl_one_sender.specs.OneSender.{SenderBus, IsBus, IsInStepWithAll, SendsFirst, EndsAfterSlot, IsAcknowledged};
 ghost use Rattle.wl_one_sender.specs.Plans.{IsSteadyPlan, sender_bus_of};
+ghost use Rattle.wl_one_sender.specs.Through.{AreFrames, GetThrough, StaysInSlots};
 
 /// Law: if one node alone has driven dominant, any node finds what that one drove a delay earlier.
 pub fn one_driver_is_found()
@@ -44,7 +45,6 @@ pub fn the_first_frame_is_acknowledged()
     wl_frame::laws::stuffing_goes_on_bit_by_bit();
     wl_machine::laws::a_transmitter_sends_its_head_stuffed();
     wl_phase::laws::an_edge_moves_the_sample();
-    wl_phase::laws::the_first_edge_synchronises_hard();
     wl_phase::laws::a_listener_samples_each_frame();
     wl_phase::laws::an_acknowledgement_comes_in_time();
     wl_phase::laws::an_acknowledgement_comes_after_each_sample();
@@ -67,4 +67,22 @@ pub fn a_plan_is_such_a_bus()
 {
     wl_plan::checked_is_sound();
     the_first_frame_is_acknowledged();
+}
+
+/// Law: so all frames get through.
+pub fn every_frame_gets_through()
+    ensures { (b : SenderBus) (stuffed : ℕ → List Level) → IsBus b → SendsFirst b → AreFrames b stuffed → IsInStepWithAll b
+        → StaysInSlots b → GetThrough b }
+{
+    wl_sync::clock_goes_on();
+    wl_frame::laws::stuffing_goes_on_bit_by_bit();
+    wl_machine::laws::a_transmitter_sends_its_head_stuffed();
+    wl_phase::laws::an_edge_moves_the_sample();
+    wl_phase::laws::a_listener_samples_each_frame();
+    wl_phase::laws::an_acknowledgement_comes_in_time();
+    wl_phase::laws::an_acknowledgement_comes_after_each_sample();
+    wl_phase::laws::the_sender_samples_the_acknowledgement();
+    wl_phase::laws::an_acknowledgement_stays_in_its_slot();
+    wl_topology::driven_laws();
+    wl_plan::simulation_laws();
 }

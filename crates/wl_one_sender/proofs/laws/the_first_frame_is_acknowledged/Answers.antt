@@ -16,7 +16,6 @@ returns c = acknowledged (record {
   };
   listens = record {
     ways = c.an_edge_moves_the_sample.ensures;
-    first = c.the_first_edge_synchronises_hard.ensures;
     samples = c.a_listener_samples_each_frame.ensures;
   };
   lines = c.driven_laws.ensures;

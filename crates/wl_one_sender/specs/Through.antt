@@ -1,0 +1,45 @@
+-- A bus on which one node has frames: what keeps each acknowledgement in its slot, and what becomes of all frames.
+use Rattle.std.specs.Prelude.{◌≡◌, ◌≢◌, ℕ, ◌<◌, ◌≤◌, List, ◌∷◌, ◌++◌, length, drop, map}
+use Rattle.wl_level.specs.declared.Level.{Level}
+use Rattle.wl_confine.specs.Counts.{no_counts}
+use Rattle.wl_frame.specs.Stuffing.{Stuffs}
+use Rattle.wl_frame.specs.Grammar.{Content, IsContent, bits_of}
+use Rattle.wl_node.specs.declared.setup.Queued.{Queued}
+use Rattle.wl_node.specs.declared.setup.Passed.{Passed}
+use Rattle.wl_node.specs.History.{History, history_of, counters_of, error_count}
+use Rattle.wl_phase.specs.Answer.{ComesAfterBegin, ComesAfterOwn, EndsBeforeSample, EndsInTime}
+use Rattle.wl_plan.specs.Simulation.{seen, AreInside}
+use Rattle.wl_one_sender.specs.OneSender.{SenderBus, IsListener, lengths_of, listener_of, sender_of}
+
+-- The acknowledgement of a listener begins in the slot of the sender, and of each other listener, and not before it; and it is over at each by the sample of the ACK
+-- delimiter. That it isn't early is more than a bus needs: an early one moves the nodes that it reaches.
+pub record StaysInSlots (b : SenderBus) : Type 0 where
+  pub begins_there : (j : ℕ) → IsListener b j → ComesAfterOwn (sender_of b) (listener_of b j) (b.line.delay j b.sender)
+  pub begins : (i j : ℕ) → IsListener b i → IsListener b j → i ≢ j → ComesAfterBegin (sender_of b) (listener_of b i) (listener_of b j) (b.line.delay i j)
+  pub ends_there : (j : ℕ) → IsListener b j → EndsInTime (sender_of b) (lengths_of b b.sender) (listener_of b j) (b.line.delay j b.sender)
+  pub ends : (i j : ℕ) → IsListener b i → IsListener b j → i ≢ j → EndsBeforeSample (sender_of b) (listener_of b i) (listener_of b j) (b.line.delay i j)
+
+-- the frames that the sender has
+abbrev pub queue_of : SenderBus → List Queued
+queue_of b = (b.setups b.sender).queue
+
+abbrev pub frames_of : List Queued → List Content
+frames_of = map (λ q. q.frame)
+
+-- each is a frame, and this is the n-th with its stuff bits
+abbrev pub AreFrames : SenderBus → (stuffed : ℕ → List Level) → Type 0
+AreFrames b stuffed = (n : ℕ) (q : Queued) (more : List Queued) → drop n (queue_of b) ≡ q ∷ more → IsContent q.frame × Stuffs (stuffed n) (bits_of q.frame)
+
+-- a node after its first k quanta
+abbrev pub history_at : SenderBus → (i k : ℕ) → History
+history_at b i k = history_of (b.setups i) (seen b.line i k)
+
+-- the frames that a node has sent or received
+abbrev pub passed_at : SenderBus → (i k : ℕ) → List Content
+passed_at b i k = map (λ p. p.frame) (history_at b i k).frames
+
+-- At each quantum of each node up to the end there was no error and nothing that counts, and the frames so far are the first of the sender's, in their order.
+pub record GetThrough (b : SenderBus) : Type 0 where
+  pub fine : (i k : ℕ) → i < b.line.nodes → AreInside b.line i k → error_count (history_at b i k) ≡ 0
+  pub counters : (i k : ℕ) → i < b.line.nodes → AreInside b.line i k → counters_of (history_at b i k) ≡ no_counts
+  pub frames : (i k : ℕ) → i < b.line.nodes → AreInside b.line i k → (rest : List Content) × (passed_at b i k ++ rest ≡ frames_of (queue_of b))
