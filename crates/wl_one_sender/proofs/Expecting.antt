@@ -1,5 +1,5 @@
 -- What is expected of the nodes of a line is what they drive.
-use Rattle.std.proofs.Common.{◌≡◌, ◌∙◌, inl, inr, refl, sym, ap, subst, ℕ, zero, suc, ◌+◌, ◌-◌, ◌<◌, ◌≤◌, Bool, [], ◌∷◌, ◌++◌, arith}
+use Rattle.std.proofs.Common.{◌≡◌, ◌∙◌, inl, inr, refl, sym, ap, subst, ℕ, zero, suc, ◌+◌, ◌-◌, ◌<◌, ◌≤◌, Bool, false, [], ◌∷◌, ◌++◌, arith}
 use Rattle.std.proofs.lemmas.Bool.{cases_lt, cases_eq, cases_order}
 use Rattle.wl_level.specs.declared.Level.{Level}
 use Rattle.wl_level.specs.Levels.{level_of}
@@ -45,7 +45,7 @@ module _ (l : Line) (causal : IsCausal l) where
       let b = r.2 in
       record { quantum = r.0; begun = omega arith; next = omega arith }
 
-module _ (laws : SimulationLaws) (l : Line) (until : ℕ → ℕ) (drove : ℕ → ℕ → Bool) (causal : IsCausal l) (is : IsExpected l until drove) where
+module _ (laws : SimulationLaws) (l : Line) (causal : IsCausal l) where
   -- so many quanta have run by then
   ran_by : (i t : ℕ) → i < l.nodes → t < l.stop → (q : LastQuantum l causal i t) → ran l i (suc t) ≡ suc q.quantum
   ran_by i t inside below q = elim (cases_order (ran l i (suc t)) (suc q.quantum)) [
@@ -71,6 +71,18 @@ module _ (laws : SimulationLaws) (l : Line) (until : ℕ → ℕ) (drove : ℕ �
   seen_none : (i n : ℕ) → n ≡ 0 → seen l i n ≡ []
   seen_none i n e = ap (seen l i) e ∙ seen_by_quanta l i 0
 
+  -- what a node drives at a tick, by the levels that it has seen
+  pub level_first : (i t : ℕ) → i < l.nodes → t < l.instant i 0 → level l i t ≡ false
+  level_first i t inside early =
+      laws.level_is l i t causal inside ∙ ap (l.drives i) (seen_none i (ran l i (suc t)) (ran_none i t inside early)) ∙ causal.begins i inside
+
+  pub level_then : (i k t : ℕ) → i < l.nodes → t < l.stop → l.instant i k ≤ t → t < l.instant i (suc k)
+      → level l i t ≡ l.drives i (levels_before (levels_found l (level l) i) (suc k))
+  level_then i k t inside below low high =
+      laws.level_is l i t causal inside ∙ ap (λ n. l.drives i (seen l i n)) (ran_by i t inside below (record { quantum = k; begun = low; next = high }))
+      ∙ ap (l.drives i) (seen_by_quanta l i (suc k))
+
+module _ (laws : SimulationLaws) (l : Line) (until : ℕ → ℕ) (drove : ℕ → ℕ → Bool) (causal : IsCausal l) (is : IsExpected l until drove) where
   module _ (n : ℕ) (below : (i t : ℕ) → t < n → i < l.nodes → t < until i → level l i t ≡ drove i t) where
     found_there : (i k : ℕ) → i < l.nodes → l.instant i k ≤ n → l.instant i k < until i → levels_found l (level l) i k ≡ levels_found l drove i k
     found_there i k inside early before =
@@ -83,14 +95,11 @@ module _ (laws : SimulationLaws) (l : Line) (until : ℕ → ℕ) (drove : ℕ �
     here i inside before =
         let stop = is.inside i inside in
         elim (cases_lt n (l.instant i 0)) [
-          | inl early ↦
-              laws.level_is l i n causal inside ∙ ap (l.drives i) (seen_none i (ran l i (suc n)) (ran_none i n inside early))
-              ∙ causal.begins i inside ∙ sym (is.before i n inside before early)
+          | inl early ↦ level_first laws l causal i n inside early ∙ sym (is.before i n inside before early)
           | inr late ↦
               (let q = last_quantum l causal i n inside late in
-              laws.level_is l i n causal inside ∙ ap (λ k. l.drives i (seen l i k)) (ran_by i n inside (omega arith) q)
-              ∙ ap (l.drives i) (seen_by_quanta l i (suc q.quantum)
-              ∙ levels_same (levels_found l (level l) i) (levels_found l drove i) (suc q.quantum) (λ j less.
+              level_then laws l causal i q.quantum n inside (omega arith) q.begun q.next
+              ∙ ap (l.drives i) (levels_same (levels_found l (level l) i) (levels_found l drove i) (suc q.quantum) (λ j less.
               (let up = laws.clock_later l i j q.quantum causal inside (omega arith) in
               let begun = q.begun in
               found_there i j inside (omega arith) (omega arith))))

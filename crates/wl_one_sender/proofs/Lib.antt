@@ -1,11 +1,14 @@
 mod Alone
+mod Always
 mod Answering
 mod Bits
+mod Calm
 mod Expecting
 mod Frames
 mod Gliding
 mod Leasts
 mod Nodes
+mod Passing
 mod PlanProofs
 mod Planned
 mod Receiving

@@ -251,10 +251,10 @@ module _ (laws : Laws) (b : SenderBus) (is : IsBus b) (meets : IsInStepWithAll b
       ] in
       let silent : (k : ℕ) → r.start ≤ k → k ≤ suc q.quantum → IsSilentAt laws.clocks (b.setups j) (is.book j listener.0) (levels j) r.base r.waits k =
       λ k low high.
-          silent_at laws.clocks (b.setups j) (is.book j listener.0) (levels j) r.base r.waits r.start (suc q.quantum)
-          (λ i begun less. finds_early j inside i begun (finds.unseen i less))
-          (λ c many begun less. ap (λ v. ready_head v (r.base + c * B j + S j)) (left_none (b.setups j) (r.waits.passed 10) (sends.alone j listener)))
-          (first j inside) k low high in
+      silent_at laws.clocks (b.setups j) (is.book j listener.0) (levels j) r.base r.waits r.start (suc q.quantum)
+      (λ i begun less. finds_early j inside i begun (finds.unseen i less))
+      (λ c many begun less. ap (λ v. ready_head v (r.base + c * B j + S j)) (left_none (b.setups j) (r.waits.passed 10) (sends.alone j listener)))
+      (first j inside) k low high in
       let there = silent (suc q.quantum) late (omega arith) in
       let many = r.waits.many in
       let count : r.waits.enough ≤ there.count =

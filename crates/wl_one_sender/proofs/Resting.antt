@@ -43,11 +43,11 @@ module _ (clocks : ClockGoes) (b : SenderBus) (is : IsBus b) where
     pub base : ℕ
     pub waits : Waits base (S i) (B i)
     pub state : IsSilentAt clocks (b.setups i) (is.book i inside) (actual i) base waits start
-    pub soon : start ≤ base + 10 * B i + S i
 
   pub record Rests (t : ℕ) : Type 0 where
     pub quiet : (i j u : ℕ) → i < l.nodes → j < l.nodes → u < t → t ≤ u + l.delay i j → level l i u ≡ false
     pub node : (i : ℕ) → (inside : i < l.nodes) → RestsAt t i inside
+    pub soon : (node a is.sender).start ≤ (node a is.sender).base + 10 * B a + S a
 
   -- The sender begins a frame with this quantum, after bit m since then. Each other node awaits it when it arrives, and has none.
   pub record SendsNext (t : ℕ) (rest : Rests t) (frame : Content) (y : List Level) (from m : ℕ) : Type 0 where
@@ -70,6 +70,6 @@ module _ (clocks : ClockGoes) (b : SenderBus) (is : IsBus b) where
       base = 0;
       waits = integrating (S i) (B i);
       state = at_first clocks (b.setups i) (is.book i inside) (actual i);
-      soon = omega arith;
     };
+    soon = omega arith;
   }

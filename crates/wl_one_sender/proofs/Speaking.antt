@@ -92,7 +92,7 @@ module _ (clocks : ClockGoes) (goes : FrameGoes) (b : SenderBus) (is : IsBus b) 
 
   pub start_soon : at_rest.start ≤ at_rest.base + m * B a + S a
   start_soon =
-      let soon = at_rest.soon in
+      let soon = rest.soon in
       let many : 10 * B a ≤ m * B a = mul-le-mul_right (B a) sends.decides.idle in
       omega arith
 

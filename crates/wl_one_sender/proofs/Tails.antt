@@ -97,8 +97,13 @@ module _ (goes : FrameGoes) (head : Content) (c : IsContent head) (y : List Leve
   received_on : (n : ℕ) (x : Sampled) → n < 6 → x.level ≡ Recessive → judged (stretch_by (Framing None) (tail n)) x ≡ continues Nothing
   received_on n x h now =
       received n x
-      ∙ rw (ne_eqb (n + 2) 1 (λ e. omega arith), ne_eqb (n + 2) 9 (λ e. omega arith), ne_eqb (n + 2) 8 (λ e. omega arith), ap is_dominant now,
-      and_right (n + 2 == 2) (not (is_crc_right (bits_of head))) (ap not crc)) refl
+      ∙ rw (
+        ne_eqb (n + 2) 1 (λ e. omega arith),
+        ne_eqb (n + 2) 9 (λ e. omega arith),
+        ne_eqb (n + 2) 8 (λ e. omega arith),
+        ap is_dominant now,
+        and_right (n + 2 == 2) (not (is_crc_right (bits_of head))) (ap not crc),
+      ) refl
 
   sent_on : (n : ℕ) (x : Sampled) → n < 7 → x.level ≡ Recessive → judged (stretch_by (Framing (Some head)) (tail n)) x ≡ continues Nothing
   sent_on n x h now =

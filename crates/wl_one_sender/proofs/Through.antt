@@ -2,6 +2,9 @@
 use Rattle.std.proofs.Common.{◌≡◌, ◌≢◌, ◌∙◌, ◌⊎◌, inl, inr, refl, sym, ap, subst, ℕ, zero, suc, ◌+◌, ◌-◌, ◌*◌, ◌<◌, ◌≤◌, List, [], ◌∷◌, ◌++◌, length, min, Bool, true, false, cond, Some, None, ◌||◌, ◌&&◌, arith}
 use Rattle.std.specs.Prelude.{nat_le, nat_lt, ◌==◌}
 use Rattle.std.proofs.lemmas.Bool.{both_ways, cases_lt, cases_eq, and_from, and_left, and_right, false_from_ne_true, le-leb, lt-leb, lt-ltb, le-ltb, eq-eqb, ne_eqb}
+use Rattle.std.proofs.Math.Bridge.{le_prop}
+use Rattle.std.proofs.Math.Nat.{mul-le-mul_left, mul-le-mul_right, le_of_mul-le-mul_left}
+use Rattle.std.proofs.lemmas.List.{get_or_past}
 use Rattle.wl_level.specs.declared.Level.{Level}
 use Rattle.wl_level.specs.declared.Level.TheVariants.{Dominant, Recessive}
 use Rattle.wl_level.specs.Levels.{is_dominant, level_of}
@@ -10,6 +13,7 @@ use Rattle.wl_topology.specs.Driven.{driven}
 use Rattle.wl_segments.specs.Lengths.{Lengths, sample_at, bit_quanta}
 use Rattle.wl_sync.specs.declared.Beat.TheVariants.{Sample}
 use Rattle.wl_sync.specs.Edges.{Seen}
+use Rattle.wl_sync.specs.Bits.{beat_of}
 use Rattle.wl_sync.specs.Running.{clock_after}
 use Rattle.wl_frame.specs.Grammar.{Content}
 use Rattle.wl_frame.specs.Laws.{up_to_ack}
@@ -18,24 +22,26 @@ use Rattle.wl_machine.specs.Stretch.Sort.{Framing}
 use Rattle.wl_machine.specs.Judged.{awaits_start, drive_of}
 use Rattle.wl_machine.specs.States.{stretch_by}
 use Rattle.wl_node.specs.declared.setup.Passed.{Passed}
+use Rattle.wl_node.specs.declared.setup.Queued.{Queued}
 use Rattle.wl_node.specs.History.{history_of, ready_head}
 use Rattle.wl_phase.specs.Clocks.{Steady, IsSteady, Finds, steady_tick}
 use Rattle.wl_phase.specs.Ways.{ByTheBook}
-use Rattle.wl_phase.specs.InStep.{Sender, Listener, ClocksAreNear, SamplesBit, arrival}
+use Rattle.wl_phase.specs.InStep.{Sender, Listener, ClocksAreNear, SamplesBit, arrival, samples_from}
 use Rattle.wl_phase.specs.Answer.{ComesInTime, ComesAfterBegin, ComesAfterOwn, EndsBeforeSample, EndsInTime, HearsAnswer, SamplesNext, answer_begin, answer_end, own_sample}
 use Rattle.wl_plan.specs.Line.{Line, found}
-use Rattle.wl_plan.specs.Simulation.{level}
+use Rattle.wl_plan.specs.Simulation.{level, seen}
 use Rattle.wl_one_sender.specs.Levels.{levels_before}
-use Rattle.wl_one_sender.specs.Expected.{levels_found}
+use Rattle.wl_one_sender.specs.Expected.{IsExpected, levels_found}
 use Rattle.wl_one_sender.specs.OneSender.{SenderBus, IsBus, IsListener, IsInStepWithAll, lengths_of, listener_of}
 use Rattle.wl_one_sender.specs.Through.{StaysInSlots}
 use Rattle.wl_one_sender.proofs.Alone.{sent, sent_before, sent_after}
 use Rattle.wl_one_sender.proofs.Answering as answering
 use Rattle.wl_one_sender.proofs.Bits.{at_place}
-use Rattle.wl_one_sender.proofs.Expecting.{levels_same}
+use Rattle.wl_one_sender.proofs.Expecting.{LastQuantum, driven_is, last_quantum, level_first, level_then, levels_same, seen_is}
 use Rattle.wl_one_sender.proofs.Frames as frames
 use Rattle.wl_one_sender.proofs.Leasts.{least, least_each, least_is}
 use Rattle.wl_one_sender.proofs.Nodes.{ClockGoes, IsGoing, Does, beat_at, clock_at, node, sees_at, seen_are, sample_before, does_same, going_same}
+use Rattle.wl_one_sender.proofs.Passing.{IsNext, IsPassed, one_passed}
 use Rattle.wl_one_sender.proofs.Planned as planned
 use Rattle.wl_one_sender.proofs.Planned.{Laws, IsHeard}
 use Rattle.wl_one_sender.proofs.Receiving.{sampled_place}
@@ -46,7 +52,7 @@ use Rattle.wl_one_sender.proofs.Silence.{Waits, IsSilentAt, left_none, silent_at
 use Rattle.wl_one_sender.proofs.Slots.{slot_sampled, stays, none_before}
 use Rattle.wl_one_sender.proofs.Speaking as speaking
 use Rattle.wl_one_sender.proofs.Speaking.{HearsOwn, comes_back}
-use Rattle.wl_one_sender.proofs.Tails.{after_receiving, after_sending, received_first, received_passed, received_quiet, sent_first, sent_passed, sent_quiet}
+use Rattle.wl_one_sender.proofs.Tails.{after_receiving, after_sending, kept, receiving_enough, received_first, received_passed, received_quiet, sent_first, sent_passed, sent_quiet}
 
 -- the law of an acknowledgement in its slot
 pub record StayLaws : Type 0 where
@@ -511,3 +517,658 @@ module _ (laws : Laws) (stay : StayLaws) (b : SenderBus) (is : IsBus b) (meets :
                 gone = inl (ap (rest.node j p.heard.listener.0).waits.passed (sym ten));
               })
         ]
+
+  -- the sender: no acknowledgement comes to it before its slot has begun
+  abbrev book_a : ByTheBook (lengths_of b a)
+  book_a = is.book a is.sender
+
+  abbrev sent_frames : List Passed
+  sent_frames = planned.sent_frames laws b is meets t rest frame y from m sends
+
+  abbrev Frame : ℕ → Stretch
+  Frame n = planned.Frame laws b is meets t rest frame y from m sends n
+
+  abbrev DoesOwn : (passed : List Passed) (k : ℕ) (u : Stretch) (drive : Level) → Type 0
+  DoesOwn = Does laws.clocks (b.setups a) (is.book a is.sender) (lv a)
+
+  none_own : (k : ℕ) → k ≤ base (suc last) → Unanswered a (tick a k)
+  none_own k few i q =
+      let rise = up a is.sender k (base (suc last)) few in
+      let here = q.begin_is in
+      let after =
+      stay.begins_there s (listener_of b i) (planned.seen_by laws b is meets t rest frame y from m sends i q.heard.listener) q.heard.found (l.delay i a) last q.heard.quantum (is.steady a is.sender) (is.steady i q.heard.listener.0)
+      (slots.begins_there i q.heard.listener) q.heard.sampled in
+      omega arith
+
+  loop : (n : ℕ) → begins n + l.delay a a ≤ tick a (base n + S a)
+  loop = speaking.loop laws.clocks laws.frame b is meets t rest frame y from m sends
+
+  start_before_own : (rest.node a is.sender).start ≤ from
+  start_before_own = speaking.start_before laws.clocks laws.frame b is meets t rest frame y from m sends
+
+  own_hears : HearsOwn laws.clocks laws.frame b is meets t rest frame y from m sends (lv a)
+  own_hears = record {
+    first = first a is.sender;
+    early = λ k late soon.
+        (let come = loop 0 in
+        let few = (is.book a is.sender).lengths.ps2_low in
+        let bit : 0 * B a ≤ suc last * B a = mul-le-mul_right (B a) (omega arith) in
+        let one : suc last * B a ≡ last * B a + B a = omega arith in
+        let less : k < base 0 + S a = elim (cases_lt k (base 0 + S a)) [
+          | inl less ↦ less
+          | inr more ↦ (let rise = up a is.sender (base 0 + S a) k more in absurd (omega arith))
+        ] in
+        as_planned a k is.sender (none_own k (omega arith)) ∙ planned.finds_early laws b is meets t rest frame y from m sends a is.sender k late soon);
+    one = λ k n late soon h low high. as_planned a k is.sender (none_own k soon) ∙ planned.finds_one laws b is meets t rest frame y from m sends a is.sender k n late h low high;
+  }
+
+  -- the acknowledgement that reaches it first
+  reach : ℕ → ℕ
+  reach i = begin i + l.delay i a
+
+  comes_by : (j : ℕ) → (p : IsPlanned j) → begin j + l.delay j a ≤ tick a slot_sample
+  comes_by j p = let e = p.begin_is in let f = (planned.answered laws b is meets t rest frame y from m sends j p.heard).before in omega arith
+
+  pub record IsFirst (i : ℕ) : Type 0 where
+    pub plan : IsPlanned i
+    pub first : (j : ℕ) → IsPlanned j → begin i + l.delay i a ≤ begin j + l.delay j a
+
+  pub the_first : (i : ℕ) × IsFirst i
+  the_first =
+      let other = is.other in
+      let p = plan_of other.0 other.1 in
+      let by = comes_by other.0 p in
+      let low = least_each (suc (tick a slot_sample)) (λ i. begin i + l.delay i a) l.nodes other.0 other.1.0 in
+      elim (least_is (suc (tick a slot_sample)) (λ i. begin i + l.delay i a) l.nodes) [
+        | inl e ↦ absurd (omega arith)
+        | inr r ↦ (r.0, first_by r.0 r.1 r.2)
+      ]
+    where
+      first_by : (i : ℕ) → i < l.nodes → least (suc (tick a slot_sample)) (λ i. begin i + l.delay i a) l.nodes ≡ begin i + l.delay i a → IsFirst i
+      first_by i inside e = elim (cases_eq i a) [
+        | inl here ↦
+            (let other = is.other in
+            let p = plan_of other.0 other.1 in
+            let by = comes_by other.0 p in
+            let low = least_each (suc (tick a slot_sample)) (λ i. begin i + l.delay i a) l.nodes other.0 other.1.0 in
+            let same : begin i ≡ begin a = ap begin here in
+            let late = begin_sender in
+            absurd (omega arith))
+        | inr apart ↦ record {
+          plan = plan_of i (inside, apart);
+          first = λ j q. (let low = least_each (suc (tick a slot_sample)) (λ i. begin i + l.delay i a) l.nodes j q.heard.listener.0 in omega arith);
+        }
+      ]
+
+  module _ (i : ℕ) (f : IsFirst i) where
+    abbrev heard : Heard i
+    heard = f.plan.heard
+
+    abbrev edge : ℕ
+    edge = answer_begin (listener_of b i) (l.delay i a) f.plan.heard.quantum
+
+    abbrev seen_own : ℕ → Seen
+    seen_own = sees_at laws.clocks (b.setups a) (is.book a is.sender) (lv a)
+
+    abbrev delimiter : ℕ
+    delimiter = own_sample s (lengths_of b a) last
+
+    edge_is : edge ≡ begin i + l.delay i a
+    edge_is = let e = f.plan.begin_is in omega arith
+
+    none_before_edge : (k : ℕ) → tick a k < edge → Unanswered a (tick a k)
+    none_before_edge k soon j q = let e = edge_is in let first_one = f.first j q in omega arith
+
+    quiet_own : (k : ℕ) → delimiter < k → tick a k < edge → lv a k ≡ Recessive
+    quiet_own k low soon =
+        let come = loop last in
+        let rise = up a is.sender delimiter k (omega arith) in
+        let start = start_before_own in
+        as_planned a k is.sender (none_before_edge k soon) ∙ planned.finds_late laws b is meets t rest frame y from m sends a is.sender k (omega arith) (omega arith)
+
+    next_slot : base (suc last) ≡ base last + B a
+    next_slot = let e : suc last * B a ≡ last * B a + B a = omega arith in omega arith
+
+    -- where it is when it finds that
+    waits : (k : ℕ) → Finds (b.clocks a) k edge → DoesOwn sent_frames k (Frame (suc last)) Recessive
+    waits k finds =
+        let here = next_slot in
+        let seen_it = finds.seen in
+        let e = edge_is in
+        let none = none_own (base (suc last)) (omega arith) i f.plan in
+        let low_ps2 = (is.book a is.sender).lengths.ps2_low in
+        let by = comes_by i f.plan in
+        let low : base (suc last) < k = elim (cases_lt (base (suc last)) k) [
+          | inl less ↦ less
+          | inr more ↦ (let rise = up a is.sender k (base (suc last)) more in absurd (omega arith))
+        ] in
+        let high : k ≤ slot_sample = elim (cases_lt slot_sample k) [
+          | inl less ↦ (let unseen = finds.unseen slot_sample less in absurd (omega arith))
+          | inr more ↦ more
+        ] in
+        speaking.delimited laws.clocks laws.frame b is meets t rest frame y from m sends (lv a) own_hears (k - base (suc last)) (omega arith)
+        (λ p less. quiet_own (base (suc last) + p) (omega arith) (finds.unseen (base (suc last) + p) (omega arith))) k (omega arith) (omega arith)
+
+    drive_none : drive_of (Frame (suc last)) ≡ Recessive
+    drive_none = frames.sender_drives laws.frame frame sends.content y sends.stuffs (suc last) (omega arith) ∙ get_or_past y (suc last) Recessive (omega arith)
+
+    hears : HearsAnswer s (lengths_of b a) (listener_of b i) (l.delay i a) last f.plan.heard.quantum seen_own
+    hears = record {
+      clock = ap (clock_after (lengths_of b a)) (sym (seen_are laws.clocks (b.setups a) (is.book a is.sender) (lv a) (suc delimiter))) ∙ speaking.delimited_clock laws.clocks laws.frame b is meets t rest frame y from m sends (lv a) own_hears;
+      silent = quiet_own;
+      there = λ k low soon. (let e = f.plan.begin_is in let g = f.plan.end_is in answered_then a k is.sender i f.plan (omega arith) (omega arith));
+      awaits = λ k finds. ap awaits_start (waits k finds).stretch
+          ∙ ap (λ n. n == 0) (frames.own_length laws.frame frame sends.content y sends.stuffs (suc last) (omega arith)) ∙ ne_eqb (suc last) 0 (λ e. omega arith);
+      driving = λ k finds. ap is_dominant (waits k finds).drives;
+    }
+
+    pub record SlotSample : Type 0 where
+      pub quantum : ℕ
+      pub low : slot_sample ≤ quantum
+      pub high : quantum ≤ slot_sample + (lengths_of b a).sjw
+      pub next : SamplesNext (lengths_of b a) seen_own delimiter quantum Dominant
+
+    pub slot_sampled_at : SlotSample
+    slot_sampled_at =
+        let r =
+        stay.sampled s (lengths_of b a) (listener_of b i) (planned.seen_by laws b is meets t rest frame y from m sends i f.plan.heard.listener) seen_own f.plan.heard.found (l.delay i a) last f.plan.heard.quantum
+        (is.steady a is.sender) (is.steady i f.plan.heard.listener.0) (is.book a is.sender) (is.book i f.plan.heard.listener.0) refl (meets.near i f.plan.heard.listener)
+        (meets.answers i f.plan.heard.listener) (slots.begins_there i f.plan.heard.listener) f.plan.heard.sampled hears in
+        record { quantum = r.0; low = r.1; high = r.2; next = r.3 }
+
+    module _ (at_slot : SlotSample) where
+      abbrev pub q : ℕ
+      q = at_slot.quantum
+
+      start_delimited : DoesOwn sent_frames (suc delimiter) (Frame (suc last)) Recessive
+      start_delimited =
+          let here = next_slot in
+          let few = (is.book a is.sender).lengths.ps2_low in
+          speaking.delimited laws.clocks laws.frame b is meets t rest frame y from m sends (lv a) own_hears 0 (omega arith) (λ p less. absurd (omega arith)) (suc delimiter) (omega arith) (omega arith)
+
+      still_own : (k : ℕ) → delimiter < k → k ≤ q → DoesOwn sent_frames k (Frame (suc last)) Recessive
+      still_own k low high =
+          let place = at_slot.next.place in
+          let here : suc delimiter + (k - suc delimiter) ≡ k = omega arith in
+          let cut : (k - suc delimiter) + (q - k) ≡ at_slot.next.quanta = omega arith in
+          subst (λ n. DoesOwn sent_frames n (Frame (suc last)) Recessive) here
+          (stays laws.clocks laws.frame (b.setups a) (is.book a is.sender) (lv a) frame sends.content y sends.stuffs laws.listens.ways sent_frames (suc delimiter) (Frame (suc last)) drive_none start_delimited
+          (k - suc delimiter)
+          (none_before laws.clocks laws.frame (b.setups a) (is.book a is.sender) (lv a) frame sends.content y sends.stuffs laws.listens.ways sent_frames (suc delimiter) (k - suc delimiter) (q - k)
+          (ap (samples_from (lengths_of b a) seen_own (suc delimiter)) cut ∙ at_slot.next.first)))
+
+      slot_done : DoesOwn sent_frames (suc q) (Frame (suc (suc last))) Recessive
+      slot_done =
+          slot_sampled laws.clocks laws.frame (b.setups a) (is.book a is.sender) (lv a) frame sends.content y sends.stuffs laws.listens.ways sent_frames delimiter q start_delimited at_slot.next
+
+      slot_beat : beat_at laws.clocks (b.setups a) (is.book a is.sender) (lv a) q ≡ Sample Dominant
+      slot_beat = ap (λ v. beat_of (lengths_of b a) v (seen_own q)) (seen_are laws.clocks (b.setups a) (is.book a is.sender) (lv a) q) ∙ at_slot.next.beat
+
+      slot_place : (longer : ℕ) × IsGoing laws.clocks (b.setups a) (is.book a is.sender) (lv a) sent_frames (suc q) (suc (S a)) longer false (Frame (suc (suc last))) Recessive
+      slot_place =
+          let r = sampled_place laws.clocks (b.setups a) (is.book a is.sender) (lv a) laws.listens.ways q Dominant slot_beat in
+          (r.0, record { place = r.1; does = slot_done })
+
+      slot_last : (clock_at laws.clocks (b.setups a) (is.book a is.sender) (lv a) (suc q)).sample ≡ Dominant
+      slot_last = sample_before laws.clocks (b.setups a) (is.book a is.sender) (lv a) q Dominant slot_beat
+
+      abbrev pub after_own : Waits (q + (lengths_of b a).ps2) (S a) (B a)
+      after_own = after_sending laws.frame frame sends.content y sends.stuffs (q + (lengths_of b a).ps2) (S a) (B a) sent_frames
+
+      -- all is over by its sample of the ACK delimiter
+      pub over_own : (k : ℕ) → q + B a ≤ k → AllOver a (tick a k)
+      over_own k late = record {
+        bits =
+            (let come = loop last in
+            let low = at_slot.low in
+            let here = next_slot in
+            let rise = up a is.sender (base last + S a) k (omega arith) in
+            omega arith);
+        answers = λ j p.
+            (let e = p.end_is in
+            let low = at_slot.low in
+            let two : own_sample s (lengths_of b a) (suc (suc last)) ≡ slot_sample + B a = (let g : suc (suc last) * B a ≡ suc last * B a + B a = omega arith in omega arith) in
+            let rise = up a is.sender (own_sample s (lengths_of b a) (suc (suc last))) k (omega arith) in
+            let by =
+            stay.ends_there s (lengths_of b a) (listener_of b j) (planned.seen_by laws b is meets t rest frame y from m sends j p.heard.listener) p.heard.found (l.delay j a) last p.heard.quantum (is.steady a is.sender) (is.steady j p.heard.listener.0)
+            (is.book a is.sender) (is.book j p.heard.listener.0) refl (meets.near j p.heard.listener) (meets.answers j p.heard.listener) (slots.ends_there j p.heard.listener) p.heard.sampled in
+            omega arith);
+      }
+
+      silent_own : (k : ℕ) → q + B a ≤ k → lv a k ≡ Recessive
+      silent_own k late =
+          let e = start_before_own in
+          let low = at_slot.low in
+          silent_then a k is.sender (omega arith) (over_own k late)
+
+      settled_own : IsSilentAt laws.clocks (b.setups a) (is.book a is.sender) (lv a) (q + (lengths_of b a).ps2) after_own (suc (q + B a))
+      settled_own =
+          settling.settled laws.clocks (b.setups a) (is.book a is.sender) (lv a) sent_frames q slot_place.0 (Frame (suc (suc last))) Recessive
+          (sent_quiet laws.frame frame sends.content y sends.stuffs) after_own
+          (sent_first laws.frame frame sends.content y sends.stuffs (q + (lengths_of b a).ps2) (S a) (B a) sent_frames)
+          (sent_passed laws.frame frame sends.content y sends.stuffs (q + (lengths_of b a).ps2) (S a) (B a) sent_frames 0) slot_place.1 slot_last (silent_own (q + B a) (omega arith))
+
+      pub rests_own : (k : ℕ) → suc (q + B a) ≤ k → k ≤ q + 11 * B a
+          → IsSilentAt laws.clocks (b.setups a) (is.book a is.sender) (lv a) (q + (lengths_of b a).ps2) after_own k
+      rests_own k late soon =
+          silent_at laws.clocks (b.setups a) (is.book a is.sender) (lv a) (q + (lengths_of b a).ps2) after_own (suc (q + B a)) (q + 11 * B a)
+          (λ n low high. silent_own n (omega arith))
+          (λ c many low high. (let bits : 10 * B a ≤ c * B a = mul-le-mul_right (B a) many in absurd (omega arith)))
+          settled_own k late soon
+
+      -- what it does at each quantum
+      pub record DoingOwn (k : ℕ) : Type 0 where
+        pub passed : List Passed
+        pub stretch : Stretch
+        pub drive : Level
+        pub does : DoesOwn passed k stretch drive
+        pub quiet : base (suc last) < k → drive ≡ Recessive
+        pub count : ℕ
+        pub gone : (passed ≡ (rest.node a is.sender).waits.passed (min count 10)) ⊎ (passed ≡ after_own.passed (min count 10))
+
+      in_frame : (k : ℕ) (u : Stretch) (v : Level) → (base (suc last) < k → v ≡ Recessive) → DoesOwn sent_frames k u v → DoingOwn k
+      in_frame k u v none d =
+          let ten : min 10 10 ≡ 10 = omega arith in
+          record { passed = sent_frames; stretch = u; drive = v; does = d; quiet = none; count = 10; gone = inl (ap (rest.node a is.sender).waits.passed (sym ten)) }
+
+      pub doing_own : (k : ℕ) → (rest.node a is.sender).start ≤ k → k ≤ q + 11 * B a → DoingOwn k
+      doing_own k late soon =
+          let here = next_slot in
+          let few = (is.book a is.sender).lengths.ps2_low in
+          let low = at_slot.low in
+          elim (cases_lt from k) [
+            | inr idle ↦
+                (let d = speaking.still laws.clocks laws.frame b is meets t rest frame y from m sends (lv a) own_hears k late idle in
+                let bits : 0 * B a ≤ suc last * B a = mul-le-mul_right (B a) (omega arith) in
+                record {
+                  passed = (rest.node a is.sender).waits.passed (min d.0 10);
+                  stretch = d.1;
+                  drive = Recessive;
+                  does = d.2;
+                  quiet = λ w. refl;
+                  count = d.0;
+                  gone = inl refl;
+                })
+            | inl speaking_now ↦ elim (cases_lt (base (suc last)) k) [
+              | inr bits ↦
+                  (let d = speaking.speaks laws.clocks laws.frame b is meets t rest frame y from m sends (lv a) own_hears k speaking_now bits in
+                  in_frame k (Frame d.0) d.1 (λ w. absurd (omega arith)) d.2)
+              | inl slot ↦ elim (cases_lt q k) [
+                | inr before_it ↦ in_frame k (Frame (suc last)) Recessive (λ w. refl) (still_own k (omega arith) before_it)
+                | inl past ↦ elim (cases_lt (q + B a) k) [
+                  | inl idle ↦
+                      (let r = rests_own k idle soon in
+                      record {
+                        passed = after_own.passed (min r.count 10);
+                        stretch = r.stretch;
+                        drive = Recessive;
+                        does = r.going.does;
+                        quiet = λ w. refl;
+                        count = r.count;
+                        gone = inr refl;
+                      })
+                  | inr delimiting ↦ in_frame k (Frame (suc (suc last))) Recessive (λ w. refl) (settles k past delimiting)
+                ]
+              ]
+            ]
+          ]
+        where
+          settles : (k : ℕ) → q < k → k ≤ q + B a → DoesOwn sent_frames k (Frame (suc (suc last))) Recessive
+          settles k past delimiting = elim (cases_lt (q + (lengths_of b a).ps2) k) [
+            | inr slot ↦
+                settling.between laws.clocks (b.setups a) (is.book a is.sender) (lv a) sent_frames q slot_place.0 (Frame (suc (suc last))) Recessive
+                (sent_quiet laws.frame frame sends.content y sends.stuffs) after_own
+                (sent_first laws.frame frame sends.content y sends.stuffs (q + (lengths_of b a).ps2) (S a) (B a) sent_frames)
+                (sent_passed laws.frame frame sends.content y sends.stuffs (q + (lengths_of b a).ps2) (S a) (B a) sent_frames 0) slot_place.1 slot_last k past slot
+            | inl over ↦
+                settling.delimiting laws.clocks (b.setups a) (is.book a is.sender) (lv a) sent_frames q slot_place.0 (Frame (suc (suc last))) Recessive
+                (sent_quiet laws.frame frame sends.content y sends.stuffs) after_own
+                (sent_first laws.frame frame sends.content y sends.stuffs (q + (lengths_of b a).ps2) (S a) (B a) sent_frames)
+                (sent_passed laws.frame frame sends.content y sends.stuffs (q + (lengths_of b a).ps2) (S a) (B a) sent_frames 0) slot_place.1 slot_last k over delimiting
+          ]
+
+      drives_own : (k u : ℕ) → (rest.node a is.sender).start ≤ suc k → suc k ≤ q + 11 * B a → t ≤ u → tick a k ≤ u → u < tick a (suc k)
+          → drove a u ≡ is_dominant (node laws.clocks (b.setups a) (is.book a is.sender) (lv a) (suc k)).drive
+      drives_own k u late soon from_then low high = elim (cases_lt k (base (suc last))) [
+        | inl bits ↦
+            drove_sender u from_then
+            ∙ speaking.drives_bits laws.clocks laws.frame b is meets t rest frame y from m sends (lv a) own_hears 0 (omega arith) (λ p less. absurd (omega arith)) k u late (omega arith) low high
+        | inr over ↦
+            (let d = doing_own (suc k) late soon in
+            let rise = up a is.sender (base (suc last)) k over in
+            let mono = begins_later last (suc last) (omega arith) in
+            drove_sender u from_then ∙ sent_after y begins begins_later u (omega arith) ∙ sym (ap is_dominant (d.does.drives ∙ d.quiet (omega arith))))
+      ]
+
+      drives_other : (j : ℕ) → (p : IsPlanned j) → (k u : ℕ) → (rest.node j p.heard.listener.0).start ≤ suc k → t ≤ u → tick j k ≤ u → u < tick j (suc k)
+          → drove j u ≡ is_dominant (node laws.clocks (b.setups j) (is.book j p.heard.listener.0) (lv j) (suc k)).drive
+      drives_other j p k u late from_then low high =
+          let d = doing j p (suc k) late in
+          let e = p.begin_is in
+          let g = p.end_is in
+          let inside = p.heard.listener.0 in
+          drove_other j u p.heard.listener.1 from_then
+          ∙ elim (cases_lt k (reply j p)) [
+            | inl early ↦
+                (let rise = up j p.heard.listener.0 (suc k) (reply j p) early in
+                lasts_not_yet (begin j) (end j) u (omega arith) ∙ sym (ap is_dominant (d.does.drives ∙ d.quiet (inl early))))
+            | inr past ↦ elim (cases_lt k (reply j p + B j)) [
+              | inl in_it ↦
+                  (let rise = up j p.heard.listener.0 (reply j p) k past in
+                  let fall = up j p.heard.listener.0 (suc k) (reply j p + B j) in_it in
+                  lasts_now (begin j) (end j) u (omega arith) (omega arith) ∙ sym (ap is_dominant (d.does.drives ∙ d.loud (omega arith) in_it)))
+              | inr over ↦
+                  (let rise = up j p.heard.listener.0 (reply j p + B j) k over in
+                  lasts_no_more (begin j) (end j) u (omega arith) ∙ sym (ap is_dominant (d.does.drives ∙ d.quiet (inr (omega arith)))))
+            ]
+          ]
+
+      -- up to a tick at which all is over, that is what all drive
+      abbrev pub next_rest : ℕ
+      next_rest = tick a (q + 5 * B a)
+
+      abbrev pub cut : ℕ
+      cut = min next_rest l.stop
+
+      expected : IsExpected l (λ i. cut) drove
+      expected = record {
+        near = λ i j in_ jn. omega arith;
+        inside = λ i inside. omega arith;
+        before = before;
+        drives = drives;
+      }
+        where
+          before : (i u : ℕ) → i < l.nodes → u < cut → u < l.instant i 0 → drove i u ≡ false
+          before i u inside soon early = elim (cases_lt u t) [
+            | inl old ↦ drove_old i u old ∙ level_first laws.simulation l is.causal i u inside early
+            | inr late ↦ elim (cases_eq i a) [
+              | inl here ↦
+                  (let e = is.ticks i 0 inside in
+                  let g : tick i 0 ≡ tick a 0 = ap (λ n. tick n 0) here in
+                  let rise = up a is.sender 0 (base 0) (omega arith) in
+                  subst (λ n. drove n u ≡ false) (sym here) (drove_sender u late ∙ sent_before y begins begins_later u (omega arith)))
+              | inr apart ↦
+                  (let p = plan_of i (inside, apart) in
+                  let e = is.ticks i 0 inside in
+                  let g = p.begin_is in
+                  let rise = up i inside 0 (reply i p) (omega arith) in
+                  drove_other i u apart late ∙ lasts_not_yet (begin i) (end i) u (omega arith))
+            ]
+          ]
+
+          drives : (i k u : ℕ) → i < l.nodes → u < cut → l.instant i k ≤ u → u < l.instant i (suc k) → drove i u ≡ l.drives i (levels_before (levels_found l drove i) (suc k))
+          drives i k u inside soon low high =
+              let e = is.ticks i k inside in
+              let g = is.ticks i (suc k) inside in
+              elim (cases_lt u t) [
+                | inl old ↦
+                    (let few : suc k ≤ (rest.node i inside).start = elim (cases_lt k (rest.node i inside).start) [
+                      | inl less ↦ less
+                      | inr more ↦ (let after = (rest.node i inside).after in let rise = up i inside (rest.node i inside).start k more in absurd (omega arith))
+                    ] in
+                    drove_old i u old ∙ level_then laws.simulation l is.causal i k u inside (omega arith) low high ∙ ap (l.drives i) (lists_old i inside (suc k) few))
+                | inr late ↦
+                    (let begun : (rest.node i inside).start ≤ suc k = elim (cases_lt (suc k) (rest.node i inside).start) [
+                      | inl less ↦ (let before = (rest.node i inside).before (suc k) less in absurd (omega arith))
+                      | inr more ↦ more
+                    ] in
+                    elim (cases_eq i a) [
+                      | inl here ↦ by_sender here late begun
+                      | inr apart ↦ by_other apart late
+                    ])
+              ]
+            where
+              by_sender : i ≡ a → t ≤ u → (rest.node i inside).start ≤ suc k → drove i u ≡ l.drives i (levels_before (levels_found l drove i) (suc k))
+              by_sender here late begun =
+                  let e = is.ticks i k inside in
+                  let g = is.ticks i (suc k) inside in
+                  let h : tick i k ≡ tick a k = ap (λ n. tick n k) here in
+                  let m : tick i (suc k) ≡ tick a (suc k) = ap (λ n. tick n (suc k)) here in
+                  let few : k < q + 5 * B a = elim (cases_lt k (q + 5 * B a)) [
+                    | inl less ↦ less
+                    | inr more ↦ (let rise = up a is.sender (q + 5 * B a) k more in absurd (omega arith))
+                  ] in
+                  let some = (is.book a is.sender).lengths.low in
+                  let start : (rest.node a is.sender).start ≤ suc k = elim (cases_lt (suc k) (rest.node a is.sender).start) [
+                    | inl less ↦ (let before = (rest.node a is.sender).before (suc k) less in absurd (omega arith))
+                    | inr more ↦ more
+                  ] in
+                  subst (λ n. drove n u ≡ l.drives n (levels_before (levels_found l drove n) (suc k))) (sym here)
+                  (drives_own k u start (omega arith) late (omega arith) (omega arith) ∙ sym (is.drives a (levels_before (levels_found l drove a) (suc k)) is.sender))
+
+              by_other : i ≢ a → t ≤ u → drove i u ≡ l.drives i (levels_before (levels_found l drove i) (suc k))
+              by_other apart late =
+                  let p = plan_of i (inside, apart) in
+                  let e = is.ticks i k inside in
+                  let g = is.ticks i (suc k) inside in
+                  let start : (rest.node i p.heard.listener.0).start ≤ suc k = elim (cases_lt (suc k) (rest.node i p.heard.listener.0).start) [
+                    | inl less ↦ (let before = (rest.node i p.heard.listener.0).before (suc k) less in absurd (omega arith))
+                    | inr more ↦ more
+                  ] in
+                  drives_other i p k u start late (omega arith) (omega arith) ∙ sym (is.drives i (levels_before (levels_found l drove i) (suc k)) inside)
+
+      pub agree : (i u : ℕ) → i < l.nodes → u < cut → level l i u ≡ drove i u
+      agree = driven_is laws.simulation l (λ i. cut) drove is.causal expected
+
+      pub lists_then : (i k : ℕ) → i < l.nodes → ((n : ℕ) → n < k → l.instant i n < cut) → seen l i k ≡ levels_before (lv i) k
+      lists_then i k inside before = seen_is laws.simulation l (λ i. cut) drove is.causal expected i k inside before
+
+      -- how near the nodes are to each other then
+      bits_own : slot_sample + 5 * B a ≡ base (last + 6) + S a
+      bits_own = let e : (last + 6) * B a ≡ suc last * B a + 5 * B a = omega arith in omega arith
+
+      late_listener : (j : ℕ) → (p : IsPlanned j) → tick j (reply j p + S j + B j) < next_rest
+      late_listener j p =
+          let inside = p.heard.listener.0 in
+          let behind =
+          stay.behind s (listener_of b j) (planned.seen_by laws b is meets t rest frame y from m sends j p.heard.listener) p.heard.found last p.heard.quantum (is.steady a is.sender) (is.steady j p.heard.listener.0) (is.book j p.heard.listener.0)
+          (meets.near j p.heard.listener) p.heard.sampled 2 (omega arith) in
+          let two : p.heard.quantum + 2 * B j ≡ reply j p + S j + B j = omega arith in
+          let here = ap (steady_tick (b.clocks j)) two in
+          let late = (meets.answers j p.heard.listener).late in
+          let some = (is.steady j p.heard.listener.0).divides in
+          let far : (b.clocks j).den * ((b.clocks a).den * l.delay a j) ≤ (b.clocks j).den * (S a * (b.clocks a).num) = omega arith in
+          let way : (b.clocks a).den * l.delay a j ≤ S a * (b.clocks a).num = le_of_mul-le-mul_left far some in
+          let come = comes_back (b.clocks a) (is.steady a is.sender) (base (last + 4)) (S a) (l.delay a j) way in
+          let low = at_slot.low in
+          let bits = bits_own in
+          let more : (last + 6) * B a ≡ (last + 4) * B a + 2 * B a = omega arith in
+          let place : base (last + 2 + 2) ≡ base (last + 4) = (let e : last + 2 + 2 ≡ last + 4 = omega arith in ap (λ n. from + n * B a) e) in
+          let place_tick = ap (steady_tick (b.clocks a)) place in
+          let rise = up a is.sender (base (last + 4) + S a) (q + 5 * B a) (omega arith) in
+          omega arith
+
+      -- the next start of frame comes to each listener after the second bit of its intermission
+      spaced_next : (j : ℕ) → (p : IsPlanned j) → (k : ℕ) → 10 ≤ k
+          → tick j (reply j p + S j + (lengths_of b j).ps2 + 9 * B j + S j) < tick a (q + (lengths_of b a).ps2 + suc k * B a) + l.delay a j
+      spaced_next j p k many =
+          let behind =
+          stay.behind s (listener_of b j) (planned.seen_by laws b is meets t rest frame y from m sends j p.heard.listener) p.heard.found last p.heard.quantum (is.steady a is.sender) (is.steady j p.heard.listener.0) (is.book j p.heard.listener.0)
+          (meets.near j p.heard.listener) p.heard.sampled 11 (omega arith) in
+          let eleven : p.heard.quantum + 11 * B j ≡ reply j p + S j + (lengths_of b j).ps2 + 9 * B j + S j = omega arith in
+          let here = ap (steady_tick (b.clocks j)) eleven in
+          let low = at_slot.low in
+          let bits : 11 * B a ≤ suc k * B a = mul-le-mul_right (B a) (omega arith) in
+          let more : (last + 11 + 2) * B a ≡ suc last * B a + 12 * B a = omega arith in
+          let rise = up a is.sender (base (last + 11 + 2)) (q + (lengths_of b a).ps2 + suc k * B a) (omega arith) in
+          omega arith
+
+      module _ (in_time : next_rest ≤ l.stop) where
+        rises : (i k : ℕ) → i < l.nodes → tick i k < tick i (suc k)
+        rises i k inside =
+            let next = is.causal.clocks i k inside in
+            let e = is.ticks i k inside in
+            let g = is.ticks i (suc k) inside in
+            omega arith
+
+        -- what has been found by then is so
+        same_then : (i k : ℕ) → (inside : i < l.nodes) → ((n : ℕ) → n < k → tick i n < next_rest)
+            → levels_before (lv i) k ≡ levels_before (resting.actual laws.clocks b is i) k
+        same_then i k inside before = levels_same (lv i) (resting.actual laws.clocks b is i) k (λ n less.
+            ap level_of (laws.simulation.found_same l drove (level l) i (l.instant i n) (λ j inside_j come.
+            (let e = is.ticks i n inside in
+            let soon = before n less in
+            sym (agree j (l.instant i n - l.delay j i) inside_j (omega arith))))))
+
+        own_rests : RestsAt laws.clocks b is next_rest a is.sender
+        own_rests =
+            let some = (is.book a is.sender).lengths.low in
+            let before : (k : ℕ) → k < q + 5 * B a → tick a k < next_rest =
+            λ k less. (let next = rises a k is.sender in let rise = up a is.sender (suc k) (q + 5 * B a) less in omega arith) in
+            record {
+              start = q + 5 * B a;
+              before = before;
+              after = omega arith;
+              base = q + (lengths_of b a).ps2;
+              waits = after_own;
+              state =
+                  silent_same laws.clocks (b.setups a) (is.book a is.sender) (lv a) (resting.actual laws.clocks b is a) (q + (lengths_of b a).ps2) after_own (q + 5 * B a)
+                  (same_then a (q + 5 * B a) is.sender before) (rests_own (q + 5 * B a) (omega arith) (omega arith));
+            }
+
+        other_rests : (j : ℕ) → (p : IsPlanned j) → RestsAt laws.clocks b is next_rest j p.heard.listener.0
+        other_rests j p =
+            let inside = p.heard.listener.0 in
+            let late = late_listener j p in
+            let zero_is = is.ticks j 0 inside in
+            let first_up = up j p.heard.listener.0 0 (reply j p + S j + B j) (omega arith) in
+            let r : LastQuantum l is.causal j (next_rest - 1) = last_quantum l is.causal j (next_rest - 1) inside (omega arith) in
+            let begun = r.begun in
+            let next = r.next in
+            let begun_is = is.ticks j r.quantum inside in
+            let next_is = is.ticks j (suc r.quantum) inside in
+            let before : (k : ℕ) → k < suc r.quantum → tick j k < next_rest = λ k less. (let rise = up j p.heard.listener.0 k r.quantum (omega arith) in omega arith) in
+            let past : suc (reply j p + S j + B j) ≤ suc r.quantum = elim (cases_lt (reply j p + S j + B j) (suc r.quantum)) [
+              | inl less ↦ less
+              | inr more ↦ (let rise = up j p.heard.listener.0 (suc r.quantum) (reply j p + S j + B j) more in absurd (omega arith))
+            ] in
+            record {
+              start = suc r.quantum;
+              before = before;
+              after = omega arith;
+              base = reply j p + S j + (lengths_of b j).ps2;
+              waits = after j p;
+              state =
+                  silent_same laws.clocks (b.setups j) (is.book j p.heard.listener.0) (lv j) (resting.actual laws.clocks b is j) (reply j p + S j + (lengths_of b j).ps2) (after j p) (suc r.quantum)
+                  (same_then j (suc r.quantum) p.heard.listener.0 before) (rests_from j p (suc r.quantum) past);
+            }
+
+        -- all is over at each node then
+        over_then : (i : ℕ) → i < l.nodes → AllOver i next_rest
+        over_then i inside = elim (cases_eq i a) [
+          | inl here ↦
+              subst (λ n. AllOver n next_rest) (sym here) (over_own (q + 5 * B a) (omega arith))
+          | inr apart ↦
+              (let p = plan_of i (inside, apart) in
+              let late = late_listener i p in
+              let o = over_by i p (reply i p + S i + B i) (omega arith) in
+              record {
+                bits = (let e = o.bits in omega arith);
+                answers = λ j r. (let e = o.answers j r in omega arith);
+              })
+        ]
+
+        pub quiet_then : (i j u : ℕ) → i < l.nodes → j < l.nodes → u < next_rest → next_rest ≤ u + l.delay i j → level l i u ≡ false
+        quiet_then i j u ni nj early come =
+            let o = over_then j nj in
+            let later = next_late in
+            agree i u ni (omega arith)
+            ∙ elim (cases_lt u t) [
+              | inl old ↦ drove_old i u old ∙ rest.quiet i j u ni nj old (omega arith)
+              | inr late ↦ elim (cases_eq i a) [
+                | inl here ↦
+                    (let e = o.bits in
+                    let d : l.delay i j ≡ l.delay a j = ap (λ n. l.delay n j) here in
+                    subst (λ n. drove n u ≡ false) (sym here) (drove_sender u late ∙ sent_after y begins begins_later u (omega arith)))
+                | inr apart ↦
+                    (let p = plan_of i (ni, apart) in
+                    let e = o.answers i p in
+                    drove_other i u apart late ∙ lasts_no_more (begin i) (end i) u (omega arith))
+              ]
+            ]
+          where
+            next_late : t ≤ next_rest
+            next_late =
+                let e = speaking.rest_before laws.clocks laws.frame b is meets t rest frame y from m sends in
+                let low = at_slot.low in
+                let rise = up a is.sender (base 0) (q + 5 * B a) (let bits : 0 * B a ≤ suc last * B a = mul-le-mul_right (B a) (omega arith) in omega arith) in
+                omega arith
+
+        -- with one frame more
+        pub record NextNode (v : ℕ) (inside : v < l.nodes) : Type 0 where
+          pub rests : RestsAt laws.clocks b is next_rest v inside
+          pub gone : (v ≢ a) → (p : IsPlanned v) × (rests.waits.passed ≡ (after v p).passed)
+          pub own_gone : v ≡ a → rests.waits.passed ≡ after_own.passed
+          pub own_base : v ≡ a → rests.base ≡ q + (lengths_of b a).ps2
+          pub own_start : v ≡ a → rests.start ≡ q + 5 * B a
+          pub spaced : v ≢ a → (k : ℕ) → 10 ≤ k
+              → tick v (rests.base + (rests.waits.enough - 1) * B v + S v) < tick a (q + (lengths_of b a).ps2 + suc k * B a) + l.delay a v
+
+        own_next : NextNode a is.sender
+        unfolding own_rests
+        own_next = record {
+          rests = own_rests;
+          gone = λ e. absurd (e refl);
+          own_gone = λ e. refl;
+          own_base = λ e. refl;
+          own_start = λ e. refl;
+          spaced = λ e. absurd (e refl);
+        }
+
+        other_next : (j : ℕ) → (p : IsPlanned j) → NextNode j p.heard.listener.0
+        unfolding other_rests
+        other_next j p = record {
+          rests = other_rests j p;
+          gone = λ e. (p, refl);
+          own_gone = λ e. absurd (p.heard.listener.1 e);
+          own_base = λ e. absurd (p.heard.listener.1 e);
+          own_start = λ e. absurd (p.heard.listener.1 e);
+          spaced = λ e k many.
+              (let h = spaced_next j p k many in
+              let enough = receiving_enough laws.frame frame sends.content y sends.stuffs (reply j p + S j + (lengths_of b j).ps2) (S j) (B j) (planned.frames_of laws b is meets t rest frame y from m sends j p.heard.listener) in
+              subst (λ n. tick j (reply j p + S j + (lengths_of b j).ps2 + (n - 1) * B j + S j) < tick a (q + (lengths_of b a).ps2 + suc k * B a) + l.delay a j) (sym enough) h);
+        }
+
+        pub next_node : (v : ℕ) → (inside : v < l.nodes) → NextNode v inside
+        next_node v inside = elim (cases_eq v a) [
+          | inl here ↦ subst (λ n. (h : n < l.nodes) → NextNode n h) (sym here) (λ h. subst (NextNode a) (le_prop is.sender h) own_next) inside
+          | inr apart ↦ (let p = plan_of v (inside, apart) in subst (NextNode v) (le_prop p.heard.listener.0 inside) (other_next v p))
+        ]
+
+      -- the frames that have passed by then
+      module _ (queue : List Queued) (n : ℕ) (is_next : IsNext queue n frame) (sent_so_far : IsPassed queue true n sent_frames)
+          (received_so_far : (j : ℕ) → (p : IsListener b j) → IsPassed queue false n (planned.frames_of laws b is meets t rest frame y from m sends j p)) where
+        one_more : (sent : Bool) (quantum : ℕ) (gone : List Passed) → IsPassed queue sent n gone
+            → IsPassed queue sent (suc n) (gone ++ record { sent = sent; quantum = quantum; frame = frame } ∷ [])
+        one_more sent quantum gone was =
+            subst (λ c. IsPassed queue sent (suc n) (gone ++ record { sent = sent; quantum = quantum; frame = c } ∷ [])) is_next.frame
+            (one_passed queue is_next.more is_next.queued sent n quantum gone was is_next.left)
+
+        pub own_late : (c : ℕ) → 7 < c → IsPassed queue true (suc n) (after_own.passed c)
+        own_late c over =
+            subst (IsPassed queue true (suc n)) (sym (sent_passed laws.frame frame sends.content y sends.stuffs (q + (lengths_of b a).ps2) (S a) (B a) sent_frames c
+            ∙ ap (λ w. cond w sent_frames (sent_frames ++ kept laws.frame frame sends.content y sends.stuffs (q + (lengths_of b a).ps2) (S a) (B a) sent_frames true 7)) (lt-leb c 7 over)))
+            (one_more true (q + (lengths_of b a).ps2 + 7 * B a + S a) sent_frames sent_so_far)
+
+        pub own_early : (c : ℕ) → c ≤ 7 → IsPassed queue true n (after_own.passed c)
+        own_early c early =
+            subst (IsPassed queue true n) (sym (sent_passed laws.frame frame sends.content y sends.stuffs (q + (lengths_of b a).ps2) (S a) (B a) sent_frames c
+            ∙ ap (λ w. cond w sent_frames (sent_frames ++ kept laws.frame frame sends.content y sends.stuffs (q + (lengths_of b a).ps2) (S a) (B a) sent_frames true 7)) (le-leb c 7 early)))
+            sent_so_far
+
+        module _ (j : ℕ) (p : IsPlanned j) where
+          pub other_late : (c : ℕ) → 6 < c → IsPassed queue false (suc n) ((after j p).passed c)
+          other_late c over =
+              subst (IsPassed queue false (suc n))
+              (sym (received_passed laws.frame frame sends.content y sends.stuffs (reply j p + S j + (lengths_of b j).ps2) (S j) (B j) (planned.frames_of laws b is meets t rest frame y from m sends j p.heard.listener) c
+              ∙ ap (λ w. cond w (planned.frames_of laws b is meets t rest frame y from m sends j p.heard.listener) (planned.frames_of laws b is meets t rest frame y from m sends j p.heard.listener
+              ++ kept laws.frame frame sends.content y sends.stuffs (reply j p + S j + (lengths_of b j).ps2) (S j) (B j) (planned.frames_of laws b is meets t rest frame y from m sends j p.heard.listener) false 6)) (lt-leb c 6 over)))
+              (one_more false (reply j p + S j + (lengths_of b j).ps2 + 6 * B j + S j) (planned.frames_of laws b is meets t rest frame y from m sends j p.heard.listener) (received_so_far j p.heard.listener))
+
+          pub other_early : (c : ℕ) → c ≤ 6 → IsPassed queue false n ((after j p).passed c)
+          other_early c early =
+              subst (IsPassed queue false n)
+              (sym (received_passed laws.frame frame sends.content y sends.stuffs (reply j p + S j + (lengths_of b j).ps2) (S j) (B j) (planned.frames_of laws b is meets t rest frame y from m sends j p.heard.listener) c
+              ∙ ap (λ w. cond w (planned.frames_of laws b is meets t rest frame y from m sends j p.heard.listener) (planned.frames_of laws b is meets t rest frame y from m sends j p.heard.listener
+              ++ kept laws.frame frame sends.content y sends.stuffs (reply j p + S j + (lengths_of b j).ps2) (S j) (B j) (planned.frames_of laws b is meets t rest frame y from m sends j p.heard.listener) false 6)) (le-leb c 6 early)))
+              (received_so_far j p.heard.listener)

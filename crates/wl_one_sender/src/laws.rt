@@ -64,9 +64,17 @@ pub fn a_plan_is_such_a_bus()
         → IsInStepWithAll (sender_bus_of plan clocks sender frame stuffed decides)
         → EndsAfterSlot (sender_bus_of plan clocks sender frame stuffed decides)
         → IsAcknowledged (sender_bus_of plan clocks sender frame stuffed decides) }
+    ensures through { (plan : Plan) (clocks : ℕ → Steady) → IsSteadyPlan plan clocks
+        → (sender : ℕ) → sender < length plan.nodes → (frame : Content) (first : List Level) (decides : ℕ) (stuffed : ℕ → List Level)
+        → SendsFirst (sender_bus_of plan clocks sender frame first decides)
+        → AreFrames (sender_bus_of plan clocks sender frame first decides) stuffed
+        → IsInStepWithAll (sender_bus_of plan clocks sender frame first decides)
+        → StaysInSlots (sender_bus_of plan clocks sender frame first decides)
+        → GetThrough (sender_bus_of plan clocks sender frame first decides) }
 {
     wl_plan::checked_is_sound();
     the_first_frame_is_acknowledged();
+    every_frame_gets_through();
 }
 
 /// Law: so all frames get through.

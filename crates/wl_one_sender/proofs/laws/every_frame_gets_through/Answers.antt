@@ -1,6 +1,32 @@
-use Rattle.wl_one_sender.proofs.Planned.{Laws}
-use Rattle.wl_one_sender.proofs.Through.{StayLaws}
+use Rattle.wl_one_sender.proofs.Always.{gets_through}
 use Rattle.wl_one_sender.proofs.laws.every_frame_gets_through.Goals as goal
 
 pub returns : goal.returns
-returns c = ?
+returns c = λ b stuffed is sends frames meets slots.
+    gets_through (record {
+      clocks = record {
+        goes = record { clock = c.clock_goes_on.ensures.clock; beat = c.clock_goes_on.ensures.beat; sync = c.clock_goes_on.ensures.sync };
+        level = c.clock_goes_on.ensures.level;
+        sample = c.clock_goes_on.ensures.sample;
+      };
+      frame = record {
+        found = c.a_transmitter_sends_its_head_stuffed.ensures.found;
+        end = c.a_transmitter_sends_its_head_stuffed.ensures.end;
+        stays = c.stuffing_goes_on_bit_by_bit.ensures.stays;
+        keeps = c.stuffing_goes_on_bit_by_bit.ensures.keeps;
+      };
+      listens = record { ways = c.an_edge_moves_the_sample.ensures; samples = c.a_listener_samples_each_frame.ensures };
+      lines = c.driven_laws.ensures;
+      simulation = c.simulation_laws.ensures;
+      in_time = c.an_acknowledgement_comes_in_time.ensures;
+      apart = c.an_acknowledgement_comes_after_each_sample.ensures;
+      answer = c.the_sender_samples_the_acknowledgement.ensures;
+    })
+    (record {
+      begins = c.an_acknowledgement_stays_in_its_slot.ensures.begins;
+      ends = c.an_acknowledgement_stays_in_its_slot.ensures.ends;
+      begins_there = c.an_acknowledgement_stays_in_its_slot.ensures.begins_there;
+      ends_there = c.an_acknowledgement_stays_in_its_slot.ensures.ends_there;
+      sampled = c.an_acknowledgement_stays_in_its_slot.ensures.sampled;
+      behind = c.an_acknowledgement_stays_in_its_slot.ensures.behind;
+    }) b stuffed is sends frames meets slots

@@ -1,0 +1,80 @@
+-- The frames that have passed a node, beside those of the queue that they come from.
+use Rattle.std.proofs.Common.{◌≡◌, ◌≢◌, ◌∙◌, ◌⊎◌, inl, inr, refl, sym, ap, subst, ℕ, zero, suc, ◌+◌, ◌<◌, ◌≤◌, List, [], ◌∷◌, ◌++◌, Bool, true, false, cond, Some, None, arith, append_assoc, append-nil}
+use Rattle.std.specs.Prelude.{count_by, drop, map, nat_le}
+use Rattle.std.proofs.lemmas.List.Sums.{sum_by-append}
+use Rattle.wl_frame.specs.Grammar.{Content}
+use Rattle.wl_node.specs.declared.setup.Queued.{Queued}
+use Rattle.wl_node.specs.declared.setup.Passed.{Passed}
+use Rattle.wl_node.specs.History.{is_sent, ready_head}
+use Rattle.wl_one_sender.specs.Through.{frames_of}
+
+abbrev pub contents : List Passed → List Content
+contents = map (λ p. p.frame)
+
+-- the first n frames of a queue, sent or received
+pub record IsPassed (queue : List Queued) (sent : Bool) (n : ℕ) (passed : List Passed) : Type 0 where
+  pub whole : contents passed ++ frames_of (drop n queue) ≡ frames_of queue
+  pub count : count_by is_sent passed ≡ cond sent n 0
+
+pub none_passed : (queue : List Queued) (sent : Bool) → IsPassed queue sent 0 []
+none_passed queue true = record { whole = refl; count = refl }
+none_passed queue false = record { whole = refl; count = refl }
+
+contents_more : (a b : List Passed) → contents (a ++ b) ≡ contents a ++ contents b
+contents_more [] b = refl
+contents_more (x ∷ a) b = ap (λ v. x.frame ∷ v) (contents_more a b)
+
+drop_more : (n : ℕ) (queue more : List Queued) (q : Queued) → drop n queue ≡ q ∷ more → drop (suc n) queue ≡ more
+drop_more zero [] more q e = absurd (not_empty q more e)
+  where
+    not_empty : (q : Queued) (more : List Queued) → [] ≡ q ∷ more → ⊥
+    not_empty q more e = cc
+drop_more zero (x ∷ queue) more q e = tail_same x q queue more e
+  where
+    tail_same : (x q : Queued) (a b : List Queued) → x ∷ a ≡ q ∷ b → a ≡ b
+    tail_same x q a b e = cc
+drop_more (suc n) [] more q e = absurd (not_empty q more e)
+  where
+    not_empty : (q : Queued) (more : List Queued) → [] ≡ q ∷ more → ⊥
+    not_empty q more e = cc
+drop_more (suc n) (x ∷ queue) more q e = drop_more n queue more q e
+
+pub one_passed : (queue more : List Queued) (q : Queued) (sent : Bool) (n quantum : ℕ) (passed : List Passed) → IsPassed queue sent n passed → drop n queue ≡ q ∷ more
+    → IsPassed queue sent (suc n) (passed ++ record { sent = sent; quantum = quantum; frame = q.frame } ∷ [])
+one_passed queue more q sent n quantum passed is e = record {
+  whole =
+      ap (λ v. v ++ frames_of (drop (suc n) queue)) (contents_more passed (record { sent = sent; quantum = quantum; frame = q.frame } ∷ []))
+      ∙ append_assoc (contents passed) (q.frame ∷ []) (frames_of (drop (suc n) queue))
+      ∙ ap (λ v. contents passed ++ q.frame ∷ frames_of v) (drop_more n queue more q e) ∙ ap (λ v. contents passed ++ frames_of v) (sym e) ∙ is.whole;
+  count =
+      sum_by-append (λ p. cond (is_sent p) 1 0) passed (record { sent = sent; quantum = quantum; frame = q.frame } ∷ [])
+      ∙ ap (λ k. k + (0 + cond sent 1 0)) is.count ∙ counted sent n;
+}
+  where
+    counted : (sent : Bool) (n : ℕ) → cond sent n 0 + (0 + cond sent 1 0) ≡ cond sent (suc n) 0
+    counted true n = omega arith
+    counted false n = omega arith
+
+-- the frame that is ready is the next of them
+pub record IsNext (queue : List Queued) (n : ℕ) (head : Content) : Type 0 where
+  pub queued : Queued
+  pub more : List Queued
+  pub left : drop n queue ≡ queued ∷ more
+  pub frame : queued.frame ≡ head
+
+ready_is : (qs : List Queued) (k : ℕ) (head : Content) → ready_head qs k ≡ Some head → (q : Queued) × (more : List Queued) × (qs ≡ q ∷ more) × (q.frame ≡ head)
+ready_is [] k head e = absurd (none_some head e)
+  where
+    none_some : (head : Content) → None ≡ Some head → ⊥
+    none_some head e = cc
+ready_is (q ∷ qs) k head e = (q, qs, refl, by (nat_le q.ready k) e)
+  where
+    by : (b : Bool) → cond b (Some q.frame) None ≡ Some head → q.frame ≡ head
+    by true e = cc
+    by false e = cc
+
+pub next_is : (queue : List Queued) (sent : Bool) (n k : ℕ) (passed : List Passed) (head : Content) → IsPassed queue true n passed
+    → ready_head (drop (count_by is_sent passed) queue) k ≡ Some head → IsNext queue n head
+next_is queue sent n k passed head is e =
+    let r = ready_is (drop n queue) k head (ap (λ c. ready_head (drop c queue) k) (sym is.count) ∙ e) in
+    record { queued = r.0; more = r.1; left = r.2; frame = r.3 }
