@@ -1,12 +1,13 @@
 -- The frames that have passed a node, beside those of the queue that they come from.
-use Rattle.std.proofs.Common.{◌≡◌, ◌≢◌, ◌∙◌, ◌⊎◌, inl, inr, refl, sym, ap, subst, ℕ, zero, suc, ◌+◌, ◌<◌, ◌≤◌, List, [], ◌∷◌, ◌++◌, Bool, true, false, cond, Some, None, arith, append_assoc, append-nil}
+use Rattle.std.proofs.Common.{◌≡◌, ◌≢◌, ◌∙◌, ◌⊎◌, inl, inr, refl, sym, ap, subst, ℕ, zero, suc, ◌+◌, ◌<◌, ◌≤◌, List, [], ◌∷◌, ◌++◌, Bool, true, false, cond, Some, None, arith, length, append_assoc, append-nil, length-append}
 use Rattle.std.specs.Prelude.{count_by, drop, map, nat_le}
 use Rattle.std.proofs.lemmas.List.Sums.{sum_by-append}
 use Rattle.wl_frame.specs.Grammar.{Content}
 use Rattle.wl_node.specs.declared.setup.Queued.{Queued}
 use Rattle.wl_node.specs.declared.setup.Passed.{Passed}
 use Rattle.wl_node.specs.History.{is_sent, ready_head}
-use Rattle.wl_one_sender.specs.Through.{frames_of}
+use Rattle.wl_one_sender.specs.Through.{first_ready, frames_of, ready_at}
+use Rattle.std.proofs.lemmas.Bool.{cases_lt, le-leb}
 
 abbrev pub contents : List Passed → List Content
 contents = map (λ p. p.frame)
@@ -15,10 +16,11 @@ contents = map (λ p. p.frame)
 pub record IsPassed (queue : List Queued) (sent : Bool) (n : ℕ) (passed : List Passed) : Type 0 where
   pub whole : contents passed ++ frames_of (drop n queue) ≡ frames_of queue
   pub count : count_by is_sent passed ≡ cond sent n 0
+  pub long : length passed ≡ n
 
 pub none_passed : (queue : List Queued) (sent : Bool) → IsPassed queue sent 0 []
-none_passed queue true = record { whole = refl; count = refl }
-none_passed queue false = record { whole = refl; count = refl }
+none_passed queue true = record { whole = refl; count = refl; long = refl }
+none_passed queue false = record { whole = refl; count = refl; long = refl }
 
 contents_more : (a b : List Passed) → contents (a ++ b) ≡ contents a ++ contents b
 contents_more [] b = refl
@@ -49,6 +51,7 @@ one_passed queue more q sent n quantum passed is e = record {
   count =
       sum_by-append (λ p. cond (is_sent p) 1 0) passed (record { sent = sent; quantum = quantum; frame = q.frame } ∷ [])
       ∙ ap (λ k. k + (0 + cond sent 1 0)) is.count ∙ counted sent n;
+  long = length-append passed (record { sent = sent; quantum = quantum; frame = q.frame } ∷ []) ∙ ap (λ k. k + 1) is.long ∙ omega arith;
 }
   where
     counted : (sent : Bool) (n : ℕ) → cond sent n 0 + (0 + cond sent 1 0) ≡ cond sent (suc n) 0
@@ -78,3 +81,27 @@ pub next_is : (queue : List Queued) (sent : Bool) (n k : ℕ) (passed : List Pas
 next_is queue sent n k passed head is e =
     let r = ready_is (drop n queue) k head (ap (λ c. ready_head (drop c queue) k) (sym is.count) ∙ e) in
     record { queued = r.0; more = r.1; left = r.2; frame = r.3 }
+
+pub contents_long : (passed : List Passed) → length (contents passed) ≡ length passed
+contents_long [] = refl
+contents_long (x ∷ passed) = ap suc (contents_long passed)
+
+-- a frame that isn't ready is so later
+ready_first_late : (q : Queued) (qs : List Queued) (k : ℕ) → ready_head (q ∷ qs) k ≡ None → k < q.ready
+ready_first_late q qs k e = elim (cases_lt k q.ready) [
+  | inl less ↦ less
+  | inr more ↦ absurd (some_none q.frame (sym (ap (λ b. cond b (Some q.frame) None) (le-leb q.ready k more)) ∙ e))
+]
+  where
+    some_none : (f : Content) → Some f ≡ None → ⊥
+    some_none f e = cc
+
+pub ready_late : (queue : List Queued) (n k : ℕ) (q : Queued) (more : List Queued) → drop n queue ≡ q ∷ more → ready_head (drop n queue) k ≡ None → k < ready_at queue n
+ready_late queue n k q more e none =
+    subst (λ v. k < first_ready v) (sym e) (ready_first_late q more k (ap (λ v. ready_head v k) (sym e) ∙ none))
+
+-- and if some are left, one is
+pub ready_not : (queue : List Queued) (n k : ℕ) → n < length queue → ready_at queue n ≤ k → ready_head (drop n queue) k ≡ None → ⊥
+ready_not [] n k less late none = absurd (omega arith)
+ready_not (q ∷ queue) zero k less late none = let e = ready_first_late q queue k none in omega arith
+ready_not (q ∷ queue) (suc n) k less late none = ready_not queue n k (omega arith) late none

@@ -1,6 +1,7 @@
 -- What all nodes of a bus with one sender do from its rest up to the first acknowledgement: the sender alone drives, and each other node samples its bits.
 use Rattle.std.proofs.Common.{◌≡◌, ◌≢◌, ◌∙◌, ◌⊎◌, inl, inr, refl, sym, ap, subst, ℕ, zero, suc, ◌+◌, ◌-◌, ◌*◌, ◌<◌, ◌≤◌, List, [], length, min, Bool, true, false, cond, Some, None, ◌∷◌, ◌++◌, ◌||◌, arith}
 use Rattle.std.specs.Prelude.{nat_lt}
+use Rattle.std.proofs.Math.Nat.{mul-le-mul_right}
 use Rattle.std.proofs.lemmas.Bool.{cases_lt, cases_eq, lt-ltb, le-ltb}
 use Rattle.wl_level.specs.declared.Level.{Level}
 use Rattle.wl_level.specs.declared.Level.TheVariants.{Dominant, Recessive}
@@ -35,7 +36,7 @@ use Rattle.wl_one_sender.proofs.Receiving as receiving
 use Rattle.wl_one_sender.proofs.Receiving.{ListenGoes}
 use Rattle.wl_one_sender.proofs.Resting as resting
 use Rattle.wl_one_sender.proofs.Resting.{Rests, RestsAt, SendsNext}
-use Rattle.wl_one_sender.proofs.Silence.{IsSilentAt, begun_by, counted, left_none, silent_at, silent_same, waiting_awaits, waiting_drives}
+use Rattle.wl_one_sender.proofs.Silence.{CountsTo, IsSilentAt, begun_by, counted, counts_to, ten_counted, left_none, silent_at, silent_same, waiting_awaits, waiting_drives}
 use Rattle.wl_one_sender.proofs.Speaking as speaking
 use Rattle.wl_one_sender.proofs.Speaking.{HearsOwn}
 
@@ -218,6 +219,7 @@ module _ (laws : Laws) (b : SenderBus) (is : IsBus b) (meets : IsInStepWithAll b
     pub listener : IsListener b j
     pub found : ℕ
     pub late : (rest.node j listener.0).start ≤ found
+    pub ten : (rest.node j listener.0).base + 9 * B j + S j < found
     pub waits : (k : ℕ) → (rest.node j listener.0).start ≤ k → k ≤ found
         → IsSilentAt laws.clocks (b.setups j) (is.book j listener.0) (levels j) (rest.node j listener.0).base (rest.node j listener.0).waits k
     pub hears : HearsIt j listener found
@@ -284,7 +286,7 @@ module _ (laws : Laws) (b : SenderBus) (is : IsBus b) (meets : IsInStepWithAll b
       } in
       let k = receiving.each_sample laws.clocks laws.frame (b.setups j) (is.book j inside) (levels j) frame sends.content y sends.stuffs laws.listens
       (b.clocks a) (B a) from (b.clocks j) (l.delay a j) (frames_of j listener) (suc q.quantum) h last (omega arith) in
-      record { listener = listener; found = suc q.quantum; late = late; waits = silent; hears = h; quantum = k.0; sampled = k.1 }
+      record { listener = listener; found = suc q.quantum; late = late; ten = (let bits : 9 * B j ≤ (r.waits.enough - 1) * B j = mul-le-mul_right (B j) (omega arith) in omega arith); waits = silent; hears = h; quantum = k.0; sampled = k.1 }
 
   module _ (j : ℕ) (h : IsHeard j) where
     abbrev inside : j < l.nodes
@@ -325,6 +327,7 @@ module _ (laws : Laws) (b : SenderBus) (is : IsBus b) (meets : IsInStepWithAll b
     -- up to it it drives recessive, and finds no error
     pub silent : (i : ℕ) → (rest.node j h.listener.0).start ≤ i → i ≤ answer
         → (c : ℕ) × (u : Stretch) × Does laws.clocks (b.setups j) (is.book j h.listener.0) (levels j) ((rest.node j h.listener.0).waits.passed (min c 10)) i u Recessive
+        × CountsTo (rest.node j h.listener.0).base (S j) (B j) i c
     silent i low high = elim (cases_lt h.quantum i) [
       | inl past ↦
           (let p = S j + (i - h.quantum) in
@@ -334,13 +337,15 @@ module _ (laws : Laws) (b : SenderBus) (is : IsBus b) (meets : IsInStepWithAll b
             subst (λ k. Does laws.clocks (b.setups j) (is.book j h.listener.0) (levels j) (frames_of j h.listener) k (Heard (suc last)) Recessive) here
                 (answering.rests laws.clocks laws.frame (b.setups j) (is.book j h.listener.0) (levels j) frame sends.content y sends.stuffs (frames_of j h.listener) h.quantum place.0 place.1 quiet
                 (S j + (i - h.quantum)) (omega arith) (omega arith)).does,
+            ten_counted (rest.node j h.listener.0).base (S j) (B j) i (let e = h.ten in let f = h.sampled.after in omega arith),
           ))
       | inr up_to ↦ elim (cases_lt i h.found) [
-        | inl early ↦ (let w = h.waits i low (omega arith) in (w.count, w.stretch, w.going.does))
+        | inl early ↦ (let w = h.waits i low (omega arith) in
+            (w.count, w.stretch, w.going.does, counts_to laws.clocks (b.setups j) (is.book j h.listener.0) (levels j) (rest.node j h.listener.0).base (rest.node j h.listener.0).waits i w))
         | inr late ↦
             (let d = receiving.silent_up_to laws.clocks laws.frame (b.setups j) (is.book j h.listener.0) (levels j) frame sends.content y sends.stuffs laws.listens
             (b.clocks a) (B a) from (b.clocks j) (l.delay a j) (frames_of j h.listener) h.found h.hears h.quantum h.sampled i late up_to in
-            (10, d.0, d.1))
+            (10, d.0, d.1, ten_counted (rest.node j h.listener.0).base (S j) (B j) i (let e = h.ten in omega arith)))
       ]
     ]
 

@@ -166,9 +166,20 @@ pub record Decides (setup : NodeSetup) (passed : List Passed) (base S B : ℕ) (
   pub ready : ready_head (left_of setup passed) (base + m * B + S) ≡ Some head
   pub unready : (n : ℕ) → 10 ≤ n → n < m → ready_head (left_of setup passed) (base + n * B + S) ≡ None
 
+-- how many bits were sampled by a quantum, as far as ten
+pub record CountsTo (base S B k count : ℕ) : Type 0 where
+  pub more : (c : ℕ) → c < 10 → base + c * B + S < k → c < count
+  pub less : (c : ℕ) → c < 10 → c < count → base + c * B + S < k
+
 drop_none : (n : ℕ) → drop {A = Queued} n [] ≡ []
 drop_none zero = refl
 drop_none (suc n) = refl
+
+pub ten_counted : (base S B k : ℕ) → base + 9 * B + S < k → CountsTo base S B k 10
+ten_counted base S B k past = record {
+  more = λ c few h. few;
+  less = λ c few h. (let bits : c * B ≤ 9 * B = mul-le-mul_right B (omega arith) in omega arith);
+}
 
 pub left_none : (setup : NodeSetup) (passed : List Passed) → setup.queue ≡ [] → left_of setup passed ≡ []
 left_none setup passed e = ap (drop (count_by is_sent passed)) e ∙ drop_none (count_by is_sent passed)
@@ -263,6 +274,20 @@ module _ (clocks : ClockGoes) (setup : NodeSetup) (book : ByTheBook setup.segmen
             | inr before ↦ (let e = a.early before in absurd (omega arith))
           ])
     ]
+
+    pub counts_to : (k : ℕ) → (a : IsSilentAt k) → CountsTo base S B k a.count
+    counts_to k a = record {
+      more = λ c few past. counted k c a past;
+      less = λ c few fewer.
+          (let bits : suc c * B ≤ a.count * B = mul-le-mul_right B fewer in
+          let one : suc c * B ≡ c * B + B = omega arith in
+          let low = book.lengths.ps2_low in
+          let more = a.low in
+          elim (cases_lt S a.p) [
+            | inl after ↦ (let e = a.late after in omega arith)
+            | inr before ↦ (let e = a.early before in omega arith)
+          ]);
+    }
 
     module _ (start most : ℕ) (silent : (k : ℕ) → start ≤ k → k < most → levels k ≡ Recessive)
         (unready : (c : ℕ) → 10 ≤ c → start ≤ base + c * B + S → base + c * B + S < most → ready_head (left (w.passed 10)) (base + c * B + S) ≡ None) where
@@ -456,13 +481,18 @@ module _ (clocks : ClockGoes) (setup : NodeSetup) (book : ByTheBook setup.segmen
 
       -- before its frame it drives recessive, and has no error
       pub idle_still : (k : ℕ) → start ≤ k → k ≤ base + suc m * B
-          → (c : ℕ) × (s : Stretch) × Does clocks setup book levels (w.passed (min c 10)) k s Recessive
+          → (c : ℕ) × (s : Stretch) × Does clocks setup book levels (w.passed (min c 10)) k s Recessive × CountsTo base S B k c
       idle_still k late h = elim (cases_lt (base + m * B + S) k) [
         | inl past ↦
             (let e = next_bit in
             let f : base + m * B + (k - (base + m * B)) ≡ k = omega arith in
-            (10, Begun, subst (λ i. Does clocks setup book levels (w.passed 10) i Begun Recessive) f (waits (k - (base + m * B)) (omega arith) (omega arith)).does))
-        | inr up_to ↦ (let a = before_it k late up_to in (a.count, a.stretch, a.going.does))
+            (
+              10,
+              Begun,
+              subst (λ i. Does clocks setup book levels (w.passed 10) i Begun Recessive) f (waits (k - (base + m * B)) (omega arith) (omega arith)).does,
+              ten_counted base S B k (let bits : 10 * B ≤ m * B = mul-le-mul_right B is.idle in omega arith),
+            ))
+        | inr up_to ↦ (let a = before_it k late up_to in (a.count, a.stretch, a.going.does, counts_to k a))
       ]
 
   -- a node after its power-up

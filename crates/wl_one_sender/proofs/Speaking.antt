@@ -32,7 +32,7 @@ use Rattle.wl_one_sender.proofs.Bits.{at_place}
 use Rattle.wl_one_sender.proofs.Resting as resting
 use Rattle.wl_one_sender.proofs.Resting.{Rests, RestsAt, SendsNext}
 use Rattle.wl_one_sender.proofs.Sending as sending
-use Rattle.wl_one_sender.proofs.Silence.{Waits, IsSilentAt, about, idle_still}
+use Rattle.wl_one_sender.proofs.Silence.{CountsTo, Waits, IsSilentAt, about, idle_still}
 
 -- a level that comes back by the sample
 module _ (c : Steady) (is : IsSteady c) where
@@ -202,6 +202,7 @@ module _ (clocks : ClockGoes) (goes : FrameGoes) (b : SenderBus) (is : IsBus b) 
         (about clocks (b.setups a) book_a lv at_rest.base at_rest.waits frame m at_rest.start sends.decides start_soon silent_up_to own.first)
 
     pub still : (k : ℕ) → at_rest.start ≤ k → k ≤ from → (c : ℕ) × (u : Stretch) × Does clocks (b.setups a) book_a lv (at_rest.waits.passed (min c 10)) k u Recessive
+        × CountsTo at_rest.base (S a) (B a) k c
     still k late h =
         let e = sends.from_is in
         idle_still clocks (b.setups a) book_a lv at_rest.base at_rest.waits frame m at_rest.start sends.decides start_soon silent_up_to own.first k late (omega arith)

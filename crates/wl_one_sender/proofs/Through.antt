@@ -48,7 +48,7 @@ use Rattle.wl_one_sender.proofs.Receiving.{sampled_place}
 use Rattle.wl_one_sender.proofs.Resting as resting
 use Rattle.wl_one_sender.proofs.Resting.{Rests, RestsAt, SendsNext}
 use Rattle.wl_one_sender.proofs.Settling as settling
-use Rattle.wl_one_sender.proofs.Silence.{Waits, IsSilentAt, left_none, silent_at, silent_same}
+use Rattle.wl_one_sender.proofs.Silence.{CountsTo, Waits, IsSilentAt, counts_to, left_none, silent_at, silent_same, ten_counted}
 use Rattle.wl_one_sender.proofs.Slots.{slot_sampled, stays, none_before}
 use Rattle.wl_one_sender.proofs.Speaking as speaking
 use Rattle.wl_one_sender.proofs.Speaking.{HearsOwn, comes_back}
@@ -65,6 +65,9 @@ pub record StayLaws : Type 0 where
   pub ends_there : (s : Sender) (own : Lengths) (j : Listener) (seen : ℕ → Seen) (found back d k : ℕ) → IsSteady s.clock → IsSteady j.clock → ByTheBook own → ByTheBook j.lengths
       → s.bit_quanta ≡ bit_quanta own → ClocksAreNear s j → ComesInTime s own j back → EndsInTime s own j back → SamplesBit s j seen found d k
       → answer_end j back k ≤ steady_tick s.clock (own_sample s own (suc (suc d)))
+  pub samples_before : (s : Sender) (own : Lengths) (j : Listener) (seen : ℕ → Seen) (found back d k : ℕ) → IsSteady s.clock → IsSteady j.clock → ByTheBook own → ByTheBook j.lengths
+      → s.bit_quanta ≡ bit_quanta own → ClocksAreNear s j → ComesInTime s own j back → EndsInTime s own j back → SamplesBit s j seen found d k
+      → steady_tick j.clock (k + 8 * bit_quanta j.lengths) ≤ steady_tick s.clock (own_sample s own (d + 9))
   pub sampled : (s : Sender) (own : Lengths) (j : Listener) (seen sender_seen : ℕ → Seen) (found back d k : ℕ) → IsSteady s.clock → IsSteady j.clock → ByTheBook own → ByTheBook j.lengths
       → s.bit_quanta ≡ bit_quanta own → ClocksAreNear s j → ComesInTime s own j back → ComesAfterOwn s j back → SamplesBit s j seen found d k → HearsAnswer s own j back d k sender_seen
       → (m : ℕ) × (own_sample s own (suc d) ≤ m) × (m ≤ own_sample s own (suc d) + own.sjw) × SamplesNext own sender_seen (own_sample s own d) m Dominant
@@ -426,7 +429,8 @@ module _ (laws : Laws) (stay : StayLaws) (b : SenderBus) (is : IsBus b) (meets :
       pub quiet : (k ≤ reply) ⊎ (reply + B j < k) → drive ≡ Recessive
       pub loud : reply < k → k ≤ reply + B j → drive ≡ Dominant
       pub count : ℕ
-      pub gone : (passed ≡ (rest.node j p.heard.listener.0).waits.passed (min count 10)) ⊎ (passed ≡ after.passed (min count 10))
+      pub gone : ((passed ≡ (rest.node j p.heard.listener.0).waits.passed (min count 10)) × CountsTo (rest.node j p.heard.listener.0).base (S j) (B j) k count)
+          ⊎ (passed ≡ after.passed (min count 10))
 
     pub doing : (k : ℕ) → (rest.node j p.heard.listener.0).start ≤ k → Doing k
     doing k late = elim (cases_lt reply k) [
@@ -440,7 +444,7 @@ module _ (laws : Laws) (stay : StayLaws) (b : SenderBus) (is : IsBus b) (meets :
             quiet = λ w. refl;
             loud = λ above below. absurd (omega arith);
             count = d.0;
-            gone = inl refl;
+            gone = inl (refl, d.3);
           })
       | inl past ↦ elim (cases_lt (reply + B j) k) [
         | inr in_it ↦ answers_then past in_it
@@ -451,8 +455,12 @@ module _ (laws : Laws) (stay : StayLaws) (b : SenderBus) (is : IsBus b) (meets :
         ten : min 10 10 ≡ 10
         ten = omega arith
 
+        counted_then : reply < k → CountsTo (rest.node j p.heard.listener.0).base (S j) (B j) k 10
+        counted_then past = ten_counted (rest.node j p.heard.listener.0).base (S j) (B j) k (let e = p.heard.ten in let f = p.heard.sampled.after in omega arith)
+
         answers_then : reply < k → k ≤ reply + B j → Doing k
         answers_then past in_it =
+            let ten_then = counted_then past in
             let low = (is.book j p.heard.listener.0).lengths.ps2_low in
             let place_is : reply + (k - reply) ≡ k = omega arith in
             elim (cases_lt (S j) (k - reply)) [
@@ -469,7 +477,7 @@ module _ (laws : Laws) (stay : StayLaws) (b : SenderBus) (is : IsBus b) (meets :
                     quiet = λ w. absurd (elim w [ inl a ↦ omega arith | inr a ↦ omega arith ]);
                     loud = λ above below. refl;
                     count = 10;
-                    gone = inl (ap (rest.node j p.heard.listener.0).waits.passed (sym ten));
+                    gone = inl (ap (rest.node j p.heard.listener.0).waits.passed (sym ten), ten_then);
                   })
               | inr early ↦
                   (let g = (answering.before laws.clocks laws.frame (b.setups j) (is.book j p.heard.listener.0) (lv j) frame sends.content y sends.stuffs gone p.heard.quantum place.0 place.1 quiet own
@@ -482,12 +490,12 @@ module _ (laws : Laws) (stay : StayLaws) (b : SenderBus) (is : IsBus b) (meets :
                     quiet = λ w. absurd (elim w [ inl a ↦ omega arith | inr a ↦ omega arith ]);
                     loud = λ above below. refl;
                     count = 10;
-                    gone = inl (ap (rest.node j p.heard.listener.0).waits.passed (sym ten));
+                    gone = inl (ap (rest.node j p.heard.listener.0).waits.passed (sym ten), ten_then);
                   })
             ]
 
         after_it : reply + B j < k → Doing k
-        after_it over = elim (cases_lt (reply + S j + B j) k) [
+        after_it over = let ten_then = counted_then (omega arith) in elim (cases_lt (reply + S j + B j) k) [
           | inl idle ↦
               (let r = rests_from k idle in
               record {
@@ -514,7 +522,7 @@ module _ (laws : Laws) (stay : StayLaws) (b : SenderBus) (is : IsBus b) (meets :
                 quiet = λ w. refl;
                 loud = λ above below. absurd (omega arith);
                 count = 10;
-                gone = inl (ap (rest.node j p.heard.listener.0).waits.passed (sym ten));
+                gone = inl (ap (rest.node j p.heard.listener.0).waits.passed (sym ten), ten_then);
               })
         ]
 
@@ -764,12 +772,25 @@ module _ (laws : Laws) (stay : StayLaws) (b : SenderBus) (is : IsBus b) (meets :
         pub does : DoesOwn passed k stretch drive
         pub quiet : base (suc last) < k → drive ≡ Recessive
         pub count : ℕ
-        pub gone : (passed ≡ (rest.node a is.sender).waits.passed (min count 10)) ⊎ (passed ≡ after_own.passed (min count 10))
+        pub gone : ((passed ≡ (rest.node a is.sender).waits.passed (min count 10)) × CountsTo (rest.node a is.sender).base (S a) (B a) k count)
+            ⊎ ((passed ≡ after_own.passed (min count 10)) × CountsTo (q + (lengths_of b a).ps2) (S a) (B a) k count × (from < k))
 
-      in_frame : (k : ℕ) (u : Stretch) (v : Level) → (base (suc last) < k → v ≡ Recessive) → DoesOwn sent_frames k u v → DoingOwn k
-      in_frame k u v none d =
+      in_frame : (k : ℕ) (u : Stretch) (v : Level) → from < k → (base (suc last) < k → v ≡ Recessive) → DoesOwn sent_frames k u v → DoingOwn k
+      in_frame k u v past none d =
           let ten : min 10 10 ≡ 10 = omega arith in
-          record { passed = sent_frames; stretch = u; drive = v; does = d; quiet = none; count = 10; gone = inl (ap (rest.node a is.sender).waits.passed (sym ten)) }
+          record {
+            passed = sent_frames;
+            stretch = u;
+            drive = v;
+            does = d;
+            quiet = none;
+            count = 10;
+            gone = inl (
+              ap (rest.node a is.sender).waits.passed (sym ten),
+              ten_counted (rest.node a is.sender).base (S a) (B a) k
+                  (let e = sends.from_is in let bits : 11 * B a ≤ suc m * B a = mul-le-mul_right (B a) (let many = sends.decides.idle in omega arith) in let more : 11 * B a ≡ 9 * B a + 2 * B a = omega arith in omega arith),
+            );
+          }
 
       pub doing_own : (k : ℕ) → (rest.node a is.sender).start ≤ k → k ≤ q + 11 * B a → DoingOwn k
       doing_own k late soon =
@@ -787,14 +808,14 @@ module _ (laws : Laws) (stay : StayLaws) (b : SenderBus) (is : IsBus b) (meets :
                   does = d.2;
                   quiet = λ w. refl;
                   count = d.0;
-                  gone = inl refl;
+                  gone = inl (refl, d.3);
                 })
             | inl speaking_now ↦ elim (cases_lt (base (suc last)) k) [
               | inr bits ↦
                   (let d = speaking.speaks laws.clocks laws.frame b is meets t rest frame y from m sends (lv a) own_hears k speaking_now bits in
-                  in_frame k (Frame d.0) d.1 (λ w. absurd (omega arith)) d.2)
+                  in_frame k (Frame d.0) d.1 speaking_now (λ w. absurd (omega arith)) d.2)
               | inl slot ↦ elim (cases_lt q k) [
-                | inr before_it ↦ in_frame k (Frame (suc last)) Recessive (λ w. refl) (still_own k (omega arith) before_it)
+                | inr before_it ↦ in_frame k (Frame (suc last)) Recessive speaking_now (λ w. refl) (still_own k (omega arith) before_it)
                 | inl past ↦ elim (cases_lt (q + B a) k) [
                   | inl idle ↦
                       (let r = rests_own k idle soon in
@@ -805,9 +826,9 @@ module _ (laws : Laws) (stay : StayLaws) (b : SenderBus) (is : IsBus b) (meets :
                         does = r.going.does;
                         quiet = λ w. refl;
                         count = r.count;
-                        gone = inr refl;
+                        gone = inr (refl, counts_to laws.clocks (b.setups a) (is.book a is.sender) (lv a) (q + (lengths_of b a).ps2) after_own k r, speaking_now);
                       })
-                  | inr delimiting ↦ in_frame k (Frame (suc (suc last))) Recessive (λ w. refl) (settles k past delimiting)
+                  | inr delimiting ↦ in_frame k (Frame (suc (suc last))) Recessive speaking_now (λ w. refl) (settles k past delimiting)
                 ]
               ]
             ]
@@ -993,6 +1014,19 @@ module _ (laws : Laws) (stay : StayLaws) (b : SenderBus) (is : IsBus b) (meets :
           let rise = up a is.sender (base (last + 11 + 2)) (q + (lengths_of b a).ps2 + suc k * B a) (omega arith) in
           omega arith
 
+      -- and each receives the frame before the sender has sent it
+      pub received_before : (j : ℕ) → (p : IsPlanned j) → tick j (reply j p + S j + (lengths_of b j).ps2 + 6 * B j + S j) ≤ tick a (q + (lengths_of b a).ps2 + 7 * B a + S a)
+      received_before j p =
+          let before =
+          stay.samples_before s (lengths_of b a) (listener_of b j) (planned.seen_by laws b is meets t rest frame y from m sends j p.heard.listener) p.heard.found (l.delay j a) last p.heard.quantum (is.steady a is.sender) (is.steady j p.heard.listener.0)
+          (is.book a is.sender) (is.book j p.heard.listener.0) refl (meets.near j p.heard.listener) (meets.answers j p.heard.listener) (slots.ends_there j p.heard.listener) p.heard.sampled in
+          let eight : p.heard.quantum + 8 * B j ≡ reply j p + S j + (lengths_of b j).ps2 + 6 * B j + S j = omega arith in
+          let here = ap (steady_tick (b.clocks j)) eight in
+          let low = at_slot.low in
+          let bits : (last + 9) * B a ≡ suc last * B a + 8 * B a = omega arith in
+          let rise = up a is.sender (own_sample s (lengths_of b a) (last + 9)) (q + (lengths_of b a).ps2 + 7 * B a + S a) (omega arith) in
+          omega arith
+
       module _ (in_time : next_rest ≤ l.stop) where
         rises : (i k : ℕ) → i < l.nodes → tick i k < tick i (suc k)
         rises i k inside =
@@ -1099,6 +1133,7 @@ module _ (laws : Laws) (stay : StayLaws) (b : SenderBus) (is : IsBus b) (meets :
           pub rests : RestsAt laws.clocks b is next_rest v inside
           pub gone : (v ≢ a) → (p : IsPlanned v) × (rests.waits.passed ≡ (after v p).passed)
           pub own_gone : v ≡ a → rests.waits.passed ≡ after_own.passed
+          pub base_is : (v ≢ a) → (p : IsPlanned v) × (rests.base ≡ reply v p + S v + (lengths_of b v).ps2)
           pub own_base : v ≡ a → rests.base ≡ q + (lengths_of b a).ps2
           pub own_start : v ≡ a → rests.start ≡ q + 5 * B a
           pub spaced : v ≢ a → (k : ℕ) → 10 ≤ k
@@ -1110,6 +1145,7 @@ module _ (laws : Laws) (stay : StayLaws) (b : SenderBus) (is : IsBus b) (meets :
           rests = own_rests;
           gone = λ e. absurd (e refl);
           own_gone = λ e. refl;
+          base_is = λ e. absurd (e refl);
           own_base = λ e. refl;
           own_start = λ e. refl;
           spaced = λ e. absurd (e refl);
@@ -1120,6 +1156,7 @@ module _ (laws : Laws) (stay : StayLaws) (b : SenderBus) (is : IsBus b) (meets :
         other_next j p = record {
           rests = other_rests j p;
           gone = λ e. (p, refl);
+          base_is = λ e. (p, refl);
           own_gone = λ e. absurd (p.heard.listener.1 e);
           own_base = λ e. absurd (p.heard.listener.1 e);
           own_start = λ e. absurd (p.heard.listener.1 e);

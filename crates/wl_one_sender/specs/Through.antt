@@ -1,5 +1,6 @@
 -- A bus on which one node has frames: what keeps each acknowledgement in its slot, and what becomes of all frames.
-use Rattle.std.specs.Prelude.{◌≡◌, ◌≢◌, ℕ, ◌<◌, ◌≤◌, List, ◌∷◌, ◌++◌, length, drop, map}
+use Rattle.std.specs.Prelude.{◌≡◌, ◌≢◌, ℕ, zero, suc, ◌+◌, ◌*◌, ◌<◌, ◌≤◌, max, List, [], ◌∷◌, ◌++◌, length, drop, map}
+use Rattle.wl_segments.specs.Lengths.{bit_quanta}
 use Rattle.wl_level.specs.declared.Level.{Level}
 use Rattle.wl_confine.specs.Counts.{no_counts}
 use Rattle.wl_frame.specs.Stuffing.{Stuffs}
@@ -38,8 +39,26 @@ history_at b i k = history_of (b.setups i) (seen b.line i k)
 abbrev pub passed_at : SenderBus → (i k : ℕ) → List Content
 passed_at b i k = map (λ p. p.frame) (history_at b i k).frames
 
--- At each quantum of each node up to the end there was no error and nothing that counts, and the frames so far are the first of the sender's, in their order.
-pub record GetThrough (b : SenderBus) : Type 0 where
+-- the quantum from which on the first of some frames is ready, and the n-th of a queue
+abbrev pub first_ready : List Queued → ℕ
+first_ready [] = 0
+first_ready (q ∷ more) = q.ready
+
+abbrev pub ready_at : List Queued → ℕ → ℕ
+ready_at queue n = first_ready (drop n queue)
+
+-- So many quanta of the sender after its power-up its first n frames are sent, at the latest: each takes its bits, and 15 more, from when it is ready and the one before
+-- it is sent. Those are the ten bits up to the end of frame, the intermission, and up to two that pass until the next sample.
+abbrev pub sent_by : SenderBus → (stuffed : ℕ → List Level) → ℕ → ℕ
+sent_by b stuffed zero = 8 * bit_quanta (lengths_of b b.sender)
+sent_by b stuffed (suc n) = max (sent_by b stuffed n) (ready_at (queue_of b) n) + (length (stuffed n) + 15) * bit_quanta (lengths_of b b.sender)
+
+-- At each quantum of each node up to the end there was no error and nothing that counts, and the frames so far are the first of the sender's, in their order. Each is sent
+-- in time, and whatever is sent by then each listener has received.
+pub record GetThrough (b : SenderBus) (stuffed : ℕ → List Level) : Type 0 where
   pub fine : (i k : ℕ) → i < b.line.nodes → AreInside b.line i k → error_count (history_at b i k) ≡ 0
   pub counters : (i k : ℕ) → i < b.line.nodes → AreInside b.line i k → counters_of (history_at b i k) ≡ no_counts
   pub frames : (i k : ℕ) → i < b.line.nodes → AreInside b.line i k → (rest : List Content) × (passed_at b i k ++ rest ≡ frames_of (queue_of b))
+  pub sent : (n k : ℕ) → n ≤ length (queue_of b) → AreInside b.line b.sender k → sent_by b stuffed n ≤ k → n ≤ length (passed_at b b.sender k)
+  pub received : (j k q : ℕ) → IsListener b j → AreInside b.line b.sender k → AreInside b.line j q → b.line.instant b.sender k ≤ b.line.instant j q
+      → length (passed_at b b.sender k) ≤ length (passed_at b j q)

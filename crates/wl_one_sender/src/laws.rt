@@ -70,7 +70,7 @@ pub fn a_plan_is_such_a_bus()
         → AreFrames (sender_bus_of plan clocks sender frame first decides) stuffed
         → IsInStepWithAll (sender_bus_of plan clocks sender frame first decides)
         → StaysInSlots (sender_bus_of plan clocks sender frame first decides)
-        → GetThrough (sender_bus_of plan clocks sender frame first decides) }
+        → GetThrough (sender_bus_of plan clocks sender frame first decides) stuffed }
 {
     wl_plan::checked_is_sound();
     the_first_frame_is_acknowledged();
@@ -80,7 +80,7 @@ pub fn a_plan_is_such_a_bus()
 /// Law: so all frames get through.
 pub fn every_frame_gets_through()
     ensures { (b : SenderBus) (stuffed : ℕ → List Level) → IsBus b → SendsFirst b → AreFrames b stuffed → IsInStepWithAll b
-        → StaysInSlots b → GetThrough b }
+        → StaysInSlots b → GetThrough b stuffed }
 {
     wl_sync::clock_goes_on();
     wl_frame::laws::stuffing_goes_on_bit_by_bit();

@@ -154,8 +154,9 @@ pub fn the_sender_samples_the_delimiter()
 
 /// Law: an acknowledgement stays in its slot. Let it come no earlier than the slot of the sender, and of each other listener,
 /// and let drift leave room for its end. Then it begins in the slot of each of them, and is over by that one's sample of the
-/// ACK delimiter. The sender samples it no earlier than by its own bits, and later by the jump width at most. So many bits
-/// later each listener is behind the sender by two bits at most.
+/// ACK delimiter. The sender samples it no earlier than by its own bits, and later by the jump width at most. Up to eleven bits
+/// later each listener is behind the sender by two bits at most, and it samples the last but one bit of the end of frame
+/// before the sender samples the last one.
 pub fn an_acknowledgement_stays_in_its_slot()
     ensures begins { (s : Sender) (i j : Listener) (seen other_seen : ℕ → Seen) (found other_found between d k n : ℕ)
         → IsSteady s.clock → IsSteady i.clock → IsSteady j.clock → ComesAfterBegin s i j between
@@ -172,6 +173,10 @@ pub fn an_acknowledgement_stays_in_its_slot()
         → IsSteady j.clock → ByTheBook own → ByTheBook j.lengths → s.bit_quanta ≡ bit_quanta own → ClocksAreNear s j
         → ComesInTime s own j back → EndsInTime s own j back → SamplesBit s j seen found d k
         → answer_end j back k ≤ steady_tick s.clock (own_sample s own (suc (suc d))) }
+    ensures samples_before { (s : Sender) (own : Lengths) (j : Listener) (seen : ℕ → Seen) (found back d k : ℕ)
+        → IsSteady s.clock → IsSteady j.clock → ByTheBook own → ByTheBook j.lengths → s.bit_quanta ≡ bit_quanta own
+        → ClocksAreNear s j → ComesInTime s own j back → EndsInTime s own j back → SamplesBit s j seen found d k
+        → steady_tick j.clock (k + 8 * bit_quanta j.lengths) ≤ steady_tick s.clock (own_sample s own (d + 9)) }
     ensures sampled { (s : Sender) (own : Lengths) (j : Listener) (seen sender_seen : ℕ → Seen) (found back d k : ℕ)
         → IsSteady s.clock → IsSteady j.clock → ByTheBook own → ByTheBook j.lengths → s.bit_quanta ≡ bit_quanta own
         → ClocksAreNear s j → ComesInTime s own j back → ComesAfterOwn s j back → SamplesBit s j seen found d k

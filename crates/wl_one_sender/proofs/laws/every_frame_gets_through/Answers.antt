@@ -27,6 +27,7 @@ returns c = λ b stuffed is sends frames meets slots.
       ends = c.an_acknowledgement_stays_in_its_slot.ensures.ends;
       begins_there = c.an_acknowledgement_stays_in_its_slot.ensures.begins_there;
       ends_there = c.an_acknowledgement_stays_in_its_slot.ensures.ends_there;
+      samples_before = c.an_acknowledgement_stays_in_its_slot.ensures.samples_before;
       sampled = c.an_acknowledgement_stays_in_its_slot.ensures.sampled;
       behind = c.an_acknowledgement_stays_in_its_slot.ensures.behind;
     }) b stuffed is sends frames meets slots

@@ -4,7 +4,7 @@ use Rattle.wl_segments.specs.Lengths.{bit_quanta, sample_at}
 use Rattle.wl_phase.specs.Clocks.{steady_tick}
 use Rattle.wl_phase.specs.Ways.{moved_to}
 use Rattle.wl_phase.specs.Answer.{moved_sample, own_sample}
-use Rattle.wl_phase.proofs.Answering.{ends_late}
+use Rattle.wl_phase.proofs.Answering.{ends_late, samples_before}
 use Rattle.wl_phase.proofs.Hearing.{heard, moved_most, tick_up}
 use Rattle.wl_phase.proofs.Stays.{after_begin, after_own, behind, ends_by, moved_later}
 use Rattle.wl_phase.proofs.laws.an_acknowledgement_stays_in_its_slot.Goals as goal
@@ -18,6 +18,8 @@ returns c = record {
   begins_there = λ s j seen found back d k sender listener late sampled. after_own s j seen found back d k sender.divides listener.divides sampled late;
   ends_there = λ s own j seen found back d k sender listener book their_book same near time ends sampled.
       ends_late s own j seen found back d k sender.divides listener.divides same sender.not_fast book their_book near time sampled ends;
+  samples_before = λ s own j seen found back d k sender listener book their_book same near time ends sampled.
+      samples_before s own j seen found back d k sender.divides listener.divides same sender.not_fast book their_book near time sampled ends;
   sampled = λ s own j seen sender_seen found back d k sender listener book their_book same near time late is hears.
       let answered = c.an_acknowledgement_comes_in_time.ensures s own j seen found back d k sender listener book their_book same near time is in
       let begun = after_own s j seen found back d k sender.divides listener.divides is late in
