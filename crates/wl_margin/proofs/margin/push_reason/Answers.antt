@@ -6,7 +6,7 @@ use Rattle.wl_margin.proofs.margin.push_reason.Goals as goal
 pub returns-in-SameIdentifier : goal.returns-in-SameIdentifier
 returns-in-SameIdentifier c =
     rw c.in-SameIdentifier.is (said c.push_shared.result (string_bytes c.args.text.now) (string_bytes c.push_shared.new.text)
-    (ap₂ shared_words c.name_of.ensures c.name_of-in-SameIdentifier.ensures) c.push_shared.ensures)
+    (ap₂ shared_words c.name_of-in-SameIdentifier.ensures c.name_of-in-SameIdentifier-2.ensures) c.push_shared.ensures)
 
 pub returns-in-NobodyIdle : goal.returns-in-NobodyIdle
 returns-in-NobodyIdle c =
