@@ -1,10 +1,14 @@
 #!/usr/bin/env python3
-"""One sender and its listeners from their power-up to the acknowledgement of the first frame, by the nodes of plain.py.
+"""One sender and its listeners from their power-up, by the nodes of plain.py.
 
     one_sender.py RUNS SEED [LEFT]    plays buses near the border of the conditions or, with LEFT, buses that meet all but that
-                                      one (slow, fast, sample, late, early, jump, apart, own or idle); says in how many a
-                                      listener samples another bit than was sent, a node finds an error, the sender samples
-                                      no acknowledgement, or no listener its own
+                                      one (slow, fast, sample, late, early, jump, apart, own or idle), to the acknowledgement
+                                      of the first frame; says in how many a listener samples another bit than was sent, a
+                                      node finds an error, the sender samples no acknowledgement, or no listener its own
+    one_sender.py through RUNS SEED [LEFT]
+                                      plays two to four frames on buses that keep each acknowledgement in its slot too or, with
+                                      LEFT, all but one condition (there, begins, ends or over); says in how many a node finds
+                                      an error or counts one, a frame is late or missed, or isn't received before it is sent
 """
 
 import random
@@ -114,6 +118,32 @@ def broken(nodes, delays):
     return names
 
 
+def out_of_slot(nodes, delays):
+    """The names of the conditions by which an acknowledgement stays in its slot that don't hold, the sender first."""
+    (sender, (own_num, own_den)), names = nodes[0], set()
+    at = []
+    for lengths, (num, den) in nodes:
+        quantum, one_tick, bit = own_den * num, own_den * den, den * bit_of(sender) * own_num
+        whole = bit_of(lengths) * quantum
+        at.append((quantum, one_tick, whole, max(0, bit - whole), max(0, whole - bit), den, sample_of(lengths) * quantum))
+    for j in range(1, len(nodes)):
+        quantum, one_tick, whole, slower, faster, den, sample = at[j]
+        way = (delays[0][j] + delays[j][0]) * one_tick
+        if quantum + 2 * one_tick + 10 * slower > way:
+            names.add("there")
+        if way + 11 * faster > sample_of(sender) * den * own_num:
+            names.add("ends")
+        for i in range(1, len(nodes)):
+            if i == j: continue
+            quantum2, tick2, whole2, slower2, faster2, den2, _ = at[i]
+            come = whole2 + (delays[0][i] + delays[i][j]) * tick2
+            if den * (quantum2 + 2 * tick2 + 9 * slower2) + den2 * (whole + 9 * faster + delays[0][j] * one_tick) > den * come:
+                names.add("begins")
+            if den * (whole2 + come + 9 * faster2) + den2 * (quantum + one_tick + 9 * slower) > den2 * (sample + 2 * whole + delays[0][j] * one_tick):
+                names.add("over")
+    return names
+
+
 def bus(left):
     """Segments and rates of nodes, and the delays between them."""
     while True:
@@ -166,12 +196,64 @@ def begins(node, line):
     return node.levels[first:last] == line and (node.wrong_at is None or node.wrong_at > last)
 
 
+def slot_bus(left):
+    """The same, with each acknowledgement in its slot, or all but one condition for it."""
+    while True:
+        nodes, delays = bus("")
+        if left in ("begins", "over") and len(nodes) < 3: continue
+        quantum = nodes[0][1][0] // nodes[0][1][1]
+        for _ in range(20):
+            loop = max(1, random.choice([1, 2, 3]) * quantum)
+            long = random.choice([1, quantum, sample_of(nodes[0][0]) * quantum // 4, sample_of(nodes[0][0]) * quantum // 2])
+            places = [(random.randint(0, max(1, long)), random.randint(0, loop), random.randint(1, max(1, loop))) for _ in nodes]
+            delays = [[a[1] + abs(a[0] - b[0]) + b[2] for b in places] for a in places]
+            if not broken(nodes, delays) and out_of_slot(nodes, delays) == ({left} if left else set()):
+                return nodes, delays
+
+
+def run_through(left):
+    nodes, delays = slot_bus(left)
+    (sender, sender_rate), others = nodes[0], nodes[1:]
+    bits = bit_of(sender)
+    queue, due, ready = [], 8 * bits, 0
+    for _ in range(random.choice([2, 3, 4])):
+        frame = long_frame()
+        ready = random.choice([ready, 0, due + random.randint(0, 12 * bits)])
+        queue.append(plain.Queued(frame, ready))
+        due = max(due, ready) + (len(plain.stuff(frame.bits())) + 15) * bits
+    first = max(10, -(-(queue[0].ready - sample_of(sender)) // bits)) + 1
+    latest = [tick(0, sender_rate, first * bits) + delays[0][j] - tick(0, rate, 10 * bit_of(lengths) + sample_of(lengths)) - 1 for j, (lengths, rate) in enumerate(nodes) if j]
+    offset = max([0] + [-n for n in latest]) + random.randrange(200)
+    offsets = [random.choice([n + offset, random.randint(0, n + offset)]) for n in latest]
+    setups = [plain.Setup("sender", plain.Clock(offset, [plain.Rate(0, *sender_rate)]), plain.Segments(*sender, True), queue)]
+    setups += [plain.Setup("listener", plain.Clock(n, [plain.Rate(0, *rate)]), plain.Segments(*lengths, True), []) for n, (lengths, rate) in zip(offsets, others)]
+    played = play(setups, delays, tick(offset, sender_rate, due + random.randint(1, 20 * bits)))
+    if any(node.errors or node.counters.tec or node.counters.rec for node in played): return False
+    due, sent = 8 * bits, played[0].frames
+    if [(what, frame) for what, _, frame in sent] != [("sent", queued.frame) for queued in queue]: return False
+    for queued, (_, quantum, frame) in zip(queue, sent):
+        due = max(due, queued.ready) + (len(plain.stuff(frame.bits())) + 15) * bits
+        if quantum >= due: return False
+    for node in played[1:]:
+        if [(what, frame) for what, _, frame in node.frames] != [("received", queued.frame) for queued in queue]: return False
+        for (_, quantum, _), (_, at, _) in zip(node.frames, sent):
+            if node.setup.clock.at(quantum) >= played[0].setup.clock.at(at): return False
+    return True
+
+
+def search_through(runs, left):
+    print(f"{runs} runs, {sum(not run_through(left) for _ in range(runs))} wrong")
+
+
 def search(runs, left):
     print(f"{runs} runs, {sum(not run(left) for _ in range(runs))} wrong")
 
 
 if __name__ == "__main__":
-    if len(sys.argv) not in (3, 4):
+    words = sys.argv[1:]
+    play_all = words[:1] == ["through"]
+    if play_all: words.pop(0)
+    if len(words) not in (2, 3):
         sys.exit(__doc__)
-    random.seed(int(sys.argv[2]))
-    search(int(sys.argv[1]), sys.argv[3] if len(sys.argv) == 4 else None)
+    random.seed(int(words[1]))
+    (search_through if play_all else search)(int(words[0]), words[2] if len(words) == 3 else None)

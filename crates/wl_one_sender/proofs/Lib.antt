@@ -4,6 +4,7 @@ mod Answering
 mod Bits
 mod Calm
 mod Expecting
+mod Fitting
 mod Frames
 mod Gliding
 mod Leasts

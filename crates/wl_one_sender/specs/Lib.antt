@@ -3,3 +3,4 @@ pub mod Expected
 pub mod OneSender
 pub mod Plans
 pub mod Through
+pub mod Tolerances

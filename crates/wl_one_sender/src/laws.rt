@@ -14,6 +14,7 @@ ghost use Rattle.wl_one_sender.specs.Levels.{levels_before};
 ghost use Rattle.wl_one_sender.specs.OneSender.{SenderBus, IsBus, IsInStepWithAll, SendsFirst, EndsAfterSlot, IsAcknowledged};
 ghost use Rattle.wl_one_sender.specs.Plans.{IsSteadyPlan, sender_bus_of};
 ghost use Rattle.wl_one_sender.specs.Through.{AreFrames, GetThrough, StaysInSlots};
+ghost use Rattle.wl_one_sender.specs.Tolerances.{FitAll, IsWithin, Tolerance};
 
 /// Law: if one node alone has driven dominant, any node finds what that one drove a delay earlier.
 pub fn one_driver_is_found()
@@ -93,4 +94,15 @@ pub fn every_frame_gets_through()
     wl_phase::laws::an_acknowledgement_stays_in_its_slot();
     wl_topology::driven_laws();
     wl_plan::simulation_laws();
+}
+
+/// Law: the inequalities over tolerances are enough: wherever within its tolerance each clock lies, a bus meets what its clocks
+/// and delays have to. So all frames get through.
+pub fn tolerances_are_enough()
+    ensures in_step { (t : Tolerance) (b : SenderBus) → IsBus b → IsWithin t b → FitAll t b → IsInStepWithAll b }
+    ensures stays { (t : Tolerance) (b : SenderBus) → IsBus b → IsWithin t b → FitAll t b → StaysInSlots b }
+    ensures through { (t : Tolerance) (b : SenderBus) (stuffed : ℕ → List Level) → IsBus b → SendsFirst b → AreFrames b stuffed
+        → IsWithin t b → FitAll t b → GetThrough b stuffed }
+{
+    every_frame_gets_through();
 }
