@@ -8,7 +8,7 @@ import re
 import subprocess
 import sys
 
-COMMANDS = {"figures": "explain", "settings": "check", "report": "run", "trace": "trace", "wave": "vcd"}
+COMMANDS = {"figures": "explain", "settings": "check", "margin": "margin", "traffic": "traffic", "report": "run", "trace": "trace", "wave": "vcd"}
 
 
 def main():

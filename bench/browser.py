@@ -28,6 +28,7 @@ class Browser:
         target = self.ask("Target.createTarget", url="about:blank")["targetId"]
         self.session = self.ask("Target.attachToTarget", targetId=target, flatten=True)["sessionId"]
         for part in ("Page", "Runtime", "Log"): self.ask(part + ".enable")
+        self.ask("Performance.enable", timeDomain="threadTicks")
 
     def __enter__(self):
         return self
@@ -76,6 +77,10 @@ class Browser:
         self.said = []
         self.load(address)
         return self.value("new Promise((done) => requestAnimationFrame(() => setTimeout(() => done(performance.now()))))")
+
+    def worked(self):
+        """For how many seconds of processor time the page's thread has worked since the page was opened."""
+        return next(one["value"] for one in self.ask("Performance.getMetrics")["metrics"] if one["name"] == "TaskDuration")
 
     def value(self, of):
         answer = self.ask("Runtime.evaluate", expression=of, returnByValue=True, awaitPromise=True)

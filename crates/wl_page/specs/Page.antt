@@ -21,7 +21,7 @@ abbrev pub with_part : List ℕ → List ℕ → List ℕ → List ℕ
 with_part page layout text = page ++ (layout ++ escaped text)
 
 -- the texts of a run
-pub record Run : Type 0 where
+pub record PageTexts : Type 0 where
   pub figures : List ℕ
   pub settings : List ℕ
   pub margin : List ℕ
@@ -32,20 +32,20 @@ pub record Run : Type 0 where
   pub wave : List ℕ
 
 -- each text once and whole, after its part of the layout; the script comes last
-unfoldable pub page_of : Run → List ℕ
-page_of run =
-    let to_figures = with_part [] HEAD.now run.figures in
-    let to_settings = with_part to_figures TO_SETTINGS.now run.settings in
-    let to_margin = with_part to_settings TO_MARGIN.now run.margin in
-    let to_traffic = with_part to_margin TO_TRAFFIC.now run.traffic in
-    let to_report = with_part to_traffic TO_REPORT.now run.report in
-    let to_plan = with_part to_report TO_PLAN.now run.plan in
-    let to_trace = with_part to_plan TO_TRACE.now run.trace in
-    with_part to_trace TO_WAVE.now run.wave ++ SCRIPT.now
+unfoldable pub page_of : PageTexts → List ℕ
+page_of texts =
+    let to_figures = with_part [] HEAD.now texts.figures in
+    let to_settings = with_part to_figures TO_SETTINGS.now texts.settings in
+    let to_margin = with_part to_settings TO_MARGIN.now texts.margin in
+    let to_traffic = with_part to_margin TO_TRAFFIC.now texts.traffic in
+    let to_report = with_part to_traffic TO_REPORT.now texts.report in
+    let to_plan = with_part to_report TO_PLAN.now texts.plan in
+    let to_trace = with_part to_plan TO_TRACE.now texts.trace in
+    with_part to_trace TO_WAVE.now texts.wave ++ SCRIPT.now
 
 -- the texts that are handed over
-abbrev pub run_of : Texts → Run
-run_of t = record {
+abbrev pub texts_of : Texts → PageTexts
+texts_of t = record {
   figures = t.figures.now;
   settings = t.settings.now;
   margin = t.margin.now;

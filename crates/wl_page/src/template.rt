@@ -473,7 +473,7 @@ for (const button of document.querySelectorAll("button[data-key]")) button.addEv
 
 const cell = (said, attributes = {}) => create("td", attributes, said);
 const heads = (names) => create("thead", {}, create("tr", {}, ...names.map((name) => create("th", { scope: "col" }, name))));
-const named = (name, cells) => create("tr", {}, create("th", { scope: "row" }, name), ...cells.map((said) => cell(said, said.startsWith("-") && said !== "-" ? { class: "bad" } : {})));
+const named = (name, cells) => create("tr", {}, create("th", { scope: "row" }, name), ...cells);
 const table = (names, rows) => create("div", { class: "scroll" }, create("table", {}, heads(names), create("tbody", {}, ...rows)));
 
 const STEP = 500; // lines that the table of events has at first, and that a press adds
@@ -503,7 +503,8 @@ function fillEvents() {
 function fillReport() {
   const rows = linesOf("report").filter((line) => line.startsWith("node ")).map((line) => line.split(" "));
   const odd = (words) => words.slice(2).filter((_, at) => at % 2 === 0), even = (words) => words.slice(2).filter((_, at) => at % 2 === 1);
-  document.getElementById("nodes").append(table(["node", ...odd(rows[0] ?? [])], rows.map((words, node) => named(data.wave.nodes[node] ?? words[1], even(words)))));
+  const made = rows.map((words, node) => named(data.wave.nodes[node] ?? words[1], even(words).map((said) => cell(said))));
+  document.getElementById("nodes").append(table(["node", ...odd(rows[0] ?? [])], made));
   document.getElementById("verdict").textContent = linesOf("report").at(-1);
 }
 
@@ -531,9 +532,10 @@ function pairsOf(said) {
 
 function fillTables() {
   const MESSAGE = /^message \d+ (.*) ([0-9a-f]{8}|[0-9a-f]{3}) (sent .*)$/, PAIR = /^pair (.*): late (.*), early (.*), drift (.*)$/;
-  fillLines("margin", PAIR, () => ["pair", "late", "early", "drift"], ([, pair, ...spare]) => named(pair, spare));
+  const spared = (said) => cell(said, said.startsWith("-") ? { class: "bad" } : {});
+  fillLines("margin", PAIR, () => ["pair", "late", "early", "drift"], ([, pair, ...spare]) => named(pair, spare.map(spared)));
   fillLines("traffic", MESSAGE, (first) => ["node", "identifier", ...pairsOf(first[3]).map(([name]) => name)],
-    ([, node, identifier, said]) => named(node, [identifier, ...pairsOf(said).map(([, value]) => value)]));
+    ([, node, identifier, said]) => named(node, [identifier, ...pairsOf(said).map(([, value]) => value)].map((value) => cell(value))));
 }
 
 // The cable: nodes in the order of their delays from the first end that the delays show, each at its own place, with the delays between neighbours.
@@ -559,7 +561,7 @@ function drawCable() {
     const x = 40 + (720 * way(end, node)) / most, y = at % 2 ? 70 : 20;
     svg("line", { x1: x, y1: 40, x2: x, y2: y, class: "wire" });
     svg("circle", { cx: x, cy: y, r: 4, class: "node" });
-    svg("text", { x: x + 7, y: y + 4 }, data.wave.nodes[node]);
+    svg("text", x > 640 ? { x: x - 7, y: y + 4, "text-anchor": "end" } : { x: x + 7, y: y + 4 }, data.wave.nodes[node]);
     if (at > 0) svg("text", { x: x - 4, y: at % 2 ? 58 : 52, class: "delay" }, `${way(line[at - 1], node)}`);
   });
 }

@@ -1,6 +1,6 @@
 //! The page of a run.
 ghost use Rattle.std.specs.Prelude.{◌≡◌, IfOk, OnOk};
-ghost use Rattle.wl_page.specs.Page.{page_of, run_of, with_part};
+ghost use Rattle.wl_page.specs.Page.{page_of, texts_of, with_part};
 
 use crate::escape::push_escaped;
 use crate::template::{
@@ -43,7 +43,7 @@ pub fn push_part(page: &mut Vec<u8>, part: &str, text: &[u8]) -> Result<(), Allo
 ///
 /// Refused only when out of memory.
 pub fn page(alloc: Global, texts: &Texts) -> Result<Vec<u8>, AllocError>
-    ensures { IfOk result (λ page. page.items ≡ page_of (run_of texts.now)) }
+    ensures { IfOk result (λ page. page.items ≡ page_of (texts_of texts.now)) }
 {
     let mut page = Vec::new(alloc);
     push_part(&mut page, HEAD, texts.figures)?;
