@@ -86,7 +86,10 @@ printf '# </pre><script>alert(1)</script> &amp; \r\n' | cat - examples/burst.tom
 for page in examples/*.toml "$room/marked.toml"; do
   is "page of $page" python3 -B .ci/page.py "$program" "$page"
 done
-if command -v chromium > /dev/null; then is "a page in a browser" python3 -B bench/page.py "$program" examples/burst.toml; fi
+if command -v chromium > /dev/null; then
+  is "a page in a browser" python3 -B bench/page.py "$program" examples/burst.toml
+  is "maps of sweeps in a browser" python3 -B bench/page.py "$program" --sweeps
+fi
 
 is "what the first hour shows" python3 -B .ci/shown.py docs/first-hour.md "$program"
 

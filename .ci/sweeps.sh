@@ -148,6 +148,11 @@ resident() { # resident WORDS..: the most KiB of memory that a program had, as /
 }
 few=$(resident "$program" sweep "$room/wide" --runs 20000) many=$(resident "$program" sweep "$room/wide" --runs 300000)
 is "memory of 20,000 runs $few KiB, of 300,000 $many KiB" [ "$few" -gt 0 -a "$many" -lt $((few + few / 4)) ]
+# A map has a cell for each row of its two axes, and a cell says what a sweep of its row alone says
+"$program" sweep --runs 20 --vary ps1=2..4:1 --vary tolerance=0..3000:1500 --vary sjw=1..2:1 --page examples/drifting_listener.toml > "$room/map" 2> "$room/err"
+is 'cells of a map' [ "$(grep -c '^cell \|"cells" hidden>cell ' "$room/map")" = 9 -a ! -s "$room/err" ]
+"$program" sweep --runs 20 --vary ps1=3..3 --vary tolerance=3000..3000 --vary sjw=1..1 examples/drifting_listener.toml > "$room/out"
+is 'a cell of a map' cmp -s <(awk '/^cell / { n++; next } n == 5' "$room/map" | grep -v '^first error: ') <(grep -v '^no frame has edges' "$room/out")
 # Progress goes to standard error from the first second on, and changes no output
 "$program" sweep --workers 1 --runs 1500 examples/sixteen_nodes.toml > "$room/without"
 "$program" sweep --workers 1 --runs 1500 --progress examples/sixteen_nodes.toml > "$room/out" 2> "$room/err"

@@ -11,7 +11,7 @@ _wireline() {
     candump | vcd | page | margin) options+=' --tick' ;;
     traffic) options+=' --tick --strict' ;;
     settings) options+=' --tick --best --plan' ;;
-    sweep) options+=' --vary --step --runs --seed --keep-offsets --keep-ppm --worst --workers --print' ;;
+    sweep) options+=' --vary --step --runs --seed --keep-offsets --keep-ppm --worst --workers --print --page' ;;
   esac
   if [ "$COMP_CWORD" = 1 ]; then
     mapfile -t COMPREPLY < <(compgen -W 'run check explain trace candump vcd page margin traffic settings records merge horizon sweep build completions help' -- "$word")

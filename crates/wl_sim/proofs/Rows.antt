@@ -190,6 +190,7 @@ given_numbers : entered_sweep (behind_name (codes "sweep" ∷ codes "--runs" ∷
       asked = record { options = record { step = Some 25; keep_offsets = false; keep_ppm = false; runs = 7; seed = 9 }; worst = false };
       workers = None;
       print = Some 137;
+      page = false;
     })
 unfolding clap_on_literals behind_name
 given_numbers = refl
@@ -199,6 +200,7 @@ given_flags : entered_sweep (behind_name (codes "sweep" ∷ codes "--keep-ppm" �
       asked = record { options = record { step = None; keep_offsets = true; keep_ppm = true; runs = 1000; seed = 1 }; worst = true };
       workers = Some 4;
       print = None;
+      page = false;
     })
 unfolding clap_on_literals behind_name
 given_flags = refl

@@ -267,9 +267,10 @@ some_count None = (1, (omega arith, omega arith))
 
 module _ {S T : Type 0} (gives : S → Answer → S → Type 0) (takes : T → Answer → T → Type 0) where
   -- out of memory before anything is read or written
-  sweeps_nothing : (s s' : S) (t t' : T) (swept : Swept) (number : Option ℕ) → t' ≡ t → DoesSweep gives takes s s' t t' swept [] number (Err (fault.Run run.Memory))
-  sweeps_nothing s s' t t' swept None h = (Err sweep.Memory, (some_count swept.workers).0, (some_count swept.workers).1, h, refl)
-  sweeps_nothing s s' t t' swept (Some n) h = (Err sweep.Memory, h, refl)
+  sweeps_nothing : (s s' : S) (t t' : T) (swept : Swept) (number : Option ℕ) (page : Bool) → t' ≡ t → DoesSweep gives takes s s' t t' swept [] number page (Err (fault.Run run.Memory))
+  sweeps_nothing s s' t t' swept None true h = (Err sweep.Memory, (some_count swept.workers).0, (some_count swept.workers).1, h, refl)
+  sweeps_nothing s s' t t' swept None false h = (Err sweep.Memory, (some_count swept.workers).0, (some_count swept.workers).1, h, refl)
+  sweeps_nothing s s' t t' swept (Some n) page h = (Err sweep.Memory, h, refl)
 
   does_nothing : (s s' : S) (t t' : T) (task : Task) → t' ≡ t → Does gives takes s s' t t' task [] (Err (fault.Run run.Memory))
   does_nothing s s' t t' Merge h = (Err run.Memory, h, refl)
@@ -285,7 +286,7 @@ module _ {S T : Type 0} (gives : S → Answer → S → Type 0) (takes : T → A
   does_nothing s s' t t' (Margin tick) h = (Err run.Memory, h, refl)
   does_nothing s s' t t' (Traffic tick strict) h = (Err run.Memory, h, refl)
   does_nothing s s' t t' (Settings tick shown) h = (Err settings.Memory, inl (h, inl refl), refl)
-  does_nothing s s' t t' (Sweep swept) h = sweeps_nothing s s' t t' swept swept.print h
+  does_nothing s s' t t' (Sweep swept) h = sweeps_nothing s s' t t' swept swept.print swept.page h
 
 -- what is done over an order without files is done over the standard devices
 module _ {S T F R W : Type 0} (gives : S → Answer → S → Type 0) (takes : T → Answer → T → Type 0)

@@ -144,7 +144,8 @@ counted_app app = with_rule (with_rule (with_rule (with_rule (with_rule app vary
 -- and with all options of a sweep
 abbrev pub swept_app : App → App
 swept_app app =
-    with_rule (with_rule (with_rule (with_rule (counted_app app) (flag_rule (codes "keep-offsets"))) (flag_rule (codes "keep-ppm"))) (flag_rule (codes "worst"))) print_rule
+    with_rule (with_rule (with_rule (with_rule (with_rule (counted_app app) (flag_rule (codes "keep-offsets"))) (flag_rule (codes "keep-ppm"))) (flag_rule (codes "worst"))) print_rule)
+    (flag_rule (codes "page"))
 
 -- the subcommand `sweep`
 abbrev pub sweep_app : App
@@ -267,6 +268,7 @@ swept_by rows runs seed = record {
   };
   workers = workers_among rows;
   print = number_among 64 (codes "print") rows;
+  page = is_flagged (codes "page") rows;
 }
 
 abbrev pub swept_among : List Row → Option Swept
@@ -324,6 +326,7 @@ plainly_swept = record {
   asked = record { options = record { step = None; keep_offsets = false; keep_ppm = false; runs = 1000; seed = 1 }; worst = false };
   workers = None;
   print = None;
+  page = false;
 }
 
 -- where the words say nothing of it a tick is a nanosecond, one worker runs, over a hub if it were several, all settings are listed, and the status

@@ -34,7 +34,7 @@ use Rattle.wl_sweep.specs.Findings.{is_clean}
 use Rattle.wl_sweep.specs.Tallies.{tally_of}
 use Rattle.wl_sweep_engine.specs.declared.fault.SweepFault.{SweepFault}
 use Rattle.wl_sweep_engine.specs.declared.fault.SweepFault.TheVariants as sweep
-use Rattle.wl_sweep_engine.specs.Sweeping.{Sweeps, Prints}
+use Rattle.wl_sweep_engine.specs.Sweeping.{Maps, Sweeps, Prints}
 use Rattle.wl_traffic.specs.declared.reason.Reason.{Reason}
 use Rattle.wl_traffic.specs.declared.reason.Reason.TheVariants.{Works}
 use Rattle.wl_sim.specs.declared.answer.Done.{Done}
@@ -69,6 +69,11 @@ done_by false = Unclean
 abbrev pub AnswersSweep : Result Tally SweepFault → Result Done Fault → Type 0
 AnswersSweep (Ok tally) r = (done : Done) × (r ≡ Ok done) × ((found : List Finding) → tally ≡ tally_of found → done ≡ done_by (list_all is_clean found))
 AnswersSweep (Err f) r = r ≡ Err (of_sweep f)
+
+-- what is answered for a map, by whether each member is clean
+abbrev pub of_map : Result Bool SweepFault → Result Done Fault
+of_map (Ok clean) = Ok (done_by clean)
+of_map (Err f) = Err (of_sweep f)
 
 abbrev pub of_print : Result (Unit {0}) SweepFault → Result Done Fault
 of_print (Ok u) = Ok Plain
@@ -134,12 +139,15 @@ abbrev pub Plainly : (Result (Unit {0}) RunFault → Type 0) → Result Done Fau
 Plainly Runs r = (answer : Result (Unit {0}) RunFault) × Runs answer × (r ≡ plainly answer)
 
 module _ {S T : Type 0} (gives : S → Answer → S → Type 0) (takes : T → Answer → T → Type 0) (s s' : S) (t t' : T) where
-  -- what is found of a family of plans, or one of its members, was written
-  abbrev pub DoesSweep : Swept → List Text → Option ℕ → Result Done Fault → Type 0
-  DoesSweep swept ranges None r =
+  -- what is found of a family of plans, its map, or one of its members, was written
+  abbrev pub DoesSweep : Swept → List Text → Option ℕ → Bool → Result Done Fault → Type 0
+  DoesSweep swept ranges None true r =
+      (answer : Result Bool SweepFault) × (count : ℕ) × IsCount swept.workers count × Maps gives takes ranges swept.asked s s' t t' count answer
+      × (r ≡ of_map answer)
+  DoesSweep swept ranges None false r =
       (answer : Result Tally SweepFault) × (count : ℕ) × IsCount swept.workers count × Sweeps gives takes ranges swept.asked s s' t t' count answer
       × AnswersSweep answer r
-  DoesSweep swept ranges (Some n) r =
+  DoesSweep swept ranges (Some n) page r =
       (answer : Result (Unit {0}) SweepFault) × Prints gives takes ranges swept.asked s s' t t' n answer × (r ≡ of_print answer)
 
   -- the traffic of a run was written
@@ -163,7 +171,7 @@ module _ {S T : Type 0} (gives : S → Answer → S → Type 0) (takes : T → A
   Does (Traffic tick strict) ranges r = DoesTraffic tick strict r
   Does (Settings tick shown) ranges r =
       (answer : Result (Unit {0}) SettingsFault) × RunsSettings gives takes (tick_picoseconds tick) shown s s' t t' answer × (r ≡ of_settings answer)
-  Does (Sweep swept) ranges r = DoesSweep swept ranges swept.print r
+  Does (Sweep swept) ranges r = DoesSweep swept ranges swept.print swept.page r
 
   -- the task was done, nothing else was read or written, and the status is that of what was answered
   abbrev pub EndsTask : Task → ℕ → Type 0

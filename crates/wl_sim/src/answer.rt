@@ -4,7 +4,7 @@ ghost use Rattle.std.specs.List.{list_all};
 ghost use Rattle.wl_sweep.specs.Findings.{is_clean};
 ghost use Rattle.wl_sweep.specs.Tallies.{tally_of};
 ghost use Rattle.wl_sweep.specs.declared.finding.Finding.{Finding};
-ghost use Rattle.wl_sim.specs.Tasks.{AnswersSweep, done_by, of_print, of_settings, of_settings_fault, of_sweep, of_traffic, plainly};
+ghost use Rattle.wl_sim.specs.Tasks.{AnswersSweep, done_by, of_map, of_print, of_settings, of_settings_fault, of_sweep, of_traffic, plainly};
 
 use thiserror::Error;
 use wl_engines::{Reason, RunFault};
@@ -77,6 +77,17 @@ pub(crate) fn of_tally(answer: Result<Tally, SweepFault>) -> Result<Done, Fault>
 {
     match answer {
         Ok(tally) => Ok(done_of(tally)),
+        Err(fault) => Err(of_sweep(fault)),
+    }
+}
+
+/// What the map of a sweep answered, by whether each member is clean.
+pub(crate) fn of_map(answer: Result<bool, SweepFault>) -> Result<Done, Fault>
+    ensures { result ≡ of_map answer }
+{
+    match answer {
+        Ok(true) => Ok(Done::Plain),
+        Ok(false) => Ok(Done::Unclean),
         Err(fault) => Err(of_sweep(fault)),
     }
 }

@@ -33,7 +33,7 @@ use wl_files::{BeginFault, Folder, SystemFolder};
 use wl_formats::{Format, Subject};
 use wl_settings::settings_run;
 use wl_setup::{SetupFault, Text};
-use wl_sweep_engine::{Workers, print_run, sweep_run};
+use wl_sweep_engine::{Workers, map_run, print_run, sweep_run};
 
 mod answer;
 mod command;
@@ -43,7 +43,7 @@ mod progress;
 mod sweep;
 mod values;
 
-use crate::answer::{of_print, of_settings, of_tally, of_traffic, plainly};
+use crate::answer::{of_map, of_print, of_settings, of_tally, of_traffic, plainly};
 pub use answer::{Done, Fault};
 use crate::formats::{subject_of, write_kept};
 pub use command::{Order, Refusal, Task};
@@ -267,7 +267,7 @@ fn thread_count<H: Threads>(rt: &H, said: Option<u8>) -> u8
     }
 }
 
-/// Runs a sweep, or writes one of its members.
+/// Runs a sweep and writes what is found or its map, or writes one of its members.
 fn run_sweep<H: Threads + Sync + Eprint + Clock, R: Source, W: Sink>(
     rt: &H,
     alloc: Global,
@@ -277,7 +277,7 @@ fn run_sweep<H: Threads + Sync + Eprint + Clock, R: Source, W: Sink>(
     writer: &mut W,
 ) -> Result<Done, Fault>
     ensures { DoesSweep R.gives W.takes reader.old reader.new writer.old writer.new
-        swept (map string_bytes work.entry.ranges.now) swept.print result }
+        swept (map string_bytes work.entry.ranges.now) swept.print swept.page result }
 {
     match swept.print {
         Some(number) => of_print(print_run(
@@ -293,7 +293,11 @@ fn run_sweep<H: Threads + Sync + Eprint + Clock, R: Source, W: Sink>(
                 count: thread_count(rt, swept.workers),
                 progress: work.progress,
             };
-            of_tally(sweep_run(rt, alloc, work.ranges, swept.asked, workers, reader, writer))
+            if swept.page {
+                of_map(map_run(rt, alloc, work.ranges, swept.asked, workers, reader, writer))
+            } else {
+                of_tally(sweep_run(rt, alloc, work.ranges, swept.asked, workers, reader, writer))
+            }
         }
     }
 }

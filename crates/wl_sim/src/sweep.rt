@@ -17,6 +17,8 @@ pub struct Swept {
     pub workers: Option<u8>,
     /// The number of a member whose plan is written in the place of what is found.
     pub print: Option<u64>,
+    /// Whether what is found is written as a page with a map.
+    pub page: bool,
 }
 
 /// The option that gives a key a range of values. It may come several times.
@@ -132,6 +134,17 @@ fn worst_option<'a>(alloc: Global) -> Arg<'a>
         .help("Adds to each sender a frame whose edges are ten bits apart")
 }
 
+/// The flag that asks for a page.
+fn page_option<'a>(alloc: Global) -> Arg<'a>
+    ensures rule { rule_of result ≡ flag_rule (codes "page") }
+    ensures local { result.global ≡ false }
+{
+    Arg::new(alloc, "page")
+        .long("page")
+        .action(ArgAction::SetTrue)
+        .help("Writes one page of HTML: a map of the rows of the first two ranges")
+}
+
 /// A subcommand with the options of a sweep that say what is run.
 fn with_counts<'a>(alloc: Global, sub: Command<'a>) -> Result<Command<'a>, AllocError>
     requires { (out-Command sub).has_globals ≡ false }
@@ -160,5 +173,6 @@ pub(crate) fn with_sweep_options<'a>(
     let signed = placed.arg(keep_ppm_option(alloc))?;
     let tested = signed.arg(worst_option(alloc))?;
     let printed = tested.arg(print_option(alloc))?;
-    Ok(printed)
+    let mapped = printed.arg(page_option(alloc))?;
+    Ok(mapped)
 }

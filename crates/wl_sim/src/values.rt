@@ -209,6 +209,7 @@ fn swept_by(matches: &ArgMatches, runs: u32, seed: u32) -> Swept
         },
         workers: workers_in(matches),
         print: number_in(matches, "print"),
+        page: flag_in(matches, "page"),
     }
 }
 

@@ -21,7 +21,7 @@ pub use change::SweptKey;
 pub use family::bit_in;
 pub use finding::{Finding, clean_is_a_working_bus, finding_of};
 pub use options::Options;
-pub use range::{SweptRange, row_count};
+pub use range::{SweptRange, row_count, row_value};
 pub use sweep::{MOST_ROWS, Sweep, Workers};
 pub use tally::Tally;
 pub use vary::{RangeFault, read_range};

@@ -1,7 +1,10 @@
 -- What the engines did over a plan's text (this project's profile).
-use Rattle.std.specs.Prelude.{◌≡◌, ◌≢◌, ◌⊎◌, ℕ, List, Result, Ok, Err}
+use Rattle.std.specs.Prelude.{◌≡◌, ◌≢◌, ◌⊎◌, ℕ, Bool, List, Result, Ok, Err}
+use Rattle.std.specs.List.{list_all}
 use Rattle.wl_device.specs.Devices.{Answer, Writes}
 use Rattle.wl_device.specs.declared.device.WriteFault.{WriteFault}
+use Rattle.wl_map.specs.Maps.{map_text}
+use Rattle.wl_map.specs.Rows.{held}
 use Rattle.wl_plan.specs.declared.plan.Plan.{Plan}
 use Rattle.wl_setup.specs.declared.fault.SetupFault.{SetupFault}
 use Rattle.wl_setup.specs.declared.fault.SetupFault.TheVariants as setup
@@ -9,6 +12,7 @@ use Rattle.wl_setup.specs.declared.plan_text.PlanText.{PlanText}
 use Rattle.wl_setup.specs.Reading.{ReadsPlan}
 use Rattle.wl_sweep.specs.declared.sweep.Sweep.{Sweep}
 use Rattle.wl_sweep.specs.declared.tally.Tally.{Tally}
+use Rattle.wl_sweep.specs.Findings.{is_clean}
 use Rattle.wl_sweep.specs.Sweeps.{all_findings}
 use Rattle.wl_sweep.specs.Tallies.{tally_of}
 use Rattle.wl_sweep_engine.specs.declared.asked.Asked.{Asked}
@@ -40,6 +44,16 @@ module _ {S T : Type 0} (gives : S → Answer → S → Type 0) (takes : T → A
   -- what a sweep by so many threads did
   abbrev pub Sweeps : ℕ → Result Tally SweepFault → Type 0
   Sweeps workers = Ran (RefusesSweep (checked_workers asked.options workers)) (WritesSweep workers) t t'
+
+  -- the map of the sweep went out, as far as it went; the answer is whether each of its members is clean
+  abbrev pub WritesMap : ℕ → Bool → Result (Unit {0}) WriteFault → Type 0
+  WritesMap workers clean r =
+      (checked_workers asked.options workers ≡ Ok tt) × (plan : Plan) × (sweep : Sweep) × ReadsSweep plan sweep
+      × (clean ≡ list_all is_clean (all_findings (held sweep))) × Writes takes t (map_text sweep asked.worst) r t'
+
+  -- what a map by so many threads did
+  abbrev pub Maps : ℕ → Result Bool SweepFault → Type 0
+  Maps workers = Ran (RefusesSweep (checked_workers asked.options workers)) (WritesMap workers) t t'
 
   -- a member's text went out, as far as it went
   abbrev pub WritesMember : ℕ → Unit {0} → Result (Unit {0}) WriteFault → Type 0

@@ -4,6 +4,7 @@
 
 mod asked;
 mod fault;
+mod map;
 mod payload;
 mod print;
 mod run;
@@ -11,6 +12,7 @@ mod written;
 
 pub use asked::Asked;
 pub use fault::SweepFault;
+pub use map::map_run;
 pub use print::print_run;
 pub use run::sweep_run;
 pub use wl_sweep::{Options, RangeFault, Tally, Workers};

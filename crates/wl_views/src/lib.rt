@@ -22,5 +22,5 @@ pub use laws::sent_in_time;
 pub use log::candump;
 pub use signals::NodeSignals;
 pub use tick::{Tick, TimeUnit};
-pub use told::trace;
+pub use told::{first_error, trace};
 pub use wave::vcd;

@@ -1,5 +1,5 @@
 //! The trace of a run: what happened to each node, a line for each event.
-ghost use Rattle.std.specs.Prelude.{◌≡◌, ◌<◌, ◌≤◌, ◌^◌, ◌++◌, [], ◌∷◌, OnOk, IfOk, length};
+ghost use Rattle.std.specs.Prelude.{◌≡◌, ◌<◌, ◌≤◌, ◌^◌, ◌++◌, [], ◌∷◌, OnOk, IfOk, length, string_bytes};
 ghost use Rattle.std.specs.List.{All};
 ghost use Rattle.wl_plan.specs.Checked.{IsChecked};
 ghost use Rattle.wl_report.specs.Lines.{GrowsBy};
@@ -7,7 +7,7 @@ ghost use Rattle.wl_serial.specs.Outcome.{outcome_of};
 ghost use Rattle.wl_trace.specs.Events.{noted};
 ghost use Rattle.wl_trace.specs.Synced.{with_next};
 ghost use Rattle.wl_level.specs.ByTick.{by_tick};
-ghost use Rattle.wl_views.specs.Trace.{all_told, error_kind_word, event_text, events_at_end, field_word, flag_word, line_start, place_text, sample_words, syncs_at_end, told_at_end, told_by, trace_line, trace_text};
+ghost use Rattle.wl_views.specs.Trace.{all_told, error_kind_word, event_text, events_at_end, field_word, first_error_in, first_error_text, flag_word, is_error, line_start, place_text, sample_words, syncs_at_end, told_at_end, told_by, trace_line, trace_text};
 
 use crate::watched::Watched;
 use std::alloc::{AllocError, Global};
@@ -332,4 +332,48 @@ pub fn trace(
         push_line(&mut text, names, *tick, *i, *noted)?;
     }
     Ok(text.into_bytes())
+}
+
+/// True if an event is an error.
+fn is_error(event: Event) -> bool
+    ensures { result ≡ is_error event }
+{
+    match event {
+        Event::Error { .. } => true,
+        _ => false,
+    }
+}
+
+/// Adds the line of the first error of some events, if there is one.
+fn push_first_error(
+    text: &mut String,
+    names: &Names,
+    told: &[(u64, (usize, Noted))],
+) -> Result<(), AllocError>
+    ensures { OnOk result (GrowsBy text.old text.new (first_error_in names.now told.now)) }
+{
+    for (tick, (i, noted)) in told {
+        if is_error(noted.event) {
+            return push_line(text, names, *tick, *i, *noted);
+        }
+    }
+    Ok(())
+}
+
+/// Returns the line that the trace of a plan's simulation, which is `outcome`, has of the first error; no letter if there was none. Refused only
+/// when out of memory.
+pub fn first_error(
+    alloc: Global,
+    plan: &Plan,
+    names: &Names,
+    outcome: &Outcome,
+) -> Result<String, AllocError>
+    requires checked { IsChecked plan.now }
+    requires outcome { outcome.now ≡ outcome_of plan.now }
+    ensures { IfOk result (λ text. string_bytes text ≡ first_error_text plan.now names.now) }
+{
+    let told = told_in_order(alloc, plan, outcome)?;
+    let mut text = String::new(alloc);
+    push_first_error(&mut text, names, &told)?;
+    Ok(text)
 }

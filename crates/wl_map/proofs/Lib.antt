@@ -1,0 +1,3 @@
+mod Alone
+mod Celled
+mod Coloured

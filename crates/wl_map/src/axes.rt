@@ -1,0 +1,79 @@
+//! What a map varies, in words.
+ghost use Rattle.std.specs.Prelude.{OnOk};
+ghost use Rattle.std.specs.List.{flat_map};
+ghost use Rattle.wl_report.specs.Lines.{GrowsBy};
+ghost use Rattle.wl_map.specs.Maps.{axes_text, flag_words, options_line, range_line, range_lines, step_words, axis_value};
+
+use crate::rows::split;
+use std::alloc::AllocError;
+use wl_sweep::{Options, Sweep, SweptRange};
+
+/// Adds the step between two offsets, if one is given.
+fn push_step(text: &mut String, step: Option<u64>) -> Result<(), AllocError>
+    ensures { OnOk result (GrowsBy text.old text.new (step_words step)) }
+{
+    match step {
+        Some(step) => write!(text, " --step {step}"),
+        None => Ok(()),
+    }
+}
+
+/// Adds a flag, if it is set.
+fn push_flag(text: &mut String, flag: &str, set: bool) -> Result<(), AllocError>
+    ensures { OnOk result (GrowsBy text.old text.new (flag_words flag.now set)) }
+{
+    if set { text.push_str(flag) } else { Ok(()) }
+}
+
+/// Adds the words that ask for these options.
+fn push_options(text: &mut String, options: Options, worst: bool) -> Result<(), AllocError>
+    ensures { OnOk result (GrowsBy text.old text.new (options_line options worst)) }
+{
+    let (runs, seed) = (options.runs, options.seed);
+    write!(text, "options --runs {runs} --seed {seed}")?;
+    push_step(text, options.step)?;
+    push_flag(text, " --keep-offsets", options.keep_offsets)?;
+    push_flag(text, " --keep-ppm", options.keep_ppm)?;
+    push_flag(text, " --worst", worst)?;
+    text.push_str("\n")
+}
+
+/// Adds values.
+fn push_values(text: &mut String, values: &[i64]) -> Result<(), AllocError>
+    ensures { OnOk result (GrowsBy text.old text.new (flat_map axis_value values.now)) }
+{
+    for value in values {
+        write!(text, " {value}")?;
+    }
+    Ok(())
+}
+
+/// Adds a range.
+fn push_range(text: &mut String, label: &str, range: &SweptRange) -> Result<(), AllocError>
+    ensures { OnOk result (GrowsBy text.old text.new (range_line label.now range.now)) }
+{
+    let called = range.called.as_str();
+    write!(text, "{label}{called}")?;
+    push_values(text, range.values.as_slice())?;
+    text.push_str("\n")
+}
+
+/// Adds ranges.
+fn push_ranges(text: &mut String, label: &str, ranges: &[SweptRange]) -> Result<(), AllocError>
+    ensures { OnOk result (GrowsBy text.old text.new (range_lines label.now ranges.now)) }
+{
+    for range in ranges {
+        push_range(text, label, range)?;
+    }
+    Ok(())
+}
+
+/// Adds the options, the ranges that are varied, and those that are held.
+pub(crate) fn push_axes(text: &mut String, sweep: &Sweep, worst: bool) -> Result<(), AllocError>
+    ensures { OnOk result (GrowsBy text.old text.new (axes_text sweep.now worst)) }
+{
+    push_options(text, sweep.options, worst)?;
+    let (axes, held) = split(sweep.ranges.as_slice());
+    push_ranges(text, "axis ", axes)?;
+    push_ranges(text, "held ", held)
+}
