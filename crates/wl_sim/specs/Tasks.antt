@@ -1,5 +1,5 @@
 -- What the program does for its words, and the status that it ends with (this project's profile).
-use Rattle.std.specs.Prelude.{◌≡◌, ◌≤◌, ◌==◌, ◌⊎◌, ℕ, Bool, true, false, MatchBool, List, [], ◌∷◌, Option, Some, None, is_some, if◌then◌else◌, Result, Ok, Err}
+use Rattle.std.specs.Prelude.{◌≡◌, ◌≤◌, ◌==◌, ◌||◌, ◌⊎◌, ℕ, Bool, true, false, MatchBool, List, [], ◌∷◌, Option, Some, None, is_some, if◌then◌else◌, Result, Ok, Err}
 use Rattle.std.specs.List.{list_all}
 use Rattle.clap.specs.Words.{Text}
 use Rattle.wl_device.specs.Devices.{Answer}
@@ -117,7 +117,7 @@ abbrev pub IsCount : Option ℕ → ℕ → Type 0
 IsCount (Some said) count = count ≡ said
 IsCount None count = (1 ≤ count) × (count ≤ 8)
 
--- the command of a task, if its output has other formats; a member of a sweep is a plan
+-- the command of a task, if its output has other formats; a member of a sweep is a plan, and its map a page
 abbrev pub subject_of : Task → Option Subject
 subject_of Merge = None
 subject_of Horizon = None
@@ -132,7 +132,7 @@ subject_of (Page tick) = None
 subject_of (Margin tick) = Some subject.Margin
 subject_of (Traffic tick strict) = Some subject.Traffic
 subject_of (Settings tick shown) = None
-subject_of (Sweep swept) = if is_some swept.print then None else Some subject.Sweep
+subject_of (Sweep swept) = if is_some swept.print || swept.page then None else Some subject.Sweep
 
 -- an engine answered, and that is what is answered
 abbrev pub Plainly : (Result (Unit {0}) RunFault → Type 0) → Result Done Fault → Type 0

@@ -9,7 +9,7 @@ use wl_device::{Sink, write_all};
 use wl_engines::RunFault;
 use wl_formats::{Format, FormatFault, Subject, formatted};
 
-/// Returns the command of a task, if its output has other formats. A member of a sweep is a plan.
+/// Returns the command of a task, if its output has other formats. A member of a sweep is a plan, and its map a page.
 pub(crate) fn subject_of(task: Task) -> Option<Subject>
     ensures { result ≡ subject_of task }
 {
@@ -21,7 +21,7 @@ pub(crate) fn subject_of(task: Task) -> Option<Subject>
         Task::Margin(_) => Some(Subject::Margin),
         Task::Traffic(_, _) => Some(Subject::Traffic),
         Task::Sweep(swept) => {
-            if swept.print.is_some() {
+            if swept.print.is_some() || swept.page {
                 None
             } else {
                 Some(Subject::Sweep)
