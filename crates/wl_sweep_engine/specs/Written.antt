@@ -98,10 +98,14 @@ frame_lines f =
 unfoldable pub name_lines : NodeText → List ℕ
 name_lines n = codes "name = \"" ++ n.name ++ codes "\"\noffset = " ++ decimal n.offset ++ codes "\n"
 
+-- the keys of a node's own table
+unfoldable pub node_keys : ℕ → NodeText → List ℕ
+node_keys version n =
+    name_lines n ++ own_clock_lines version n.rates ++ segment_lines n ++ place_lines n ++ number_line (codes "tolerance") n.tolerance
+    ++ flag_line (codes "listen") n.listens
+
 abbrev pub node_lines : ℕ → NodeText → List ℕ
-node_lines version n =
-    header_line (codes "node") ++ name_lines n ++ own_clock_lines version n.rates ++ segment_lines n ++ place_lines n
-    ++ number_line (codes "tolerance") n.tolerance ++ flag_line (codes "listen") n.listens ++ rate_tables version n.rates ++ flat_map frame_lines n.frame
+node_lines version n = header_line (codes "node") ++ node_keys version n ++ rate_tables version n.rates ++ flat_map frame_lines n.frame
 
 -- at the node of a name alone, or at a place on the cable
 unfoldable pub spot_line : Option (List ℕ) → ℕ → List ℕ

@@ -2,7 +2,7 @@
 ghost use Rattle.std.specs.Prelude.{◌≡◌, OnOk};
 ghost use Rattle.std.specs.List.{flat_map};
 ghost use Rattle.wl_report.specs.Lines.{GrowsBy};
-ghost use Rattle.wl_sweep_engine.specs.Written.{byte_words, clock_lines, data_line, disturbance_lines, flag_line, frame_keys, frame_lines, from_line, header_line, interval_lines, is_one, is_own, later_words, name_lines, node_lines, number_line, own_clock_lines, place_lines, plan_words, rate_clock_lines, rate_lines, rate_tables, segment_lines, spot_line, sync_word, top_lines};
+ghost use Rattle.wl_sweep_engine.specs.Written.{byte_words, clock_lines, data_line, disturbance_lines, flag_line, frame_keys, frame_lines, from_line, header_line, interval_lines, is_one, is_own, later_words, name_lines, node_keys, node_lines, number_line, own_clock_lines, place_lines, plan_words, rate_clock_lines, rate_lines, rate_tables, segment_lines, spot_line, sync_word, top_lines};
 
 use std::alloc::AllocError;
 use wl_segments::SyncRules;
@@ -264,17 +264,25 @@ fn push_name(text: &mut String, node: &NodeText) -> Result<(), AllocError>
     write!(text, "name = \"{name}\"\noffset = {offset}\n")
 }
 
-/// Adds the table of a node.
-fn push_node(text: &mut String, version: u64, node: &NodeText) -> Result<(), AllocError>
-    ensures { OnOk result (GrowsBy text.old text.new (node_lines version node.now)) }
+/// Adds the keys of a node's own table.
+#[tactic(auto, unfolding(crate::specs::Written::node_keys))]
+fn push_node_keys(text: &mut String, version: u64, node: &NodeText) -> Result<(), AllocError>
+    ensures { OnOk result (GrowsBy text.old text.new (node_keys version node.now)) }
 {
-    push_header(text, "node")?;
     push_name(text, node)?;
     push_own_clocks(text, version, node.rates.as_slice())?;
     push_segments(text, node)?;
     push_place(text, node)?;
     push_number(text, "tolerance", widened(node.tolerance))?;
-    push_flag(text, "listen", node.listens)?;
+    push_flag(text, "listen", node.listens)
+}
+
+/// Adds the table of a node, with those of its rates and frames.
+fn push_node(text: &mut String, version: u64, node: &NodeText) -> Result<(), AllocError>
+    ensures { OnOk result (GrowsBy text.old text.new (node_lines version node.now)) }
+{
+    push_header(text, "node")?;
+    push_node_keys(text, version, node)?;
     push_rate_tables(text, version, node.rates.as_slice())?;
     push_frames(text, node.frame.as_slice())
 }

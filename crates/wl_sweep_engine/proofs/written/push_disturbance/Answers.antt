@@ -12,5 +12,5 @@ returns c =
     IfOk-equal c.push_interval.result (string_bytes c.push_interval.new.text) (string_bytes c.push_spot.new.text ++ interval_lines d) (old ++ disturbance_lines d)
     c.push_interval.ensures
     (ap (λ (t : List ℕ). t ++ interval_lines d)
-    (c.in_ok-push_spot.ensures ∙ ap (λ (t : List ℕ). t ++ spot) c.in_ok-push_header.ensures)
-    ∙ append_assoc (old ++ header) spot (interval_lines d) ∙ append_assoc old header (spot ++ interval_lines d))
+    (c.in_ok-push_spot.ensures ∙ ap (λ (t : List ℕ). t ++ spot) c.in_ok-push_header.ensures ∙ append_assoc old header spot)
+    ∙ append_assoc old (header ++ spot) (interval_lines d))
