@@ -1,5 +1,5 @@
 #!/usr/bin/env python3
-"""Holds the table of faults in docs/commands.md against .ci/refused.txt: each fault of the table has a row there, and the row's change is the
+"""Holds the table of faults in docs/use/commands.md against .ci/refused.txt: each fault of the table has a row there, and the row's change is the
 table's. It prints what differs.
 
 usage: faults.py
@@ -15,7 +15,7 @@ MADE_ELSEWHERE = {"Read", "Write", "Memory", "Worker(n)"}
 
 def table():
     """Returns the table's rows: the fault's pattern and what to change."""
-    text = (TOP / "docs/commands.md").read_text().split("\n## Faults\n")[1].split("\n## ")[0]
+    text = (TOP / "docs/use/commands.md").read_text().split("\n## Faults\n")[1].split("\n## ")[0]
     cells = [line.strip("| ").split(" | ") for line in text.splitlines() if line.startswith("| `")]
     return [(cell[0].strip("`"), cell[3]) for cell in cells]
 

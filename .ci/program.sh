@@ -10,7 +10,7 @@
 # - each row of .ci/refused.txt: the status, the one line on standard error, nothing on standard output but what explain says of it, and the hint
 # - files for input and output: what stands at the named place on each outcome; devices, rights, full disks, closed descriptors, odd names
 # - settings: lists and plans as bench/settings.py has them, and what is refused (.ci/settings.sh)
-# - the commands of docs/first-hour.md, whose outputs are those that the page shows (.ci/shown.py)
+# - the commands of docs/use/first-hour.md, whose outputs are those that the page shows (.ci/shown.py)
 # - JSON and CSV of each command, by Python's readers (bench/formats.py)
 # - sweeps: known answers, what is refused, files, memory (.ci/sweeps.sh)
 # - command lines that name no task, or are no text: status 2, and nothing on standard output
@@ -91,7 +91,7 @@ if command -v chromium > /dev/null; then
   is "maps of sweeps in a browser" python3 -B bench/page.py "$program" --sweeps
 fi
 
-is "what the first hour shows" python3 -B .ci/shown.py docs/first-hour.md "$program"
+is "what the first hour shows" python3 -B .ci/shown.py docs/use/first-hour.md "$program"
 
 for name in bounds doubts rates; do
   runs "explain of $name" ".ci/$name.toml" 0 ".ci/$name.explained" "$room/none" explain

@@ -29,8 +29,8 @@ refuses() { # refuses FAULT HINT EXPRESSION WORDS..: of an example that sed chan
   runs "settings --hint, $fault" "$room/input" 1 "$room/none" "$room/fault" settings --hint "$@"
 }
 refuses Toml "Correct the TOML." 's/^per = 5/per = = 5/'
-refuses 'Missing(cable)' "Add the key: docs/settings.md has all of them." /^cable/d
-refuses 'Kind(senders)' "Give it a value as docs/settings.md says." 's/"one"/"some"/'
+refuses 'Missing(cable)' "Add the key: docs/use/settings.md has all of them." /^cable/d
+refuses 'Kind(senders)' "Give it a value as docs/use/settings.md says." 's/"one"/"some"/'
 refuses 'Unknown(speed)' "Remove or rename the key; TOML puts a key into the table last begun." 's/^sjw/speed/'
 refuses NoController 'Add a `[[controller]]`.' '/^.*controller]]/,$d; s/^per/controller = []\nper/'
 refuses NoSetting "Leave out --plan: the list says which inequality refuses the best setting." 's/^cable = 10/cable = 100/' --plan

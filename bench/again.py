@@ -34,7 +34,7 @@ def first_of(found):
     return next((one for one in found if one), None)
 
 
-# ---- docs/bit-clock.md, "Ticks, quanta, bits" and "Rates that change"
+# ---- docs/bus/bit-clock.md, "Ticks, quanta, bits" and "Rates that change"
 
 
 def tick_of(offset, rates, quantum):
@@ -92,7 +92,7 @@ def clock(rng):
     return differs(f"fault of {offset}, {odd}", clock_fault(offset, odd), plain.Clock(offset, [plain.Rate(*rate) for rate in odd]).fault())
 
 
-# ---- docs/bit-clock.md, "The segments of a bit" and "How far two oscillators may differ"
+# ---- docs/bus/bit-clock.md, "The segments of a bit" and "How far two oscillators may differ"
 
 SEGMENTS_FAULTS = (
     ("Prop", lambda prop, ps1, ps2, sjw: prop not in range(1, 9)),
@@ -134,7 +134,7 @@ def segments(rng):
     return differs(f"figures of {lengths}", ours, (other.sample_at(), other.bit_quanta(), other.greatest_ppm()))
 
 
-# ---- docs/bit-clock.md, "Which edges count" to "Synchronisation by the book": by the quanta at which a bit begins, is sampled and ends
+# ---- docs/bus/bit-clock.md, "Which edges count" to "Synchronisation by the book": by the quanta at which a bit begins, is sampled and ends
 
 
 class BitTimes:
@@ -232,7 +232,7 @@ def bit_clock(rng):
     return differs(f"the page's row {edge}", shown_row(edge), BOOK_TABLE[edge])
 
 
-# ---- docs/frames.md: fields, CRC sequence, stuffing, reading; a frame is a string of 0 and 1
+# ---- docs/bus/frames.md: fields, CRC sequence, stuffing, reading; a frame is a string of 0 and 1
 
 BASE = (("sof", 1), ("id", 11), ("rtr", 1), ("ide", 1), ("r0", 1), ("dlc", 4))
 EXTENDED = (("sof", 1), ("id", 11), ("srr", 1), ("ide", 1), ("ext_id", 18), ("rtr", 1), ("r1", 1), ("r0", 1), ("dlc", 4))
@@ -342,7 +342,7 @@ def frame_fault(number, remote, dlc, data, extended):
     return next((name for name, holds in tests if holds), None)
 
 
-# ---- docs/counters.md: TEC and REC after what happened
+# ---- docs/bus/counters.md: TEC and REC after what happened
 
 EFFECTS = {
     "RxError": lambda tec, rec: (tec, rec + 1), "RxAfterFlag": lambda tec, rec: (tec, rec + 8), "RxFlagBit": lambda tec, rec: (tec, rec + 8),
@@ -372,7 +372,7 @@ def counters(rng):
         if found: return found
 
 
-# ---- docs/machine.md: stretches of samples, and what one more sample is
+# ---- docs/bus/machine.md: stretches of samples, and what one more sample is
 
 
 class Stretch:
@@ -503,7 +503,7 @@ class Machine:
         return "Nothing", ("received", content(now.bits)) if place == 8 and not sends else None, now
 
     def place(self):
-        """docs/trace.md, "Where": in a field's bit, or after it, at a stuff bit."""
+        """docs/use/trace.md, "Where": in a field's bit, or after it, at a stuff bit."""
         now = self.now
         if now.kind == "delimiter": return "in", "delimiter", len(now.samples)
         if now.tail is not None: return "in", TAIL[len(now.tail)], max(0, len(now.tail) - 3)
@@ -540,7 +540,7 @@ def machine(rng):
         if found: return found
 
 
-# ---- docs/node.md and docs/trace.md: one node over the levels that it saw, and for how many quanta more its drive is sure to stay
+# ---- docs/bus/node.md and docs/use/trace.md: one node over the levels that it saw, and for how many quanta more its drive is sure to stay
 
 class Node:
     def __init__(self, setup):
@@ -586,7 +586,7 @@ class Node:
         self.samples.append(self.quantum)
 
     def quiet(self):
-        """docs/node.md, "What it promises"."""
+        """docs/bus/node.md, "What it promises"."""
         waiting, unsent = bool(self.unsent()), self.unsent()
         until = max(0, unsent[0].ready - self.quantum) if waiting else 0
         return min(65_536, max(self.promise(waiting), min(until, self.promise(False))))
@@ -598,7 +598,7 @@ class Node:
 
 
 def silence(now, heads):
-    """docs/machine.md, "Silence"."""
+    """docs/bus/machine.md, "Silence"."""
     if now.kind == "integration": return 10 - run_at_end(now.samples, "1")
     if now.kind == "idle": return 0 if heads else 5
     if now.kind == "suspension": return min(5, 7 - len(now.samples)) if heads else 5
@@ -620,7 +620,7 @@ def least_length(bits):
 
 
 def words_of(frame):
-    """docs/reports.md, "The frame line"."""
+    """docs/use/reports.md, "The frame line"."""
     number = f"%0{8 if frame.extended else 3}x" % frame.id
     return f"{number} {'remote' if frame.remote else 'data'} {frame.dlc} {''.join(f'{byte:02x}' for byte in frame.data) or '-'}"
 
@@ -665,7 +665,7 @@ def promised(rng, node):
         if node.drive != drive: return f"the drive changes {n + 1} quanta on, promised were {quanta}"
 
 
-# ---- docs/topology.md and docs/simulation.md: what a node finds, as sets of ticks
+# ---- docs/bus/topology.md and docs/proof/simulation.md: what a node finds, as sets of ticks
 
 
 def line(rng):
@@ -685,7 +685,7 @@ def line(rng):
             if (tick in found) != (other.found(j, tick) == plain.DOMINANT): return f"node {j} of {places}, per {per}, tick {tick}"
 
 
-# ---- docs/replica.md and docs/commands.md: what records say together, and how far each node is known
+# ---- docs/proof/replica.md and docs/use/commands.md: what records say together, and how far each node is known
 
 
 def slots_of(records):
@@ -738,7 +738,7 @@ def records(rng):
 
 
 def first_record_fault(text):
-    """docs/record-text.md, "Faults": by the bytes, one after another."""
+    """docs/use/record-text.md, "Faults": by the bytes, one after another."""
     number, line = 1, b""
     for byte in text:
         if byte == 10:

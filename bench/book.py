@@ -1,5 +1,5 @@
 #!/usr/bin/env python3
-"""The tables of docs/from-the-book.md: settings of the literature as plans, and what `margin`, `check` and `explain` say of them.
+"""The tables of docs/use/from-the-book.md: settings of the literature as plans, and what `margin`, `check` and `explain` say of them.
 
 usage: book.py PROGRAM       the tables
        book.py plan ROW      the plan of a row, by its name

@@ -1,5 +1,5 @@
 #!/usr/bin/env python3
-"""The table of crates in docs/ARCHITECTURE.md: each crate's floor, what its doc comment says first, and the crates that it uses.
+"""The table of crates in docs/change/ARCHITECTURE.md: each crate's floor, what its doc comment says first, and the crates that it uses.
 
 usage: crates.py          writes the table between the two markers of that page
        crates.py check    status 1, and what differs, if the table there isn't that of the sources
@@ -13,7 +13,7 @@ import sys
 from pathlib import Path
 
 TOP = Path(__file__).resolve().parent.parent
-PAGE = TOP / "docs" / "ARCHITECTURE.md"
+PAGE = TOP / "docs" / "change" / "ARCHITECTURE.md"
 BEGIN, END = "<!-- crates: bench/crates.py writes what is between these lines -->", "<!-- crates: end -->"
 LEFT_OUT = {"std_collections", "thiserror", "itoa", "arrayvec", "anyhow", "toml_parser", "rand_core"}
 
@@ -94,7 +94,7 @@ def main():
     new = table()
     if sys.argv[1:] == ["check"]:
         if old != new:
-            print("\n".join(difflib.unified_diff(old.splitlines(), new.splitlines(), "docs/ARCHITECTURE.md", "the sources", lineterm="", n=0)))
+            print("\n".join(difflib.unified_diff(old.splitlines(), new.splitlines(), "docs/change/ARCHITECTURE.md", "the sources", lineterm="", n=0)))
             sys.exit("crates.py: the table of crates is stale; bench/crates.py writes it")
     elif not sys.argv[1:]:
         PAGE.write_text(before + BEGIN + "\n" + new + END + after, encoding="utf-8")

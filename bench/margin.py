@@ -1,5 +1,5 @@
 #!/usr/bin/env python3
-"""The margin of a bus, by an independent program: what `margin` has to write of a plan, from the three inequalities as docs/margins.md has them.
+"""The margin of a bus, by an independent program: what `margin` has to write of a plan, from the three inequalities as docs/use/margins.md has them.
 
 usage: margin.py [--tick TIME] < PLAN
 

@@ -11,7 +11,7 @@ import plain
 from again import clock_fault, differ, differs, frame_fault, segments_fault, tick_of
 
 
-# ---- docs/plan-text.md, "Keys" and "Faults": the first fault of a text, and the table in which it stands
+# ---- docs/use/plan-text.md, "Keys" and "Faults": the first fault of a text, and the table in which it stands
 
 
 class Refused(Exception):
@@ -155,7 +155,7 @@ def test_plan(top, version):
         if one["from"] >= one["to"] or one["to"] > 2**36 or n >= 64 or far: raise Refused(f"Plan(Disturbance({n}))", ("disturbance", n), "x", "node", "from", "to")
 
 
-# ---- docs/explain.md, "Of a plan that is refused", and the table of faults of docs/commands.md, whose last column says what to change
+# ---- docs/use/explain.md, "Of a plan that is refused", and the table of faults of docs/use/commands.md, whose last column says what to change
 
 # What is wrong, in the words of crates/wl_explain/specs/Remedies.antt; those on a whole fault first.
 CAUSES = {
@@ -185,7 +185,7 @@ def shown(text):
 
 @functools.cache
 def faults_table():
-    rows = re.findall(r"^\| `([^`]*)` \| (?:plan|any|records) \| .* \| (.*) \|$", (Path(__file__).parent.parent / "docs/commands.md").read_text(), re.M)
+    rows = re.findall(r"^\| `([^`]*)` \| (?:plan|any|records) \| .* \| (.*) \|$", (Path(__file__).parent.parent / "docs/use/commands.md").read_text(), re.M)
     return [(re.compile(re.sub(r"\b(key|n|i|j)\b", ".*", re.escape(fault)), re.S), change) for fault, change in rows]
 
 

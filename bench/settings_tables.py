@@ -1,5 +1,5 @@
 #!/usr/bin/env python3
-"""Makes the tables of docs/settings.md, by the built programs test_settings and, for sweeps, wl_sim.
+"""Makes the tables of docs/use/settings.md, by the built programs test_settings and, for sweeps, wl_sim.
 
 usage: settings_tables.py pairs ROWS PROGRAM            20 pairs of a clock and a bit rate: count, first row, sweeps at its longest cable
        settings_tables.py can-calc ROWS [CAN_CALC]      beside can-calc-bit-timing of can-utils, for its controllers, clocks and bit rates

@@ -1,5 +1,5 @@
 #!/usr/bin/env python3
-"""Sweeps by an independent program: what `sweep` says of a plan, and the plans of its members, from docs/sweeps.md; members run by plain.py.
+"""Sweeps by an independent program: what `sweep` says of a plan, and the plans of its members, from docs/use/sweeps.md; members run by plain.py.
 
 usage: sweeps.py answers [--program PROGRAM] [--jobs N] < crates/sweep_rows/stdin     what sweep_rows has to answer
        sweeps.py says [--program PROGRAM] [--jobs N] PLAN WORD..                      what is said of one plan; words as those rows have them

@@ -1,5 +1,5 @@
 #!/usr/bin/env python3
-"""Measures both choices of synchronisation (the key `sync` of a plan) side by side, and prints the tables of docs/bit-clock.md.
+"""Measures both choices of synchronisation (the key `sync` of a plan) side by side, and prints the tables of docs/bus/bit-clock.md.
 
 usage: sync_tables.py [--program PROGRAM] [--jobs N] [TABLE]..     all of phases pairs pulses deviations cables senders both joins sweeps by default
 

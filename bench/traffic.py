@@ -1,6 +1,6 @@
 #!/usr/bin/env python3
 """The traffic of plans by a second program, over plain.py's simulation: load and gap of the bus, what each message waited, and why a run
-didn't work. It shares no line with the proved program. The definitions are in docs/traffic.md.
+didn't work. It shares no line with the proved program. The definitions are in docs/use/traffic.md.
 
 usage: traffic.py text [TICK]                          the traffic of a plan from standard input
        traffic.py differ PROGRAM [SEED [COUNT]]        the examples, and COUNT random plans (1000); status 1 if two texts differ

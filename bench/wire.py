@@ -1,5 +1,5 @@
 #!/usr/bin/env python3
-"""Machines on one wire: do they ever make an error? A search; the machine is written from docs/machine.md and docs/frames.md.
+"""Machines on one wire: do they ever make an error? A search; the machine is written from docs/bus/machine.md and docs/bus/frames.md.
 
 usage: wire.py same [COUNT [SEED]]      compares the machine with that of plain.py, on random samples
        wire.py search [COUNT [SEED]]    plays random schedules of 2 to 6 machines, and counts those that refuse the claim
@@ -33,7 +33,7 @@ class Content(NamedTuple):
     bytes: tuple
 
 
-# ---- Frames: fields, CRC, stuffing (docs/frames.md)
+# ---- Frames: fields, CRC, stuffing (docs/bus/frames.md)
 
 def spelled(number, width):
     return "".join("r" if number >> k & 1 else "d" for k in reversed(range(width)))

@@ -4,9 +4,9 @@
 usage: workers.py same PROGRAM [SEED [COUNT]]    PROGRAM is the built wl_sim: random plans of bench/differ.py by 2 to 8 workers and either link; the
                                                  bytes, the fault and the status have to be those of one thread; status 1 where one differs
        workers.py table PROGRAM [ROUNDS]         whole processes, one thread and workers in turns on the same three plans: wall and processor time (the median of
-                                                 the rounds) beside one thread's, and peak memory; the table of docs/speed.md
+                                                 the rounds) beside one thread's, and peak memory; the table of docs/change/speed.md
        workers.py speed ROWS [ROUNDS]            ROWS is the built test_workers: three plans of 16 nodes with 60,000 quanta each, by one thread and by
-                                                 1, 2 and 4 workers and either link in turns; the table of docs/workers.md
+                                                 1, 2 and 4 workers and either link in turns; the table of docs/proof/workers.md
 
 In the table a time is the least and the median of the rounds, in seconds. One thread's is that of reading the plan, the simulation and the report;
 that of workers is what a process that runs them after it takes more. Records, turns and waits are of all workers together, in the last round. Sleeps

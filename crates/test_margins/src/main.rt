@@ -1,4 +1,4 @@
-//! `test_margins`: what the condition for a sound bus says of worked buses, whose answers were computed by hand or stand in docs/margins.md.
+//! `test_margins`: what the condition for a sound bus says of worked buses, whose answers were computed by hand or stand in docs/use/margins.md.
 #![tactic(auto)]
 
 use anyhow::{Context, Result};

@@ -1,5 +1,5 @@
 -- What is wrong at each fault of a plan's text, and what to change (this project's profile). The words of changes are those of the table of
--- faults in docs/commands.md.
+-- faults in docs/use/commands.md.
 use Rattle.std.specs.Prelude.{ℕ, List, codes, if◌then◌else◌}
 use Rattle.std.specs.Str.{bytes_eq}
 use Rattle.wl_clock.specs.declared.ClockFault.{ClockFault}

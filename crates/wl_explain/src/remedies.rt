@@ -1,5 +1,5 @@
 //! What is wrong at each fault of a plan's text, and what to change. The words of changes are those of the table of faults in
-//! `docs/commands.md`, from which the hints of the script are made.
+//! `docs/use/commands.md`, from which the hints of the script are made.
 ghost use Rattle.std.specs.Prelude.{◌≡◌};
 ghost use Rattle.wl_explain.specs.Remedies.{cause, clock_cause, clock_remedy, frame_cause, frame_remedy, kind_remedy, missing_remedy, plan_cause, plan_remedy, remedy, segments_cause, segments_remedy, topology_cause, topology_remedy, unknown_remedy};
 

@@ -1,4 +1,4 @@
-//! What to change at faults that are not of the input. The words are those of the table of faults in `docs/commands.md`.
+//! What to change at faults that are not of the input. The words are those of the table of faults in `docs/use/commands.md`.
 
 /// Standard input failed.
 pub const READ: &str = "Check that standard input is a file or a pipe that can be read.";

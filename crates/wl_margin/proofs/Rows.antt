@@ -1,4 +1,4 @@
--- Worked rows of a bus's margin, by the rules of docs/margins.md.
+-- Worked rows of a bus's margin, by the rules of docs/use/margins.md.
 use Rattle.std.proofs.Common.{◌≡◌, ℕ, List, [], ◌∷◌, codes, refl}
 use Rattle.std.specs.Fmt.{digits}
 use Rattle.wl_bound.specs.declared.verdict.Outside.TheVariants.{ListenerSends, NobodyAcknowledges}

@@ -27,7 +27,7 @@ use wl_views::Tick;
 const SCRIPT: &str = "The script ./wireline hands its words to the program. It has two words more:
   ./wireline build              proves and builds the program, once
   ./wireline completions SHELL  the completions of these words for bash, zsh or fish
-docs/first-hour.md leads from a data sheet to a report.";
+docs/use/first-hour.md leads from a data sheet to a report.";
 
 /// What the program is asked to do.
 #[derive(Clone, Copy, Debug, PartialEq, Eq)]

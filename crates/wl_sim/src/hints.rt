@@ -157,8 +157,8 @@ fn say_of_word(rt: &impl Eprint, alloc: Global, order: &Order, fault: &SweepFaul
 fn settings_advice(fault: &SettingsFault) -> &'static str {
     match fault {
         SettingsFault::Toml => "Correct the TOML.",
-        SettingsFault::Missing(_) => "Add the key: docs/settings.md has all of them.",
-        SettingsFault::Kind(_) => "Give it a value as docs/settings.md says.",
+        SettingsFault::Missing(_) => "Add the key: docs/use/settings.md has all of them.",
+        SettingsFault::Kind(_) => "Give it a value as docs/use/settings.md says.",
         SettingsFault::Unknown(_) =>
             "Remove or rename the key; TOML puts a key into the table last begun.",
         SettingsFault::NoController => "Add a `[[controller]]`.",

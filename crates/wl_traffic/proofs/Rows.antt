@@ -1,4 +1,4 @@
--- Worked rows of the traffic's definitions, by hand from docs/traffic.md.
+-- Worked rows of the traffic's definitions, by hand from docs/use/traffic.md.
 use Rattle.std.proofs.Common.{◌≡◌, List, ℕ, [], ◌∷◌, Some, None, true, false, codes, refl}
 use Rattle.std.specs.Fmt.{digits}
 use Rattle.wl_confine.specs.declared.ErrorKind.TheVariants.{Bit}
