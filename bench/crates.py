@@ -80,7 +80,7 @@ def table():
         lines.append(line)
     lines += ["```", "", "| Crate | Floor | What it does | Uses directly |", "|---|---|---|---|"]
     for name in sorted(product, key=floors.get) + programs:
-        readme = f"[`{name}`](../crates/{name}/README.md)" if (TOP / "crates" / name / "README.md").exists() else f"`{name}`"
+        readme = f"[`{name}`](../../crates/{name}/README.md)" if (TOP / "crates" / name / "README.md").exists() else f"`{name}`"
         at = str(floors[name]) if name in product else ""
         lines.append(f"| {readme} | {at} | {sentence(name)} | {', '.join(f'`{it}`' for it in uses(name, crates))} |")
     return "\n".join([*lines, "", ""])
