@@ -1,35 +1,33 @@
 -- A bus with one sender from its power-up to its end: frame after frame, or silence.
-use Rattle.std.proofs.Common.{◌≡◌, ◌≢◌, ◌∙◌, ◌⊎◌, inl, inr, refl, sym, ap, subst, ℕ, zero, suc, ◌+◌, ◌-◌, ◌*◌, ◌<◌, ◌≤◌, min, max, length, List, [], ◌∷◌, ◌++◌, Bool, true, false, Option, Some, None, arith}
-use Rattle.std.specs.Prelude.{drop}
-use Rattle.std.proofs.lemmas.Bool.{cases_lt, cases_eq, cases_order}
+use Rattle.std.proofs.Common.{◌≡◌, ◌∙◌, ◌⊎◌, inl, inr, refl, sym, ap, subst, ℕ, zero, suc, ◌+◌, ◌-◌, ◌*◌, ◌<◌, ◌≤◌, min, max, length, List, Bool, true, false, cond, Option, Some, None, arith}
+use Rattle.std.specs.Prelude.{◌==◌, drop}
+use Rattle.std.proofs.lemmas.Bool.{cases_lt, cases_eq, cases_order, eq-eqb, ne_eqb}
 use Rattle.std.proofs.Math.Bridge.{le_prop}
 use Rattle.std.proofs.Math.Nat.{mul-le-mul_right, mul-le-mul_left}
 use Rattle.wl_level.specs.declared.Level.{Level}
 use Rattle.wl_level.specs.declared.Level.TheVariants.{Recessive}
 use Rattle.wl_segments.specs.Lengths.{sample_at, bit_quanta}
-use Rattle.wl_confine.specs.Counts.{counts_of, no_counts}
+use Rattle.wl_confine.specs.Counts.{no_counts}
 use Rattle.wl_frame.specs.Stuffing.{Stuffs}
 use Rattle.wl_frame.specs.Grammar.{Content, IsContent, bits_of}
 use Rattle.wl_machine.specs.Stretch.{Stretch}
-use Rattle.wl_node.specs.declared.setup.Queued.{Queued}
 use Rattle.wl_node.specs.declared.setup.Passed.{Passed}
 use Rattle.wl_node.specs.History.{history_of, counters_of, error_count, ready_head}
 use Rattle.wl_phase.specs.Clocks.{steady_tick}
 use Rattle.wl_plan.specs.Line.{Line}
 use Rattle.wl_plan.specs.Simulation.{seen, AreInside}
 use Rattle.wl_one_sender.specs.Levels.{levels_before}
-use Rattle.wl_one_sender.specs.OneSender.{SenderBus, IsBus, IsListener, IsInStepWithAll, SendsFirst, lengths_of, sender_of, listener_of}
-use Rattle.wl_one_sender.specs.Through.{AreFrames, GetThrough, StaysInSlots, frames_of, history_at, queue_of, ready_at, sent_by}
+use Rattle.wl_one_sender.specs.OneSender.{SenderBus, IsBus, IsListener, IsInStepWithAll, SendsFirst, lengths_of}
+use Rattle.wl_one_sender.specs.Through.{AreFrames, GetThrough, StaysInSlots, queued_contents, history_at, sender_queue, ready_at, due_quantum}
 use Rattle.wl_one_sender.proofs.Calm as calm
 use Rattle.wl_one_sender.proofs.Expecting.{seen_by_quanta}
 use Rattle.wl_one_sender.proofs.Nodes.{Does}
 use Rattle.wl_one_sender.proofs.Leasts.{split}
 use Rattle.wl_one_sender.proofs.Passing.{IsNext, IsPassed, contents_long, next_is, none_passed, ready_late, ready_not}
-use Rattle.wl_one_sender.proofs.Planned as planned
 use Rattle.wl_one_sender.proofs.Planned.{Laws}
 use Rattle.wl_one_sender.proofs.Resting as resting
 use Rattle.wl_one_sender.proofs.Resting.{Rests, RestsAt, SendsNext, rests_first}
-use Rattle.wl_one_sender.proofs.Silence.{CountsTo, Decides, IsSilentAt, counts_to, integrating, left_of}
+use Rattle.wl_one_sender.proofs.Silence.{CountsTo, Decides, counts_to, integrating, left_of}
 use Rattle.wl_one_sender.proofs.Speaking as speaking
 use Rattle.wl_one_sender.proofs.Through as through
 use Rattle.wl_one_sender.proofs.Through.{StayLaws}
@@ -66,29 +64,32 @@ module _ (laws : Laws) (stay : StayLaws) (b : SenderBus) (stuffed : ℕ → List
     pub fine : error_count (history_at b i k) ≡ 0
     pub counters : counters_of (history_at b i k) ≡ no_counts
     pub count : ℕ
-    pub sent : Bool
-    pub passed : IsPassed (queue_of b) sent count (history_at b i k).frames
+    pub passed : IsPassed (sender_queue b) (i == b.sender) count (history_at b i k).frames
 
   good_from : (i k : ℕ) (inside : i < l.nodes) (levels : ℕ → Level) (passed : List Passed) (s : Stretch) (v : Level) → Does laws.clocks (b.setups i) (is.book i inside) levels passed k s v
-      → seen l i k ≡ levels_before levels k → (n : ℕ) × (sent : Bool) × IsPassed (queue_of b) sent n passed → IsGood i k
+      → seen l i k ≡ levels_before levels k → (n : ℕ) × IsPassed (sender_queue b) (i == b.sender) n passed → IsGood i k
   good_from i k inside levels passed s v d e p = record {
     fine = ap (λ ls. error_count (history_of (b.setups i) ls)) e ∙ d.errors;
     counters = ap (λ ls. counters_of (history_of (b.setups i) ls)) e ∙ d.counts;
     count = p.0;
-    sent = p.1;
-    passed = subst (IsPassed (queue_of b) p.1 p.0) (sym (ap (λ ls. (history_of (b.setups i) ls).frames) e ∙ d.frames)) p.2;
+    passed = subst (IsPassed (sender_queue b) (i == b.sender) p.0) (sym (ap (λ ls. (history_of (b.setups i) ls).frames) e ∙ d.frames)) p.1;
   }
+
+  -- the frames of the sender are sent, and those of another node received
+  of_node : (v : ℕ) (sent : Bool) (n : ℕ) (found passed : List Passed) → (v == b.sender) ≡ sent → found ≡ passed → IsPassed (sender_queue b) sent n passed
+      → IsPassed (sender_queue b) (v == b.sender) n found
+  of_node v sent n found passed h e p =
+      subst (λ w. IsPassed (sender_queue b) w n found) (sym h) (subst (IsPassed (sender_queue b) sent n) (sym e) p)
 
   -- at rest after n frames
   pub record Epoch (t n : ℕ) : Type 0 where
     pub rest : Rests laws.clocks b is t
-    pub kept : (i : ℕ) → (inside : i < l.nodes) → (c : ℕ) → (k : ℕ) × (sent : Bool) × IsPassed (queue_of b) sent k ((rest.node i inside).waits.passed c)
-    pub sent : IsPassed (queue_of b) true n ((rest.node a is.sender).waits.passed 10)
-    pub received : (j : ℕ) → (p : IsListener b j) → IsPassed (queue_of b) false n ((rest.node j p.0).waits.passed 10)
+    pub kept : (i : ℕ) → (inside : i < l.nodes) → (c : ℕ) → (k : ℕ) × IsPassed (sender_queue b) (i == b.sender) k ((rest.node i inside).waits.passed c)
+    pub sent : IsPassed (sender_queue b) true n ((rest.node a is.sender).waits.passed 10)
+    pub received : (j : ℕ) → (p : IsListener b j) → IsPassed (sender_queue b) false n ((rest.node j p.0).waits.passed 10)
     pub spaced : (m : ℕ) (head : Content) → Decides (b.setups a) ((rest.node a is.sender).waits.passed 10) (rest.node a is.sender).base (S a) (B a) head m
         → (j : ℕ) → (p : IsListener b j)
         → tick j ((rest.node j p.0).base + ((rest.node j p.0).waits.enough - 1) * B j + S j) < tick a ((rest.node a is.sender).base + suc m * B a) + l.delay a j
-
     -- how many have passed by then, each listener first
     pub low : (i : ℕ) → (inside : i < l.nodes) → (c : ℕ) → n ≤ suc (length ((rest.node i inside).waits.passed c))
     pub early_own : (c : ℕ) → c ≤ 7 → length ((rest.node a is.sender).waits.passed c) ≤ n - 1
@@ -96,7 +97,7 @@ module _ (laws : Laws) (stay : StayLaws) (b : SenderBus) (stuffed : ℕ → List
     pub late_other : (j : ℕ) → (p : IsListener b j) → (c : ℕ) → 6 < c → n ≤ length ((rest.node j p.0).waits.passed c)
     pub order : 0 < n → (j : ℕ) → (p : IsListener b j)
         → tick j ((rest.node j p.0).base + 6 * B j + S j) ≤ tick a ((rest.node a is.sender).base + 7 * B a + S a)
-    pub due : (rest.node a is.sender).base + 7 * B a + S a < sent_by b stuffed n
+    pub due : (rest.node a is.sender).base + 7 * B a + S a < due_quantum b stuffed n
 
   -- a clock goes on by a tick at least
   far : (i k : ℕ) → i < l.nodes → k ≤ l.instant i k
@@ -118,10 +119,10 @@ module _ (laws : Laws) (stay : StayLaws) (b : SenderBus) (stuffed : ℕ → List
       let rise = resting.up laws.clocks b is i inside (suc k) m less in
       omega arith
 
-  sent_later : (m k : ℕ) → m ≤ k → sent_by b stuffed m ≤ sent_by b stuffed k
-  sent_later m zero h = let e : m ≡ 0 = omega arith in subst (λ x. sent_by b stuffed x ≤ sent_by b stuffed 0) (sym e) (omega arith)
+  sent_later : (m k : ℕ) → m ≤ k → due_quantum b stuffed m ≤ due_quantum b stuffed k
+  sent_later m zero h = let e : m ≡ 0 = omega arith in subst (λ x. due_quantum b stuffed x ≤ due_quantum b stuffed 0) (sym e) (omega arith)
   sent_later m (suc k) h = elim (cases_eq m (suc k)) [
-    | inl here ↦ subst (λ x. sent_by b stuffed x ≤ sent_by b stuffed (suc k)) (sym here) (omega arith)
+    | inl here ↦ subst (λ x. due_quantum b stuffed x ≤ due_quantum b stuffed (suc k)) (sym here) (omega arith)
     | inr less ↦ (let e = sent_later m k (omega arith) in omega arith)
   ]
 
@@ -209,7 +210,7 @@ module _ (laws : Laws) (stay : StayLaws) (b : SenderBus) (stuffed : ℕ → List
     ]
 
     -- and what was due was sent, unless that is one more
-    due_by : (k m : ℕ) → OwnCount k → sent_by b stuffed m ≤ k → (sent_by b stuffed (suc n) ≤ k → m ≤ n) → m ≤ long a k
+    due_by : (k m : ℕ) → OwnCount k → due_quantum b stuffed m ≤ k → (due_quantum b stuffed (suc n) ≤ k → m ≤ n) → m ≤ long a k
     due_by k m own by unless = elim (cases_lt (base + 7 * B a + S a) k) [
       | inr early ↦
           (let d = ep.due in
@@ -279,29 +280,29 @@ module _ (laws : Laws) (stay : StayLaws) (b : SenderBus) (stuffed : ℕ → List
           (counts_to laws.clocks (b.setups j) (is.book j p.0) (calm.lv laws b is t ep.rest sends.alone never j) r.base r.waits k s)
 
       -- it would have been ready by then
-      calm_due : (k : ℕ) → AreInside l a k → n < length (queue_of b) → sent_by b stuffed (suc n) ≤ k → ⊥
+      calm_due : (k : ℕ) → AreInside l a k → n < length (sender_queue b) → due_quantum b stuffed (suc n) ≤ k → ⊥
       calm_due k soon more by =
           let d = ep.due in
           let some = (is.book a is.sender).lengths.low in
-          let r = split (ready_at (queue_of b) n - (base + 10 * B a + S a)) (B a) (omega arith) in
+          let r = split (ready_at (sender_queue b) n - (base + 10 * B a + S a)) (B a) (omega arith) in
           let cut = r.3 in
           let inside = r.2 in
           let bits : (10 + suc r.0) * B a ≡ 10 * B a + r.0 * B a + B a = omega arith in
           let weight : 15 * B a ≤ (length (stuffed n) + 15) * B a = mul-le-mul_right (B a) (omega arith) in
           let here : base + (10 + suc r.0) * B a + S a < k = omega arith in
-          let ready_then : ready_at (queue_of b) n ≤ base + (10 + suc r.0) * B a + S a = omega arith in
+          let ready_then : ready_at (sender_queue b) n ≤ base + (10 + suc r.0) * B a + S a = omega arith in
           let never_then = never (10 + suc r.0) (omega arith)
           (let f = soon (base + (10 + suc r.0) * B a + S a) here in let e = is.ticks a (base + (10 + suc r.0) * B a + S a) is.sender in omega arith) in
-          let so = ap (λ c. ready_head (drop c (queue_of b)) (base + (10 + suc r.0) * B a + S a)) (sym ep.sent.count) ∙ never_then in
-          ready_not (queue_of b) n (base + (10 + suc r.0) * B a + S a) more ready_then so
+          let so = ap (λ c. ready_head (drop c (sender_queue b)) (base + (10 + suc r.0) * B a + S a)) (sym ep.sent.count) ∙ never_then in
+          ready_not (sender_queue b) n (base + (10 + suc r.0) * B a + S a) more ready_then so
 
     -- a frame begins after bit m
     module _ (m : ℕ) (head : Content) (decides : Decides (b.setups a) gone base (S a) (B a) head m) where
       abbrev from : ℕ
       from = base + suc m * B a
 
-      next : IsNext (queue_of b) n head
-      next = next_is (queue_of b) true n (base + m * B a + S a) gone head ep.sent decides.ready
+      next : IsNext (sender_queue b) n head
+      next = next_is (sender_queue b) true n (base + m * B a + S a) gone head ep.sent decides.ready
 
       sends_next : SendsNext laws.clocks b is t ep.rest head (stuffed n) from m
       sends_next =
@@ -359,19 +360,17 @@ module _ (laws : Laws) (stay : StayLaws) (b : SenderBus) (stuffed : ℕ → List
               (elim d.gone [
                 | inl e ↦
                     (let r = ep.kept a is.sender (min d.count 10) in
-                    (r.0, r.1, subst (IsPassed (queue_of b) r.1 r.0) (sym e.0) r.2))
+                    (r.0, subst (IsPassed (sender_queue b) (a == b.sender) r.0) (sym e.0) r.1))
                 | inr e ↦ elim (cases_lt 7 (min d.count 10)) [
                   | inl over ↦ (
                     suc n,
-                    true,
-                    subst (IsPassed (queue_of b) true (suc n)) (sym e.0)
-                        (through.own_late laws stay b is meets slots t ep.rest head (stuffed n) from m sends_next first.0 first.1 at_slot (queue_of b) n next ep.sent ep.received (min d.count 10) over),
+                    of_node a true (suc n) d.passed ((through.after_own laws stay b is meets slots t ep.rest head (stuffed n) from m sends_next first.0 first.1 at_slot).passed (min d.count 10)) (eq-eqb a a refl) e.0
+                        (through.own_late laws stay b is meets slots t ep.rest head (stuffed n) from m sends_next first.0 first.1 at_slot (sender_queue b) n next ep.sent ep.received (min d.count 10) over),
                   )
                   | inr early ↦ (
                     n,
-                    true,
-                    subst (IsPassed (queue_of b) true n) (sym e.0)
-                        (through.own_early laws stay b is meets slots t ep.rest head (stuffed n) from m sends_next first.0 first.1 at_slot (queue_of b) n next ep.sent ep.received (min d.count 10) early),
+                    of_node a true n d.passed ((through.after_own laws stay b is meets slots t ep.rest head (stuffed n) from m sends_next first.0 first.1 at_slot).passed (min d.count 10)) (eq-eqb a a refl) e.0
+                        (through.own_early laws stay b is meets slots t ep.rest head (stuffed n) from m sends_next first.0 first.1 at_slot (sender_queue b) n next ep.sent ep.received (min d.count 10) early),
                   )
                 ]
               ])
@@ -386,25 +385,23 @@ module _ (laws : Laws) (stay : StayLaws) (b : SenderBus) (stuffed : ℕ → List
               (elim d.gone [
                 | inl e ↦
                     (let r = ep.kept i w.heard.listener.0 (min d.count 10) in
-                    (r.0, r.1, subst (IsPassed (queue_of b) r.1 r.0) (sym e.0) r.2))
+                    (r.0, subst (IsPassed (sender_queue b) (i == b.sender) r.0) (sym e.0) r.1))
                 | inr e ↦ elim (cases_lt 6 (min d.count 10)) [
                   | inl over ↦ (
                     suc n,
-                    false,
-                    subst (IsPassed (queue_of b) false (suc n)) (sym e)
-                        (through.other_late laws stay b is meets slots t ep.rest head (stuffed n) from m sends_next first.0 first.1 at_slot (queue_of b) n next ep.sent ep.received i w (min d.count 10) over),
+                    of_node i false (suc n) d.passed ((through.after laws stay b is meets slots t ep.rest head (stuffed n) from m sends_next i w).passed (min d.count 10)) (ne_eqb i a w.heard.listener.1) e
+                        (through.other_late laws stay b is meets slots t ep.rest head (stuffed n) from m sends_next first.0 first.1 at_slot (sender_queue b) n next ep.sent ep.received i w (min d.count 10) over),
                   )
                   | inr early ↦ (
                     n,
-                    false,
-                    subst (IsPassed (queue_of b) false n) (sym e)
-                        (through.other_early laws stay b is meets slots t ep.rest head (stuffed n) from m sends_next first.0 first.1 at_slot (queue_of b) n next ep.sent ep.received i w (min d.count 10) early),
+                    of_node i false n d.passed ((through.after laws stay b is meets slots t ep.rest head (stuffed n) from m sends_next i w).passed (min d.count 10)) (ne_eqb i a w.heard.listener.1) e
+                        (through.other_early laws stay b is meets slots t ep.rest head (stuffed n) from m sends_next first.0 first.1 at_slot (sender_queue b) n next ep.sent ep.received i w (min d.count 10) early),
                   )
                 ]
               ])
 
       -- it begins soon after it is ready
-      from_soon : from ≤ max (base + 11 * B a) (ready_at (queue_of b) n + 2 * B a)
+      from_soon : from ≤ max (base + 11 * B a) (ready_at (sender_queue b) n + 2 * B a)
       from_soon =
           let bits : suc m * B a ≡ m * B a + B a = omega arith in
           elim (cases_eq m 10) [
@@ -412,13 +409,13 @@ module _ (laws : Laws) (stay : StayLaws) (b : SenderBus) (stuffed : ℕ → List
             | inr more ↦
                 (let many = decides.idle in
                 let none = decides.unready (m - 1) (omega arith) (omega arith) in
-                let so = ap (λ c. ready_head (drop c (queue_of b)) (base + (m - 1) * B a + S a)) (sym ep.sent.count) ∙ none in
-                let less : base + (m - 1) * B a + S a < ready_at (queue_of b) n = ready_late (queue_of b) n (base + (m - 1) * B a + S a) next.queued next.more next.left so in
+                let so = ap (λ c. ready_head (drop c (sender_queue b)) (base + (m - 1) * B a + S a)) (sym ep.sent.count) ∙ none in
+                let less : base + (m - 1) * B a + S a < ready_at (sender_queue b) n = ready_late (sender_queue b) n (base + (m - 1) * B a + S a) next.queued next.more next.left so in
                 let one : (m - 1) * B a + B a ≡ m * B a = (let e : m - 1 + 1 ≡ m = omega arith in let f : (m - 1 + 1) * B a ≡ m * B a = ap (λ x. x * B a) e in omega arith) in
                 omega arith)
           ]
 
-      due_next : at_slot.quantum + (lengths_of b a).ps2 + 7 * B a + S a < sent_by b stuffed (suc n)
+      due_next : at_slot.quantum + (lengths_of b a).ps2 + 7 * B a + S a < due_quantum b stuffed (suc n)
       due_next =
           let soon = from_soon in
           let high = at_slot.high in
@@ -447,7 +444,7 @@ module _ (laws : Laws) (stay : StayLaws) (b : SenderBus) (stuffed : ℕ → List
                   | inl over ↦ (let past = g.1.less 7 (omega arith) over in absurd (omega arith))
                   | inr fits ↦ fits
                 ] in
-                let p = (through.own_early laws stay b is meets slots t ep.rest head (stuffed n) from m sends_next first.0 first.1 at_slot (queue_of b) n next ep.sent ep.received (min d.count 10) (omega arith)).long in
+                let p = (through.own_early laws stay b is meets slots t ep.rest head (stuffed n) from m sends_next first.0 first.1 at_slot (sender_queue b) n next ep.sent ep.received (min d.count 10) (omega arith)).long in
                 let f = ap length (e ∙ g.0) in
                 let past = g.2 in
                 let begun : 11 * B a ≤ suc m * B a = mul-le-mul_right (B a) (omega arith) in
@@ -465,18 +462,18 @@ module _ (laws : Laws) (stay : StayLaws) (b : SenderBus) (stuffed : ℕ → List
             | inl g ↦ other_by j (w.heard.listener.0, p.1) k d.count (e ∙ g.0) g.1
             | inr g ↦ elim (cases_lt 6 (min d.count 10)) [
               | inl over ↦
-                  (let x = (through.other_late laws stay b is meets slots t ep.rest head (stuffed n) from m sends_next first.0 first.1 at_slot (queue_of b) n next ep.sent ep.received j w (min d.count 10) over).long in
+                  (let x = (through.other_late laws stay b is meets slots t ep.rest head (stuffed n) from m sends_next first.0 first.1 at_slot (sender_queue b) n next ep.sent ep.received j w (min d.count 10) over).long in
                   let f = ap length (e ∙ g) in
                   record { late = λ z. omega arith; low = omega arith })
               | inr early ↦
-                  (let x = (through.other_early laws stay b is meets slots t ep.rest head (stuffed n) from m sends_next first.0 first.1 at_slot (queue_of b) n next ep.sent ep.received j w (min d.count 10) early).long in
+                  (let x = (through.other_early laws stay b is meets slots t ep.rest head (stuffed n) from m sends_next first.0 first.1 at_slot (sender_queue b) n next ep.sent ep.received j w (min d.count 10) early).long in
                   let f = ap length (e ∙ g) in
                   record { late = λ z. omega arith; low = omega arith })
             ]
           ])
 
       -- before the next rest that one isn't due
-      too_early : (k : ℕ) → ((q : ℕ) → q < k → l.instant a q < cut) → sent_by b stuffed (suc n) ≤ k → ⊥
+      too_early : (k : ℕ) → ((q : ℕ) → q < k → l.instant a q < cut) → due_quantum b stuffed (suc n) ≤ k → ⊥
       too_early k soon by =
           let d = due_next in
           let many = (is.book a is.sender).lengths.low in
@@ -499,22 +496,20 @@ module _ (laws : Laws) (stay : StayLaws) (b : SenderBus) (stuffed : ℕ → List
         }
 
         next_kept : (v : ℕ) → (inside : v < l.nodes) → (c : ℕ)
-            → (k : ℕ) × (sent : Bool) × IsPassed (queue_of b) sent k ((node v inside).rests.waits.passed c)
+            → (k : ℕ) × IsPassed (sender_queue b) (v == b.sender) k ((node v inside).rests.waits.passed c)
         next_kept v inside c = elim (cases_eq v a) [
           | inl here ↦
               (let e = ap (λ f. f c) ((node v inside).own_gone here) in
               elim (cases_lt 7 c) [
                 | inl over ↦ (
                   suc n,
-                  true,
-                  subst (IsPassed (queue_of b) true (suc n)) (sym e)
-                      (through.own_late laws stay b is meets slots t ep.rest head (stuffed n) from m sends_next first.0 first.1 at_slot (queue_of b) n next ep.sent ep.received c over),
+                  of_node v true (suc n) ((node v inside).rests.waits.passed c) ((through.after_own laws stay b is meets slots t ep.rest head (stuffed n) from m sends_next first.0 first.1 at_slot).passed c) (eq-eqb v a here) e
+                      (through.own_late laws stay b is meets slots t ep.rest head (stuffed n) from m sends_next first.0 first.1 at_slot (sender_queue b) n next ep.sent ep.received c over),
                 )
                 | inr early ↦ (
                   n,
-                  true,
-                  subst (IsPassed (queue_of b) true n) (sym e)
-                      (through.own_early laws stay b is meets slots t ep.rest head (stuffed n) from m sends_next first.0 first.1 at_slot (queue_of b) n next ep.sent ep.received c early),
+                  of_node v true n ((node v inside).rests.waits.passed c) ((through.after_own laws stay b is meets slots t ep.rest head (stuffed n) from m sends_next first.0 first.1 at_slot).passed c) (eq-eqb v a here) e
+                      (through.own_early laws stay b is meets slots t ep.rest head (stuffed n) from m sends_next first.0 first.1 at_slot (sender_queue b) n next ep.sent ep.received c early),
                 )
               ])
           | inr apart ↦
@@ -523,15 +518,13 @@ module _ (laws : Laws) (stay : StayLaws) (b : SenderBus) (stuffed : ℕ → List
               elim (cases_lt 6 c) [
                 | inl over ↦ (
                   suc n,
-                  false,
-                  subst (IsPassed (queue_of b) false (suc n)) (sym e)
-                      (through.other_late laws stay b is meets slots t ep.rest head (stuffed n) from m sends_next first.0 first.1 at_slot (queue_of b) n next ep.sent ep.received v g.0 c over),
+                  of_node v false (suc n) ((node v inside).rests.waits.passed c) ((through.after laws stay b is meets slots t ep.rest head (stuffed n) from m sends_next v g.0).passed c) (ne_eqb v a apart) e
+                      (through.other_late laws stay b is meets slots t ep.rest head (stuffed n) from m sends_next first.0 first.1 at_slot (sender_queue b) n next ep.sent ep.received v g.0 c over),
                 )
                 | inr early ↦ (
                   n,
-                  false,
-                  subst (IsPassed (queue_of b) false n) (sym e)
-                      (through.other_early laws stay b is meets slots t ep.rest head (stuffed n) from m sends_next first.0 first.1 at_slot (queue_of b) n next ep.sent ep.received v g.0 c early),
+                  of_node v false n ((node v inside).rests.waits.passed c) ((through.after laws stay b is meets slots t ep.rest head (stuffed n) from m sends_next v g.0).passed c) (ne_eqb v a apart) e
+                      (through.other_early laws stay b is meets slots t ep.rest head (stuffed n) from m sends_next first.0 first.1 at_slot (sender_queue b) n next ep.sent ep.received v g.0 c early),
                 )
               ])
         ]
@@ -541,15 +534,15 @@ module _ (laws : Laws) (stay : StayLaws) (b : SenderBus) (stuffed : ℕ → List
           | inl here ↦
               (let e = ap (λ f. length (f c)) ((node v inside).own_gone here) in
               elim (cases_lt 7 c) [
-                | inl over ↦ (let h = (through.own_late laws stay b is meets slots t ep.rest head (stuffed n) from m sends_next first.0 first.1 at_slot (queue_of b) n next ep.sent ep.received c over).long in omega arith)
-                | inr early ↦ (let h = (through.own_early laws stay b is meets slots t ep.rest head (stuffed n) from m sends_next first.0 first.1 at_slot (queue_of b) n next ep.sent ep.received c early).long in omega arith)
+                | inl over ↦ (let h = (through.own_late laws stay b is meets slots t ep.rest head (stuffed n) from m sends_next first.0 first.1 at_slot (sender_queue b) n next ep.sent ep.received c over).long in omega arith)
+                | inr early ↦ (let h = (through.own_early laws stay b is meets slots t ep.rest head (stuffed n) from m sends_next first.0 first.1 at_slot (sender_queue b) n next ep.sent ep.received c early).long in omega arith)
               ])
           | inr apart ↦
               (let g = (node v inside).gone apart in
               let e = ap (λ f. length (f c)) g.1 in
               elim (cases_lt 6 c) [
-                | inl over ↦ (let h = (through.other_late laws stay b is meets slots t ep.rest head (stuffed n) from m sends_next first.0 first.1 at_slot (queue_of b) n next ep.sent ep.received v g.0 c over).long in omega arith)
-                | inr early ↦ (let h = (through.other_early laws stay b is meets slots t ep.rest head (stuffed n) from m sends_next first.0 first.1 at_slot (queue_of b) n next ep.sent ep.received v g.0 c early).long in omega arith)
+                | inl over ↦ (let h = (through.other_late laws stay b is meets slots t ep.rest head (stuffed n) from m sends_next first.0 first.1 at_slot (sender_queue b) n next ep.sent ep.received v g.0 c over).long in omega arith)
+                | inr early ↦ (let h = (through.other_early laws stay b is meets slots t ep.rest head (stuffed n) from m sends_next first.0 first.1 at_slot (sender_queue b) n next ep.sent ep.received v g.0 c early).long in omega arith)
               ])
         ]
 
@@ -559,12 +552,12 @@ module _ (laws : Laws) (stay : StayLaws) (b : SenderBus) (stuffed : ℕ → List
           rest = next_rests;
           kept = next_kept;
           sent =
-              subst (IsPassed (queue_of b) true (suc n)) (sym (ap (λ f. f 10) ((node a is.sender).own_gone refl)))
-              (through.own_late laws stay b is meets slots t ep.rest head (stuffed n) from m sends_next first.0 first.1 at_slot (queue_of b) n next ep.sent ep.received 10 (omega arith));
+              subst (IsPassed (sender_queue b) true (suc n)) (sym (ap (λ f. f 10) ((node a is.sender).own_gone refl)))
+              (through.own_late laws stay b is meets slots t ep.rest head (stuffed n) from m sends_next first.0 first.1 at_slot (sender_queue b) n next ep.sent ep.received 10 (omega arith));
           received = λ j p.
               (let g = (node j p.0).gone p.1 in
-              subst (IsPassed (queue_of b) false (suc n)) (sym (ap (λ f. f 10) g.1))
-              (through.other_late laws stay b is meets slots t ep.rest head (stuffed n) from m sends_next first.0 first.1 at_slot (queue_of b) n next ep.sent ep.received j g.0 10 (omega arith)));
+              subst (IsPassed (sender_queue b) false (suc n)) (sym (ap (λ f. f 10) g.1))
+              (through.other_late laws stay b is meets slots t ep.rest head (stuffed n) from m sends_next first.0 first.1 at_slot (sender_queue b) n next ep.sent ep.received j g.0 10 (omega arith)));
           spaced = λ k h d j p.
               (let e = (node a is.sender).own_base refl in
               let s = (node j p.0).spaced p.1 k d.idle in
@@ -572,16 +565,16 @@ module _ (laws : Laws) (stay : StayLaws) (b : SenderBus) (stuffed : ℕ → List
           low = λ i inside c. next_low i inside c;
           early_own = λ c early.
               (let e = ap (λ f. f c) ((node a is.sender).own_gone refl) in
-              let p = (through.own_early laws stay b is meets slots t ep.rest head (stuffed n) from m sends_next first.0 first.1 at_slot (queue_of b) n next ep.sent ep.received c early).long in
+              let p = (through.own_early laws stay b is meets slots t ep.rest head (stuffed n) from m sends_next first.0 first.1 at_slot (sender_queue b) n next ep.sent ep.received c early).long in
               let f = ap length e in
               omega arith);
           late_own = λ c late.
               (let e = ap (λ f. f c) ((node a is.sender).own_gone refl) in
-              ap length e ∙ (through.own_late laws stay b is meets slots t ep.rest head (stuffed n) from m sends_next first.0 first.1 at_slot (queue_of b) n next ep.sent ep.received c late).long);
+              ap length e ∙ (through.own_late laws stay b is meets slots t ep.rest head (stuffed n) from m sends_next first.0 first.1 at_slot (sender_queue b) n next ep.sent ep.received c late).long);
           late_other = λ j p c late.
               (let g = (node j p.0).gone p.1 in
               let e = ap (λ f. length (f c)) g.1 in
-              let h = (through.other_late laws stay b is meets slots t ep.rest head (stuffed n) from m sends_next first.0 first.1 at_slot (queue_of b) n next ep.sent ep.received j g.0 c late).long in
+              let h = (through.other_late laws stay b is meets slots t ep.rest head (stuffed n) from m sends_next first.0 first.1 at_slot (sender_queue b) n next ep.sent ep.received j g.0 c late).long in
               omega arith);
           order = λ some j p.
               (let e = (node a is.sender).own_base refl in
@@ -622,12 +615,12 @@ module _ (laws : Laws) (stay : StayLaws) (b : SenderBus) (stuffed : ℕ → List
     pub low : (i k : ℕ) → (inside : i < l.nodes) → (ep.rest.node i inside).start ≤ k → AreInside l i k → n ≤ suc (long i k)
     pub pair : (j : ℕ) (p : IsListener b j) (k q : ℕ) → (ep.rest.node a is.sender).start ≤ k → (ep.rest.node j p.0).start ≤ q → AreInside l a k → AreInside l j q
         → l.instant a k ≤ l.instant j q → long a k ≤ long j q
-    pub due : (k m : ℕ) → (ep.rest.node a is.sender).start ≤ k → AreInside l a k → m ≤ length (queue_of b) → sent_by b stuffed m ≤ k → m ≤ long a k
+    pub due : (k m : ℕ) → (ep.rest.node a is.sender).start ≤ k → AreInside l a k → m ≤ length (sender_queue b) → due_quantum b stuffed m ≤ k → m ≤ long a k
 
   -- by the counts of the sender and of the others, where one more frame isn't due
   later_by : (t n : ℕ) (ep : Epoch t n) → ((k : ℕ) → (ep.rest.node a is.sender).start ≤ k → AreInside l a k → OwnCount t n ep k)
       → ((j : ℕ) (p : IsListener b j) (k : ℕ) → (ep.rest.node j p.0).start ≤ k → AreInside l j k → OtherCount t n ep j p k)
-      → ((k : ℕ) → (ep.rest.node a is.sender).start ≤ k → AreInside l a k → n < length (queue_of b) → sent_by b stuffed (suc n) ≤ k → ⊥) → Later t n ep
+      → ((k : ℕ) → (ep.rest.node a is.sender).start ≤ k → AreInside l a k → n < length (sender_queue b) → due_quantum b stuffed (suc n) ≤ k → ⊥) → Later t n ep
   later_by t n ep own other none = record {
     low = λ i k inside late soon. low_by t n ep own other i k inside late soon;
     pair = λ j p k q late later soon sooner after. pair_by t n ep j p k q (own k late soon) (other j p q later sooner) after;
@@ -736,16 +729,16 @@ module _ (laws : Laws) (stay : StayLaws) (b : SenderBus) (stuffed : ℕ → List
   unfolding rests_first integrating
   first_epoch = record {
     rest = rests_first laws.clocks b is;
-    kept = λ i inside c. (0, true, none_passed (queue_of b) true);
-    sent = none_passed (queue_of b) true;
-    received = λ j p. none_passed (queue_of b) false;
+    kept = λ i inside c. (0, none_passed (sender_queue b) (i == b.sender));
+    sent = none_passed (sender_queue b) true;
+    received = λ j p. none_passed (sender_queue b) false;
     spaced = λ m head d j p.
         (let here : m ≡ b.decides = elim (cases_order m b.decides) [
           | inl e ↦ e
           | inr o ↦ elim o [
-            | inl less ↦ none_or_some (ready_head (queue_of b) (m * B a + S a)) head (sends.unready m d.idle less) (ap (ready_head (queue_of b)) (sym (zero_first (m * B a) (S a))) ∙ d.ready)
-            | inr more ↦ none_or_some (ready_head (queue_of b) (b.decides * B a + S a)) b.frame
-                (ap (ready_head (queue_of b)) (sym (zero_first (b.decides * B a) (S a))) ∙ d.unready b.decides sends.idle more) sends.ready
+            | inl less ↦ none_or_some (ready_head (sender_queue b) (m * B a + S a)) head (sends.unready m d.idle less) (ap (ready_head (sender_queue b)) (sym (zero_first (m * B a) (S a))) ∙ d.ready)
+            | inr more ↦ none_or_some (ready_head (sender_queue b) (b.decides * B a + S a)) b.frame
+                (ap (ready_head (sender_queue b)) (sym (zero_first (b.decides * B a) (S a))) ∙ d.unready b.decides sends.idle more) sends.ready
           ]
         ] in
         let e = sends.others j p in
@@ -776,7 +769,10 @@ module _ (laws : Laws) (stay : StayLaws) (b : SenderBus) (stuffed : ℕ → List
   gets_through = record {
     fine = λ i k inside soon. (good i k inside soon).fine;
     counters = λ i k inside soon. (good i k inside soon).counters;
-    frames = λ i k inside soon. (let g = good i k inside soon in (frames_of (drop g.count (queue_of b)), g.passed.whole));
+    frames = λ i k inside soon. (let g = good i k inside soon in (queued_contents (drop g.count (sender_queue b)), g.passed.whole));
+    roles = λ i k inside soon.
+        (let g = good i k inside soon in
+        g.passed.count ∙ ap (λ n. cond (i == b.sender) n 0) (sym g.passed.long));
     sent = λ n k few soon by.
         (let e = start_first a is.sender in
         let d = (later_all l.stop 0 0 first_epoch (omega arith)).due k n (omega arith) soon few by in

@@ -1,5 +1,5 @@
 -- A bus at rest whose sender has nothing to send up to the end.
-use Rattle.std.proofs.Common.{◌≡◌, ◌≢◌, ◌∙◌, inl, inr, refl, sym, ap, subst, ℕ, zero, suc, ◌+◌, ◌-◌, ◌*◌, ◌<◌, ◌≤◌, List, [], Bool, true, false, cond, None, ◌||◌, arith}
+use Rattle.std.proofs.Common.{◌≡◌, ◌∙◌, inl, inr, refl, sym, ap, subst, ℕ, suc, ◌+◌, ◌-◌, ◌*◌, ◌<◌, ◌≤◌, [], Bool, false, cond, None, ◌||◌, arith}
 use Rattle.std.specs.Prelude.{nat_lt}
 use Rattle.std.proofs.lemmas.Bool.{both_ways, cases_lt, cases_eq, false_from_ne_true, lt-ltb, le-ltb}
 use Rattle.std.proofs.Math.Bridge.{le_prop}
@@ -15,7 +15,7 @@ use Rattle.wl_plan.specs.Simulation.{level, seen, AreInside}
 use Rattle.wl_one_sender.specs.Levels.{levels_before}
 use Rattle.wl_one_sender.specs.Expected.{IsExpected, levels_found}
 use Rattle.wl_one_sender.specs.OneSender.{SenderBus, IsBus, IsListener, lengths_of}
-use Rattle.wl_one_sender.proofs.Expecting.{driven_is, level_first, level_then, levels_same, seen_is}
+use Rattle.wl_one_sender.proofs.Expecting.{level_first, level_then, levels_same, seen_is}
 use Rattle.wl_one_sender.proofs.Planned.{Laws}
 use Rattle.wl_one_sender.proofs.Resting as resting
 use Rattle.wl_one_sender.proofs.Resting.{Rests, RestsAt}

@@ -1,12 +1,12 @@
 -- From the inequalities over tolerances to those of the clocks.
-use Rattle.std.proofs.Common.{◌≡◌, ◌≢◌, inl, inr, refl, sym, ap, ℕ, zero, suc, ◌+◌, ◌-◌, ◌*◌, ◌<◌, ◌≤◌, arith}
+use Rattle.std.proofs.Common.{◌≡◌, inl, inr, ap, ℕ, ◌+◌, ◌-◌, ◌*◌, ◌<◌, ◌≤◌, arith}
 use Rattle.std.proofs.lemmas.Bool.{cases_lt}
 use Rattle.std.proofs.Math.Nat.{mul-le-mul_left, mul-le-mul_right, le_of_mul-le-mul_left}
 use Rattle.wl_segments.specs.Lengths.{sample_at, bit_quanta}
 use Rattle.wl_phase.specs.Answer.{ComesAfterBegin, ComesAfterSample}
 use Rattle.wl_one_sender.specs.OneSender.{SenderBus, IsBus, IsListener, IsInStepWithAll, lengths_of, listener_of, sender_of}
 use Rattle.wl_one_sender.specs.Through.{StaysInSlots}
-use Rattle.wl_one_sender.specs.Tolerances.{Tolerance, IsWithin, FitAll}
+use Rattle.wl_one_sender.specs.Tolerances.{Tolerance, IsWithinTolerance, FitAll}
 
 -- differences in other parts
 minus_fits : (u m x y X Y : ℕ) → u * x ≤ m * X → m * Y ≤ u * y → u * (x - y) ≤ m * (X - Y)
@@ -144,7 +144,7 @@ module _ (u ad an id in_ jd jn la ha li hi lj hj : ℕ) (some : 0 < u) (a_low : 
       let more : id * ((S + 2 * Bj - 1 + 1) * (ad * jn)) ≡ id * ((S + 2 * Bj) * (ad * jn)) = ap (λ n. id * n) all_quanta in
       omega arith
 
-module _ (t : Tolerance) (b : SenderBus) (is : IsBus b) (within : IsWithin t b) (fit : FitAll t b) where
+module _ (t : Tolerance) (b : SenderBus) (is : IsBus b) (within : IsWithinTolerance t b) (fit : FitAll t b) where
   abbrev a : ℕ
   a = b.sender
 

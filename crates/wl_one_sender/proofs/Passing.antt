@@ -1,12 +1,12 @@
 -- The frames that have passed a node, beside those of the queue that they come from.
-use Rattle.std.proofs.Common.{◌≡◌, ◌≢◌, ◌∙◌, ◌⊎◌, inl, inr, refl, sym, ap, subst, ℕ, zero, suc, ◌+◌, ◌<◌, ◌≤◌, List, [], ◌∷◌, ◌++◌, Bool, true, false, cond, Some, None, arith, length, append_assoc, append-nil, length-append}
+use Rattle.std.proofs.Common.{◌≡◌, ◌∙◌, inl, inr, refl, sym, ap, subst, ℕ, zero, suc, ◌+◌, ◌<◌, ◌≤◌, List, [], ◌∷◌, ◌++◌, Bool, true, false, cond, Some, None, arith, length, append_assoc, length-append}
 use Rattle.std.specs.Prelude.{count_by, drop, map, nat_le}
 use Rattle.std.proofs.lemmas.List.Sums.{sum_by-append}
 use Rattle.wl_frame.specs.Grammar.{Content}
 use Rattle.wl_node.specs.declared.setup.Queued.{Queued}
 use Rattle.wl_node.specs.declared.setup.Passed.{Passed}
 use Rattle.wl_node.specs.History.{is_sent, ready_head}
-use Rattle.wl_one_sender.specs.Through.{first_ready, frames_of, ready_at}
+use Rattle.wl_one_sender.specs.Through.{first_ready, queued_contents, ready_at}
 use Rattle.std.proofs.lemmas.Bool.{cases_lt, le-leb}
 
 abbrev pub contents : List Passed → List Content
@@ -14,7 +14,7 @@ contents = map (λ p. p.frame)
 
 -- the first n frames of a queue, sent or received
 pub record IsPassed (queue : List Queued) (sent : Bool) (n : ℕ) (passed : List Passed) : Type 0 where
-  pub whole : contents passed ++ frames_of (drop n queue) ≡ frames_of queue
+  pub whole : contents passed ++ queued_contents (drop n queue) ≡ queued_contents queue
   pub count : count_by is_sent passed ≡ cond sent n 0
   pub long : length passed ≡ n
 
@@ -45,9 +45,9 @@ pub one_passed : (queue more : List Queued) (q : Queued) (sent : Bool) (n quantu
     → IsPassed queue sent (suc n) (passed ++ record { sent = sent; quantum = quantum; frame = q.frame } ∷ [])
 one_passed queue more q sent n quantum passed is e = record {
   whole =
-      ap (λ v. v ++ frames_of (drop (suc n) queue)) (contents_more passed (record { sent = sent; quantum = quantum; frame = q.frame } ∷ []))
-      ∙ append_assoc (contents passed) (q.frame ∷ []) (frames_of (drop (suc n) queue))
-      ∙ ap (λ v. contents passed ++ q.frame ∷ frames_of v) (drop_more n queue more q e) ∙ ap (λ v. contents passed ++ frames_of v) (sym e) ∙ is.whole;
+      ap (λ v. v ++ queued_contents (drop (suc n) queue)) (contents_more passed (record { sent = sent; quantum = quantum; frame = q.frame } ∷ []))
+      ∙ append_assoc (contents passed) (q.frame ∷ []) (queued_contents (drop (suc n) queue))
+      ∙ ap (λ v. contents passed ++ q.frame ∷ queued_contents v) (drop_more n queue more q e) ∙ ap (λ v. contents passed ++ queued_contents v) (sym e) ∙ is.whole;
   count =
       sum_by-append (λ p. cond (is_sent p) 1 0) passed (record { sent = sent; quantum = quantum; frame = q.frame } ∷ [])
       ∙ ap (λ k. k + (0 + cond sent 1 0)) is.count ∙ counted sent n;

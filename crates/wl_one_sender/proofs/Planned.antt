@@ -1,5 +1,5 @@
 -- What all nodes of a bus with one sender do from its rest up to the first acknowledgement: the sender alone drives, and each other node samples its bits.
-use Rattle.std.proofs.Common.{◌≡◌, ◌≢◌, ◌∙◌, ◌⊎◌, inl, inr, refl, sym, ap, subst, ℕ, zero, suc, ◌+◌, ◌-◌, ◌*◌, ◌<◌, ◌≤◌, List, [], length, min, Bool, true, false, cond, Some, None, ◌∷◌, ◌++◌, ◌||◌, arith}
+use Rattle.std.proofs.Common.{◌≡◌, ◌≢◌, ◌∙◌, inl, inr, refl, sym, ap, subst, ℕ, suc, ◌+◌, ◌-◌, ◌*◌, ◌<◌, ◌≤◌, List, [], length, min, Bool, true, false, cond, Some, None, ◌∷◌, ◌++◌, ◌||◌, arith}
 use Rattle.std.specs.Prelude.{nat_lt}
 use Rattle.std.proofs.Math.Nat.{mul-le-mul_right}
 use Rattle.std.proofs.lemmas.Bool.{cases_lt, cases_eq, lt-ltb, le-ltb}
@@ -17,7 +17,7 @@ use Rattle.wl_machine.specs.Stretch.Sort.{Framing}
 use Rattle.wl_machine.specs.States.{stretch_by}
 use Rattle.wl_node.specs.declared.setup.Passed.{Passed}
 use Rattle.wl_node.specs.History.{ready_head}
-use Rattle.wl_phase.specs.Clocks.{Steady, IsSteady, Finds, steady_tick}
+use Rattle.wl_phase.specs.Clocks.{IsSteady, Finds, steady_tick}
 use Rattle.wl_phase.specs.Ways.{ByTheBook}
 use Rattle.wl_phase.specs.InStep.{Sender, Listener, ClocksAreNear, SamplesBit, arrival}
 use Rattle.wl_phase.specs.Answer.{ComesInTime, ComesAfterSample, HearsAnswer, IsAnswered, SamplesNext, answer_begin, own_sample}
@@ -36,7 +36,7 @@ use Rattle.wl_one_sender.proofs.Receiving as receiving
 use Rattle.wl_one_sender.proofs.Receiving.{ListenGoes}
 use Rattle.wl_one_sender.proofs.Resting as resting
 use Rattle.wl_one_sender.proofs.Resting.{Rests, RestsAt, SendsNext}
-use Rattle.wl_one_sender.proofs.Silence.{CountsTo, IsSilentAt, begun_by, counted, counts_to, ten_counted, left_none, silent_at, silent_same, waiting_awaits, waiting_drives}
+use Rattle.wl_one_sender.proofs.Silence.{CountsTo, IsSilentAt, counted, counts_to, ten_counted, left_none, silent_at, silent_same, waiting_awaits, waiting_drives}
 use Rattle.wl_one_sender.proofs.Speaking as speaking
 use Rattle.wl_one_sender.proofs.Speaking.{HearsOwn}
 

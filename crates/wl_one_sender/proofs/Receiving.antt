@@ -10,7 +10,7 @@ use Rattle.wl_level.specs.declared.Level.TheVariants.{Dominant, Recessive}
 use Rattle.wl_level.specs.Levels.{is_dominant}
 use Rattle.wl_level.specs.Places.{at}
 use Rattle.wl_level.proofs.Callers.{at_front, length_more}
-use Rattle.wl_segments.specs.Lengths.{Lengths, sample_at, bit_quanta}
+use Rattle.wl_segments.specs.Lengths.{sample_at, bit_quanta}
 use Rattle.wl_sync.specs.declared.Beat.{Beat}
 use Rattle.wl_sync.specs.declared.Beat.TheVariants.{Plain, Sample, Start}
 use Rattle.wl_sync.specs.Edges.{Seen}

@@ -3,7 +3,7 @@ use Rattle.std.proofs.Common.{[], arith}
 use Rattle.wl_segments.specs.declared.SyncRules.TheVariants.{Book}
 use Rattle.wl_segments.specs.Lengths.{Lengths}
 use Rattle.wl_phase.specs.InStep.{Sender, Listener, AreNear}
-use Rattle.wl_phase.specs.Answer.{IsInTime, ComesAfterSample, EndsInTime}
+use Rattle.wl_phase.specs.Answer.{IsInTime, ComesAfterBegin, ComesAfterOwn, ComesAfterSample, EndsBeforeSample, EndsInTime}
 
 -- a bit of 1 + 3 + 3 + 3 quanta with its sample at place 7, and a jump width of 2
 abbrev l : Lengths
@@ -45,3 +45,25 @@ far = record { clock = record { offset = 0; num = 101; den = 1 }; lengths = l; d
 
 fast_too_early : ComesAfterSample s fast far 0 → ⊥
 fast_too_early h = omega arith
+
+-- 99 + 2 + 100 ticks early are within 201 there and back, and not within 200
+fast_not_early : ComesAfterOwn s fast 101
+fast_not_early = omega arith
+
+fast_early : ComesAfterOwn s fast 100 → ⊥
+fast_early h = omega arith
+
+-- 99 + 2 + 90 ticks early, and 1010 + 90 + 100 late, are within a bit of 990 and the detour of 401
+fast_in_slot : ComesAfterBegin s fast slow 301
+fast_in_slot = omega arith
+
+fast_before_slot : ComesAfterBegin s fast slow 300 → ⊥
+fast_before_slot h = omega arith
+
+-- two bits of 1010, 90 late, the detour of 473, and 99 + 1 + 90 early, are within 27 quanta of 99 and the 100
+slow_over : EndsBeforeSample s slow fast 373
+slow_over = omega arith
+
+slow_not_over : EndsBeforeSample s slow fast 374 → ⊥
+slow_not_over h = omega arith
+

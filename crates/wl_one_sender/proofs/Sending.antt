@@ -1,8 +1,7 @@
 -- The node that sends, from its power-up to the sample of the CRC delimiter, if it hears nothing but itself.
-use Rattle.std.proofs.Common.{◌≡◌, ◌∙◌, ◌⊎◌, inl, inr, refl, sym, ap, subst, ℕ, zero, suc, ◌+◌, ◌-◌, ◌*◌, ◌<◌, ◌≤◌, List, [], ◌∷◌, ◌++◌, length, replicate, Bool, true, false, not, Some, None, arith}
-use Rattle.std.proofs.lemmas.Bool.{cases_lt, cases_eq, cases_order}
+use Rattle.std.proofs.Common.{◌≡◌, ◌∙◌, ◌⊎◌, inl, inr, refl, sym, ap, subst, ℕ, zero, suc, ◌+◌, ◌-◌, ◌*◌, ◌<◌, ◌≤◌, List, [], ◌∷◌, ◌++◌, length, Bool, true, false, not, Some, arith}
+use Rattle.std.proofs.lemmas.Bool.{cases_lt}
 use Rattle.std.proofs.lemmas.List.{get_or_past}
-use Rattle.std.proofs.Math.Nat.{mul-le-mul_right, lt_of_mul-lt-mul_right}
 use Rattle.wl_level.specs.declared.Level.{Level}
 use Rattle.wl_level.specs.declared.Level.TheVariants.{Recessive}
 use Rattle.wl_level.specs.Levels.{is_dominant}
@@ -11,25 +10,22 @@ use Rattle.wl_segments.specs.Lengths.{Lengths, sample_at, bit_quanta}
 use Rattle.wl_sync.specs.Running.{Running}
 use Rattle.wl_sync.specs.Steps.{running_sync}
 use Rattle.wl_sync.specs.Skips.{steady_clock}
-use Rattle.wl_confine.specs.declared.Happened.TheVariants.{Nothing}
 use Rattle.wl_frame.specs.Stuffing.{Stuffs}
 use Rattle.wl_frame.specs.Grammar.{Content, IsContent, bits_of}
 use Rattle.wl_frame.specs.Laws.{up_to_ack}
-use Rattle.wl_machine.specs.Stretch.{Stretch, begins, free}
-use Rattle.wl_machine.specs.Stretch.Sort.{Integration, Framing}
-use Rattle.wl_machine.specs.Quiet.{idle_on}
-use Rattle.wl_machine.specs.Judged.{judged, drive_of}
+use Rattle.wl_machine.specs.Stretch.{Stretch}
+use Rattle.wl_machine.specs.Stretch.Sort.{Framing}
+use Rattle.wl_machine.specs.Judged.{drive_of}
 use Rattle.wl_machine.specs.States.{stretch_by}
 use Rattle.wl_node.specs.declared.setup.NodeSetup.{NodeSetup}
 use Rattle.wl_node.specs.declared.setup.Passed.{Passed}
-use Rattle.wl_node.specs.History.{ready_head}
 use Rattle.wl_phase.specs.Ways.{ByTheBook}
 use Rattle.wl_phase.proofs.Callers.{cases_level, now_recessive, before_dominant}
 use Rattle.wl_one_sender.proofs.Frames as frames
 use Rattle.wl_one_sender.proofs.Frames.{FrameGoes}
-use Rattle.wl_one_sender.proofs.Nodes.{ClockGoes, IsGoing, IsUnmoved, Takes, node, clock_at, sees_at, level_before, sample_before, beat_sample, step_sample, unmoved_recessive, unmoved_before, unmoved_driving}
-use Rattle.wl_one_sender.proofs.Bits.{IsBit, at_place, before_sample, glide, whole_bit}
-use Rattle.wl_one_sender.proofs.Silence.{IsSilentAt, integrated, idles, given, takes_on, takes_new, head_is, silent_at}
+use Rattle.wl_one_sender.proofs.Nodes.{ClockGoes, IsGoing, IsUnmoved, Takes, node, clock_at, sees_at, level_before, sample_before, beat_sample, unmoved_recessive, unmoved_before, unmoved_driving}
+use Rattle.wl_one_sender.proofs.Bits.{IsBit, at_place, before_sample, whole_bit}
+use Rattle.wl_one_sender.proofs.Silence.{given, takes_on}
 
 abbrev pub fresh_of : Level → Bool
 fresh_of v = not (is_dominant v)

@@ -1,6 +1,5 @@
 -- A node that has sampled a dominant ACK slot, up to its sample of the ACK delimiter: nothing moves it.
-use Rattle.std.proofs.Common.{◌≡◌, ◌≢◌, ◌∙◌, inl, inr, refl, sym, ap, subst, ℕ, zero, suc, ◌+◌, ◌-◌, ◌*◌, ◌<◌, ◌≤◌, List, [], ◌∷◌, ◌++◌, Bool, true, false, min, arith}
-use Rattle.std.proofs.lemmas.Bool.{cases_lt}
+use Rattle.std.proofs.Common.{◌≡◌, ◌∙◌, inl, refl, sym, ap, subst, ℕ, zero, suc, ◌+◌, ◌-◌, ◌*◌, ◌<◌, ◌≤◌, List, [], ◌∷◌, ◌++◌, Bool, true, false, min, arith}
 use Rattle.wl_level.specs.declared.Level.{Level}
 use Rattle.wl_level.specs.declared.Level.TheVariants.{Dominant, Recessive}
 use Rattle.wl_segments.specs.Lengths.{sample_at, bit_quanta}
@@ -13,8 +12,8 @@ use Rattle.wl_node.specs.History.{passed_frames}
 use Rattle.wl_phase.specs.Ways.{ByTheBook}
 use Rattle.wl_one_sender.proofs.Bits.{at_place}
 use Rattle.wl_one_sender.proofs.Gliding.{sampled_dominant}
-use Rattle.wl_one_sender.proofs.Nodes.{ClockGoes, IsGoing, IsUnmoved, Does, Completes, node, clock_at, sees_at, beat_sample, sample_before, sample_on, sample_start, level_before, step_on, step_start, step_complete}
-use Rattle.wl_one_sender.proofs.Silence.{IsSilentAt, IsWaiting, Waits, given}
+use Rattle.wl_one_sender.proofs.Nodes.{ClockGoes, IsGoing, IsUnmoved, Does, Completes, clock_at, sees_at, beat_sample, sample_before, sample_on, sample_start, level_before, step_on, step_start, step_complete}
+use Rattle.wl_one_sender.proofs.Silence.{IsSilentAt, Waits, given}
 
 module _ (clocks : ClockGoes) (setup : NodeSetup) (book : ByTheBook setup.segments) (levels : ℕ → Level) (passed : List Passed) (q longer : ℕ) (s : Stretch) (drive : Level)
     (quiet : drive_of s ≡ Recessive) (w : Waits (q + setup.segments.ps2) (sample_at setup.segments) (bit_quanta setup.segments)) (first : w.stretch 0 ≡ s) (gone : w.passed 0 ≡ passed)

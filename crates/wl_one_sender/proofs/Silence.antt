@@ -485,8 +485,7 @@ module _ (clocks : ClockGoes) (setup : NodeSetup) (book : ByTheBook setup.segmen
       idle_still k late h = elim (cases_lt (base + m * B + S) k) [
         | inl past ↦
             (let e = next_bit in
-            let f : base + m * B + (k - (base + m * B)) ≡ k = omega arith in
-            (
+            let f : base + m * B + (k - (base + m * B)) ≡ k = omega arith in (
               10,
               Begun,
               subst (λ i. Does clocks setup book levels (w.passed 10) i Begun Recessive) f (waits (k - (base + m * B)) (omega arith) (omega arith)).does,

@@ -20,7 +20,7 @@ use Rattle.wl_phase.specs.InStep.{seen_before, sampled_by, samples_from}
 use Rattle.wl_phase.specs.Answer.{SamplesNext}
 use Rattle.wl_one_sender.proofs.Frames as frames
 use Rattle.wl_one_sender.proofs.Frames.{FrameGoes}
-use Rattle.wl_one_sender.proofs.Nodes.{ClockGoes, Does, Takes, node, beat_at, sees_at, seen_are, does_plain, does_start, does_sample}
+use Rattle.wl_one_sender.proofs.Nodes.{ClockGoes, Does, Takes, beat_at, sees_at, seen_are, does_plain, does_start, does_sample}
 use Rattle.wl_one_sender.proofs.Receiving.{cases_beat, sampled_level}
 use Rattle.wl_one_sender.proofs.Silence.{given, takes_on}
 

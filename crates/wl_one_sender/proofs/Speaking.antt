@@ -1,10 +1,10 @@
 -- The sender of a bus from its rest to its sample of the ACK slot, if it hears itself alone up to the slot.
-use Rattle.std.proofs.Common.{◌≡◌, ◌≢◌, ◌∙◌, ◌⊎◌, inl, inr, refl, sym, ap, subst, ℕ, zero, suc, ◌+◌, ◌-◌, ◌*◌, ◌<◌, ◌≤◌, List, [], ◌∷◌, ◌++◌, length, min, Bool, true, false, Some, arith}
+use Rattle.std.proofs.Common.{◌≡◌, ◌∙◌, ◌⊎◌, inl, inr, refl, sym, ap, subst, ℕ, zero, suc, ◌+◌, ◌-◌, ◌*◌, ◌<◌, ◌≤◌, List, [], ◌∷◌, ◌++◌, length, min, true, Some, arith}
 use Rattle.std.proofs.lemmas.Bool.{cases_lt}
 use Rattle.std.proofs.Math.Nat.{mul-le-mul_left, mul-le-mul_right, le_of_mul-le-mul_left, lt_of_mul-lt-mul_left}
 use Rattle.std.proofs.lemmas.List.{get_or_past}
 use Rattle.wl_level.specs.declared.Level.{Level}
-use Rattle.wl_level.specs.declared.Level.TheVariants.{Dominant, Recessive}
+use Rattle.wl_level.specs.declared.Level.TheVariants.{Recessive}
 use Rattle.wl_level.specs.Levels.{is_dominant}
 use Rattle.wl_level.specs.Places.{at, before}
 use Rattle.wl_segments.specs.Lengths.{sample_at, bit_quanta}
@@ -22,7 +22,7 @@ use Rattle.wl_phase.specs.InStep.{Sender}
 use Rattle.wl_phase.specs.Answer.{own_sample}
 use Rattle.wl_phase.proofs.Callers.{floor_low, floor_high}
 use Rattle.wl_plan.specs.Line.{Line}
-use Rattle.wl_one_sender.specs.OneSender.{SenderBus, IsBus, IsListener, IsInStepWithAll, lengths_of, listener_of}
+use Rattle.wl_one_sender.specs.OneSender.{SenderBus, IsBus, IsInStepWithAll, lengths_of}
 use Rattle.wl_one_sender.proofs.Alone.{sent, sent_bit, sent_before, sent_after}
 use Rattle.wl_one_sender.proofs.Frames as frames
 use Rattle.wl_one_sender.proofs.Frames.{FrameGoes}
@@ -32,7 +32,7 @@ use Rattle.wl_one_sender.proofs.Bits.{at_place}
 use Rattle.wl_one_sender.proofs.Resting as resting
 use Rattle.wl_one_sender.proofs.Resting.{Rests, RestsAt, SendsNext}
 use Rattle.wl_one_sender.proofs.Sending as sending
-use Rattle.wl_one_sender.proofs.Silence.{CountsTo, Waits, IsSilentAt, about, idle_still}
+use Rattle.wl_one_sender.proofs.Silence.{CountsTo, IsSilentAt, about, idle_still}
 
 -- a level that comes back by the sample
 module _ (c : Steady) (is : IsSteady c) where

@@ -1,5 +1,5 @@
 -- A machine after the ACK slot: ten recessive samples to the third bit of the intermission, with the frame sent or received on the way.
-use Rattle.std.proofs.Common.{◌≡◌, ◌≢◌, ◌∙◌, inl, inr, refl, sym, ap, subst, ℕ, zero, suc, ◌+◌, ◌-◌, ◌*◌, ◌<◌, ◌≤◌, List, [], ◌∷◌, ◌++◌, length, replicate, Bool, true, false, cond, not, ◌&&◌, Some, None, arith, length-append, append-nil}
+use Rattle.std.proofs.Common.{◌≡◌, ◌∙◌, inl, inr, refl, sym, ap, subst, ℕ, zero, suc, ◌+◌, ◌-◌, ◌*◌, ◌<◌, ◌≤◌, List, [], ◌∷◌, ◌++◌, length, replicate, Bool, true, false, cond, not, ◌&&◌, Some, None, arith, append-nil}
 use Rattle.std.specs.Prelude.{◌==◌, nat_le}
 use Rattle.std.proofs.lemmas.Bool.{cases_lt, cases_eq, le-leb, lt-leb, ne_eqb, and_right}
 use Rattle.wl_level.specs.declared.Level.{Level}
@@ -7,20 +7,18 @@ use Rattle.wl_level.specs.declared.Level.TheVariants.{Dominant, Recessive}
 use Rattle.wl_level.specs.Levels.{is_dominant}
 use Rattle.wl_level.proofs.Callers.{snoc, length_more}
 use Rattle.wl_confine.specs.declared.Happened.TheVariants.{Nothing, Sent}
-use Rattle.wl_confine.specs.declared.ErrorKind.TheVariants.{Bit, Form, Crc}
-use Rattle.wl_confine.specs.declared.Mode.{Mode}
-use Rattle.wl_confine.specs.declared.Mode.TheVariants.{Active}
+use Rattle.wl_confine.specs.declared.ErrorKind.TheVariants.{Bit, Form}
 use Rattle.wl_frame.specs.Stuffing.{Stuffs, destuffed_bits}
 use Rattle.wl_frame.specs.Grammar.{Content, IsContent, bits_of, content_of, is_crc_right}
 use Rattle.wl_frame.specs.Laws.{up_to_ack}
 use Rattle.wl_frame.proofs.Callers.{kept_old}
 use Rattle.wl_machine.specs.declared.state.Role.TheVariants.{Tx, Rx}
-use Rattle.wl_machine.specs.Stretch.{Stretch, Sampled, Judgement, continues, begins, free}
+use Rattle.wl_machine.specs.Stretch.{Stretch, Sampled, continues, begins}
 use Rattle.wl_machine.specs.Stretch.Sort.{Framing, Flagging, Intermission}
 use Rattle.wl_machine.specs.Stretch.Flag.{OverloadFlag}
 use Rattle.wl_machine.specs.Stretch.Ended.{Received, Sent as SentFrame}
 use Rattle.wl_machine.specs.Flags.{fails}
-use Rattle.wl_machine.specs.Frames.{stuffed_end, frame_role, framing_by, framing_sent, framing_received, received_tail, sent_tail, last_bit, drive_up_to, tail_drive}
+use Rattle.wl_machine.specs.Frames.{stuffed_end, frame_role, framing_by, framing_sent, framing_received, received_tail, sent_tail, drive_up_to, tail_drive}
 use Rattle.wl_machine.specs.Quiet.{after_intermission, begun_head}
 use Rattle.wl_machine.specs.Judged.{judged, or_next, drive_of}
 use Rattle.wl_machine.specs.States.{stretch_by}
@@ -30,7 +28,7 @@ use Rattle.wl_node.specs.History.{passed_frames}
 use Rattle.wl_one_sender.proofs.Frames as frames
 use Rattle.wl_one_sender.proofs.Frames.{FrameGoes}
 use Rattle.wl_one_sender.proofs.Nodes.{calm_nothing, calm_sent}
-use Rattle.wl_one_sender.proofs.Silence.{AwaitsFrame, Leaves, Waits}
+use Rattle.wl_one_sender.proofs.Silence.{Leaves, Waits}
 
 module _ (goes : FrameGoes) (head : Content) (c : IsContent head) (y : List Level) (is : Stuffs y (bits_of head)) where
   abbrev last : ℕ

@@ -1,13 +1,12 @@
 -- A bus on which one node has frames: what keeps each acknowledgement in its slot, and what becomes of all frames.
-use Rattle.std.specs.Prelude.{◌≡◌, ◌≢◌, ℕ, zero, suc, ◌+◌, ◌*◌, ◌<◌, ◌≤◌, max, List, [], ◌∷◌, ◌++◌, length, drop, map}
+use Rattle.std.specs.Prelude.{◌≡◌, ◌≢◌, ℕ, zero, suc, ◌+◌, ◌*◌, ◌<◌, ◌≤◌, max, List, [], ◌∷◌, ◌++◌, length, drop, map, ◌==◌, count_by, if◌then◌else◌}
 use Rattle.wl_segments.specs.Lengths.{bit_quanta}
 use Rattle.wl_level.specs.declared.Level.{Level}
 use Rattle.wl_confine.specs.Counts.{no_counts}
 use Rattle.wl_frame.specs.Stuffing.{Stuffs}
 use Rattle.wl_frame.specs.Grammar.{Content, IsContent, bits_of}
 use Rattle.wl_node.specs.declared.setup.Queued.{Queued}
-use Rattle.wl_node.specs.declared.setup.Passed.{Passed}
-use Rattle.wl_node.specs.History.{History, history_of, counters_of, error_count}
+use Rattle.wl_node.specs.History.{History, history_of, counters_of, error_count, is_sent}
 use Rattle.wl_phase.specs.Answer.{ComesAfterBegin, ComesAfterOwn, EndsBeforeSample, EndsInTime}
 use Rattle.wl_plan.specs.Simulation.{seen, AreInside}
 use Rattle.wl_one_sender.specs.OneSender.{SenderBus, IsListener, lengths_of, listener_of, sender_of}
@@ -21,15 +20,15 @@ pub record StaysInSlots (b : SenderBus) : Type 0 where
   pub ends : (i j : ℕ) → IsListener b i → IsListener b j → i ≢ j → EndsBeforeSample (sender_of b) (listener_of b i) (listener_of b j) (b.line.delay i j)
 
 -- the frames that the sender has
-abbrev pub queue_of : SenderBus → List Queued
-queue_of b = (b.setups b.sender).queue
+abbrev pub sender_queue : SenderBus → List Queued
+sender_queue b = (b.setups b.sender).queue
 
-abbrev pub frames_of : List Queued → List Content
-frames_of = map (λ q. q.frame)
+abbrev pub queued_contents : List Queued → List Content
+queued_contents = map (λ q. q.frame)
 
 -- each is a frame, and this is the n-th with its stuff bits
 abbrev pub AreFrames : SenderBus → (stuffed : ℕ → List Level) → Type 0
-AreFrames b stuffed = (n : ℕ) (q : Queued) (more : List Queued) → drop n (queue_of b) ≡ q ∷ more → IsContent q.frame × Stuffs (stuffed n) (bits_of q.frame)
+AreFrames b stuffed = (n : ℕ) (q : Queued) (more : List Queued) → drop n (sender_queue b) ≡ q ∷ more → IsContent q.frame × Stuffs (stuffed n) (bits_of q.frame)
 
 -- a node after its first k quanta
 abbrev pub history_at : SenderBus → (i k : ℕ) → History
@@ -49,16 +48,18 @@ ready_at queue n = first_ready (drop n queue)
 
 -- So many quanta of the sender after its power-up its first n frames are sent, at the latest: each takes its bits, and 15 more, from when it is ready and the one before
 -- it is sent. Those are the ten bits up to the end of frame, the intermission, and up to two that pass until the next sample.
-abbrev pub sent_by : SenderBus → (stuffed : ℕ → List Level) → ℕ → ℕ
-sent_by b stuffed zero = 8 * bit_quanta (lengths_of b b.sender)
-sent_by b stuffed (suc n) = max (sent_by b stuffed n) (ready_at (queue_of b) n) + (length (stuffed n) + 15) * bit_quanta (lengths_of b b.sender)
+abbrev pub due_quantum : SenderBus → (stuffed : ℕ → List Level) → ℕ → ℕ
+due_quantum b stuffed zero = 8 * bit_quanta (lengths_of b b.sender)
+due_quantum b stuffed (suc n) = max (due_quantum b stuffed n) (ready_at (sender_queue b) n) + (length (stuffed n) + 15) * bit_quanta (lengths_of b b.sender)
 
--- At each quantum of each node up to the end there was no error and nothing that counts, and the frames so far are the first of the sender's, in their order. Each is sent
--- in time, and whatever is sent by then each listener has received.
+-- At each quantum of each node up to the end there was no error and nothing that counts. The frames so far are the first of the sender's, in their order; it has sent them
+-- and all others have received them. Each is sent in time, and whatever is sent by then each listener has received.
 pub record GetThrough (b : SenderBus) (stuffed : ℕ → List Level) : Type 0 where
   pub fine : (i k : ℕ) → i < b.line.nodes → AreInside b.line i k → error_count (history_at b i k) ≡ 0
   pub counters : (i k : ℕ) → i < b.line.nodes → AreInside b.line i k → counters_of (history_at b i k) ≡ no_counts
-  pub frames : (i k : ℕ) → i < b.line.nodes → AreInside b.line i k → (rest : List Content) × (passed_at b i k ++ rest ≡ frames_of (queue_of b))
-  pub sent : (n k : ℕ) → n ≤ length (queue_of b) → AreInside b.line b.sender k → sent_by b stuffed n ≤ k → n ≤ length (passed_at b b.sender k)
+  pub frames : (i k : ℕ) → i < b.line.nodes → AreInside b.line i k → (rest : List Content) × (passed_at b i k ++ rest ≡ queued_contents (sender_queue b))
+  pub roles : (i k : ℕ) → i < b.line.nodes → AreInside b.line i k
+      → count_by is_sent (history_at b i k).frames ≡ (if i == b.sender then length (history_at b i k).frames else 0)
+  pub sent : (n k : ℕ) → n ≤ length (sender_queue b) → AreInside b.line b.sender k → due_quantum b stuffed n ≤ k → n ≤ length (passed_at b b.sender k)
   pub received : (j k q : ℕ) → IsListener b j → AreInside b.line b.sender k → AreInside b.line j q → b.line.instant b.sender k ≤ b.line.instant j q
       → length (passed_at b b.sender k) ≤ length (passed_at b j q)

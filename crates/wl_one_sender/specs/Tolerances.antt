@@ -10,21 +10,21 @@ pub record Tolerance : Type 0 where
   pub longest : ℕ → ℕ
 
 -- each clock lies within it
-pub record IsWithin (t : Tolerance) (b : SenderBus) : Type 0 where
+pub record IsWithinTolerance (t : Tolerance) (b : SenderBus) : Type 0 where
   pub some : 0 < t.units
   pub slowest : (i : ℕ) → i < b.line.nodes → t.units * (b.clocks i).num ≤ t.longest i * (b.clocks i).den
   pub fastest : (i : ℕ) → i < b.line.nodes → t.shortest i * (b.clocks i).den ≤ t.units * (b.clocks i).num
 
 -- the shortest and the longest bit of a node
-abbrev pub shortest_bit : Tolerance → SenderBus → ℕ → ℕ
-shortest_bit t b i = bit_quanta (lengths_of b i) * t.shortest i
+abbrev pub fastest_bit : Tolerance → SenderBus → ℕ → ℕ
+fastest_bit t b i = bit_quanta (lengths_of b i) * t.shortest i
 
-abbrev pub longest_bit : Tolerance → SenderBus → ℕ → ℕ
-longest_bit t b i = bit_quanta (lengths_of b i) * t.longest i
+abbrev pub slowest_bit : Tolerance → SenderBus → ℕ → ℕ
+slowest_bit t b i = bit_quanta (lengths_of b i) * t.longest i
 
 -- by how much a bit of node i may be longer than one of node j
 abbrev pub longer_bit : Tolerance → SenderBus → (i j : ℕ) → ℕ
-longer_bit t b i j = longest_bit t b i - shortest_bit t b j
+longer_bit t b i j = slowest_bit t b i - fastest_bit t b j
 
 -- from one node over another one to a third, in units
 abbrev pub way_over : Tolerance → SenderBus → (i j k : ℕ) → ℕ
@@ -33,10 +33,10 @@ way_over t b i j k = (b.line.delay i j + b.line.delay j k) * t.units
 -- The inequalities, of listeners i and j and the sender. No clock is named in them.
 pub record FitAll (t : Tolerance) (b : SenderBus) : Type 0 where
   -- ten bits of either are within the jump width of the other, and its next bit comes after the sample (Bosch CAN 2.0 part B, section 10)
-  pub slow : (j : ℕ) → IsListener b j → 10 * longest_bit t b b.sender ≤ 10 * shortest_bit t b j + (lengths_of b j).sjw * t.shortest j
-  pub fast : (j : ℕ) → IsListener b j → 10 * longest_bit t b j ≤ 10 * shortest_bit t b b.sender + (lengths_of b j).sjw * t.longest j
-  pub sample : (j : ℕ) → IsListener b j → 10 * longest_bit t b j + t.units ≤ 10 * shortest_bit t b b.sender + (lengths_of b j).ps2 * t.longest j
-  pub jump : (j : ℕ) → IsListener b j → longest_bit t b b.sender ≤ shortest_bit t b j + (lengths_of b b.sender).sjw * t.longest b.sender
+  pub slow : (j : ℕ) → IsListener b j → 10 * slowest_bit t b b.sender ≤ 10 * fastest_bit t b j + (lengths_of b j).sjw * t.shortest j
+  pub fast : (j : ℕ) → IsListener b j → 10 * slowest_bit t b j ≤ 10 * fastest_bit t b b.sender + (lengths_of b j).sjw * t.longest j
+  pub sample : (j : ℕ) → IsListener b j → 10 * slowest_bit t b j + t.units ≤ 10 * fastest_bit t b b.sender + (lengths_of b j).ps2 * t.longest j
+  pub jump : (j : ℕ) → IsListener b j → slowest_bit t b b.sender ≤ fastest_bit t b j + (lengths_of b b.sender).sjw * t.longest b.sender
   -- what a node drives comes back to it by its sample
   pub loops : (j : ℕ) → IsListener b j → b.line.delay j j * t.units ≤ sample_at (lengths_of b j) * t.shortest j
   -- an acknowledgement is over by the sender's sample, there and back, and begins in its slot
@@ -46,8 +46,8 @@ pub record FitAll (t : Tolerance) (b : SenderBus) : Type 0 where
       → t.longest j + 2 * t.units + 10 * longer_bit t b b.sender j ≤ way_over t b b.sender j b.sender
   -- and so it is at each other listener
   pub begins : (i j : ℕ) → IsListener b i → IsListener b j → i ≢ j
-      → t.shortest i + 2 * t.units + 9 * longer_bit t b b.sender i + longest_bit t b j + 9 * longer_bit t b j b.sender + b.line.delay b.sender j * t.units
-      ≤ shortest_bit t b i + way_over t b b.sender i j
+      → t.shortest i + 2 * t.units + 9 * longer_bit t b b.sender i + slowest_bit t b j + 9 * longer_bit t b j b.sender + b.line.delay b.sender j * t.units
+      ≤ fastest_bit t b i + way_over t b b.sender i j
   pub ends : (i j : ℕ) → IsListener b i → IsListener b j → i ≢ j
-      → 2 * longest_bit t b i + 9 * longer_bit t b i b.sender + way_over t b b.sender i j + t.shortest j + t.units + 9 * longer_bit t b b.sender j
+      → 2 * slowest_bit t b i + 9 * longer_bit t b i b.sender + way_over t b b.sender i j + t.shortest j + t.units + 9 * longer_bit t b b.sender j
       ≤ (sample_at (lengths_of b j) + 2 * bit_quanta (lengths_of b j)) * t.shortest j + b.line.delay b.sender j * t.units

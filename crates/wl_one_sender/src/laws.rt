@@ -14,7 +14,7 @@ ghost use Rattle.wl_one_sender.specs.Levels.{levels_before};
 ghost use Rattle.wl_one_sender.specs.OneSender.{SenderBus, IsBus, IsInStepWithAll, SendsFirst, EndsAfterSlot, IsAcknowledged};
 ghost use Rattle.wl_one_sender.specs.Plans.{IsSteadyPlan, sender_bus_of};
 ghost use Rattle.wl_one_sender.specs.Through.{AreFrames, GetThrough, StaysInSlots};
-ghost use Rattle.wl_one_sender.specs.Tolerances.{FitAll, IsWithin, Tolerance};
+ghost use Rattle.wl_one_sender.specs.Tolerances.{FitAll, IsWithinTolerance, Tolerance};
 
 /// Law: if one node alone has driven dominant, any node finds what that one drove a delay earlier.
 pub fn one_driver_is_found()
@@ -78,7 +78,9 @@ pub fn a_plan_is_such_a_bus()
     every_frame_gets_through();
 }
 
-/// Law: so all frames get through.
+/// Law: on such a bus every frame gets through, from the power-up of all nodes on. No node ever finds an error, and all counters
+/// stay 0. Each frame is sent in time, and each listener has received it by then. It is asked that each acknowledgement
+/// stays in its slot.
 pub fn every_frame_gets_through()
     ensures { (b : SenderBus) (stuffed : ℕ → List Level) → IsBus b → SendsFirst b → AreFrames b stuffed → IsInStepWithAll b
         → StaysInSlots b → GetThrough b stuffed }
@@ -99,10 +101,10 @@ pub fn every_frame_gets_through()
 /// Law: the inequalities over tolerances are enough: wherever within its tolerance each clock lies, a bus meets what its clocks
 /// and delays have to. So all frames get through.
 pub fn tolerances_are_enough()
-    ensures in_step { (t : Tolerance) (b : SenderBus) → IsBus b → IsWithin t b → FitAll t b → IsInStepWithAll b }
-    ensures stays { (t : Tolerance) (b : SenderBus) → IsBus b → IsWithin t b → FitAll t b → StaysInSlots b }
+    ensures in_step { (t : Tolerance) (b : SenderBus) → IsBus b → IsWithinTolerance t b → FitAll t b → IsInStepWithAll b }
+    ensures stays { (t : Tolerance) (b : SenderBus) → IsBus b → IsWithinTolerance t b → FitAll t b → StaysInSlots b }
     ensures through { (t : Tolerance) (b : SenderBus) (stuffed : ℕ → List Level) → IsBus b → SendsFirst b → AreFrames b stuffed
-        → IsWithin t b → FitAll t b → GetThrough b stuffed }
+        → IsWithinTolerance t b → FitAll t b → GetThrough b stuffed }
 {
     every_frame_gets_through();
 }

@@ -1,8 +1,7 @@
-use Rattle.std.proofs.Common.{◌≡◌, inl, inr, ap, subst, suc, ◌+◌, ◌-◌, ◌*◌, ◌<◌, ◌≤◌, arith}
+use Rattle.std.proofs.Common.{◌≡◌, inl, inr, ap, suc, ◌+◌, ◌*◌, ◌<◌, arith}
 use Rattle.std.proofs.lemmas.Bool.{cases_lt}
-use Rattle.wl_segments.specs.Lengths.{bit_quanta, sample_at}
+use Rattle.wl_segments.specs.Lengths.{bit_quanta}
 use Rattle.wl_phase.specs.Clocks.{steady_tick}
-use Rattle.wl_phase.specs.Ways.{moved_to}
 use Rattle.wl_phase.specs.Answer.{moved_sample, own_sample}
 use Rattle.wl_phase.proofs.Answering.{ends_late, samples_before}
 use Rattle.wl_phase.proofs.Hearing.{heard, moved_most, tick_up}
