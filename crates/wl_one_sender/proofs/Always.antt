@@ -25,12 +25,13 @@ use Rattle.wl_one_sender.proofs.Nodes.{Does}
 use Rattle.wl_one_sender.proofs.Leasts.{split}
 use Rattle.wl_one_sender.proofs.Passing.{IsNext, IsPassed, contents_long, next_is, none_passed, ready_late, ready_not}
 use Rattle.wl_one_sender.proofs.Planned.{Laws}
+use Rattle.wl_one_sender.proofs.Replies as replies
+use Rattle.wl_one_sender.proofs.Replies.{StayLaws}
 use Rattle.wl_one_sender.proofs.Resting as resting
 use Rattle.wl_one_sender.proofs.Resting.{Rests, RestsAt, SendsNext, rests_first}
 use Rattle.wl_one_sender.proofs.Silence.{CountsTo, Decides, counts_to, integrating, left_of}
 use Rattle.wl_one_sender.proofs.Speaking as speaking
 use Rattle.wl_one_sender.proofs.Through as through
-use Rattle.wl_one_sender.proofs.Through.{StayLaws}
 
 cases_head : (o : Option Content) → (o ≡ None) ⊎ ((h : Content) × (o ≡ Some h))
 cases_head None = inl refl
@@ -355,7 +356,7 @@ module _ (laws : Laws) (stay : StayLaws) (b : SenderBus) (stuffed : ℕ → List
                 | inr fits ↦ omega arith
               ] in
               let d = through.doing_own laws stay b is meets slots t ep.rest head (stuffed n) from m sends_next first.0 first.1 at_slot k late few in
-              good_from a k is.sender (through.lv laws stay b is meets slots t ep.rest head (stuffed n) from m sends_next a) d.passed d.stretch d.drive d.does
+              good_from a k is.sender (replies.lv laws stay b is meets slots t ep.rest head (stuffed n) from m sends_next a) d.passed d.stretch d.drive d.does
               (through.lists_then laws stay b is meets slots t ep.rest head (stuffed n) from m sends_next first.0 first.1 at_slot a k is.sender soon)
               (elim d.gone [
                 | inl e ↦
@@ -377,10 +378,10 @@ module _ (laws : Laws) (stay : StayLaws) (b : SenderBus) (stuffed : ℕ → List
 
           other : (p : IsListener b i) → (ep.rest.node i p.0).start ≤ k → ((q : ℕ) → q < k → l.instant i q < cut) → IsGood i k
           other p late soon =
-              let w = through.plan_of laws stay b is meets slots t ep.rest head (stuffed n) from m sends_next i p in
+              let w = replies.plan_of laws stay b is meets slots t ep.rest head (stuffed n) from m sends_next i p in
               let start : (ep.rest.node i w.heard.listener.0).start ≤ k = subst (λ h. (ep.rest.node i h).start ≤ k) (le_prop p.0 w.heard.listener.0) late in
-              let d = through.doing laws stay b is meets slots t ep.rest head (stuffed n) from m sends_next i w k start in
-              good_from i k w.heard.listener.0 (through.lv laws stay b is meets slots t ep.rest head (stuffed n) from m sends_next i) d.passed d.stretch d.drive d.does
+              let d = replies.doing laws stay b is meets slots t ep.rest head (stuffed n) from m sends_next i w k start in
+              good_from i k w.heard.listener.0 (replies.lv laws stay b is meets slots t ep.rest head (stuffed n) from m sends_next i) d.passed d.stretch d.drive d.does
               (through.lists_then laws stay b is meets slots t ep.rest head (stuffed n) from m sends_next first.0 first.1 at_slot i k w.heard.listener.0 soon)
               (elim d.gone [
                 | inl e ↦
@@ -435,7 +436,7 @@ module _ (laws : Laws) (stay : StayLaws) (b : SenderBus) (stuffed : ℕ → List
           ] in
           let bits : 5 * B a ≤ 11 * B a = mul-le-mul_right (B a) (omega arith) in
           let d = through.doing_own laws stay b is meets slots t ep.rest head (stuffed n) from m sends_next first.0 first.1 at_slot k late (omega arith) in
-          let e = frames_are a k is.sender (through.lv laws stay b is meets slots t ep.rest head (stuffed n) from m sends_next a) d.passed d.stretch d.drive d.does (through.lists_then laws stay b is meets slots t ep.rest head (stuffed n) from m sends_next first.0 first.1 at_slot a k is.sender soon) in
+          let e = frames_are a k is.sender (replies.lv laws stay b is meets slots t ep.rest head (stuffed n) from m sends_next a) d.passed d.stretch d.drive d.does (through.lists_then laws stay b is meets slots t ep.rest head (stuffed n) from m sends_next first.0 first.1 at_slot a k is.sender soon) in
           elim d.gone [
             | inl g ↦ own_by k d.count (e ∙ g.0) g.1
             | inr g ↦
@@ -453,11 +454,11 @@ module _ (laws : Laws) (stay : StayLaws) (b : SenderBus) (stuffed : ℕ → List
 
       other_frame : (j : ℕ) (p : IsListener b j) (k : ℕ) → (ep.rest.node j p.0).start ≤ k → ((q : ℕ) → q < k → l.instant j q < cut) → OtherCount j p k
       other_frame j p k late soon =
-          let w = through.plan_of laws stay b is meets slots t ep.rest head (stuffed n) from m sends_next j p in
+          let w = replies.plan_of laws stay b is meets slots t ep.rest head (stuffed n) from m sends_next j p in
           subst (λ h. OtherCount j (h, p.1) k) (le_prop w.heard.listener.0 p.0)
           (let start : (ep.rest.node j w.heard.listener.0).start ≤ k = subst (λ h. (ep.rest.node j h).start ≤ k) (le_prop p.0 w.heard.listener.0) late in
-          let d = through.doing laws stay b is meets slots t ep.rest head (stuffed n) from m sends_next j w k start in
-          let e = frames_are j k w.heard.listener.0 (through.lv laws stay b is meets slots t ep.rest head (stuffed n) from m sends_next j) d.passed d.stretch d.drive d.does (through.lists_then laws stay b is meets slots t ep.rest head (stuffed n) from m sends_next first.0 first.1 at_slot j k w.heard.listener.0 soon) in
+          let d = replies.doing laws stay b is meets slots t ep.rest head (stuffed n) from m sends_next j w k start in
+          let e = frames_are j k w.heard.listener.0 (replies.lv laws stay b is meets slots t ep.rest head (stuffed n) from m sends_next j) d.passed d.stretch d.drive d.does (through.lists_then laws stay b is meets slots t ep.rest head (stuffed n) from m sends_next first.0 first.1 at_slot j k w.heard.listener.0 soon) in
           elim d.gone [
             | inl g ↦ other_by j (w.heard.listener.0, p.1) k d.count (e ∙ g.0) g.1
             | inr g ↦ elim (cases_lt 6 (min d.count 10)) [

@@ -13,6 +13,7 @@ mod Passing
 mod PlanProofs
 mod Planned
 mod Receiving
+mod Replies
 mod Resting
 mod Rows
 mod Sending
