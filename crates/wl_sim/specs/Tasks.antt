@@ -183,24 +183,24 @@ after_sent answer (Ok u) = answer
 after_sent answer (Err f) = Err (fault.Run run.Write)
 
 -- What is written in the place of a text, after an engine has written that into memory and answered.
-module _ {T : Type 0} (takes : T → Answer → T → Type 0) (t t' : T) (format : Format) (subject : Subject) where
+module _ {T : Type 0} (takes : T → Answer → T → Type 0) (t t' : T) (format : Format) (what : Subject) where
   -- its bytes in another format, or nothing
   abbrev pub WritesFormatted : List ℕ → Result Done Fault → Result Done Fault → Type 0
   WritesFormatted text answer r =
-      ((bytes : List ℕ) × (sent : Result (Unit {0}) WriteFault) × (formatted format subject text ≡ Some bytes) × Writes takes t bytes sent t'
+      ((bytes : List ℕ) × (sent : Result (Unit {0}) WriteFault) × (formatted format what text ≡ Some bytes) × Writes takes t bytes sent t'
       × (r ≡ after_sent answer sent))
-      ⊎ ((t' ≡ t) × (((formatted format subject text ≡ None) × (r ≡ Err fault.Format)) ⊎ (r ≡ Err (fault.Run run.Memory))))
+      ⊎ ((t' ≡ t) × (((formatted format what text ≡ None) × (r ≡ Err fault.Format)) ⊎ (r ≡ Err (fault.Run run.Memory))))
 
   -- after a fault: if the engine wrote nothing, nothing is written
   abbrev pub WritesRefused : Fault → List ℕ → Result Done Fault → Type 0
-  WritesRefused fault [] r = (t' ≡ t) × (r ≡ Err fault)
-  WritesRefused fault (byte ∷ text) r = WritesFormatted (byte ∷ text) (Err fault) r
+  WritesRefused f [] r = (t' ≡ t) × (r ≡ Err f)
+  WritesRefused f (byte ∷ text) r = WritesFormatted (byte ∷ text) (Err f) r
 
   -- only for want of memory nothing can be written into memory
   abbrev pub WritesAs : List ℕ → Result Done Fault → Result Done Fault → Type 0
   WritesAs text (Ok done) r = WritesFormatted text (Ok done) r
   WritesAs text (Err (fault.Run run.Write)) r = (t' ≡ t) × (r ≡ Err (fault.Run run.Memory))
-  WritesAs text (Err fault) r = WritesRefused fault text r
+  WritesAs text (Err f) r = WritesRefused f text r
 
 -- what was written into memory
 abbrev pub keeps : Kept → Answer → Kept → Type 0
@@ -210,9 +210,9 @@ keeps old answer new = KeepsMore old.bytes.items answer new.bytes.items
 module _ {S T : Type 0} (gives : S → Answer → S → Type 0) (takes : T → Answer → T → Type 0) (s s' : S) (t t' : T) where
   abbrev pub DoesBy : Format → Option Subject → Task → List Text → Result Done Fault → Type 0
   DoesBy format None task ranges r = Does gives takes s s' t t' task ranges r
-  DoesBy format (Some subject) task ranges r =
+  DoesBy format (Some what) task ranges r =
       (kept : Kept) × (kept' : Kept) × (answer : Result Done Fault) × (kept.bytes.items ≡ [])
-      × Does gives keeps s s' kept kept' task ranges answer × WritesAs takes t t' format subject kept'.bytes.items answer r
+      × Does gives keeps s s' kept kept' task ranges answer × WritesAs takes t t' format what kept'.bytes.items answer r
 
   abbrev pub DoesAs : Option Format → Task → List Text → Result Done Fault → Type 0
   DoesAs None task ranges r = Does gives takes s s' t t' task ranges r
