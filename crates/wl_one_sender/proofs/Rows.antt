@@ -66,4 +66,3 @@ slow_over = omega arith
 
 slow_not_over : EndsBeforeSample s slow fast 374 → ⊥
 slow_not_over h = omega arith
-

@@ -1,15 +1,14 @@
 -- The sender of one frame, from its acknowledgement to the next rest of the bus.
-use Rattle.std.proofs.Common.{◌≡◌, ◌≢◌, ◌∙◌, ◌⊎◌, inl, inr, refl, sym, ap, subst, ℕ, suc, ◌+◌, ◌-◌, ◌*◌, ◌<◌, ◌≤◌, List, [], ◌∷◌, ◌++◌, length, min, Bool, true, false, cond, ◌||◌, ◌&&◌, arith}
-use Rattle.std.specs.Prelude.{nat_le, nat_lt, ◌==◌}
-use Rattle.std.proofs.lemmas.Bool.{both_ways, cases_lt, cases_eq, and_from, and_left, and_right, false_from_ne_true, le-leb, lt-leb, lt-ltb, le-ltb, eq-eqb, ne_eqb}
+use Rattle.std.proofs.Common.{◌≡◌, ◌≢◌, ◌∙◌, ◌⊎◌, inl, inr, refl, sym, ap, subst, ℕ, suc, ◌+◌, ◌-◌, ◌*◌, ◌<◌, ◌≤◌, List, [], ◌∷◌, ◌++◌, length, min, Bool, true, false, cond, arith}
+use Rattle.std.specs.Prelude.{◌==◌}
+use Rattle.std.proofs.lemmas.Bool.{cases_lt, cases_eq, le-leb, lt-leb, ne_eqb}
 use Rattle.std.proofs.Math.Bridge.{le_prop}
 use Rattle.std.proofs.Math.Nat.{mul-le-mul_right, le_of_mul-le-mul_left}
 use Rattle.std.proofs.lemmas.List.{get_or_past}
 use Rattle.wl_level.specs.declared.Level.{Level}
 use Rattle.wl_level.specs.declared.Level.TheVariants.{Dominant, Recessive}
 use Rattle.wl_level.specs.Levels.{is_dominant, level_of}
-use Rattle.wl_topology.specs.Driven.{driven}
-use Rattle.wl_segments.specs.Lengths.{Lengths, sample_at, bit_quanta}
+use Rattle.wl_segments.specs.Lengths.{sample_at, bit_quanta}
 use Rattle.wl_sync.specs.declared.Beat.TheVariants.{Sample}
 use Rattle.wl_sync.specs.Edges.{Seen}
 use Rattle.wl_sync.specs.Bits.{beat_of}
@@ -19,11 +18,10 @@ use Rattle.wl_machine.specs.Stretch.{Stretch}
 use Rattle.wl_machine.specs.Judged.{awaits_start, drive_of}
 use Rattle.wl_node.specs.declared.setup.Passed.{Passed}
 use Rattle.wl_node.specs.declared.setup.Queued.{Queued}
-use Rattle.wl_node.specs.History.{ready_head}
-use Rattle.wl_phase.specs.Clocks.{IsSteady, Finds, steady_tick}
+use Rattle.wl_phase.specs.Clocks.{Finds, steady_tick}
 use Rattle.wl_phase.specs.Ways.{ByTheBook}
-use Rattle.wl_phase.specs.InStep.{Sender, Listener, ClocksAreNear, SamplesBit, arrival, samples_from}
-use Rattle.wl_phase.specs.Answer.{ComesInTime, ComesAfterBegin, ComesAfterOwn, EndsBeforeSample, EndsInTime, HearsAnswer, SamplesNext, answer_begin, answer_end, own_sample}
+use Rattle.wl_phase.specs.InStep.{Sender, samples_from}
+use Rattle.wl_phase.specs.Answer.{HearsAnswer, SamplesNext, answer_begin, own_sample}
 use Rattle.wl_plan.specs.Line.{Line}
 use Rattle.wl_plan.specs.Simulation.{level, seen}
 use Rattle.wl_one_sender.specs.Levels.{levels_before}
@@ -31,12 +29,10 @@ use Rattle.wl_one_sender.specs.Expected.{IsExpected, levels_found}
 use Rattle.wl_one_sender.specs.OneSender.{SenderBus, IsBus, IsListener, IsInStepWithAll, lengths_of, listener_of}
 use Rattle.wl_one_sender.specs.Through.{StaysInSlots}
 use Rattle.wl_one_sender.proofs.Alone.{sent, sent_before, sent_after}
-use Rattle.wl_one_sender.proofs.Answering as answering
-use Rattle.wl_one_sender.proofs.Bits.{at_place}
 use Rattle.wl_one_sender.proofs.Expecting.{LastQuantum, driven_is, last_quantum, level_first, level_then, levels_same, seen_is}
 use Rattle.wl_one_sender.proofs.Frames as frames
 use Rattle.wl_one_sender.proofs.Leasts.{least, least_each, least_is}
-use Rattle.wl_one_sender.proofs.Nodes.{IsGoing, Does, beat_at, clock_at, node, sees_at, seen_are, sample_before, does_same, going_same}
+use Rattle.wl_one_sender.proofs.Nodes.{IsGoing, Does, beat_at, clock_at, node, sees_at, seen_are, sample_before}
 use Rattle.wl_one_sender.proofs.Passing.{IsNext, IsPassed, one_passed}
 use Rattle.wl_one_sender.proofs.Planned as planned
 use Rattle.wl_one_sender.proofs.Planned.{Laws, IsHeard}
@@ -46,11 +42,11 @@ use Rattle.wl_one_sender.proofs.Replies.{StayLaws, lasts, lasts_not_yet, lasts_n
 use Rattle.wl_one_sender.proofs.Resting as resting
 use Rattle.wl_one_sender.proofs.Resting.{Rests, RestsAt, SendsNext}
 use Rattle.wl_one_sender.proofs.Settling as settling
-use Rattle.wl_one_sender.proofs.Silence.{CountsTo, Waits, IsSilentAt, counts_to, left_none, silent_at, silent_same, ten_counted}
+use Rattle.wl_one_sender.proofs.Silence.{CountsTo, Waits, IsSilentAt, counts_to, silent_at, silent_same, ten_counted}
 use Rattle.wl_one_sender.proofs.Slots.{slot_sampled, stays, none_before}
 use Rattle.wl_one_sender.proofs.Speaking as speaking
 use Rattle.wl_one_sender.proofs.Speaking.{HearsOwn, comes_back}
-use Rattle.wl_one_sender.proofs.Tails.{after_receiving, after_sending, kept, receiving_enough, received_first, received_passed, received_quiet, sent_first, sent_passed, sent_quiet}
+use Rattle.wl_one_sender.proofs.Tails.{after_sending, kept, receiving_enough, received_passed, sent_first, sent_passed, sent_quiet}
 
 module _ (laws : Laws) (stay : StayLaws) (b : SenderBus) (is : IsBus b) (meets : IsInStepWithAll b) (slots : StaysInSlots b) (t : ℕ) (rest : Rests laws.clocks b is t)
     (frame : Content) (y : List Level) (from m : ℕ) (sends : SendsNext laws.clocks b is t rest frame y from m) where
