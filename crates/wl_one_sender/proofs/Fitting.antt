@@ -195,35 +195,35 @@ module _ (t : Tolerance) (b : SenderBus) (is : IsBus b) (within : IsWithinTolera
 
   pub stays : StaysInSlots b
   stays = record {
-    begins_there = λ j p. begins_at j p (bit_quanta (lengths_of b b.sender)) (bit_quanta (lengths_of b j)) (b.line.delay b.sender j + b.line.delay j b.sender) (fit.begins_there j p);
+    begins_there = λ j p. begins_at j p (bit_quanta (lengths_of b b.sender)) (bit_quanta (lengths_of b j)) (b.line.delay b.sender j + b.line.delay j b.sender) (fit.slots.begins_there j p);
     begins = λ i j p q apart.
         (let low = (is.book i p.0).lengths.low in
         others_begin t.units (den a) (num a) (den i) (num i) (den j) (num j) (t.shortest a) (t.longest a) (t.shortest i) (t.longest i) (t.shortest j) (t.longest j) within.some
         (within.fastest a is.sender) (within.slowest a is.sender) (within.fastest i p.0) (within.slowest i p.0) (within.fastest j q.0) (within.slowest j q.0)
         (bit_quanta (lengths_of b b.sender)) (bit_quanta (lengths_of b i)) (bit_quanta (lengths_of b j)) (b.line.delay b.sender i) (b.line.delay b.sender j) (b.line.delay i j) (omega arith)
-        (fit.begins i j p q apart));
-    ends_there = λ j p. ends_at j p (bit_quanta (lengths_of b b.sender)) (bit_quanta (lengths_of b j)) (sample_at (lengths_of b b.sender)) (b.line.delay b.sender j + b.line.delay j b.sender) 11 (fit.ends_there j p);
+        (fit.slots.begins i j p q apart));
+    ends_there = λ j p. ends_at j p (bit_quanta (lengths_of b b.sender)) (bit_quanta (lengths_of b j)) (sample_at (lengths_of b b.sender)) (b.line.delay b.sender j + b.line.delay j b.sender) 11 (fit.clocks.ends_there j p);
     ends = λ i j p q apart.
         (others_end t.units (den a) (num a) (den i) (num i) (den j) (num j) (t.shortest a) (t.longest a) (t.shortest i) (t.longest i) (t.shortest j) (t.longest j) within.some
         (within.fastest a is.sender) (within.slowest a is.sender) (within.fastest i p.0) (within.slowest i p.0) (within.fastest j q.0) (within.slowest j q.0)
         (bit_quanta (lengths_of b b.sender)) (bit_quanta (lengths_of b i)) (bit_quanta (lengths_of b j)) (sample_at (lengths_of b j)) (b.line.delay b.sender i) (b.line.delay b.sender j) (b.line.delay i j) (omega arith)
-        (fit.ends i j p q apart));
+        (fit.slots.ends i j p q apart));
   }
 
   pub in_step : IsInStepWithAll b
   in_step = record {
     near = λ j p. record {
-      slow = slow_at j p (bit_quanta (lengths_of b b.sender)) (bit_quanta (lengths_of b j)) (lengths_of b j).sjw (fit.slow j p);
+      slow = slow_at j p (bit_quanta (lengths_of b b.sender)) (bit_quanta (lengths_of b j)) (lengths_of b j).sjw (fit.clocks.slow j p);
       fast =
           (let low = (is.book j p.0).lengths.sjw_high in
           let many = (is.book j p.0).lengths.low in
-          let f = fit.fast j p in
+          let f = fit.clocks.fast j p in
           let h = rest_at j p (bit_quanta (lengths_of b b.sender)) (bit_quanta (lengths_of b j)) (lengths_of b j).sjw 0 (omega arith) (omega arith) in
           omega arith);
       sample =
           (let low = (is.book j p.0).lengths.ps2_high in
           let many = (is.book j p.0).lengths.low in
-          let f = fit.sample j p in
+          let f = fit.clocks.sample j p in
           let h = rest_at j p (bit_quanta (lengths_of b b.sender)) (bit_quanta (lengths_of b j)) (lengths_of b j).ps2 1 (omega arith) (omega arith) in
           omega arith);
     };
@@ -233,7 +233,7 @@ module _ (t : Tolerance) (b : SenderBus) (is : IsBus b) (within : IsWithinTolera
       jump =
           (let low = (is.book a is.sender).lengths.sjw_high in
           let many = (is.book a is.sender).lengths.low in
-          jump_at j p (bit_quanta (lengths_of b b.sender)) (bit_quanta (lengths_of b j)) (lengths_of b b.sender).sjw (omega arith) (fit.jump j p));
+          jump_at j p (bit_quanta (lengths_of b b.sender)) (bit_quanta (lengths_of b j)) (lengths_of b b.sender).sjw (omega arith) (fit.clocks.jump j p));
     };
     apart = λ i j p q apart. sooner i j (stays.begins i j p q apart);
     loops = λ j p. loops_at j p;
@@ -248,7 +248,7 @@ module _ (t : Tolerance) (b : SenderBus) (is : IsBus b) (within : IsWithinTolera
 
       loops_at : (j : ℕ) → (p : IsListener b j) → den j * b.line.delay j j ≤ sample_at (lengths_of b j) * num j
       loops_at j p =
-          let h : den j * (b.line.delay j j * t.units) ≤ den j * (sample_at (lengths_of b j) * t.shortest j) = mul-le-mul_left (den j) (fit.loops j p) in
+          let h : den j * (b.line.delay j j * t.units) ≤ den j * (sample_at (lengths_of b j) * t.shortest j) = mul-le-mul_left (den j) (fit.clocks.loops j p) in
           let low : sample_at (lengths_of b j) * (t.shortest j * den j) ≤ sample_at (lengths_of b j) * (t.units * num j) = mul-le-mul_left (sample_at (lengths_of b j)) (within.fastest j p.0) in
           let all : t.units * (den j * b.line.delay j j) ≤ t.units * (sample_at (lengths_of b j) * num j) = omega arith in
           le_of_mul-le-mul_left all within.some

@@ -30,24 +30,31 @@ longer_bit t b i j = slowest_bit t b i - fastest_bit t b j
 abbrev pub way_over : Tolerance → SenderBus → (i j k : ℕ) → ℕ
 way_over t b i j k = (b.line.delay i j + b.line.delay j k) * t.units
 
--- The inequalities, of listeners i and j and the sender. No clock is named in them.
-pub record FitAll (t : Tolerance) (b : SenderBus) : Type 0 where
-  -- ten bits of either are within the jump width of the other, and its next bit comes after the sample (Bosch CAN 2.0 part B, section 10)
+-- The inequalities, of listeners i and j and the sender. No clock is named in them. First those of the margins: drift within the jump widths, and the way there and
+-- back (Bosch CAN 2.0 part B, section 10).
+pub record FitClocks (t : Tolerance) (b : SenderBus) : Type 0 where
+  -- ten bits of either are within the jump width of the other, and its next bit comes after the sample
   pub slow : (j : ℕ) → IsListener b j → 10 * slowest_bit t b b.sender ≤ 10 * fastest_bit t b j + (lengths_of b j).sjw * t.shortest j
   pub fast : (j : ℕ) → IsListener b j → 10 * slowest_bit t b j ≤ 10 * fastest_bit t b b.sender + (lengths_of b j).sjw * t.longest j
   pub sample : (j : ℕ) → IsListener b j → 10 * slowest_bit t b j + t.units ≤ 10 * fastest_bit t b b.sender + (lengths_of b j).ps2 * t.longest j
   pub jump : (j : ℕ) → IsListener b j → slowest_bit t b b.sender ≤ fastest_bit t b j + (lengths_of b b.sender).sjw * t.longest b.sender
   -- what a node drives comes back to it by its sample
   pub loops : (j : ℕ) → IsListener b j → b.line.delay j j * t.units ≤ sample_at (lengths_of b j) * t.shortest j
-  -- an acknowledgement is over by the sender's sample, there and back, and begins in its slot
+  -- an acknowledgement is over by the sender's sample, there and back
   pub ends_there : (j : ℕ) → IsListener b j
       → way_over t b b.sender j b.sender + 11 * longer_bit t b j b.sender ≤ sample_at (lengths_of b b.sender) * t.shortest b.sender
+
+-- and those by which it begins in the slot of each node, and is over at each other listener
+pub record FitSlots (t : Tolerance) (b : SenderBus) : Type 0 where
   pub begins_there : (j : ℕ) → IsListener b j
       → t.longest j + 2 * t.units + 10 * longer_bit t b b.sender j ≤ way_over t b b.sender j b.sender
-  -- and so it is at each other listener
   pub begins : (i j : ℕ) → IsListener b i → IsListener b j → i ≢ j
       → t.shortest i + 2 * t.units + 9 * longer_bit t b b.sender i + slowest_bit t b j + 9 * longer_bit t b j b.sender + b.line.delay b.sender j * t.units
       ≤ fastest_bit t b i + way_over t b b.sender i j
   pub ends : (i j : ℕ) → IsListener b i → IsListener b j → i ≢ j
       → 2 * slowest_bit t b i + 9 * longer_bit t b i b.sender + way_over t b b.sender i j + t.shortest j + t.units + 9 * longer_bit t b b.sender j
       ≤ (sample_at (lengths_of b j) + 2 * bit_quanta (lengths_of b j)) * t.shortest j + b.line.delay b.sender j * t.units
+
+pub record FitAll (t : Tolerance) (b : SenderBus) : Type 0 where
+  pub clocks : FitClocks t b
+  pub slots : FitSlots t b
