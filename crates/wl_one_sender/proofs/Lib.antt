@@ -2,6 +2,7 @@ mod Alone
 mod Always
 mod Answering
 mod Bits
+mod Bounded
 mod Calm
 mod Expecting
 mod Fitting

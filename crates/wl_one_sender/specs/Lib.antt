@@ -4,3 +4,4 @@ pub mod OneSender
 pub mod Plans
 pub mod Through
 pub mod Tolerances
+pub mod Bounds

@@ -14,7 +14,10 @@ ghost use Rattle.wl_one_sender.specs.Levels.{levels_before};
 ghost use Rattle.wl_one_sender.specs.OneSender.{SenderBus, IsBus, IsInStepWithAll, SendsFirst, EndsAfterSlot, IsAcknowledged};
 ghost use Rattle.wl_one_sender.specs.Plans.{IsSteadyPlan, sender_bus_of};
 ghost use Rattle.wl_one_sender.specs.Through.{AreFrames, GetThrough, StaysInSlots};
-ghost use Rattle.wl_one_sender.specs.Tolerances.{FitAll, IsWithinTolerance, Tolerance};
+ghost use Rattle.wl_one_sender.specs.Tolerances.{FitAll, FitClocks, IsWithinTolerance, Tolerance};
+ghost use Rattle.wl_one_sender.specs.Bounds.{IsBoundOf};
+ghost use Rattle.wl_bound.specs.Families.{Bus};
+ghost use Rattle.wl_bound.specs.Conditions.{IsSound};
 
 /// Law: if one node alone has driven dominant, any node finds what that one drove a delay earlier.
 pub fn one_driver_is_found()
@@ -108,3 +111,9 @@ pub fn tolerances_are_enough()
 {
     every_frame_gets_through();
 }
+
+/// Law: the condition for margins, of a bus on which this node alone sends, implies the inequalities on clocks, drift and the way
+/// there and back. It doesn't imply those on slots.
+pub fn a_sound_bus_fits()
+    ensures { (bus : Bus) (t : Tolerance) (b : SenderBus) → IsBus b → IsBoundOf bus t b → IsSound bus → FitClocks t b }
+{}

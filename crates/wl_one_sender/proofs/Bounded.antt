@@ -1,0 +1,135 @@
+-- From the condition for margins to the inequalities on clocks.
+use Rattle.std.proofs.Common.{◌≡◌, ◌≢◌, ◌∙◌, inl, inr, refl, sym, ap, subst, ℕ, zero, suc, ◌+◌, ◌-◌, ◌*◌, ◌<◌, ◌≤◌, min, max, Bool, true, false, cond, not, ◌&&◌, arith}
+use Rattle.std.specs.Prelude.{◌==◌, nat_lt}
+use Rattle.std.proofs.lemmas.Bool.{cases_eq, and_from, eq-eqb, ne_eqb}
+use Rattle.std.proofs.Math.Nat.{mul-le-mul_left, mul-le-mul_right}
+use Rattle.wl_segments.specs.Lengths.{sample_at, bit_quanta}
+use Rattle.wl_bound.specs.declared.condition.Inequality.TheVariants.{DriftFitsJump, BitIsThereAtSample, NoBitTooEarly}
+use Rattle.wl_bound.specs.Families.{Bus}
+use Rattle.wl_bound.specs.Terms.{greatest, sends_but}
+use Rattle.wl_bound.specs.Terms.{drift, jump, late, look, strays, trip, way}
+use Rattle.wl_bound.specs.Conditions.{IsSound}
+use Rattle.wl_bound.specs.Conditions.{left_of, right_of}
+use Rattle.wl_one_sender.specs.OneSender.{SenderBus, IsBus, IsListener, lengths_of}
+use Rattle.wl_one_sender.specs.Tolerances.{Tolerance, FitClocks, fastest_bit, slowest_bit, longer_bit}
+use Rattle.wl_one_sender.specs.Bounds.{IsBoundOf}
+
+greatest_each : (n : ℕ) (test : ℕ → Bool) (f : ℕ → ℕ) (k : ℕ) → k < n → test k ≡ true → f k ≤ greatest n test f
+greatest_each zero test f k less e = absurd (omega arith)
+greatest_each (suc n) test f k less e = elim (cases_eq k n) [
+  | inl here ↦
+      (let now : cond (test n) (f n) 0 ≡ f n = ap (λ b. cond b (f n) 0) (ap test (sym here) ∙ e) in
+      let same : f k ≡ f n = ap f here in
+      omega arith)
+  | inr apart ↦ (let h = greatest_each n test f k (omega arith) e in omega arith)
+]
+
+module _ (bus : Bus) (t : Tolerance) (b : SenderBus) (is : IsBus b) (of : IsBoundOf bus t b) (sound : IsSound bus) where
+  abbrev a : ℕ
+  a = b.sender
+
+  drift_is : (i j : ℕ) → drift bus i j ≡ longer_bit t b i j
+  unfolding drift
+  drift_is i j =
+      ap (λ l. bit_quanta l * bus.longest i - bit_quanta (bus.lengths j) * bus.shortest j) (of.lengths i)
+      ∙ ap (λ l. bit_quanta (lengths_of b i) * bus.longest i - bit_quanta l * bus.shortest j) (of.lengths j)
+      ∙ ap (λ n. bit_quanta (lengths_of b i) * n - bit_quanta (lengths_of b j) * bus.shortest j) (of.longest i)
+      ∙ ap (λ n. bit_quanta (lengths_of b i) * t.longest i - bit_quanta (lengths_of b j) * n) (of.shortest j)
+
+  jump_is : (i : ℕ) → jump bus i ≡ (lengths_of b i).sjw * t.shortest i
+  unfolding jump
+  jump_is i = ap (λ l. l.sjw * bus.shortest i) (of.lengths i) ∙ ap (λ n. (lengths_of b i).sjw * n) (of.shortest i)
+
+  inside : (i : ℕ) → i < b.line.nodes → i < bus.nodes
+  inside i h = let e = of.nodes in omega arith
+
+  drifts : (i j : ℕ) → i < b.line.nodes → j < b.line.nodes → i ≢ j
+      → (10 * longer_bit t b i j ≤ (lengths_of b i).sjw * t.shortest i) × (10 * longer_bit t b i j ≤ (lengths_of b j).sjw * t.shortest j)
+  unfolding left_of right_of
+  drifts i j ni nj apart =
+      let h : 10 * drift bus i j ≤ min (jump bus i) (jump bus j) = sound.drift_fits_jump i j (inside i ni) (inside j nj) apart in
+      let d = drift_is i j in
+      let x = jump_is i in
+      let y = jump_is j in
+      (omega arith, omega arith)
+
+  sample_is : (i : ℕ) → sample_at (bus.lengths i) * bus.shortest i ≡ sample_at (lengths_of b i) * t.shortest i
+  sample_is i = ap (λ l. sample_at l * bus.shortest i) (of.lengths i) ∙ ap (λ n. sample_at (lengths_of b i) * n) (of.shortest i)
+
+  ps2_is : (i : ℕ) → (bus.lengths i).ps2 * bus.shortest i ≡ (lengths_of b i).ps2 * t.shortest i
+  ps2_is i = ap (λ l. l.ps2 * bus.shortest i) (of.lengths i) ∙ ap (λ n. (lengths_of b i).ps2 * n) (of.shortest i)
+
+  early : (i j : ℕ) → i < b.line.nodes → j < b.line.nodes → i ≢ j → 10 * longer_bit t b i j + t.units ≤ (lengths_of b i).ps2 * t.shortest i
+  unfolding left_of right_of
+  early i j ni nj apart =
+      let h = sound.no_bit_too_early i j (inside i ni) (inside j nj) apart in
+      let d = drift_is i j in
+      let x = ps2_is i in
+      let e = of.tick in
+      omega arith
+
+  loop : (i : ℕ) → i < b.line.nodes → b.line.delay i i * t.units ≤ sample_at (lengths_of b i) * t.shortest i
+  unfolding left_of right_of
+  loop i ni =
+      let h : cond (i == i) (bus.delay i i) (late bus i i + 11 * strays bus i) ≤ sample_at (bus.lengths i) * bus.shortest i = sound.bit_is_there_at_sample i i (inside i ni) (inside i ni) in
+      let e = ap (λ c. cond c (bus.delay i i) (late bus i i + 11 * strays bus i)) (eq-eqb i i refl) in
+      let d = of.delays i i ni ni in
+      let x = sample_is i in
+      omega arith
+
+  trip_there : (j : ℕ) → bus.delay a j + bus.delay j a ≤ trip bus a j a
+  unfolding trip
+  trip_there j =
+      let e : trip bus a j a ≡ bus.delay a j + bus.delay j a + cond (nat_lt 2 bus.nodes) (look bus a) 0 =
+      ap (λ c. cond c (bus.delay a j + bus.delay j a + cond (nat_lt 2 bus.nodes) (look bus a) 0) (bus.delay a j + bus.delay j a + bus.longest a + bus.tick - bus.delay a a)) (eq-eqb a a refl) in
+      omega arith
+
+  way_there : (j : ℕ) → IsListener b j → trip bus a j a ≤ late bus a j
+  unfolding late way
+  way_there j p =
+      let sends : sends_but bus j a ≡ true = and_from (bus.sends a) (not (a == j)) (of.alone a ∙ eq-eqb a a refl) (ap not (ne_eqb a j (λ e. p.1 (sym e)))) in
+      let h = greatest_each bus.nodes (sends_but bus j) (trip bus a j) a (inside a is.sender) sends in
+      omega arith
+
+  strays_there : (j : ℕ) → IsListener b j → longer_bit t b j a ≤ strays bus j
+  unfolding strays
+  strays_there j p =
+      let h = greatest_each bus.nodes (λ w. not (w == j)) (λ w. drift bus j w) a (inside a is.sender) (ap not (ne_eqb a j (λ e. p.1 (sym e)))) in
+      let d = drift_is j a in
+      omega arith
+
+  there : (j : ℕ) → IsListener b j → (b.line.delay a j + b.line.delay j a) * t.units + 11 * longer_bit t b j a ≤ sample_at (lengths_of b a) * t.shortest a
+  unfolding left_of right_of
+  there j p =
+      let h : cond (a == j) (bus.delay a a) (late bus a j + 11 * strays bus j) ≤ sample_at (bus.lengths a) * bus.shortest a =
+      sound.bit_is_there_at_sample a j (inside a is.sender) (inside j p.0) in
+      let e = ap (λ c. cond c (bus.delay a a) (late bus a j + 11 * strays bus j)) (ne_eqb a j (λ e. p.1 (sym e))) in
+      let x = trip_there j in
+      let w = way_there j p in
+      let s = strays_there j p in
+      let d = of.delays a j is.sender p.0 in
+      let g = of.delays j a p.0 is.sender in
+      let z = sample_is a in
+      let sum : (b.line.delay a j + b.line.delay j a) * t.units ≡ b.line.delay a j * t.units + b.line.delay j a * t.units = omega arith in
+      omega arith
+
+  pub clocks_fit : FitClocks t b
+  clocks_fit = record {
+    slow = λ j p. (let d = drifts a j is.sender p.0 (λ e. p.1 (sym e)) in let x = d.1 in omega arith);
+    fast = λ j p.
+        (let d = drifts j a p.0 is.sender p.1 in
+        let x = d.0 in
+        let more : (lengths_of b j).sjw * t.shortest j ≤ (lengths_of b j).sjw * t.longest j = mul-le-mul_left (lengths_of b j).sjw (of.order j p.0) in
+        omega arith);
+    sample = λ j p.
+        (let x = early j a p.0 is.sender p.1 in
+        let more : (lengths_of b j).ps2 * t.shortest j ≤ (lengths_of b j).ps2 * t.longest j = mul-le-mul_left (lengths_of b j).ps2 (of.order j p.0) in
+        omega arith);
+    jump = λ j p.
+        (let d = drifts a j is.sender p.0 (λ e. p.1 (sym e)) in
+        let x = d.0 in
+        let more : (lengths_of b a).sjw * t.shortest a ≤ (lengths_of b a).sjw * t.longest a = mul-le-mul_left (lengths_of b a).sjw (of.order a is.sender) in
+        omega arith);
+    loops = λ j p. loop j p.0;
+    ends_there = there;
+  }
