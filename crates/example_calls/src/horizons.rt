@@ -25,7 +25,7 @@ pub struct KnownNode {
     pub found_at_16: Level,
 }
 
-/// What node 0 finds at tick 16, if that is known.
+/// Returns what node 0 finds at tick 16, if that is known.
 fn found_at_16(replica: &Replica) -> Result<Level>
     requires { replica.now.nodes ≡ 1 }
 {

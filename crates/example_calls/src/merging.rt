@@ -35,7 +35,7 @@ const SECOND: [Record; 2] = [
     },
 ];
 
-/// A replica of so many nodes that took these records, but for those that don't fit it.
+/// Returns a replica of this many nodes that took these records, but for those that don't fit it.
 pub fn replica_of(alloc: Global, nodes: u8, records: &[Record]) -> Result<Replica>
     ensures nodes { IfOk result (λ replica. replica.nodes ≡ nodes) }
 {
@@ -48,7 +48,7 @@ pub fn replica_of(alloc: Global, nodes: u8, records: &[Record]) -> Result<Replic
     Ok(replica)
 }
 
-/// What both know, each record once and in order.
+/// Returns what both know, each record once and in order.
 pub fn merged(alloc: Global) -> Result<Vec<Record>> {
     let mut all = replica_of(alloc, 1, &FIRST)?;
     let other = replica_of(alloc, 1, &SECOND)?;

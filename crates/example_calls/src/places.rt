@@ -10,7 +10,7 @@ use wl_record_core::Record;
 use wl_replica::Replica;
 use wl_topology::{Place, Topology};
 
-/// A level is found at its own node a tick after it is driven, and at the other node 51 ticks after.
+/// Returns a cable on which a level is found at its own node a tick after it is driven, and at the other node 51 ticks after.
 fn topology() -> Result<Topology> {
     let near = Place {
         x: 0,
@@ -22,7 +22,7 @@ fn topology() -> Result<Topology> {
     Ok(Topology::new(&[near, far], 1).context("two places")?)
 }
 
-/// The tick up to which the line at node j's place is known.
+/// Returns the tick up to which the line at node j's place is known.
 pub fn known_until(replica: &Replica, j: u8) -> Result<u64>
     requires { replica.now.nodes ≡ 2 }
 {
@@ -33,7 +33,7 @@ pub fn known_until(replica: &Replica, j: u8) -> Result<u64>
     Ok(replica.place_horizon(&topology, j))
 }
 
-/// What node j finds at tick t, if that is known.
+/// Returns what node j finds at tick t, if that is known.
 pub fn found(replica: &Replica, j: u8, t: u64) -> Result<Level>
     requires { replica.now.nodes ≡ 2 }
 {
@@ -44,8 +44,8 @@ pub fn found(replica: &Replica, j: u8, t: u64) -> Result<Level>
     Ok(replica.seen(&topology, j, t))
 }
 
-/// Node 0 changes at tick 100 and not again before 150; an edge behind a gap and a silence after it tell nothing yet.
-/// Node 1 keeps still up to this tick.
+/// Returns a replica that knows this: node 0 changes at tick 100 and not again before 150; an edge after a gap and a silence after it say
+/// nothing yet. Node 1 keeps still up to this tick.
 pub fn two_known(alloc: Global, still: u64) -> Result<Replica>
     ensures nodes { IfOk result (λ replica. replica.nodes ≡ 2) }
 {

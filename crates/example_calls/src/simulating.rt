@@ -12,7 +12,7 @@ use wl_segments::Segments;
 use wl_serial::{Outcome, records_of, run_serial};
 use wl_topology::{Place, Topology};
 
-/// A node whose quanta take 100 ticks and whose bits have 10 quanta, with these frames to send.
+/// Returns a node whose quanta take 100 ticks and whose bits have 10 quanta, with these frames to send.
 fn node(queue: Queue) -> Result<NodeSetup> {
     Ok(NodeSetup {
         clock: Clock::new(0, 100, 1).context("a clock of 100 ticks a quantum")?,
@@ -21,7 +21,7 @@ fn node(queue: Queue) -> Result<NodeSetup> {
     })
 }
 
-/// A place on the cable: a controller that takes a tick to read the line.
+/// Returns a place on the cable: a controller that takes a tick to read the line.
 fn place(x: u32) -> Place {
     Place {
         x,
@@ -31,7 +31,7 @@ fn place(x: u32) -> Place {
     }
 }
 
-/// Two nodes 50 ticks apart. The first sends a frame of identifier 0, from its first quantum on; the second only listens.
+/// Returns two nodes 50 ticks apart. The first sends a frame of identifier 0, from its first quantum on; the second only listens.
 fn plan(alloc: Global) -> Result<Plan> {
     let mut queue: Queue = Listed::new(alloc);
     queue.push(Queued {
@@ -49,7 +49,7 @@ fn plan(alloc: Global) -> Result<Plan> {
     })
 }
 
-/// What refuses that plan with one place, which no plan text can ask for.
+/// Returns what refuses that plan with one place, which no plan text can ask for.
 pub fn one_place(alloc: Global) -> Result<String> {
     let mut plan = plan(alloc)?;
     plan.topology = Topology::new(&[place(0)], 1).context("a place")?;
@@ -68,7 +68,7 @@ pub struct Simulated {
     pub records: usize,
 }
 
-/// How many records an outcome has. `records_of` asks for one that records can tell, and `recordable` is the test.
+/// Returns how many records an outcome has. `records_of` asks for one that records can tell, and `recordable` is the test.
 fn record_count(alloc: Global, outcome: &Outcome) -> Result<usize> {
     if !outcome.recordable() {
         bail!("an outcome that records can tell");
@@ -76,8 +76,8 @@ fn record_count(alloc: Global, outcome: &Outcome) -> Result<usize> {
     Ok(records_of(alloc, outcome)?.len())
 }
 
-/// The report of the plan's simulation, and the number of its records. `run_serial` owes an answer for a plan that passed its check,
-/// and for no other.
+/// Returns the report of the plan's simulation, and the number of its records. `run_serial` owes an answer for a plan that passed its
+/// check, and for no other.
 pub fn two_nodes(alloc: Global) -> Result<Simulated> {
     let plan = plan(alloc)?;
     plan.check().context("a plan that can be run")?;

@@ -1,9 +1,9 @@
-//! `sweep_rows`: rows about sweeps.
+//! `sweep_rows`: answers rows about sweeps: what they say, and members that are printed and read again.
 //!
-//! Standard input has blocks with a line `---` between two of them, each a plan text, a line `asked`, and requests, a line each. What is
-//! answered to a request follows it. Its words: `runs=N`, `step=N`, `seed=N`, `workers=N`, `offsets` and `ppm` (they stay as they are), `worst`,
-//! and ranges. With `print=N` it is the text of member N; with `again=N` whether that text, read again, is printed as the same text, and what a
-//! sweep says of it alone.
+//! Standard input has blocks with a line `---` between two of them. Each is a plan text, a line `asked`, and requests, a line each. What is
+//! answered to a request follows it. Its words: `runs=N`, `step=N`, `seed=N`, `workers=N`, `offsets` and `ppm` (they stay as they are),
+//! `worst`, and ranges. With `print=N` the answer is the text of member N. With `again=N` it is whether that text, read again, is printed
+//! as the same text, and what a sweep says of it alone.
 #![tactic(auto)]
 
 mod request;
@@ -25,7 +25,7 @@ fn main(rt: HostRuntime) -> Result<()> {
     Ok(())
 }
 
-/// What is answered to the requests of a block.
+/// Returns what is answered to the requests of a block.
 fn answers<H: Threads + Sync + Eprint + Clock>(
     rt: &H,
     alloc: Global,

@@ -11,7 +11,7 @@ pub enum Wanted {
     Sweep,
     /// The text of a member.
     Print(u64),
-    /// What a member's text gives where it is read again.
+    /// What a member's text gives if it is read again.
     Again(u64),
 }
 
@@ -25,7 +25,7 @@ pub struct Request {
     pub ranges: Vec<String>,
 }
 
-/// A number of a word, 0 where it is none.
+/// Returns the number of a word, 0 if it is none.
 fn number(text: &str) -> u64 {
     match text.parse::<u64>() {
         Ok(number) => number,
@@ -67,7 +67,7 @@ impl Request {
     }
 }
 
-/// The options of a request that says nothing of them.
+/// Returns the options of a request that says nothing of them.
 pub fn usual_options() -> Options {
     Options {
         step: None,
@@ -78,7 +78,7 @@ pub fn usual_options() -> Options {
     }
 }
 
-/// The request of a line.
+/// Returns the request of a line.
 pub fn read(alloc: Global, line: &str) -> Result<Request> {
     let mut request = Request {
         asked: Asked {

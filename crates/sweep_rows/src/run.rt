@@ -8,7 +8,7 @@ use std::time::Clock;
 use wl_device::{ScriptedReader, ScriptedWriter, Then};
 use wl_sweep_engine::{Asked, Options, SweepFault, Tally, Workers, print_run, sweep_run};
 
-/// A reader of a plan text, by seven bytes a call.
+/// Returns a reader of a plan text, by seven bytes a call.
 fn reader(plan: &str) -> ScriptedReader {
     ScriptedReader {
         text: plan.as_bytes(),
@@ -17,7 +17,7 @@ fn reader(plan: &str) -> ScriptedReader {
     }
 }
 
-/// A writer that takes whatever is written, by eleven bytes a call.
+/// Returns a writer that takes whatever is written, by eleven bytes a call.
 fn ample(alloc: Global) -> ScriptedWriter {
     ScriptedWriter {
         written: Vec::new(alloc),
@@ -27,7 +27,7 @@ fn ample(alloc: Global) -> ScriptedWriter {
     }
 }
 
-/// The text that was written.
+/// Returns the text that was written.
 fn written(alloc: Global, writer: &ScriptedWriter) -> Result<String, AllocError> {
     match str::from_utf8(writer.written.as_slice()) {
         Ok(text) => String::from_str(alloc, text),
@@ -35,13 +35,13 @@ fn written(alloc: Global, writer: &ScriptedWriter) -> Result<String, AllocError>
     }
 }
 
-/// The line of a fault, and whose it is.
+/// Returns the line of a fault, and whose it is.
 fn fault_line(alloc: Global, fault: &SweepFault) -> Result<String, AllocError> {
     let (word, plan) = (fault.is_word(), fault.is_refusal());
     format!(in alloc; "fault: {fault}, of a word: {word}, of the plan: {plan}\n")
 }
 
-/// What a sweep wrote, and how it ended.
+/// Returns what a sweep wrote, and how it ended.
 fn swept<H: Threads + Sync + Eprint + Clock>(
     rt: &H,
     alloc: Global,
@@ -67,7 +67,7 @@ fn swept<H: Threads + Sync + Eprint + Clock>(
     Ok(said)
 }
 
-/// The text of a member, or the line of its fault.
+/// Returns the text of a member, or the line of its fault.
 fn printed(
     alloc: Global,
     request: &Request,
@@ -84,7 +84,7 @@ fn printed(
     Ok(said)
 }
 
-/// A request for one plan as it is.
+/// Returns a request for one plan as it is.
 fn alone(alloc: Global) -> Request {
     Request {
         asked: Asked {
@@ -103,7 +103,7 @@ fn alone(alloc: Global) -> Request {
     }
 }
 
-/// A text after its first line.
+/// Returns a text after its first line.
 fn later_lines(text: &str) -> &str {
     match text.split_once("\n") {
         Some((_, rest)) => rest,
@@ -111,7 +111,7 @@ fn later_lines(text: &str) -> &str {
     }
 }
 
-/// Whether a member's text is printed as the same text where it is read again, and what a sweep says of it alone.
+/// Returns whether a member's text, read again, is printed as the same text, and what a sweep says of it alone.
 fn read_again<H: Threads + Sync + Eprint + Clock>(
     rt: &H,
     alloc: Global,
@@ -127,7 +127,7 @@ fn read_again<H: Threads + Sync + Eprint + Clock>(
     format!(in alloc; "the same again: {same}\n{said}")
 }
 
-/// The answer to a request.
+/// Returns the answer to a request.
 pub fn answer<H: Threads + Sync + Eprint + Clock>(
     rt: &H,
     alloc: Global,

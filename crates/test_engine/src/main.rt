@@ -1,10 +1,9 @@
-//! `test_engine`: runs plans by two engines, and says whether they come to the same.
+//! `test_engine`: runs plans by two engines, and compares their outcomes.
 //!
-//! Standard input has plan texts with a line `---` between two of them. One engine is `run_serial`, which jumps over all quanta in which nothing
-//! can happen. The other one, which is only here, runs a quantum at a time in order of ticks and asks every change of every node and every
-//! disturbance for the level: what the definition of the simulation says, and no more. For each plan a line tells how many quanta, samples,
-//! frames and changes there were, or what differs at which node, or that the plan is
-//! refused.
+//! Standard input has plan texts with a line `---` between two of them. One engine is `run_serial`, which jumps over all quanta in which
+//! nothing can happen. The other one, which is only here, runs a quantum at a time in order of ticks. It asks every change of every node
+//! and every disturbance for the level: what the definition of the simulation says, and no more. For each plan a line says how many quanta,
+//! samples, frames and changes there were, or what differs at which node, or that the plan is refused.
 #![tactic(auto)]
 
 mod same;
@@ -27,7 +26,7 @@ fn main(rt: HostRuntime) -> Result<()> {
     Ok(())
 }
 
-/// Whether both engines come to the same.
+/// Returns whether both engines have the same outcome.
 fn both(alloc: Global, text: &str) -> Result<String> {
     let Ok((plan, _)) = read_plan(alloc, &mut Host::new(text.as_bytes())) else {
         return Ok(String::from_str(alloc, "refused")?);

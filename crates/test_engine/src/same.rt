@@ -5,7 +5,7 @@ use std::alloc::Global;
 use wl_report::report;
 use wl_serial::{NodeOutcome, Outcome};
 
-/// Tells how much happened where the two are the same, and else what differs.
+/// Writes how much happened if the two are the same, and else what differs.
 pub fn tell(alloc: Global, one: &Outcome, other: &Outcome) -> Result<String> {
     let mut told = String::new(alloc);
     if let Some((i, what)) = first_difference(one, other) {
@@ -20,7 +20,7 @@ pub fn tell(alloc: Global, one: &Outcome, other: &Outcome) -> Result<String> {
     Ok(told)
 }
 
-/// The first node of which something is another in the two, and what.
+/// Returns the first node at which the two differ, and in what.
 fn first_difference(one: &Outcome, other: &Outcome) -> Option<(usize, &'static str)> {
     if one.nodes.len() != other.nodes.len() || one.end != other.end {
         return Some((0, "the number of nodes or the end"));
@@ -34,7 +34,7 @@ fn first_difference(one: &Outcome, other: &Outcome) -> Option<(usize, &'static s
     None
 }
 
-/// What is another at a node, if anything.
+/// Returns what differs at a node, if anything.
 fn difference(one: &NodeOutcome, other: &NodeOutcome) -> Option<&'static str> {
     if one.changes.as_slice() != other.changes.as_slice() {
         return Some("changes");
@@ -57,7 +57,7 @@ fn difference(one: &NodeOutcome, other: &NodeOutcome) -> Option<&'static str> {
     None
 }
 
-/// How much happened at all nodes.
+/// Returns how much happened at all nodes.
 fn tell_sums(outcome: &Outcome, told: &mut String) -> Result<()> {
     let (mut samples, mut frames, mut changes) = (0u64, 0u64, 0u64);
     for node in outcome.nodes.as_slice() {

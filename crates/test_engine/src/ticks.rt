@@ -18,7 +18,7 @@ struct Ticking {
     next: u64,
 }
 
-/// What the nodes of a plan do before its end.
+/// Returns what the nodes of a plan do before its end.
 pub fn run(alloc: Global, plan: &Plan) -> Result<Outcome> {
     let mut ticking = begin(alloc, plan)?;
     for _ in 0..MOST_QUANTA {
@@ -31,7 +31,7 @@ pub fn run(alloc: Global, plan: &Plan) -> Result<Outcome> {
     bail!("no end")
 }
 
-/// All nodes before their first quanta.
+/// Returns all nodes before their first quanta.
 fn begin(alloc: Global, plan: &Plan) -> Result<Vec<Ticking>> {
     let mut ticking = Vec::new(alloc);
     for setup in plan.nodes.as_slice() {
@@ -44,7 +44,7 @@ fn begin(alloc: Global, plan: &Plan) -> Result<Vec<Ticking>> {
     Ok(ticking)
 }
 
-/// The node whose next quantum is the earliest, and its tick, where it is before the end: of several the first.
+/// Returns the node whose next quantum is the earliest, and its tick, if it is before the end. Of several it is the first.
 fn least_next(plan: &Plan, ticking: &[Ticking]) -> Option<(u8, u64)> {
     let mut least = plan.end;
     let mut node = None;
@@ -59,7 +59,7 @@ fn least_next(plan: &Plan, ticking: &[Ticking]) -> Option<(u8, u64)> {
     Some((node?, least))
 }
 
-/// The level that node `j` finds at tick `t`: dominant where some node drove it a delay before, or where a disturbance makes it.
+/// Returns the level that node `j` finds at tick `t`: dominant if some node drove it a delay before, or if a disturbance makes it.
 fn level_at(plan: &Plan, ticking: &[Ticking], j: u8, t: u64) -> Result<Level> {
     if j >= plan.topology.nodes() {
         bail!("a node without a place");
@@ -78,7 +78,7 @@ fn level_at(plan: &Plan, ticking: &[Ticking], j: u8, t: u64) -> Result<Level> {
     Ok(Level::Recessive)
 }
 
-/// Whether a node with these changes drove dominant so many ticks before tick `t`: an odd number of them had come then.
+/// True if a node with these changes drove dominant `delay` ticks before tick `t`: an odd number of them had come then.
 fn drove(changes: &[u64], delay: u64, t: u64) -> bool {
     let mut dominant = changes.len() % 2 == 1;
     for tick in changes.iter().rev() {
@@ -90,7 +90,7 @@ fn drove(changes: &[u64], delay: u64, t: u64) -> bool {
     dominant
 }
 
-/// Node `j` runs its next quantum, which begins at tick `t`.
+/// Runs the next quantum of node `j`, which begins at tick `t`.
 fn quantum(plan: &Plan, ticking: &mut [Ticking], j: u8, t: u64, level: Level) -> Result<()> {
     let setups = plan.nodes.as_slice();
     let (Some(setup), Some(it)) = (setups.get(j as usize), ticking.get_mut(j as usize)) else {
@@ -108,7 +108,7 @@ fn quantum(plan: &Plan, ticking: &mut [Ticking], j: u8, t: u64, level: Level) ->
     Ok(())
 }
 
-/// What the nodes did.
+/// Returns what the nodes did.
 fn finish(alloc: Global, plan: &Plan, ticking: Vec<Ticking>) -> Result<Outcome> {
     let mut nodes = Listed::new(alloc);
     for it in ticking {
@@ -120,7 +120,7 @@ fn finish(alloc: Global, plan: &Plan, ticking: Vec<Ticking>) -> Result<Outcome> 
     })
 }
 
-/// What a node did.
+/// Returns what a node did.
 fn outcome_of(ticking: Ticking) -> NodeOutcome {
     let counters = ticking.node.counters();
     let hards = ticking.node.hards();

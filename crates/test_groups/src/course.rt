@@ -8,7 +8,7 @@ use std::alloc::Global;
 use wl_group::{Advance, Group, first_silence};
 use wl_plan::Plan;
 
-/// Runs groups of a plan's nodes, and tells what they answer.
+/// Runs groups of a plan's nodes, and writes what they answer.
 pub fn of_plan(alloc: Global, plan: &Plan) -> Result<String>
     requires { IsChecked plan.now }
 {
@@ -31,11 +31,11 @@ pub fn of_plan(alloc: Global, plan: &Plan) -> Result<String>
     Ok(told)
 }
 
-/// No plan has so many rows of quanta here.
+/// No plan has more rows of quanta here.
 const MOST_ROWS: u32 = 10_000;
 
-/// Runs a group of all nodes in rows, each of the least member that may run, and tells how many rows that were, how many records the group
-/// has emitted, and where each node is in the end.
+/// Runs a group of all nodes in rows, each of the least member that may run. Writes how many rows that were, how many records the group has
+/// emitted, and where each node is in the end.
 fn tell_rows(alloc: Global, plan: &Plan, told: &mut String) -> Result<()>
     requires { IsChecked plan.now }
 {
@@ -61,14 +61,14 @@ fn tell_rows(alloc: Global, plan: &Plan, told: &mut String) -> Result<()>
     Ok(())
 }
 
-/// Whether each of the numbers is that of a node.
+/// True if each of the numbers is that of a node.
 fn each_is_a_node(plan: &Plan, members: &[u8]) -> bool
     ensures { IsTrue result ↔ All (λ m. m < length plan.now.nodes) members.now }
 {
     members.iter().all(|m| (*m as usize) < plan.nodes.len())
 }
 
-/// A group of all nodes.
+/// Returns a group of all nodes.
 fn group_of_all(alloc: Global, plan: &Plan) -> Result<Group>
     requires { IsChecked plan.now }
     ensures { IfOk result (λ group. group.plan ≡ plan.now) }
@@ -84,7 +84,7 @@ fn group_of_all(alloc: Global, plan: &Plan) -> Result<Group>
     Ok(group)
 }
 
-/// What node `i` may do next in a group.
+/// Returns what node `i` may do next in a group.
 fn state(group: &Group, i: u8) -> &'static str {
     if group.can_advance(i) {
         return "may run";
@@ -95,7 +95,7 @@ fn state(group: &Group, i: u8) -> &'static str {
     "waits"
 }
 
-/// Tells whether node `i` may run by itself, and whether it may once it has taken the other nodes' first silences.
+/// Writes whether node `i` may run by itself, and whether it may once it has taken the other nodes' first silences.
 fn tell_alone(alloc: Global, plan: &Plan, i: u8, told: &mut String) -> Result<()>
     requires checked { IsChecked plan.now }
     requires node { i < length plan.now.nodes }
@@ -110,7 +110,7 @@ fn tell_alone(alloc: Global, plan: &Plan, i: u8, told: &mut String) -> Result<()
     Ok(())
 }
 
-/// Runs the least member that may run, and tells what it emitted.
+/// Runs the least member that may run, and writes what it emitted.
 fn tell_first(group: &mut Group, told: &mut String) -> Result<()>
     ensures { group.new.plan ≡ group.old.plan }
 {
@@ -130,7 +130,7 @@ fn tell_first(group: &mut Group, told: &mut String) -> Result<()>
     Ok(())
 }
 
-/// Runs all that may run, and tells how many records that emitted and how many the group has emitted by now.
+/// Runs all that may run, and writes how many records that emitted and how many the group has emitted by now.
 fn tell_rest(alloc: Global, group: &mut Group, told: &mut String) -> Result<()>
     ensures { group.new.plan ≡ group.old.plan }
 {
@@ -144,7 +144,7 @@ fn tell_rest(alloc: Global, group: &mut Group, told: &mut String) -> Result<()>
     Ok(())
 }
 
-/// Tells where node `i` is in a group, and at which ticks it changed.
+/// Writes where node `i` is in a group, and at which ticks it changed.
 fn tell_node(alloc: Global, group: &Group, i: u8, told: &mut String) -> Result<()> {
     if !group.has(i) {
         writeln!(told, "node {i} is no member")?;

@@ -24,7 +24,7 @@ fn main(rt: HostRuntime) -> Result<()> {
     Ok(())
 }
 
-/// What the groups of a plan answer.
+/// Returns what the groups of a plan answer.
 fn answers(alloc: Global, text: &str) -> Result<String> {
     let (plan, _) = read_plan(alloc, &mut Host::new(text.as_bytes()))?;
     course::of_plan(alloc, &plan)

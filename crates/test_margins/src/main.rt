@@ -110,7 +110,7 @@ fn main(rt: HostRuntime) -> Result<()> {
     Ok(())
 }
 
-/// One frame of this identifier, ready after 25 bits, or none.
+/// Returns one frame of this identifier, ready after 25 bits, or none.
 fn queue(alloc: Global, id: u32, sends: bool) -> Result<Queue> {
     let mut queue: Queue = Listed::new(alloc);
     if sends {
@@ -142,7 +142,7 @@ fn place(x: u32, out_delay: u64, listens: bool) -> Place {
     }
 }
 
-/// The cable of two nodes, or of three.
+/// Returns the cable of two nodes, or of three.
 fn topology(row: Row) -> Result<Topology> {
     let two = [place(0, 120, false), place(row.x, 120, row.listens)];
     match row.third {
@@ -170,7 +170,8 @@ fn plan(alloc: Global, row: Row) -> Result<Plan> {
     })
 }
 
-/// The verdict, and for any senders the first failure, how much longer the cable may be, how much wider the tolerances, and what helps.
+/// Returns the verdict and, for any senders, the first failure, how much longer the cable and how much wider the tolerances may be, and
+/// what helps.
 fn told(alloc: Global, row: Row) -> Result<String> {
     let plan = plan(alloc, row)?;
     plan.check().context("a plan that can be run")?;

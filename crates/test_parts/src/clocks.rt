@@ -1,6 +1,8 @@
-//! Clocks: `clock OFFSET NUM DEN`, `ppm OFFSET QUANTUM PPM` or `rates OFFSET RATE..`, a rate being `FROM,NUM,DEN` or, by its deviation,
-//! `FROM:QUANTUM:PPM`, and `FROM,NUM,DEN*16` sixteen of them; and after them nothing, `at QUANTUM`, `first_not_before TICK`, `is`
-//! and another clock of one rate or `are` and another clock of such rates.
+//! Clocks.
+//!
+//! `clock OFFSET NUM DEN`, `ppm OFFSET QUANTUM PPM` or `rates OFFSET RATE..`. A rate is `FROM,NUM,DEN` or, by its deviation,
+//! `FROM:QUANTUM:PPM`; `FROM,NUM,DEN*16` is sixteen of them. After them comes nothing, `at QUANTUM`, `first_not_before TICK`, `is` and
+//! another clock of one rate, or `are` and another clock of such rates.
 
 use crate::words::{Stop, Told, number, repeated};
 use std::alloc::Global;
@@ -33,7 +35,7 @@ pub fn tell(alloc: Global, subject: &str, words: &[&str], out: &mut String) -> T
     }
 }
 
-/// How many of the words in front are rates.
+/// Returns how many of the words in front are rates.
 fn rate_words(words: &[&str]) -> usize {
     words
         .iter()
@@ -104,7 +106,7 @@ fn tell_of(
     }
 }
 
-/// The tick of a quantum.
+/// Returns the tick of a quantum.
 fn at(clock: &Clock, quantum: u64) -> Result<u64, Stop> {
     if quantum > LAST_QUANTUM {
         return Err(Stop::Unread);
@@ -112,7 +114,7 @@ fn at(clock: &Clock, quantum: u64) -> Result<u64, Stop> {
     Ok(clock.at(quantum))
 }
 
-/// The first quantum at a tick or later.
+/// Returns the first quantum at a tick or later.
 fn first(clock: &Clock, tick: u64) -> Result<u64, Stop> {
     if tick >= TICK_END {
         return Err(Stop::Unread);

@@ -47,7 +47,7 @@ fn happened(word: &str) -> Result<Happened, Stop> {
     })
 }
 
-/// A word such as `TxError(Bit)`.
+/// Returns a word such as `TxError(Bit)`.
 fn error(word: &str) -> Result<Happened, Stop> {
     let (what, kind) = word.split_once('(').ok_or(Stop::Unread)?;
     let kind = match kind {

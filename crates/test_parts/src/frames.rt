@@ -28,7 +28,7 @@ pub fn tell(alloc: Global, subject: &str, words: &[&str], out: &mut String) -> T
     }
 }
 
-/// Whether two frames, with `is` between them, are the same.
+/// Returns whether two frames, with `is` between them, are the same.
 pub fn tell_same(alloc: Global, words: &[&str], out: &mut String) -> Told {
     let place = words.iter().position(|w| *w == "is").ok_or(Stop::Unread)?;
     let (first, second) = words.split_at_checked(place).ok_or(Stop::Unread)?;
@@ -39,7 +39,7 @@ pub fn tell_same(alloc: Global, words: &[&str], out: &mut String) -> Told {
     Ok(write!(out, "{is_same}")?)
 }
 
-/// The frame that words say, or why there is none.
+/// Returns the frame that words say, or why there is none.
 pub fn made(alloc: Global, words: &[&str]) -> Result<Result<Frame, FrameFault>, Stop> {
     let [kind, id, dlc, rest @ ..] = words else {
         return Err(Stop::Unread);
@@ -56,7 +56,7 @@ pub fn made(alloc: Global, words: &[&str]) -> Result<Result<Frame, FrameFault>, 
     frame_of(id, remote, dlc.parse::<u32>()?, bytes.as_slice())
 }
 
-/// The frame of an identifier as it is written: one of eight digits is extended, as logs of frames have it.
+/// Returns the frame of an identifier as it is written: one of eight digits is extended, as logs of frames have it.
 pub fn frame_of(
     id: &str,
     remote: bool,
@@ -71,7 +71,7 @@ pub fn frame_of(
     })
 }
 
-/// Writes the identifier of a frame: three digits, or eight where it is extended.
+/// Writes the identifier of a frame: three digits, or eight if it is extended.
 pub fn write_id(out: &mut String, frame: &Frame) -> Told {
     if frame.is_extended() {
         Ok(write!(out, "{:08x}", frame.id())?)
@@ -108,7 +108,7 @@ pub fn tell_bits(alloc: Global, subject: &str, words: &[&str], out: &mut String)
     }
 }
 
-/// The first front that is a whole frame, whether its CRC sequence is right, and what it says.
+/// Returns the first front that is a whole frame, whether its CRC sequence is right, and what it says.
 fn read(bits: &[Level], out: &mut String) -> Told {
     for count in 0..bits.len() {
         if places::is_whole(&bits[..count]) {
@@ -124,7 +124,7 @@ fn read(bits: &[Level], out: &mut String) -> Told {
     write_frame(out, &Frame::from_bits(bits))
 }
 
-/// The place of the RTR bit, and the places at which a sender may lose.
+/// Returns the place of the RTR bit, and the places at which a sender may lose.
 fn arbitration(bits: &[Level], out: &mut String) -> Told {
     write!(out, "rtr {} loses", places::rtr_place(bits))?;
     for place in 0..40usize {

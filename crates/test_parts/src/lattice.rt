@@ -14,7 +14,7 @@ pub fn tell(subject: &str, words: &[&str], out: &mut String) -> Told {
     }
 }
 
-/// Whether two words are the same.
+/// Returns whether two words are the same.
 fn tell_same(subject: &str, words: &[&str], out: &mut String) -> Told {
     let is_same = match (subject, words) {
         ("same_max", [left, right]) => max(left)?.same(&max(right)?),
@@ -52,7 +52,7 @@ fn tell_array(left: [&str; 3], right: [&str; 3], out: &mut String) -> Told {
     Ok(())
 }
 
-/// Two words joined, by what every lattice has.
+/// Returns two words joined, by what every lattice has.
 fn joined<W: Join + Drop>(left: W, right: &W) -> W {
     let mut all = W::bottom();
     all.join(&left);

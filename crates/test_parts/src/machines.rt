@@ -1,11 +1,11 @@
 //! Machines with their counters on one wire: `machines HEAD.. : WORD..`. A head is `-`, or the identifier of a frame without bytes in
 //! hexadecimal (eight digits: extended), with `r` before it for a remote frame.
 //!
-//! Words: `own*53` for samples of what the machines drive; `0*6` and `0101` for samples of these levels; `count` counts the samples
-//! from 1 again; `drive`, `idle`, `awaits`, `counters` and `silence` ask all machines, `awaits` whether the next edge may be a start
-//! of frame to them, and `silence` for how many samples more they are silent, with heads and without; `off` calls bus off of the first
-//! machine, `head=ID` and `mode=Off` give it another head, and a mode that isn't its counters'. The answer has what happened, with the
-//! number of the machine and of the sample, and the counters after it.
+//! Words: `own*53` for samples of what the machines drive; `0*6` and `0101` for samples of these levels; `count` counts the samples from 1
+//! again. `drive`, `idle`, `awaits`, `counters` and `silence` ask all machines: `awaits` whether the next edge may be a start of frame to
+//! them, and `silence` for how many samples more they are silent, with heads and without. `off` calls bus off of the first machine;
+//! `head=ID` and `mode=Off` give it another head, and a mode that isn't its counters'. The answer has what happened, with the number of the
+//! machine and of the sample, and the counters after it.
 
 use crate::counters::write_counters;
 use crate::frames::{frame_of, write_id};
@@ -37,7 +37,7 @@ impl Station {
         }
     }
 
-    /// One sample: the machine, then the counters, then bus off where the mode becomes that.
+    /// Takes one sample: the machine, then the counters, then bus off if the mode becomes that.
     fn sample(&mut self, level: Level) -> Turn {
         let before = self.counters.mode();
         let mode = self.given.unwrap_or(before);
@@ -167,7 +167,7 @@ impl Wire {
         Ok(())
     }
 
-    /// Dominant where some machine drives dominant.
+    /// Returns dominant if some machine drives dominant.
     fn level(&self) -> Level {
         if self.stations.iter().any(|s| s.drive.is_dominant()) {
             Level::Dominant
@@ -176,7 +176,7 @@ impl Wire {
         }
     }
 
-    /// One sample of all machines.
+    /// Takes one sample of all machines.
     fn sample(&mut self, level: Level, out: &mut String) -> Told {
         self.samples = self.samples.saturating_add(1);
         let samples = self.samples;
@@ -189,7 +189,7 @@ impl Wire {
         Ok(())
     }
 
-    /// What each machine drives, whether the bus is idle to it, whether it awaits a start of frame, its counters, or for how many
+    /// Returns what each machine drives, whether the bus is idle to it, whether it awaits a start of frame, its counters, or for how many
     /// samples more it is silent.
     fn ask(&self, word: &str, out: &mut String) -> Told {
         for station in &self.stations {
@@ -204,7 +204,7 @@ impl Wire {
         Ok(())
     }
 
-    /// Bus off, another head or another mode for the first machine.
+    /// Takes the first machine off the bus, or gives it another head or another mode.
     fn set(&mut self, word: &str) -> Told {
         let station = self.stations.first_mut().ok_or(Stop::Unread)?;
         match word.split_once('=') {

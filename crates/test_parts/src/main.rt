@@ -48,12 +48,12 @@ fn tell(alloc: Global, words: &[&str], out: &mut String) -> Told {
     }
 }
 
-/// An answer, or the word for none.
+/// Returns an answer, or the word for none.
 fn or_nothing(said: &str) -> &str {
     if said.is_empty() { "nothing" } else { said }
 }
 
-/// A line with its answer.
+/// Returns a line with its answer.
 fn answer(alloc: Global, line: &str) -> Result<String, Stop> {
     let mut out = String::from_str(alloc, line)?;
     if line.is_empty() || line.starts_with('#') {

@@ -1,11 +1,10 @@
-//! Nodes on one line: `nodes NODE.. : WORD..`. A node is `-`, or `2@107` where it has two data frames without bytes to send, of
-//! identifiers 0 and 1, ready at quantum 107. Bits have 1 + 3 + 3 + 3 quanta, the jump width is 2, and what a node drives from one
-//! quantum on is seen by all at the next one.
+//! Nodes on one line: `nodes NODE.. : WORD..`. A node is `-`, or `2@107` if it has two data frames without bytes to send, of identifiers 0
+//! and 1, ready at quantum 107. Bits have 1 + 3 + 3 + 3 quanta and the jump width is 2. All see what a node drives from one quantum on at
+//! the next one.
 //!
-//! Words: `own*700` for quanta with the level that the nodes drive; `0*6` for quanta of this level; `changes` and `modes` for an
-//! answer with each change of a drive and of a mode from here on, with the number of the node and of the quantum; `readers`,
-//! `phases`, `frames` and `samples` ask all nodes; `quiet` for how many quanta more each is sure to keep its drive, and `quiet>=8` whether
-//! that is at least so many.
+//! Words: `own*700` for quanta with the level that the nodes drive; `0*6` for quanta of this level. `changes` and `modes` answer each
+//! change of a drive and of a mode from here on, with the number of the node and of the quantum. `readers`, `phases`, `frames` and
+//! `samples` ask all nodes; `quiet` for how many quanta more each is sure to keep its drive, and `quiet>=8` whether that is at least 8.
 
 use crate::counters::write_counters;
 use crate::frames::write_frame;
@@ -81,7 +80,7 @@ impl Line {
         Ok(())
     }
 
-    /// Whether each node is sure to keep its drive for so many quanta more at least.
+    /// Returns whether each node is sure to keep its drive for at least `N` quanta more, where the word is `quiet>=N`.
     fn are_quiet(&self, least: u32, out: &mut String) -> Told {
         for node in &self.nodes {
             let said = if least <= node.quiet() { "yes" } else { "no" };
@@ -90,7 +89,7 @@ impl Line {
         Ok(())
     }
 
-    /// Quanta of what the nodes drive, or of these levels.
+    /// Returns quanta of what the nodes drive, or of these levels.
     fn quanta(&mut self, alloc: Global, word: &str, out: &mut String) -> Told {
         if let Some(("own", count)) = word.split_once('*') {
             for _ in 0..count.parse::<u32>()? {
@@ -105,7 +104,7 @@ impl Line {
         Ok(())
     }
 
-    /// Dominant where some node drives dominant.
+    /// Returns dominant if some node drives dominant.
     fn level(&self) -> Level {
         if self.nodes.iter().any(|n| n.drive().is_dominant()) {
             Level::Dominant
@@ -114,7 +113,7 @@ impl Line {
         }
     }
 
-    /// One quantum of all nodes.
+    /// Runs one quantum of all nodes.
     fn quantum(&mut self, level: Level, out: &mut String) -> Told {
         let (changes, modes) = (self.changes, self.modes);
         for (k, node) in self.nodes.iter_mut().enumerate() {
@@ -138,7 +137,7 @@ impl Line {
     }
 }
 
-/// What a node answers.
+/// Returns what a node answers.
 fn ask(node: &Node, word: &str, out: &mut String) -> Told {
     match word {
         "readers" => write_readers(node, out)?,

@@ -1,5 +1,7 @@
-//! Segments: `segments PROP PS1 PS2 SJW`, also with `is` and others after them, `point` with the same numbers for the sample point in tenths of a percent, and
-//! `tolerance` with the same numbers and a deviation in ppm.
+//! Segments.
+//!
+//! `segments PROP PS1 PS2 SJW`, also with `is` and others after them; `point` with the same numbers for the sample point in tenths of a
+//! percent; `tolerance` with the same numbers and a deviation in ppm.
 
 use crate::words::{Stop, Told, number};
 use wl_segments::{Segments, SegmentsFault};
@@ -31,7 +33,7 @@ pub fn tell(subject: &str, words: &[&str], out: &mut String) -> Told {
     }
 }
 
-/// The segments that four words say, or why there are none.
+/// Returns the segments that four words say, or why there are none.
 pub fn made(
     prop: &str,
     ps1: &str,

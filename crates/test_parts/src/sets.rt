@@ -32,7 +32,7 @@ fn join(alloc: Global, set: &mut Intervals, word: &str, out: &mut String) -> Tol
     Ok(set.join(&other)?)
 }
 
-/// What a set says of a tick.
+/// Returns what a set says of a tick.
 fn ask(set: &Intervals, what: &str, tick: u64, out: &mut String) -> Told {
     if what == "at" {
         return Ok(write!(out, "{} ", bit(set.at(tick)))?);
@@ -43,7 +43,7 @@ fn ask(set: &Intervals, what: &str, tick: u64, out: &mut String) -> Told {
     }
 }
 
-/// The set that a word and a number of ticks make of a set.
+/// Returns the set that a word and a number of ticks make of a set.
 fn made_of(alloc: Global, set: Intervals, what: &str, ticks: u64) -> Result<Intervals, Stop> {
     match what {
         "join_shifted" => {
@@ -58,7 +58,7 @@ fn made_of(alloc: Global, set: Intervals, what: &str, ticks: u64) -> Result<Inte
     }
 }
 
-/// The set with each tick later by `d`, where its end may be so late.
+/// Returns the set with each tick later by `d`, if its end may be so late.
 fn shifted(alloc: Global, set: &Intervals, d: u64) -> Result<Intervals, Stop> {
     if let Some(end) = set.end() {
         if end > u64::MAX - d {
@@ -68,7 +68,7 @@ fn shifted(alloc: Global, set: &Intervals, d: u64) -> Result<Intervals, Stop> {
     Ok(set.shift(alloc, d)?)
 }
 
-/// The faults of a set, in the order in which they apply.
+/// Returns the faults of a set, in the order in which they apply.
 pub fn faults(out: &mut String) -> Told {
     let (empty, late, memory) = (
         IntervalsFault::Empty,

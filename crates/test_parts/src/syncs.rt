@@ -1,7 +1,8 @@
-//! The bit clock: `sync PROP PS1 PS2 SJW`, then the words of these that hold, in this order: `book` for the rules of the book, and
-//! throughout the row `idle` where the bus is idle to the node, `awaits` where the next edge may be a start of frame to it, `driving`
-//! where it drives dominant; then the level of each quantum. The answer has each quantum that begins a bit, samples one, or
-//! synchronises one.
+//! The bit clock: `sync PROP PS1 PS2 SJW`, then words, then the level of each quantum.
+//!
+//! Of these words a row has those that hold throughout it, in this order: `book` for the rules of the book; `idle` if the bus is idle to
+//! the node; `awaits` if the next edge may be a start of frame to it; `driving` if it drives dominant. The answer has each quantum that
+//! begins a bit, samples one, or synchronises one.
 
 use crate::segments::made;
 use crate::words::{Stop, Told, bit, levels};
@@ -43,7 +44,7 @@ pub fn tell(alloc: Global, words: &[&str], out: &mut String) -> Told {
     tell_of(segments, stays, &levels(alloc, rest)?, out)
 }
 
-/// Whether the words begin with this one, and the words after it.
+/// Returns whether the words begin with this one, and the words after it.
 fn taken<'a, 'b>(word: &str, words: &'a [&'b str]) -> (bool, &'a [&'b str]) {
     match words {
         [first, rest @ ..] => if *first == word {

@@ -50,7 +50,7 @@ fn place_delay(topology: &Topology, x: &str, to: &str) -> Result<u128, Stop> {
     Ok(topology.place_delay(x.parse::<u32>()?, to))
 }
 
-/// A topology that there is.
+/// Returns a topology that there is.
 fn read(alloc: Global, per: &str, words: &[&str]) -> Result<Topology, Stop> {
     made(alloc, per, words)?.ok().ok_or(Stop::Unread)
 }

@@ -34,17 +34,17 @@ impl From<ParseIntError> for Stop {
     }
 }
 
-/// A number in decimal.
+/// Returns a number in decimal.
 pub fn number(word: &str) -> Result<u64, Stop> {
     Ok(word.parse::<u64>()?)
 }
 
-/// A number in hexadecimal.
+/// Returns a number in hexadecimal.
 pub fn hexadecimal(word: &str) -> Result<u32, Stop> {
     Ok(u32::from_str_radix(word, 16)?)
 }
 
-/// A word such as `TxError*32`: what it repeats, and how often. Without a `*` it is once.
+/// Returns a word such as `TxError*32`: what it repeats, and how often. Without a `*` it is once.
 pub fn repeated(word: &str) -> Result<(&str, u32), Stop> {
     match word.split_once('*') {
         Some((what, count)) => Ok((what, count.parse::<u32>()?)),
@@ -52,7 +52,7 @@ pub fn repeated(word: &str) -> Result<(&str, u32), Stop> {
     }
 }
 
-/// The levels of words such as `0101` and `1*11`: 0 is dominant, 1 recessive.
+/// Returns the levels of words such as `0101` and `1*11`: 0 is dominant, 1 recessive.
 pub fn levels(alloc: Global, words: &[&str]) -> Result<Vec<Level>, Stop> {
     let mut all = Vec::new(alloc);
     for word in words {
@@ -83,7 +83,7 @@ pub fn write_levels(out: &mut String, levels: &[Level]) -> Told {
     Ok(())
 }
 
-/// The bit that a level carries.
+/// Returns the bit that a level carries.
 pub fn bit(level: Level) -> &'static str {
     match level {
         Level::Dominant => "0",

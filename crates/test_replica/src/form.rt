@@ -7,12 +7,13 @@ use wl_intervals::Intervals;
 use wl_record_core::Record;
 use wl_replica::{Replica, Rows};
 
-/// What is known of so many nodes, however it is kept.
+/// What is known of some nodes, however it is kept.
 pub trait Form {
     /// The number of the nodes.
     ghost count: { Self → ℕ };
 
-    /// Nothing is known of so many nodes. Refused when out of memory, as all that follows.
+    /// Returns one that knows nothing of this many nodes. Refused when out of memory, as all that
+    /// follows.
     fn empty(alloc: Global, nodes: u8) -> Result<Self, AllocError>
         ensures { IfOk result (λ made. count made ≡ nodes) };
 
@@ -26,18 +27,18 @@ pub trait Form {
         requires { count self.old ≡ count other.now }
         ensures { OnOk result (count self.new ≡ count self.old) };
 
-    /// Its canonical records.
+    /// Returns its canonical records.
     fn records(&self, alloc: Global) -> Result<Vec<Record>, AllocError>;
 
-    /// The run length of a node.
+    /// Returns the run length of a node.
     fn run_of(&self, node: u8) -> u32
         requires { node < count self.now };
 
-    /// The horizon of a node.
+    /// Returns the horizon of a node.
     fn horizon_of(&self, node: u8) -> u64
         requires { node < count self.now };
 
-    /// The wave of a node.
+    /// Returns the wave of a node.
     fn wave_of(&self, alloc: Global, node: u8) -> Result<Intervals, AllocError>
         requires { node < count self.now };
 }
@@ -75,7 +76,7 @@ impl Form for Replica {
     }
 }
 
-/// As texts are read into it: each answer is worked out anew.
+/// As texts are read into it: each answer is worked out again.
 impl Form for Rows {
     ghost count = { λ r. r.nodes };
 

@@ -1,12 +1,13 @@
-//! `test_replica`: runs lists of takes and joins over each form in which what is known of all nodes is kept, and compares what they tell.
+//! `test_replica`: runs lists of takes and joins over each form in which what is known of all nodes is kept, and compares their answers.
 //!
 //! A row is a line of steps, parted by `;`, of two holders that know nothing at first. `E 0 1 20`, `C 0 1` and `S 0 2 30` are records that
-//! the first holder takes, `join` joins in what the second one knows, and `tell` tells what the first one knows; after `+` the second one does
-//! so. At the end the first one tells. What is told is its canonical records, and of each node that they name the run length, the horizon and the
-//! wave: `H 0 1 21`, `D 0 20 21`.
+//! the first holder takes. `join` joins in what the second one knows, and `tell` answers what the first one knows; after `+` the second one
+//! does so. At the end the first one answers. An answer is its canonical records, and of each node that they name the run length, the
+//! horizon and the wave: `H 0 1 21`, `D 0 20 21`.
 //!
-//! The row is written back, and behind it what all forms tell: a replica, which groups and worlds keep, rows, into which texts are read, and
-//! ordered maps of this program's own, the plain form. Where two differ, what each form tells stands on a line of its own. Lines that are empty or begin with `#` are written back as they are.
+//! The row is written back, and after it the answer of all forms: a replica, which groups and worlds keep, rows, into which texts are read,
+//! and ordered maps of this program's own, the plain form. If two differ, the answer of each form is on a line of its own. Lines that are
+//! empty or begin with `#` are written back as they are.
 #![tactic(auto)]
 
 mod form;
@@ -19,7 +20,7 @@ use std::alloc::Global;
 use std::io;
 use wl_replica::{Replica, Rows};
 
-/// What is written behind a row.
+/// Returns what is written after a row.
 fn answer(alloc: Global, row: &str) -> Result<String, Stop> {
     let steps = steps(alloc, row)?;
     let by_form = [
@@ -41,7 +42,7 @@ fn answer(alloc: Global, row: &str) -> Result<String, Stop> {
     Ok(said)
 }
 
-/// A line with its answer.
+/// Returns a line with its answer.
 fn line_with_answer(alloc: Global, line: &str) -> Result<String, Stop> {
     let mut out = String::from_str(alloc, line)?;
     if line.is_empty() || line.starts_with('#') {

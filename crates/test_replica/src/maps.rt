@@ -1,4 +1,4 @@
-//! The plain form: an ordered map of the words of changes and one of those of silences, of which everything is worked out where it is asked.
+//! The plain form: an ordered map of the words of changes and one of those of silences. Every answer is worked out from them.
 ghost use Rattle.std.specs.Prelude.{◌≡◌, ◌<◌, IfOk, OnOk};
 
 use crate::form::Form;
@@ -8,7 +8,7 @@ use wl_intervals::Intervals;
 use wl_lattice::{FlatWord, Join, MaxWord, Slots};
 use wl_record_core::{MOST_EDGES, Record};
 
-/// The words of so many nodes, by node and number.
+/// The words of some nodes, by node and number.
 #[derive(Drop)]
 pub struct Maps {
     nodes: u8,
@@ -24,12 +24,12 @@ struct Run {
 }
 
 impl Maps {
-    /// Up to which tick the silence after so many changes reaches.
+    /// Returns up to which tick the silence after this many changes reaches.
     fn promise(&self, node: u8, count: u32) -> u64 {
         self.silences.word(&(node, count)).word
     }
 
-    /// The tick of a change that carries a run on, if it does.
+    /// Returns the tick of a change that extends a run, if it does.
     fn next_tick(&self, node: u8, run: &Run) -> Option<u64> {
         match self.edges.word(&(node, run.length)) {
             FlatWord::Value(tick) if run.end <= tick && self.promise(node, run.length) <= tick => {
@@ -39,7 +39,7 @@ impl Maps {
         }
     }
 
-    /// The longest run of a node.
+    /// Returns the longest run of a node.
     fn run(&self, node: u8) -> Run {
         let mut run = Run { length: 0, end: 0 };
         for seq in 0..MOST_EDGES {
@@ -121,7 +121,7 @@ impl Form for Maps {
     }
 }
 
-/// Where it was dominant since a tick, adds the interval up to this one. An interval that can't be added counts as out of memory.
+/// Adds the interval up to this tick, if the node was dominant since one. An interval that can't be added counts as out of memory.
 fn flipped(set: &mut Intervals, since: Option<u64>, tick: u64) -> Result<Option<u64>, AllocError> {
     match since {
         Some(from) => match set.push(from, tick) {

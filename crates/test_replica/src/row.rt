@@ -41,7 +41,7 @@ pub enum What {
     Take(Record),
     /// It joins in what the other holder knows.
     Join,
-    /// It tells what it knows.
+    /// It says what it knows.
     Tell,
 }
 
@@ -52,7 +52,7 @@ pub struct Step {
     what: What,
 }
 
-/// The record that some words spell.
+/// Returns the record that some words spell.
 fn record(words: &[&str]) -> Result<Record, Stop> {
     match words {
         ["E", node, seq, tick] => Ok(Record::Edge {
@@ -73,7 +73,7 @@ fn record(words: &[&str]) -> Result<Record, Stop> {
     }
 }
 
-/// What some words bid a holder do.
+/// Returns what some words bid a holder do.
 fn bidden(words: &[&str]) -> Result<What, Stop> {
     match words {
         ["join"] => Ok(What::Join),
@@ -82,7 +82,7 @@ fn bidden(words: &[&str]) -> Result<What, Stop> {
     }
 }
 
-/// The step that some words spell.
+/// Returns the step that some words spell.
 fn step_of(words: &[&str]) -> Result<Step, Stop> {
     match words {
         ["+", rest @ ..] => Ok(Step {
@@ -96,7 +96,7 @@ fn step_of(words: &[&str]) -> Result<Step, Stop> {
     }
 }
 
-/// The steps of a row.
+/// Returns the steps of a row.
 pub fn steps(alloc: Global, row: &str) -> Result<Vec<Step>, Stop> {
     let mut all = Vec::new(alloc);
     for part in row.split(";") {
@@ -106,7 +106,7 @@ pub fn steps(alloc: Global, row: &str) -> Result<Vec<Step>, Stop> {
     Ok(all)
 }
 
-/// Tells a node's run length, horizon and wave.
+/// Writes a node's run length, horizon and wave.
 fn tell_node<F: Form>(alloc: Global, form: &F, node: u8, said: &mut String) -> Result<(), Stop>
     requires { node < F.count form.now }
 {
@@ -119,7 +119,7 @@ fn tell_node<F: Form>(alloc: Global, form: &F, node: u8, said: &mut String) -> R
     Ok(())
 }
 
-/// Tells the records of a holder, and what they say of each node that they name.
+/// Writes the records of a holder, and what they say of each node that they name.
 fn tell<F: Form>(alloc: Global, form: &F, said: &mut String) -> Result<(), Stop>
     requires { F.count form.now ≡ MOST_NODES }
 {
@@ -136,7 +136,7 @@ fn tell<F: Form>(alloc: Global, form: &F, said: &mut String) -> Result<(), Stop>
     Ok(())
 }
 
-/// One holder does something, beside the other.
+/// Lets one holder do something, beside the other.
 fn act<F: Form>(
     alloc: Global,
     holder: &mut F,
@@ -161,7 +161,7 @@ fn act<F: Form>(
     Ok(())
 }
 
-/// What two holders of one form tell, step by step, and the first of them at the end.
+/// Returns what two holders of one form answer, step by step, and the first of them at the end.
 pub fn answers<F: Form + Drop>(alloc: Global, steps: &[Step]) -> Result<String, Stop> {
     let mut first = F::empty(alloc, MOST_NODES)?;
     let mut second = F::empty(alloc, MOST_NODES)?;

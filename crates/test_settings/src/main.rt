@@ -1,7 +1,8 @@
-//! `test_settings`: rows about settings.
+//! `test_settings`: answers rows about settings that are listed and their plans.
 //!
-//! Standard input has blocks with a line `---` between two of them, each a text, a line `asked`, and requests, a line each. What is answered to a
-//! request follows it. A request is a word and the picoseconds that a tick takes: `all`, `plan`, or a number, the most settings to be listed.
+//! Standard input has blocks with a line `---` between two of them. Each is a text, a line `asked`, and requests, a line each. What is
+//! answered to a request follows it. A request is a word and the picoseconds that a tick takes: `all`, `plan`, or a number, the most
+//! settings to be listed.
 #![tactic(auto)]
 
 use anyhow::Result;
@@ -20,7 +21,7 @@ fn main(rt: HostRuntime) -> Result<()> {
     Ok(())
 }
 
-/// What is answered to the requests of a block.
+/// Returns what is answered to the requests of a block.
 fn answers(alloc: Global, block: &str) -> Result<String, AllocError> {
     let mut said = String::new(alloc);
     let Some((text, requests)) = block.split_once("asked\n") else {
@@ -33,7 +34,7 @@ fn answers(alloc: Global, block: &str) -> Result<String, AllocError> {
     Ok(said)
 }
 
-/// What is to be shown.
+/// Returns what is to be shown.
 fn shown(word: &str) -> Shown {
     if word == "plan" {
         return Shown::Plan;
@@ -44,7 +45,7 @@ fn shown(word: &str) -> Shown {
     }
 }
 
-/// What is answered to one request: what was written, or the line of the fault.
+/// Returns what is answered to one request: what was written, or the line of the fault.
 fn answer(alloc: Global, request: &str, text: &str) -> Result<String, AllocError> {
     let (word, tick) = request.split_once(' ').unwrap_or((request, "1000"));
     let mut reader = ScriptedReader {

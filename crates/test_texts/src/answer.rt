@@ -10,7 +10,7 @@ use std::sync::Wait;
 use std::thread::Threads;
 use wl_device::{ScriptedReader, Then};
 
-/// The answer to a text that comes by so many bytes a call.
+/// Returns the answer to a text that comes by `step` bytes a call.
 fn answer_by<H: Threads + Wait + Sync>(
     rt: &H,
     alloc: Global,
@@ -46,7 +46,7 @@ fn answer_by<H: Threads + Wait + Sync>(
     }
 }
 
-/// The answer to a text that comes whole, by one byte a call and by seven.
+/// Returns the answer to a text that comes whole, by one byte a call and by seven.
 pub fn answer<H: Threads + Wait + Sync>(
     rt: &H,
     alloc: Global,
@@ -63,12 +63,12 @@ pub fn answer<H: Threads + Wait + Sync>(
     Ok(whole)
 }
 
-/// The line of a fault.
+/// Returns the line of a fault.
 pub fn fault_line<F: Display + Drop>(alloc: Global, fault: F) -> Result<String, AllocError> {
     format!(in alloc; "fault: {fault}\n")
 }
 
-/// Numbers, each a word; `None` where one is none.
+/// Returns Numbers, each a word; `None` if one is none.
 pub fn numbers(alloc: Global, words: &str) -> Result<Option<Vec<u64>>, AllocError> {
     let mut numbers = Vec::new(alloc);
     for word in words.split_whitespace() {
@@ -80,7 +80,7 @@ pub fn numbers(alloc: Global, words: &str) -> Result<Option<Vec<u64>>, AllocErro
     Ok(Some(numbers))
 }
 
-/// The answer where the numbers after a word are none, or too great or too few.
+/// Returns the answer if the numbers after a word are none, too great or too few.
 pub fn wrong_numbers(alloc: Global) -> Result<String, AllocError> {
     String::from_str(alloc, "row: the numbers behind the word\n")
 }

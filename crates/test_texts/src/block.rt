@@ -38,7 +38,7 @@ pub enum Text {
     Wrong(&'static str),
 }
 
-/// The first word of a line and what follows it.
+/// Returns the first word of a line and what follows it.
 fn first_word(line: &str) -> (&str, &str) {
     match line.split_once(" ") {
         Some(parts) => parts,
@@ -46,7 +46,7 @@ fn first_word(line: &str) -> (&str, &str) {
     }
 }
 
-/// Whether a line begins with a word, and what follows it.
+/// Returns whether a line begins with a word, and what follows it.
 fn after_word<'a>(line: &'a str, word: &str) -> (bool, &'a str) {
     match line.strip_prefix(word) {
         Some(rest) => (true, rest),
@@ -55,7 +55,7 @@ fn after_word<'a>(line: &'a str, word: &str) -> (bool, &'a str) {
 }
 
 impl<'a> Block<'a> {
-    /// What this line says.
+    /// Returns what this line says.
     pub fn of(line: &'a str) -> Block<'a> {
         let (each, line) = after_word(line, "each ");
         let (fails, line) = after_word(line, "failing ");
@@ -78,7 +78,7 @@ impl<'a> Block<'a> {
     }
 }
 
-/// The text of a block with these lines.
+/// Returns the text of a block with these lines.
 pub fn text_of(
     alloc: Global,
     block: &Block,

@@ -4,7 +4,7 @@ use crate::block::Text;
 use crate::spelling::spell_line;
 use std::alloc::{AllocError, Global};
 
-/// What letters spell, or `None` where that is no text.
+/// Returns what letters spell, or `None` if that is no text.
 fn spelled(alloc: Global, letters: &str) -> Result<Option<String>, AllocError> {
     let mut bytes = Vec::new(alloc);
     if !spell_line(&mut bytes, letters)? {
@@ -13,7 +13,7 @@ fn spelled(alloc: Global, letters: &str) -> Result<Option<String>, AllocError> {
     Ok(String::from_utf8(bytes).ok())
 }
 
-/// The text with these lines in the place of the first line that is `old`; `None` where there is no such line.
+/// Returns the text with these lines in the place of the first line that is `old`; `None` if there is no such line.
 fn replaced(alloc: Global, text: &str, old: &str, new: &str) -> Result<Option<String>, AllocError> {
     let mut made = String::new(alloc);
     let mut found = false;
@@ -32,7 +32,7 @@ fn replaced(alloc: Global, text: &str, old: &str, new: &str) -> Result<Option<St
     Ok(Some(made))
 }
 
-/// The text after one change.
+/// Returns the text after one change.
 fn change(alloc: Global, text: &str, line: &str) -> Result<Option<String>, AllocError> {
     if let Some(old) = line.strip_prefix("- ") {
         return replaced(alloc, text, old, "");
@@ -53,7 +53,7 @@ fn change(alloc: Global, text: &str, line: &str) -> Result<Option<String>, Alloc
     replaced(alloc, text, old, new.as_str())
 }
 
-/// The text after all changes.
+/// Returns the text after all changes.
 pub fn changed(alloc: Global, text: &str, lines: &str) -> Result<Text, AllocError> {
     let mut made = String::from_str(alloc, text)?;
     for line in lines.lines() {

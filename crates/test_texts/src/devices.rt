@@ -8,7 +8,7 @@ use wl_device::{
 use wl_record::{read_records, text_of, write_records};
 use wl_record_core::Record;
 
-/// The bytes that come of a text, and how its reading ended: `MOST STEP`, where the reader gives `STEP` bytes a call.
+/// Returns the bytes that come of a text, and how its reading ended: `MOST STEP`; the reader gives `STEP` bytes a call.
 pub fn read_whole(
     alloc: Global,
     reader: &ScriptedReader,
@@ -32,8 +32,8 @@ pub fn read_whole(
     }
 }
 
-/// How many calls are made once a text has gone out: `CALLS STEP`, of which so many calls were made before. The writer has room for all, or, with
-/// `CALLS STEP ROOM`, for so many bytes, and is interrupted for ever after them.
+/// Returns how many calls are made once a text has gone out: `CALLS STEP`, where CALLS calls were made before. The writer has room for all.
+/// With `CALLS STEP ROOM` it has room for ROOM bytes, and is interrupted for ever after them.
 pub fn sent(alloc: Global, text: &[u8], words: &str) -> Result<String, AllocError> {
     let Some(numbers) = numbers(alloc, words)? else {
         return wrong_numbers(alloc);
@@ -50,7 +50,7 @@ pub fn sent(alloc: Global, text: &[u8], words: &str) -> Result<String, AllocErro
     }
 }
 
-/// The calls that are made once a piece has gone out, or `None` where it doesn't go out whole.
+/// Returns the calls that are made once a piece has gone out, or `None` if it doesn't go out whole.
 #[tactic(auto, unfolding(wl_device::specs::Limits::most_calls))]
 fn calls_made(piece: &[u8], writer: &mut ScriptedWriter, calls: u64) -> Option<u32> {
     if calls > u64::from(MOST_CALLS) {
@@ -68,7 +68,8 @@ fn writer(alloc: Global, room: usize, step: usize, then: Then) -> ScriptedWriter
     }
 }
 
-/// What goes out of the text of some records to writers with little room: `THEN STEP ROOM..`, a line for each room.
+/// Returns what goes out of the text of some records to writers with little room: `THEN STEP ROOM..`, a line for each room. THEN says how a
+/// writer goes on without room.
 pub fn fronts(
     alloc: Global,
     reader: &mut ScriptedReader,
@@ -118,7 +119,7 @@ fn push_front(
     )
 }
 
-/// How a writing ended.
+/// Returns how a writing ended.
 fn word_of(ended: Result<(), WriteFault>) -> &'static str {
     match ended {
         Ok(()) => "written",

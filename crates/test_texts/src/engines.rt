@@ -10,7 +10,7 @@ use wl_plan::{GroupingFault, PlanFault};
 use wl_record::TextFault;
 use wl_setup::SetupFault;
 
-/// A writer that takes whatever is written, by eleven bytes a call.
+/// Returns a writer that takes whatever is written, by eleven bytes a call.
 fn ample(alloc: Global) -> ScriptedWriter {
     ScriptedWriter {
         written: Vec::new(alloc),
@@ -20,7 +20,7 @@ fn ample(alloc: Global) -> ScriptedWriter {
     }
 }
 
-/// What was written, and after it the line of the fault that an engine ended with.
+/// Returns what was written, and after it the line of the fault that an engine ended with.
 fn said(
     alloc: Global,
     ended: Result<(), RunFault>,
@@ -37,14 +37,15 @@ fn said(
     Ok(said)
 }
 
-/// The canonical text of a record text.
+/// Returns the canonical text of a record text.
 pub fn merge(alloc: Global, reader: &mut ScriptedReader) -> Result<String, AllocError> {
     let mut writer = ample(alloc);
     let ended = merge_run(alloc, reader, &mut writer);
     said(alloc, ended, writer)
 }
 
-/// What goes out of the canonical text of a record text to writers that fail after 0 bytes, after 1, and so on up to all of it: a line for each.
+/// Returns what goes out of the canonical text of a record text to writers that fail after 0 bytes, after 1, and so on up to all of it.
+/// Each has a line.
 pub fn merge_fronts(alloc: Global, reader: &ScriptedReader) -> Result<String, AllocError> {
     let mut whole = ample(alloc);
     let _ = merge_run(alloc, &mut again(reader), &mut whole);
@@ -69,7 +70,7 @@ pub fn merge_fronts(alloc: Global, reader: &ScriptedReader) -> Result<String, Al
     Ok(shown)
 }
 
-/// A reader of the same text from its beginning.
+/// Returns a reader of the same text from its beginning.
 fn again<'a>(reader: &ScriptedReader<'a>) -> ScriptedReader<'a> {
     ScriptedReader {
         text: reader.text,
@@ -78,35 +79,35 @@ fn again<'a>(reader: &ScriptedReader<'a>) -> ScriptedReader<'a> {
     }
 }
 
-/// What a record text tells of each node, and up to when.
+/// Returns what a record text says of each node, and up to which tick.
 pub fn horizon(alloc: Global, reader: &mut ScriptedReader) -> Result<String, AllocError> {
     let mut writer = ample(alloc);
     let ended = horizon_run(alloc, reader, &mut writer);
     said(alloc, ended, writer)
 }
 
-/// The check of a plan.
+/// Returns the check of a plan.
 pub fn check(alloc: Global, reader: &mut ScriptedReader) -> Result<String, AllocError> {
     let mut writer = ample(alloc);
     let ended = check_run(alloc, reader, &mut writer);
     said(alloc, ended, writer)
 }
 
-/// The records of a plan.
+/// Returns the records of a plan.
 pub fn records(alloc: Global, reader: &mut ScriptedReader) -> Result<String, AllocError> {
     let mut writer = ample(alloc);
     let ended = records_run(alloc, reader, &mut writer);
     said(alloc, ended, writer)
 }
 
-/// The report of a plan.
+/// Returns the report of a plan.
 pub fn run(alloc: Global, reader: &mut ScriptedReader) -> Result<String, AllocError> {
     let mut writer = ample(alloc);
     let ended = plan_run(alloc, reader, &mut writer);
     said(alloc, ended, writer)
 }
 
-/// The report of a plan by so many workers.
+/// Returns the report of a plan by this many workers.
 pub fn workers<H: Threads + Wait + Sync>(
     rt: &H,
     alloc: Global,
@@ -121,7 +122,7 @@ pub fn workers<H: Threads + Wait + Sync>(
     said(alloc, ended, writer)
 }
 
-/// Faults that no text brings about, as they are shown.
+/// Returns the faults that no text brings about, as they are shown.
 pub fn faults(alloc: Global) -> Result<String, AllocError> {
     let (text, setup, grouping) = (TextFault::Memory, SetupFault::Memory, GroupingFault::Memory);
     let mut shown = format!(in alloc; "{text}\n{setup}\n{grouping}\n")?;

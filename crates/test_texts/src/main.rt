@@ -1,19 +1,21 @@
-//! Reads rows on standard input, and writes what is answered to each.
+//! `text_rows`: answers rows about record texts, plan texts and the engines.
 //!
-//! A row is a block of lines. Its first line names what is asked, its last one is `---`, and its text stands between them. What is answered
-//! follows on standard output, then a line `---`. Lines between the blocks that are empty or begin with `#` are written as they are, so that
-//! rows have names.
+//! It reads them on standard input, and writes what is answered to each.
+//!
+//! A row is a block of lines. Its first line names what is asked, its last one is `---`, and its text is between them. What is answered
+//! follows on standard output, then a line `---`. Lines between the blocks that are empty or begin with `#` are written as they are, so
+//! that rows have names.
 //!
 //! The first line is a word and, after it, what it needs: `read_plan`, `disturbed 1 12070 12071`. Before it may stand, in this order:
 //! - `each`: every line of the text is a row of its own. What is answered to it follows the line itself after `> `.
-//! - `failing`: the reader fails after the text, where else it ends.
+//! - `failing`: the reader fails after the text, in place of its end.
 //! - `raw`: the text is what the lines spell, without their ends: `\n`, `\r`, `\t`, `\\` and `\x41` are a newline, a carriage return, a tab, a
-//!   backslash and the byte 0x41. A line `41 * LETTERS` stands for as many times LETTERS, in which `\i` is the number of the time, from 0 on.
-//! - `of NAME`: the text is one that a block `keep NAME` gave, after the changes of the lines, of which ` ;; ` parts several on a line:
+//!   backslash and the byte 0x41. A line `41 * LETTERS` means LETTERS 41 times, in which `\i` is the number of the time, from 0 on.
+//! - `of NAME`: the text is one that a block `keep NAME` gave, after the changes of the lines; ` ;; ` parts several on a line:
 //!   `OLD => LETTERS` puts what LETTERS spell in the place of the first line OLD, `- OLD` takes it away, `+ LETTERS` goes after the last line.
 //!
-//! Each text is read whole, by one byte a call and by seven, and the answer must be the same. An answer that begins with `row: ` says what is
-//! wrong with the row itself.
+//! Each text is read whole, by one byte a call and by seven, and the answer must be the same. An answer that begins with `row: ` says what
+//! is wrong with the row itself.
 #![tactic(auto)]
 
 mod answer;

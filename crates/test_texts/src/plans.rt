@@ -8,7 +8,7 @@ use wl_plan::Grouping;
 use wl_setup::{read_plan, read_text};
 use wl_topology::MOST_NODES;
 
-/// `ok`, or the fault of a plan's text.
+/// Returns `ok`, or the fault of a plan's text.
 pub fn text_fault(alloc: Global, reader: &mut ScriptedReader) -> Result<String, AllocError> {
     match read_text(alloc, reader) {
         Ok(_) => String::from_str(alloc, "ok\n"),
@@ -16,7 +16,7 @@ pub fn text_fault(alloc: Global, reader: &mut ScriptedReader) -> Result<String, 
     }
 }
 
-/// What a plan's text says, key by key.
+/// Returns what a plan's text says, key by key.
 pub fn plan_text(alloc: Global, reader: &mut ScriptedReader) -> Result<String, AllocError> {
     match read_text(alloc, reader) {
         Ok(text) => shown_text(alloc, &text),
@@ -24,7 +24,7 @@ pub fn plan_text(alloc: Global, reader: &mut ScriptedReader) -> Result<String, A
     }
 }
 
-/// `ok`, or the fault of a plan.
+/// Returns `ok`, or the fault of a plan.
 pub fn plan_fault(alloc: Global, reader: &mut ScriptedReader) -> Result<String, AllocError> {
     match read_plan(alloc, reader) {
         Ok(_) => String::from_str(alloc, "ok\n"),
@@ -32,7 +32,7 @@ pub fn plan_fault(alloc: Global, reader: &mut ScriptedReader) -> Result<String, 
     }
 }
 
-/// A plan, part by part.
+/// Returns a plan, part by part.
 pub fn plan(alloc: Global, reader: &mut ScriptedReader) -> Result<String, AllocError> {
     match read_plan(alloc, reader) {
         Ok((plan, names)) => shown_plan(alloc, &plan, &names),
@@ -40,7 +40,7 @@ pub fn plan(alloc: Global, reader: &mut ScriptedReader) -> Result<String, AllocE
     }
 }
 
-/// Whether the node that is the first number is disturbed at each of the ticks that follow it.
+/// Returns whether the node that is the first number is disturbed at each of the ticks that follow it.
 pub fn disturbances(
     alloc: Global,
     reader: &mut ScriptedReader,
@@ -68,7 +68,7 @@ pub fn disturbances(
     }
 }
 
-/// The grouping of a plan that these numbers make.
+/// Returns the grouping of a plan that these numbers make.
 pub fn groups(
     alloc: Global,
     reader: &mut ScriptedReader,
@@ -93,8 +93,8 @@ pub fn groups(
     }
 }
 
-/// A grouping of at most 16 nodes: its groups and their nodes, one group more than there are, then each node's group, and one node more
-/// than there are.
+/// Returns a grouping of at most 16 nodes: its groups and their nodes, one group more than there are, then each node's group, and one node
+/// more than there are.
 fn shown_grouping(alloc: Global, grouping: &Grouping, most: u8) -> Result<String, AllocError> {
     let (nodes, groups) = (grouping.nodes(), grouping.groups());
     if nodes > MOST_NODES {

@@ -5,7 +5,7 @@ use std::alloc::{AllocError, Global};
 use wl_device::ScriptedReader;
 use wl_record::{read_records, text_of};
 
-/// The records of a text, each shown on a line.
+/// Returns the records of a text, each shown on a line.
 pub fn records(alloc: Global, reader: &mut ScriptedReader) -> Result<String, AllocError> {
     match read_records(alloc, reader) {
         Ok(records) => {
@@ -19,7 +19,7 @@ pub fn records(alloc: Global, reader: &mut ScriptedReader) -> Result<String, All
     }
 }
 
-/// The text that is written of the records of a text.
+/// Returns the text that is written of the records of a text.
 pub fn records_written(alloc: Global, reader: &mut ScriptedReader) -> Result<String, AllocError> {
     match read_records(alloc, reader) {
         Ok(records) => {
@@ -33,7 +33,7 @@ pub fn records_written(alloc: Global, reader: &mut ScriptedReader) -> Result<Str
     }
 }
 
-/// Of each record of a text the slot that it speaks of.
+/// Returns of each record of a text the slot that it is about.
 pub fn slots(alloc: Global, reader: &mut ScriptedReader) -> Result<String, AllocError> {
     match read_records(alloc, reader) {
         Ok(records) => {
@@ -48,8 +48,8 @@ pub fn slots(alloc: Global, reader: &mut ScriptedReader) -> Result<String, Alloc
     }
 }
 
-/// Of each record of a text whether it is true: the first number tells how many nodes there are, the others are the changes of the node
-/// that it names.
+/// Returns of each record of a text whether it is true. The first number says how many nodes there are, the others are the changes of the
+/// node that it names.
 pub fn truths(
     alloc: Global,
     reader: &mut ScriptedReader,

@@ -17,7 +17,7 @@ pub struct Rows {
 }
 
 impl Rows {
-    /// No block is open, and no text is kept.
+    /// Returns the state in which no block is open, and no text is kept.
     pub fn new(alloc: Global) -> Rows {
         Rows {
             alloc,
@@ -54,7 +54,8 @@ impl Rows {
         Ok(String::new(alloc))
     }
 
-    /// What is answered to the block that ends here. One that keeps its text answers nothing.
+    /// Returns what is answered to the block that ends here. One that keeps its text answers
+    /// nothing.
     fn close<H: Threads + Wait + Sync>(
         &mut self,
         rt: &H,
@@ -82,7 +83,7 @@ impl Rows {
     }
 }
 
-/// What is answered to a block with these lines.
+/// Returns what is answered to a block with these lines.
 fn answer_to<H: Threads + Wait + Sync>(
     rt: &H,
     alloc: Global,

@@ -6,7 +6,7 @@ use wl_plan::Plan;
 use wl_setup::{ClockText, FrameText, Names, NodeText, PlanText, RateText};
 use wl_topology::Topology;
 
-/// What a plan's text says: a line for the top table, and one for each table after it.
+/// Returns what a plan's text says: a line for the top table, and one for each table after it.
 pub fn shown_text(alloc: Global, plan: &PlanText) -> Result<String, AllocError> {
     let (version, end, per) = (plan.version, plan.end, plan.per);
     let mut shown = format!(in alloc; "version {version} end {end} per {per}\n")?;
@@ -35,7 +35,7 @@ fn push_node_text(shown: &mut String, node: &NodeText) -> Result<(), AllocError>
     writeln!(shown, "x {x} out {out_delay} in {in_delay}")
 }
 
-/// A rate, and from which quantum on, where that is not the first.
+/// Returns a rate, and from which quantum on, if that is not the first.
 fn push_rate_text(shown: &mut String, rate: &RateText) -> Result<(), AllocError> {
     if rate.from > 0 {
         write!(shown, "from {} ", rate.from)?;
@@ -55,7 +55,7 @@ fn push_frame_text(shown: &mut String, frame: &FrameText) -> Result<(), AllocErr
     )
 }
 
-/// A plan: its end, its nodes with their frames, how long a level takes between each two, and its disturbances.
+/// Returns a plan: its end, its nodes with their frames, how long a level takes between each two, and its disturbances.
 pub fn shown_plan(alloc: Global, plan: &Plan, names: &Names) -> Result<String, AllocError> {
     let (end, count) = (plan.end, names.len());
     let mut shown = format!(in alloc; "end {end} names {count}\n")?;
@@ -75,7 +75,7 @@ pub fn shown_plan(alloc: Global, plan: &Plan, names: &Names) -> Result<String, A
     Ok(shown)
 }
 
-/// A node by the ticks of four of its quanta, and its segments.
+/// Returns a node by the ticks of four of its quanta, and its segments.
 fn push_setup(shown: &mut String, node: &NodeSetup) -> Result<(), AllocError> {
     let clock = &node.clock;
     for k in [0u64, 1, 2, 10_000] {

@@ -4,7 +4,7 @@ ghost use Rattle.std.specs.Prelude.{◌<◌, IfSome};
 use crate::block::Text;
 use std::alloc::{AllocError, Global};
 
-/// What stands before the next letter.
+/// What is before the next letter.
 #[derive(Clone, Copy, Debug)]
 enum Before {
     Nothing,
@@ -15,7 +15,7 @@ enum Before {
     HexDigit(u8),
 }
 
-/// The value of a hexadecimal digit.
+/// Returns the value of a hexadecimal digit.
 fn hex(letter: u8) -> Option<u8>
     ensures { IfSome result (λ value. value < 16) }
 {
@@ -76,7 +76,7 @@ fn spell(text: &mut Vec<u8>, letters: &str, number: u32) -> Result<bool, AllocEr
     Ok(matches!(before, Before::Nothing))
 }
 
-/// How often a line is to be spelled, and its letters.
+/// Returns how often a line is to be spelled, and its letters.
 fn times(line: &str) -> (u32, &str) {
     if let Some((count, letters)) = line.split_once(" * ") {
         if let Ok(count) = count.parse::<u32>() {
@@ -97,7 +97,7 @@ pub fn spell_line(text: &mut Vec<u8>, line: &str) -> Result<bool, AllocError> {
     Ok(true)
 }
 
-/// What the lines spell, without their ends.
+/// Returns what the lines spell, without their ends.
 pub fn spell_lines(alloc: Global, lines: &str) -> Result<Text, AllocError> {
     let mut text = Vec::new(alloc);
     for line in lines.lines() {

@@ -1,15 +1,14 @@
 //! `test_wire`: plays machines on one wire, one row a line.
 //!
-//! Blank lines and lines that begin with `#` are written back as they are. Of a row the whole line is written back,
-//! then ` = ` and the answer; a row that can't be read is answered `unread`.
+//! Blank lines and lines that begin with `#` are written back as they are. Of a row the whole line is written back, then ` = ` and the
+//! answer; a row that can't be read is answered `unread`.
 //!
-//! A row is `HEAD.. : WORD..`, with a head for each machine: `-` for none, or the identifier of a frame in
-//! hexadecimal (eight digits: extended), with `r` before it for a remote frame, and after it a dot and its bytes, as
-//! in `100.a5ff`. All machines are idle at first, but that one with `~` before its head integrates.
+//! A row is `HEAD.. : WORD..`, with a head for each machine. A head is `-` for none, or the identifier of a frame in hexadecimal (eight
+//! digits: extended), with `r` before it for a remote frame, and after it a dot and its bytes, as in `100.a5ff`. All machines are idle at
+//! first, except one with `~` before its head, which integrates.
 //!
-//! Words: `53` for so many bits of the bus; `2+3` for three recessive bits that machine 2 samples by itself; `2=100`
-//! for another head of machine 2. The answer has what happened, with the number of the machine and of the bit of the
-//! bus, and the frames that were completed.
+//! Words: `53` for 53 bits of the bus; `2+3` for three recessive bits that machine 2 samples by itself; `2=100` for another head of machine
+//! 2. The answer has what happened, with the number of the machine and of the bit of the bus, and the frames that were completed.
 #![tactic(auto)]
 
 mod wire;
@@ -48,7 +47,7 @@ impl From<ParseIntError> for Stop {
     }
 }
 
-/// A line with its answer.
+/// Returns a line with its answer.
 fn answer(alloc: Global, line: &str) -> Result<String, Stop> {
     let mut out = String::from_str(alloc, line)?;
     if line.is_empty() || line.starts_with('#') {
@@ -65,7 +64,7 @@ fn answer(alloc: Global, line: &str) -> Result<String, Stop> {
     Ok(out)
 }
 
-/// An answer, or the word for none.
+/// Returns an answer, or the word for none.
 fn or_nothing(said: &str) -> &str {
     if said.is_empty() { "nothing" } else { said }
 }

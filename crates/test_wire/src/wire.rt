@@ -17,7 +17,7 @@ struct Station {
 }
 
 impl Station {
-    /// A machine that is idle, or that integrates still.
+    /// Returns a machine that is idle, or that still integrates.
     fn new(head: Option<Frame>, integrates: bool) -> Station {
         let mut station = Station {
             machine: Machine::new(),
@@ -93,7 +93,7 @@ fn head(alloc: Global, word: &str) -> Result<Option<Frame>, Stop> {
     Ok(Some(frame(id, remote, bytes.as_slice())?))
 }
 
-/// The bytes of hexadecimal digits, two for each.
+/// Returns the bytes of hexadecimal digits, two for each.
 fn bytes(alloc: Global, spelled: &str) -> Result<Vec<u8>, Stop> {
     let mut bytes = Vec::new(alloc);
     let mut high = None;
@@ -114,7 +114,7 @@ fn byte_of(high: u32, low: u32) -> u8 {
     (high % 16 * 16 + low % 16) as u8
 }
 
-/// The frame of an identifier as it is written: one of eight digits is extended.
+/// Returns the frame of an identifier as it is written: one of eight digits is extended.
 fn frame(id: &str, remote: bool, bytes: &[u8]) -> Result<Frame, Stop> {
     let number = u32::from_str_radix(id, 16)?;
     let dlc = u32::try_from(bytes.len()).map_err(|_| Stop::Unread)?;
@@ -159,14 +159,14 @@ impl Wire {
         Ok(())
     }
 
-    /// The machine of a number, from 1 on.
+    /// Returns the machine of a number, from 1 on.
     fn at(&mut self, number: &str) -> Result<&mut Station, Stop> {
         let number = number.parse::<usize>()?;
         let place = number.checked_sub(1).ok_or(Stop::Unread)?;
         self.stations.get_mut(place).ok_or(Stop::Unread)
     }
 
-    /// Dominant where some machine drives dominant.
+    /// Returns dominant if some machine drives dominant.
     fn level(&self) -> Level {
         if self.stations.iter().any(|s| s.drive.is_dominant()) {
             Level::Dominant
@@ -175,7 +175,7 @@ impl Wire {
         }
     }
 
-    /// A bit of the bus, which all machines sample.
+    /// Takes a bit of the bus, which all machines sample.
     fn bit(&mut self, out: &mut String) -> Told {
         let level = self.level();
         self.bits = self.bits.saturating_add(1);
@@ -188,7 +188,7 @@ impl Wire {
         Ok(())
     }
 
-    /// A recessive bit that one machine samples by itself.
+    /// Takes a recessive bit that one machine samples by itself.
     fn alone(&mut self, number: &str, out: &mut String) -> Told {
         let bits = self.bits;
         let turn = self.at(number)?.sample(Level::Recessive);

@@ -19,7 +19,7 @@ const NONE_STOPPED: u64 = u64::MAX;
 #[derive(Drop)]
 struct Failing<'s> {
     worker: u8,
-    /// n, from 1; 0 where it never fails.
+    /// n, from 1; 0 if it never fails.
     nth: u64,
     /// How it fails then.
     fault: LinkFault,
@@ -30,7 +30,7 @@ struct Failing<'s> {
 }
 
 impl<'s> Failing<'s> {
-    /// One call more.
+    /// Counts a call, and fails if it is the one that fails.
     fn call(&mut self) -> Result<(), LinkFault>
         ensures worker { self.new.worker ≡ self.old.worker }
     {
@@ -74,7 +74,7 @@ impl<'s> Link for Failing<'s> {
     }
 }
 
-/// In how many of ten runs by 2 workers, of which this one's link is given up at its nth call, that worker is answered.
+/// Returns in how many of ten runs by 2 workers the worker is named whose link is given up at its nth call.
 pub fn runs_gone<R: Threads + Wait + Sync>(
     rt: &R,
     alloc: Global,
@@ -92,7 +92,7 @@ pub fn runs_gone<R: Threads + Wait + Sync>(
     Ok(answered)
 }
 
-/// One run by 2 workers, of which this one's link is given up at its nth call. Whether that worker is answered.
+/// Runs a plan by 2 workers; the link of one is given up at its nth call. Returns whether that worker is named.
 fn run_gone<R: Threads + Wait + Sync>(
     rt: &R,
     alloc: Global,
@@ -108,7 +108,7 @@ fn run_gone<R: Threads + Wait + Sync>(
     Ok(ended == Some(Fault::Worker(failing)))
 }
 
-/// What is answered to 2 workers whose links fail at their first calls by these faults.
+/// Returns what is answered to 2 workers whose links fail at their first calls by these faults.
 pub fn fault_of_two<R: Threads + Wait + Sync>(
     rt: &R,
     alloc: Global,
@@ -120,7 +120,7 @@ pub fn fault_of_two<R: Threads + Wait + Sync>(
     run_failing(rt, alloc, plan, (1, 1), faults)
 }
 
-/// The fault of 2 workers whose links fail at these calls by these faults; none where they came to their ends.
+/// Returns the fault of 2 workers whose links fail at these calls by these faults; none if they came to their ends.
 fn run_failing<R: Threads + Wait + Sync>(
     rt: &R,
     alloc: Global,

@@ -28,7 +28,7 @@ pub struct LastTurn {
 }
 
 impl LastTurn {
-    /// A gate that was asked no turn.
+    /// Returns a gate that was asked no turn.
     pub fn new(refused: u64) -> LastTurn {
         LastTurn {
             refused,
@@ -36,7 +36,7 @@ impl LastTurn {
         }
     }
 
-    /// The last turn that it was asked; 0 where there was none.
+    /// Returns the last turn that it was asked; 0 if there was none.
     pub fn asked(&self) -> u64 {
         self.asked.load(Ordering::SeqCst)
     }
@@ -49,7 +49,8 @@ impl Gate for LastTurn {
     }
 }
 
-/// A gate that counts turns, and holds one worker before one of its turns for so many polls, and then refuses it: the others sleep by then.
+/// A gate that counts turns, and holds one worker before one of its turns for this many polls, and then refuses it; the others sleep by
+/// then.
 #[derive(Drop)]
 pub struct HeldTurn {
     pub worker: u8,
@@ -77,7 +78,7 @@ pub struct TurnCounts {
 }
 
 impl TurnCounts {
-    /// A gate at which no worker had a turn. Refused only when out of memory.
+    /// Returns a gate at which no worker had a turn. Refused only when out of memory.
     pub fn new(alloc: Global) -> Result<TurnCounts, AllocError> {
         let mut turns = Vec::new(alloc);
         for _ in 0..MOST_WORKERS {
@@ -86,7 +87,7 @@ impl TurnCounts {
         Ok(TurnCounts { turns })
     }
 
-    /// How many turns a worker had so far; 0 for a number above 7.
+    /// Returns how many turns a worker had so far; 0 for a number above 7.
     pub fn of(&self, worker: u8) -> u64 {
         match self.turns.get(usize::from(worker)) {
             Some(count) => count.load(Ordering::SeqCst),
@@ -104,7 +105,7 @@ impl Gate for TurnCounts {
     }
 }
 
-/// A gate that holds workers 0 and 1 in their first turns, each until the other one is in its first turn too. After so many polls it
+/// A gate that holds workers 0 and 1 in their first turns, each until the other one is in its first turn too. After this many polls it
 /// refuses the turn.
 #[derive(Drop)]
 pub struct Overlap {
@@ -114,7 +115,7 @@ pub struct Overlap {
 }
 
 impl Overlap {
-    /// A gate at which no worker had a turn.
+    /// Returns a gate at which no worker had a turn.
     pub fn new(polls: u64) -> Overlap {
         Overlap {
             zero: AtomicU64::new(0),

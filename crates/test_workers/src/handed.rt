@@ -11,7 +11,7 @@ use wl_mail::{MailFault, Post, posts};
 use wl_plan::Plan;
 use wl_worker::{Link, LinkFault};
 
-/// One link gives what node 0 alone emits, and another one brings what there is to a group of node 1, twice, and once more after a restart.
+/// Returns what a link brings to a group of node 1, twice, and once more after a restart; another link gives what node 0 alone emits.
 pub fn tell_handed<L: Link + Drop>(
     alloc: Global,
     plan: &Plan,
@@ -56,7 +56,7 @@ fn give_emitted<L: Link>(alloc: Global, group: &Group, link: &mut L) -> Result<(
     link.give(alloc, group.emitted())
 }
 
-/// What a link brings to a group: whether the group knows more.
+/// Returns what a link brings to a group: whether the group knows more.
 fn bring<L: Link>(alloc: Global, group: &mut Group, link: &mut L) -> Result<bool, LinkFault>
     requires { L.is_of link.old group.old.plan }
     ensures same { (p : GivenPlan) → L.is_of link.old p → L.is_of link.new p }
@@ -83,7 +83,7 @@ pub fn run_on(alloc: Global, group: &mut Group) -> Result<(), AllocError>
     Ok(())
 }
 
-/// Up to when a group knows a node; 0 for a number that is no node.
+/// Returns up to which tick a group knows a node; 0 for a number that is no node.
 pub fn horizon_of(group: &Group, node: u8) -> u64 {
     if node < group.replica().nodes() {
         group.replica().horizon(node)
@@ -92,7 +92,7 @@ pub fn horizon_of(group: &Group, node: u8) -> u64 {
     }
 }
 
-/// How many quanta a member has run; 0 for a node that is none.
+/// Returns how many quanta a member has run; 0 for a node that is none.
 fn quanta_of(group: &Group, node: u8) -> u64 {
     if group.has(node) {
         group.node(node).quanta()
@@ -101,7 +101,7 @@ fn quanta_of(group: &Group, node: u8) -> u64 {
     }
 }
 
-/// A letter of the plan with its end one tick later comes to a group of node 0 of the plan.
+/// Returns what a letter of another plan is to a group of node 0: the same plan with its end one tick later.
 pub fn tell_foreign<R: Wait>(rt: &R, alloc: Global, plan: &Plan) -> Result<String>
     requires { IsChecked plan.now }
 {
@@ -140,7 +140,8 @@ pub fn post_emitted<R: Wait>(
     post.send(rt, alloc, group.plan(), group.emitted())
 }
 
-/// Whether the next letter of a post is foreign to a group of node 0, and whether that group is then as it was: what it knows, and its quanta.
+/// Returns whether the next letter of a post is foreign to a group of node 0, and whether that group is then as it was: what it knows, and
+/// its quanta.
 fn receive_one<R: Wait>(
     rt: &R,
     alloc: Global,
@@ -162,7 +163,7 @@ fn receive_one<R: Wait>(
     ))
 }
 
-/// Whether the next letter of a post is foreign to a group.
+/// True if the next letter of a post is foreign to a group.
 fn is_foreign<R: Wait>(rt: &R, alloc: Global, group: &mut Group, post: &mut Post) -> bool {
     post.receive(rt, alloc, group) == Err(MailFault::Foreign)
 }

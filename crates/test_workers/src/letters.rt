@@ -10,7 +10,7 @@ use wl_group::{Group, first_silence};
 use wl_mail::{Hold, MailFault, Post, posts};
 use wl_plan::Plan;
 
-/// Lets posts exchange letters of a plan, and tells what they answer, line by line.
+/// Lets posts exchange letters of a plan, and says what they answer, line by line.
 pub fn tell_posts<R: Wait>(rt: &R, alloc: Global, plan: &Plan) -> Result<String>
     requires { IsChecked plan.now }
 {
@@ -33,7 +33,7 @@ struct Office {
     hold: Hold,
 }
 
-/// The posts of three workers.
+/// Returns the posts of three workers.
 fn open(alloc: Global) -> Result<Office> {
     let (mut all, hold) = posts(alloc, 3)?;
     let third = last_of(&mut all)?;
@@ -63,7 +63,8 @@ fn send_first<R: Wait>(rt: &R, alloc: Global, plan: &Plan, post: &mut Post) -> R
     post.send(rt, alloc, plan, &[first_silence(plan, 0)])
 }
 
-/// A letter reaches both other workers; the same once more tells them nothing, and neither does a letter of no records.
+/// Writes what one letter is to both other workers: it reaches them; the same once more says nothing new to them, and neither does a letter
+/// of no records.
 fn tell_letters<R: Wait>(rt: &R, alloc: Global, plan: &Plan, told: &mut String) -> Result<()>
     requires checked { IsChecked plan.now }
     requires nodes { 2 ≤ length plan.now.nodes }
@@ -87,7 +88,7 @@ fn send_none<R: Wait>(
     post.send(rt, alloc, plan, &[])
 }
 
-/// Restarts a group, and tells what three letters of a post are to it.
+/// Restarts a group, and says what three letters of a post are to it.
 fn tell_three<R: Wait>(
     rt: &R,
     alloc: Global,
@@ -103,7 +104,7 @@ fn tell_three<R: Wait>(
     Ok(())
 }
 
-/// What comes where ends are given up: a hold keeps the receivers, and a letter that was sent still comes.
+/// Writes what comes if ends are given up: a hold keeps the receivers, and a letter that was sent still comes.
 fn tell_gone<R: Wait>(rt: &R, alloc: Global, plan: &Plan, told: &mut String) -> Result<()>
     requires checked { IsChecked plan.now }
     requires nodes { 2 ≤ length plan.now.nodes }
@@ -120,7 +121,7 @@ fn tell_gone<R: Wait>(rt: &R, alloc: Global, plan: &Plan, told: &mut String) -> 
     tell_last(rt, alloc, plan, third, told)
 }
 
-/// Sends one letter while its readers are held, and tells what comes of another one once they are not. Then the post is given up.
+/// Sends one letter while its readers are held, and writes what comes of another one once they are not. Then the post is given up.
 fn send_unheld<R: Wait>(
     rt: &R,
     alloc: Global,
@@ -137,7 +138,7 @@ fn send_unheld<R: Wait>(
     Ok(sent(send_first(rt, alloc, plan, &mut post)))
 }
 
-/// What a post receives, three times, whose writers were all given up.
+/// Writes what a post receives, three times, whose writers were all given up.
 fn tell_last<R: Wait>(
     rt: &R,
     alloc: Global,
@@ -156,7 +157,7 @@ fn tell_last<R: Wait>(
     Ok(())
 }
 
-/// What a letter of all that node 0 emits tells a group of node 1. Where memory is refused meanwhile, the letter comes again.
+/// Writes what a letter of all that node 0 emits says to a group of node 1. If memory is refused meanwhile, the letter comes again.
 fn tell_many<R: Wait>(rt: &R, alloc: Global, plan: &Plan, told: &mut String) -> Result<()>
     requires checked { IsChecked plan.now }
     requires nodes { 2 ≤ length plan.now.nodes }
@@ -181,8 +182,7 @@ fn send_all<R: Wait>(rt: &R, alloc: Global, plan: &Plan, post: &mut Post) -> Res
     post_emitted(rt, alloc, &group, post)
 }
 
-/// Hands a group the next letter of a post, and tells what came and how many records the group knows then. Answers whether memory was
-/// refused.
+/// Hands a group the next letter of a post, and writes what came and how many records the group knows then. True if memory was refused.
 fn tell_coming<R: Wait>(
     rt: &R,
     alloc: Global,
@@ -197,7 +197,7 @@ fn tell_coming<R: Wait>(
     Ok(answer == Err(MailFault::Memory))
 }
 
-/// What it is called that a letter was sent, or was not.
+/// Returns what it is called that a letter was sent, or was not.
 fn sent(answer: Result<(), MailFault>) -> &'static str {
     match answer {
         Ok(()) => "sent",
@@ -205,7 +205,7 @@ fn sent(answer: Result<(), MailFault>) -> &'static str {
     }
 }
 
-/// What it is called that a letter was taken, or was not.
+/// Returns what it is called that a letter was taken, or was not.
 fn came(answer: Result<bool, MailFault>) -> &'static str {
     match answer {
         Ok(true) => "news",
@@ -214,7 +214,7 @@ fn came(answer: Result<bool, MailFault>) -> &'static str {
     }
 }
 
-/// The name of a fault.
+/// Returns the name of a fault.
 fn named(fault: MailFault) -> &'static str {
     match fault {
         MailFault::Foreign => "Foreign",

@@ -21,7 +21,7 @@ use wl_worker::{
     shape_of_plan, simulate_over,
 };
 
-/// Runs a plan by so many workers, over links of this kind that are made here and watched.
+/// Runs a plan by this many workers, over links of this kind that are made here and watched.
 pub fn run_over<R: Threads + Wait + Sync, G: Gate + Sync>(
     rt: &R,
     alloc: Global,
@@ -69,7 +69,7 @@ fn run_watched<R: Threads + Wait + Sync, L: Link + Send + Drop, G: Gate + Sync>(
     simulate_over(rt, alloc, plan.clone_in(alloc)?, links, gate)
 }
 
-/// Whether a record is true of a plan.
+/// True if a record is true of a plan.
 fn is_true(alloc: Global, plan: &Plan, entry: Record) -> Result<bool, AllocError>
     requires { IsChecked plan.now }
     ensures { IfOk result (λ b. IsTrue b → IsTrueOfPlan plan.now entry) }
@@ -83,8 +83,8 @@ fn is_true(alloc: Global, plan: &Plan, entry: Record) -> Result<bool, AllocError
     Ok(entry.is_true_of(plan.topology.nodes(), changes.as_slice()))
 }
 
-/// Of two links of this kind one gives the silence of a node after so many changes up to tick `until`, and the other one brings what there
-/// is to a group of node 1, twice. Says what came, and up to when the group knows the node then.
+/// Gives by one of two links the silence of a node after some changes up to tick `until`. The other one brings what there is to a group of
+/// node 1, twice. Returns what came, and up to which tick the group knows the node then.
 pub fn tell_silence<R: Wait>(
     rt: &R,
     alloc: Global,
@@ -102,8 +102,8 @@ pub fn tell_silence<R: Wait>(
     tell_links(rt, alloc, plan, kind, Some(entry))
 }
 
-/// Of two links of this kind one gives a record, or what node 0 alone emits where none is named, and the other one brings what there is to a
-/// group of node 1. Says what came.
+/// Gives by one of two links a record, or what node 0 alone emits if none is named. The other one brings what there is to a group of node
+/// 1. Returns what came.
 pub fn tell_links<R: Wait>(
     rt: &R,
     alloc: Global,
@@ -143,7 +143,7 @@ pub fn tell_links<R: Wait>(
     }
 }
 
-/// What `tell_links` says, by these two links.
+/// Returns what `tell_links` says, by these two links.
 fn tell_two<L: Link + Drop>(
     alloc: Global,
     plan: &Plan,
@@ -163,7 +163,7 @@ fn tell_two<L: Link + Drop>(
     }
 }
 
-/// One link gives a record, and another one brings what there is to a group of node 1, twice.
+/// Gives a record by one link, and brings by another one what there is to a group of node 1, twice.
 fn tell_one<L: Link + Drop>(
     alloc: Global,
     plan: &Plan,

@@ -1,24 +1,24 @@
-//! `test_workers`: simulates plans by workers in threads, and compares what they come to with the one-thread simulation.
+//! `test_workers`: simulates plans by workers in threads, and compares their outcomes with the one-thread simulation's.
 //!
 //! Standard input has blocks with a line `---` between two of them. A block has a step a line, then a line `plan`, and the plan's text. The
 //! steps, each answered by a line on standard output:
 //!
 //! - `workers N`: one run by N workers.
-//! - `stop W T N`: one run by N workers, of which a gate refuses worker W its turn T; turns count from 0.
-//! - `again N K`: K runs by N workers, one after another; how many came to what one thread comes to.
-//! - `restart W T U N`: one run by N workers over watched links, of which worker W restarts before its turns T and U; whether both restarts
+//! - `stop W T N`: one run by N workers, in which a gate refuses worker W its turn T; turns count from 0.
+//! - `again N K`: K runs by N workers, one after another; how many had the outcome of one thread.
+//! - `restart W T U N`: one run by N workers over watched links, in which worker W restarts before its turns T and U; whether both restarts
 //!   were asked, and both times its link was rewound and something given next.
-//! - `random N K S`: K runs by N workers, random ones of which restart before random turns; the number S seeds what is random. A run counts
-//!   where at least one restart was asked.
-//! - `hold W T P N`: one run by N workers, of which a gate holds worker W before its turn T for P polls and then refuses it; the others sleep
+//! - `random N K S`: K runs by N workers, of whom random ones restart before random turns; the number S seeds what is random. A run counts
+//!   if at least one restart was asked.
+//! - `hold W T P N`: one run by N workers, in which a gate holds worker W before its turn T for P polls and then refuses it; the others sleep
 //!   by then, and have had a hundred turns at most.
 //! - `turns N K`: one run by N workers; whether each of them had at least K turns.
-//! - `overlap N P`: one run by N workers, of which workers 0 and 1 are each held in their first turn until the other one is in its first
+//! - `overlap N P`: one run by N workers, in which workers 0 and 1 are each held in their first turn until the other one is in its first
 //!   turn too, for at most P polls; then the turn is refused.
 //! - `over N`: one run by N workers, over links that this program makes and watches.
 //! - `count N`: the same, and what was counted: the turns of each worker; and of all together the records that were given, the times that some
 //!   were, the fetches that brought something, and the waits.
-//! - `links I C U`: of two links one gives the silence of node I after C changes up to tick U, where that is true of the plan; what the
+//! - `links I C U`: of two links one gives the silence of node I after C changes up to tick U, if that is true of the plan; what the
 //!   other one brings to a group of node 1, twice, and how far that group knows node I then.
 //! - `handed`: node 0 alone gives what it emits by one link; what another one brings to a group of node 1, twice, and once more after a
 //!   restart and a rewind.
@@ -28,12 +28,12 @@
 //!   from 1 to 10.
 //! - `faults A B`: one run by 2 workers, whose links fail at their first calls: 0 is Foreign, 1 Gone, 2 Memory.
 //! - `letters`: what the posts of three workers answer about the nodes of the plan, on several lines: to a letter of one silence, to the same once
-//!   more and to one of no records; where ends are given up; and to a letter of all that node 0 emits, which has to run to the plan's end without a
+//!   more and to one of no records; when ends are given up; and to a letter of all that node 0 emits, which has to run to the plan's end without a
 //!   word of the others.
 //! - `foreign`: a letter of the plan with its end one tick later, to a group of the plan.
 //!
-//! Links are over a hub; after the word `mail` before a step they are by letters. A run comes to what one thread comes to where its report is
-//! the one-thread simulation's, byte for byte.
+//! Links are over a hub; after the word `mail` before a step they are by letters. A run has the outcome of one thread if its report is the
+//! one-thread simulation's, byte for byte.
 #![tactic(auto)]
 
 mod failing;

@@ -3,13 +3,13 @@
 use std::sync::atomic::{AtomicU64, Ordering};
 use wl_worker::Gate;
 
-/// Of the turns of a worker one in so many is chosen at random.
+/// Of the turns of a worker one in this many is chosen at random.
 const ONE_IN: u64 = 16;
 
-/// One of so many first turns of worker 0 is chosen too, so that no run is without a restart.
+/// One of this many first turns of worker 0 is chosen too, so that no run is without a restart.
 const FIRST_TURNS: u64 = 4;
 
-/// Before which turns of which workers restarts are asked.
+/// The turns of workers before which restarts are asked.
 #[derive(Clone, Copy)]
 pub enum When {
     /// Before none.
@@ -28,7 +28,7 @@ pub struct Restarts {
 }
 
 impl Restarts {
-    /// A gate that has asked none so far.
+    /// Returns a gate that has asked none so far.
     pub fn new(when: When) -> Restarts {
         Restarts {
             when,
@@ -36,7 +36,7 @@ impl Restarts {
         }
     }
 
-    /// How many restarts it asked.
+    /// Returns how many restarts it asked.
     pub fn asked(&self) -> u64 {
         self.asked.load(Ordering::SeqCst)
     }
@@ -60,7 +60,7 @@ impl Gate for Restarts {
     }
 }
 
-/// Whether a turn of a worker is chosen, by a seed.
+/// True if a turn of a worker is chosen, by a seed.
 fn is_chosen(seed: u64, worker: u8, turn: u64) -> bool {
     let number = mixed(seed);
     if worker == 0 && turn == number % FIRST_TURNS {
@@ -69,7 +69,7 @@ fn is_chosen(seed: u64, worker: u8, turn: u64) -> bool {
     mixed(mixed(number ^ u64::from(worker)) ^ turn) % ONE_IN == 0
 }
 
-/// A number that looks random, of each number another one: the generator SplitMix64 (Steele, Lea and Flood 2014).
+/// Returns a number that looks random, of each number another one: the generator SplitMix64 (Steele, Lea and Flood 2014).
 fn mixed(number: u64) -> u64 {
     let a = number.wrapping_add(0x9E37_79B9_7F4A_7C15);
     let b = (a ^ (a >> 30)).wrapping_mul(0xBF58_476D_1CE4_E5B9);

@@ -28,7 +28,7 @@ const MOST_WAITING: u64 = 100;
 /// What a run came to.
 #[derive(Clone, Copy, PartialEq, Eq)]
 enum End {
-    /// What one thread comes to.
+    /// The outcome of one thread.
     AsOneThread,
     /// Another outcome.
     Differs,
@@ -52,7 +52,7 @@ impl Display for End {
     }
 }
 
-/// What a run by this outcome or fault came to, where `alone` is the report of the one-thread simulation.
+/// Returns the end of a run by this outcome or fault; `alone` is the report of the one-thread simulation.
 fn end_of(alloc: Global, alone: &[u8], ran: Result<Outcome, Fault>) -> Result<End, AllocError> {
     match ran {
         Ok(outcome) => {
@@ -65,7 +65,7 @@ fn end_of(alloc: Global, alone: &[u8], ran: Result<Outcome, Fault>) -> Result<En
     }
 }
 
-/// One run by so many workers over this kind of link, each turn of which a gate lets begin or not.
+/// Runs a plan by this many workers over this kind of link; a gate lets each turn begin or not.
 fn run_by<R: Threads + Wait + Sync, G: Gate + Sync>(
     rt: &R,
     alloc: Global,
@@ -84,7 +84,7 @@ fn run_by<R: Threads + Wait + Sync, G: Gate + Sync>(
     end_of(alloc, alone, ran)
 }
 
-/// One run by so many workers.
+/// Runs a plan by this many workers.
 fn run<R: Threads + Wait + Sync>(
     rt: &R,
     alloc: Global,
@@ -135,7 +135,7 @@ fn run<R: Threads + Wait + Sync>(
     })
 }
 
-/// One run by so many workers, of which one restarts before two turns.
+/// Runs a plan by this many workers; one of them restarts before two turns.
 fn run_restarted<R: Threads + Wait + Sync>(
     rt: &R,
     alloc: Global,
@@ -158,7 +158,7 @@ fn run_restarted<R: Threads + Wait + Sync>(
     Ok(End::FewTurns)
 }
 
-/// One run by so many workers, of which one is held before one of its turns and then refused it. The others have few turns.
+/// Runs a plan by this many workers; one of them is held before one of its turns and then refused it. The others have few turns.
 fn run_held<R: Threads + Wait + Sync>(
     rt: &R,
     alloc: Global,
@@ -184,7 +184,7 @@ fn run_held<R: Threads + Wait + Sync>(
     Ok(End::ManyTurns)
 }
 
-/// What is answered to a step, where `alone` is the report of the one-thread simulation.
+/// Returns what is answered to a step; `alone` is the report of the one-thread simulation.
 pub fn answer<R: Threads + Wait + Sync>(
     rt: &R,
     alloc: Global,
@@ -236,7 +236,7 @@ pub fn answer<R: Threads + Wait + Sync>(
     }
 }
 
-/// How many of so many runs, one after another, come to what one thread comes to. With a seed each has to have restarts too.
+/// Returns how many of this many runs, one after another, have the outcome of one thread. With a seed each has to have restarts too.
 fn runs_as_one<R: Threads + Wait + Sync>(
     rt: &R,
     alloc: Global,
@@ -263,7 +263,7 @@ fn runs_as_one<R: Threads + Wait + Sync>(
     Ok(same)
 }
 
-/// One run over links that are watched: the turns of each worker, and what all did together.
+/// Runs a plan over links that are watched, and returns the turns of each worker, and what all did together.
 fn counts<R: Threads + Wait + Sync>(
     rt: &R,
     alloc: Global,
@@ -289,7 +289,8 @@ fn counts<R: Threads + Wait + Sync>(
     Ok(said)
 }
 
-/// The fault of a worker of node 0 over a link that brings nothing, which is refused this turn, and the last turn that it asked for.
+/// Returns the fault of a worker of node 0 over a link that brings nothing, which is refused this turn, and the last turn that it asked
+/// for.
 fn work_alone<R: Wait>(rt: &R, alloc: Global, plan: &Plan, turn: u64) -> Result<(Fault, u64)>
     requires { IsChecked plan.now }
 {

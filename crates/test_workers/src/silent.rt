@@ -42,7 +42,7 @@ impl Link for Silent {
     fn stop(&mut self) {}
 }
 
-/// Such a link for each of so many workers.
+/// Returns such a link for each of this many workers.
 pub fn silent_links(alloc: Global, workers: u8) -> Result<Vec<Silent>, AllocError>
     ensures { IfOk result (λ links. AreNumbered (λ link. link.worker) links.items) }
 {

@@ -9,11 +9,11 @@ use wl_worker::{LinkFault, LinkKind};
 /// What is asked for; the main file says what each step does.
 #[derive(Clone, Copy)]
 pub enum Step {
-    /// One run by so many workers, over this kind of link.
+    /// One run by this many workers, over this kind of link.
     Run(u8, LinkKind, Kind),
-    /// `.2` runs by `.0` workers, random ones of which restart where `.3` is a seed.
+    /// `.2` runs by `.0` workers; if `.3` is a seed, random ones of them restart.
     Again(u8, LinkKind, u32, Option<u64>),
-    /// One run by so many workers, and what they did.
+    /// One run by this many workers, and what they did.
     Count(u8, LinkKind),
     /// What of a silence, by its node, count and end, comes by a link.
     Links(LinkKind, u8, u32, u64),
@@ -21,7 +21,7 @@ pub enum Step {
     Handed(LinkKind),
     /// One worker alone, which is refused this turn.
     Alone(u64),
-    /// Ten runs, of which the link of this worker fails.
+    /// Ten runs in which the link of this worker fails.
     Gone(u8),
     /// One run by two workers, whose links fail so.
     Faults(LinkFault, LinkFault),
@@ -42,9 +42,9 @@ pub enum Kind {
     Held(u8, u64, u64),
     /// Worker `.0` restarts before turns `.1` and `.2`.
     Restart(u8, u64, u64),
-    /// Each has at least so many turns.
+    /// Each has at least this many turns.
     Turns(u64),
-    /// The first turns are held for each other, for so many polls.
+    /// The first turns are held for each other, for this many polls.
     Overlap(u64),
     /// Over links that the program makes.
     Over,
@@ -67,7 +67,7 @@ impl Display for Kind {
     }
 }
 
-/// How an answer names a kind of link.
+/// Returns how an answer names a kind of link.
 pub fn by(kind: LinkKind) -> &'static str {
     match kind {
         LinkKind::Hub => "",
@@ -75,7 +75,7 @@ pub fn by(kind: LinkKind) -> &'static str {
     }
 }
 
-/// The steps of a block, and the plan's text that follows them.
+/// Returns the steps of a block, and the plan's text that follows them.
 pub fn read(alloc: Global, block: &str) -> Result<(Vec<Step>, &str)> {
     let Some((lines, text)) = block.split_once("plan\n") else {
         bail!("a block without a plan");
@@ -94,7 +94,7 @@ pub fn read(alloc: Global, block: &str) -> Result<(Vec<Step>, &str)> {
     Ok((steps, text))
 }
 
-/// The step of a line, over this kind of link: a word and up to four numbers.
+/// Returns the step of a line, over this kind of link: a word and up to four numbers.
 fn step_of(line: &str, kind: LinkKind) -> Option<Step> {
     let mut words = line.split_whitespace();
     let verb = words.next()?;
@@ -117,7 +117,7 @@ fn step_of(line: &str, kind: LinkKind) -> Option<Step> {
     }
 }
 
-/// The step of a word that a number of workers, a worker or a node follows, and then up to three numbers.
+/// Returns the step of a word that a number of workers, a worker or a node follows, and then up to three numbers.
 fn step_of_many(
     verb: &str,
     kind: LinkKind,
@@ -160,7 +160,7 @@ fn step_of_many(
     }
 }
 
-/// The fault of this number, by their order.
+/// Returns the fault of this number, by their order.
 fn fault_of(number: u64) -> Option<LinkFault> {
     match number {
         0 => Some(LinkFault::Foreign),
@@ -170,7 +170,7 @@ fn fault_of(number: u64) -> Option<LinkFault> {
     }
 }
 
-/// A number that may be missing; `None` where the word is no number.
+/// Returns a number that may be missing; `None` if the word is no number.
 fn number(word: Option<&str>) -> Option<Option<u64>> {
     match word {
         Some(text) => Some(Some(text.parse().ok()?)),

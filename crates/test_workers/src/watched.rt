@@ -22,7 +22,7 @@ pub struct Counts {
 }
 
 impl Counts {
-    /// Nothing so far.
+    /// Returns the counts of nothing.
     pub fn new() -> Counts {
         Counts {
             records: AtomicU64::new(0),
@@ -33,7 +33,7 @@ impl Counts {
         }
     }
 
-    /// How often a link was rewound and something given by it next.
+    /// Returns how often a link was rewound and something given by it next.
     pub fn restarts(&self) -> u64 {
         self.restarts.load(Ordering::SeqCst)
     }
@@ -52,7 +52,7 @@ impl Display for Counts {
     }
 }
 
-/// A link, of which the records and the times that some were given, the fetches that brought something and the waits are counted.
+/// A link that counts the records and the times that some were given, the fetches that brought something, and the waits.
 #[derive(Drop)]
 pub struct Watched<'c, L: Drop> {
     link: L,
@@ -108,7 +108,7 @@ impl<'c, L: Link + Drop> Link for Watched<'c, L> {
     }
 }
 
-/// These links, which are of a plan, watched.
+/// Returns these links, which are of a plan, watched.
 pub fn watch_all<'c, L: Link + Drop>(
     alloc: Global,
     plan: &Plan,

@@ -11,11 +11,11 @@
 //! - `text g`: the canonical text of the replica of group g, and a line `.`.
 //! - `place g i`: the tick below which group g knows the line at the place of its node i, and how many quanta that node has run.
 //! - `emitted`: how many records were emitted.
-//! - `report`: the report of what the nodes did, and a line `.`; `not at the end`, where a node isn't.
+//! - `report`: the report of what the nodes did, and a line `.`; `not at the end`, if a node isn't.
 //!
-//! Where memory is refused amid events, `Stopped n` stands in place of their answers, n being how many of them were handled; the steps behind them go on.
-//! The answers go to standard output, a line for each step but `text` and `report`. Where the script, the grouping or the plan is refused, nothing
-//! goes there: one line `fault: ..` goes to standard error, and the status is 1.
+//! If memory is refused amid events, `Stopped n` is in place of their answers, n being how many of them were handled; the steps after them
+//! go on. The answers go to standard output, a line for each step but `text` and `report`. If the script, the grouping or the plan is
+//! refused, nothing goes there: one line `fault: ..` goes to standard error, and the status is 1.
 //!
 //! `bench/world/` has scripts and their answers: `rt try --cases ../../bench/world` in this folder compares them.
 #![tactic(auto)]
@@ -48,7 +48,7 @@ fn read_and_play<R: AllocGlobal + Input + Print>(rt: &R) -> Result<(), Fault> {
     Ok(())
 }
 
-/// What the script that an input has is answered.
+/// Returns what the script that an input has is answered.
 fn played<B: BufRead + Drop>(alloc: Global, mut input: B) -> Result<String, Fault> {
     let script = script::read(alloc, &mut input)?;
     let (plan, _) = read_plan(alloc, &mut Host::new(input))?;

@@ -11,7 +11,7 @@ use wl_replica::Replica;
 use wl_report::report;
 use wl_world::{Answer, Event, World};
 
-/// Plays a script over the world of its groups and a plan. Answers what stands on standard output then.
+/// Plays a script over the world of its groups and a plan. Returns what is on standard output then.
 pub fn play(alloc: Global, plan: Plan, script: &Script) -> Result<String, Fault>
     requires { IsChecked plan }
 {
@@ -42,7 +42,7 @@ fn add(events: &mut Vec<Event>, event: Event) -> Result<(), AllocError>
     Ok(())
 }
 
-/// Handles events in one call, and tells what each was answered, or how many were handled before memory was refused.
+/// Handles events in one call, and writes what each was answered, or how many were handled before memory was refused.
 fn run(alloc: Global, world: &mut World, events: &[Event], told: &mut String) -> Result<(), Fault> {
     let answers = match world.run(alloc, events) {
         Ok(answers) => answers,
@@ -61,7 +61,7 @@ fn run(alloc: Global, world: &mut World, events: &[Event], told: &mut String) ->
     Ok(())
 }
 
-/// Does a step that is no event, and tells what is answered. Answers whether it could: a text is of a group, a place of one of a group's nodes.
+/// Does a step that is no event, and writes what is answered. True if it could: a text is of a group, a place of one of a group's nodes.
 fn act(alloc: Global, world: &mut World, step: Step, told: &mut String) -> Result<bool, Fault> {
     match step {
         Step::Event(_) => {}
@@ -90,7 +90,7 @@ fn act(alloc: Global, world: &mut World, step: Step, told: &mut String) -> Resul
     Ok(true)
 }
 
-/// Tells the report of what the nodes did, where all are at the end.
+/// Writes the report of what the nodes did, if all are at the end.
 fn tell_report(alloc: Global, world: &World, told: &mut String) -> Result<(), Fault> {
     if !world.at_end() {
         told.push_str("not at the end\n")?;
@@ -105,7 +105,7 @@ fn tell_report(alloc: Global, world: &World, told: &mut String) -> Result<(), Fa
     Ok(())
 }
 
-/// Tells the canonical text of a replica.
+/// Writes the canonical text of a replica.
 fn tell_text(alloc: Global, replica: &Replica, told: &mut String) -> Result<(), AllocError> {
     for record in replica.canonical(alloc)?.as_slice() {
         writeln!(told, "{record}")?;
@@ -113,7 +113,7 @@ fn tell_text(alloc: Global, replica: &Replica, told: &mut String) -> Result<(), 
     told.push_str(".\n")
 }
 
-/// Tells how far a group knows the line at a node's place, and how many quanta the node has run. Answers whether the node is in it.
+/// Writes how far a group knows the line at a node's place, and how many quanta the node has run. True if the node is in it.
 fn tell_place(group: &Group, node: u8, told: &mut String) -> Result<bool, AllocError> {
     let replica = group.replica();
     let topology = &group.plan().topology;

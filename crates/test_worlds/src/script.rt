@@ -27,11 +27,11 @@ pub enum Step {
 pub struct Script {
     /// The number of each node's group.
     pub groups: Vec<u8>,
-    /// The steps; step i stands on line i + 2.
+    /// The steps; step i is on line i + 2.
     pub steps: Vec<Step>,
 }
 
-/// Reads the lines up to `plan`, that one too.
+/// Reads the lines up to and including `plan`.
 pub fn read<B: BufRead>(alloc: Global, input: &mut B) -> Result<Script, Fault> {
     let mut line = String::new(alloc);
     input.read_line(&mut line)?;
@@ -61,7 +61,7 @@ fn push(steps: &mut Vec<Step>, step: Step) -> Result<(), AllocError> {
     Ok(())
 }
 
-/// The numbers of a line `groups`.
+/// Returns the numbers of a line `groups`.
 fn groups_of(alloc: Global, line: &str) -> Result<Option<Vec<u8>>, AllocError> {
     let mut words = line.split_whitespace();
     if words.next() != Some("groups") {
@@ -77,7 +77,7 @@ fn groups_of(alloc: Global, line: &str) -> Result<Option<Vec<u8>>, AllocError> {
     Ok(Some(groups))
 }
 
-/// The step of a line.
+/// Returns the step of a line.
 fn step_of(line: &str) -> Option<Step> {
     let mut words = line.split_whitespace();
     let verb = words.next()?;
@@ -100,7 +100,7 @@ fn step_of(line: &str) -> Option<Step> {
     }
 }
 
-/// The number of a group or a node.
+/// Returns the number of a group or a node.
 fn number(word: &str) -> Option<u8> {
     word.parse().ok()
 }

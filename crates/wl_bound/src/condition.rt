@@ -32,9 +32,9 @@ pub enum Senders {
 /// The two sides of an inequality, in millionths of a tick. It holds if the left one is at most the right one.
 #[derive(Clone, Copy, Debug, PartialEq, Eq)]
 pub struct Sides {
-    /// What takes time.
+    /// Returns what takes time.
     pub left: u128,
-    /// The time that there is.
+    /// Returns the time that there is.
     pub right: u128,
 }
 
@@ -47,7 +47,7 @@ pub struct Failure {
     pub node: u8,
     /// The other node, j. It is the same one if its own bit isn't back at its sample.
     pub other: u8,
-    /// Both sides.
+    /// Returns both sides.
     pub sides: Sides,
 }
 
@@ -61,8 +61,8 @@ pub(crate) const PLAIN: Setting = Setting {
 };
 
 impl Family {
-    /// Both sides of an inequality for nodes `i` and `j`, in millionths of a tick. For one sender at a time the left side is the greatest over the
-    /// senders.
+    /// Returns both sides of an inequality for nodes `i` and `j`, in millionths of a tick. For one sender at a time the left side is the
+    /// greatest over the senders.
     pub fn sides(&self, senders: Senders, inequality: Inequality, i: u8, j: u8) -> Sides
         requires one { i < length self.now.members }
         requires other { j < length self.now.members }
@@ -71,8 +71,9 @@ impl Family {
         self.sides_by(PLAIN, senders, inequality, i, j)
     }
 
-    /// Whether an inequality is asked of nodes `i` and `j`. Of a node and itself it is only whether its own bit is back at its sample. Of a node `j`
-    /// that only listens nothing reaches node `i`, so its bits needn't come to `i` in time. The drift of two such nodes isn't asked either.
+    /// True if an inequality is asked of nodes `i` and `j`. Of a node and itself it is only whether its own bit is back at its sample. Of a
+    /// node `j` that only listens nothing reaches node `i`, so its bits needn't come to `i` in time. The drift of two such nodes isn't
+    /// asked either.
     pub fn is_asked(&self, inequality: Inequality, i: u8, j: u8) -> bool
         requires one { i < length self.now.members }
         requires other { j < length self.now.members }
@@ -85,7 +86,7 @@ impl Family {
         }
     }
 
-    /// What goes wrong for nodes `i` and `j` by one inequality. None if it holds for them, or isn't asked of them.
+    /// Returns what goes wrong for nodes `i` and `j` by one inequality. None if it holds for them, or isn't asked of them.
     pub fn pair_failure(
         &self,
         senders: Senders,
@@ -108,14 +109,14 @@ impl Family {
         })
     }
 
-    /// The first inequality that fails: in their order, and then by the first node and by the second. None if the condition holds.
+    /// Returns the first inequality that fails, in their order and then by the first node and by the second; none if the condition holds.
     pub fn first_failure(&self, senders: Senders) -> Option<Failure>
         ensures { result ≡ first_failure_of self.now plain senders }
     {
         self.first_failure_by(PLAIN, senders)
     }
 
-    /// What takes time.
+    /// Returns what takes time.
     #[tactic(auto, unfolding(crate::specs::Conditions::left_of))]
     fn left(&self, setting: Setting, inequality: Inequality, i: u8, j: u8) -> u128
         requires one { i < length self.now.members }
@@ -141,7 +142,7 @@ impl Family {
         }
     }
 
-    /// The time that there is.
+    /// Returns the time that there is.
     #[tactic(auto, unfolding(crate::specs::Conditions::right_of))]
     fn right(&self, setting: Setting, inequality: Inequality, i: u8, j: u8) -> u128
         requires one { i < length self.now.members }
@@ -157,7 +158,7 @@ impl Family {
         }
     }
 
-    /// The greatest left side over the senders, each of them alone.
+    /// Returns the greatest left side over the senders, each of them alone.
     fn left_alone(&self, setting: Setting, inequality: Inequality, i: u8, j: u8) -> u128
         requires one { i < length self.now.members }
         requires other { j < length self.now.members }
@@ -173,7 +174,7 @@ impl Family {
         greatest
     }
 
-    /// The left side, for any senders or for one at a time.
+    /// Returns the left side, for any senders or for one at a time.
     fn left_by(
         &self,
         setting: Setting,
@@ -192,7 +193,7 @@ impl Family {
         }
     }
 
-    /// Both sides.
+    /// Returns both sides.
     pub(crate) fn sides_by(
         &self,
         setting: Setting,
@@ -211,7 +212,7 @@ impl Family {
         }
     }
 
-    /// Whether an inequality fails for a pair.
+    /// True if an inequality fails for a pair.
     fn fails(
         &self,
         setting: Setting,
@@ -231,7 +232,7 @@ impl Family {
         sides.right < sides.left
     }
 
-    /// The first node with which it fails for node `i`.
+    /// Returns the first node with which it fails for node `i`.
     fn first_other(
         &self,
         setting: Setting,
@@ -252,7 +253,7 @@ impl Family {
         first
     }
 
-    /// The first node for which it fails with some other.
+    /// Returns the first node for which it fails with some other.
     fn first_node(&self, setting: Setting, senders: Senders, inequality: Inequality) -> Option<u8>
         ensures first { result ≡ first_place (fails_at self.now setting senders inequality)
             (length self.now.members) }
@@ -267,7 +268,7 @@ impl Family {
         first
     }
 
-    /// The first pair for which it fails.
+    /// Returns the first pair for which it fails.
     fn failure(&self, setting: Setting, senders: Senders, inequality: Inequality) -> Option<Failure>
         ensures { result ≡ failure_of self.now setting senders inequality }
     {
@@ -288,7 +289,7 @@ impl Family {
         })
     }
 
-    /// The first failure.
+    /// Returns the first failure.
     #[tactic(auto, unfolding(crate::specs::Conditions::first_failure_of))]
     pub(crate) fn first_failure_by(&self, setting: Setting, senders: Senders) -> Option<Failure>
         ensures { result ≡ first_failure_of self.now setting senders }

@@ -46,7 +46,7 @@ pub enum Change {
 }
 
 impl Change {
-    /// The changed segments, or why they are refused.
+    /// Returns the changed segments, or why they are refused.
     pub fn of(self, segments: &Segments) -> Result<Segments, SegmentsFault>
         ensures { result ≡ changed self segments.now }
     {
@@ -96,7 +96,7 @@ impl Model for Family {
 }
 
 impl Family {
-    /// The family of a plan and of the oscillators of its nodes. Refused only when out of memory.
+    /// Returns the family of a plan and of the oscillators of its nodes. Refused only when out of memory.
     pub fn of_plan(
         alloc: Global,
         plan: &Plan,
@@ -114,14 +114,14 @@ impl Family {
         })
     }
 
-    /// How many nodes there are: 1 to 16.
+    /// Returns how many nodes there are: 1 to 16.
     pub fn nodes(&self) -> u8
         ensures { result ≡ length self.now.members }
     {
         self.cable.nodes()
     }
 
-    /// Node `i`.
+    /// Returns node `i`.
     pub fn member(&self, i: u8) -> Member
         requires { i < length self.now.members }
         ensures { result ≡ member_at self.now i }
@@ -131,7 +131,7 @@ impl Family {
         members[place]
     }
 
-    /// Whether node `i` only listens, so that nothing of what it drives reaches the other node.
+    /// True if node `i` only listens, so that nothing of what it drives reaches the other node.
     pub(crate) fn listens(&self, i: u8, other: u8) -> bool
         requires one { i < length self.now.members }
         requires beside { other < length self.now.members }
@@ -141,7 +141,7 @@ impl Family {
         only_listens(&self.cable, i, other)
     }
 
-    /// The ticks that a level takes along one unit of length.
+    /// Returns the ticks that a level takes along one unit of length.
     pub(crate) fn per(&self) -> u128
         ensures { result ≡ self.now.cable.per }
     {
@@ -150,7 +150,7 @@ impl Family {
         from_end.abs_diff(self.cable.place_delay(1, 0))
     }
 
-    /// Whether node `i` sends.
+    /// True if node `i` sends.
     #[tactic(auto, unfolding(crate::specs::Families::sends_in))]
     pub(crate) fn sends(&self, setting: Setting, i: u8) -> bool
         requires { i < length self.now.members }
@@ -162,7 +162,7 @@ impl Family {
         }
     }
 
-    /// The segments of node `i`.
+    /// Returns the segments of node `i`.
     #[tactic(auto, unfolding(crate::specs::Families::lengths_in))]
     pub(crate) fn segments(&self, setting: Setting, i: u8) -> Segments
         requires { i < length self.now.members }
@@ -178,7 +178,7 @@ impl Family {
         }
     }
 
-    /// A tick, in units.
+    /// Returns a tick, in units.
     pub(crate) fn tick(&self, setting: Setting) -> u128
         ensures value { result ≡ units setting }
         ensures most { result < 2 ^ 52 }
@@ -186,7 +186,7 @@ impl Family {
         1_000_000 * setting.length as u128
     }
 
-    /// The shortest quantum of node `i`, in units.
+    /// Returns the shortest quantum of node `i`, in units.
     #[tactic(auto, unfolding(crate::specs::Families::shortest_in))]
     pub(crate) fn shortest(&self, setting: Setting, i: u8) -> u128
         requires { i < length self.now.members }
@@ -196,7 +196,7 @@ impl Family {
         setting.length as u128 * self.member(i).oscillator.shortest_by(setting.wider)
     }
 
-    /// The longest quantum of node `i`, in units.
+    /// Returns the longest quantum of node `i`, in units.
     #[tactic(auto, unfolding(crate::specs::Families::longest_in))]
     pub(crate) fn longest(&self, setting: Setting, i: u8) -> u128
         requires { i < length self.now.members }
@@ -206,7 +206,7 @@ impl Family {
         setting.length as u128 * self.member(i).oscillator.longest_by(setting.wider)
     }
 
-    /// How many ticks a level takes along the cable from node `i` to node `j`, without the nodes' own.
+    /// Returns how many ticks a level takes along the cable from node `i` to node `j`, without the nodes' own.
     pub(crate) fn way_between(&self, i: u8, j: u8) -> u64
         requires one { i < length self.now.members }
         requires other { j < length self.now.members }
@@ -218,7 +218,7 @@ impl Family {
         (there_and_back - own) / 2
     }
 
-    /// How long a level takes from node `i` to node `j`, in units.
+    /// Returns how long a level takes from node `i` to node `j`, in units.
     #[tactic(auto, unfolding(crate::specs::Families::delay_in))]
     pub(crate) fn delay(&self, setting: Setting, i: u8, j: u8) -> u128
         requires one { i < length self.now.members }
@@ -232,7 +232,7 @@ impl Family {
     }
 }
 
-/// Whether node `i` of a cable only listens: nothing of what it drives reaches the other node (ISO 11898-1, bus monitoring).
+/// True if node `i` of a cable only listens: nothing of what it drives reaches the other node (ISO 11898-1, bus monitoring).
 pub fn only_listens(cable: &Topology, i: u8, other: u8) -> bool
     requires one { i < length cable.now.places }
     requires beside { other < length cable.now.places }
@@ -242,7 +242,7 @@ pub fn only_listens(cable: &Topology, i: u8, other: u8) -> bool
     cable.propagation(i, other) < cable.delay(i, other)
 }
 
-/// A node and its oscillator.
+/// Returns a node and its oscillator.
 fn with_oscillator(node: &NodeSetup, oscillator: Oscillator) -> Member
     ensures { result ≡ member_of node.now oscillator }
 {
@@ -253,7 +253,7 @@ fn with_oscillator(node: &NodeSetup, oscillator: Oscillator) -> Member
     }
 }
 
-/// The nodes with their oscillators, after the members. Refused only when out of memory.
+/// Adds the nodes with their oscillators, after the members. Refused only when out of memory.
 fn push_members(
     members: &mut Listed<Member>,
     nodes: &[NodeSetup],

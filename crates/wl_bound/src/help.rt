@@ -25,8 +25,8 @@ struct Best {
 }
 
 impl Family {
-    /// The change that raises the least margin most, of those that the segments of every node allow: the first of `Change` if several do. `None` if
-    /// none raises it.
+    /// Returns the change that raises the least margin most, of those that the segments of every node allow: the first of `Change` if
+    /// several do. `None` if none raises it.
     pub fn first_help(&self, senders: Senders) -> Option<Change>
         ensures { result ≡ (best_change self.now senders).change }
     {
@@ -40,7 +40,7 @@ impl Family {
         self.or_better(senders, later, Change::EarlierSample).change
     }
 
-    /// The better one.
+    /// Returns the better one.
     fn or_better(&self, senders: Senders, best: Best, change: Change) -> Best
         ensures { result ≡ or_better self.now senders best change }
     {
@@ -61,7 +61,7 @@ impl Family {
         best
     }
 
-    /// Whether the segments of every node allow a change.
+    /// True if the segments of every node allow a change.
     fn is_possible(&self, change: Change) -> bool
         ensures { result ≡ is_possible self.now change }
     {
@@ -72,7 +72,7 @@ impl Family {
         !refused
     }
 
-    /// The least margin.
+    /// Returns the least margin.
     #[tactic(auto, unfolding(crate::specs::Helps::reserve_in))]
     fn reserve(&self, setting: Setting, senders: Senders) -> Reserve
         ensures { result ≡ reserve_in self.now setting senders }
@@ -83,7 +83,7 @@ impl Family {
         worse_of(&drift, &worse_of(&late, &early))
     }
 
-    /// The least margin of an inequality.
+    /// Returns the least margin of an inequality.
     fn reserve_of(&self, setting: Setting, senders: Senders, inequality: Inequality) -> Reserve
         ensures { result ≡ reserve_of self.now setting senders inequality }
     {
@@ -96,7 +96,7 @@ impl Family {
         Reserve { lack, spare }
     }
 
-    /// What the worst pair with node `i` lacks.
+    /// Returns what the worst pair with node `i` lacks.
     fn lack_row(&self, setting: Setting, senders: Senders, inequality: Inequality, i: u8) -> u128
         requires { i < length self.now.members }
         ensures { result ≡ lack_row self.now setting senders inequality i }
@@ -111,7 +111,7 @@ impl Family {
         lack
     }
 
-    /// What it has to spare.
+    /// Returns what it has to spare.
     fn spare_row(&self, setting: Setting, senders: Senders, inequality: Inequality, i: u8) -> u128
         requires { i < length self.now.members }
         ensures { result ≡ spare_row self.now setting senders inequality i }
@@ -127,7 +127,7 @@ impl Family {
     }
 }
 
-/// The worse of two margins.
+/// Returns the worse of two margins.
 fn worse_of(one: &Reserve, other: &Reserve) -> Reserve
     ensures { result ≡ worse_of one.now other.now }
 {
@@ -137,7 +137,7 @@ fn worse_of(one: &Reserve, other: &Reserve) -> Reserve
     }
 }
 
-/// Whether the first margin is greater.
+/// True if the first margin is greater.
 fn is_greater(one: &Reserve, other: &Reserve) -> bool
     ensures { result ≡ is_greater one.now other.now }
 {

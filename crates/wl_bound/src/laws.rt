@@ -2,7 +2,7 @@
 ghost use Rattle.wl_bound.specs.ConditionLaws.{ConditionLaws};
 ghost use Rattle.wl_bound.specs.SearchLaws.{SearchLaws};
 
-/// Law: no inequality fails exactly if the three hold for each pair of nodes, for any senders and for each sender alone.
+/// Law: no inequality fails exactly if all three hold for each pair of nodes; for any senders, and for each sender alone.
 pub fn condition_laws()
     ensures { ConditionLaws }
 {}

@@ -1,8 +1,8 @@
-//! Whether a bus is sound, and with how much to spare: the condition under which every power-up of a plan is free of errors, with any
-//! offsets and any deviation of its clocks within their tolerance.
+//! Whether a bus is sound, and with how much to spare: the condition, its evaluation, and the searches over it.
 //!
-//! The condition is three inequalities for each pair of nodes, in exact integers. They take drift and cable together. That they suffice is
-//! shown by search, and not proved.
+//! Under the condition every power-up of a plan is free of errors, with any offsets and any deviation of its clocks within their tolerance.
+//! It is three inequalities for each pair of nodes, in exact integers, which take drift and cable together. That they suffice is shown by
+//! search, and not proved.
 #![tactic(auto)]
 
 mod condition;

@@ -32,7 +32,7 @@ impl Model for Oscillator {
 }
 
 impl Oscillator {
-    /// The oscillator of the rates of a clock and a tolerance of 0 to 100,000 ppm.
+    /// Returns the oscillator of the rates of a clock and a tolerance of 0 to 100,000 ppm.
     ///
     /// `None` if the tolerance is above, or if the rates make no clock (`Clock::with_rates`).
     pub fn new(rates: &[Rate], tolerance: u32) -> Option<Oscillator>
@@ -51,21 +51,21 @@ impl Oscillator {
         }
     }
 
-    /// The shortest quantum, in millionths of a tick, rounded down.
+    /// Returns the shortest quantum, in millionths of a tick, rounded down.
     pub fn shortest(&self) -> u128
         ensures { result ≡ shortest_of self.now 0 }
     {
         self.shortest_by(0)
     }
 
-    /// The longest quantum, in millionths of a tick, rounded up.
+    /// Returns the longest quantum, in millionths of a tick, rounded up.
     pub fn longest(&self) -> u128
         ensures { result ≡ longest_of self.now 0 }
     {
         self.longest_by(0)
     }
 
-    /// The tolerance, in parts per million: 0 to 100,000.
+    /// Returns the tolerance, in parts per million: 0 to 100,000.
     pub fn tolerance(&self) -> u32
         ensures value { result ≡ self.now.tolerance }
         ensures small { result ≤ 100000 }
@@ -73,7 +73,7 @@ impl Oscillator {
         self.tolerance
     }
 
-    /// The shortest quantum with a tolerance wider by some ppm, in millionths of a tick, rounded down.
+    /// Returns the shortest quantum with a tolerance wider by some ppm, in millionths of a tick, rounded down.
     pub(crate) fn shortest_by(&self, wider: u32) -> u128
         ensures value { result ≡ shortest_of self.now wider }
         ensures most { result < 2 ^ 41 }
@@ -82,7 +82,7 @@ impl Oscillator {
         self.fastest.num * parts / self.fastest.den as u128
     }
 
-    /// The longest one, rounded up.
+    /// Returns the longest one, rounded up.
     pub(crate) fn longest_by(&self, wider: u32) -> u128
         ensures value { result ≡ longest_of self.now wider }
         ensures most { result < 2 ^ 54 }
@@ -92,7 +92,7 @@ impl Oscillator {
     }
 }
 
-/// Whether the rates make a clock.
+/// True if the rates make a clock.
 fn make_a_clock(rates: &[Rate]) -> bool
     ensures value { result ≡ is_ok (timing_of_rates 0 rates.now) }
     ensures rates { OnTrue result (All IsRate rates.now) }
@@ -106,7 +106,7 @@ fn make_a_clock(rates: &[Rate]) -> bool
     }
 }
 
-/// Whether a quantum of the first rate is shorter.
+/// True if a quantum of the first rate is shorter.
 fn is_faster(one: &Rate, other: &Rate) -> bool
     requires one { IsRate one.now }
     requires other { IsRate other.now }
@@ -115,7 +115,7 @@ fn is_faster(one: &Rate, other: &Rate) -> bool
     one.num * (other.den as u128) < other.num * one.den as u128
 }
 
-/// The second rate if its quanta are shorter, else the first.
+/// Returns the second rate if its quanta are shorter, else the first.
 fn faster(one: Rate, other: Rate) -> Rate
     requires one { IsRate one }
     requires other { IsRate other }
@@ -125,7 +125,7 @@ fn faster(one: Rate, other: Rate) -> Rate
     if is_faster(&other, &one) { other } else { one }
 }
 
-/// The second rate if its quanta are longer, else the first.
+/// Returns the second rate if its quanta are longer, else the first.
 fn slower(one: Rate, other: Rate) -> Rate
     requires one { IsRate one }
     requires other { IsRate other }
@@ -135,7 +135,7 @@ fn slower(one: Rate, other: Rate) -> Rate
     if is_faster(&one, &other) { other } else { one }
 }
 
-/// The first of the fastest.
+/// Returns the first of the fastest.
 fn fastest(first: Rate, later: &[Rate]) -> Rate
     requires first { IsRate first }
     requires later { All IsRate later.now }
@@ -148,7 +148,7 @@ fn fastest(first: Rate, later: &[Rate]) -> Rate
     }
 }
 
-/// The first of the slowest.
+/// Returns the first of the slowest.
 fn slowest(first: Rate, later: &[Rate]) -> Rate
     requires first { IsRate first }
     requires later { All IsRate later.now }

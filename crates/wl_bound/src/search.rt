@@ -20,8 +20,8 @@ enum Growth {
 }
 
 impl Family {
-    /// By how many units of length the cable may be longer, all places moved apart by one factor: the greatest number with which the condition holds and
-    /// the cable takes at most 1,048,576 ticks.
+    /// Returns by how many units of length the cable may be longer, all places moved apart by one factor. It is the greatest number with
+    /// which the condition holds and the cable takes at most 1,048,576 ticks.
     ///
     /// `None` if the condition doesn't hold as it is, if all nodes sit at one place, or if a level takes no time along the cable.
     pub fn longer_cable(&self, senders: Senders) -> Option<u32>
@@ -36,22 +36,22 @@ impl Family {
         self.greatest(senders, Growth::Longer(length, per), limit)
     }
 
-    /// By how many ppm every tolerance may grow: the greatest number with which the condition holds and no tolerance is above 100,000 ppm. `None` if the
-    /// condition doesn't hold as it is.
+    /// Returns by how many ppm every tolerance may grow: the greatest number with which the condition holds and no tolerance is above
+    /// 100,000 ppm. `None` if the condition doesn't hold as it is.
     pub fn wider_tolerance(&self, senders: Senders) -> Option<u32>
         ensures { IsWiderTolerance self.now senders result }
     {
         self.greatest(senders, Growth::Wider, self.widest_growth())
     }
 
-    /// Whether the condition holds.
+    /// True if the condition holds.
     fn holds(&self, setting: Setting, senders: Senders) -> bool
         ensures { result ≡ holds_in self.now setting senders }
     {
         self.first_failure_by(setting, senders).is_none()
     }
 
-    /// The most by which something may grow, up to a limit.
+    /// Returns the most by which something may grow, up to a limit.
     fn greatest(&self, senders: Senders, growth: Growth, limit: u32) -> Option<u32>
         requires { GrowsTo growth limit }
         ensures { IsGreatestOf (holds_grown self.now senders growth) limit result }
@@ -59,7 +59,7 @@ impl Family {
         self.border(senders, growth, limit)
     }
 
-    /// By halving, how far something may grow.
+    /// Returns how far something may grow, by halving.
     fn border(&self, senders: Senders, growth: Growth, limit: u32) -> Option<u32>
         requires { GrowsTo growth limit }
         ensures { IsBorderOf (holds_grown self.now senders growth) limit result }
@@ -83,7 +83,7 @@ impl Family {
         Some(low)
     }
 
-    /// The ticks that a level takes along the cable between the two nodes that are furthest apart.
+    /// Returns the ticks that a level takes along the cable between the two nodes that are furthest apart.
     fn cable_ticks(&self) -> u32
         ensures value { result ≡ cable_ticks self.now }
         ensures most { result ≤ 2 ^ 20 }
@@ -95,7 +95,7 @@ impl Family {
         longest
     }
 
-    /// The ticks along the cable from node `i` to the furthest one.
+    /// Returns the ticks along the cable from node `i` to the furthest one.
     fn furthest_from(&self, i: u8) -> u32
         requires { i < length self.now.members }
         ensures value { result ≡ greatest (length self.now.members) each (way_between self.now.cable i) }
@@ -108,7 +108,7 @@ impl Family {
         furthest
     }
 
-    /// By how many ppm every tolerance can grow and stay one.
+    /// Returns by how many ppm every tolerance can grow and stay one.
     fn widest_growth(&self) -> u32
         ensures value { result ≡ widest_growth self.now }
         ensures most { result ≤ 100000 }
@@ -121,7 +121,7 @@ impl Family {
     }
 }
 
-/// The setting that grew by `n`.
+/// Returns the setting that grew by `n`.
 fn grown_by(growth: Growth, n: u32) -> Setting
     requires { GrowsTo growth n }
     ensures { result ≡ grown_by growth n }

@@ -11,7 +11,7 @@ use crate::family::{Family, Setting};
 const MOST_EDGES: u128 = 14;
 
 impl Family {
-    /// By how much a bit of node `i` can last longer than one of node `j`.
+    /// Returns by how much a bit of node `i` can last longer than one of node `j`.
     #[tactic(auto, unfolding(crate::specs::Terms::drift))]
     pub(crate) fn drift(&self, setting: Setting, i: u8, j: u8) -> u128
         requires one { i < length self.now.members }
@@ -24,7 +24,7 @@ impl Family {
         longest.saturating_sub(shortest)
     }
 
-    /// What one edge puts right at node `i`.
+    /// Returns what one edge puts right at node `i`.
     #[tactic(auto, unfolding(crate::specs::Terms::jump))]
     pub(crate) fn jump(&self, setting: Setting, i: u8) -> u128
         requires { i < length self.now.members }
@@ -34,7 +34,7 @@ impl Family {
         self.segments(setting, i).sjw() as u128 * self.shortest(setting, i)
     }
 
-    /// By how much node `i` can begin a bit ahead of the edge that it follows.
+    /// Returns by how much node `i` can begin a bit ahead of the edge that it follows.
     #[tactic(auto, unfolding(crate::specs::Terms::look))]
     pub(crate) fn look(&self, setting: Setting, i: u8) -> u128
         requires { i < length self.now.members }
@@ -44,7 +44,7 @@ impl Family {
         (self.longest(setting, i) + self.tick(setting)).saturating_sub(self.delay(setting, i, i))
     }
 
-    /// How late a bit of node `j` can be at node `i` after an edge of node `k`.
+    /// Returns how late a bit of node `j` can be at node `i` after an edge of node `k`.
     #[tactic(auto, unfolding(crate::specs::Terms::trip))]
     fn trip(&self, setting: Setting, i: u8, j: u8, k: u8) -> u128
         requires one { i < length self.now.members }
@@ -69,7 +69,7 @@ impl Family {
         comes.saturating_sub(self.delay(setting, k, i))
     }
 
-    /// The greatest of these over the senders.
+    /// Returns the greatest of these over the senders.
     fn longest_trip(&self, setting: Setting, i: u8, j: u8) -> u128
         requires one { i < length self.now.members }
         requires other { j < length self.now.members }
@@ -86,7 +86,7 @@ impl Family {
         longest
     }
 
-    /// The greatest look of a node that is neither `i` nor `j`.
+    /// Returns the greatest look of a node that is neither `i` nor `j`.
     fn look_of_third(&self, setting: Setting, i: u8, j: u8) -> u128
         requires one { i < length self.now.members }
         requires other { j < length self.now.members }
@@ -102,7 +102,7 @@ impl Family {
         greatest
     }
 
-    /// How late a bit of node `j` can be at node `i`.
+    /// Returns how late a bit of node `j` can be at node `i`.
     #[tactic(auto, unfolding(crate::specs::Terms::way))]
     pub(crate) fn way(&self, setting: Setting, i: u8, j: u8) -> u128
         requires one { i < length self.now.members }
@@ -113,7 +113,7 @@ impl Family {
         self.longest_trip(setting, i, j) + self.look_of_third(setting, i, j)
     }
 
-    /// Whether two nodes at least send.
+    /// True if two nodes at least send.
     #[tactic(auto, unfolding(crate::specs::Terms::several))]
     fn several(&self, setting: Setting) -> bool
         ensures { result ≡ several (bus_of self.now setting) }
@@ -127,7 +127,7 @@ impl Family {
         senders > 1
     }
 
-    /// How late the bits of a sender but `i` can be at node `i`, with ten bits of drift.
+    /// Returns how late the bits of a sender but `i` can be at node `i`, with ten bits of drift.
     fn latest_sender(&self, setting: Setting, i: u8) -> u128
         requires { i < length self.now.members }
         ensures value { result ≡ greatest (length self.now.members) (sends_but (bus_of self.now setting) i)
@@ -143,7 +143,7 @@ impl Family {
         latest
     }
 
-    /// How early node `i` can be for the bits of the sender that wins the arbitration.
+    /// Returns how early node `i` can be for the bits of the sender that wins the arbitration.
     #[tactic(auto, unfolding(crate::specs::Terms::early))]
     pub(crate) fn early(&self, setting: Setting, i: u8) -> u128
         requires { i < length self.now.members }
@@ -157,7 +157,7 @@ impl Family {
         }
     }
 
-    /// What ten bits of drift from a sender take from a jump of node `i`.
+    /// Returns what ten bits of drift from a sender take from a jump of node `i`.
     #[tactic(auto, unfolding(crate::specs::Terms::lost))]
     fn lost(&self, setting: Setting, i: u8) -> u128
         requires { i < length self.now.members }
@@ -173,7 +173,7 @@ impl Family {
         10 * greatest
     }
 
-    /// How many edges node `i` takes to catch up with that sender.
+    /// Returns how many edges node `i` takes to catch up with that sender.
     #[tactic(auto, unfolding(crate::specs::Terms::edges))]
     fn edges(&self, setting: Setting, i: u8) -> u128
         requires { i < length self.now.members }
@@ -193,7 +193,7 @@ impl Family {
         MOST_EDGES.min((early - quantum).div_ceil(jump - lost))
     }
 
-    /// Whether some third node sends.
+    /// True if some third node sends.
     fn third_sends(&self, setting: Setting, i: u8, j: u8) -> bool
         requires one { i < length self.now.members }
         requires other { j < length self.now.members }
@@ -206,7 +206,7 @@ impl Family {
         sends
     }
 
-    /// In how many edges nodes `i` and `j` both catch up with a third.
+    /// Returns in how many edges nodes `i` and `j` both catch up with a third.
     #[tactic(auto, unfolding(crate::specs::Terms::chase))]
     fn chase(&self, setting: Setting, i: u8, j: u8) -> u128
         requires one { i < length self.now.members }
@@ -221,7 +221,7 @@ impl Family {
         }
     }
 
-    /// How much later node `j` can get for node `i` meanwhile.
+    /// Returns how much later node `j` can get for node `i` meanwhile.
     #[tactic(auto, unfolding(crate::specs::Terms::apart))]
     pub(crate) fn apart(&self, setting: Setting, i: u8, j: u8) -> u128
         requires one { i < length self.now.members }
@@ -234,7 +234,7 @@ impl Family {
         self.chase(setting, i, j) * (10 * self.drift(setting, j, i) + unlike)
     }
 
-    /// How late node `j` can be for node `i` by the edges of sender `a`.
+    /// Returns how late node `j` can be for node `i` by the edges of sender `a`.
     fn tour_by(&self, setting: Setting, i: u8, j: u8, a: u8) -> u128
         requires one { i < length self.now.members }
         requires other { j < length self.now.members }
@@ -248,7 +248,7 @@ impl Family {
         there.saturating_sub(self.delay(setting, a, i))
     }
 
-    /// How late it can be at most, since the edges of a third sender reach it too.
+    /// Returns how late it can be at most, since the edges of a third sender reach it too.
     #[tactic(auto, unfolding(crate::specs::Terms::tour))]
     fn tour(&self, setting: Setting, i: u8, j: u8) -> u128
         requires one { i < length self.now.members }
@@ -265,7 +265,7 @@ impl Family {
         longest
     }
 
-    /// How late a bit of node `j` can be at node `i`, catching up counted.
+    /// Returns how late a bit of node `j` can be at node `i`, catching up counted.
     #[tactic(auto, unfolding(crate::specs::Terms::late))]
     pub(crate) fn late(&self, setting: Setting, i: u8, j: u8) -> u128
         requires one { i < length self.now.members }
@@ -279,7 +279,7 @@ impl Family {
             .min(self.tour(setting, i, j).saturating_sub(way))
     }
 
-    /// The most that a bit of node `j` can last longer than one of another node.
+    /// Returns the most by which a bit of node `j` can last longer than one of another node.
     #[tactic(auto, unfolding(crate::specs::Terms::strays))]
     pub(crate) fn strays(&self, setting: Setting, j: u8) -> u128
         requires { j < length self.now.members }

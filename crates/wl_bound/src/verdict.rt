@@ -26,8 +26,8 @@ pub enum Outside {
     ListenerSends(u8),
     /// Frames wait at this node, and every other node only listens: nobody acknowledges them.
     NobodyAcknowledges(u8),
-    /// This node's rules of synchronisation are `After`. No such condition is known for them: a node that has decided to send isn't moved by another's
-    /// start of frame beyond its jump width, and an edge in the sample's quantum is lost.
+    /// This node's rules of synchronisation are `After`. No such condition is known for them. A node that has decided to send isn't moved
+    /// by another's start of frame beyond its jump width, and an edge in the sample's quantum is lost.
     NotByTheBook(u8),
     /// Two frames of these nodes have one identifier, format and RTR bit, so no arbitration parts them.
     SameIdentifier(u8, u8),
@@ -49,7 +49,7 @@ pub enum Verdict {
     NoBound(Outside),
 }
 
-/// What the condition says of a plan and its family (`Family::of_plan`).
+/// Returns what the condition says of a plan and its family (`Family::of_plan`).
 pub fn judge(plan: &Plan, family: &Family) -> Verdict
     requires { IsChecked plan.now }
     ensures { result ≡ verdict_of plan.now family.now }
@@ -66,7 +66,7 @@ pub fn judge(plan: &Plan, family: &Family) -> Verdict
     }
 }
 
-/// Why the condition says nothing of a plan, whatever its cable and its clocks; `None` if it does.
+/// Returns why the condition says nothing of a plan, whatever its cable and its clocks; `None` if it does.
 ///
 /// The ticks at which nodes are idle and frames become ready are the plan's own, with its offsets.
 pub fn cause_outside(plan: &Plan) -> Option<Outside>
@@ -94,7 +94,7 @@ pub fn cause_outside(plan: &Plan) -> Option<Outside>
     }
 }
 
-/// What nodes that only listen spoil: frames of such a node, or frames that nobody acknowledges.
+/// Returns what nodes that only listen spoil: frames of such a node, or frames that nobody acknowledges.
 fn first_of_listeners(plan: &Plan) -> Option<Outside>
     requires checked { IsChecked plan.now }
     requires two { 2 ≤ length plan.now.nodes }
@@ -109,7 +109,7 @@ fn first_of_listeners(plan: &Plan) -> Option<Outside>
     }
 }
 
-/// Whether node `i` of a plan only listens.
+/// True if node `i` of a plan only listens.
 fn listens(plan: &Plan, i: u8) -> bool
     requires checked { IsChecked plan.now }
     requires two { 2 ≤ length plan.now.nodes }
@@ -120,7 +120,7 @@ fn listens(plan: &Plan, i: u8) -> bool
     only_listens(&plan.topology, i, other)
 }
 
-/// The first node that only listens and at which frames wait.
+/// Returns the first node that only listens and at which frames wait.
 fn first_listener_that_sends(plan: &Plan) -> Option<u8>
     requires checked { IsChecked plan.now }
     requires two { 2 ≤ length plan.now.nodes }
@@ -135,7 +135,7 @@ fn first_listener_that_sends(plan: &Plan) -> Option<u8>
     first
 }
 
-/// Whether some other node than `i` doesn't only listen.
+/// True if some other node than `i` doesn't only listen.
 fn is_acknowledged(plan: &Plan, i: u8) -> bool
     requires checked { IsChecked plan.now }
     requires two { 2 ≤ length plan.now.nodes }
@@ -149,7 +149,7 @@ fn is_acknowledged(plan: &Plan, i: u8) -> bool
     is
 }
 
-/// The first node at which frames wait that nobody acknowledges.
+/// Returns the first node at which frames wait that nobody acknowledges.
 fn first_unacknowledged(plan: &Plan) -> Option<u8>
     requires checked { IsChecked plan.now }
     requires two { 2 ≤ length plan.now.nodes }
@@ -164,7 +164,7 @@ fn first_unacknowledged(plan: &Plan) -> Option<u8>
     first
 }
 
-/// Node `i` of a plan.
+/// Returns node `i` of a plan.
 fn setup(plan: &Plan, i: u8) -> &NodeSetup
     requires { i < length plan.now.nodes }
     ensures { result.now ≡ setup_at plan.now i }
@@ -174,7 +174,7 @@ fn setup(plan: &Plan, i: u8) -> &NodeSetup
     &nodes[place]
 }
 
-/// Whether some frame waits at some node.
+/// True if some frame waits at some node.
 fn any_frames(plan: &Plan) -> bool
     requires { IsChecked plan.now }
     ensures { result ≡ any_below (length plan.now.nodes) (sends_something plan.now) }
@@ -186,14 +186,14 @@ fn any_frames(plan: &Plan) -> bool
     any
 }
 
-/// Whether frames wait at a node.
+/// True if frames wait at a node.
 fn has_frames(node: &NodeSetup) -> bool
     ensures { result ≡ has_frames node.now }
 {
     node.queue.len() > 0
 }
 
-/// The first node whose rules of synchronisation aren't the book's.
+/// Returns the first node whose rules of synchronisation aren't the book's.
 pub fn first_without_book(plan: &Plan) -> Option<u8>
     requires { IsChecked plan.now }
     ensures { result ≡ first_place (without_book plan.now) (length plan.now.nodes) }
@@ -207,7 +207,7 @@ pub fn first_without_book(plan: &Plan) -> Option<u8>
     first
 }
 
-/// Whether the rules of a node are `After`.
+/// True if the rules of a node are `After`.
 fn is_after(node: &NodeSetup) -> bool
     ensures { result ≡ is_after node.now.segments.sync }
 {
@@ -217,7 +217,7 @@ fn is_after(node: &NodeSetup) -> bool
     }
 }
 
-/// Whether no arbitration parts two frames.
+/// True if no arbitration parts two frames.
 fn has_same_field(one: &Frame, other: &Frame) -> bool
     ensures { result ≡ has_same_field one.now other.now }
 {
@@ -226,7 +226,7 @@ fn has_same_field(one: &Frame, other: &Frame) -> bool
         && one.remote() == other.remote()
 }
 
-/// Whether there are two such frames in these queues.
+/// True if there are two such frames in these queues.
 fn share_field(one: &NodeSetup, other: &NodeSetup) -> bool
     ensures { result ≡ share_field one.now other.now }
 {
@@ -236,7 +236,7 @@ fn share_field(one: &NodeSetup, other: &NodeSetup) -> bool
         .any(|waiting| has_field_of(other, &waiting.frame))
 }
 
-/// Whether no arbitration parts some frame of a node from this one.
+/// True if no arbitration parts some frame of a node from this one.
 fn has_field_of(other: &NodeSetup, frame: &Frame) -> bool
     ensures { result ≡ list_any (λ b. has_same_field frame.now b.frame) other.now.queue }
 {
@@ -247,7 +247,7 @@ fn has_field_of(other: &NodeSetup, frame: &Frame) -> bool
         .any(|waiting| has_same_field(frame, &waiting.frame))
 }
 
-/// The first node that shares an identifier with node `i`.
+/// Returns the first node that shares an identifier with node `i`.
 fn first_sharing(plan: &Plan, i: u8) -> Option<u8>
     requires checked { IsChecked plan.now }
     requires node { i < length plan.now.nodes }
@@ -262,7 +262,7 @@ fn first_sharing(plan: &Plan, i: u8) -> Option<u8>
     first
 }
 
-/// The first node that shares an identifier with some other.
+/// Returns the first node that shares an identifier with some other.
 fn first_sharer(plan: &Plan) -> Option<u8>
     requires { IsChecked plan.now }
     ensures first { result ≡ first_place (shares plan.now) (length plan.now.nodes) }
@@ -277,7 +277,7 @@ fn first_sharer(plan: &Plan) -> Option<u8>
     first
 }
 
-/// The first pair of nodes that share an identifier.
+/// Returns the first pair of nodes that share an identifier.
 fn first_shared(plan: &Plan) -> Option<Outside>
     requires { IsChecked plan.now }
     ensures { result ≡ pair_in plan.now (first_place (shares plan.now) (length plan.now.nodes)) }
@@ -292,7 +292,7 @@ fn first_shared(plan: &Plan) -> Option<Outside>
     }
 }
 
-/// The tick at which a node has counted the 11 bits that it waits for (Bosch CAN 2.0 part B, section 9).
+/// Returns the tick at which a node has counted the 11 bits for which it waits (Bosch CAN 2.0 part B, section 9).
 fn idle_at(node: &NodeSetup) -> u64
     ensures value { result ≡ idle_at node.now }
     ensures soon { result < 2 ^ 40 }
@@ -300,7 +300,7 @@ fn idle_at(node: &NodeSetup) -> u64
     node.clock.at(11 * node.segments.bit_quanta())
 }
 
-/// Whether no frame of a node becomes ready before tick `t`.
+/// True if no frame of a node becomes ready before tick `t`.
 fn is_ready_from(node: &NodeSetup, t: u64) -> bool
     requires { t < 2 ^ 48 }
     ensures { result ≡ is_ready_from node.now node.now.queue t }
@@ -312,7 +312,7 @@ fn is_ready_from(node: &NodeSetup, t: u64) -> bool
     }
 }
 
-/// Whether some other node that acknowledges is idle if the first frame of node `i` becomes ready.
+/// True if some other node that acknowledges is idle when the first frame of node `i` becomes ready.
 fn finds_one_idle(plan: &Plan, i: u8) -> bool
     requires checked { IsChecked plan.now }
     requires two { 2 ≤ length plan.now.nodes }
@@ -329,7 +329,7 @@ fn finds_one_idle(plan: &Plan, i: u8) -> bool
     finds
 }
 
-/// The first node whose first frame may find nobody idle.
+/// Returns the first node whose first frame may find nobody idle.
 fn first_unheard(plan: &Plan) -> Option<u8>
     requires checked { IsChecked plan.now }
     requires two { 2 ≤ length plan.now.nodes }

@@ -1,10 +1,9 @@
 //! Drifting clocks: the tick at which each quantum of a node begins.
 //!
-//! The world has one row of whole ticks. A node has quanta, the units in which it counts time, and its oscillator
-//! decides how many ticks one takes: a rate `num / den` of 1 to 2^20 ticks per quantum, which need not be whole.
-//! Quantum 0 begins at the clock's offset, and a quantum that would begin between two ticks begins at the earlier one.
-//! A clock may have up to 16 rates, each from a quantum of its own on: an oscillator that warms up, ages or jumps.
-//! Offsets, rates and their limits are this project's profile.
+//! The world has one row of whole ticks. A node counts time in quanta, and its oscillator decides how many ticks one takes: a rate
+//! `num / den` of 1 to 2^20 ticks per quantum, which need not be whole. Quantum 0 begins at the clock's offset. A quantum that would begin
+//! between two ticks begins at the earlier one. A clock may have up to 16 rates, each from a quantum of its own on: an oscillator that
+//! warms up, ages or jumps. Offsets, rates and their limits are this project's profile.
 #![tactic(auto)]
 
 ghost use Rattle.std.specs.Prelude.{◌≡◌, ℕ, ◌+◌, ◌*◌, ◌^◌, ◌<◌, ◌≤◌, pos, unsigned_abs, length};
@@ -50,7 +49,7 @@ pub enum ClockFault {
     /// There are more than 16 rates.
     #[error("TooManyRates")]
     TooManyRates,
-    /// The first rate does not begin with quantum 0, or a later one not after the one in front of it.
+    /// The first rate does not begin with quantum 0, or a later one does not begin after the one before it.
     #[error("RateOrder")]
     RateOrder,
     /// A rate begins after quantum 2^20.
@@ -66,12 +65,12 @@ const MILLION: u64 = 1_000_000;
 
 const MOST_RATES: usize = 16;
 
-/// Up to so many ticks, 2^44, a product with a denominator fits 64 bits.
+/// Up to this many ticks, 2^44, a product with a denominator fits 64 bits.
 const QUICK_TICKS: u64 = 17_592_186_044_416;
 
 /// A rate of `num / den` ticks per quantum, from quantum `from` on.
 ///
-/// Any numbers can be written down; `Clock::with_rates` tells which ones make a clock.
+/// Any numbers can be written down; `Clock::with_rates` says which ones make a clock.
 #[derive(Clone, Copy, Debug, PartialEq, Eq)]
 pub struct Rate {
     /// The first quantum at this rate, counted from 0.
@@ -90,10 +89,10 @@ const SPARE: Rate = Rate {
 };
 
 impl Rate {
-    /// The rate of a nominal quantum of so many ticks and a deviation from it in parts per million, from a quantum on.
+    /// Returns the rate of a nominal quantum of `quantum` ticks and a deviation from it in parts per million, from a quantum on.
     ///
-    /// A positive `ppm` is a slow clock: a quantum takes `quantum * (1000000 + ppm) / 1000000` ticks. Refused as
-    /// `BadPpm` where `ppm` is outside -100,000 to 100,000.
+    /// A positive `ppm` is a slow clock: a quantum takes `quantum * (1000000 + ppm) / 1000000` ticks. Refused as `BadPpm` if `ppm` is
+    /// outside -100,000 to 100,000.
     pub fn from_ppm(from: u64, quantum: u64, ppm: i64) -> Result<Rate, ClockFault>
         ensures { result ≡ rate_of_ppm from quantum ppm }
     {
@@ -110,9 +109,9 @@ impl Rate {
 
 /// A clock whose quantum 0 begins at its offset.
 ///
-/// At a rate that begins with quantum f, quantum k begins `(k - f) * num / den` ticks, rounded down, after quantum f;
-/// so does the next rate's first quantum. Two clocks are equal where offset and rates are: rates are compared as they
-/// were given, and not in lowest terms.
+/// At a rate that begins with quantum f, quantum k begins `(k - f) * num / den` ticks, rounded down, after quantum f; so does the next
+/// rate's first quantum. Two clocks are equal if their offsets and rates are. Rates are compared as they were given, and not in lowest
+/// terms.
 #[derive(Clone, Copy, Debug)]
 pub struct Clock {
     offset: u64,
@@ -140,10 +139,10 @@ impl Model for Clock {
 }
 
 impl Clock {
-    /// The clock whose quantum 0 begins at tick `offset`, with `num / den` ticks per quantum.
+    /// Returns the clock whose quantum 0 begins at tick `offset`, with `num / den` ticks per quantum.
     ///
-    /// Refused as `ZeroDen`, `TooFast` (below 1 tick per quantum), `TooSlow` (above 2^20), `BigOffset` (above 2^20
-    /// ticks) or `BigDen` (above 1,000,000); where several apply, the first of them in this order.
+    /// Refused as `ZeroDen`, `TooFast` (below 1 tick per quantum), `TooSlow` (above 2^20), `BigOffset` (above 2^20 ticks) or `BigDen`
+    /// (above 1,000,000); if several apply, the first of them in this order.
     pub fn new(offset: u64, num: u64, den: u64) -> Result<Clock, ClockFault>
         ensures { result ≡ timing_of offset num den }
     {
@@ -157,10 +156,10 @@ impl Clock {
         )
     }
 
-    /// The clock of a nominal quantum of so many ticks and a deviation from it in parts per million.
+    /// Returns the clock of a nominal quantum of `quantum` ticks and a deviation from it in parts per million.
     ///
-    /// A positive `ppm` is a slow clock: a quantum takes `quantum * (1000000 + ppm) / 1000000` ticks. Refused as
-    /// `BadPpm` where `ppm` is outside -100,000 to 100,000, whatever else holds, and else as `new` refuses that rate.
+    /// A positive `ppm` is a slow clock: a quantum takes `quantum * (1000000 + ppm) / 1000000` ticks. Refused as `BadPpm` if `ppm` is
+    /// outside -100,000 to 100,000, whatever else holds. Else it is refused as `new` refuses that rate.
     pub fn from_ppm(offset: u64, quantum: u64, ppm: i64) -> Result<Clock, ClockFault>
         ensures { result ≡ timing_of_ppm offset quantum ppm }
     {
@@ -171,11 +170,11 @@ impl Clock {
         Clock::with_rates(offset, &[rate])
     }
 
-    /// The clock whose quantum 0 begins at tick `offset`, and which goes at each rate from its first quantum on.
+    /// Returns the clock whose quantum 0 begins at tick `offset`, and which goes at each rate from its first quantum on.
     ///
-    /// Refused as `new` refuses, where some rate has that fault, and then as `NoRates`, `TooManyRates` (above 16),
-    /// `RateOrder` (the first rate does not begin with quantum 0, or a later one not after the one in front of it) or
-    /// `BadFrom` (a rate begins after quantum 2^20); where several apply, the first of them in this order.
+    /// Refused as `new` refuses, if some rate has that fault. Then, as `NoRates`; `TooManyRates` (above 16); `RateOrder` (the first rate
+    /// does not begin with quantum 0, or a later one not after the one before it); `BadFrom` (a rate begins after quantum 2^20). If several
+    /// apply, it is the first of them in this order.
     pub fn with_rates(offset: u64, rates: &[Rate]) -> Result<Clock, ClockFault>
         ensures { result ≡ timing_of_rates offset rates.now }
     {
@@ -215,7 +214,7 @@ impl Clock {
         })
     }
 
-    /// The rates, 1 to 16, in the order of their quanta.
+    /// Returns the rates, 1 to 16, in the order of their quanta.
     fn rates(&self) -> &[Rate]
         ensures rates { result.now ≡ self.now.rates }
         ensures timing { IsTiming self.now }
@@ -223,7 +222,7 @@ impl Clock {
         &self.rates[..self.count]
     }
 
-    /// The tick at which quantum `k` begins, for `k` up to 2^21.
+    /// Returns the tick at which quantum `k` begins, for `k` up to 2^21.
     pub fn at(&self, k: u64) -> u64
         requires { k ≤ 2 ^ 21 }
         ensures tick { result ≡ tick_of self.now k }
@@ -240,7 +239,7 @@ impl Clock {
         ticks_after(&rates[0], &rates[1..], k) + self.offset
     }
 
-    /// The least quantum that begins at tick `t` or later, for `t` below 2^48.
+    /// Returns the least quantum that begins at tick `t` or later, for `t` below 2^48.
     ///
     /// It is also how many quanta begin before `t`.
     pub fn first_not_before(&self, t: u64) -> u64
@@ -270,7 +269,7 @@ impl PartialEq for Clock {
 
     ghost laws = { same_timing_laws };
 
-    /// Two clocks are equal where offset and rates are.
+    /// True if the offsets and the rates of two clocks are equal.
     fn eq(&self, other: &Clock) -> bool
         ensures value { result ≡ same_timing self.now other.now }
         ensures same { IsTrue result ↔ (self.now ≡ other.now) }
@@ -285,7 +284,7 @@ impl Eq for Clock {
     ghost laws = { same_timing_equiv };
 }
 
-/// How many millionths of its nominal length a quantum lasts at a deviation in parts per million.
+/// Returns how many millionths of its nominal length a quantum lasts at a deviation in parts per million.
 fn parts_per_million(ppm: i64) -> u64
     requires { unsigned_abs ppm ≤ 100000 }
     ensures parts { result ≡ millionths ppm }
@@ -299,7 +298,7 @@ fn parts_per_million(ppm: i64) -> u64
     }
 }
 
-/// The rates with spare ones after them.
+/// Returns the rates with spare ones after them.
 fn filled(rates: &[Rate]) -> [Rate; MOST_RATES]
     requires { length rates.now ≤ most_rates }
     ensures { result ≡ padded_rates rates.now }

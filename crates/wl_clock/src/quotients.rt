@@ -1,7 +1,7 @@
 //! Quotients by a number that stays the same, guessed by a product and tested.
 ghost use Rattle.std.specs.Prelude.{◌≡◌, ◌-◌, ◌/◌, ◌^◌, ◌<◌};
 
-/// What a quotient by this number is guessed by.
+/// Returns what a quotient by this number is guessed by.
 pub fn inverse(by: u128) -> u64
     ensures { result ≡ (2 ^ 64 - 1) / by }
 {
@@ -11,7 +11,7 @@ pub fn inverse(by: u128) -> u64
     (u64::MAX as u128 / by) as u64
 }
 
-/// The quotient, rounded down. The inverse makes the guess, and decides nothing.
+/// Returns the quotient, rounded down. The inverse makes the guess, and decides nothing.
 pub fn quotient(number: u64, by: u64, inverse: u64) -> u64
     requires { 0 < by }
     ensures { result ≡ number / by }

@@ -11,42 +11,42 @@ const LARGEST_DENOMINATOR: u64 = 1_000_000;
 
 const LATEST_FROM: u64 = 1_048_576;
 
-/// Whether some denominator is 0.
+/// True if some denominator is 0.
 pub fn any_zero_den(rates: &[Rate]) -> bool
     ensures { result ≡ list_any has_zero_den rates.now }
 {
     rates.iter().any(|r| r.den == 0)
 }
 
-/// Whether some rate is below one tick per quantum.
+/// True if some rate is below one tick per quantum.
 pub fn any_too_fast(rates: &[Rate]) -> bool
     ensures { result ≡ list_any is_too_fast rates.now }
 {
     rates.iter().any(|r| r.num < r.den as u128)
 }
 
-/// Whether some rate is above 2^20 ticks per quantum.
+/// True if some rate is above 2^20 ticks per quantum.
 pub fn any_too_slow(rates: &[Rate]) -> bool
     ensures { result ≡ list_any is_too_slow rates.now }
 {
     rates.iter().any(|r| r.num > SLOWEST_RATE * r.den as u128)
 }
 
-/// Whether some denominator is above 1,000,000.
+/// True if some denominator is above 1,000,000.
 pub fn any_big_den(rates: &[Rate]) -> bool
     ensures { result ≡ list_any has_big_den rates.now }
 {
     rates.iter().any(|r| r.den > LARGEST_DENOMINATOR)
 }
 
-/// Whether some rate begins after quantum 2^20.
+/// True if some rate begins after quantum 2^20.
 pub fn any_bad_from(rates: &[Rate]) -> bool
     ensures { result ≡ list_any has_bad_from rates.now }
 {
     rates.iter().any(|r| r.from > LATEST_FROM)
 }
 
-/// Whether the first rate begins with quantum 0, and each other one after the one in front of it.
+/// True if the first rate begins with quantum 0, and each other one after the one before it.
 pub fn in_order(rates: &[Rate]) -> bool
     ensures { result ≡ in_order rates.now }
 {
@@ -56,7 +56,7 @@ pub fn in_order(rates: &[Rate]) -> bool
     }
 }
 
-/// Whether the first rate begins after a quantum, and each other one after the one in front of it.
+/// True if the first rate begins after a quantum, and each other one after the one before it.
 fn begin_after(from: u64, rates: &[Rate]) -> bool
     ensures { result ≡ begin_after from rates.now }
 {

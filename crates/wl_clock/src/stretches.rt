@@ -5,7 +5,7 @@ ghost use Rattle.wl_clock.specs.Timing.{IsRate, begin_after, slowest_rate, ticks
 use crate::Rate;
 use crate::quotients::quotient;
 
-/// How many ticks after the first of its quanta quantum `k` begins, at one rate.
+/// Returns how many ticks quantum `k` begins after the first quantum of a rate, at that rate.
 fn stretch(rate: &Rate, k: u64) -> u64
     requires rate { IsRate rate.now }
     requires begun { rate.now.from ≤ k }
@@ -16,7 +16,7 @@ fn stretch(rate: &Rate, k: u64) -> u64
     (k - rate.from) * rate.num as u64 / rate.den
 }
 
-/// The least quantum that begins so many ticks after the first of its quanta, or more, at one rate.
+/// Returns the least quantum that begins at least this many ticks after the first quantum of a rate, at that rate.
 fn first_at(rate: &Rate, ticks: u64) -> u64
     requires rate { IsRate rate.now }
     requires some { 0 < ticks }
@@ -29,7 +29,7 @@ fn first_at(rate: &Rate, ticks: u64) -> u64
     rate.from + wanted.div_ceil(rate.num) as u64
 }
 
-/// As `stretch`, where a quotient by the denominator is guessed by this inverse.
+/// Returns what `stretch` does; a quotient by the denominator is guessed by this inverse.
 pub fn quick_stretch(rate: &Rate, inverse: u64, k: u64) -> u64
     requires rate { IsRate rate.now }
     requires begun { rate.now.from ≤ k }
@@ -40,7 +40,7 @@ pub fn quick_stretch(rate: &Rate, inverse: u64, k: u64) -> u64
     quotient((k - rate.from) * rate.num as u64, rate.den, inverse)
 }
 
-/// As `first_at`, where a quotient by the numerator is guessed by this inverse.
+/// Returns what `first_at` does; a quotient by the numerator is guessed by this inverse.
 pub fn quick_first(rate: &Rate, inverse: u64, ticks: u64) -> u64
     requires rate { IsRate rate.now }
     requires some { 0 < ticks }
@@ -52,7 +52,7 @@ pub fn quick_first(rate: &Rate, inverse: u64, ticks: u64) -> u64
     rate.from + quotient(ticks * rate.den - 1, rate.num as u64, inverse) + 1
 }
 
-/// How many ticks after the first quantum of a rate quantum `k` begins, where later rates follow.
+/// Returns how many ticks quantum `k` begins after the first quantum of a rate, if later rates follow.
 pub fn ticks_after(rate: &Rate, later: &[Rate], k: u64) -> u64
     requires rates { All IsRate (rate.now ∷ later.now) }
     requires order { IsTrue (begin_after rate.now.from later.now) }
@@ -67,7 +67,7 @@ pub fn ticks_after(rate: &Rate, later: &[Rate], k: u64) -> u64
     }
 }
 
-/// The least quantum that begins so many ticks after the first quantum of a rate, or more, where later rates follow.
+/// Returns the least quantum that begins at least this many ticks after the first quantum of a rate, if later rates follow.
 pub fn first_from(rate: &Rate, later: &[Rate], ticks: u64) -> u64
     requires rates { All IsRate (rate.now ∷ later.now) }
     requires order { IsTrue (begin_after rate.now.from later.now) }

@@ -50,12 +50,12 @@ pub enum Happened {
     Sent,
     /// A receiver sent the acknowledgement and sampled it dominant.
     Acked,
-    /// A node in bus off saw 128 times eleven recessive bits.
+    /// A node in bus off saw eleven recessive bits 128 times.
     Recovered,
 }
 
 impl Happened {
-    /// An error was found: by a receiver or by a transmitter, counted or not.
+    /// True if an error was found: by a receiver or by a transmitter, counted or not.
     pub fn is_error(self) -> bool
         ensures { result ≡ is_error self }
     {
@@ -111,7 +111,7 @@ impl Model for Counters {
 }
 
 impl Counters {
-    /// The counters of a node to which nothing happened: both zero.
+    /// Returns the counters of a node to which nothing happened: both zero.
     pub fn new() -> Counters
         ensures { result ≡ counts_of [] }
     {
@@ -164,7 +164,7 @@ impl Counters {
         };
     }
 
-    /// The transmit error count, 0 to 256.
+    /// Returns the transmit error count, 0 to 256.
     pub fn tec(&self) -> u64
         ensures value { result ≡ self.now.tec }
         ensures limits { AreCounts self.now }
@@ -172,7 +172,7 @@ impl Counters {
         u64::from(self.tec)
     }
 
-    /// The receive error count, 0 to 255.
+    /// Returns the receive error count, 0 to 255.
     pub fn rec(&self) -> u64
         ensures value { result ≡ self.now.rec }
         ensures limits { AreCounts self.now }
@@ -180,7 +180,7 @@ impl Counters {
         u64::from(self.rec)
     }
 
-    /// The mode that the counters give.
+    /// Returns the mode that the counters give.
     pub fn mode(&self) -> Mode
         ensures { result ≡ mode_of self.now }
     {

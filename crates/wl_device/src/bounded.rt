@@ -13,14 +13,13 @@ pub enum Ended {
     End,
     /// The reader failed, or its calls ran out.
     Broken,
-    /// More bytes came than were to come.
+    /// More bytes came than were asked for.
     Full,
 }
 
 /// Reads all that the reader gives, up to the first piece that makes it more than `most` bytes, in at most `MOST_CALLS` calls.
 ///
-/// Answers the bytes that came and how the reading ended. Refused only when out of memory; what the reader has left is then
-/// unspecified.
+/// Returns the bytes that came and how the reading ended. Refused only when out of memory; what the reader has left is then unspecified.
 pub fn read_up_to<R: Source>(
     alloc: Global,
     reader: &mut R,

@@ -6,7 +6,7 @@ use crate::limits::MOST_CALLS;
 /// What a reader answered to one call.
 #[derive(Clone, Copy, Debug, PartialEq, Eq)]
 pub enum Got {
-    /// So many bytes came: at least one, and no more than the buffer holds.
+    /// This many bytes came: at least one, and no more than the buffer holds.
     Bytes(usize),
     /// There is no more.
     End,
@@ -19,7 +19,7 @@ pub enum Got {
 /// What a writer answered to one call.
 #[derive(Clone, Copy, Debug, PartialEq, Eq)]
 pub enum Put {
-    /// So many bytes went. None of a piece that has some counts as a failure.
+    /// This many bytes went. None of a piece that has some counts as a failure.
     Bytes(usize),
     /// Nothing went this time.
     Again,
@@ -34,7 +34,7 @@ pub trait Source {
     /// From one state it may answer so, and be in the other.
     ghost gives: { Self → Answer → Self → Type 0 };
 
-    /// One call: the bytes that came are at the front of the buffer.
+    /// Makes one call: the bytes that came are at the front of the buffer.
     fn read(&mut self, buffer: &mut [u8]) -> Got
         requires { 0 < length buffer.old }
         ensures fits { FitsBuffer result buffer.new }
@@ -48,7 +48,7 @@ pub trait Sink {
     /// From one state it may answer so, and be in the other.
     ghost takes: { Self → Answer → Self → Type 0 };
 
-    /// One call: the bytes that went are those at the front of the piece.
+    /// Makes one call: the bytes that went are those at the front of the piece.
     fn write(&mut self, piece: &[u8]) -> Put
         requires { 0 < length piece.now }
         ensures fits { FitsPiece result piece.now }
@@ -63,8 +63,8 @@ pub struct WriteFault;
 ghost use Rattle.wl_device.specs.Devices.{Writes, Sends};
 ghost use Rattle.wl_device.specs.Limits.{most_calls};
 
-/// Writes all of the piece, in a run that has made `calls` calls before, at most `MOST_CALLS`. Answers the calls made since the run's start.
-/// On a fault a prefix of the piece has been written, and not all of it.
+/// Writes all of the piece, in a run that has made `calls` calls before, at most `MOST_CALLS`. Returns the calls made since the run's
+/// start. On a fault a prefix of the piece has been written, and not all of it.
 pub fn send<W: Sink>(piece: &[u8], writer: &mut W, calls: u32) -> Result<u32, WriteFault>
     requires { calls ≤ most_calls }
     ensures { Sends W.takes writer.old piece.now calls result writer.new }

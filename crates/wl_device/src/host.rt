@@ -14,7 +14,7 @@ pub struct Host<D> {
 }
 
 impl<D> Host<D> {
-    /// The device over this reader or writer.
+    /// Returns the device over this reader or writer.
     pub fn new(device: D) -> Host<D>
         ensures { result.device ≡ device }
     {
@@ -22,7 +22,7 @@ impl<D> Host<D> {
     }
 }
 
-/// What a reader answered to a call for at least one byte.
+/// Returns what a reader answered to a call for at least one byte.
 fn got_of(answer: io::Result<usize>) -> Got
     ensures end { IfOk answer (λ n. n ≡ 0 → result ≡ Got.End) }
     ensures bytes { IfOk answer (λ n. 0 < n → result ≡ Got.Bytes n) }
@@ -42,7 +42,7 @@ fn got_of(answer: io::Result<usize>) -> Got
     }
 }
 
-/// What a writer answered to a call.
+/// Returns what a writer answered to a call.
 fn put_of(answer: io::Result<usize>) -> Put
     ensures bytes { IfOk answer (λ n. result ≡ Put.Bytes n) }
     ensures again { IfErr answer (λ e. error_kind e ≡ ErrorKind.Interrupted → result ≡ Put.Again) }

@@ -13,7 +13,7 @@ struct Counted {
 }
 
 impl Counted {
-    /// The answer to one call for a piece of this length.
+    /// Returns the answer to one call for a piece of this length.
     fn answer(&mut self, len: usize) -> io::Result<usize>
         ensures { IfOk result (λ n. n ≤ len) }
     {

@@ -1,4 +1,4 @@
-//! The check of a plan.
+//! Returns the check of a plan.
 ghost use Rattle.wl_setup.specs.Check.{IsPlanCheck};
 ghost use Rattle.wl_engines.specs.Plans.{RunsPlan};
 
@@ -7,11 +7,11 @@ use std::alloc::Global;
 use wl_device::{Sink, Source, write_all};
 use wl_setup::{check_plan, read_plan};
 
-/// Reads a plan's text, tests whether the plan can be run, and writes what each node's bit segments allow and how long a level takes
-/// from each node to each later one, and back.
+/// Reads a plan's text, tests whether the plan can be run, and writes the check: what each node's bit segments allow, and how long a level
+/// takes from each node to each later one and back.
 ///
-/// The whole output is made before the first write. Where the input is refused, or memory runs out, the writer isn't called;
-/// where the writer fails, a prefix of the output has been written.
+/// The whole output is made before the first write. If the input is refused, or memory runs out, the writer isn't called; if the writer
+/// fails, a prefix of the output has been written.
 pub fn check_run<R: Source, W: Sink>(
     alloc: Global,
     reader: &mut R,

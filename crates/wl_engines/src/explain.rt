@@ -7,12 +7,11 @@ use wl_device::{Ended, Sink, Source, write_all};
 use wl_explain::{explain_fault, explain_plan, explain_size};
 use wl_setup::{SetupFault, bus_of_bytes, read_bytes};
 
-/// Reads a plan's text, tests whether the plan can be run, and writes what is doubtful of it and its bus, one a line, and then the
-/// figures. Of a plan that is refused it writes what is wrong and what to change, and answers the fault whether or not
-/// the writer took all of that.
+/// Reads a plan's text, tests whether the plan can be run, and writes what is doubtful of it and its bus, one a line, and then the figures.
+/// Of a plan that is refused it writes what is wrong and what to change, and returns the fault whether or not the writer took all of that.
 ///
-/// The whole output is made before the first write. Where the reader failed, or memory runs out, the writer isn't called;
-/// where the writer fails, a prefix of the output has been written.
+/// The whole output is made before the first write. If the reader failed, or memory runs out, the writer isn't called; if the writer fails,
+/// a prefix of the output has been written.
 pub fn explain_run<R: Source, W: Sink>(
     alloc: Global,
     reader: &mut R,

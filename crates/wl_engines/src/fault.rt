@@ -32,7 +32,7 @@ impl RunFault {
     ghost use Rattle.std.specs.Prelude.{◌≡◌};
     ghost use Rattle.wl_engines.specs.Faults.{is_refusal};
 
-    /// Whether the input was refused for what it says.
+    /// True if the input was refused for what it says.
     pub fn is_refusal(&self) -> bool
         ensures { result ≡ is_refusal self.now }
     {

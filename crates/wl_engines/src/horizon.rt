@@ -1,4 +1,4 @@
-//! What a record text says of each node, and up to when.
+//! What a record text says of each node, and up to which tick.
 ghost use Rattle.std.specs.Prelude.{◌≡◌, ◌<◌, ◌==◌, OnOk, IfOk, string_bytes};
 ghost use Rattle.std.specs.List.{flat_map};
 ghost use Rattle.wl_report.specs.Lines.{GrowsBy};
@@ -13,14 +13,14 @@ use std::alloc::{AllocError, Global};
 use wl_device::{Sink, Source, write_all};
 use wl_replica::Rows;
 
-/// Whether some number of a row says something.
+/// True if some number of a row says something.
 fn says_something(numbers: &[u64]) -> bool
     ensures { result ≡ says_something numbers.now }
 {
     numbers.iter().any(|number| *number != 0)
 }
 
-/// Whether some record of the canonical list speaks of the node.
+/// True if some record of the canonical list speaks of the node.
 fn is_named(rows: &Rows, node: u8) -> bool
     requires { node < rows.now.nodes }
     ensures { result ≡ is_named (canonical rows.now) node }
@@ -55,7 +55,7 @@ fn push_intervals(text: &mut String, node: u8, intervals: &[(u64, u64)]) -> Resu
     Ok(())
 }
 
-/// Adds the lines of a node, where it has a slot.
+/// Adds the lines of a node, if it has a slot.
 fn push_node(alloc: Global, text: &mut String, rows: &Rows, node: u8) -> Result<(), AllocError>
     requires { node < rows.now.nodes }
     ensures { OnOk result (GrowsBy text.old text.new (horizon_lines rows.now node)) }
@@ -68,7 +68,7 @@ fn push_node(alloc: Global, text: &mut String, rows: &Rows, node: u8) -> Result<
     Ok(())
 }
 
-/// The text of what rows know.
+/// Returns the text of what rows know.
 fn horizons(alloc: Global, rows: &Rows) -> Result<String, AllocError>
     ensures { IfOk result (λ text. string_bytes text ≡ lines_below rows.now rows.now.nodes) }
 {
@@ -79,12 +79,12 @@ fn horizons(alloc: Global, rows: &Rows) -> Result<String, AllocError>
     Ok(text)
 }
 
-/// Reads a record text and writes for each node that has a slot in its canonical text how many of its first changes are
-/// known without a gap, the tick below which the node is known, and the intervals in which it drives dominant.
+/// Reads a record text and writes what it says of each node that has a slot in its canonical text. That is how many of its first changes
+/// are known without a gap, the tick below which the node is known, and the intervals in which it drives dominant.
 ///
-/// The whole output is made before the first write. Where the input is refused, or memory runs out, the writer isn't called;
-/// where the writer fails, a prefix of the output has been written. The horizon is that of conservative simulation (Chandy and
-/// Misra, 1979); of records that aren't true of one bus it is still defined, and promises nothing.
+/// The whole output is made before the first write. If the input is refused, or memory runs out, the writer isn't called; if the writer
+/// fails, a prefix of the output has been written. The horizon is that of conservative simulation (Chandy and Misra, 1979). It is also
+/// defined of records that aren't true of one bus, and promises nothing then.
 pub fn horizon_run<R: Source, W: Sink>(
     alloc: Global,
     reader: &mut R,

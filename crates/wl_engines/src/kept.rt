@@ -13,7 +13,7 @@ pub struct Kept {
 impl Kept {
     ghost use Rattle.std.specs.Prelude.{◌≡◌, []};
 
-    /// Nothing was written yet. It takes no memory.
+    /// Returns a writer to which nothing was written yet. It takes no memory.
     pub fn new(alloc: Global) -> Kept
         ensures { result.bytes.items ≡ [] }
     {

@@ -1,12 +1,16 @@
 //! The engines of Wireline's program: each reads one input, and writes one output.
 //!
-//! `merge_run` and `horizon_run` read a record text: the one writes the canonical text of the replica that its records make, the
-//! other what that replica knows of each node, and up to when. `check_run`, `records_run` and `plan_run` read a plan text: the first
-//! writes what the bit segments allow and how long the cable takes, the second the records of the plan's simulation, the third its
-//! report, which `workers_run` writes too, by workers in threads. `candump_run` and `vcd_run` read a plan text too: the one writes the
-//! log of the frames that were sent, the other the waveform. `explain_run` writes what is doubtful of a plan, and the figures of its
-//! nodes; of a plan that is refused, what is wrong and what to change. `margin_run` writes whether the plan's bus works, with how much to
-//! spare. `page_run` writes one page of HTML that shows a run. `traffic_run` writes how busy the bus was and how long messages waited.
+//! Of a record text `merge_run` writes the canonical text of the replica that its records make, and `horizon_run` what that replica knows
+//! of each node, and up to which tick. The others read a plan text:
+//!
+//! - `check_run` writes what the bit segments allow and how long the cable takes;
+//! - `records_run` writes the records of the plan's simulation;
+//! - `plan_run` writes its report, and so does `workers_run`, by workers in threads;
+//! - `candump_run` writes the log of the frames that were sent, `vcd_run` the waveform, `trace_run` what happened to each node;
+//! - `explain_run` writes what is doubtful of a plan, and the figures of its nodes, or what is wrong with a refused one;
+//! - `margin_run` writes whether the plan's bus works, with how much to spare;
+//! - `page_run` writes one page of HTML that shows a run;
+//! - `traffic_run` writes how busy the bus was and how long messages waited.
 #![tactic(auto)]
 
 mod check;

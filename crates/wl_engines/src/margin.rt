@@ -8,11 +8,12 @@ use wl_margin::margin_text;
 use wl_setup::read_bus;
 use wl_views::Tick;
 
-/// Reads a plan's text, tests whether the plan can be run, and writes whether its bus works at all offsets and clocks within their tolerance, with
-/// how much to spare, and how much longer its cable and wider its tolerances may be; a tick of the plan takes as long as `tick` says.
+/// Reads a plan's text, tests whether the plan can be run, and writes the margin of its bus, at all offsets and clocks within their
+/// tolerance. The margin is whether it works, with how much to spare, and how much longer its cable and wider its tolerances may be. A tick
+/// of the plan takes as long as `tick` says.
 ///
-/// The whole output is made before the first write. Where the input is refused, or memory runs out, the writer isn't called;
-/// where the writer fails, a prefix of the output has been written.
+/// The whole output is made before the first write. If the input is refused, or memory runs out, the writer isn't called; if the writer
+/// fails, a prefix of the output has been written.
 pub fn margin_run<R: Source, W: Sink>(
     alloc: Global,
     tick: Tick,

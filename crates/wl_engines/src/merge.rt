@@ -34,7 +34,7 @@ impl RecordSink for Lines {
     }
 }
 
-/// The canonical text of what rows know, node by node.
+/// Returns the canonical text of what rows know, node by node.
 fn canonical_text(alloc: Global, rows: &Rows) -> Result<Vec<u8>, AllocError>
     ensures { IfOk result (λ text. text.items ≡ text_of (canonical rows.now)) }
 {
@@ -47,8 +47,8 @@ fn canonical_text(alloc: Global, rows: &Rows) -> Result<Vec<u8>, AllocError>
 
 /// Reads a record text and writes the canonical text of the replica that its records make, and nothing else.
 ///
-/// The whole output is made before the first write. Where the input is refused, or memory runs out, the writer isn't called;
-/// where the writer fails, a prefix of the output has been written.
+/// The whole output is made before the first write. If the input is refused, or memory runs out, the writer isn't called; if the writer
+/// fails, a prefix of the output has been written.
 pub fn merge_run<R: Source, W: Sink>(
     alloc: Global,
     reader: &mut R,

@@ -1,4 +1,4 @@
-//! The report of a plan's simulation.
+//! Returns the report of a plan's simulation.
 ghost use Rattle.std.specs.Prelude.{◌≡◌, IfOk};
 ghost use Rattle.wl_plan.specs.Checked.{IsChecked};
 ghost use Rattle.wl_serial.specs.Outcome.{outcome_of};
@@ -13,7 +13,7 @@ use wl_report::report;
 use wl_serial::run_serial;
 use wl_setup::read_plan;
 
-/// The report of a plan's simulation.
+/// Returns the report of a plan's simulation.
 fn report_of(alloc: Global, plan: &Plan) -> Result<Vec<u8>, AllocError>
     requires { IsChecked plan.now }
     ensures { IfOk result (λ text. text.items ≡ report_text (outcome_of plan.now)) }
@@ -22,11 +22,11 @@ fn report_of(alloc: Global, plan: &Plan) -> Result<Vec<u8>, AllocError>
     report(alloc, &outcome)
 }
 
-/// Reads a plan's text, simulates the plan on one thread, and writes the report: for each node its counters and the frames that
-/// passed, and a verdict.
+/// Reads a plan's text, simulates the plan on one thread, and writes the report: for each node its counters and the frames that passed, and
+/// a verdict.
 ///
-/// The whole output is made before the first write. Where the input is refused, or memory runs out, the writer isn't called;
-/// where the writer fails, a prefix of the output has been written.
+/// The whole output is made before the first write. If the input is refused, or memory runs out, the writer isn't called; if the writer
+/// fails, a prefix of the output has been written.
 pub fn plan_run<R: Source, W: Sink>(
     alloc: Global,
     reader: &mut R,

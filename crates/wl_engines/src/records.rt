@@ -11,7 +11,7 @@ use wl_record::text_of;
 use wl_serial::{outcome_is_recordable, records_are_true, records_of, run_serial};
 use wl_setup::read_plan;
 
-/// The records of a plan's simulation, as text.
+/// Returns the records of a plan's simulation, as text.
 fn records_text(alloc: Global, plan: &Plan) -> Result<Vec<u8>, AllocError>
     requires { IsChecked plan.now }
     ensures { IfOk result (λ text. text.items ≡ records_text plan.now) }
@@ -22,11 +22,11 @@ fn records_text(alloc: Global, plan: &Plan) -> Result<Vec<u8>, AllocError>
     text_of(alloc, &records)
 }
 
-/// Reads a plan's text, simulates the plan, and writes for each node each change of its drive, and the silence after them up to
-/// the end, as a record text.
+/// Reads a plan's text, simulates the plan, and writes for each node each change of its drive, and the silence after them up to the end, as
+/// a record text.
 ///
-/// The whole output is made before the first write. Where the input is refused, or memory runs out, the writer isn't called;
-/// where the writer fails, a prefix of the output has been written.
+/// The whole output is made before the first write. If the input is refused, or memory runs out, the writer isn't called; if the writer
+/// fails, a prefix of the output has been written.
 pub fn records_run<R: Source, W: Sink>(
     alloc: Global,
     reader: &mut R,

@@ -19,7 +19,7 @@ use wl_setup::{Bus, Names, SetupFault, bus_of_bytes, check_plan, read_bytes};
 use wl_traffic::traffic_of;
 use wl_views::{Tick, trace, vcd};
 
-/// The waveform of a plan's simulation, whole.
+/// Returns the waveform of a plan's simulation, whole.
 fn wave_of(
     alloc: Global,
     tick: Tick,
@@ -38,7 +38,7 @@ fn wave_of(
     }
 }
 
-/// The page of a bus, whose text is given: the simulation of its plan is run once.
+/// Returns the page of a bus, whose text is given: the simulation of its plan is run once.
 fn page_of_bus(alloc: Global, tick: Tick, text: &[u8], bus: &Bus) -> Result<Vec<u8>, AllocError>
     requires checked { IsChecked bus.now.plan }
     requires deviations { length bus.now.deviations ≡ length bus.now.plan.nodes }

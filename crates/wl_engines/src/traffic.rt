@@ -10,10 +10,10 @@ use wl_traffic::{Reason, traffic_of};
 use wl_views::Tick;
 
 /// Reads a plan's text, simulates the plan, and writes how busy the bus was, how long the messages of each node waited, and why the run
-/// didn't work, which is also the answer; a tick of the plan takes as long as `tick` says.
+/// didn't work. Returns that reason. A tick of the plan takes as long as `tick` says.
 ///
-/// The whole output is made before the first write. If the input is refused, or memory runs out, the writer isn't called; if the
-/// writer fails, a prefix of the output has been written.
+/// The whole output is made before the first write. If the input is refused, or memory runs out, the writer isn't called; if the writer
+/// fails, a prefix of the output has been written.
 pub fn traffic_run<R: Source, W: Sink>(
     alloc: Global,
     tick: Tick,

@@ -13,7 +13,7 @@ use wl_serial::run_serial;
 use wl_setup::{Names, read_plan};
 use wl_views::{Tick, candump, sent_in_time, trace, vcd};
 
-/// The log of the frames that a plan's simulation sent.
+/// Returns the log of the frames that a plan's simulation sent.
 fn log_text(alloc: Global, tick: Tick, from: u32, plan: &Plan) -> Result<Vec<u8>, AllocError>
     requires { IsChecked plan.now }
     ensures { IfOk result (λ text. text.items ≡ log_text tick from plan.now) }
@@ -23,11 +23,11 @@ fn log_text(alloc: Global, tick: Tick, from: u32, plan: &Plan) -> Result<Vec<u8>
     candump(alloc, tick, from, plan, &outcome)
 }
 
-/// Reads a plan's text, simulates the plan, and writes a line for each frame that was sent, in the order of their completion, as
-/// can-utils logs frames; a tick of the plan takes as long as `tick` says, and tick 0 is at second `from`.
+/// Reads a plan's text, simulates the plan, and writes a line for each frame that was sent, in the order of their completion, as can-utils
+/// logs frames; a tick of the plan takes as long as `tick` says, and tick 0 is at second `from`.
 ///
-/// The whole output stands before the first write. Where the input is refused, or memory runs out, the writer isn't called;
-/// where the writer fails, a prefix of the output has gone out.
+/// The whole output is before the first write. If the input is refused, or memory runs out, the writer isn't called; if the writer fails, a
+/// prefix of the output has gone out.
 pub fn candump_run<R: Source, W: Sink>(
     alloc: Global,
     tick: Tick,
@@ -43,12 +43,12 @@ pub fn candump_run<R: Source, W: Sink>(
     Ok(())
 }
 
-/// Reads a plan's text, simulates the plan, and writes the waveform as a Value Change Dump (IEEE 1364-2005, clause 18.2): for each
-/// node its drive, what it finds on the line, the cable and the disturbances at its place, its samples and bit starts, and what it is at; a
-/// tick of the plan takes as long as `tick` says.
+/// Reads a plan's text, simulates the plan, and writes the waveform as a Value Change Dump (IEEE 1364-2005, clause 18.2). Of each node that
+/// is its drive, what it finds on the line, the cable and the disturbances at its place, its samples and bit starts, and its state. A tick
+/// of the plan takes as long as `tick` says.
 ///
-/// The output goes out by pieces, as it is found; memory is asked for before the first of them. Where the input is refused, or memory
-/// runs out, the writer isn't called; where the writer fails, a prefix of the output has been written.
+/// The output goes out by pieces, as it is found; memory is asked for before the first of them. If the input is refused, or memory runs
+/// out, the writer isn't called; if the writer fails, a prefix of the output has been written.
 pub fn vcd_run<R: Source, W: Sink>(
     alloc: Global,
     tick: Tick,
@@ -63,7 +63,7 @@ pub fn vcd_run<R: Source, W: Sink>(
     Ok(())
 }
 
-/// The trace of a plan's simulation, under these names of its nodes.
+/// Returns the trace of a plan's simulation, under these names of its nodes.
 fn trace_text(alloc: Global, plan: &Plan, names: &Names) -> Result<Vec<u8>, AllocError>
     requires { IsChecked plan.now }
     ensures { IfOk result (λ text. text.items ≡ trace_text plan.now names.now) }
@@ -74,8 +74,8 @@ fn trace_text(alloc: Global, plan: &Plan, names: &Names) -> Result<Vec<u8>, Allo
 
 /// Reads a plan's text, simulates the plan, and writes a line for each event of each node, in the order of their ticks.
 ///
-/// The whole output stands before the first write. Where the input is refused, or memory runs out, the writer isn't called;
-/// where the writer fails, a prefix of the output has been written.
+/// The whole output is made before the first write. If the input is refused, or memory runs out, the writer isn't called; if the writer
+/// fails, a prefix of the output has been written.
 pub fn trace_run<R: Source, W: Sink>(
     alloc: Global,
     reader: &mut R,

@@ -29,7 +29,7 @@ impl Gate for OpenGate {
     }
 }
 
-/// The report of a plan's simulation by so many workers, over this kind of link.
+/// Returns the report of a plan's simulation by this many workers, over this kind of link.
 fn report_by<H: Threads + Wait + Sync>(
     rt: &H,
     alloc: Global,
@@ -46,12 +46,12 @@ fn report_by<H: Threads + Wait + Sync>(
     Ok(report(alloc, &outcome)?)
 }
 
-/// Reads a plan's text, simulates the plan by so many workers, each in a thread of its own, that hand records over by this kind of link, and
-/// writes the report that one thread comes to (`plan_run`).
+/// Reads a plan's text, simulates the plan by `workers` workers, and writes the report of the one-thread simulation (`plan_run`). Each
+/// worker has a thread of its own, and they hand records over by this kind of link.
 ///
-/// The whole output is made before the first write. Where the input is refused, the workers come to no outcome, or memory runs out, the
-/// writer isn't called; where the writer fails, a prefix of the output has been written. It refuses 0 workers and more than 8, once a plan
-/// was read. It may wait: no clause says that it returns.
+/// The whole output is made before the first write. If the input is refused, the workers have no outcome, or memory runs out, the writer
+/// isn't called; if the writer fails, a prefix of the output has been written. It refuses 0 workers and more than 8, once a plan was read.
+/// It may wait: no clause says that it returns.
 pub fn workers_run_by<H: Threads + Wait + Sync, R: Source, W: Sink>(
     rt: &H,
     alloc: Global,
@@ -68,7 +68,7 @@ pub fn workers_run_by<H: Threads + Wait + Sync, R: Source, W: Sink>(
     Ok(())
 }
 
-/// The same by workers over one hub.
+/// Does the same by workers over one hub.
 pub fn workers_run<H: Threads + Wait + Sync, R: Source, W: Sink>(
     rt: &H,
     alloc: Global,

@@ -24,7 +24,7 @@ pub trait Folder {
     /// A file that is written.
     type Writer: Sink + Drop;
 
-    /// What is known of what stands at a name.
+    /// What is known of what is at a name.
     ghost stands: { Self → List ℕ → Standing };
 
     /// What is known of what a written file holds.
@@ -37,7 +37,7 @@ pub trait Folder {
     fn open(&self, name: &str) -> io::Result<Self::Reader>
         ensures { IfOk result (λ file. opens self.now name.now file) };
 
-    /// Opens a file once more, from its front; `None` where it is none, as a pipe, or can't be opened. It changes no file.
+    /// Opens a file once more, from its front; `None` if it is none, as a pipe, or can't be opened. It changes no file.
     fn open_again(&self, name: &str) -> Option<Self::Reader>;
 
     /// Begins a new file for this name, which has nothing yet. Nothing changes at any name.
@@ -45,7 +45,7 @@ pub trait Folder {
         ensures keeps { Keeps (stands self.old) (stands self.new) }
         ensures empty { IfOk result (λ file. IsEmpty (holds file)) };
 
-    /// Moves a new file to this name, and answers whether it is there. Where it isn't, nothing has changed at any name.
+    /// Moves a new file to this name. True if it is there; if it isn't, nothing has changed at any name.
     fn place(&mut self, file: Self::Writer, name: &str) -> bool
         ensures { Places (stands self.old) (stands self.new) name.now (holds file) result };
 

@@ -11,13 +11,13 @@ use wl_device::{ScriptedReader, ScriptedWriter, Then};
 pub struct ScriptedFolder<'a> {
     /// The name of the file.
     pub name: &'a str,
-    /// What it holds; `None` where there is none.
+    /// What it holds; `None` if there is none.
     pub held: Option<Vec<u8>>,
     /// What reading it gives.
     pub text: &'a [u8],
     /// A file can be opened.
     pub opens: bool,
-    /// A new file can be begun, and takes so many bytes.
+    /// A new file can be begun, and takes this many bytes.
     pub room: Option<usize>,
     /// A new file can be moved to its name.
     pub places: bool,

@@ -19,7 +19,7 @@ pub struct SystemFolder<'a, R: Files> {
 }
 
 impl<'a, R: Files> SystemFolder<'a, R> {
-    /// The files that this runtime reaches.
+    /// Returns the files that this runtime reaches.
     pub fn new(files: &'a R) -> SystemFolder<'a, R> {
         SystemFolder { files }
     }
@@ -50,13 +50,13 @@ impl<F: io::Write + Drop> Sink for SystemFile<F> {
     }
 }
 
-/// An open file whose descriptor is above those of the standard streams, which may be closed: a file in the place of one of them would
-/// get what is written to it.
+/// Returns an open file whose descriptor is above those of the standard streams. These may be closed, and a file in the place of one of
+/// them would get what is written to it.
 fn apart<F: OpenFile + Drop>(file: F) -> io::Result<F> {
     file.try_clone()
 }
 
-/// What a path of an existing file is when its links are followed.
+/// Returns what a path of an existing file is when its links are followed.
 fn followed<R: Files>(files: &R, alloc: Global, name: &str) -> Result<String, BeginFault> {
     match files.symlink_metadata(name) {
         Ok(found) if found.is_symlink() => match files.canonicalize(alloc, name) {
@@ -68,7 +68,7 @@ fn followed<R: Files>(files: &R, alloc: Global, name: &str) -> Result<String, Be
     }
 }
 
-/// The path of a file that isn't there; a link that leads to none is refused.
+/// Returns the path of a file that isn't there; a link that leads to none is refused.
 fn unused<R: Files>(files: &R, alloc: Global, name: &str) -> Result<String, BeginFault> {
     match files.symlink_metadata(name) {
         Ok(_) => Err(BeginFault::Refused),
@@ -92,7 +92,7 @@ fn fault_of(error: &io::Error) -> BeginFault {
     }
 }
 
-/// The part of a path up to its last `/`, with it; nothing where it has none.
+/// Returns the part of a path up to its last `/`, with it; nothing if it has none.
 fn folder_of(path: &str) -> &str {
     match path.rsplit_once('/') {
         Some((folder, _)) => path.get(..folder.len() + 1).unwrap_or(""),
@@ -100,7 +100,7 @@ fn folder_of(path: &str) -> &str {
     }
 }
 
-/// A name for a new file in the folder of a path.
+/// Returns a name for a new file in the folder of a path.
 fn fresh_name(alloc: Global, path: &str, number: u32) -> Result<String, BeginFault> {
     let folder = folder_of(path);
     match format!(in alloc; "{folder}.wireline-{number}.new") {
@@ -109,14 +109,14 @@ fn fresh_name(alloc: Global, path: &str, number: u32) -> Result<String, BeginFau
     }
 }
 
-/// A new file of a name that there wasn't, opened for writing.
+/// Returns a new file of a name that there wasn't, opened for writing.
 fn make<R: Files>(files: &R, name: &str) -> io::Result<R::File> {
     let mut how = OpenOptions::new();
     how.write(true).create_new(true);
     how.open(files, name)
 }
 
-/// A new file in the folder of a path, and its name.
+/// Returns a new file in the folder of a path, and its name.
 fn make_beside<R: Files>(
     files: &R,
     alloc: Global,
@@ -146,7 +146,8 @@ fn open_old<R: Files>(files: &R, name: &str) -> Result<R::File, BeginFault> {
     }
 }
 
-/// A new file beside a path, which goes there; it has the rights of the file that is there, which it refuses where that can't be written.
+/// Returns a new file beside a path, which goes there. It has the rights of the file that is there, and is refused if that can't be
+/// written.
 fn begin_beside<R: Files>(
     files: &R,
     alloc: Global,
@@ -173,7 +174,7 @@ fn begin_beside<R: Files>(
     }
 }
 
-/// A device, as a pipe, opened for writing.
+/// Returns a device, as a pipe, opened for writing.
 fn begin_device<R: Files>(files: &R, name: &str) -> Result<SystemFile<R::File>, BeginFault> {
     let opened = open_old(files, name)?;
     match apart(opened) {

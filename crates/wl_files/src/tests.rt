@@ -1,5 +1,5 @@
-//! What no clause says: that a folder does what it is asked while nothing fails; and of the system's files, of which nothing is known to a
-//! clause, that an old file stays where any call fails, and that nothing else is left.
+//! What no clause says. A folder does what it is asked if nothing fails. Of the system's files no clause knows anything: an old file stays
+//! if any call fails, and nothing else is left.
 
 use crate::{BeginFault, Folder, ScriptedFolder, SystemFolder};
 use std::alloc::{AllocError, Allocator, Global};
@@ -32,7 +32,7 @@ fn a_new_file_is_moved_to_its_name(rt: HostRuntime) {
     }
 }
 
-/// Files of which one call fails: that after so many others.
+/// Files with one call that fails: the one after this many others.
 #[derive(Drop)]
 struct Failing<R: Files + Drop> {
     files: R,
@@ -46,7 +46,7 @@ struct FailingFile<F: Drop> {
     left: Arc<AtomicU32, Global>,
 }
 
-/// Counts a call, which fails where none is left before it.
+/// Counts a call, which fails if none is left before it.
 fn count(left: &AtomicU32) -> io::Result<()> {
     if left.fetch_sub(1, Ordering::SeqCst) == 0 {
         Err(io::Error::from(ErrorKind::StorageFull))
@@ -170,7 +170,7 @@ impl<R: Files + Drop> Files for Failing<R> {
     }
 }
 
-/// Whether a folder put a new file with this text at a name.
+/// True if a folder put a new file with this text at a name.
 fn put<F: Folder>(folder: &mut F, alloc: Global, name: &str, text: &[u8]) -> bool {
     let Ok(mut made) = folder.begin(alloc, name) else {
         return false;
@@ -183,7 +183,7 @@ fn put<F: Folder>(folder: &mut F, alloc: Global, name: &str, text: &[u8]) -> boo
     }
 }
 
-/// Whether a folder gives all of this text where a file of this name is opened, and opened once more.
+/// True if a folder gives all of this text when a file of this name is opened, and opened once more.
 fn gives<F: Folder>(
     folder: &F,
     alloc: Global,
@@ -204,7 +204,8 @@ fn fill<R: Files>(files: &R, name: &str, text: &[u8]) -> io::Result<()> {
     file.write_all(text)
 }
 
-/// Whether a run over files of which a call fails put a new text at a name, which has that then, and else what was there; as the system has it.
+/// Returns whether a run over the system's files, one call to which fails, put a new text at a name. The name has that text then, and else
+/// what was there.
 fn is_old_or_new<R: Files + Drop>(
     failing: &Failing<R>,
     system: &R,
@@ -221,7 +222,7 @@ fn is_old_or_new<R: Files + Drop>(
     Ok((done, holds))
 }
 
-/// A folder of the system for one test.
+/// Returns a folder of the system for one test.
 fn room<R: Files + Env + AllocGlobal>(rt: &R) -> io::Result<String> {
     let folder = std::env::temp_dir(rt)?;
     for n in 0..1000 {

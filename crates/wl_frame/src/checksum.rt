@@ -13,8 +13,8 @@ const LOW_BITS: u16 = 0x7fff;
 /// The generator without its first bit.
 const GENERATOR: u16 = 0x4599;
 
-/// The CRC sequence of a list of bits, as a number of 15 bits. The generator is x^15 + x^14 + x^10 +
-/// x^8 + x^7 + x^4 + x^3 + 1, and the register starts at 0.
+/// Returns the CRC sequence of a list of bits, as a number of 15 bits. The generator is x^15 + x^14
+/// + x^10 + x^8 + x^7 + x^4 + x^3 + 1, and the register starts at 0.
 pub fn crc15(bits: &[Level]) -> u16
     ensures value { result ≡ crc_of bits.now }
     ensures below { result < 2 ^ 15 }
@@ -26,7 +26,7 @@ pub fn crc15(bits: &[Level]) -> u16
     register
 }
 
-/// The register after one more bit.
+/// Returns the register after one more bit.
 #[tactic(auto, unfolding(crate::specs::Register::register_after))]
 fn shifted_in(register: u16, bit: Level) -> u16
     requires { register < 2 ^ 15 }

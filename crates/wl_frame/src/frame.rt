@@ -79,7 +79,7 @@ impl Frame {
     ghost use Rattle.wl_frame.specs.Header.{arbitration_bits, control_bits, sent_free};
     ghost use Rattle.wl_frame.specs.Stuffing.{Stuffs};
 
-    /// The base frame of these numbers.
+    /// Returns the base frame of these numbers.
     ///
     /// `id` is at most 0x7ff, else [`FrameFault::Id`]; `dlc` is at most 15, else
     /// [`FrameFault::Dlc`]; a data frame has `min(dlc, 8)` bytes and a remote frame none, else
@@ -103,7 +103,7 @@ impl Frame {
         })
     }
 
-    /// The extended frame of these numbers.
+    /// Returns the extended frame of these numbers.
     ///
     /// `dlc` is at most 15, else [`FrameFault::Dlc`]; a data frame has `min(dlc, 8)` bytes and a
     /// remote frame none, else [`FrameFault::DataLength`]; `id` is at most 0x1fffffff, else
@@ -127,9 +127,9 @@ impl Frame {
         })
     }
 
-    /// The frame that a whole list of bits carries, without stuff bits, from the start of frame to
-    /// the last of the CRC sequence. SRR, the reserved bits and the CRC sequence are not looked at:
-    /// where the list begins dominant and its CRC sequence is right it is a frame, and else none.
+    /// Returns the frame that a whole list of bits carries, without stuff bits, from the start of
+    /// frame to the last of the CRC sequence. SRR, the reserved bits and the CRC sequence are not
+    /// looked at: the list is a frame if it begins dominant and its CRC sequence is right.
     pub fn from_bits(bits: &[Level]) -> Frame
         requires { is_whole bits.now ≡ true }
         ensures { result ≡ content_of bits.now }
@@ -154,7 +154,7 @@ impl Frame {
         self.extended
     }
 
-    /// The identifier, 11 or, extended, 29 bits.
+    /// Returns the identifier, 11 or, extended, 29 bits.
     pub fn id(&self) -> u32
         ensures value { result ≡ self.now.id }
         ensures content { IsContent self.now }
@@ -170,7 +170,7 @@ impl Frame {
         self.remote
     }
 
-    /// The data length code, 0 to 15, as it was given or read.
+    /// Returns the data length code, 0 to 15, as it was given or read.
     pub fn dlc(&self) -> u32
         ensures value { result ≡ self.now.dlc }
         ensures content { IsContent self.now }
@@ -178,7 +178,7 @@ impl Frame {
         self.dlc
     }
 
-    /// The bytes, 0 to 8, the one sent first in front.
+    /// Returns the bytes, 0 to 8, the one sent first in front.
     pub fn bytes(&self) -> &[u8]
         ensures value { result.now ≡ self.now.bytes }
         ensures most { length result.now ≤ 8 }
@@ -188,8 +188,8 @@ impl Frame {
         &self.bytes[..count]
     }
 
-    /// The bits from the start of frame to the last of the CRC sequence, without stuff bits: 34 to
-    /// 98, extended 54 to 118. SRR is recessive, the reserved bits are dominant.
+    /// Returns the bits from the start of frame to the last of the CRC sequence, without stuff
+    /// bits: 34 to 98, extended 54 to 118. SRR is recessive, the reserved bits are dominant.
     pub fn bits(&self) -> FrameBits
         ensures bits { result.items ≡ bits_of self.now }
         ensures frame { IsFrame result.items self.now }
@@ -202,14 +202,14 @@ impl Frame {
         bits
     }
 
-    /// The same bits with their stuff bits, as they are sent.
+    /// Returns the same bits with their stuff bits, as they are sent.
     pub fn stuffed(&self) -> StuffedBits
         ensures { Stuffs result.items (bits_of self.now) }
     {
         stuff(self.bits().as_slice())
     }
 
-    /// What the CRC sequence is of: the bits from the start of frame to the last data bit.
+    /// Returns what the CRC sequence is of: the bits from the start of frame to the last data bit.
     fn covered(&self) -> FrameBits
         ensures bits { result.items ≡ bits_before_crc self.now sent_free }
         ensures room { length result.items ≤ most_bits_before_crc }
@@ -253,7 +253,7 @@ impl Frame {
     }
 }
 
-/// The first refusal of a data length code and the bytes with it.
+/// Returns the first refusal of a data length code and the bytes with it.
 fn data_fault(remote: bool, dlc: u32, bytes: &[u8]) -> Option<FrameFault>
     ensures value { result ≡ data_fault remote dlc bytes.now }
     ensures code { result ≡ None → dlc ≤ 15 }
@@ -268,7 +268,7 @@ fn data_fault(remote: bool, dlc: u32, bytes: &[u8]) -> Option<FrameFault>
     None
 }
 
-/// The bytes of a whole list of bits, from a place on, and zeros after them.
+/// Returns the bytes of a whole list of bits, from a place on, and zeros after them.
 fn bytes_at(bits: &[Level], from: usize, count: usize) -> [u8; MOST_BYTES]
     requires few { count ≤ 8 }
     requires there { from + 8 * count ≤ length bits.now }
@@ -302,7 +302,7 @@ impl PartialEq for Frame {
 
     ghost laws = { same_content_laws };
 
-    /// Two frames are equal where format, identifier, kind, data length code and bytes are.
+    /// True if two frames have the same format, identifier, kind, data length code and bytes.
     #[tactic(auto, unfolding(crate::specs::Same::same_content), using(crate::specs::Same::content_decides))]
     fn eq(&self, other: &Frame) -> bool
         ensures value { result ≡ same_content self.now other.now }
@@ -322,7 +322,7 @@ impl Eq for Frame {
     ghost laws = { same_content_equiv };
 }
 
-/// How many bytes a frame has.
+/// Returns how many bytes a frame has.
 pub(crate) fn byte_count(remote: bool, dlc: u32) -> usize
     ensures value { result ≡ byte_count remote dlc }
     ensures most { result ≤ 8 }
@@ -330,7 +330,7 @@ pub(crate) fn byte_count(remote: bool, dlc: u32) -> usize
     if remote { 0 } else { dlc.min(8) as usize }
 }
 
-/// The bytes with zeros after them.
+/// Returns the bytes with zeros after them.
 fn zero_filled(bytes: &[u8]) -> [u8; MOST_BYTES]
     requires { length bytes.now ≤ 8 }
     ensures { result ≡ eight_bytes bytes.now }

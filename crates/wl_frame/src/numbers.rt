@@ -9,7 +9,7 @@ ghost use Rattle.wl_frame.specs.Limits.{most_bits};
 use crate::frame::FrameBits;
 use wl_level::Level;
 
-/// The number that at most 18 bits spell.
+/// Returns the number that at most 18 bits spell.
 pub(crate) fn number(bits: &[Level]) -> u32
     requires { length bits.now ≤ 18 }
     ensures { result ≡ number_of (map bit_of_level bits.now) }
@@ -33,7 +33,7 @@ pub(crate) fn push_number(bits: &mut FrameBits, number: u32, count: u32)
     }
 }
 
-/// The bit of a number at a place, the least significant being at 0.
+/// Returns the bit of a number at a place, the least significant being at 0.
 fn level_at(number: u32, place: u32) -> Level
     requires { place < 32 }
     ensures { result ≡ level_of_bit (bit_at number place == 1) }
@@ -41,7 +41,7 @@ fn level_at(number: u32, place: u32) -> Level
     level_of((number >> place) & 1 == 1)
 }
 
-/// The level of a bit: recessive for 1.
+/// Returns the level of a bit: recessive for 1.
 pub(crate) fn level_of(bit: bool) -> Level
     ensures { result ≡ level_of_bit bit }
 {

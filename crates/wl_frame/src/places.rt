@@ -11,7 +11,7 @@ use crate::frame::byte_count;
 use crate::numbers::number;
 use wl_level::Level;
 
-/// Where the identifier begins, of which 11 bits stand together.
+/// The place of an identifier, whose first 11 bits come together.
 const ID: usize = 1;
 
 /// The place of the RTR bit of a base frame, and of the SRR bit of an extended one.
@@ -41,14 +41,14 @@ pub(crate) const ID_END: u32 = 0x4_0000;
 /// How many bits a CRC sequence has.
 const CRC_LENGTH: usize = 15;
 
-/// The IDE bit is there and recessive.
+/// True if the IDE bit is there and recessive.
 pub(crate) fn is_extended(bits: &[Level]) -> bool
     ensures { result ≡ is_extended bits.now }
 {
     IDE < bits.len() && !bits[IDE].is_dominant()
 }
 
-/// How many bits the header has.
+/// Returns how many bits the header has.
 pub(crate) fn header_length(bits: &[Level]) -> usize
     ensures value { result ≡ (layout_of bits.now).header }
     ensures least { 19 ≤ result }
@@ -61,7 +61,7 @@ pub(crate) fn header_length(bits: &[Level]) -> usize
     }
 }
 
-/// The identifier.
+/// Returns the identifier.
 pub(crate) fn identifier(bits: &[Level]) -> u32
     requires { (layout_of bits.now).header ≤ length bits.now }
     ensures { result ≡ (content_of bits.now).id }
@@ -74,7 +74,7 @@ pub(crate) fn identifier(bits: &[Level]) -> u32
     }
 }
 
-/// The bits are those of a whole frame, by its own data length code. In constant time.
+/// True if the bits are those of a whole frame, by its own data length code. In constant time.
 pub fn is_whole(bits: &[Level]) -> bool
     ensures { result ≡ is_whole bits.now }
 {
@@ -82,8 +82,8 @@ pub fn is_whole(bits: &[Level]) -> bool
         && bits.len() == places_covered(bits) + CRC_LENGTH
 }
 
-/// How many bits a frame that begins so has still to come at least, up to the last of its CRC sequence: by its
-/// format, and by its data length code once that is there. In constant time.
+/// Returns how many bits a frame that begins so still has at least, up to the last of its CRC sequence. It goes by the format, and by the
+/// data length code once that is there. In constant time.
 #[tactic(auto, unfolding(crate::specs::Grammar::bits_left))]
 pub fn bits_left(bits: &[Level]) -> usize
     ensures value { result ≡ bits_left bits.now }
@@ -98,23 +98,22 @@ pub fn bits_left(bits: &[Level]) -> usize
     (covered + CRC_LENGTH).saturating_sub(bits.len())
 }
 
-/// The place is one of the arbitration, where a sender of these bits may lose: after the start of
-/// frame, up to the RTR bit. Without an IDE bit they count as a base frame's.
+/// True if the place is one of the arbitration, at which a sender of these bits may lose: after the start of frame, up to the RTR bit. Bits
+/// without an IDE bit count as a base frame's.
 pub fn is_arbitration(bits: &[Level], place: usize) -> bool
     ensures { result ≡ is_arbitration bits.now place }
 {
     0 < place && place <= rtr_place(bits)
 }
 
-/// The place of the RTR bit, the last of the arbitration. Bits without an IDE bit count as a base
-/// frame's.
+/// Returns the place of the RTR bit, the last of the arbitration. Bits without an IDE bit count as a base frame's.
 pub fn rtr_place(bits: &[Level]) -> usize
     ensures { result ≡ (layout_of bits.now).rtr }
 {
     if is_extended(bits) { EXTENDED_RTR } else { RTR }
 }
 
-/// The CRC sequence of a whole list is that of the bits before it. In time linear in the bits.
+/// True if the CRC sequence of a whole list is that of the bits before it. In time linear in the bits.
 pub fn is_crc_right(bits: &[Level]) -> bool
     requires { is_whole bits.now ≡ true }
     ensures { result ≡ is_crc_right bits.now }
@@ -123,7 +122,7 @@ pub fn is_crc_right(bits: &[Level]) -> bool
     u32::from(crc15(&bits[..covered])) == number(&bits[covered..])
 }
 
-/// The RTR bit is recessive.
+/// True if the RTR bit is recessive.
 pub(crate) fn is_remote(bits: &[Level]) -> bool
     requires { (layout_of bits.now).header ≤ length bits.now }
     ensures { result ≡ (content_of bits.now).remote }
@@ -131,7 +130,7 @@ pub(crate) fn is_remote(bits: &[Level]) -> bool
     !bits[rtr_place(bits)].is_dominant()
 }
 
-/// The data length code.
+/// Returns the data length code.
 pub(crate) fn data_length_code(bits: &[Level]) -> u32
     requires { (layout_of bits.now).header ≤ length bits.now }
     ensures { result ≡ (content_of bits.now).dlc }
@@ -140,7 +139,7 @@ pub(crate) fn data_length_code(bits: &[Level]) -> u32
     number(&bits[header - DLC_LENGTH..header])
 }
 
-/// How many bits the CRC sequence covers.
+/// Returns how many bits the CRC sequence covers.
 fn places_covered(bits: &[Level]) -> usize
     requires { (layout_of bits.now).header ≤ length bits.now }
     ensures value { result ≡ covered_length bits.now }

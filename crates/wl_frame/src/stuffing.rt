@@ -8,15 +8,15 @@ use crate::limits::MOST_BITS;
 use arrayvec::ArrayVec;
 use wl_level::Level;
 
-/// Bits of which no six neighbours are equal.
+/// Bits among which no six neighbours are equal.
 pub type StuffedBits = ArrayVec<Level, MOST_BITS>;
 
-/// The equal bits after which a stuff bit stands.
+/// The equal bits after which a stuff bit is due.
 const LONGEST_RUN: usize = 5;
 
-/// The list with a bit of the other level after each five equal ones, which counts as the first of
-/// the next run. After the last bit too, where one is due there: this project's profile. It takes at
-/// most [`MOST_UNSTUFFED`](crate::limits::MOST_UNSTUFFED) bits.
+/// Returns the list with a bit of the other level after each five equal ones, which counts as the
+/// first of the next run. It comes after the last bit too, if one is due there: this project's
+/// profile. The list has at most [`MOST_UNSTUFFED`](crate::limits::MOST_UNSTUFFED) bits.
 pub fn stuff(bits: &[Level]) -> StuffedBits
     requires { length bits.now ≤ most_unstuffed }
     ensures { Stuffs result.items bits.now }

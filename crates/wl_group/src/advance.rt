@@ -29,8 +29,8 @@ impl Group {
     ghost use Rattle.wl_group.specs.Going.{HasGoneOn, HasRunSome, IsWithin, IsKnownAt};
     ghost use Rattle.wl_group.specs.Said.{reply_of_answer, HasAnswered};
 
-    /// Runs the next quantum of a node, if it may run. Any number may be asked. Refused out of
-    /// memory, the group is as it was; that is where the node may run alone, since else nothing grows.
+    /// Runs the next quantum of a node, if it may run. Any number may be asked. Refused out of memory, the group is as it was; only a node
+    /// that may run can be refused, since else nothing grows.
     pub fn advance(&mut self, node: u8) -> Result<Advance, AllocError>
         ensures value { IfOk result (λ a. HasReplied node self.old self.new (reply_of_answer a)) }
         ensures answer { IfOk result (λ a. HasAnswered node self.old self.new a) }
@@ -50,12 +50,12 @@ impl Group {
         Ok(Advance::Blocked)
     }
 
-    /// Runs quanta of a node in a row, if it may run one, and says what they come to: the change of its drive, if there is one,
-    /// and one promise in the place of each quantum's. None where the node may not run; nothing changed then. Any number may be asked.
+    /// Runs quanta of a node in a row, if it may run one. Returns the change of its drive, if there is one, and one promise in the place of
+    /// each quantum's; none if the node may not run, and then nothing changed. Any number may be asked.
     ///
-    /// It goes on up to the first quantum that changes the drive, or that is not below its last promise, and below the end,
-    /// below what is known of the line at its place, and as long as that stays as it is: so it may run fewer quanta than it could.
-    /// Refused out of memory, the group is as it was.
+    /// It goes on up to the first quantum that changes the drive, or that is not below its last promise. It stays below the end and below
+    /// what is known of the line at its place, and stops if the line there changes. So it may run fewer quanta than it could. Refused out
+    /// of memory, the group is as it was.
     pub fn go(&mut self, node: u8) -> Result<Option<Emission>, AllocError>
         ensures none { IfOk result (λ gone. IfNone gone ((may_run self.old node ≡ false) × (self.new ≡ self.old))) }
         ensures gone { IfOk result (λ gone. IfSome gone (λ said. HasGoneOn node self.old self.new said.items)) }
@@ -81,7 +81,7 @@ impl Group {
         Ok(Some(said))
     }
 
-    /// The tick below which the line is known at a node's place, if the node may run its next quantum. Any number may be asked.
+    /// Returns the tick below which the line is known at a node's place, if the node may run its next quantum. Any number may be asked.
     ///
     /// It looks first at the node that this one waited for last.
     fn known_for(&mut self, node: u8) -> Option<u64>
@@ -107,7 +107,7 @@ impl Group {
         None
     }
 
-    /// The tick below which the line is known at a member's place.
+    /// Returns the tick below which the line is known at a member's place.
     fn known_at(&self, node: u8) -> u64
         requires { belongs self.now node ≡ true }
         ensures { IsKnownAt self.now node result }
@@ -116,7 +116,7 @@ impl Group {
         known_by(&self.replica, self.ways(node))
     }
 
-    /// Whether a member's next quantum is before the end and before what is known at its place, which is known up to this tick.
+    /// True if a member's next quantum is before the end and before what is known at its place, which is known up to this tick.
     fn is_before(&self, node: u8, known: u64) -> bool
         requires member { belongs self.now node ≡ true }
         requires known { IsKnownAt self.now node known }
@@ -137,7 +137,7 @@ impl Group {
         i < self.replica.nodes() && known_of(&self.replica, self.ways(node), i) <= self.due(node)
     }
 
-    /// The first node that a member waits for, or else the number of nodes.
+    /// Returns the first node that a member waits for, or else the number of nodes.
     fn first_awaited(&self, node: u8) -> u8
         requires { belongs self.now node ≡ true }
     {
@@ -149,8 +149,8 @@ impl Group {
         self.replica.nodes()
     }
 
-    /// Advances the members until none can, and answers what they emitted, in order. Refused out
-    /// of memory, the advances that were made stand, and `emitted` has their records.
+    /// Advances the members until none can, and returns what they emitted, in order. Refused out of memory, the advances that were made
+    /// stay, and `emitted` has their records.
     pub fn advance_all(&mut self, alloc: Global) -> Result<Vec<Record>, AllocError>
         ensures all { IfOk result (λ rs. Ran self.old rs.items self.new) }
         ensures some { OnErr result ((rs : List Record) × Ran self.old rs self.new) }
@@ -168,7 +168,7 @@ impl Group {
         Ok(all)
     }
 
-    /// The least member that may run its next quantum; none exactly where none may.
+    /// Returns the least member that may run its next quantum; none exactly if none may.
     pub fn ready(&self) -> Option<u8>
         ensures ready { IfSome result (λ i. may_run self.now i ≡ true) }
         ensures least { IfSome result (λ i. (j : ℕ) → j < i → may_run self.now j ≡ false) }
@@ -240,8 +240,8 @@ impl Group {
         Ok(said)
     }
 
-    /// How many quanta of a member that may run come before a tick, before the end, below what is known at its place, and not
-    /// after its promise.
+    /// Returns how many quanta of a member that may run come before a tick, before the end, below what is known at its place, and not after
+    /// its promise.
     fn quanta_until(&self, i: u8, until: u64, known: u64) -> u64
         requires may { may_run self.now i ≡ true }
         requires known { IsKnownAt self.now i known }
@@ -269,12 +269,11 @@ const MOST_EMITTED: usize = 2;
 /// No fewer quanta than a node runs.
 const ALL_QUANTA: u64 = u64::MAX;
 
-/// Runs quanta of a member in a row, at each of which it reads this level: one at least, `most` at most, none after one that
-/// changes its drive. The replica takes what it says after them, and it is appended to what was emitted.
+/// Runs quanta of a member in a row, each with this level: one at least, `most` at most, none after one that changes its drive. The replica
+/// takes what it says after them, and it is appended to what was emitted.
 ///
-/// Quanta that were run can't be taken back, and what they come to is known only then. So all growth
-/// comes first: the replica makes room in each slot of which the member may say something. Refused
-/// when out of memory, all is as it was.
+/// Quanta that were run can't be taken back, and what they emit is known only then. So all growth comes first: the replica makes room in
+/// each slot about which the member may say something. Refused when out of memory, all is as it was.
 fn run_cell(
     alloc: Global,
     cell: &mut Cell,

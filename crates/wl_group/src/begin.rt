@@ -23,7 +23,7 @@ use wl_topology::MOST_NODES;
 /// For each number that a node may have, whether it is chosen.
 pub(crate) type Chosen = [bool; MOST_NODES];
 
-/// The numbers of a list.
+/// Returns the numbers of a list.
 pub(crate) fn chosen_of(members: &[u8]) -> Chosen
     requires { All (λ m. m < 16) members.now }
     ensures { (i : ℕ) → is_chosen result i ≡ names members.now i }
@@ -35,14 +35,14 @@ pub(crate) fn chosen_of(members: &[u8]) -> Chosen
     chosen
 }
 
-/// Whether the list has this number.
+/// True if the list has this number.
 fn is_named(members: &[u8], i: u8) -> bool
     ensures { result ≡ names members.now i }
 {
     members.iter().any(|m| *m == i)
 }
 
-/// For each node of the plan that is chosen, the node before its first quantum.
+/// Returns, for each node of the plan that is chosen, the node before its first quantum.
 pub(crate) fn fresh_cells(
     alloc: Global,
     plan: &Plan,
@@ -59,7 +59,7 @@ pub(crate) fn fresh_cells(
     Ok(cells)
 }
 
-/// Node `i` before its first quantum, if it is chosen.
+/// Returns node `i` before its first quantum, if it is chosen.
 fn fresh_cell(
     alloc: Global,
     plan: &Plan,
@@ -88,7 +88,7 @@ fn fresh_cell(
     }))
 }
 
-/// How many ticks a level takes from each node to node `j`.
+/// Returns how many ticks a level takes from each node to node `j`.
 fn ways_to(plan: &Plan, j: u8) -> Ways
     requires places { length plan.now.topology.places ≡ length plan.now.nodes }
     requires node { j < length plan.now.nodes }
@@ -101,8 +101,8 @@ fn ways_to(plan: &Plan, j: u8) -> Ways
     ways
 }
 
-/// A replica of the plan's nodes that has taken the first silence of each node that is chosen: that
-/// it keeps its first drive up to its first quantum.
+/// Returns a replica of the plan's nodes that has taken the first silence of each node that is
+/// chosen: that it keeps its first drive up to its first quantum.
 pub(crate) fn first_replica(
     alloc: Global,
     plan: &Plan,
@@ -118,8 +118,8 @@ pub(crate) fn first_replica(
     Ok(replica)
 }
 
-/// What a node says before its first quantum: that it keeps its first drive up to then. It is true of
-/// the plan.
+/// Returns what a node says before its first quantum: that it keeps its first drive up to then. It
+/// is true of the plan.
 pub fn first_silence(plan: &Plan, node: u8) -> Record
     requires checked { IsChecked plan.now }
     requires node { node < length plan.now.nodes }

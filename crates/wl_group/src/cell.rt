@@ -28,8 +28,8 @@ pub(crate) struct Cell {
     pub(crate) ways: Ways,
 }
 
-/// Quanta of one level, up to the first that changes the drive: one at least, `most` at most. Answers how many ran, also where
-/// memory ran out after some. Refused where it ran out before the first, and the node is where it was.
+/// Runs quanta of one level, up to the first that changes the drive: one at least, `most` at most. Returns how many ran, also if memory ran
+/// out after some. Refused if it ran out before the first, and the node is where it was.
 fn run_some(node: &mut Node, level: Level, most: u64) -> Result<u64, AllocError>
     requires some { 0 < most }
     requires short { quanta_of node.old + most ≤ most_run_quanta }
@@ -56,8 +56,8 @@ fn run_some(node: &mut Node, level: Level, most: u64) -> Result<u64, AllocError>
 impl Cell {
     ghost use Rattle.wl_group.specs.Running.{HasGone, HasNotGone, slots_ahead};
 
-    /// The slots of which node `i` may say something at its next quanta, up to one that changes its drive: of that change, and
-    /// of the silence without it and with it.
+    /// Returns the slots about which node `i` may say something at its next quanta, up to one that changes its drive: that change, and the
+    /// silence without it and with it.
     pub(crate) fn next_slots(&self, i: u8) -> [Slot; PREPARED_SLOTS]
         requires { self.now.changed ≤ most_edges }
         ensures { result ≡ slots_ahead i self.now.changed }
@@ -73,9 +73,9 @@ impl Cell {
         ]
     }
 
-    /// Runs quanta of node `i` in a row, at which it reads this level: one at least, `most` at most, and none after one that
-    /// changes its drive. Answers what it says after them: that change, if there is one, and up to which tick it is sure to
-    /// keep its drive from then on. Refused where memory runs out before the first, and the member is where it was.
+    /// Runs quanta of node `i` in a row, at which it reads this level: one at least, `most` at most, and none after one that changes its
+    /// drive. Returns what it says after them: that change, if there is one, and up to which tick it is sure to keep its drive from then
+    /// on. Refused if memory runs out before the first, and the member is where it was.
     pub(crate) fn go(&mut self, i: u8, level: Level, most: u64) -> Result<Emission, AllocError>
         requires some { 0 < most }
         requires quanta { quanta_of self.old.node + most ≤ most_quanta }

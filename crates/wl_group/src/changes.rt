@@ -18,8 +18,9 @@ use wl_replica::{Replica, Word};
 impl Group {
     ghost use Rattle.wl_group.specs.GroupValue.{belongs, members_now, has_ended};
 
-    /// The ticks, in order, at which a member's drive changes in the one-thread simulation before its
-    /// next quantum; at the end these are all that it has. Refused only when out of memory.
+    /// Returns the ticks, in order, at which a member's drive changes in the one-thread simulation
+    /// before its next quantum; at the end these are all that it has. Refused only when out of
+    /// memory.
     pub fn changes(&self, alloc: Global, node: u8) -> Result<Listed<u64>, AllocError>
         requires { belongs self.now node ≡ true }
         ensures so_far { IfOk result (λ list. list
@@ -38,7 +39,7 @@ impl Group {
     }
 }
 
-/// The ticks of a node's first changes, which the replica holds.
+/// Returns the ticks of a node's first changes, which the replica holds.
 fn first_changes(
     alloc: Global,
     replica: &Replica,

@@ -16,9 +16,8 @@ use wl_topology::MOST_NODES;
 
 /// Some nodes of a plan, each of them as far as the line at its place is known, and what is known of all nodes.
 ///
-/// A group runs its nodes without waiting for others: a node may run its next quantum where all that
-/// the line can have at its place by then is known (Chandy and Misra, 1979). Each member is where the
-/// one-thread simulation of the plan has it after as many quanta.
+/// A group runs its nodes without waiting for others: a node may run its next quantum if all that the line can have at its place by then is
+/// known (Chandy and Misra, 1979). Each member is where the one-thread simulation of the plan has it after the same number of quanta.
 #[derive(Drop)]
 pub struct Group {
     pub(crate) alloc: Global,
@@ -65,9 +64,8 @@ impl Group {
     ghost use Rattle.wl_topology.specs.Limits.{most_places};
     ghost use Rattle.wl_group.specs.GroupValue.{IsGroupValue, Matches, belongs, quanta_at, members_now, names, initial_group, may_run, has_ended, with_records, with_state};
 
-    /// A group of these nodes of a plan that passed its check, before their first quanta. It knows no
-    /// more than that each of them keeps its first drive up to its first quantum. A number that comes
-    /// twice counts once. Refused only when out of memory.
+    /// Returns a group of these nodes of a plan that passed its check, before their first quanta. It knows no more than that each of them
+    /// keeps its first drive up to its first quantum. A number that comes twice counts once. Refused only when out of memory.
     pub fn new(alloc: Global, plan: &Plan, members: &[u8]) -> Result<Group, AllocError>
         requires checked { IsChecked plan.now }
         requires nodes { All (λ m. m < length plan.now.nodes) members.now }
@@ -112,7 +110,7 @@ impl Group {
         Ok(())
     }
 
-    /// Takes a record that is true of the plan, as what its groups emit is. Refused when out of memory, the group is as it was.
+    /// Takes a record that is true of the plan, as all that its groups emit. Refused when out of memory, the group is as it was.
     pub fn take(&mut self, entry: Record) -> Result<(), AllocError>
         requires { IsTrueOfPlan self.old.plan entry }
         ensures ok { OnOk result (self.new ≡ with_records (entry ∷ []) self.old) }
@@ -124,8 +122,8 @@ impl Group {
         Ok(())
     }
 
-    /// Takes all that another replica of the plan's nodes knows, where that is true of the plan.
-    /// Refused when out of memory, the group is as it was.
+    /// Takes all that another replica of the plan's nodes knows, if that is true of the plan. Refused when out of memory, the group is as
+    /// it was.
     pub fn join(&mut self, other: &Replica) -> Result<(), AllocError>
         requires nodes { other.now.nodes ≡ length self.old.plan.nodes }
         requires truth { HoldsTrue (length self.old.plan.nodes) (table_of self.old.plan) (slots_of other.now) }
@@ -140,15 +138,15 @@ impl Group {
         Ok(())
     }
 
-    /// Whether node `i` is a member.
+    /// True if node `i` is a member.
     pub fn has(&self, i: u8) -> bool
         ensures { result ≡ belongs self.now i }
     {
         (i as usize) < self.cells.len() && self.cells[i as usize].is_some()
     }
 
-    /// Whether an advance of this node would run a quantum: it is a member, and its next quantum's
-    /// tick is below the end and below what is known of the line at its place. Any number may be asked.
+    /// True if an advance of this node would run a quantum: it is a member, and its next quantum's tick is below the end and below what is
+    /// known of the line at its place. Any number may be asked.
     pub fn can_advance(&self, node: u8) -> bool
         ensures { result ≡ may_run self.now node }
     {
@@ -160,15 +158,15 @@ impl Group {
         due < self.plan.end && due < self.replica.place_horizon(&self.plan.topology, node)
     }
 
-    /// Whether this node is at the end: it is a member, and its next quantum isn't below the end. A node
-    /// that is no member is not. Any number may be asked.
+    /// True if this node is at the end: it is a member, and its next quantum isn't below the end. A node that is no member is not. Any
+    /// number may be asked.
     pub fn has_ended(&self, node: u8) -> bool
         ensures { result ≡ has_ended self.now node }
     {
         self.has(node) && self.due(node) >= self.plan().end
     }
 
-    /// For each number that a node may have, whether it is a member.
+    /// Returns, for each number that a node may have, whether it is a member.
     fn chosen(&self) -> Chosen
         ensures { (i : ℕ) → is_chosen result i ≡ belongs self.now i }
     {
@@ -181,7 +179,7 @@ impl Group {
         chosen
     }
 
-    /// The tick of a member's next quantum.
+    /// Returns the tick of a member's next quantum.
     pub(crate) fn due(&self, node: u8) -> u64
         requires { belongs self.now node ≡ true }
         ensures { result ≡ next_tick (line_of self.now.plan) node (members_now self.now node) }
@@ -194,7 +192,7 @@ impl Group {
         }
     }
 
-    /// How many ticks a level takes from each node to a member.
+    /// Returns how many ticks a level takes from each node to a member.
     pub(crate) fn ways(&self, node: u8) -> &Ways
         requires { belongs self.now node ≡ true }
         ensures ways { AreWays self.now.plan node result.now }
@@ -207,7 +205,7 @@ impl Group {
         }
     }
 
-    /// What is known of all nodes. All of it is true of the plan.
+    /// Returns what is known of all nodes. All of it is true of the plan.
     pub fn replica(&self) -> &Replica
         ensures value { result.now ≡ self.now.replica }
         ensures holds { IsGroupValue self.now }
@@ -215,7 +213,7 @@ impl Group {
         &self.replica
     }
 
-    /// A member's node. It is where the one-thread simulation has it after as many quanta.
+    /// Returns a member's node. It is where the one-thread simulation has it after the same number of quanta.
     pub fn node(&self, i: u8) -> &Node
         requires { belongs self.now i ≡ true }
         ensures node { IsNode (members_now self.now i).saw result.now }
@@ -229,8 +227,7 @@ impl Group {
         }
     }
 
-    /// What the group's advances have emitted since it began or began again, in order. Each record
-    /// is true of the plan.
+    /// Returns what the group's advances have emitted since it began or began again, in order. Each record is true of the plan.
     pub fn emitted(&self) -> &[Record]
         ensures value { result.now ≡ self.now.emitted }
         ensures holds { IsGroupValue self.now }
@@ -238,7 +235,7 @@ impl Group {
         &self.emitted
     }
 
-    /// The plan whose nodes these are.
+    /// Returns the plan whose nodes these are.
     pub fn plan(&self) -> &Plan
         ensures value { result.now ≡ self.now.plan }
         ensures holds { IsGroupValue self.now }

@@ -24,8 +24,8 @@ use wl_record_core::Slot;
 use wl_replica::{Replica, Word};
 use wl_topology::MOST_NODES;
 
-/// For each node a guess how many of its changes have come: as many as when a member last asked. It speeds up the next time, and
-/// decides nothing.
+/// For each node a guess how many of its changes have come: the number when a member last asked. It speeds up the next time, and decides
+/// nothing.
 pub(crate) type Come = [u32; MOST_NODES];
 
 /// A level from a tick on and below another one.
@@ -39,7 +39,7 @@ pub(crate) struct Stretch {
 /// For each node a stretch: of the line where it read it last, of the disturbances there, or of what it drives itself.
 pub(crate) type Heard = [Stretch; MOST_NODES];
 
-/// No place has heard anything.
+/// Returns the state in which no place has heard anything.
 pub(crate) fn nothing_heard() -> Heard
     ensures heard { (l : Line) → AreStretches l result }
     ensures shaken { (plan : GivenPlan) → AreShaken plan result }
@@ -52,7 +52,7 @@ pub(crate) fn nothing_heard() -> Heard
     }; MOST_NODES]
 }
 
-/// The tick of a node's change; 0 where it isn't known.
+/// Returns the tick of a node's change; 0 if it isn't known.
 fn change_at(replica: &Replica, node: u8, seq: u32) -> u64
     ensures { result ≡ tick_in ((slots_of replica.now).edge node seq) }
 {
@@ -62,7 +62,7 @@ fn change_at(replica: &Replica, node: u8, seq: u32) -> u64
     }
 }
 
-/// The most of a node's first changes up to a guess, of which the last is not after a tick.
+/// Returns the greatest number of a node's first changes, up to a guess, whose last one is not after a tick.
 fn sure(replica: &Replica, node: u8, tick: u64, guess: u32) -> u32
     ensures few { result ≤ guess }
     ensures come { 0 < result → tick_in ((slots_of replica.now).edge node (result - 1)) ≤ tick }
@@ -77,7 +77,7 @@ fn sure(replica: &Replica, node: u8, tick: u64, guess: u32) -> u32
     count
 }
 
-/// How many of a node's first `run` changes are not after a tick, where a guess says how many it may be.
+/// Returns how many of a node's first `run` changes are not after a tick; a guess says how many it may be.
 fn changes_until(replica: &Replica, node: u8, run: u32, tick: u64, guess: u32) -> u32
     ensures { AreNotAfter (slots_of replica.now) node run tick result }
 {
@@ -91,7 +91,7 @@ fn changes_until(replica: &Replica, node: u8, run: u32, tick: u64, guess: u32) -
     count
 }
 
-/// The level of a node after so many changes: dominant after an odd number.
+/// Returns the level of a node after this many changes: dominant after an odd number.
 fn level_after(count: u32) -> Level
     ensures { result ≡ level_of (odd count) }
 {
@@ -101,7 +101,7 @@ fn level_after(count: u32) -> Level
     Level::Recessive
 }
 
-/// The tick below which a node of which `run` changes are known has no more than `count` of them, as far as it is known.
+/// Returns the tick below which a node has no more than `count` changes, as far as it is known; `run` of them are known.
 fn kept_until(replica: &Replica, node: u8, run: u32, count: u32, known: u64) -> u64
     ensures few { result ≤ known }
     ensures change { count < run → result ≤ edge_tick replica.now node count }
@@ -113,7 +113,7 @@ fn kept_until(replica: &Replica, node: u8, run: u32, count: u32, known: u64) -> 
     known
 }
 
-/// The tick of the last of a node's first changes, so many of which have come by tick `t`; 0 where none has.
+/// Returns the tick of the last of a node's first changes that have come by tick `t`, `count` in number; 0 if none has.
 fn last_until(replica: &Replica, node: u8, count: u32, t: u64) -> u64
     requires { 0 < count → tick_in ((slots_of replica.now).edge node (count - 1)) ≤ t }
     ensures early { result ≤ t }
@@ -125,7 +125,8 @@ fn last_until(replica: &Replica, node: u8, count: u32, t: u64) -> u64
     change_at(replica, node, count - 1)
 }
 
-/// What node `i` drives around tick `t`, at which that is known: from its last change on, up to the next one or as far as it is known.
+/// Returns what node `i` drives around tick `t`, at which that is known: from its last change on, up to the next one or as far as it is
+/// known.
 fn drive_at(plan: &Plan, replica: &Replica, i: u8, t: u64, come: &mut u32) -> Stretch
     requires checked { IsChecked plan.now }
     requires nodes { replica.now.nodes ≡ length plan.now.nodes }
@@ -152,7 +153,7 @@ fn drive_at(plan: &Plan, replica: &Replica, i: u8, t: u64, come: &mut u32) -> St
     }
 }
 
-/// What node `i` drives around tick `t`: this, unless more is known by now, or what is found anew.
+/// Returns what node `i` drives around tick `t`: this stretch, unless more is known by now, and else what is found again.
 fn drive_around(
     plan: &Plan,
     replica: &Replica,
@@ -177,7 +178,7 @@ fn drive_around(
     drive_at(plan, replica, i, t, come)
 }
 
-/// What node `j` finds of node `i` alone from tick `t` on, at which that is known, and what is kept of that node's drive then.
+/// Returns what node `j` finds of node `i` alone from tick `t` on, at which that is known, and what is kept of that node's drive then.
 fn stretch_of(
     plan: &Plan,
     replica: &Replica,
@@ -218,7 +219,7 @@ fn stretch_of(
     (heard, own)
 }
 
-/// What node `j` finds of all nodes from tick `t` on, at which that is known.
+/// Returns what node `j` finds of all nodes from tick `t` on, at which that is known.
 fn driven_from(
     plan: &Plan,
     replica: &Replica,
@@ -271,7 +272,7 @@ fn driven_from(
     }
 }
 
-/// The tick below which what node `i` drives is known at the place to which these are the ways.
+/// Returns the tick below which what node `i` drives is known at the place to which these are the ways.
 pub(crate) fn known_of(replica: &Replica, ways: &Ways, i: u8) -> u64
     requires node { i < replica.now.nodes }
     requires few { replica.now.nodes ≤ most_places }
@@ -281,7 +282,7 @@ pub(crate) fn known_of(replica: &Replica, ways: &Ways, i: u8) -> u64
     replica.horizon(i) + ways[i as usize]
 }
 
-/// The tick below which the line is known at the place to which these are the ways.
+/// Returns the tick below which the line is known at the place to which these are the ways.
 pub(crate) fn known_by(replica: &Replica, ways: &Ways) -> u64
     requires some { 0 < replica.now.nodes }
     requires few { replica.now.nodes ≤ most_places }
@@ -295,7 +296,7 @@ pub(crate) fn known_by(replica: &Replica, ways: &Ways) -> u64
     least
 }
 
-/// A tick, where it is after tick `t` and before another one, and else that one.
+/// Returns a tick, if it is after tick `t` and before another one, and else that one.
 fn first_after(edge: u64, t: u64, until: u64) -> u64
     requires later { t < until }
     ensures later { t < result }
@@ -309,7 +310,7 @@ fn first_after(edge: u64, t: u64, until: u64) -> u64
     until
 }
 
-/// The tick after `t` at which the next disturbance comes to node `j`, or is over there; 2^64 - 1 where there is none.
+/// Returns the tick after `t` at which the next disturbance arrives at node `j`, or is over there; 2^64 - 1 if there is none.
 fn undisturbed_until(plan: &Plan, j: u8, t: u64) -> u64
     requires checked { IsChecked plan.now }
     requires node { j < length plan.now.nodes }
@@ -327,7 +328,7 @@ fn undisturbed_until(plan: &Plan, j: u8, t: u64) -> u64
     until
 }
 
-/// What the disturbances make at node `j` from tick `t` on.
+/// Returns what the disturbances make at node `j` from tick `t` on.
 fn shaken_from(plan: &Plan, j: u8, t: u64) -> Stretch
     requires checked { IsChecked plan.now }
     requires node { j < length plan.now.nodes }
@@ -343,7 +344,7 @@ fn shaken_from(plan: &Plan, j: u8, t: u64) -> Stretch
     }
 }
 
-/// Dominant where something drives so.
+/// Returns dominant if something drives so.
 fn level_where(dominant: bool) -> Level
     ensures { result ≡ level_of dominant }
 {
@@ -353,7 +354,7 @@ fn level_where(dominant: bool) -> Level
     Level::Recessive
 }
 
-/// The stretch of the disturbances at node `j` in which tick `t` is: this one, or one that is found anew.
+/// Returns the stretch of the disturbances at node `j` that has tick `t`: this one, or one that is found again.
 pub(crate) fn shaken_around(plan: &Plan, shaken: Stretch, j: u8, t: u64) -> Stretch
     requires checked { IsChecked plan.now }
     requires node { j < length plan.now.nodes }
@@ -369,7 +370,7 @@ pub(crate) fn shaken_around(plan: &Plan, shaken: Stretch, j: u8, t: u64) -> Stre
     shaken_from(plan, j, t)
 }
 
-/// The level of the line at node `j` from tick `t` on, at which it is known there, where the disturbances stay in a stretch.
+/// Returns the level of the line at node `j` from tick `t` on, at which it is known there, while the disturbances stay as they are.
 fn found_from(
     plan: &Plan,
     replica: &Replica,
@@ -412,7 +413,8 @@ fn found_from(
     }
 }
 
-/// The stretch in which node `j` finds the line at tick `t`: this one, or one that is found anew, where the disturbances stay in a stretch.
+/// Returns the stretch in which node `j` finds the line at tick `t`: this one, or one that is found again, while the disturbances stay as
+/// they are.
 pub(crate) fn stretch_around(
     plan: &Plan,
     replica: &Replica,

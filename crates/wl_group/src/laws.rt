@@ -27,9 +27,8 @@ pub fn true_replicas_agree()
     group_laws();
 }
 
-/// Law: what holds of groups on every sound line: what an advance emits is true, a quantum that may run
-/// reads the line as it is, and taking what is true or advancing keeps each member where the
-/// one-thread simulation has it.
+/// Law: what holds of groups on every sound line. What an advance emits is true, and a quantum that may run reads the line as it is. Taking
+/// what is true or advancing keeps each member where the one-thread simulation has it.
 pub fn group_laws()
     ensures { GroupLaws }
 {
@@ -39,9 +38,8 @@ pub fn group_laws()
     wl_plan::simulation_laws();
 }
 
-/// Law: when an advance replies what: it emits exactly where the node may run its next quantum, it has
-/// ended exactly where the node is a member whose next quantum is not below the end, and it is
-/// blocked otherwise. Where it does not emit, nothing changes, and what a group has emitted grows by
+/// Law: what an advance replies. It emits exactly if the node may run its next quantum. It has ended exactly if the node is a member whose
+/// next quantum is not below the end. It is blocked otherwise. If it does not emit, nothing changes. What a group has emitted grows by
 /// exactly what its advances emitted.
 #[tactic(auto, using(crate::proofs::AdvanceProofs::advance_laws))]
 pub fn advance_laws()

@@ -119,7 +119,7 @@ impl<T: Truth, J: Cell> Board<T, J> {
     ghost use Rattle.std.specs.Prelude.{◌≡◌, ℕ, List, ◌<◌, ◌≤◌, ◌+◌, ◌^◌, ◌++◌, [], None, Some, IfOk, length, vec_len, vec_capacity};
     ghost use Rattle.wl_hub.specs.Rule.{kind, greatest_seen, joined, newcomer, both, fresh, Learns, AllTrue, Closes};
 
-    /// A table whose words are all 0, for a name.
+    /// Returns a table whose words are all 0, for a name.
     pub fn open(
         alloc: Global,
         name: &T,
@@ -160,7 +160,7 @@ impl<T: Truth, J: Cell> Board<T, J> {
         words
     }
 
-    /// What is now seen of word i.
+    /// Returns what is now seen of word i.
     pub fn look(&self, part: &mut Part<T>, i: usize) -> u64
         requires here { part.old.seat.table_id ≡ self.now.table.shared.table_id }
         requires inside { i < self.now.table.shared.key.words }
@@ -173,7 +173,7 @@ impl<T: Truth, J: Cell> Board<T, J> {
         self.table.shared.load::<Look<J>>(&mut part.seat, i)
     }
 
-    /// A part of the same name, which gave and saw nothing.
+    /// Returns a part of the same name, which gave and saw nothing.
     pub fn split(&self, part: &mut Part<T>) -> Part<T>
         requires here { part.old.seat.table_id ≡ self.now.table.shared.table_id }
         ensures same { (part.new.seat.table_id ≡ part.old.seat.table_id)

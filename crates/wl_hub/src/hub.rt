@@ -64,8 +64,8 @@ impl<T: Truth> Hub<T> {
     ghost use Rattle.wl_hub.specs.Words.{edge_widths, silence_widths, HasWord, IsInShape, IsJoinOfTrue, answer_place};
     ghost use Rattle.wl_hub.specs.Passes.{pass_name, shape_of, seen, IsPassOf, IsNew, Gave, SawGift, Saw, GaveNothing, TookIn, Closes};
 
-    /// A hub whose words are all 0, and its first pass. `shape` has for each node its number of edge
-    /// words and of silence words. Out of memory nothing is left.
+    /// Returns a hub whose words are all 0, and its first pass. `shape` has for each node its number of edge words and of silence words.
+    /// Out of memory nothing is left.
     pub fn start(
         alloc: Global,
         shape: &[(u32, u32)],
@@ -93,7 +93,7 @@ impl<T: Truth> Hub<T> {
         Ok((hub, pass))
     }
 
-    /// Whether the slot has a word.
+    /// True if the slot has a word.
     pub fn has_word(&self, slot: Slot) -> bool
         ensures { IsTrue result ↔ HasWord (shape_of self.now) slot }
     {
@@ -105,7 +105,7 @@ impl<T: Truth> Hub<T> {
         }
     }
 
-    /// Whether the record's slot has a word and the record is within its limits.
+    /// True if the record's slot has a word and the record is within its limits.
     pub fn in_shape(&self, told: Record) -> bool
         ensures { IsTrue result ↔ IsInShape (shape_of self.now) told }
     {
@@ -219,8 +219,7 @@ impl<T: Truth> Hub<T> {
         self.silences.look(&mut pass.silences, i)
     }
 
-    /// What the pass has now seen of a slot: the join of records of that slot which are all true of
-    /// the pass's name, 0 for none.
+    /// Returns what the pass has now seen of a slot: the join of records of that slot, all true of the pass's name; 0 for none.
     pub fn look(&self, pass: &mut Pass<T>, slot: Slot) -> u64
         requires here { IsPassOf self.now pass.old }
         requires in_shape { HasWord (shape_of self.now) slot }
@@ -235,7 +234,7 @@ impl<T: Truth> Hub<T> {
         }
     }
 
-    /// A pass of the same name, whose list is empty and which has seen nothing.
+    /// Returns a pass of the same name, whose list is empty and which has seen nothing.
     pub fn split(&self, pass: &mut Pass<T>) -> Pass<T>
         requires here { IsPassOf self.now pass.old }
         ensures here { IsPassOf self.now pass.new × IsPassOf self.now result }
@@ -260,9 +259,8 @@ impl<T: Truth> Hub<T> {
         self.silences.rejoin(&mut pass.silences, silences);
     }
 
-    /// Ends the hub: its edge words node by node, then its silence words. Each is the join of some
-    /// records of its slot that are true of the name, among them all that this pass gave. Hub and pass
-    /// are spent, also out of memory.
+    /// Ends the hub. Returns its edge words node by node, then its silence words. Each is the join of some records of its slot that are
+    /// true of the name, among them all that this pass gave. Hub and pass are spent, also out of memory.
     pub fn close(self, alloc: Global, pass: Pass<T>) -> Result<Vec<u64>, AllocError>
         requires here { IsPassOf self pass }
         ensures count { IfOk result

@@ -6,8 +6,9 @@ ghost use Rattle.wl_hub.specs.Words.{IsJoinOfTrue, Tells};
 
 use crate::Truth;
 
-/// What the word of a slot tells, as `look` answers it: nothing, or a true record of that slot. Of an
-/// edge it may also tell a clash, which comes from a true clash or from true edges of two ticks.
+/// Law: what the word of a slot says, as `look` returns it: nothing, or a true record of that slot.
+/// Of an edge it may also say a clash, which comes from a true clash or from true edges of two
+/// ticks.
 #[tactic(auto, using(crate::proofs::Telling::word_tells))]
 pub fn words_tell_records<T: Truth>()
     ensures { (name : T) (slot : Slot) (word : ℕ)

@@ -1,5 +1,7 @@
-//! The hub: words that threads share, each of which is at every moment the join of all that was
-//! given to it, and passes, the tokens of what their holders gave and saw.
+//! Words that threads share, and passes to them.
+//!
+//! At every moment each word is the join of all that was given to it. A pass is the token of what
+//! its holder gave and saw.
 #![tactic(auto)]
 
 mod board;

@@ -1,9 +1,9 @@
-//! Where the word of a slot stands in its table, and how many words the tables have.
+//! The place of a slot's word in its table, and how many words the tables have.
 ghost use Rattle.std.specs.Prelude.{◌≡◌, ◌<◌, ◌↔◌, ◌^◌, ◌-◌, min, sum, slice_index, IfSome, IsSome};
 ghost use Rattle.wl_hub.specs.Places.{place};
 ghost use Rattle.wl_hub.specs.Words.{edge_widths, silence_widths};
 
-/// The word of change `seq` of a node in the table of edges.
+/// Returns the word of change `seq` of a node in the table of edges.
 pub(crate) fn edge_place(shape: &[(u32, u32)], node: u8, seq: u32) -> Option<usize>
     ensures place { result ≡ place (edge_widths shape.now) node seq }
 {
@@ -21,7 +21,7 @@ pub(crate) fn edge_place(shape: &[(u32, u32)], node: u8, seq: u32) -> Option<usi
     None
 }
 
-/// The word of the silence of a node after `count` changes, in the table of silences.
+/// Returns the word of the silence of a node after `count` changes, in the table of silences.
 pub(crate) fn silence_place(shape: &[(u32, u32)], node: u8, count: u32) -> Option<usize>
     ensures place { result ≡ place (silence_widths shape.now) node count }
 {
@@ -39,7 +39,7 @@ pub(crate) fn silence_place(shape: &[(u32, u32)], node: u8, count: u32) -> Optio
     None
 }
 
-/// The numbers of edge words and of silence words of a shape, each 2^64 - 1 where it is more.
+/// Returns the numbers of edge words and of silence words of a shape, each 2^64 - 1 if it is more.
 pub(crate) fn totals(shape: &[(u32, u32)]) -> (usize, usize)
     ensures edges { result.0 ≡ min (sum (edge_widths shape.now)) (2 ^ 64 - 1) }
     ensures silences { result.1 ≡ min (sum (silence_widths shape.now)) (2 ^ 64 - 1) }

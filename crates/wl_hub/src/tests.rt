@@ -10,7 +10,7 @@ use std::thread::{Threads, join};
 use wl_lattice::CLASH;
 use wl_record_core::{Record, Slot};
 
-/// A name of which every record is true.
+/// A name whose records are all true.
 struct Anything;
 
 impl Truth for Anything {

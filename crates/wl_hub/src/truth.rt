@@ -1,6 +1,6 @@
 //! What is true of a name.
 
-/// Names of which records may be true, as a plan of which a record says something.
+/// Names: what records may be true of, as of a plan.
 pub trait Truth {
     ghost use Rattle.wl_record_core.specs.declared.record.Record.{Record};
 

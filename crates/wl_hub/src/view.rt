@@ -35,7 +35,7 @@ pub trait Cell: Join {
     ghost use Rattle.std.specs.Prelude.{◌≡◌, ℕ, List, Bool, true};
     ghost use Rattle.wl_record_core.specs.declared.record.Record.{Record};
 
-    /// The number that stands for a value.
+    /// The number of a value.
     ghost word: { Self → ℕ };
 
     /// What a record gives to its word.

@@ -44,7 +44,7 @@ impl Model for Intervals {
 }
 
 impl Intervals {
-    /// The set of no tick. It takes no memory.
+    /// Returns the set of no tick. It takes no memory.
     pub fn new(alloc: Global) -> Intervals
         ensures { result ≡ [] }
     {
@@ -53,7 +53,7 @@ impl Intervals {
         }
     }
 
-    /// The intervals in order, each as its first tick and the tick after its last.
+    /// Returns the intervals in order, each as its first tick and the tick after its last.
     pub fn as_slice(&self) -> &[(u64, u64)]
         ensures pairs { result.now ≡ self.now }
         ensures intervals { AreIntervals self.now }
@@ -61,7 +61,7 @@ impl Intervals {
         self.pairs.as_slice()
     }
 
-    /// The tick after the last of the set, or `None` where it holds none.
+    /// Returns the tick after the last of the set, or `None` if it holds none.
     pub fn end(&self) -> Option<u64>
         ensures end { result ≡ last_end self.now }
         ensures intervals { AreIntervals self.now }
@@ -72,7 +72,7 @@ impl Intervals {
         }
     }
 
-    /// The level at tick `t`: dominant where an interval holds it. It is a binary search, and takes no memory.
+    /// Returns the level at tick `t`: dominant if an interval holds it. It is a binary search, and takes no memory.
     pub fn at(&self, t: u64) -> Level
         ensures level { result ≡ level_of (covers self.now t) }
         ensures intervals { AreIntervals self.now }
@@ -83,8 +83,8 @@ impl Intervals {
         }
     }
 
-    /// The first tick after `t` at which the level is another than at `t`, or `None` where it stays. It is a binary search, and takes no
-    /// memory.
+    /// Returns the first tick after `t` at which the level is another than at `t`, or `None` if it stays. It is a binary search, and takes
+    /// no memory.
     pub fn next_change(&self, t: u64) -> Option<u64>
         ensures change { IfSome result (λ u. IsNextChange self.now t u) }
         ensures stays { IfNone result ((u : ℕ) → t < u → covers self.now u ≡ covers self.now t) }
@@ -94,9 +94,9 @@ impl Intervals {
         Some(if t < from { from } else { to })
     }
 
-    /// Adds the ticks from `from` up to, and not with, `to` after all others. `Empty` where there is no such tick, `NotAfterLast` where
-    /// `from` is not above the end of the last interval, and `Empty` where both hold; `Memory` where there is none. A refused call leaves the
-    /// set as it was.
+    /// Adds the ticks from `from` up to, and not with, `to` after all others. `Empty` if there is no such tick, `NotAfterLast` if `from` is
+    /// not above the end of the last interval, and `Empty` if both hold; `Memory` if there is none. A refused call leaves the set as it
+    /// was.
     pub fn push(&mut self, from: u64, to: u64) -> Result<(), IntervalsFault>
         ensures empty { (result ≡ Err IntervalsFault.Empty) ↔ (to ≤ from) }
         ensures not_after_last { (result ≡ Err IntervalsFault.NotAfterLast) ↔ ((from < to) × EndsFrom self.old from) }
@@ -115,7 +115,7 @@ impl Intervals {
         }
     }
 
-    /// Adds the ticks of `other`. Where there is no memory the set stays as it was.
+    /// Adds the ticks of `other`. If there is no memory the set stays as it was.
     pub fn join(&mut self, other: &Intervals) -> Result<(), AllocError>
         ensures union { OnOk result (IsUnion self.old other.now self.new) }
         ensures err { OnErr result (self.new ≡ self.old) }
@@ -126,8 +126,8 @@ impl Intervals {
         Ok(())
     }
 
-    /// The set with each tick later by `d`. The end of its last interval, if there is one, plus `d` is below 2^64. Refused only when
-    /// out of memory.
+    /// Returns the set with each tick later by `d`. The end of its last interval, if there is one, plus `d` is below 2^64. Refused only
+    /// when out of memory.
     pub fn shift(&self, alloc: Global, d: u64) -> Result<Intervals, AllocError>
         requires { IfSome (last_end self.now) (λ end. end + d < 2 ^ 64) }
         ensures pairs { IfOk result (λ later. later ≡ later_by d self.now) }
@@ -141,7 +141,7 @@ impl Intervals {
         Ok(Intervals { pairs })
     }
 
-    /// The ticks of the set that lie below tick `t`. Refused only when out of memory.
+    /// Returns the ticks of the set that lie below tick `t`. Refused only when out of memory.
     pub fn cut(&self, alloc: Global, t: u64) -> Result<Intervals, AllocError>
         ensures { IfOk result (λ part. (u : ℕ) → covers part u ≡ (covers self.now u && nat_lt u t)) }
     {
@@ -154,7 +154,7 @@ impl Intervals {
         Ok(Intervals { pairs })
     }
 
-    /// An equal set. Refused only when out of memory.
+    /// Returns an equal set. Refused only when out of memory.
     pub fn clone_in(&self, alloc: Global) -> Result<Intervals, AllocError>
         ensures { IfOk result (λ copy. copy ≡ self.now) }
     {
@@ -162,7 +162,7 @@ impl Intervals {
         Ok(Intervals { pairs })
     }
 
-    /// True where the last interval ends at tick `t` or after it.
+    /// True if the last interval ends at tick `t` or after it.
     fn ends_at_or_after(&self, t: u64) -> bool
         ensures last { IsTrue result ↔ EndsFrom self.now t }
         ensures intervals { AreIntervals self.now }
@@ -173,7 +173,7 @@ impl Intervals {
         }
     }
 
-    /// The first interval that ends after tick `t`.
+    /// Returns the first interval that ends after tick `t`.
     fn first_after(&self, t: u64) -> Option<(u64, u64)>
         ensures found { IfSome result (IsFirstAfter self.now t) }
         ensures none { IfNone result ((u : ℕ) → t ≤ u → covers self.now u ≡ false) }
@@ -182,7 +182,7 @@ impl Intervals {
         self.pairs.get(self.place_of(t)).copied()
     }
 
-    /// How many intervals end at tick `t` or before: the place of the first that ends after it.
+    /// Returns how many intervals end at tick `t` or before: the place of the first that ends after it.
     fn place_of(&self, t: u64) -> usize
         ensures place { IsPlace self.now t result }
         ensures intervals { AreIntervals self.now }
@@ -191,7 +191,7 @@ impl Intervals {
     }
 }
 
-/// The intervals of the ticks of either list.
+/// Returns the intervals of the ticks of either list.
 fn merged(
     alloc: Global,
     left: &[(u64, u64)],
@@ -217,7 +217,7 @@ fn merged(
     Ok(joined)
 }
 
-/// True where the next interval of the left list begins no later than that of the right one, of which one may have none left.
+/// True if the left list's next interval begins first, or at the same tick. Either list may be exhausted, but not both.
 fn left_is_next(left: &[(u64, u64)], right: &[(u64, u64)], i: usize, j: usize) -> bool
     requires { (i < length left.now) ⊎ (j < length right.now) }
     ensures left { IsTrue result → IsNextPair left.now right.now i j }
@@ -232,7 +232,7 @@ fn left_is_next(left: &[(u64, u64)], right: &[(u64, u64)], i: usize, j: usize) -
     left[i].0 <= right[j].0
 }
 
-/// Adds an interval that begins no sooner than the last: it makes the last longer, where they touch or overlap.
+/// Adds an interval that begins no sooner than the last. If they touch or overlap it makes the last longer.
 fn absorb(joined: &mut Vec<(u64, u64)>, next: (u64, u64)) -> Result<(), AllocError>
     ensures { OnOk result (joined.new.items ≡ with_pair joined.old.items next) }
 {

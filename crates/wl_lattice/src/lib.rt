@@ -1,6 +1,7 @@
-//! Joins: a trait whose laws every implementation proves, the two words of a slot, and pairs and
-//! arrays of them, which take no memory and refuse nothing. And slots: a trait of contents that have a
-//! word at each key, of which an ordered map is one.
+//! Values that can be joined in any order and number, with the laws of joining.
+//!
+//! A trait whose laws every implementation proves, the two words of a slot, and pairs and arrays of them; these take no memory and refuse
+//! nothing. And slots: a trait of contents that have a word at each key. An ordered map is one.
 #![tactic(auto)]
 
 ghost use Rattle.std.specs.Prelude.{◌≡◌, ◌↔◌, IsTrue};
@@ -26,17 +27,17 @@ pub trait Join {
     /// Holds of the values of the type. Only an array says something by it: its length.
     ghost is_word: { Self → Type 0 };
 
-    /// The value that knows nothing.
+    /// Returns the value that knows nothing.
     ghost least: { Self };
 
     /// What two values know together.
     ghost joined: { Self → Self → Self };
 
-    /// Does nothing; tells a proof that this value is one of the type, which neutrality asks.
+    /// Does nothing. It gives a proof that this value is one of the type, for which neutrality asks.
     fn known(&self)
         ensures { is_word self.now };
 
-    /// The value that knows nothing.
+    /// Returns the value that knows nothing.
     fn bottom() -> Self
         ensures { result ≡ least };
 
@@ -44,7 +45,7 @@ pub trait Join {
     fn join(&mut self, other: &Self)
         ensures { self.new ≡ joined self.old other.now };
 
-    /// Whether the two are equal.
+    /// True if the two are equal.
     fn same(&self, other: &Self) -> bool
         ensures { IsTrue result ↔ (self.now ≡ other.now) };
 

@@ -7,7 +7,7 @@ use crate::FlatWord;
 /// The number of a clash. It is above that of any value below it.
 pub const CLASH: u64 = u64::MAX;
 
-/// The number of a value: one more, since 0 is the number of nothing.
+/// Returns the number of a value: one more, since 0 is the number of nothing.
 #[inline(always)]
 pub fn value_number(value: u64) -> u64
     requires { value < CLASH }
@@ -16,7 +16,8 @@ pub fn value_number(value: u64) -> u64
     value + 1
 }
 
-/// The word of a number: 0 for nothing, [`CLASH`] for a clash, else the value whose number it is.
+/// Returns the word of a number: 0 for nothing, [`CLASH`] for a clash, else the value whose number
+/// it is.
 #[inline(always)]
 pub fn number_word(number: u64) -> FlatWord
     ensures { result ≡ number_word number }

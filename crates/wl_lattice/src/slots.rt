@@ -24,12 +24,11 @@ pub trait Slots {
     /// Whether a word can be joined in at a key: of a form with a fixed number of rows, that the key has one.
     ghost can_hold: { Self → Self.Key → Self.Word → Type 0 };
 
-    /// The word at a key, the least one where nothing came.
+    /// Returns the word at a key, the least one if nothing came.
     fn word(&self, key: &Self::Key) -> Self::Word
         ensures { result ≡ words self.now key.now };
 
-    /// Joins a word in at one key, and leaves all others. Refused when out of memory; no word is then
-    /// seen to change.
+    /// Joins a word in at one key, and leaves all others. Refused when out of memory; then no word is seen to change.
     fn raise(&mut self, key: Self::Key, word: &Self::Word) -> Result<(), AllocError>
         requires { can_hold self.old key word.now }
         ensures ok { OnOk result (IsRaised Self.Word.joined (words self.old) key word.now (words self.new)) }

@@ -17,7 +17,7 @@ pub use listed::Listed;
 pub enum Level {
     /// Bit 0: one node that drives it decides the line.
     Dominant,
-    /// Bit 1: the line where no node drives dominant.
+    /// Bit 1: the line if no node drives dominant.
     Recessive,
 }
 
@@ -26,14 +26,14 @@ impl Default for Level {
 
     ghost is_default = { λ l. l ≡ Recessive };
 
-    /// Recessive, as a line that nobody drives.
+    /// Returns recessive, the level of a line that nobody drives.
     fn default() -> Self {
         Self::Recessive
     }
 }
 
 impl Level {
-    /// True of dominant.
+    /// True of the dominant level.
     pub fn is_dominant(self) -> bool
         ensures { result ≡ is_dominant self }
     {
@@ -43,7 +43,7 @@ impl Level {
         }
     }
 
-    /// The other level, as a stuff bit has it.
+    /// Returns the other level, as a stuff bit has it.
     pub fn opposite(self) -> Level
         ensures { result ≡ opposite self }
     {
@@ -53,7 +53,7 @@ impl Level {
         }
     }
 
-    /// True where the two levels are the same.
+    /// True if the two levels are the same.
     pub fn is(self, other: Level) -> bool
         ensures { result ≡ same self other }
     {

@@ -22,7 +22,7 @@ impl<T> Model for Listed<T> {
 }
 
 impl<T> Listed<T> {
-    /// A list of no item. It takes no memory.
+    /// Returns a list of no item. It takes no memory.
     pub fn new(alloc: Global) -> Listed<T>
         ensures { result ≡ [] }
     {
@@ -31,28 +31,28 @@ impl<T> Listed<T> {
         }
     }
 
-    /// The list of these items, whose memory it keeps.
+    /// Returns the list of these items, whose memory it keeps.
     pub fn from_vec(items: Vec<T>) -> Listed<T>
         ensures { result ≡ items.items }
     {
         Listed { items }
     }
 
-    /// The items in order.
+    /// Returns the items in order.
     pub fn as_slice(&self) -> &[T]
         ensures { result.now ≡ self.now }
     {
         self.items.as_slice()
     }
 
-    /// The number of items.
+    /// Returns the number of items.
     pub fn len(&self) -> usize
         ensures { result ≡ length self.now }
     {
         self.items.len()
     }
 
-    /// True where there is no item.
+    /// True if there is no item.
     pub fn is_empty(&self) -> bool
         ensures { IsTrue result ↔ (self.now ≡ []) }
     {
@@ -61,7 +61,7 @@ impl<T> Listed<T> {
 }
 
 impl<T: Drop> Listed<T> {
-    /// One more item after the others. Refused only when out of memory: the list is as before, and the item is given up.
+    /// Adds an item after the others. Refused only when out of memory: the list is as before, and the item is given up.
     pub fn push(&mut self, item: T) -> Result<(), AllocError>
         ensures ok { OnOk result (self.new ≡ self.old ++ item ∷ []) }
         ensures err { OnErr result (self.new ≡ self.old) }
@@ -72,7 +72,7 @@ impl<T: Drop> Listed<T> {
 }
 
 impl<T: Copy> Listed<T> {
-    /// An equal list. Refused only when out of memory.
+    /// Returns an equal list. Refused only when out of memory.
     pub fn clone_in(&self, alloc: Global) -> Result<Listed<T>, AllocError>
         ensures { IfOk result (λ copy. copy ≡ self.now) }
     {
@@ -86,7 +86,7 @@ impl<T: PartialEq> PartialEq for Listed<T> {
 
     ghost laws = { lists_per T.laws };
 
-    /// Item by item. Where `==` of the items is equality, so it is of the lists.
+    /// True if the items are equal, one by one. If `==` of the items is equality, so it is of the lists.
     fn eq(&self, other: &Listed<T>) -> bool
         ensures value { result ≡ pointwise T.eq self.now other.now }
         ensures same { ((a b : T) → Decides (T.eq a b) (a ≡ b)) → (IsTrue result ↔ (self.now ≡ other.now)) }

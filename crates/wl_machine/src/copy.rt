@@ -13,7 +13,7 @@ use crate::state::State;
 use wl_frame::frame::FrameBits;
 
 impl Machine {
-    /// A machine that is where this one is. It takes no memory.
+    /// Returns a machine that is where this one is. It takes no memory.
     pub fn copy(&self) -> Machine
         ensures { (past : List Input) → IsMachine self.now past → IsMachine result past }
     {
@@ -22,8 +22,8 @@ impl Machine {
         }
     }
 
-    /// How many bits of its frame a transmitter has before it, without stuff bits, up to the end of the CRC sequence: at most 118. 0 for a node
-    /// that doesn't transmit, and after that end (Bosch CAN 2.0 part B, sections 3.2.1 and 5).
+    /// Returns how many bits of its frame a transmitter still has, without stuff bits, up to the end of the CRC sequence: at most 118. It
+    /// is 0 for a node that doesn't transmit, and after that end (Bosch CAN 2.0 part B, sections 3.2.1 and 5).
     pub fn to_send(&self) -> usize
         ensures { (past : List Input) → IsMachine self.now past → result ≡ to_send (stretch_of past) }
     {
@@ -32,7 +32,7 @@ impl Machine {
 }
 
 impl Progress {
-    /// The same.
+    /// Returns how many bits of its frame a transmitter still has, as `Machine::to_send`.
     pub fn copy(&self) -> Progress
         ensures { (past : List Input) → IsReachedBy self.now past → IsReachedBy result past }
     {
@@ -43,7 +43,7 @@ impl Progress {
         }
     }
 
-    /// How many bits are to be sent up to the end of what is stuffed.
+    /// Returns how many bits are to be sent up to the end of what is stuffed.
     pub fn to_send(&self) -> usize
         ensures { result ≡ state_to_send self.now.state self.now.bits.items self.now.sent.items }
     {
@@ -54,7 +54,7 @@ impl Progress {
     }
 }
 
-/// The same bits.
+/// Returns an equal list of bits.
 fn copied(bits: &FrameBits) -> FrameBits
     ensures { result.items ≡ bits.now.items }
 {

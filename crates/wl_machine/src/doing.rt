@@ -29,18 +29,18 @@ pub enum Doing {
     OverloadFlag,
     /// After its flag it waits for a recessive bit.
     Waiting,
-    /// The delimiter of a flag.
+    /// It samples the delimiter of a flag.
     Delimiting,
-    /// The intermission after a frame or a delimiter.
+    /// It samples the intermission after a frame or a delimiter.
     Intermission,
-    /// The suspension of an error passive transmitter.
+    /// It is suspended, as an error passive transmitter.
     Suspended,
     /// It is bus off.
     OffBus,
 }
 
 impl Progress {
-    /// What a node does in its state.
+    /// Returns what a node does in its state.
     pub fn doing(&self) -> Doing
         ensures { result ≡ state_doing self.now.state }
     {
@@ -64,7 +64,8 @@ impl Progress {
 }
 
 impl Machine {
-    /// What the node does after all samples so far: a transmitter that lost the arbitration receives.
+    /// Returns what the node does after all samples so far: a transmitter that lost the arbitration
+    /// receives.
     pub fn doing(&self) -> Doing
         ensures { (past : List Input) → IsMachine self.now past → result ≡ doing_of (stretch_of past) }
     {

@@ -17,16 +17,16 @@ use crate::state::{Cause, Role, State};
 use wl_confine::{ErrorKind, Happened, Mode};
 use wl_level::Level;
 
-/// With so many dominant samples in a row, those of the flag among them, a wait is long.
+/// With this many dominant samples in a row, those of the flag among them, a wait is long.
 const LONG_AFTER_FLAG: u8 = 14;
 
-/// With so many after a passive flag.
+/// With this many after a passive flag a wait is long.
 const LONG_AFTER_PASSIVE_FLAG: u8 = 8;
 
-/// And with each so many more.
+/// And with each 8 more.
 const LONG_AGAIN: u8 = 8;
 
-/// A dominant run that is too long.
+/// Returns what a dominant run that is too long counts.
 fn long_of(role: Role) -> Happened
     ensures { result ≡ long_of role }
 {
@@ -36,7 +36,7 @@ fn long_of(role: Role) -> Happened
     }
 }
 
-/// What a sample of a dominant flag counts.
+/// Returns what a sample of a dominant flag counts.
 fn flag_happens(role: Role, level: Level) -> Happened
     ensures { result ≡ (if is_dominant level then Happened.Nothing else flag_bit_of role) }
 {
@@ -49,7 +49,7 @@ fn flag_happens(role: Role, level: Level) -> Happened
     }
 }
 
-/// A dominant sample right after this flag is late.
+/// True if a dominant sample right after this flag is late.
 fn is_late(cause: Cause, role: Role) -> bool
     ensures { result ≡ is_after_flag (flag_of cause) role [] }
 {
@@ -60,7 +60,7 @@ fn is_late(cause: Cause, role: Role) -> bool
 }
 
 impl Progress {
-    /// One sample of an active flag or of the flag of an overload.
+    /// Takes one sample of an active flag or of the flag of an overload.
     pub fn dominant_flag(
         &mut self,
         cause: Cause,
@@ -93,7 +93,7 @@ impl Progress {
         plain(flag_happens(role, level))
     }
 
-    /// One sample of a passive flag.
+    /// Takes one sample of a passive flag.
     pub fn passive_flag(
         &mut self,
         role: Role,
@@ -130,7 +130,7 @@ impl Progress {
         })
     }
 
-    /// One sample of the wait after a flag.
+    /// Takes one sample of the wait after a flag.
     pub fn waiting(&mut self, role: Role, is_late: bool, until_long: u8, level: Level) -> Step
         requires { 0 < until_long }
         ensures { (own : List Level) (head : Option Content) (mode : Mode) (flag : FlagSort) (flagged : List Level)
@@ -156,7 +156,7 @@ impl Progress {
         }
     }
 
-    /// One sample of a delimiter.
+    /// Takes one sample of a delimiter.
     pub fn delimiting(&mut self, role: Role, count: u8, level: Level, mode: Mode) -> Step
         requires { count < 8 }
         ensures { (own : List Level) (head : Option Content) → IsCount count own 8

@@ -23,7 +23,7 @@ use wl_frame::frame::Frame;
 use wl_frame::places::{is_arbitration, is_crc_right, is_whole, rtr_place};
 use wl_level::Level;
 
-/// After so many equal bits a stuff bit is due.
+/// After this many equal bits a stuff bit is due.
 const STUFF_RUN: u8 = 5;
 
 /// The acknowledgement slot, by its place after the end of what is stuffed.
@@ -38,7 +38,7 @@ const LAST_BUT_ONE: u8 = 8;
 const LAST: u8 = 9;
 
 impl Progress {
-    /// The level that the transmitter of a stuffed part sends next.
+    /// Returns the level that the transmitter of a stuffed part sends next.
     pub fn sent_level(&self, last: Level, run: u8) -> Level
         ensures { result
             ≡ (if nat_le 5 run then opposite last else at self.now.sent.items (length self.now.bits.items)) }
@@ -51,7 +51,7 @@ impl Progress {
         }
     }
 
-    /// Keeps one more bit of a stuffed part, unless it is a stuff bit. Answers the run of equal bits that it ends.
+    /// Keeps one more bit of a stuffed part, unless it is a stuff bit. Returns the run of equal bits that it ends.
     fn take_bit(&mut self, last: Level, run: u8, level: Level) -> u8
         requires small { run ≤ 5 }
         requires room { run < 5 → length self.old.bits.items < most_bits }
@@ -66,7 +66,7 @@ impl Progress {
         if last.is(level) { run + 1 } else { 1 }
     }
 
-    /// A receiver after a sample that ends this run: after the end of what is stuffed, or still before it.
+    /// Puts a receiver where it is after a sample that ends this run: after the end of what is stuffed, or still before it.
     fn received_bit(&mut self, level: Level, run: u8)
         ensures { (head : Option Content) (own : List Level) → frame_role head own ≡ Role.Rx
             → IsTaken level run self.old.bits.items own
@@ -82,7 +82,7 @@ impl Progress {
         };
     }
 
-    /// A transmitter, likewise.
+    /// Puts a transmitter where it is after a sample that ends this run, likewise.
     fn sent_bit(&mut self, level: Level, run: u8)
         ensures { (head : Content) (own : List Level) → frame_role (Some head) own ≡ Role.Tx
             → self.old.sent.items ≡ bits_of head
@@ -95,7 +95,7 @@ impl Progress {
         };
     }
 
-    /// One sample of a receiver, up to the end of what is stuffed.
+    /// Takes one sample of a receiver, up to the end of what is stuffed.
     pub fn receiving(&mut self, last: Level, run: u8, level: Level, mode: Mode) -> Step
         requires small { run ≤ 5 }
         requires room { run < 5 → length self.old.bits.items < most_bits }
@@ -112,7 +112,8 @@ impl Progress {
         plain(Happened::Nothing)
     }
 
-    /// One sample of a receiver, likewise, unless it is the sixth of equal ones: answers false then, and does nothing.
+    /// Takes one sample of a receiver, up to the end of what is stuffed, unless it is the sixth of equal ones. Then it returns false, and
+    /// does nothing.
     fn keep_bit(&mut self, last: Level, run: u8, level: Level) -> bool
         requires small { run ≤ 5 }
         requires room { run < 5 → length self.old.bits.items < most_bits }
@@ -130,7 +131,7 @@ impl Progress {
         true
     }
 
-    /// One sample of which nothing comes but that it is kept: answers false, and does nothing, where it isn't one.
+    /// Takes one sample that changes nothing but that it is kept. If it isn't one, returns false, and does nothing.
     pub fn keep(&mut self, level: Level) -> bool
         requires { ∥ ((s : Stretch) × IsIn self.old s) ∥₁ }
         ensures value { result ≡ state_keeps self.old.state level }
@@ -143,7 +144,7 @@ impl Progress {
         }
     }
 
-    /// One sample of a transmitter, up to the end of what is stuffed.
+    /// Takes one sample of a transmitter, up to the end of what is stuffed.
     pub fn sending(&mut self, last: Level, run: u8, level: Level, mode: Mode) -> Step
         requires small { run ≤ 5 }
         requires room { run < 5 → length self.old.bits.items < most_bits }
@@ -161,7 +162,7 @@ impl Progress {
         plain(Happened::Nothing)
     }
 
-    /// A transmitter samples a level that it did not send.
+    /// Takes a sample of a level that the transmitter did not send.
     fn differing(&mut self, sent: Level, last: Level, run: u8, level: Level, mode: Mode) -> Step
         requires small { run ≤ 5 }
         requires room { run < 5 → length self.old.bits.items < most_bits }
@@ -189,7 +190,7 @@ impl Progress {
         plain(Happened::Nothing)
     }
 
-    /// A transmitter sampled a level that it did not send, outside the exceptions of section 8, rule 3: a bit error.
+    /// Takes a sample of a level that the transmitter did not send, outside the exceptions of section 8, rule 3: a bit error.
     fn bit_error(&mut self, mode: Mode) -> Step
         ensures { (s : Stretch) (x : Sampled) → judged s x ≡ fails Role.Tx mode ErrorKind.Bit
             → Meets self.new result s x }
@@ -198,7 +199,7 @@ impl Progress {
         plain(Happened::TxError(ErrorKind::Bit))
     }
 
-    /// One sample of a transmitter after the end of what is stuffed.
+    /// Takes one sample of a transmitter after the end of what is stuffed.
     pub fn sent_tail(&mut self, place: u8, level: Level, mode: Mode) -> Step
         requires { place < 10 }
         ensures { (head : Content) (given : Option Content) (own : List Level) (end : ℕ)
@@ -226,7 +227,7 @@ impl Progress {
         plain(Happened::Nothing)
     }
 
-    /// A transmitter found nobody's acknowledgement.
+    /// Takes the sample at which a transmitter found no acknowledgement.
     fn unanswered(&mut self, mode: Mode) -> Step
         ensures { (s : Stretch) (x : Sampled) → judged s x ≡ unanswered mode → Meets self.new result s x }
     {
@@ -247,7 +248,7 @@ impl Progress {
         }
     }
 
-    /// One sample of a receiver after the end of what is stuffed.
+    /// Takes one sample of a receiver after the end of what is stuffed.
     pub fn received_tail(&mut self, place: u8, is_crc_right: bool, level: Level, mode: Mode) -> Step
         requires within { place < 10 }
         requires whole { is_whole self.old.bits.items ≡ true }
@@ -287,7 +288,7 @@ impl Progress {
         plain(Happened::Nothing)
     }
 
-    /// A receiver samples the acknowledgement slot, which it drives dominant if the CRC sequence is right.
+    /// Takes a receiver's sample of the acknowledgement slot, which it drives dominant if the CRC sequence is right.
     fn acknowledging(&mut self, is_crc_right: bool, level: Level, mode: Mode) -> Step
         ensures { (head given : Option Content) (own : List Level) (end : ℕ) → frame_role head own ≡ Role.Rx
             → IsReceivedTail 1 end is_crc_right self.old.bits.items own
@@ -308,7 +309,7 @@ impl Progress {
         }
     }
 
-    /// A receiver samples the last bit of the end of frame.
+    /// Takes a receiver's sample of the last bit of the end of frame.
     fn last_received(&mut self, level: Level) -> Step
         ensures { (s : Stretch) (x : Sampled) → x.level ≡ level → judged s x ≡ last_bit x → Meets self.new result s x }
     {

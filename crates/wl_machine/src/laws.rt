@@ -18,9 +18,8 @@ ghost use Rattle.wl_machine.specs.Roles.{RoleLaws};
 ghost use Rattle.wl_machine.specs.Silence.{SilenceLaws};
 ghost use Rattle.wl_machine.specs.States.{stretch_by};
 
-/// Law: the cut of a list into stretches is what it says: where no sample of a list ends the running
-/// stretch, the stretch goes on with them; where one ends it, the stretch that it names begins; and
-/// an order to go off the bus begins bus off.
+/// Law: the cut of a list into stretches is what it says. If no sample of a list ends the running stretch, the stretch goes on with them;
+/// if one ends it, the stretch that it names begins; and an order to go off the bus begins bus off.
 pub fn stretches_go_on_until_they_end()
     ensures on { (past : List Input) (during : List Sampled) → NoneEnds (stretch_of past) during
         → stretch_of (past ++ map Sample during) ≡ longer_stretch (stretch_of past) during }
@@ -29,9 +28,8 @@ pub fn stretches_go_on_until_they_end()
     ensures off { (past : List Input) → stretch_of (past ++ SwitchedOff ∷ []) ≡ stretch_by OffBus [] }
 {}
 
-/// Law: a transmitter that finds what it sends, up to the end of the stuffed part, has sent the one list
-/// that stuffs the bits of its head; and one that finds that list finds what it sends, and the
-/// stuffed part ends with it.
+/// Law: a transmitter that finds what it sends, up to the end of the stuffed part, has sent the one list that stuffs the bits of its head.
+/// One that finds that list finds what it sends, and the stuffed part ends with it.
 pub fn a_transmitter_sends_its_head_stuffed()
     ensures sent { (head : Content) (own : List Level) (end : ℕ) → IsContent head → stuffed_end own ≡ Some end
         → FoundSent head own end
@@ -42,9 +40,8 @@ pub fn a_transmitter_sends_its_head_stuffed()
         → stuffed_end own ≡ Some (length own) }
 {}
 
-/// Law: what a receiver samples up to the end of the stuffed part, without six equal bits, stuffs the
-/// list that it reads; and where that begins with a start of frame and has the right CRC sequence,
-/// it is a frame of what is received.
+/// Law: what a receiver samples up to the end of the stuffed part, without six equal bits, stuffs the list that it reads. If that begins
+/// with a start of frame and has the right CRC sequence, it is a frame of what is received.
 pub fn a_receiver_reads_what_is_stuffed()
     ensures stuffs { (own : List Level) (end : ℕ) → stuffed_end own ≡ Some end
         → ((k : ℕ) → k < end → ends_six own k ≡ false)
@@ -54,29 +51,27 @@ pub fn a_receiver_reads_what_is_stuffed()
         → IsFrame (destuffed_bits own end) (content_of (destuffed_bits own end)) }
 {}
 
-/// Law: a frame that is sent is the head with which its stretch began: only the stretch of that head
-/// completes it, and ends with it; and a stretch's head is the one at the sample that began it, or
-/// none, and stays that.
+/// Law: a frame that is sent is the head with which its stretch began. Only the stretch of that head completes it, and ends with it. A
+/// stretch's head is the one at the sample that began it, or none, and stays that.
 pub fn a_sent_frame_is_the_head_that_began_its_stretch()
     ensures { HeadLaws }
 {}
 
-/// Law: a machine that is silent for some samples drives recessive up to then: whatever it samples,
-/// whatever it is to send, and also where it goes off the bus.
+/// Law: a machine that is silent for some samples drives recessive up to then, whatever it samples and whatever it is to send, and also if
+/// it goes off the bus.
 pub fn a_silence_is_kept()
     ensures { SilenceLaws }
 {}
 
-/// Law: a machine at rest wants recessive with each recessive sample, for as many as its rest says whatever it is
-/// handed, and for ever as long as it is handed no frame; also where it goes off the bus.
+/// Law: a machine at rest wants recessive with each recessive sample: for the number of samples that its rest says, whatever frames it is
+/// handed; for ever if it is handed none. So it does if it goes off the bus.
 pub fn a_rest_is_kept()
     ensures { RestLaws }
 {}
 
-/// Law: a node's role goes by its definition: what a sample counts as a transmitter's happens in the role of
-/// one, and so with a receiver's; and whatever is sampled, a node is a transmitter from the sample that
-/// begins the frame which it sends until it loses the arbitration, samples the third bit of an
-/// intermission, or goes off the bus (Bosch CAN 2.0 part B, section 3.4).
+/// Law: a node's role goes by its definition. What a sample counts as a transmitter's happens in the role of one, and so with a receiver's.
+/// Whatever is sampled, a node is a transmitter from the sample that begins the frame which it sends. It stays one until it loses the
+/// arbitration, samples the third bit of an intermission, or goes off the bus (Bosch CAN 2.0 part B, section 3.4).
 pub fn a_role_lasts_to_the_end_of_the_intermission()
     ensures { RoleLaws }
 {}

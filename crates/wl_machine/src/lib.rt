@@ -49,12 +49,11 @@ pub struct Turn {
     pub done: Done,
 }
 
-/// The machine of a node: what it does at each sampled bit (Bosch CAN 2.0 part B, sections 3, 6, 7
-/// and 8).
+/// The machine of a node: what it does at each sampled bit (Bosch CAN 2.0 part B, sections 3, 6, 7 and 8).
 ///
-/// Each machine is where some list of samples and calls of [`Machine::bus_off`] puts it. A call
-/// takes no memory. It goes over a frame's bits where the frame begins, at its last stuffed bit and
-/// where it has been received, and over no more than the data length code elsewhere.
+/// Each machine is where some list of samples and calls of [`Machine::bus_off`] puts it. A call takes no memory. It goes over a frame's
+/// bits when the frame begins, at its last stuffed bit and when it has been received. Elsewhere it goes over no more than the data length
+/// code.
 #[derive(Drop)]
 pub struct Machine {
     progress: Progress,
@@ -73,8 +72,8 @@ impl Machine {
     ghost use Rattle.wl_frame.specs.Grammar.{Content};
     ghost use Rattle.wl_machine.specs.Reached.{IsMachine};
 
-    /// A machine before its first sample. It takes part in the traffic only once it has sampled
-    /// eleven recessive bits in a row (this project's profile; ISO 11898-1, bus integration).
+    /// Returns a machine before its first sample. It takes part in the traffic only once it has sampled eleven recessive bits in a row
+    /// (this project's profile; ISO 11898-1, bus integration).
     pub fn new() -> Machine
         ensures { IsMachine result [] }
     {
@@ -83,10 +82,10 @@ impl Machine {
         }
     }
 
-    /// One sampled bit.
+    /// Takes one sampled bit, and returns what it does.
     ///
-    /// `head` is the frame that is to be sent next, if there is one: it is looked at only where the
-    /// bus becomes free, and at a dominant third bit of an intermission, which is its start of frame then; a frame that has begun is sent to its end or to its first error,
+    /// `head` is the frame that is to be sent next, if there is one. It is looked at only when the bus becomes free, and at a dominant
+    /// third bit of an intermission, which is its start of frame then. A frame that has begun is sent to its end or to its first error,
     /// whatever is handed in later. `mode` is the mode before this sample.
     pub fn bit(&mut self, sample: Level, head: Option<&Frame>, mode: Mode) -> Turn
         ensures machine { (past : List Input) → IsMachine self.old past
@@ -106,10 +105,11 @@ impl Machine {
         }
     }
 
-    /// One sampled bit of which nothing comes but that the machine has it: no frame begins or ends, nothing is
-    /// counted, and the node drives recessive before and after, whatever it is to send and in whatever mode. Those
-    /// are the bits that a receiver samples up to the end of what is stuffed, but for a sixth equal one (Bosch CAN
-    /// 2.0 part B, sections 6 and 7.1). At any other bit the answer is false, and the machine stays where it was.
+    /// Takes one sampled bit that does nothing but that the machine has it; else returns false, and leaves the machine where it was.
+    ///
+    /// With such a bit no frame begins or ends, and nothing is counted. The node drives recessive before and after, whatever it is to send
+    /// and in whatever mode. A receiver samples such bits up to the end of what is stuffed, but for a sixth equal one (Bosch CAN 2.0 part
+    /// B, sections 6 and 7.1).
     pub fn keep(&mut self, sample: Level) -> bool
         ensures value { (past : List Input) → IsMachine self.old past → result ≡ keeps (stretch_of past) sample }
         ensures stays { result ≡ false → (past : List Input) → IsMachine self.old past → IsMachine self.new past }
@@ -137,26 +137,27 @@ impl Machine {
         self.progress.switch_off();
     }
 
-    /// True where the bus is idle to the node: it is free and the node has nothing to send, or the
-    /// node is suspended (Bosch CAN 2.0 part B, section 3.2.5). One that has decided to send is not
-    /// idle.
+    /// True if the bus is idle to the node: it is free and the node has nothing to send, or the node is suspended (Bosch CAN 2.0 part B,
+    /// section 3.2.5). A node that has decided to send is not idle.
     pub fn idle(&self) -> bool
         ensures { (past : List Input) → IsMachine self.now past → result ≡ is_idle_sort (stretch_of past).sort }
     {
         self.progress.is_idle()
     }
 
-    /// True where the next edge may be a start of frame to the node, up to its own: on an idle bus, while it is suspended or
-    /// integrates, from the sample of the first bit of an intermission to that of the third, and where it has decided to send, up to
-    /// the sample of its start of frame (Bosch CAN 2.0 part B, sections 3.2.1 and 3.2.5; ISO 11898-1, hard synchronisation).
+    /// True if the next edge may be a start of frame to the node, up to its own (Bosch CAN 2.0 part B, sections 3.2.1 and 3.2.5; ISO
+    /// 11898-1, hard synchronisation).
+    ///
+    /// So it is on an idle bus, while the node is suspended or integrates, and from the sample of the first bit of an intermission to that
+    /// of the third. If the node has decided to send, so it is up to the sample of its start of frame.
     pub fn awaits_start(&self) -> bool
         ensures { (past : List Input) → IsMachine self.now past → result ≡ awaits_start (stretch_of past) }
     {
         self.progress.awaits_start()
     }
 
-    /// True where the bus is free and the node has nothing to send: a recessive sample leaves the machine as it is then, as long as
-    /// it is handed no frame.
+    /// True if the bus is free and the node has nothing to send. A recessive sample then leaves the machine as it is, as long as it is
+    /// handed no frame.
     pub fn is_free(&self) -> bool
         ensures sort { (past : List Input) → IsMachine self.now past → result ≡ is_free_sort (stretch_of past).sort }
         ensures stays { result ≡ true → (past : List Input) (mode : Mode) → IsMachine self.now past
@@ -165,20 +166,21 @@ impl Machine {
         self.progress.is_free()
     }
 
-    /// For how many samples more the machine is sure to drive recessive, whatever it samples, and also
-    /// where it goes off the bus; with `heads` whatever frame it is handed, and without as long as it is
-    /// handed none. At most 1,407; 0 where it may drive dominant after its next sample, or does so
-    /// now (the lookahead of Chandy and Misra, 1979).
+    /// Returns for how many samples more the machine is sure to drive recessive, whatever it samples, and also if it goes off the bus: with
+    /// `heads` whatever frame it is handed, and without as long as it is handed none. At most 1,407; 0 if it may drive dominant after its
+    /// next sample, or does so now (the lookahead of Chandy and Misra, 1979).
     pub fn silence(&self, heads: bool) -> u16
         ensures { (past : List Input) → IsMachine self.now past → result ≡ silence_of heads (stretch_of past) }
     {
         self.progress.silence(heads)
     }
 
-    /// For how many recessive samples more the machine is sure to want recessive, whatever frames it is handed and in
-    /// whatever modes: at most 1,407. `None` where it isn't at rest: in a frame before its ACK delimiter, where its CRC
-    /// sequence is wrong, and in a flag of six dominant bits. A machine at rest that is handed no frame goes on to a free bus
-    /// with recessive samples, and wants recessive all along (Bosch CAN 2.0 part B, sections 3.2 and 8, rule 12).
+    /// Returns for how many recessive samples more the machine is sure to want recessive, whatever frames it is handed and in whatever
+    /// modes: at most 1,407.
+    ///
+    /// `None` if it isn't at rest: in a frame before its ACK delimiter, in one whose CRC sequence is wrong, and in a flag of six dominant
+    /// bits. A machine at rest that is handed no frame goes on to a free bus with recessive samples. It wants recessive all along (Bosch
+    /// CAN 2.0 part B, sections 3.2 and 8, rule 12).
     pub fn rest(&self) -> Option<u16>
         ensures value { (past : List Input) → IsMachine self.now past → result ≡ rest_of (stretch_of past) }
         ensures stands { (past : List Input) (more : List Sampled) (n : ℕ) → IsMachine self.now past → result ≡ Some n

@@ -54,7 +54,7 @@ pub fn error_of(role: Role, kind: ErrorKind) -> Happened
 }
 
 impl Progress {
-    /// The bus is free: the head is sent from its start of frame on, if there is one.
+    /// Frees the bus: the head is sent from its start of frame on, if there is one.
     pub fn free(&mut self, head: Option<&Frame>)
         ensures { IsIn self.new (stretch_by (free (option_copied head.entry)) []) }
     {
@@ -71,7 +71,7 @@ impl Progress {
         }
     }
 
-    /// A start of frame was sampled.
+    /// Begins a frame that another node sends: its start of frame was sampled.
     pub fn receive(&mut self)
         ensures { IsIn self.new (stretch_by (FramingSort None) (Level.Dominant ∷ [])) }
     {
@@ -83,7 +83,7 @@ impl Progress {
         };
     }
 
-    /// The start of frame of this frame was sampled, which another node has begun: its next bit is sent next.
+    /// Joins in the frame that another node has begun, as its sender: its start of frame was sampled, and its next bit is sent next.
     pub fn join(&mut self, frame: &Frame)
         ensures { IsIn self.new (stretch_by (FramingSort (Some frame.now)) (Level.Dominant ∷ [])) }
     {
@@ -96,7 +96,7 @@ impl Progress {
         };
     }
 
-    /// The flag of an overload begins with the next bit.
+    /// Begins the flag of an overload with the next bit.
     pub fn overload(&mut self, role: Role)
         ensures { IsIn self.new (stretch_by (FlaggingSort OverloadSort role) []) }
     {
@@ -108,7 +108,7 @@ impl Progress {
         };
     }
 
-    /// The flag of an error begins with the next bit.
+    /// Begins the flag of an error with the next bit.
     pub fn fail(&mut self, role: Role, mode: Mode)
         ensures { IsIn self.new (stretch_by (FlaggingSort (error_flag mode) role) []) }
     {
@@ -129,7 +129,7 @@ impl Progress {
         };
     }
 
-    /// Before the first sample.
+    /// Returns what a machine keeps before the first sample.
     pub fn new() -> Progress
         ensures { IsReachedBy result [] }
     {
@@ -140,7 +140,7 @@ impl Progress {
         }
     }
 
-    /// One sample, in the stretch that runs.
+    /// Takes one sample, in the stretch that runs.
     pub fn step(&mut self, level: Level, head: Option<&Frame>, mode: Mode) -> Step
         requires { ∥ ((s : Stretch) × IsIn self.old s) ∥₁ }
         ensures { (s : Stretch) → IsIn self.old s
@@ -182,7 +182,7 @@ impl Progress {
         }
     }
 
-    /// The level that is driven at the next bit.
+    /// Returns the level that is driven at the next bit.
     pub fn drive(&self) -> Level
         ensures { result ≡ state_drive self.now.state self.now.bits.items self.now.sent.items }
     {
@@ -203,7 +203,7 @@ impl Progress {
         }
     }
 
-    /// The bus is idle to a node that has nothing to send, or is suspended.
+    /// True if the bus is idle to a node that has nothing to send, or is suspended.
     pub fn is_idle(&self) -> bool
         ensures { result ≡ is_idle_state self.now.state }
     {
@@ -213,7 +213,8 @@ impl Progress {
         }
     }
 
-    /// The next edge may be a start of frame to the node, up to its own: in a frame that it has decided to send, no bit was sampled yet.
+    /// True if the next edge may be a start of frame to the node, up to its own: in a frame that it has decided to send, no bit was sampled
+    /// yet.
     pub fn awaits_start(&self) -> bool
         ensures { result ≡ awaits_state self.now.state }
     {
@@ -225,7 +226,7 @@ impl Progress {
         }
     }
 
-    /// The bus is free, and the node has nothing to send.
+    /// True if the bus is free, and the node has nothing to send.
     pub fn is_free(&self) -> bool
         ensures { result ≡ is_free_state self.now.state }
     {
@@ -235,7 +236,7 @@ impl Progress {
         }
     }
 
-    /// Off the bus, with no recessive sample yet.
+    /// Goes off the bus, with no recessive sample yet.
     pub fn switch_off(&mut self)
         ensures { IsIn self.new (stretch_by OffBus []) }
     {

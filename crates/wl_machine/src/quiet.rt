@@ -16,7 +16,7 @@ use wl_frame::frame::Frame;
 use wl_level::Level;
 
 impl Progress {
-    /// One sample of an integration.
+    /// Takes one sample of an integration.
     pub fn integrating(&mut self, run: u8, level: Level, head: Option<&Frame>) -> Step
         requires { run < 11 }
         ensures { (own : List Level) (mode : Mode) → run ≡ run_at_end Level.Recessive own
@@ -32,7 +32,7 @@ impl Progress {
         plain(Happened::Nothing)
     }
 
-    /// One sample of an idle bus.
+    /// Takes one sample of an idle bus.
     pub fn idle_bit(&mut self, level: Level, head: Option<&Frame>) -> Step
         ensures { (own : List Level) (mode : Mode)
             → Meets self.new result (stretch_by IdleSort own) (sample_of level (option_copied head.entry) mode) }
@@ -45,7 +45,7 @@ impl Progress {
         plain(Happened::Nothing)
     }
 
-    /// One sample of an intermission.
+    /// Takes one sample of an intermission.
     pub fn intermission(
         &mut self,
         role: Role,
@@ -77,8 +77,8 @@ impl Progress {
         plain(Happened::Nothing)
     }
 
-    /// The third bit of an intermission is dominant: the start of frame of the head, if there is one, and else of a frame that
-    /// the node receives. A passive transmitter takes no part with its next frame yet.
+    /// Takes a dominant third bit of an intermission: the start of frame of the head, if there is one, and else of a frame that the node
+    /// receives. A passive transmitter takes no part with its next frame yet.
     fn begun_by_others(&mut self, role: Role, head: Option<&Frame>, mode: Mode)
         ensures { IsIn self.new
             (stretch_by (FramingSort (begun_head role mode (option_copied head.entry))) (Level.Dominant ∷ [])) }
@@ -89,7 +89,7 @@ impl Progress {
         }
     }
 
-    /// One sample of a suspended transmitter.
+    /// Takes one sample of a suspended transmitter.
     pub fn suspended(&mut self, count: u8, level: Level, head: Option<&Frame>) -> Step
         requires { count < 8 }
         ensures { (own : List Level) (mode : Mode) → IsCount count own 8
@@ -105,7 +105,7 @@ impl Progress {
         plain(Happened::Nothing)
     }
 
-    /// One sample in bus off.
+    /// Takes one sample in bus off.
     pub fn bus_off_bit(&mut self, runs: u8, run: u8, level: Level, head: Option<&Frame>) -> Step
         requires few { runs < 128 }
         requires short { run < 11 }

@@ -7,10 +7,10 @@ use crate::progress::Progress;
 use crate::silence::SUSPENDED;
 use crate::state::State;
 
-/// The last place of a frame behind what is stuffed.
+/// The last place of a frame after what is stuffed.
 const LAST_PLACE: u8 = 9;
 
-/// The bits of an intermission behind each of which no frame can begin.
+/// The bits of an intermission after which no frame can begin.
 const INTERMISSION: u16 = 2;
 
 /// With those of a delimiter.
@@ -20,7 +20,7 @@ const DELIMITER: u16 = 8 + INTERMISSION;
 const PASSIVE_FLAG: u16 = 6 + DELIMITER;
 
 impl Progress {
-    /// For how many recessive samples more the machine is sure to want recessive; `None` where it isn't at rest.
+    /// Returns for how many recessive samples more the machine is sure to want recessive; `None` if it isn't at rest.
     pub fn rest(&self) -> Option<u16>
         ensures { result ≡ state_rest self.now.state self.now.bits.items }
     {
@@ -45,7 +45,7 @@ impl Progress {
     }
 }
 
-/// The same at a place behind what is stuffed.
+/// Returns that number at a place after what is stuffed.
 fn tail(place: u8) -> Option<u16>
     ensures { result ≡ rest_at place }
 {

@@ -7,20 +7,21 @@ use crate::progress::Progress;
 use crate::state::State;
 use wl_frame::places::bits_left;
 
-/// With so many recessive samples in a row an integration ends.
+/// With this many recessive samples in a row an integration ends.
 const INTEGRATED: u16 = 11;
 
-/// So many equal samples in a row are a stuff error, and end a passive flag.
+/// This many equal samples in a row are a stuff error, and end a passive flag.
 const SIX: u16 = 6;
 
 /// The bits of a suspension.
 pub const SUSPENDED: u16 = 8;
 
-/// With so many runs of eleven recessive samples a bus off ends.
+/// With this many runs of eleven recessive samples a bus off ends.
 const RECOVERED: u16 = 128;
 
 impl Progress {
-    /// For how many samples more the machine is sure to drive recessive, with heads or without.
+    /// Returns for how many samples more the machine is sure to drive recessive, with heads or
+    /// without.
     pub fn silence(&self, heads: bool) -> u16
         ensures { result ≡ state_silence heads self.now.state self.now.bits.items }
     {

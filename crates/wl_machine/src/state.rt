@@ -2,7 +2,7 @@
 
 use wl_level::Level;
 
-/// Whether a node is the transmitter of the frame of the moment (Bosch CAN 2.0 part B, section 3.4).
+/// Whether a node is the transmitter of the current frame (Bosch CAN 2.0 part B, section 3.4).
 #[derive(Clone, Copy, Debug, PartialEq, Eq)]
 pub enum Role {
     /// It began the frame, and has not lost the arbitration.

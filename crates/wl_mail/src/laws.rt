@@ -1,8 +1,8 @@
 //! Laws of what groups take.
 ghost use Rattle.wl_mail.specs.Taking.{TakingLaws};
 
-/// Law: a group that takes no record is as it was; to take some records and then others is to take both, and that changed what the group
-/// knows where one of the two did.
+/// Law: a group that takes no record is as it was. To take some records and then others is to take both, and that changed what the group
+/// knows if one of the two did.
 #[tactic(auto, using(crate::proofs::Taken::taking_laws))]
 pub fn taking_laws()
     ensures { TakingLaws }

@@ -14,7 +14,7 @@ use wl_group::Group;
 use wl_plan::Plan;
 use wl_record_core::Record;
 
-/// Records that are true of the plan beside them: no letter has others. Letters share both, so that one more reader costs no copy.
+/// Records that are true of the plan beside them: no letter has others. Letters share both, so one more reader costs no copy.
 #[derive(Drop)]
 pub struct Letter {
     /// The plan.
@@ -25,7 +25,7 @@ pub struct Letter {
 }
 
 impl Letter {
-    /// A letter of a plan, with records that are true of it. Refused only when out of memory.
+    /// Returns a letter of a plan, with records that are true of it. Refused only when out of memory.
     pub fn new(alloc: Global, plan: &Plan, records: &[Record]) -> Result<Letter, AllocError>
         requires { AreTrueOfPlan plan.now records.now }
         ensures plan { IfOk result (λ letter. arc_value letter.plan ≡ plan.now) }
@@ -35,7 +35,7 @@ impl Letter {
         Letter::of(alloc, &plan, records)
     }
 
-    /// A letter of a plan that others share, with records that are true of it. Refused only when out of memory.
+    /// Returns a letter of a plan that others share, with records that are true of it. Refused only when out of memory.
     pub fn of(alloc: Global, plan: &Arc<Plan>, records: &[Record]) -> Result<Letter, AllocError>
         requires { AreTrueOfPlan (arc_value plan.now) records.now }
         ensures plan { IfOk result (λ letter. arc_value letter.plan ≡ arc_value plan.now) }
@@ -49,7 +49,7 @@ impl Letter {
         })
     }
 
-    /// The same letter for one more reader, which shares the plan and the records.
+    /// Returns the same letter for one more reader, which shares the plan and the records.
     pub fn share(&self) -> Result<Letter, AllocError>
         ensures plan { IfOk result (λ letter. arc_value letter.plan ≡ arc_value self.now.plan) }
         ensures records { IfOk result (λ letter. arc_value letter.records ≡ arc_value self.now.records) }
@@ -60,8 +60,8 @@ impl Letter {
         })
     }
 
-    /// Lets a group take the records, and answers whether that changed what the group knows. Where the letter's plan isn't the group's it
-    /// is refused as `Foreign`, and nothing changes. Where memory is refused the group keeps the records that it took before.
+    /// Lets a group take the records, and returns whether that changed what the group knows. If the letter's plan isn't the group's it is
+    /// refused as `Foreign`, and nothing changes. If memory is refused the group keeps the records that it took before.
     pub fn hand_to(&self, group: &mut Group) -> Result<bool, MailFault>
         ensures all { OnOk result (group.new ≡ with_records (arc_value self.now.records).items group.old) }
         ensures first { (k : ℕ) × (group.new ≡ with_records (take k (arc_value self.now.records).items) group.old) }

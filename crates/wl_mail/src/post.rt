@@ -18,10 +18,10 @@ use wl_group::Group;
 use wl_plan::Plan;
 use wl_record_core::Record;
 
-/// A worker's post: what it sends letters to all other workers by, and receives theirs. It keeps every letter that it received.
+/// A worker's post: by it the worker sends letters to all other workers, and receives theirs. It keeps every letter that it received.
 ///
-/// Contracts see how many letters went to each of the other workers, the letters that it received, and how many of these it has handed
-/// out since it began or was last rewound.
+/// Contracts see how many letters went to each of the other workers, and the letters that it received. They also see how many of these it
+/// has handed out since it began or was last rewound.
 #[derive(Drop)]
 pub struct Post {
     ways: Ways,
@@ -48,7 +48,7 @@ pub struct Hold {
 }
 
 impl Post {
-    /// Sends a letter of these records, which are true of the plan, to every other worker. `Gone` where a receiver was given up, which a
+    /// Sends a letter of these records, which are true of the plan, to every other worker. `Gone` if a receiver was given up, which a
     /// `Hold` keeps from coming. A refused `send` may have reached some workers, the first ones.
     pub fn send<R: Wait>(
         &mut self,
@@ -66,7 +66,7 @@ impl Post {
         self.ways.send(rt, &letter)
     }
 
-    /// The same of a plan that the letters of many calls share.
+    /// Sends a letter of a plan that the letters of many calls share, as `send` does.
     pub fn send_shared<R: Wait>(
         &mut self,
         rt: &R,
@@ -83,12 +83,12 @@ impl Post {
         self.ways.send(rt, &letter)
     }
 
-    /// Lets the group take the records of the next letter, and answers whether that changed what the group knows. The next letter is the
-    /// first one received that it hasn't handed out since it was last rewound; where it has handed out all, it waits for a new one.
+    /// Lets the group take the records of the next letter, and returns whether that changed what the group knows. The next letter is the
+    /// first received one that it hasn't handed out since it was last rewound. If it has handed out all, it waits for a new one.
     ///
-    /// `Foreign` where the letter's plan isn't the group's, and `Gone` where the posts of all other workers were given up; then the
-    /// group is as it was. A foreign letter counts as handed out. Where memory is refused the group keeps the records that it took
-    /// before, and the letter comes again.
+    /// `Foreign` if the letter's plan isn't the group's, and `Gone` if the posts of all other workers were given up; then the group is as
+    /// it was. A foreign letter counts as handed out. If memory is refused the group keeps the records that it took before, and the letter
+    /// comes again.
     pub fn receive<R: Wait>(
         &mut self,
         rt: &R,
@@ -128,21 +128,21 @@ impl Post {
         self.handed = 0;
     }
 
-    /// How many letters it received.
+    /// Returns how many letters it received.
     pub fn received(&self) -> usize
         ensures { result ≡ length self.now.kept }
     {
         self.kept.len()
     }
 
-    /// How many of the letters that it received it has handed out since it began or was last rewound.
+    /// Returns how many of the letters that it received it has handed out since it began or was last rewound.
     pub fn handed(&self) -> usize
         ensures { result ≡ self.now.handed }
     {
         self.handed
     }
 
-    /// Has a letter to hand out: where all that it received were handed out, it waits for one more, for which it makes room before.
+    /// Waits for one more letter if all that it received were handed out, and makes room for it before.
     fn await_next<R: Wait>(&mut self, rt: &R) -> Result<(), MailFault>
         ensures kept { KeepsLetters self.old self.new }
         ensures handed { self.new.handed ≡ self.old.handed }
@@ -164,7 +164,8 @@ impl Post {
     }
 }
 
-/// A post for each of so many workers, over one channel of any length each, and a hold on all receivers. Refused only when out of memory.
+/// Returns a post for each of this many workers, over one channel of any length each, and a hold on all receivers. Refused only when out of
+/// memory.
 pub fn posts(alloc: Global, workers: u8) -> Result<(Vec<Post>, Hold), AllocError>
     ensures count { IfOk result (λ r. vec_len r.0 ≡ workers) }
     ensures others { IfOk result (λ r. All (λ post. post ≡ initial_post (workers - 1)) r.0.items) }

@@ -1,4 +1,4 @@
-//! Records that a group takes, and whether they tell it something.
+//! Records that a group takes, and whether they say something new to it.
 ghost use Rattle.std.specs.Prelude.{◌≡◌, ◌≢◌, ℕ, IfOk, MatchBool, OnErr, OnOk, [], ◌∷◌, take};
 ghost use Rattle.wl_plan.specs.PlanLine.{IsTrueOfPlan};
 ghost use Rattle.wl_group.specs.GroupValue.{with_records};
@@ -13,8 +13,8 @@ use wl_replica::{
     Replica, Word, joining_is_a_join, slots_of_states, states_join_slot_by_slot, taking_is_joining,
 };
 
-/// Takes records that are true of the group's plan, in order, and answers whether that changed what the group knows. Where memory is
-/// refused the group keeps those before.
+/// Takes records that are true of the group's plan, in order, and returns whether that changed what the group knows. If memory is refused
+/// the group keeps those before.
 pub(crate) fn take_all(group: &mut Group, records: &[Record]) -> Result<bool, AllocError>
     requires { AreTrueOfPlan group.old.plan records.now }
     ensures all { OnOk result (group.new ≡ with_records records.now group.old) }
@@ -31,7 +31,7 @@ pub(crate) fn take_all(group: &mut Group, records: &[Record]) -> Result<bool, Al
     Ok(changed)
 }
 
-/// Takes a record that is true of the group's plan, and answers whether that changed what the group knows.
+/// Takes a record that is true of the group's plan, and returns whether that changed what the group knows.
 #[tactic(auto, using(crate::proofs::Taken::changed_one))]
 fn take_one(group: &mut Group, entry: Record) -> Result<bool, AllocError>
     requires { IsTrueOfPlan group.old.plan entry }
@@ -44,7 +44,7 @@ fn take_one(group: &mut Group, entry: Record) -> Result<bool, AllocError>
     Ok(news)
 }
 
-/// Whether a record says something that isn't known.
+/// True if a record says something that isn't known.
 fn is_news(known: &Replica, entry: Record) -> bool
     ensures { IsNews known.now entry result }
 {
@@ -61,7 +61,7 @@ fn is_news(known: &Replica, entry: Record) -> bool
     }
 }
 
-/// Whether two words know more together than the first one.
+/// True if two words know more together than the first one.
 fn adds<W: Join + Copy>(known: W, said: W) -> bool
     ensures { MatchBool result (W.joined known said ≢ known) (W.joined known said ≡ known) }
 {

@@ -32,7 +32,7 @@ impl Model for Ways {
     ghost view = { λ ways. map (λ way. way.letters) ways.ways.items };
 }
 
-/// Why a letter came back: there was no memory for its place, or its receiver was given up.
+/// Returns why a letter came back: there was no memory for its place, or its receiver was given up.
 fn fault_of(is_out_of_memory: bool) -> MailFault
     ensures { MatchBool is_out_of_memory (result ≡ Memory) (result ≡ Gone) }
 {
@@ -73,7 +73,7 @@ impl Ways {
     }
 }
 
-/// The ways of a worker, by where each worker's letters are sent to.
+/// Returns the ways of a worker, by where each worker's letters are sent to.
 pub(crate) fn ways_of(
     alloc: Global,
     senders: &[Sender<Letter>],

@@ -11,8 +11,9 @@ impl Node {
     ghost use Rattle.wl_node.specs.Ahead.{left_to_send, is_listening};
     ghost use Rattle.wl_node.specs.Reached.{Shows};
 
-    /// How many bits of its frame a transmitter has before it, without stuff bits, up to the end of the CRC sequence: at most 117. 0 for a node
-    /// that doesn't transmit, before the start of frame is sampled, and after the CRC sequence (Bosch CAN 2.0 part B, sections 3.2.1 and 5).
+    /// Returns how many bits of its frame a transmitter still has, without stuff bits, up to the end of the CRC sequence: at most 117. It
+    /// is 0 for a node that doesn't transmit, before the start of frame is sampled, and after the CRC sequence (Bosch CAN 2.0 part B,
+    /// sections 3.2.1 and 5).
     pub fn to_send(&self) -> usize
         ensures { Shows self.now (λ h. result ≡ left_to_send h) }
     {
@@ -32,7 +33,7 @@ impl Node {
     }
 }
 
-/// True of a node that does this, if it only hears.
+/// True if a node that does this only listens.
 fn hears(doing: Doing) -> bool
     ensures { result ≡ is_hearing doing }
 {

@@ -1,4 +1,4 @@
-//! Quanta of one level, as many as may run without a change of the drive.
+//! Quanta of one level, up to the first that changes the drive.
 
 use crate::node::Node;
 use std::alloc::AllocError;
@@ -11,11 +11,11 @@ impl Node {
     ghost use Rattle.wl_node.specs.Limits.{most_run_quanta};
     ghost use Rattle.wl_node.specs.Reached.{quanta_of, HasGone, HasStopped, StandsFor, TurnsAfter};
 
-    /// Quanta of one level, up to the first that changes the drive, that one too: at most `most`, which is above 0. Answers
-    /// how many ran, at least one.
+    /// Runs quanta of one level, up to and including the first that changes the drive: at most `most`, which is above 0. Returns how many
+    /// ran, at least one.
     ///
-    /// At most [`MOST_RUN_QUANTA`](crate::MOST_RUN_QUANTA) quanta were run, `most` more counted. Refused where memory runs
-    /// out: fewer than `most` were run then, or none, and the node drives what it drove.
+    /// At most [`MOST_RUN_QUANTA`](crate::MOST_RUN_QUANTA) quanta were run, `most` more counted. Refused if memory runs out: fewer than
+    /// `most` were run then, or none, and the node drives what it drove.
     pub fn go(&mut self, level: Level, most: u64) -> Result<u64, AllocError>
         requires some { 0 < most }
         requires short { quanta_of self.old + most ≤ most_run_quanta }
@@ -36,8 +36,8 @@ impl Node {
         Ok(done)
     }
 
-    /// One quantum of this level at least, and `most` at most: those of which nothing comes at once, and one more. Refused
-    /// where memory runs out: fewer than `most` were run then, or none, and the node drives what it drove.
+    /// Skips the quanta of this level without effect, then runs one: at least one quantum, and at most `most`. Refused if memory runs out:
+    /// fewer than `most` were run then, or none, and the node drives what it drove.
     fn leap(&mut self, level: Level, most: u64) -> Result<u64, AllocError>
         requires some { 0 < most }
         requires short { quanta_of self.old + most ≤ most_run_quanta }
@@ -55,8 +55,7 @@ impl Node {
         Ok(passed + 1)
     }
 
-    /// Those quanta of this level, at most `most`, of which nothing comes but samples: whole bits of a free bus, and those before the
-    /// next sample.
+    /// Skips quanta of this level, at most `most`, that do nothing but sample: whole bits of a free bus, and those before the next sample.
     fn pass(&mut self, level: Level, most: u64) -> u64
         requires short { quanta_of self.old + most ≤ most_run_quanta }
         ensures gone { HasGone level result self.old self.new }
@@ -67,7 +66,7 @@ impl Node {
         rested + self.skip(level, most - rested)
     }
 
-    /// Those in which nothing happens at all.
+    /// Skips quanta of this level in which nothing happens at all.
     fn skip(&mut self, level: Level, most: u64) -> u64
         requires short { quanta_of self.old + most ≤ most_run_quanta }
         ensures gone { HasGone level result self.old self.new }
@@ -77,7 +76,7 @@ impl Node {
         self.progress.pass(level, most)
     }
 
-    /// Whole bits of a recessive line on a free bus, at most `most` quanta, of which only the samples are kept: none where a frame is
+    /// Skips whole bits of a recessive line on a free bus, at most `most` quanta. Only their samples are kept. It skips none if a frame is
     /// ready, and no more than there is room for.
     fn rest(&mut self, level: Level, most: u64) -> u64
         requires short { quanta_of self.old + most ≤ most_run_quanta }
@@ -94,7 +93,7 @@ impl Node {
         }
     }
 
-    /// Bits of so many quanta each, at most `most` quanta in all.
+    /// Skips bits of `bit` quanta each, at most `most` quanta in all.
     fn rest_bits(&mut self, quanta: u64, most: u64) -> u64
         requires rests { AlwaysRests self.old.progress quanta }
         requires some { 0 < quanta }
@@ -115,7 +114,7 @@ impl Node {
         done
     }
 
-    /// One of them.
+    /// Skips one such bit.
     fn rest_bit(&mut self, quanta: u64)
         requires rests { AlwaysRests self.old.progress quanta }
         requires some { 0 < quanta }

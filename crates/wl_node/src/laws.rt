@@ -2,14 +2,14 @@
 
 ghost use Rattle.wl_node.specs.Laws.{NodeLaws, DriveLaws};
 
-/// Law: each node is where some levels put it, and those are as many as it has run quanta.
+/// Law: each node is where some levels put it, one for each quantum that it has run.
 pub fn node_laws()
     ensures { NodeLaws }
 {}
 
-/// Law: what a node promises of its drive is kept, whatever it sees, and what it says of it where it sees recessive; between the start of a bit and its
-/// sample it drives what its machine wants; and in `n` quanta its drive changes `n / (least_way + 1) + 1`
-/// times at most, rounded down (`Segments::least_way`).
+/// Law: a node keeps what it promises of its drive, whatever it sees, and what it says of it for recessive levels. Between the start of a
+/// bit and its sample it drives what its machine wants. In `n` quanta its drive changes `n / (least_way + 1) + 1` times at most, rounded
+/// down (`Segments::least_way`).
 pub fn drive_laws()
     ensures { DriveLaws }
 {

@@ -33,7 +33,7 @@ impl Node {
     ghost use Rattle.wl_node.specs.Marks.{IsMark, HasGoneOn, HasPassed, quanta_marked};
     ghost use Rattle.wl_node.specs.Reached.{IsNode, node_setup, quanta_of};
 
-    /// A mark of where the node is. It takes no memory.
+    /// Returns a mark of where the node is. It takes no memory.
     pub fn keep(&self) -> Mark
         ensures mark { (levels : List Level) → IsNode levels self.now → IsMark (node_setup self.now) levels result }
         ensures quanta { quanta_marked result ≡ quanta_of self.now }

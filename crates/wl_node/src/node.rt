@@ -10,12 +10,11 @@ use std::alloc::{AllocError, Global};
 use wl_confine::Counters;
 use wl_level::{Level, Listed};
 
-/// A node: its setup, and where the levels that it saw put it, one for each quantum (the bit clock:
-/// Bosch CAN 2.0 part B, section 10; the machine: sections 3, 6 and 7; the counters: section 8).
+/// A node: its setup, and where the levels that it saw put it, one for each quantum. Its rules are those of the bit clock (Bosch CAN 2.0
+/// part B, section 10), the machine (sections 3, 6 and 7) and the counters (section 8).
 ///
-/// A node looks at the line once a quantum. [`Node::quantum`] is one of its quanta; where the owner
-/// has to know whether there is memory before anything happens, it calls [`Node::prepare`] and
-/// [`Node::run`] in its place.
+/// A node looks at the line once a quantum. [`Node::quantum`] is one of its quanta. If the owner has to know whether there is memory before
+/// anything happens, it calls [`Node::prepare`] and [`Node::run`] in its place.
 #[derive(Drop)]
 pub struct Node {
     pub(crate) setup: NodeSetup,
@@ -28,11 +27,11 @@ pub struct Node {
 /// What a node stored, given up by it.
 #[derive(Drop)]
 pub struct NodeLists {
-    /// The samples, each with its quantum.
+    /// Returns the samples, each with its quantum.
     pub samples: Listed<(u64, Level)>,
     /// The frames that it sent and received, in the order in which they were completed.
     pub frames: Listed<Passed>,
-    /// The resynchronising edges: quantum and phase error, in quanta, error 0 too.
+    /// Returns the resynchronising edges: quantum and phase error, in quanta, error 0 too.
     pub phases: Listed<(u64, i8)>,
 }
 
@@ -44,8 +43,7 @@ impl Node {
     ghost use Rattle.wl_node.specs.Reached.{node_setup, quanta_of, IsNode, HasRoom, Shows, HasSeen, IsSameNode, StandsFor};
     ghost use Rattle.wl_node.specs.Stays.{free_stay, stay_at};
 
-    /// A node of this setup that has run no quantum: it drives recessive. Refused only where memory
-    /// runs out.
+    /// Returns a node of this setup that has run no quantum: it drives recessive. Refused only if memory runs out.
     pub fn new(alloc: Global, setup: NodeSetup) -> Result<Node, AllocError>
         ensures node { IfOk result (λ node. IsNode [] node) }
         ensures setup { IfOk result (λ node. node_setup node ≡ setup) }
@@ -54,15 +52,15 @@ impl Node {
         Ok(Node { setup, progress })
     }
 
-    /// What the node was made of. No call changes it.
+    /// Returns what the node was made of. No call changes it.
     pub fn setup(&self) -> &NodeSetup
         ensures { result.now ≡ node_setup self.now }
     {
         &self.setup
     }
 
-    /// Takes the memory that the next quantum needs, so that [`Node::run`] needs none. Refused where
-    /// memory runs out. Refused or not, the node is where it was, and every reader answers as before.
+    /// Takes the memory that the next quantum needs, so that [`Node::run`] needs none. Refused if memory runs out. Refused or not, the node
+    /// is where it was, and every reader answers as before.
     pub fn prepare(&mut self) -> Result<(), AllocError>
         ensures room { OnOk result (HasRoom self.new) }
         ensures node { IsSameNode self.old self.new }
@@ -72,12 +70,11 @@ impl Node {
         self.progress.prepare()
     }
 
-    /// The next quantum, at which the node sees this level, where [`Node::prepare`] has made room and
-    /// fewer than [`MOST_RUN_QUANTA`](crate::MOST_RUN_QUANTA) quanta were run.
+    /// Runs the next quantum, at which the node sees this level. [`Node::prepare`] has made room, and fewer than
+    /// [`MOST_RUN_QUANTA`](crate::MOST_RUN_QUANTA) quanta were run.
     ///
-    /// The bit clock runs first. Where a bit starts, the node drives what its machine wants since
-    /// its last sample. A sample is stored, goes to the machine with the first unsent frame, if it
-    /// is ready, and with the mode before the sample, and then to the counters; where these make
+    /// The bit clock runs first. If a bit starts, the node drives what its machine wants since its last sample. A sample is stored. It goes
+    /// to the machine with the mode before it and with the first unsent frame, if that is ready, and then to the counters. If these make
     /// the mode bus off, the machine goes off the bus at once.
     pub fn run(&mut self, level: Level)
         requires room { HasRoom self.old }
@@ -89,9 +86,9 @@ impl Node {
         self.progress.run(&self.setup, level);
     }
 
-    /// The next quantum, at which the node sees this level: [`Node::prepare`], and then
-    /// [`Node::run`]. Fewer than [`MOST_RUN_QUANTA`](crate::MOST_RUN_QUANTA) quanta were run before. Refused where memory runs
-    /// out: then the quantum isn't run, and every reader answers as before.
+    /// Runs the next quantum, at which the node sees this level: [`Node::prepare`], and then [`Node::run`]. Fewer than
+    /// [`MOST_RUN_QUANTA`](crate::MOST_RUN_QUANTA) quanta were run before. Refused if memory runs out: then the quantum isn't run, and
+    /// every reader answers as before.
     pub fn quantum(&mut self, level: Level) -> Result<(), AllocError>
         requires { quanta_of self.old < most_run_quanta }
         ensures ok { OnOk result (HasSeen level self.old self.new) }
@@ -105,19 +102,18 @@ impl Node {
         Ok(())
     }
 
-    /// The level that the node drives since its last quantum.
+    /// Returns the level that the node drives since its last quantum.
     pub fn drive(&self) -> Level
         ensures { Shows self.now (λ h. result ≡ h.drive) }
     {
         self.progress.drive
     }
 
-    /// For how many quanta more the node is sure to keep its drive, whatever levels it sees: at most
+    /// Returns for how many quanta more the node is sure to keep its drive, whatever levels it sees: at most
     /// [`MOST_QUIET`](crate::MOST_QUIET).
     ///
-    /// Between the start of a bit and its sample that is up to the sample. Otherwise it is up to the
-    /// sample of the next bit, if the machine wants the drive as it is, and 0 if it wants it changed
-    /// (the lookahead of Chandy and Misra, 1979).
+    /// Between the start of a bit and its sample that is up to the sample. Otherwise it is up to the sample of the next bit if the machine
+    /// wants the drive as it is. It is 0 if the machine wants it changed (the lookahead of Chandy and Misra, 1979).
     pub fn quiet(&self) -> u32
         ensures value { (levels : List Level) → IsNode levels self.now
             → result ≡ quiet_of (node_setup self.now) levels }
@@ -126,14 +122,14 @@ impl Node {
         self.progress.quiet(&self.setup)
     }
 
-    /// For how many quanta more the node is sure to keep its drive where it sees recessive at each of them: at most
+    /// Returns for how many quanta more the node is sure to keep its drive if it sees recessive at each of them: at most
     /// [`MOST_RUN_QUANTA`](crate::MOST_RUN_QUANTA). It takes few instructions in the middle of a frame.
     ///
-    /// 0 where it drives dominant or its machine isn't at rest ([`Machine::rest`](wl_machine::Machine::rest)). Otherwise at
-    /// least up to the quantum at which the next frame is ready, that one too, and as many as a node may run where no frame
-    /// waits; and at least up to the first sample behind which the machine may send a frame that is ready, by the least way of
-    /// each bit: behind an acknowledged frame, a flag, a delimiter, an intermission, a suspension, a bus off or an integration
-    /// (Bosch CAN 2.0 part B, sections 3.2 and 8, rule 12).
+    /// 0 if it drives dominant or its machine isn't at rest ([`Machine::rest`](wl_machine::Machine::rest)). Otherwise it is at least the
+    /// greater of two numbers. The first goes up to and including the quantum at which the next frame is ready; if no frame waits, it is
+    /// all that a node may run. The second goes up to the first sample after which the machine may send a ready frame, by the least way of
+    /// each bit: after an acknowledged frame, a flag, a delimiter, an intermission, a suspension, a bus off or an integration (Bosch CAN
+    /// 2.0 part B, sections 3.2 and 8, rule 12).
     pub fn stays(&self) -> u64
         ensures value { Shows self.now (λ h. result ≡ stay_at (node_setup self.now) h) }
         ensures stands { (m : ℕ) → m ≤ result → StandsFor self.now Level.Recessive m }
@@ -143,7 +139,7 @@ impl Node {
         self.progress.stays(&self.setup)
     }
 
-    /// The number of quanta that the node has run.
+    /// Returns the number of quanta that the node has run.
     pub fn quanta(&self) -> u64
         ensures value { result ≡ quanta_of self.now }
         ensures levels { (levels : List Level) → IsNode levels self.now → result ≡ length levels }
@@ -151,49 +147,49 @@ impl Node {
         self.progress.quanta
     }
 
-    /// The samples, each with its quantum.
+    /// Returns the samples, each with its quantum.
     pub fn samples(&self) -> &[(u64, Level)]
         ensures { Shows self.now (λ h. result.now ≡ h.samples) }
     {
         &self.progress.traffic.samples
     }
 
-    /// The frames that the node sent and received, in the order in which they were completed.
+    /// Returns the frames that the node sent and received, in the order in which they were completed.
     pub fn frames(&self) -> &[Passed]
         ensures { Shows self.now (λ h. result.now ≡ h.frames) }
     {
         &self.progress.traffic.frames
     }
 
-    /// The error counters.
+    /// Returns the error counters.
     pub fn counters(&self) -> Counters
         ensures { Shows self.now (λ h. result ≡ counters_of h) }
     {
         self.progress.traffic.counters
     }
 
-    /// The resynchronising edges: quantum and phase error, in quanta, error 0 too.
+    /// Returns the resynchronising edges: quantum and phase error, in quanta, error 0 too.
     pub fn phases(&self) -> &[(u64, i8)]
         ensures { Shows self.now (λ h. result.now ≡ phases_of h) }
     {
         &self.progress.syncs.phases
     }
 
-    /// The number of hard synchronisations.
+    /// Returns the number of hard synchronisations.
     pub fn hards(&self) -> u64
         ensures { Shows self.now (λ h. result ≡ hards_of h) }
     {
         self.progress.syncs.hards
     }
 
-    /// The number of errors that the node found, those that leave its counters alone too.
+    /// Returns the number of errors that the node found, those that leave its counters alone too.
     pub fn errors(&self) -> u64
         ensures { Shows self.now (λ h. result ≡ error_count h) }
     {
         self.progress.traffic.errors
     }
 
-    /// The number of frames of the queue that were not sent yet.
+    /// Returns the number of frames of the queue that were not sent yet.
     pub fn unsent(&self) -> u64
         ensures { Shows self.now (λ h. result ≡ unsent_count (node_setup self.now) h) }
     {
@@ -203,7 +199,7 @@ impl Node {
             .saturating_sub(self.progress.traffic.sent) as u64
     }
 
-    /// What the node stored, without a copy.
+    /// Returns what the node stored, without a copy.
     pub fn into_lists(self) -> NodeLists
         ensures samples { Shows self (λ h. result.samples ≡ h.samples) }
         ensures frames { Shows self (λ h. result.frames ≡ h.frames) }

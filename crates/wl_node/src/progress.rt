@@ -32,7 +32,7 @@ pub struct Progress {
 const FIRST_ROOM: usize = 8;
 
 impl Progress {
-    /// Before the first quantum: the node drives recessive.
+    /// Returns what a node keeps before the first quantum: it drives recessive.
     pub fn new(alloc: Global, segments: Segments) -> Result<Progress, AllocError>
         ensures place { IfOk result (HasSeenNothing segments) }
         ensures none { IfOk result (λ kept. (kept.syncs.hards ≡ 0) × (kept.traffic.errors ≡ 0)) }
@@ -69,8 +69,7 @@ impl Progress {
         self.traffic.prepare()
     }
 
-    /// The next quantum, at which the node sees this level: first the bit clock, and then what its
-    /// beat asks for.
+    /// Runs the next quantum, at which the node sees this level: first the bit clock, and then what its beat asks for.
     pub fn run(&mut self, setup: &NodeSetup, level: Level)
         requires room { IsRoomy self.old }
         requires short { self.old.quanta < most_run_quanta }
@@ -98,8 +97,8 @@ impl Progress {
         self.quanta += 1;
     }
 
-    /// Those quanta of this level, at most `most`, in which nothing happens: none is a sample, none finds an edge, and a
-    /// bit starts only where the node drives what its machine wants.
+    /// Skips quanta of this level, at most `most`, in which nothing happens. None is a sample, none finds an edge, and a bit starts only if
+    /// the node drives what its machine wants. Returns how many.
     pub fn pass(&mut self, level: Level, most: u64) -> u64
         requires short { self.old.quanta + most ≤ most_run_quanta }
         ensures place { (setup : NodeSetup) → HasProgressedBy setup level result self.old self.new }
@@ -118,7 +117,7 @@ impl Progress {
         free
     }
 
-    /// So many of them at once.
+    /// Skips this many of them at once.
     fn skip(&mut self, level: Level, quanta: u8)
         requires some { 0 < quanta }
         requires few { quanta ≤ free_quanta (same self.old.drive self.old.traffic.pending) self.old.clock level }
@@ -135,8 +134,7 @@ impl Progress {
     }
 }
 
-/// What a quantum does by its beat: where a bit starts, the node drives what its machine wants since
-/// its last sample.
+/// Does what a quantum does by its beat: if a bit starts, the node drives what its machine wants since its last sample.
 fn obey(
     drive: &mut Level,
     traffic: &mut Traffic,

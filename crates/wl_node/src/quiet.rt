@@ -12,7 +12,7 @@ use crate::setup::{NodeSetup, Queued};
 use wl_machine::Machine;
 
 impl Progress {
-    /// For how many quanta more the drive is sure to stay, in a node of this setup.
+    /// Returns for how many quanta more the drive is sure to stay, in a node of this setup.
     pub fn quiet(&self, setup: &NodeSetup) -> u32
         ensures value { (levels : List Level) → IsProgress setup.now self.now levels
             → result ≡ quiet_of setup.now levels }
@@ -35,8 +35,8 @@ impl Progress {
 }
 
 impl NodeSetup {
-    /// For how many quanta a node of this setup that has run none is sure to drive recessive, as it does
-    /// before quantum 0: what [`crate::Node::quiet`] answers of a fresh node.
+    /// Returns for how many quanta a node of this setup that has run none is sure to drive recessive, as it does before quantum 0: what
+    /// [`crate::Node::quiet`] returns of a fresh node.
     pub fn first_quiet(&self) -> u32
         ensures value { result ≡ quiet_of self.now [] }
         ensures most { result ≤ most_quiet }
@@ -48,7 +48,7 @@ impl NodeSetup {
     }
 }
 
-/// The quanta before the one at which the first frame that was not sent yet is ready.
+/// Returns the quanta before the one at which the first frame that was not sent yet is ready.
 fn until_ready(queue: &[Queued], sent: usize, quantum: u64) -> u64
     ensures { result ≡ until_ready (drop sent queue.now) quantum }
 {
@@ -58,8 +58,8 @@ fn until_ready(queue: &[Queued], sent: usize, quantum: u64) -> u64
     }
 }
 
-/// Up to the next sample, by the way to it, whether the node drives what its machine wants, and the
-/// least way from a bit's start to a sample.
+/// Returns the quanta up to the next sample. They go by the way to it, by whether the node drives what its machine wants, and by the least
+/// way from a bit's start to a sample.
 pub fn floor(way: Option<u8>, settled: bool, place: u32) -> u32
     requires { place ≤ 17 }
     ensures value { result ≡ floor_by way settled place }
@@ -72,7 +72,7 @@ pub fn floor(way: Option<u8>, settled: bool, place: u32) -> u32
     }
 }
 
-/// And by so many samples more as the machine is silent for, where the node drives what it wants.
+/// Returns that number, longer by the samples for which the machine is silent, if the node drives what it wants.
 pub fn longer(least: u32, silence: u16, place: u32) -> u32
     requires few { least ≤ 255 }
     requires small { place ≤ 17 }

@@ -12,8 +12,8 @@ use crate::setup::NodeSetup;
 use wl_level::Level;
 
 impl Progress {
-    /// The quanta of a bit, where as many recessive ones, up to the next sample, leave all but the samples as it is, as long as no frame is
-    /// ready: where the bus is free, right after the sample of a bit that nothing moved.
+    /// Returns the quanta of a bit, if that number of recessive ones leaves all but the samples as it is, as long as no frame is ready. So
+    /// it is on a free bus, right after the sample of a bit that nothing moved.
     pub fn rests(&self) -> Option<u64>
         ensures rests { (n : ℕ) → result ≡ Some n → AlwaysRests self.now n }
         ensures some { (n : ℕ) → result ≡ Some n → 0 < n }
@@ -25,7 +25,7 @@ impl Progress {
         Some(quanta as u64)
     }
 
-    /// Such a bit, in which no frame is ready, where there is room for its sample.
+    /// Runs such a bit, in which no frame is ready, and for whose sample there is room.
     pub fn rest_bit(&mut self, setup: &NodeSetup, quanta: u64)
         requires rests { AlwaysRests self.old quanta }
         requires some { 0 < quanta }
@@ -46,14 +46,14 @@ impl Progress {
             .push_reserved((self.quanta - 1, Level::Recessive));
     }
 
-    /// There is room for one more sample.
+    /// True only if there is room for one more sample.
     pub fn has_room(&self) -> bool
         ensures { result ≡ true → vec_len self.now.traffic.samples < vec_capacity self.now.traffic.samples }
     {
         self.traffic.samples.len() < self.traffic.samples.capacity()
     }
 
-    /// The quantum before which no frame is ready, as long as none is sent.
+    /// Returns the quantum before which no frame is ready, as long as none is sent.
     pub fn ready_from(&self, setup: &NodeSetup) -> u64
         ensures { (quantum : ℕ) → quantum < result
             → ready_head (drop self.now.traffic.sent setup.now.queue) quantum ≡ None }

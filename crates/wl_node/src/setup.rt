@@ -21,8 +21,8 @@ pub struct Queued {
 pub struct Passed {
     /// True of a frame that was sent, false of one that was received.
     pub sent: bool,
-    /// The node's quantum, counted from 0: of the last bit of end of frame where it was sent, of the
-    /// last but one where it was received (Bosch CAN 2.0 part B, section 5).
+    /// The node's quantum, counted from 0: of the last bit of end of frame if it was sent, of the
+    /// last but one if it was received (Bosch CAN 2.0 part B, section 5).
     pub quantum: u64,
     /// What it carries.
     pub frame: Frame,
@@ -43,7 +43,7 @@ pub struct NodeSetup {
 }
 
 impl NodeSetup {
-    /// An equal setup. Refused only where memory runs out.
+    /// Returns an equal setup. Refused only if memory runs out.
     pub fn clone_in(&self, alloc: Global) -> Result<NodeSetup, AllocError>
         ensures { IfOk result (λ copy. copy ≡ self.now) }
     {
@@ -62,7 +62,7 @@ impl PartialEq for NodeSetup {
 
     ghost laws = { same_setup_laws };
 
-    /// Two setups are equal where clock, segments and queue are.
+    /// True if two setups have the same clock, segments and queue.
     fn eq(&self, other: &NodeSetup) -> bool
         ensures value { result ≡ same_setup self.now other.now }
         ensures same { IsTrue result ↔ (self.now ≡ other.now) }

@@ -1,4 +1,4 @@
-//! For how long a node's drive stands on a recessive line.
+//! For how long a node's drive stays on a recessive line.
 
 ghost use Rattle.std.specs.Prelude.{◌≡◌, ◌≤◌, suc, List, drop};
 ghost use Rattle.wl_level.specs.declared.Level.{Level};
@@ -14,7 +14,7 @@ use crate::setup::{NodeSetup, Queued};
 use wl_level::Level;
 
 impl Progress {
-    /// For how many quanta more the drive stands, in a node of this setup, where each of them is recessive.
+    /// Returns for how many quanta more the drive stays, in a node of this setup, if each of them is recessive.
     pub fn stays(&self, setup: &NodeSetup) -> u64
         ensures value { (levels : List Level) → IsProgress setup.now self.now levels
             → result ≡ stay_at setup.now (history_of setup.now levels) }
@@ -38,7 +38,7 @@ impl Progress {
     }
 }
 
-/// The quanta up to the one at which the first frame that was not sent yet is ready, that one too.
+/// Returns the quanta up to and including the one at which the first unsent frame is ready.
 fn until_frame(queue: &[Queued], sent: usize, quantum: u64) -> u64
     ensures { result ≡ until_frame (drop sent queue.now) quantum }
 {

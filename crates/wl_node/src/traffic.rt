@@ -36,7 +36,7 @@ pub struct Traffic {
     pub frames: Vec<Passed>,
 }
 
-/// The first unsent frame, if it is ready.
+/// Returns the first unsent frame, if it is ready.
 pub fn ready_head(queue: &[Queued], sent: usize, quantum: u64) -> Option<&Frame>
     ensures { option_copied result ≡ ready_head (drop sent queue.now) quantum }
 {
@@ -46,8 +46,8 @@ pub fn ready_head(queue: &[Queued], sent: usize, quantum: u64) -> Option<&Frame>
     }
 }
 
-/// The head that is handed to the machine with a sample of this level: with a dominant one by the book alone, where it is the start
-/// of frame of the head too if it is the third bit of an intermission (Bosch CAN 2.0 part B, section 3.2.5).
+/// Returns the head that is handed to the machine with a sample of this level. By `after` it is handed only with a recessive one. By the
+/// book a dominant one may be its start of frame too, as the third bit of an intermission (Bosch CAN 2.0 part B, section 3.2.5).
 fn handed(level: Level, rules: SyncRules, head: Option<&Frame>) -> Option<&Frame>
     ensures { option_copied result ≡ handed level rules (option_copied head.entry) }
 {
@@ -95,7 +95,7 @@ fn count(errors: &mut u64, happened: Happened)
     }
 }
 
-/// Takes the machine off the bus where a sample made the mode bus off: it drives recessive then.
+/// Takes the machine off the bus if a sample made the mode bus off: it drives recessive then.
 fn switch_off(machine: &mut Machine, pending: &mut Level, before: Mode, after: Mode)
     ensures { (past : List Input) → IsMachine machine.old past → pending.old ≡ drive_of (stretch_of past)
         → IsMachine machine.new (past ++ switched_off before after) × (pending.new ≡ drive_of (stretch_of (past ++ switched_off before after))) }
@@ -123,7 +123,7 @@ impl Traffic {
         Ok(())
     }
 
-    /// A sample at this quantum: it is stored, and goes to the machine and then to the counters.
+    /// Takes a sample at this quantum: it is stored, and goes to the machine and then to the counters.
     pub fn sample(&mut self, setup: &NodeSetup, quantum: u64, level: Level)
         requires samples { vec_len self.old.samples < vec_capacity self.old.samples }
         requires frames { vec_len self.old.frames < vec_capacity self.old.frames }
@@ -137,7 +137,7 @@ impl Traffic {
         }
     }
 
-    /// The same where nothing comes of it to a machine that receives; elsewhere the answer is false, and nothing changes.
+    /// Takes such a sample if it does nothing to a machine that receives; else returns false, and nothing changes.
     fn keep(&mut self, quantum: u64, level: Level) -> bool
         requires { vec_len self.old.samples < vec_capacity self.old.samples }
         ensures kept { result ≡ true → (setup : NodeSetup) (h : History) → length h.seen ≡ quantum
@@ -155,7 +155,7 @@ impl Traffic {
         keeps
     }
 
-    /// The same, also on a free bus.
+    /// Takes such a sample, also on a free bus.
     fn look(&mut self, setup: &NodeSetup, quantum: u64, level: Level)
         requires samples { vec_len self.old.samples < vec_capacity self.old.samples }
         requires frames { vec_len self.old.frames < vec_capacity self.old.frames }
@@ -172,7 +172,7 @@ impl Traffic {
         self.judge(setup, quantum, level);
     }
 
-    /// The same, whatever the machine is in.
+    /// Takes such a sample, whatever the machine is in.
     fn judge(&mut self, setup: &NodeSetup, quantum: u64, level: Level)
         requires samples { vec_len self.old.samples < vec_capacity self.old.samples }
         requires frames { vec_len self.old.frames < vec_capacity self.old.frames }

@@ -20,27 +20,27 @@ use wl_topology::{LONGEST_DELAY, MOST_NODES};
 /// Why a plan can't be run: the first that applies, in this order. Numbers of nodes and disturbances count from 0, and the first is named.
 #[derive(Clone, Copy, Debug, PartialEq, Eq, Error)]
 pub enum PlanFault {
-    /// There is no node, there are more than 16, or not as many as places.
+    /// There is no node, there are more than 16, or the number of places is another.
     #[error("Nodes")]
     Nodes,
     /// The end is above 2^36 ticks.
     #[error("End")]
     End,
-    /// More than 1,048,576 quanta of this node begin before the end, or more than 786,432 where it may sample every third one: an edge lies in
-    /// SYNC_SEG, and the sample is at place 3.
+    /// More than 1,048,576 quanta of this node begin before the end. If it may sample every third one, since an edge lies in SYNC_SEG and
+    /// the sample is at place 3, more than 786,432 do.
     #[error("Quanta({0})")]
     Quanta(u64),
     /// More frames wait at this node than may.
     #[error("Queue({0})")]
     Queue(u64),
-    /// This disturbance takes no tick, ends after tick 2^36, has 64 or more before it, takes more than 1,048,576 ticks to some node, or is at a
-    /// node that isn't there.
+    /// This disturbance takes no tick, ends after tick 2^36, has 64 or more before it, or is at a node that isn't there; or it takes more
+    /// than 1,048,576 ticks to some node.
     #[error("Disturbance({0})")]
     Disturbance(u64),
 }
 
 impl Plan {
-    /// Whether the plan can be run, or the first refusal that applies. At most 4,096 frames wait at a node. It takes no memory.
+    /// Returns the first refusal that applies, if the plan can't be run. At most 4,096 frames may wait at a node. It takes no memory.
     pub fn check(&self) -> Result<(), PlanFault>
         ensures fault { result_err result ≡ fault_of self.now }
         ensures checked { OnOk result (IsChecked self.now) }
@@ -48,7 +48,7 @@ impl Plan {
         self.check_within(MOST_QUEUED)
     }
 
-    /// The same, if at most so many frames may wait at a node.
+    /// Returns the first refusal that applies if at most `queued` frames may wait at a node.
     pub fn check_within(&self, queued: usize) -> Result<(), PlanFault>
         requires { queued ≤ most_queued }
         ensures fault { result_err result ≡ fault_within queued self.now }
@@ -74,7 +74,7 @@ impl Plan {
         Ok(())
     }
 
-    /// Whether there is no node, too many, or not as many as places.
+    /// True if there is no node, there are too many, or the number of places is another.
     fn has_wrong_nodes(&self) -> bool
         ensures wrong { result ≡ has_wrong_nodes self.now }
         ensures cable { IsTopology self.now.topology }
@@ -84,14 +84,14 @@ impl Plan {
         nodes == 0 || nodes > MOST_NODES || nodes != places
     }
 
-    /// Whether the end is later than it may be.
+    /// True if the end is later than it may be.
     fn ends_late(&self) -> bool
         ensures { result ≡ nat_lt latest_end self.now.end }
     {
         self.end > LATEST_END
     }
 
-    /// The number of the first disturbance that is refused.
+    /// Returns the number of the first disturbance that is refused.
     fn first_refused(&self) -> Option<usize>
         requires { length self.now.nodes ≡ length self.now.topology.places }
         ensures { result ≡ position (is_refused self.now) (enumerate_from 0 self.now.disturbances) }
@@ -104,7 +104,7 @@ impl Plan {
         None
     }
 
-    /// Whether disturbance `n` takes no tick, ends too late, is one too many, or is far.
+    /// True if disturbance `n` takes no tick, ends too late, is one too many, or is far.
     fn is_refused(&self, n: usize, d: Disturbance) -> bool
         requires { length self.now.nodes ≡ length self.now.topology.places }
         ensures { result ≡ is_refused self.now (n, d) }
@@ -112,7 +112,7 @@ impl Plan {
         d.to <= d.from || d.to > LATEST_END || n >= MOST_DISTURBANCES || self.is_far(d)
     }
 
-    /// Whether the disturbance takes too long to some node, or is at a node that isn't there.
+    /// True if the disturbance takes too long to some node, or is at a node that isn't there.
     fn is_far(&self, d: Disturbance) -> bool
         requires { length self.now.nodes ≡ length self.now.topology.places }
         ensures { result ≡ is_far self.now d }
@@ -123,7 +123,7 @@ impl Plan {
         }
     }
 
-    /// Whether a place takes too long to some node.
+    /// True if a place takes too long to some node.
     fn is_far_from(&self, x: u32) -> bool
         requires { length self.now.nodes ≡ length self.now.topology.places }
         ensures { result ≡ is_far_from self.now x }
@@ -137,7 +137,7 @@ impl Plan {
     }
 }
 
-/// The most quanta of a node with these segments before the end.
+/// Returns the most quanta of a node with these segments before the end.
 #[tactic(auto, unfolding(crate::specs::Limits::most_quanta, crate::specs::Limits::most_short_quanta))]
 fn most_quanta(segments: &Segments) -> u64
     ensures most { result ≡ most_quanta_of segments.now }
@@ -150,7 +150,7 @@ fn most_quanta(segments: &Segments) -> u64
     }
 }
 
-/// Whether more than `most` quanta begin before the end.
+/// True if more than `most` quanta begin before the end.
 fn has_many_quanta(clock: &Clock, most: u64, end: u64) -> bool
     requires { end ≤ latest_end }
     ensures many { result ≡ nat_lt (tick_of clock.now most) end }
@@ -160,7 +160,7 @@ fn has_many_quanta(clock: &Clock, most: u64, end: u64) -> bool
     clock.first_not_before(end) > most
 }
 
-/// The first node with too many quanta before the end.
+/// Returns the first node with too many quanta before the end.
 #[tactic(auto, using(crate::proofs::CheckProofs::position_is))]
 fn first_with_many_quanta(nodes: &[NodeSetup], end: u64) -> Option<usize>
     requires { end ≤ latest_end }
@@ -176,7 +176,7 @@ fn first_with_many_quanta(nodes: &[NodeSetup], end: u64) -> Option<usize>
     None
 }
 
-/// The first node at which too many frames wait.
+/// Returns the first node at which too many frames wait.
 fn first_with_long_queue(nodes: &[NodeSetup], queued: usize) -> Option<usize>
     ensures { result ≡ position (has_long_queue queued) nodes.now }
 {

@@ -24,7 +24,7 @@ pub enum GroupingFault {
 
 /// Which group each node of a plan is in.
 ///
-/// There are as many groups as the greatest number plus one. A group without nodes is allowed, and only watches.
+/// The number of groups is the greatest number plus one. A group without nodes is allowed, and only watches.
 #[derive(Debug, Drop)]
 pub struct Grouping {
     numbers: Listed<u8>,
@@ -42,8 +42,8 @@ impl Model for Grouping {
 }
 
 impl Grouping {
-    /// The grouping that puts node `i` of the plan into the group of number `i`. `Grouping` where there is not one number of at most 15
-    /// for each node, whatever else the plan is; `Memory` where there is none.
+    /// Returns the grouping that puts node `i` of the plan into the group of number `i`. `Grouping` if there is not one number of at most
+    /// 15 for each node, whatever else the plan is; `Memory` if there is none.
     pub fn new(alloc: Global, plan: &Plan, numbers: &[u8]) -> Result<Grouping, GroupingFault>
         ensures grouping { (result ≡ Err GroupingFault.Grouping) ↔ ¬ IsGrouping (length plan.now.nodes) numbers.now }
         ensures ok { IfOk result (λ made. made ≡ numbers.now) }
@@ -60,14 +60,14 @@ impl Grouping {
         }
     }
 
-    /// The number of nodes.
+    /// Returns the number of nodes.
     pub fn nodes(&self) -> usize
         ensures { result ≡ length self.now }
     {
         self.numbers.len()
     }
 
-    /// How many groups there are, those without nodes too: the greatest number of a group plus one, at most 16.
+    /// Returns how many groups there are, those without nodes too: the greatest number of a group plus one, at most 16.
     pub fn groups(&self) -> u8
         ensures count { result ≡ groups_of self.now }
         ensures few { result ≤ most_groups }
@@ -79,14 +79,14 @@ impl Grouping {
         groups
     }
 
-    /// The group of a node; none where there is no such node.
+    /// Returns the group of a node; none if there is no such node.
     pub fn group_of(&self, node: u8) -> Option<u8>
         ensures { result ≡ slice_get self.now node }
     {
         self.numbers.as_slice().get(node as usize).copied()
     }
 
-    /// The nodes of a group in ascending order: none where there is no such group. A plan that can be run has no more nodes than the
+    /// Returns the nodes of a group in ascending order: none if there is no such group. A plan that can be run has no more nodes than the
     /// condition asks for.
     pub fn members(&self, alloc: Global, group: u8) -> Result<Listed<u8>, AllocError>
         requires { length self.now ≤ 2 ^ 8 }
@@ -102,7 +102,7 @@ impl Grouping {
     }
 }
 
-/// Whether there is one number of at most 15 for each of so many nodes.
+/// True if there is one number of at most 15 for each of this many nodes.
 fn is_grouping(nodes: usize, numbers: &[u8]) -> bool
     ensures { IsTrue result ↔ IsGrouping nodes numbers.now }
 {

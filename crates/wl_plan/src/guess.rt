@@ -2,8 +2,8 @@
 
 ghost use Rattle.wl_plan.specs.Guess.{GuessLaws};
 
-/// Law: a consistent guess holds. Each node is run alone, beside what is thought to come to its place from the others: where that is, below some
-/// tick, what the others make who were run so, each node did below that tick what it does in the simulation.
+/// Law: a consistent guess holds. Each node is run alone, beside a guess of what arrives at its place from the others. If up to some tick
+/// the guess is what the others make who were run so, each node did below that tick what it does in the simulation.
 pub fn a_consistent_guess_holds()
     ensures { GuessLaws }
 {

@@ -16,8 +16,8 @@ pub fn simulation_laws()
     wl_record_core::table_laws();
 }
 
-/// Law: on a line at rest no node changes its drive: where what the nodes have driven, and the disturbances, come recessive to each node from
-/// its next quantum on and below some tick, and no node would drive dominant by then as long as it sees recessive only, none does.
+/// Law: on a line at rest no node changes its drive. Let what the nodes have driven, and the disturbances, arrive recessive at each node
+/// from its next quantum on and below some tick. Let no node drive dominant by then as long as it sees recessive only. Then none does.
 pub fn a_line_at_rest_stays()
     ensures { RestLaw }
 {
@@ -33,7 +33,7 @@ pub fn outcome_is_true()
     simulation_laws();
 }
 
-/// Law: a plan, whose clocks, segments and cable are what their types keep, has no fault exactly where it can be run.
+/// Law: a plan whose clocks, segments and cable are what their types keep has no fault exactly if it can be run.
 pub fn faultless_is_checked()
     ensures { FaultlessIsChecked }
 {
@@ -62,12 +62,12 @@ pub fn changes_are_few()
 }
 
 #[tactic(auto, using(crate::proofs::GroupingProofs::grouping_laws))]
-/// Law: each node is in one of as many groups as there are, and the last one has a node; a group's members are the nodes in it, each once.
+/// Law: each node is in one of the groups, and the last one has a node. A group's members are the nodes in it, each once.
 pub fn grouping_laws()
     ensures { GroupingLaws }
 {}
 
-/// Law: truth of a record by cases, of the table of a plan's changes, and the test of it agree.
+/// Law: the truth of a record by cases, of the table of a plan's changes, and the test of it agree.
 pub fn test_of_truth()
     ensures { TestOfTruth }
 {}

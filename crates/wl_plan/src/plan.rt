@@ -11,8 +11,8 @@ use wl_topology::Topology;
 
 /// A fault: the cable is dominant at the place `x`, or the input of one node is, from tick `from` up to tick `to`, which no longer counts.
 ///
-/// What is on the cable reaches each node a delay later, which goes by the node's place and by what the node takes from the cable to a level
-/// that it sees. What is at one node alone reaches it after what it takes from the cable to such a level, and no other node.
+/// What is on the cable arrives at each node a delay later: the way to the node's place, and what the node takes from the cable to a level
+/// that it sees. What is at one node alone arrives there after that last time, and at no other node.
 #[derive(Clone, Copy, Debug, Default, PartialEq, Eq)]
 pub struct Disturbance {
     /// The one node at which it is, or that it is on the cable.
@@ -26,7 +26,7 @@ pub struct Disturbance {
 }
 
 impl Disturbance {
-    /// How many ticks it takes until node `j` finds it, on this cable.
+    /// Returns how many ticks it takes until node `j` finds it, on this cable.
     pub fn delay(&self, cable: &Topology, j: u8) -> u128
         requires { j < length cable.now.places }
         ensures { result ≡ delay_to cable.now self.now j }
@@ -44,12 +44,12 @@ pub type Nodes = Listed<NodeSetup>;
 /// The disturbances of a plan, in any order. They may overlap.
 pub type Disturbances = Listed<Disturbance>;
 
-/// What is to be simulated. Any plan can be written down; `check` tells which ones can be run.
+/// What is to be simulated. Any plan can be written down; `check` says which ones can be run.
 #[derive(Debug, Drop)]
 pub struct Plan {
     /// The nodes: their clocks, bit segments and frames.
     pub nodes: Nodes,
-    /// Where the nodes sit on the cable.
+    /// Returns where the nodes sit on the cable.
     pub topology: Topology,
     /// What makes the line dominant from outside.
     pub disturbances: Disturbances,
@@ -60,7 +60,7 @@ pub struct Plan {
 impl Plan {
     ghost use Rattle.wl_plan.specs.PlanLine.{line_of};
 
-    /// Whether some disturbance, later by its delay to node `j`, makes the line dominant there at tick `t`.
+    /// True if some disturbance, later by its delay to node `j`, makes the line dominant there at tick `t`.
     pub fn disturbed(&self, j: u8, t: u64) -> bool
         requires { j < length self.now.topology.places }
         ensures { result ≡ (line_of self.now).disturbed j t }
@@ -71,7 +71,7 @@ impl Plan {
             .any(|d| is_at(&self.topology, *d, j, t))
     }
 
-    /// How many ticks it takes until node `j` finds a disturbance: 0 to 1,048,576, or `NEVER` if it is at another node.
+    /// Returns how many ticks it takes until node `j` finds a disturbance: 0 to 1,048,576, or `NEVER` if it is at another node.
     #[tactic(auto, using(crate::proofs::NearProofs::near_by))]
     pub fn disturbance_delay(&self, d: Disturbance, j: u8) -> u64
         requires checked { IsChecked self.now }
@@ -83,7 +83,7 @@ impl Plan {
         d.delay(&self.topology, j) as u64
     }
 
-    /// An equal plan. Refused only when out of memory.
+    /// Returns an equal plan. Refused only when out of memory.
     pub fn clone_in(&self, alloc: Global) -> Result<Plan, AllocError>
         ensures { IfOk result (λ copy. copy ≡ self.now) }
     {
@@ -103,7 +103,7 @@ impl PartialEq for Plan {
 
     ghost laws = { same_plan_laws };
 
-    /// Two plans are equal where nodes, topology, disturbances and end are.
+    /// True if two plans have the same nodes, topology, disturbances and end.
     fn eq(&self, other: &Plan) -> bool
         ensures value { result ≡ same_plan self.now other.now }
         ensures same { IsTrue result ↔ (self.now ≡ other.now) }
@@ -121,7 +121,7 @@ impl Eq for Plan {
     ghost laws = { same_plan_equiv };
 }
 
-/// Whether the disturbance has come to node `j` by tick `t` and is not yet over there.
+/// True if the disturbance has come to node `j` by tick `t` and is not yet over there.
 fn is_at(topology: &Topology, d: Disturbance, j: u8, t: u64) -> bool
     requires { j < length topology.now.places }
     ensures { result ≡ (nat_le (d.from + delay_to topology.now d j) t && nat_lt t (d.to + delay_to topology.now d j)) }
@@ -135,7 +135,7 @@ fn is_at(topology: &Topology, d: Disturbance, j: u8, t: u64) -> bool
     d.from as u128 <= then && then < d.to as u128
 }
 
-/// Equal setups, in the same order.
+/// Returns equal setups, in the same order.
 fn copied(alloc: Global, setups: &[NodeSetup]) -> Result<Nodes, AllocError>
     ensures { IfOk result (λ copy. copy ≡ setups.now) }
 {

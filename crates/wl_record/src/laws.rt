@@ -33,7 +33,7 @@ pub fn text_law()
     ensures { (text : List ℕ) (rs : List Record) → IsText text rs → text ≡ text_of rs }
 {}
 
-/// Law: where a reading begins no call was made, and no record and no part of a line has come.
+/// Law: when a reading begins no call was made, and no record and no part of a line has come.
 pub fn nothing_read_law<R: Source>(_reader: &R)
     ensures { HasRead R.gives _reader.now [] [] beginning _reader.now }
 {}

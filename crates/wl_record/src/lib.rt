@@ -1,4 +1,4 @@
-//! Records of the changes of nodes, and their text.
+//! The text of records of the changes of nodes, read and written piece by piece.
 #![tactic(auto)]
 
 mod fault;

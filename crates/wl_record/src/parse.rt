@@ -32,14 +32,14 @@ ghost use Rattle.wl_record.specs.Parsing.{IsDigits, IsField, FieldsThen, number_
 /// More than any number that is within. Greater numbers in a text are read as this one.
 const CAP: u64 = 1_000_000_000_000_000_000;
 
-/// Whether a byte is a decimal digit.
+/// True if a byte is a decimal digit.
 pub fn is_digit(byte: u8) -> bool
     ensures { IsTrue result ↔ (digit_value byte < 10) }
 {
     byte.is_ascii_digit()
 }
 
-/// The digits at the front: their value, and what follows them.
+/// Returns the value of the digits at the front, and what follows them.
 fn digits(bytes: &[u8]) -> (u64, &[u8])
     ensures { IsDigits bytes.now result.0 result.1.now }
 {
@@ -54,7 +54,7 @@ fn digits(bytes: &[u8]) -> (u64, &[u8])
     (value.min(CAP), &bytes[at..])
 }
 
-/// A space and a number at the front: the number, and what follows it.
+/// Returns the number after a space at the front, and what follows it.
 fn field(bytes: &[u8]) -> Option<(u64, &[u8])>
     ensures found { IfSome result (λ r. (n : ℕ) × IsField bytes.now n r.1.now × (r.0 ≡ number_as_read n)) }
     ensures none { IfNone result ((n : ℕ) (rest : List ℕ) → ¬ (IsField bytes.now n rest)) }
@@ -70,7 +70,7 @@ fn field(bytes: &[u8]) -> Option<(u64, &[u8])>
     Some((value, rest))
 }
 
-/// A space and a number, twice, and what follows them.
+/// Returns two numbers, each after a space, and what follows them.
 fn two_fields(bytes: &[u8]) -> Option<(u64, u64, &[u8])>
     ensures found { IfSome result (λ r. (a b : ℕ) × FieldsThen bytes.now (a ∷ b ∷ []) r.2.now
         × (r.0 ≡ number_as_read a) × (r.1 ≡ number_as_read b)) }
@@ -85,7 +85,7 @@ fn two_fields(bytes: &[u8]) -> Option<(u64, u64, &[u8])>
     Some((first, second, rest))
 }
 
-/// A space and a number, three times, and what follows them.
+/// Returns three numbers, each after a space, and what follows them.
 fn three_fields(bytes: &[u8]) -> Option<(u64, u64, u64, &[u8])>
     ensures found { IfSome result (λ r. (a b k : ℕ) × FieldsThen bytes.now (a ∷ b ∷ k ∷ []) r.3.now
         × (r.0 ≡ number_as_read a) × (r.1 ≡ number_as_read b) × (r.2 ≡ number_as_read k)) }
@@ -108,7 +108,7 @@ ghost use Rattle.wl_record_core.specs.Within.{IsWithin};
 ghost use Rattle.wl_record.specs.Faults.{HasNoNewline};
 ghost use Rattle.wl_record.specs.Parsing.{IsFront, IsOnlyWithin, IsRecordFront, Begins, IsLineFault, TakesLine, IsStop};
 
-/// The edge with these numbers, if it is within.
+/// Returns the edge with these numbers, if it is within.
 #[tactic(auto, unfolding(wl_record_core::specs::Limits::most_nodes, wl_record_core::specs::Limits::most_edges, wl_record_core::specs::Limits::tick_end))]
 pub fn edge(node: u64, seq: u64, tick: u64) -> Option<Record>
     ensures { IsOnlyWithin (Edge node seq tick) result }
@@ -121,7 +121,7 @@ pub fn edge(node: u64, seq: u64, tick: u64) -> Option<Record>
     }
 }
 
-/// The clash with these numbers, if it is within.
+/// Returns the clash with these numbers, if it is within.
 #[tactic(auto, unfolding(wl_record_core::specs::Limits::most_nodes, wl_record_core::specs::Limits::most_edges, wl_record_core::specs::Limits::tick_end))]
 fn clash(node: u64, seq: u64) -> Option<Record>
     ensures { IsOnlyWithin (Clash node seq) result }
@@ -134,7 +134,7 @@ fn clash(node: u64, seq: u64) -> Option<Record>
     }
 }
 
-/// The silence with these numbers, if it is within.
+/// Returns the silence with these numbers, if it is within.
 #[tactic(auto, unfolding(wl_record_core::specs::Limits::most_nodes, wl_record_core::specs::Limits::most_edges, wl_record_core::specs::Limits::tick_end))]
 pub fn silence(node: u64, count: u64, until: u64) -> Option<Record>
     ensures { IsOnlyWithin (Silence node count until) result }
@@ -147,7 +147,7 @@ pub fn silence(node: u64, count: u64, until: u64) -> Option<Record>
     }
 }
 
-/// The fields of an edge, and what follows them. The edge is answered where it is within.
+/// Returns the edge of the fields at the front, if it is within, and what follows them.
 fn edge_front(fields: &[u8]) -> Option<(Option<Record>, &[u8])>
     ensures found { IfSome result (λ f. IsFront 69 fields.now f.0 f.1.now) }
     ensures none { IfNone result ((r : Record) (rest : List ℕ)
@@ -159,7 +159,7 @@ fn edge_front(fields: &[u8]) -> Option<(Option<Record>, &[u8])>
     Some((edge(node, seq, tick), rest))
 }
 
-/// The fields of a clash, likewise.
+/// Returns the clash of the fields at the front, likewise.
 fn clash_front(fields: &[u8]) -> Option<(Option<Record>, &[u8])>
     ensures found { IfSome result (λ f. IsFront 67 fields.now f.0 f.1.now) }
     ensures none { IfNone result ((r : Record) (rest : List ℕ)
@@ -171,7 +171,7 @@ fn clash_front(fields: &[u8]) -> Option<(Option<Record>, &[u8])>
     Some((clash(node, seq), rest))
 }
 
-/// The fields of a silence, likewise.
+/// Returns the silence of the fields at the front, likewise.
 fn silence_front(fields: &[u8]) -> Option<(Option<Record>, &[u8])>
     ensures found { IfSome result (λ f. IsFront 83 fields.now f.0 f.1.now) }
     ensures none { IfNone result ((r : Record) (rest : List ℕ)
@@ -183,7 +183,7 @@ fn silence_front(fields: &[u8]) -> Option<(Option<Record>, &[u8])>
     Some((silence(node, count, until), rest))
 }
 
-/// A record's letter and fields at the front, and what follows them. The record is answered where it is within.
+/// Returns the record of the letter and the fields at the front, if it is within, and what follows them.
 fn record_front(bytes: &[u8]) -> Option<(Option<Record>, &[u8])>
     ensures found { IfSome result (λ f. IsRecordFront bytes.now f.0 f.1.now) }
     ensures none { IfNone result ((r : Record) (rest : List ℕ) → ¬ (Begins bytes.now r rest)) }
@@ -196,7 +196,7 @@ fn record_front(bytes: &[u8]) -> Option<(Option<Record>, &[u8])>
     }
 }
 
-/// The record of a line, or why the line is refused.
+/// Returns the record of a line, or why the line is refused.
 fn parse_line(line: &[u8]) -> Result<Record, LineFault>
     ensures told { IfOk result (λ r. Spells line.now r × IsWithin r) }
     ensures fault { IfErr result (λ fault. IsLineFault line.now fault) }
@@ -213,7 +213,7 @@ fn parse_line(line: &[u8]) -> Result<Record, LineFault>
     }
 }
 
-/// Where the first newline is, if it is among the bytes of a line and the one after.
+/// Returns where the first newline is, if it is among the bytes of a line and the one after.
 fn newline_at(bytes: &[u8]) -> Option<usize>
     ensures found { IfSome result (λ at. (at ≤ most_line) × (at < length bytes.now)
         × HasNoNewline (take at bytes.now) × (slice_index bytes.now at ≡ 10)) }
@@ -227,7 +227,7 @@ fn newline_at(bytes: &[u8]) -> Option<usize>
     None
 }
 
-/// The record whose line is at the front, and what follows its newline; or why there is none.
+/// Returns the record whose line is at the front, and what follows its newline; or why there is none.
 #[cold]
 #[inline(never)]
 fn slow_line(bytes: &[u8]) -> Result<(Record, &[u8]), Stop>
@@ -247,7 +247,7 @@ fn slow_line(bytes: &[u8]) -> Result<(Record, &[u8]), Stop>
     }
 }
 
-/// The same, which looks for no newline first.
+/// Returns the same, without a look for the newline first.
 #[inline(never)]
 fn plain_line(bytes: &[u8]) -> Result<(Record, &[u8]), Stop>
     ensures told { IfOk result (λ t. TakesLine bytes.now t.0 t.1.now) }
@@ -261,7 +261,7 @@ fn plain_line(bytes: &[u8]) -> Result<(Record, &[u8]), Stop>
     slow_line(bytes)
 }
 
-/// The same, by the quick line where that answers.
+/// Returns the same, by the quick line if that answers.
 #[inline(always)]
 fn take_line(bytes: &[u8]) -> Result<(Record, &[u8]), Stop>
     ensures told { IfOk result (λ t. TakesLine bytes.now t.0 t.1.now) }
@@ -275,7 +275,7 @@ fn take_line(bytes: &[u8]) -> Result<(Record, &[u8]), Stop>
 
 ghost use Rattle.wl_record.specs.Parsing.{TakesLines, Appends};
 
-/// Appends the records of the whole lines at the front. Answers what follows them, and why there is no line.
+/// Appends the records of the whole lines at the front. Returns what follows them, and why there is no line.
 pub fn take_lines<'a>(
     bytes: &'a [u8],
     records: &mut Vec<Record>,

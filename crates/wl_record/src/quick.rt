@@ -18,7 +18,7 @@ const TICK_DIGITS: usize = 15;
 /// The most bytes of a line of an edge or a silence that is within, with its newline.
 const QUICK_ROOM: usize = 28;
 
-/// The digits from a place on, at most so many: their value, and the place after them.
+/// Returns the digits from a place on, at most this many: their value, and the place after them.
 #[inline(always)]
 fn digits_at(bytes: &[u8], from: usize, most: usize) -> (u64, usize)
     requires few { most ≤ 15 }
@@ -39,8 +39,8 @@ fn digits_at(bytes: &[u8], from: usize, most: usize) -> (u64, usize)
 
 ghost use Rattle.wl_record.specs.Parsing.{IsField};
 
-/// The number after the space at a place, where it has at most so many digits and the byte `end` follows: the number,
-/// and the place of that byte. None says nothing of the bytes.
+/// Returns the number after the space at a place, if it has at most `most` digits and the byte `end` follows it, and the place of that
+/// byte. `None` says nothing of the bytes.
 #[inline(always)]
 fn field_at(bytes: &[u8], space: usize, most: usize, end: u8) -> Option<(u64, usize)>
     requires space { slice_index bytes.now space ≡ 32 }
@@ -63,7 +63,7 @@ ghost use Rattle.wl_record_core.specs.Within.{IsWithin};
 ghost use Rattle.wl_record.specs.Grammar.{letter_of, numbers_of};
 ghost use Rattle.wl_record.specs.Parsing.{TakesLine};
 
-/// The edge or the silence with this letter and these numbers, if it is within.
+/// Returns the edge or the silence with this letter and these numbers, if it is within.
 #[inline(always)]
 fn told_by(letter: u8, node: u64, place: u64, tick: u64) -> Option<Record>
     ensures letter { IfSome result (λ r. letter_of r ≡ letter) }
@@ -77,8 +77,8 @@ fn told_by(letter: u8, node: u64, place: u64, tick: u64) -> Option<Record>
     }
 }
 
-/// The record whose line is at the front, and what follows its newline, where it is an edge or a silence and the bytes
-/// are at least those of the longest such line. None says nothing of the line.
+/// Returns the record whose line is at the front, and what follows its newline, if it is an edge or a silence. The bytes are at least those
+/// of the longest such line. `None` says nothing of the line.
 #[inline(always)]
 pub fn quick_line(bytes: &[u8]) -> Option<(Record, &[u8])>
     ensures { IfSome result (λ t. TakesLine bytes.now t.0 t.1.now) }

@@ -15,7 +15,7 @@ const PIECE: usize = 65_536;
 
 ghost use Rattle.wl_device.specs.Devices.{read_answer, FitsBuffer};
 
-/// One call that asks for at most `most` bytes, after the first `have` of the buffer.
+/// Makes one call that asks for at most `most` bytes, after the first `have` of the buffer.
 fn read_behind<R: Source>(reader: &mut R, buffer: &mut Vec<u8>, have: usize, most: usize) -> Got
     requires room { have < length buffer.old.items }
     requires some { 0 < most }
@@ -41,7 +41,7 @@ fn is_open(stop: Stop) -> bool
     }
 }
 
-/// The fault of a stop in the line with this number.
+/// Returns the fault of a stop in the line with this number.
 fn fault_of(stop: Stop, line: u64) -> TextFault
     ensures { result ≡ stop_fault stop line }
 {
@@ -52,9 +52,8 @@ fn fault_of(stop: Stop, line: u64) -> TextFault
     }
 }
 
-/// Takes the whole lines of the first `filled` bytes, which come after `lines` others, and moves what is left to the
-/// front. Where `past`, the last of these bytes is one that a text doesn't have. Answers how many are left, and how
-/// many lines there are now.
+/// Takes the whole lines of the first `filled` bytes, which come after `lines` others, and moves what is left to the front. If `past`, the
+/// last of these bytes is one that a text doesn't have. Returns how many are left, and how many lines there are now.
 fn take_piece(
     buffer: &mut Vec<u8>,
     filled: usize,
@@ -130,7 +129,7 @@ impl RecordReader {
     ghost use Rattle.wl_record.specs.Reading.{beginning, GoesOnWith, FaultsWith, CountsCalls, IsSpent};
     ghost use Rattle.wl_record.specs.declared.fault.TextFault.TheVariants.{Read};
 
-    /// A reading that has made no call yet. Takes memory for one piece, and is refused only when out of memory.
+    /// Returns a reading that has made no call yet. Takes memory for one piece, and is refused only when out of memory.
     pub fn new(alloc: Global) -> Result<RecordReader, AllocError>
         ensures { IfOk result (λ r. r ≡ beginning) }
     {
@@ -143,9 +142,8 @@ impl RecordReader {
         })
     }
 
-    /// One step: makes one call of the reader, and appends the records of the lines that are whole now. All of them
-    /// are within, also where the step ends in a fault. After `All` or a fault there is nothing more to ask: each later
-    /// step is refused as `Read`, and makes no call.
+    /// Makes one step: one call of the reader. Appends the records of the lines that are whole now. All of them are within, also if the
+    /// step ends in a fault. After `All` or a fault there is nothing more to ask: each later step is refused as `Read`, and makes no call.
     pub fn next<R: Source>(
         &mut self,
         reader: &mut R,
@@ -203,7 +201,7 @@ impl RecordReader {
 
 ghost use Rattle.wl_record.specs.Reading.{RecordsOf, FaultOf};
 
-/// The records of all that the reader gives up to its end, or the first fault of it.
+/// Returns the records of all that the reader gives up to its end, or the first fault of it.
 pub fn read_records<R: Source>(alloc: Global, reader: &mut R) -> Result<Vec<Record>, TextFault>
     ensures ok { IfOk result (λ records. RecordsOf R.gives reader.old records.items reader.new) }
     ensures fault { IfErr result (λ fault. FaultOf R.gives reader.old fault reader.new) }

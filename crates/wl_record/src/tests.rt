@@ -75,7 +75,7 @@ impl<'a> Read for FailsOnce<'a> {
     }
 }
 
-/// How the reading of two records from such a reader ends, or `None` where they come.
+/// Returns how the reading of two records from such a reader ends, or `None` if they come.
 fn fault_after(alloc: Global, kind: ErrorKind) -> Option<TextFault> {
     let kind = Some(kind);
     match read_records(alloc, &mut Host::new(FailsOnce { kind, text: TEXT })) {
@@ -123,7 +123,7 @@ impl Write for TakesLater {
     }
 }
 
-/// Whether a record goes out to such a writer.
+/// True if a record goes out to such a writer.
 fn goes_out(alloc: Global, first: Option<ErrorKind>) -> bool {
     let mut writer = Host::new(TakesLater {
         first: Some(first),

@@ -11,7 +11,7 @@ use wl_record_core::Record;
 /// Enough for the line of any record, with its newline.
 const LINE_ROOM: usize = 40;
 
-/// Puts a byte before the place `end`. Answers its place.
+/// Puts a byte before the place `end`. Returns its place.
 fn put_before(line: &mut [u8], end: usize, byte: u8) -> usize
     requires some { 0 < end }
     requires within { end ≤ length line.old }
@@ -23,7 +23,7 @@ fn put_before(line: &mut [u8], end: usize, byte: u8) -> usize
     end - 1
 }
 
-/// Puts a space and a number before the place `end`. Answers the place of the space.
+/// Puts a space and a number before the place `end`. Returns the place of the space.
 fn field_before(line: &mut [u8], end: usize, n: u64) -> usize
     requires room { length (decimal n) < end }
     requires within { end ≤ length line.old }
@@ -35,7 +35,7 @@ fn field_before(line: &mut [u8], end: usize, n: u64) -> usize
     put_before(line, at, b' ')
 }
 
-/// Puts a letter and the numbers of a node and a place before the place `end`. Answers the place of the letter.
+/// Puts a letter and the numbers of a node and a place before the place `end`. Returns the place of the letter.
 #[tactic(auto, using(crate::proofs::WriteLemmas::byte_length, crate::proofs::WriteLemmas::word_length))]
 fn place_before(line: &mut [u8], end: usize, letter: u8, node: u8, place: u32) -> usize
     requires room { 16 ≤ end }
@@ -49,7 +49,7 @@ fn place_before(line: &mut [u8], end: usize, letter: u8, node: u8, place: u32) -
     put_before(line, at, letter)
 }
 
-/// Puts the line of a record at the end. Answers the place where it begins.
+/// Puts the line of a record at the end. Returns the place where it begins.
 #[tactic(auto, using(crate::proofs::WriteLemmas::long_length))]
 fn line_at_end(line: &mut [u8; LINE_ROOM], told: &Record) -> usize
     ensures within { result ≤ 40 }
@@ -81,7 +81,7 @@ pub fn push_text_line(text: &mut Vec<u8>, told: &Record) -> Result<(), AllocErro
     text.extend_from_slice(&line[at..])
 }
 
-/// The text of the records, within their limits or not. Refused only when out of memory.
+/// Returns the text of the records, within their limits or not. Refused only when out of memory.
 pub fn text_of(alloc: Global, records: &[Record]) -> Result<Vec<u8>, AllocError>
     ensures { IfOk result (λ text. text.items ≡ text_of records.now) }
 {
@@ -97,7 +97,7 @@ pub fn text_of(alloc: Global, records: &[Record]) -> Result<Vec<u8>, AllocError>
 /// How many bytes go out in one piece.
 const CHUNK: usize = 4_096;
 
-/// Puts the line of a record after the first `filled` bytes. Answers how many are filled then.
+/// Puts the line of a record after the first `filled` bytes. Returns how many are filled then.
 fn push_line(chunk: &mut [u8], filled: usize, told: &Record) -> usize
     requires { filled + 40 ≤ length chunk.old }
     ensures within { result ≤ length chunk.new }

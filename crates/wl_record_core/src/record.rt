@@ -27,7 +27,7 @@ pub enum Slot {
 impl Record {
     ghost use Rattle.wl_record_core.specs.Within.{IsWithin};
 
-    /// Whether the numbers are within their limits, which are this project's profile: a node below 16, a change's number below 262,145, a
+    /// True if the numbers are within their limits, which are this project's profile: a node below 16, a change's number below 262,145, a
     /// count at most 262,145, a tick below 2^48.
     #[tactic(auto, unfolding(crate::specs::Limits::most_nodes, crate::specs::Limits::most_edges, crate::specs::Limits::tick_end))]
     pub fn within(&self) -> bool
@@ -46,7 +46,7 @@ impl Record {
 
     ghost use Rattle.wl_record_core.specs.Slots.{node_of, slot_of};
 
-    /// The node that the record speaks of.
+    /// Returns the node that the record speaks of.
     pub fn node(&self) -> u8
         ensures { result ≡ node_of self.now }
     {
@@ -56,7 +56,7 @@ impl Record {
         }
     }
 
-    /// The slot that the record speaks of. An edge and a clash of one change share it.
+    /// Returns the slot that the record speaks of. An edge and a clash of one change share it.
     pub fn slot(&self) -> Slot
         ensures { result ≡ slot_of self.now }
     {
@@ -70,7 +70,7 @@ impl Record {
     }
 }
 
-/// A silence of node 0 up to tick 0, which promises nothing. Lists of a fixed size hold it where they hold no record.
+/// A silence of node 0 up to tick 0, which promises nothing. Lists of a fixed size hold it in the place of a record.
 impl Default for Record {
     ghost use Rattle.wl_record_core.specs.declared.record.Record.TheVariants.{Silence};
 
@@ -90,7 +90,7 @@ impl fmt::Display for Record {
 
     ghost output = { λ r. Some (words_of r) };
 
-    /// The line of the record, without its newline.
+    /// Writes the line of the record, without its newline.
     fn fmt<W: fmt::Write>(&self, f: &mut fmt::Formatter<W>) -> fmt::Result {
         match *self {
             Record::Edge { node, seq, tick } => write!(f, "E {node} {seq} {tick}"),

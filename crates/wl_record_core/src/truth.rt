@@ -6,8 +6,8 @@ ghost use Rattle.wl_record_core.specs.Truth.{IsTrueOf};
 use crate::Record;
 
 impl Record {
-    /// Whether the record is true where there are `nodes` nodes and these are the changes of the
-    /// node that it names: strictly increasing ticks, the first one to dominant.
+    /// True if the record is true of `nodes` nodes and of these changes of the node that it names:
+    /// strictly increasing ticks, the first one to dominant.
     ///
     /// A clash is never true, nor is a record that is not within.
     pub fn is_true_of(&self, nodes: u8, changes: &[u64]) -> bool

@@ -11,7 +11,7 @@ use std::alloc::AllocError;
 use wl_lattice::CLASH;
 use wl_record_core::Record;
 
-/// What records are added to, one behind the other: a list of them, or a text.
+/// What records are added to, one after the other: a list of them, or a text.
 pub trait RecordSink {
     /// What it consists of: records of a list, bytes of a text.
     ghost Part: { Type 0 };

@@ -50,7 +50,7 @@ impl EdgeRows {
         self.rows[node as usize].raise_edge(seq, number)
     }
 
-    /// Joins in the number of a word that says something, where there is room.
+    /// Joins in the number of a word that says something, for which there is room.
     #[inline(always)]
     fn join_number(&mut self, node: u8, seq: u32, number: u64)
         requires node { node < length self.old.rows.items }
@@ -79,7 +79,7 @@ impl SilenceRows {
         self.rows[node as usize].raise_silence(count, until)
     }
 
-    /// Joins in the end of a silence, where there is room.
+    /// Joins in the end of a silence, for which there is room.
     #[inline(always)]
     fn join_number(&mut self, node: u8, count: u32, until: u64)
         requires node { node < length self.old.rows.items }
@@ -116,7 +116,7 @@ fn raise_told(
     }
 }
 
-/// Joins in what a record says, where there is room.
+/// Joins in what a record says, for which there is room.
 fn join_told(edges: &mut EdgeRows, silences: &mut SilenceRows, told: &Record)
     requires edges { Fits (length edges.old.rows.items) told.now }
     requires silences { Fits (length silences.old.rows.items) told.now }
@@ -136,7 +136,7 @@ fn join_told(edges: &mut EdgeRows, silences: &mut SilenceRows, told: &Record)
     }
 }
 
-/// Makes room in a slot, where there is a row for it and a record can name it. No number is seen to change.
+/// Makes room in a slot, if there is a row for it and a record can name it. No number is seen to change.
 fn make_slot(edges: &mut EdgeRows, silences: &mut SilenceRows, slot: Slot) -> Result<(), AllocError>
     ensures edges { IsGrown edges.old.rows.items edges.new.rows.items }
     ensures silences { IsGrown silences.old.rows.items silences.new.rows.items }
@@ -164,7 +164,7 @@ fn make_slots(
     Ok(())
 }
 
-/// A key can hold a word where there is a row for its node; a tick has to be below 2^64 - 2.
+/// A key can hold a word if there is a row for its node; a tick has to be below 2^64 - 2.
 impl Slots for EdgeRows {
     type Key = (u8, u32);
 
@@ -193,7 +193,7 @@ impl Slots for EdgeRows {
     }
 }
 
-/// A key can hold a word where there is a row for its node.
+/// A key can hold a word if there is a row for its node.
 impl Slots for SilenceRows {
     type Key = (u8, u32);
 
@@ -220,10 +220,10 @@ impl Slots for SilenceRows {
     }
 }
 
-/// What is known of so many nodes, as [`Replica`](crate::Replica) knows it, without a run that is kept up to date.
+/// What is known of some nodes, as [`Replica`](crate::Replica) knows it, without a run that is kept up to date.
 ///
-/// It has a place for each slot of a node up to the greatest that was named, of 8 bytes: it takes records in any order
-/// at the same cost, and 2 MiB for a record of the last change of a node.
+/// It has a place of 8 bytes for each slot of a node up to the greatest that was named. So it takes records in any order at the same cost,
+/// and 2 MiB for a record of the last change of a node.
 #[derive(Drop)]
 pub struct Rows {
     nodes: u8,
@@ -249,7 +249,7 @@ impl Rows {
     ghost use Rattle.wl_record_core.specs.declared.record.Record.{Record};
     ghost use Rattle.wl_replica.specs.State.{state_of, state_with_record, states_joined, IsOfRecords};
 
-    /// Rows of so many nodes that know nothing. Refused only when out of memory.
+    /// Returns rows of this many nodes that know nothing. Refused only when out of memory.
     pub fn new(alloc: Global, nodes: u8) -> Result<Rows, AllocError>
         ensures { IfOk result (λ made. made ≡ state_of nodes []) }
     {
@@ -264,7 +264,7 @@ impl Rows {
         })
     }
 
-    /// Rows of no nodes. They take no memory.
+    /// Returns rows of no nodes. They take no memory.
     pub fn of_no_nodes(alloc: Global) -> Rows
         ensures { result ≡ state_of 0 [] }
     {
@@ -279,7 +279,7 @@ impl Rows {
         }
     }
 
-    /// The number of nodes that they know of. What they know of them is what some records say.
+    /// Returns the number of nodes that they know of. What they know of them is what some records say.
     pub fn nodes(&self) -> u8
         ensures value { result ≡ self.now.nodes }
         ensures records { IsOfRecords self.now }
@@ -294,8 +294,8 @@ impl Rows {
     ghost use Rattle.wl_replica.specs.State.{edge_at, silence_at};
     ghost use Rattle.wl_replica.specs.Canonical.{edge_record, silence_record, of_node};
 
-    /// The numbers of a node's edges, one for each change from the first on: 0 for nothing, 2^64 - 1 for a clash,
-    /// else the tick and one. Past their end nothing is known.
+    /// Returns the numbers of a node's edges, one for each change from the first on: 0 for nothing, 2^64 - 1 for a clash, else the tick and
+    /// one. Past their end nothing is known.
     pub fn edge_numbers(&self, node: u8) -> &[u64]
         requires { node < self.now.nodes }
         ensures few { length result.now ≤ most_row_places }
@@ -307,7 +307,7 @@ impl Rows {
         numbers_of(&self.edges.rows, node)
     }
 
-    /// How far a node's silences reach, one for each count from 0 on: 0 for none. Past their end nothing is known.
+    /// Returns how far a node's silences reach, one for each count from 0 on: 0 for none. Past their end nothing is known.
     pub fn silence_numbers(&self, node: u8) -> &[u64]
         requires { node < self.now.nodes }
         ensures few { length result.now ≤ most_row_places }
@@ -322,8 +322,8 @@ impl Rows {
     ghost use Rattle.wl_replica.specs.State.{slots_of};
     ghost use Rattle.wl_replica.specs.Known.{run_length, horizon, wave};
 
-    /// How many of the node's first changes are known without a gap: their ticks strictly increase, and none lies
-    /// inside a silence before it.
+    /// Returns how many of the node's first changes are known without a gap: their ticks strictly increase, and none lies inside a silence
+    /// before it.
     pub fn run_length(&self, node: u8) -> u32
         requires { node < self.now.nodes }
         ensures length { result ≡ run_length (slots_of self.now) node }
@@ -334,8 +334,8 @@ impl Rows {
             .length
     }
 
-    /// The tick below which the node's level is known, if all that was taken is true: past the last change of its
-    /// run, or the end of a silence after at most so many changes (Chandy and Misra, 1979).
+    /// Returns the tick below which the node's level is known, if all that was taken is true: past the last change of its run, or the end
+    /// of a silence after at most this many changes (Chandy and Misra, 1979).
     pub fn horizon(&self, node: u8) -> u64
         requires { node < self.now.nodes }
         ensures { result ≡ horizon (slots_of self.now) node }
@@ -343,8 +343,8 @@ impl Rows {
         known_of(self.edge_numbers(node), self.silence_numbers(node)).horizon
     }
 
-    /// The ticks below the node's horizon at which it drives dominant, as far as its run tells: from each first to
-    /// each second change, an open last one up to the horizon. Refused out of memory.
+    /// Returns the ticks below the node's horizon at which it drives dominant, as far as its run says: from each first to each second
+    /// change, an open last one up to the horizon. Refused out of memory.
     pub fn wave(&self, alloc: Global, node: u8) -> Result<Intervals, AllocError>
         requires { node < self.now.nodes }
         ensures { IfOk result (λ set. set ≡ wave (slots_of self.now) node) }
@@ -368,8 +368,8 @@ impl Rows {
         Ok(())
     }
 
-    /// Joins in what other rows, of as many nodes, know. It makes room for every slot that it lacks, and then joins;
-    /// so when out of memory, the rows are as they were.
+    /// Joins in what other rows of the same number of nodes know. It makes room for every slot that it lacks, and then joins. So when out
+    /// of memory, the rows are as they were.
     pub fn join(&mut self, other: &Rows) -> Result<(), AllocError>
         requires { self.old.nodes ≡ other.now.nodes }
         ensures ok { OnOk result (self.new ≡ states_joined self.old other.now) }
@@ -401,14 +401,14 @@ impl Rows {
         }
     }
 
-    /// The word of a change.
+    /// Returns the word of a change.
     pub fn edge(&self, node: u8, seq: u32) -> FlatWord
         ensures { result ≡ edge_at self.now (node, seq) }
     {
         self.edges.word(&(node, seq))
     }
 
-    /// The word of a silence after so many changes.
+    /// Returns the word of a silence after this many changes.
     pub fn silence(&self, node: u8, count: u32) -> MaxWord
         ensures { result ≡ silence_at self.now (node, count) }
     {
@@ -433,8 +433,8 @@ impl Rows {
     }
 }
 
-/// In how many slots a replica is prepared to take records: as many as a node's next quantum may be
-/// about, which are its next change, and the silence without it and with it.
+/// The number of slots in which a replica is prepared to take records. A node's next quantum may be about three: its next change, and the
+/// silence without it and with it.
 pub const PREPARED_SLOTS: usize = 3;
 
 /// Rows that have room in some slots: they take records of those without memory.
@@ -474,7 +474,7 @@ impl PreparedRows {
         join_told(&mut self.edges, &mut self.silences, told);
     }
 
-    /// The numbers of a node's edges, as [`Rows::edge_numbers`] gives them.
+    /// Returns the numbers of a node's edges, as [`Rows::edge_numbers`] gives them.
     pub fn edge_numbers(&self, node: u8) -> &[u64]
         requires { node < self.now.known.nodes }
         ensures within { HasTicksWithin result.now }
@@ -483,7 +483,7 @@ impl PreparedRows {
         numbers_of(&self.edges.rows, node)
     }
 
-    /// How far a node's silences reach, as [`Rows::silence_numbers`] gives it.
+    /// Returns how far a node's silences reach, as [`Rows::silence_numbers`] gives it.
     pub fn silence_numbers(&self, node: u8) -> &[u64]
         requires { node < self.now.known.nodes }
         ensures { (n : ℕ) → row_number result.now n ≡ (silence_at self.now.known (node, n)).word }
@@ -491,7 +491,7 @@ impl PreparedRows {
         numbers_of(&self.silences.rows, node)
     }
 
-    /// The rows, which know the same.
+    /// Returns the rows, which know the same.
     pub fn into_rows(self) -> Rows
         ensures { result ≡ self.known }
     {

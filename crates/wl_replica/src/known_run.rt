@@ -20,7 +20,7 @@ pub struct Run {
     pub end: u64,
 }
 
-/// What a node's words tell of its level.
+/// What a node's words say of its level.
 #[derive(Clone, Copy)]
 pub struct KnownRun {
     /// The longest run of its first changes that are known without a gap.
@@ -29,13 +29,13 @@ pub struct KnownRun {
     pub horizon: u64,
 }
 
-/// What is known of a node of which nothing came.
+/// What is known of a node about which nothing came.
 pub const NOTHING: KnownRun = KnownRun {
     run: Run { length: 0, end: 0 },
     horizon: 0,
 };
 
-/// The number at a place of a row, 0 past its end.
+/// Returns the number at a place of a row, 0 past its end.
 fn number_at(row: &[u64], place: u32) -> u64
     ensures { result ≡ row_number row.now place }
 {
@@ -45,14 +45,14 @@ fn number_at(row: &[u64], place: u32) -> u64
     }
 }
 
-/// The word of a change by its number.
+/// Returns the word of a change by its number.
 pub fn edge_at(edges: &[u64], seq: u32) -> FlatWord
     ensures { result ≡ edges_of_row edges.now seq }
 {
     number_word(number_at(edges, seq))
 }
 
-/// A run with the next change, where that carries it on.
+/// Returns a run with the next change, if that extends it.
 fn longer(edges: &[u64], silences: &[u64], run: Run) -> Option<Run>
     requires within { HasTicksWithin edges.now }
     requires end { run.end ≡ after_edges (edges_of_row edges.now) run.length }
@@ -76,7 +76,7 @@ fn longer(edges: &[u64], silences: &[u64], run: Run) -> Option<Run>
     })
 }
 
-/// The longest run, where a shorter one is known.
+/// Returns the longest run, if a shorter one is known.
 fn run_on(edges: &[u64], silences: &[u64], from: Run) -> Run
     requires within { HasTicksWithin edges.now }
     requires run { is_run (edges_of_row edges.now) (row_number silences.now) from.length ≡ true }
@@ -97,7 +97,7 @@ fn run_on(edges: &[u64], silences: &[u64], from: Run) -> Run
     run
 }
 
-/// A run of so many changes, which are known.
+/// Returns a run of this many changes, which are known.
 fn first_of(edges: &[u64], count: u32) -> Run
     requires { HasTicksWithin edges.now }
     ensures length { result.length ≡ count }
@@ -113,7 +113,7 @@ fn first_of(edges: &[u64], count: u32) -> Run
     Run { length: count, end }
 }
 
-/// How far a run tells all: the silences after fewer changes end below its last one.
+/// Returns how far a run says all: the silences after fewer changes end below its last one.
 fn known_at(silences: &[u64], run: Run) -> KnownRun
     ensures run { result.run ≡ run }
     ensures horizon { result.horizon ≡ max run.end (row_number silences.now run.length) }
@@ -124,7 +124,7 @@ fn known_at(silences: &[u64], run: Run) -> KnownRun
     }
 }
 
-/// What is known of a node, by a walk over all its changes.
+/// Returns what is known of a node, by a walk over all its changes.
 pub fn known_of(edges: &[u64], silences: &[u64]) -> KnownRun
     requires { HasTicksWithin edges.now }
     ensures { IsRunOf (edges_of_row edges.now) (row_number silences.now) result }
@@ -132,8 +132,8 @@ pub fn known_of(edges: &[u64], silences: &[u64]) -> KnownRun
     known_at(silences, run_on(edges, silences, NOTHING.run))
 }
 
-/// What is known of a node after a word was joined in at one of its changes. A change of the run is then the
-/// same, or clashes and ends the run.
+/// Returns what is known of a node after a word was joined in at one of its changes. A change of the run is then the same, or clashes and
+/// ends the run.
 fn after_edge(edges: &[u64], silences: &[u64], seq: u32, known: KnownRun) -> KnownRun
     requires within { HasTicksWithin edges.now }
     requires was { WasRunBeforeEdge (edges_of_row edges.now) (row_number silences.now) seq known }
@@ -148,8 +148,7 @@ fn after_edge(edges: &[u64], silences: &[u64], seq: u32, known: KnownRun) -> Kno
     }
 }
 
-/// What is known of a node after the end of a silence was joined in. Where it is past a change of the run, that
-/// change ends the run.
+/// Returns what is known of a node after the end of a silence was joined in. If it is past a change of the run, that change ends the run.
 fn after_silence(
     edges: &[u64],
     silences: &[u64],
@@ -176,7 +175,7 @@ fn after_silence(
     }
 }
 
-/// What is known of a node after a record of it was taken.
+/// Returns what is known of a node after a record of it was taken.
 fn after_record(edges: &[u64], silences: &[u64], told: &Record, known: KnownRun) -> KnownRun
     requires within { HasTicksWithin edges.now }
     requires was { WasRunBefore told.now (edges_of_row edges.now) (row_number silences.now) known }

@@ -15,8 +15,7 @@ pub fn taking_is_joining()
     ensures { TakingIsJoining }
 {}
 
-/// Law: joining states of as many nodes is commutative, associative and idempotent, and a state that
-/// knows nothing is neutral.
+/// Law: joining states of the same number of nodes is commutative, associative and idempotent, and a state that knows nothing is neutral.
 pub fn joining_is_a_join()
     ensures { IsJoining }
 {}
@@ -31,8 +30,7 @@ pub fn canonical_determines_the_state()
     ensures { CanonicalDeterminesTheState }
 {}
 
-/// Law: what is made canonical and then gets more records is, made canonical again, what all the
-/// records make at once.
+/// Law: to make records canonical, add more records and make that canonical again is to make all of them canonical at once.
 pub fn merging_is_appending()
     ensures { MergingIsAppending }
 {}
@@ -55,25 +53,25 @@ pub fn slots_laws()
     ensures { SlotsLaws }
 {}
 
-/// Law: where all that is held is true of one table of changes: all laws at once.
+/// Law: if all that is held is true of one table of changes: all laws at once.
 pub fn known_laws()
     ensures { KnownLaws }
 {
     wl_record_core::table_laws();
 }
 
-/// Law: where all that is held and taken is true of one table of changes, no node's horizon falls.
+/// Law: if all that is held and taken is true of one table of changes, no node's horizon falls.
 pub fn no_horizon_falls()
     ensures { HorizonsStay }
 {
     known_laws();
 }
 
-/// Law: where all that is held is true of one table of changes, each wave below its horizon is the
-/// table's level there: dominant after an odd number of changes.
+/// Law: if all that is held is true of one table of changes, each wave below its horizon is the table's level there: dominant after an odd
+/// number of changes.
 ///
-/// This is the heart of conservative simulation (Chandy and Misra, 1979): below a promise nothing
-/// more can come, so what is known there is what happens.
+/// This is the heart of conservative simulation (Chandy and Misra, 1979): below a promise nothing more can come, so what is known there is
+/// what happens.
 pub fn waves_agree()
     ensures { WavesAgree }
 {

@@ -1,5 +1,7 @@
-//! What is known of all nodes of a bus, kept as slots that records are joined into: replicas that
-//! took the same records are equal, in whatever order and however often they came.
+//! What is known of all nodes of a bus, from records in any order.
+//!
+//! It is kept as slots that records are joined into. Replicas that took the same records are equal,
+//! in whatever order and however often they came.
 #![tactic(auto)]
 
 mod canonical;

@@ -30,7 +30,7 @@ impl Model for Row {
     ghost invariant = { λ r. length r.numbers.items ≤ most_row_places };
 }
 
-/// Makes a row at least so long, and then some. No number is seen to change.
+/// Makes a row at least this long, and then some. No number is seen to change.
 #[cold]
 #[inline(never)]
 fn grow(numbers: &mut Vec<u64>, places: usize) -> Result<(), AllocError>
@@ -47,7 +47,7 @@ fn grow(numbers: &mut Vec<u64>, places: usize) -> Result<(), AllocError>
 }
 
 impl Row {
-    /// A row of no number.
+    /// Returns a row of no number.
     pub fn new(alloc: Global) -> Row
         ensures { result ≡ [] }
     {
@@ -56,7 +56,7 @@ impl Row {
         }
     }
 
-    /// How many places it has.
+    /// Returns how many places it has.
     pub fn len(&self) -> usize
         ensures value { result ≡ length self.now }
         ensures few { result ≤ most_row_places }
@@ -64,7 +64,7 @@ impl Row {
         self.numbers.len()
     }
 
-    /// Makes it at least so long. No number is seen to change. Refused when out of memory; the row is then as it was.
+    /// Makes it at least this long. No number is seen to change. Refused when out of memory; the row is then as it was.
     #[inline(always)]
     pub fn lengthen(&mut self, places: usize) -> Result<(), AllocError>
         requires { places ≤ most_row_places }
@@ -92,7 +92,7 @@ impl Row {
         self.numbers[at] = if differs { CLASH } else { number };
     }
 
-    /// The numbers up to the end.
+    /// Returns the numbers up to the end.
     pub fn as_slice(&self) -> &[u64]
         ensures value { result.now ≡ self.now }
         ensures few { length self.now ≤ most_row_places }
@@ -100,7 +100,7 @@ impl Row {
         self.numbers.as_slice()
     }
 
-    /// The number at a place.
+    /// Returns the number at a place.
     pub fn number(&self, place: u32) -> u64
         ensures { result ≡ row_number self.now place }
     {

@@ -9,7 +9,7 @@ use crate::node_row::Row;
 use std::alloc::{AllocError, Global};
 use wl_record_core::MOST_EDGES;
 
-/// So many empty rows.
+/// Returns this many empty rows.
 pub fn empty_rows(alloc: Global, nodes: u8) -> Result<Vec<Row>, AllocError>
     ensures { IfOk result (λ rows. rows.items ≡ replicate nodes []) }
 {
@@ -20,7 +20,7 @@ pub fn empty_rows(alloc: Global, nodes: u8) -> Result<Vec<Row>, AllocError>
     Ok(rows)
 }
 
-/// The numbers of a node.
+/// Returns the numbers of a node.
 pub fn numbers_of(rows: &Vec<Row>, node: u8) -> &[u64]
     requires { node < length rows.now.items }
     ensures value { result.now ≡ row_of rows.now.items node }
@@ -29,7 +29,7 @@ pub fn numbers_of(rows: &Vec<Row>, node: u8) -> &[u64]
     rows[node as usize].as_slice()
 }
 
-/// Makes room at a place of a node, where it has a row and a record can name the place. No number is seen to change.
+/// Makes room at a place of a node, if it has a row and a record can name the place. No number is seen to change.
 pub fn make_room_at(rows: &mut Vec<Row>, node: u8, place: u32) -> Result<(), AllocError>
     ensures grown { IsGrown rows.old.items rows.new.items }
     ensures room { OnOk result (HasRoom rows.new.items node place) }
@@ -54,7 +54,7 @@ pub fn make_room_for(rows: &mut Vec<Row>, others: &Vec<Row>, nodes: u8) -> Resul
     Ok(())
 }
 
-/// Joins the rows of edges of as many nodes in, where there is room.
+/// Joins in the rows of edges of the same number of nodes, for which there is room.
 pub fn join_edge_rows(rows: &mut Vec<Row>, others: &Vec<Row>, nodes: u8)
     requires mine { length rows.old.items ≡ nodes }
     requires theirs { length others.now.items ≡ nodes }
@@ -68,7 +68,7 @@ pub fn join_edge_rows(rows: &mut Vec<Row>, others: &Vec<Row>, nodes: u8)
     }
 }
 
-/// Joins the rows of silences of as many nodes in, where there is room.
+/// Joins in the rows of silences of the same number of nodes, for which there is room.
 pub fn join_silence_rows(rows: &mut Vec<Row>, others: &Vec<Row>, nodes: u8)
     requires mine { length rows.old.items ≡ nodes }
     requires theirs { length others.now.items ≡ nodes }

@@ -25,14 +25,13 @@ pub enum Word {
     Silence(MaxWord),
 }
 
-/// What is known of so many nodes: for each change its tick, for each number of changes how far
-/// the silence after them reaches.
+/// What is known of some nodes: for each change its tick, for each number of changes how far the silence after them reaches.
 ///
-/// A slot that holds nothing counts as a slot that is absent. What is taken is joined in, so it
-/// doesn't matter in what order records come, nor how often.
+/// A slot that holds nothing counts as a slot that is absent. What is taken is joined in, so it doesn't matter in what order records come,
+/// nor how often.
 ///
-/// It has a place for each slot of a node up to the greatest that was named, of 8 bytes. Where records are true of a
-/// plan these are as many as its changes; a stranger's record of the last change of a node takes 2 MiB.
+/// It has a place of 8 bytes for each slot of a node up to the greatest that was named. If records are true of a plan, these are no more
+/// than its changes. A stranger's record of the last change of a node takes 2 MiB.
 #[derive(Drop)]
 pub struct Replica {
     rows: Rows,
@@ -65,7 +64,7 @@ impl Replica {
     ghost use Rattle.wl_replica.specs.Slots.{HoldsTrue};
     ghost use Rattle.wl_replica.specs.SlotsOf.{NoHorizonFalls, ChangesStand};
 
-    /// A replica of so many nodes that knows nothing. Refused only when out of memory.
+    /// Returns a replica of this many nodes that knows nothing. Refused only when out of memory.
     pub fn new(alloc: Global, nodes: u8) -> Result<Replica, AllocError>
         ensures { IfOk result (λ made. made ≡ state_of nodes []) }
     {
@@ -77,7 +76,7 @@ impl Replica {
         })
     }
 
-    /// A replica of no nodes. It takes no memory, so it can stand where another one is moved out for a while.
+    /// Returns a replica of no nodes. It takes no memory, so it can take the place of one that is moved out for a while.
     pub fn of_no_nodes(alloc: Global) -> Replica
         ensures { result ≡ state_of 0 [] }
     {
@@ -87,7 +86,7 @@ impl Replica {
         }
     }
 
-    /// The number of nodes that it knows of. What it knows of them is what some records say.
+    /// Returns the number of nodes that it knows of. What it knows of them is what some records say.
     pub fn nodes(&self) -> u8
         ensures value { result ≡ self.now.nodes }
         ensures records { IsOfRecords self.now }
@@ -95,8 +94,7 @@ impl Replica {
         self.rows.nodes()
     }
 
-    /// Whether the replica can take a record: its node is one of the replica's, and its numbers
-    /// are within their limits.
+    /// True if the replica can take a record: its node is one of the replica's, and its numbers are within their limits.
     pub fn fits(&self, told: &Record) -> bool
         ensures { IsTrue result ↔ Fits self.now.nodes told.now }
     {
@@ -129,8 +127,8 @@ impl Replica {
         Ok(())
     }
 
-    /// Makes room in these slots, so that records of them can be taken without memory. Refused where
-    /// memory runs out; it then gives the replica back as it was.
+    /// Makes room in these slots, so that records of them can be taken without memory. Refused if memory runs out; it then gives the
+    /// replica back as it was.
     pub fn prepare(self, slots: [Slot; PREPARED_SLOTS]) -> Result<Prepared, Replica>
         ensures known { IfOk result (λ prepared. prepared.known ≡ self) }
         ensures slots { IfOk result (λ prepared. prepared.slots ≡ slots) }
@@ -143,8 +141,8 @@ impl Replica {
         }
     }
 
-    /// Joins in what the other replica, of as many nodes, knows. It makes room for every slot that it
-    /// lacks, and then joins; so when out of memory, the replica is as it was.
+    /// Joins in what the other replica, of the same number of nodes, knows. It makes room for every slot that it lacks, and then joins. So
+    /// when out of memory, the replica is as it was.
     pub fn join(&mut self, other: &Replica) -> Result<(), AllocError>
         requires { self.old.nodes ≡ other.now.nodes }
         ensures ok { OnOk result (self.new ≡ states_joined self.old other.now) }
@@ -161,7 +159,7 @@ impl Replica {
         Ok(())
     }
 
-    /// What the replica has in a slot.
+    /// Returns what the replica has in a slot.
     pub fn slot(&self, slot: Slot) -> Word
         ensures { result ≡ word_at self.now slot }
     {
@@ -171,7 +169,7 @@ impl Replica {
         }
     }
 
-    /// A replica that knows the same. Refused only when out of memory.
+    /// Returns a replica that knows the same. Refused only when out of memory.
     pub fn clone_in(&self, alloc: Global) -> Result<Replica, AllocError>
         ensures { IfOk result (λ other. other ≡ self.now) }
     {
@@ -180,8 +178,8 @@ impl Replica {
         Ok(other)
     }
 
-    /// The records that make this replica, each slot once: node by node, the changes by number and
-    /// then the silences by count. Refused only when out of memory.
+    /// Returns the records that make this replica, each slot once: node by node, the changes by number and then the silences by count.
+    /// Refused only when out of memory.
     pub fn canonical(&self, alloc: Global) -> Result<Vec<Record>, AllocError>
         ensures list { IfOk result (λ all. all.items ≡ canonical self.now) }
         ensures fits { IfOk result (λ all. All (Fits self.now.nodes) all.items) }
@@ -194,8 +192,8 @@ impl Replica {
     ghost use Rattle.wl_record_core.specs.Limits.{most_edges, tick_end};
     ghost use Rattle.wl_replica.specs.Known.{run_length, horizon};
 
-    /// How many of the node's first changes are known without a gap: their ticks strictly
-    /// increase, and none lies inside a silence before it.
+    /// Returns how many of the node's first changes are known without a gap: their ticks strictly increase, and none lies inside a silence
+    /// before it.
     pub fn run_length(&self, node: u8) -> u32
         requires { node < self.now.nodes }
         ensures length { result ≡ run_length (slots_of self.now) node }
@@ -204,9 +202,8 @@ impl Replica {
         self.runs[node as usize].run.length
     }
 
-    /// The tick below which the node's level is known, if all that was taken is true: past the last
-    /// change of its run, or the end of a silence after at most so many changes (Chandy and Misra,
-    /// 1979).
+    /// Returns the tick below which the node's level is known, if all that was taken is true: past the last change of its run, or the end
+    /// of a silence after at most this many changes (Chandy and Misra, 1979).
     pub fn horizon(&self, node: u8) -> u64
         requires { node < self.now.nodes }
         ensures tick { result ≡ horizon (slots_of self.now) node }
@@ -227,9 +224,8 @@ impl Replica {
     ghost use Rattle.wl_topology.specs.Driven.{driven};
     ghost use Rattle.std.specs.Prelude.{◌+◌, ◌-◌, ◌&&◌, length, nat_le, IfSome};
 
-    /// The ticks below the node's horizon at which it drives dominant, as far as its run tells:
-    /// from each first to each second change, an open last one up to the horizon. Refused for want of
-    /// memory.
+    /// Returns the ticks below the node's horizon at which it drives dominant, as far as its run says: from each first to each second
+    /// change, an open last one up to the horizon. Refused out of memory.
     pub fn wave(&self, alloc: Global, node: u8) -> Result<Intervals, AllocError>
         requires { node < self.now.nodes }
         ensures set { IfOk result (λ set. set ≡ wave (slots_of self.now) node) }
@@ -243,8 +239,8 @@ impl Replica {
         )
     }
 
-    /// Of the wave, the intervals that end after a tick, without a walk over the changes before it: from that tick
-    /// on it tells the same levels. Refused out of memory.
+    /// Returns the intervals of the wave that end after a tick, without a walk over the changes before it. From that tick on they say the
+    /// same levels. Refused out of memory.
     pub fn wave_after(&self, alloc: Global, node: u8, tick: u64) -> Result<Intervals, AllocError>
         requires { node < self.now.nodes }
         ensures set { IfOk result (λ set. set ≡ wave_after (slots_of self.now) node tick) }
@@ -258,8 +254,8 @@ impl Replica {
         )
     }
 
-    /// The tick below which the line at node `j` is known: the least horizon of a node, later by its
-    /// delay to `j`. `topology` has this replica's nodes.
+    /// Returns the tick below which the line at node `j` is known: the least horizon of a node, later by its delay to `j`. `topology` has
+    /// this replica's nodes.
     pub fn place_horizon(&self, topology: &Topology, j: u8) -> u64
         requires nodes { length topology.now.places ≡ self.now.nodes }
         requires place { j < self.now.nodes }
@@ -272,7 +268,7 @@ impl Replica {
         least
     }
 
-    /// The tick below which what node `i` drives is known at node `j`.
+    /// Returns the tick below which what node `i` drives is known at node `j`.
     fn known_until(&self, topology: &Topology, i: u8, j: u8) -> u64
         requires nodes { length topology.now.places ≡ self.now.nodes }
         requires from { i < self.now.nodes }
@@ -282,9 +278,8 @@ impl Replica {
         self.horizon(i) + topology.delay(i, j)
     }
 
-    /// The level that node `j` finds at tick `t`, by the waves of all nodes, without disturbances:
-    /// dominant where some node drove dominant its delay earlier. `topology` has this replica's
-    /// nodes, and `t` is below the place horizon.
+    /// Returns the level that node `j` finds at tick `t`, by the waves of all nodes, without disturbances: dominant if some node drove
+    /// dominant its delay earlier. `topology` has this replica's nodes, and `t` is below the place horizon.
     pub fn seen(&self, topology: &Topology, j: u8, t: u64) -> Level
         requires nodes { length topology.now.places ≡ self.now.nodes }
         requires place { j < self.now.nodes }
@@ -299,7 +294,7 @@ impl Replica {
         Level::Recessive
     }
 
-    /// Whether node `j` finds at tick `t` that node `i` drove dominant.
+    /// True if node `j` finds at tick `t` that node `i` drove dominant.
     fn drove(&self, topology: &Topology, i: u8, j: u8, t: u64) -> bool
         requires nodes { length topology.now.places ≡ self.now.nodes }
         requires from { i < self.now.nodes }
@@ -313,7 +308,7 @@ impl Replica {
     }
 }
 
-/// Works the run of each node out anew.
+/// Works the run of each node out again.
 fn all_came(runs: &mut Vec<KnownRun>, rows: &Rows)
     requires count { length runs.old.items ≡ rows.now.nodes }
     requires limits { AreInLimits (slots_of rows.now) }
@@ -324,11 +319,9 @@ fn all_came(runs: &mut Vec<KnownRun>, rows: &Rows)
     }
 }
 
-/// A replica that has room in some slots, made by [`Replica::prepare`]: it takes records of those
-/// without memory, and gives the replica.
+/// A replica that has room in some slots, made by [`Replica::prepare`]: it takes records of those without memory, and gives the replica.
 ///
-/// It is for an owner who can't take back what the records tell of, and so has to have all memory
-/// before that happens.
+/// It is for an owner who can't take back what the records say, and so has to have all memory before that happens.
 #[derive(Drop)]
 pub struct Prepared {
     rows: PreparedRows,

@@ -23,8 +23,8 @@ pub fn push_behind(set: &mut Intervals, from: u64, to: u64) -> Result<(), AllocE
     }
 }
 
-/// One tick more, at which the level changes: where it was dominant since a tick, the interval is
-/// whole.
+/// Goes on to one tick more, at which the level changes: if it was dominant since a tick, the
+/// interval is whole.
 pub fn flip(set: &mut Intervals, since: Option<u64>, tick: u64) -> Result<Option<u64>, AllocError>
     requires since { IfSome since (λ from. from < tick) }
     requires behind { IfSome since (λ from. IfSome (last_end set.old) (λ end. end < from)) }
@@ -41,7 +41,7 @@ pub fn flip(set: &mut Intervals, since: Option<u64>, tick: u64) -> Result<Option
     }
 }
 
-/// The tick of a change, 0 where there is none.
+/// Returns the tick of a change, 0 if there is none.
 fn tick_at(edges: &[u64], seq: u32) -> u64
     ensures { result ≡ tick_in (edges_of_row edges.now seq) }
 {
@@ -51,7 +51,7 @@ fn tick_at(edges: &[u64], seq: u32) -> u64
     }
 }
 
-/// How many of the changes of a node's run come at a tick or before it, by halving.
+/// Returns how many of the changes of a node's run come at a tick or before it, by halving.
 fn changes_up_to(edges: &[u64], known: KnownRun, tick: u64) -> u32
     requires { IsRunOfEdges (edges_of_row edges.now) known }
     ensures few { result ≤ known.run.length }
@@ -71,7 +71,8 @@ fn changes_up_to(edges: &[u64], known: KnownRun, tick: u64) -> u32
     low
 }
 
-/// The intervals in which a node drives dominant, by the changes of its run from an even number on.
+/// Returns the intervals in which a node drives dominant, by the changes of its run from an even
+/// number on.
 pub fn wave_of(
     alloc: Global,
     edges: &[u64],
@@ -94,7 +95,8 @@ pub fn wave_of(
     Ok(set)
 }
 
-/// The intervals that end after a tick: from the change before it on, if that is to dominant.
+/// Returns the intervals that end after a tick: from the change before it on, if that is to
+/// dominant.
 pub fn wave_after_of(
     alloc: Global,
     edges: &[u64],
@@ -112,7 +114,7 @@ pub fn wave_after_of(
     wave_of(alloc, edges, known, count - count % 2)
 }
 
-/// Whether a node drives dominant at a tick below its horizon: after an odd number of the changes
+/// True if a node drives dominant at a tick below its horizon: after an odd number of the changes
 /// of its run.
 pub fn is_dominant_at(edges: &[u64], known: KnownRun, tick: u64) -> bool
     requires run { IsRunOfEdges (edges_of_row edges.now) known }

@@ -4,7 +4,7 @@ ghost use Rattle.wl_report.specs.Extremes.{phase_errors, least_phase_error, grea
 
 use std::fmt;
 
-/// The least of the phase errors, in quanta.
+/// Returns the least of the phase errors, in quanta.
 pub(crate) fn least_error(phases: &[(u64, i8)]) -> Option<i8>
     ensures { result ≡ least_phase_error (phase_errors phases.now) }
 {
@@ -18,7 +18,7 @@ pub(crate) fn least_error(phases: &[(u64, i8)]) -> Option<i8>
     least
 }
 
-/// The greatest of the phase errors, in quanta.
+/// Returns the greatest of the phase errors, in quanta.
 pub(crate) fn greatest_error(phases: &[(u64, i8)]) -> Option<i8>
     ensures { result ≡ greatest_phase_error (phase_errors phases.now) }
 {
@@ -32,7 +32,7 @@ pub(crate) fn greatest_error(phases: &[(u64, i8)]) -> Option<i8>
     greatest
 }
 
-/// A phase error as a word: with `-` before it where it is negative, and `-` alone where there is none.
+/// A phase error as a word: with `-` before it if it is negative, and `-` alone if there is none.
 #[derive(Clone, Copy)]
 pub(crate) struct ErrorWord(pub(crate) Option<i8>);
 

@@ -8,14 +8,14 @@ use std::alloc::AllocError;
 use wl_frame::frame::Frame;
 use wl_node::Passed;
 
-/// Whether a node sent a frame or received it.
+/// Returns whether a node sent a frame or received it.
 fn way_word(sent: bool) -> &'static str
     ensures { result.now ≡ way_word sent }
 {
     if sent { "sent" } else { "received" }
 }
 
-/// Whether a frame is a remote frame or a data frame.
+/// Returns whether a frame is a remote frame or a data frame.
 fn kind_word(remote: bool) -> &'static str
     ensures { result.now ≡ kind_word remote }
 {

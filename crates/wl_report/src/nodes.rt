@@ -11,7 +11,7 @@ use wl_confine::Mode;
 use wl_node::Passed;
 use wl_serial::NodeOutcome;
 
-/// How far a node takes part in the traffic, as a word: `active`, `passive` or `off` (Bosch CAN 2.0 part B, section 8).
+/// Returns how far a node takes part in the traffic, as a word: `active`, `passive` or `off` (Bosch CAN 2.0 part B, section 8).
 pub fn mode_word(mode: Mode) -> &'static str
     ensures { result.now ≡ mode_word mode }
 {

@@ -19,14 +19,14 @@ fn push_nodes(text: &mut String, nodes: &[NodeOutcome]) -> Result<(), AllocError
     Ok(())
 }
 
-/// The report of an outcome.
+/// Returns the report of an outcome.
 ///
-/// For each node in order a line
-/// `node {i} tec {n} rec {n} mode {active|passive|off} errors {n} samples {n} hard {n} sync {n} least {e} greatest {e}`,
-/// phase errors in quanta and `-` where there are none, and then a line for each frame in the order in which they passed,
-/// `frame {i} {sent|received} {quantum} {id} {data|remote} {dlc} {bytes}`, identifier and bytes in hexadecimal digits, `-`
-/// for no byte. Last `verdict clean`, where no node has an error and none has an unsent frame, or
-/// `verdict faulty errors {sum} unsent {sum}`. Refused only when out of memory.
+/// For each node in order it has a line
+/// `node {i} tec {n} rec {n} mode {active|passive|off} errors {n} samples {n} hard {n} sync {n} least {e} greatest {e}`; phase errors are
+/// in quanta, and `-` if there are none. Then comes a line for each frame in the order in which they passed,
+/// `frame {i} {sent|received} {quantum} {id} {data|remote} {dlc} {bytes}`; identifier and bytes are in hexadecimal digits, `-` for no byte.
+/// Last comes `verdict clean` if no node has an error and none has an unsent frame, else `verdict faulty errors {sum} unsent {sum}`.
+/// Refused only when out of memory.
 pub fn report(alloc: Global, outcome: &Outcome) -> Result<Vec<u8>, AllocError>
     ensures { IfOk result (λ text. text.items ≡ report_text outcome.now) }
 {

@@ -7,7 +7,7 @@ ghost use Rattle.wl_report.specs.Report.{verdict_line};
 use std::alloc::AllocError;
 use wl_serial::NodeOutcome;
 
-/// The errors of all nodes together. The sum is exact: a slice has fewer than 2^64 nodes.
+/// Returns the errors of all nodes together. The sum is exact: a slice has fewer than 2^64 nodes.
 pub fn all_errors(nodes: &[NodeOutcome]) -> u128
     ensures { result ≡ sum_by (λ n. n.errors) nodes.now }
 {
@@ -18,7 +18,7 @@ pub fn all_errors(nodes: &[NodeOutcome]) -> u128
     sum
 }
 
-/// The unsent frames of all nodes together.
+/// Returns the unsent frames of all nodes together.
 pub fn all_unsent(nodes: &[NodeOutcome]) -> u128
     ensures { result ≡ sum_by (λ n. n.unsent) nodes.now }
 {

@@ -62,11 +62,10 @@ impl Model for Segments {
 }
 
 impl Segments {
-    /// The segments with PROP_SEG, PHASE_SEG1 and PHASE_SEG2 of these quanta, and this jump width. Their rules are `After`.
+    /// Returns the segments with PROP_SEG, PHASE_SEG1 and PHASE_SEG2 of these quanta, and this jump width. Their rules are `After`.
     ///
-    /// Refused as `Prop` (not 1 to 8), `Phase1` (not 1 to 8), `Phase2` (not 2 to 8), `Jump` (not 1 to the lesser of 4
-    /// and `ps1`) or `Length` (all four segments together below 8 quanta or above 25); where several apply, the first
-    /// of them in this order.
+    /// Refused as `Prop` (not 1 to 8), `Phase1` (not 1 to 8), `Phase2` (not 2 to 8), `Jump` (not 1 to the lesser of 4 and `ps1`) or
+    /// `Length`: all four segments together are below 8 quanta or above 25. If several apply, it is the first of them in this order.
     pub fn new(prop: u64, ps1: u64, ps2: u64, sjw: u64) -> Result<Segments, SegmentsFault>
         ensures { result ≡ segments_of prop ps1 ps2 sjw }
     {
@@ -95,21 +94,21 @@ impl Segments {
         })
     }
 
-    /// The same segments with these rules of synchronisation.
+    /// Returns the same segments with these rules of synchronisation.
     pub fn with_sync(self, sync: SyncRules) -> Segments
         ensures { result ≡ record self { sync = sync } }
     {
         Segments { sync, ..self }
     }
 
-    /// The rules by which edges synchronise a bit.
+    /// Returns the rules by which edges synchronise a bit.
     pub fn sync(&self) -> SyncRules
         ensures { result ≡ self.now.sync }
     {
         self.sync
     }
 
-    /// The place, in the bit that an edge begins, of the quantum that finds the edge: 0 or 1.
+    /// Returns the place, in the bit that an edge begins, of the quantum that finds the edge: 0 or 1.
     pub fn found_at(&self) -> u64
         ensures { result ≡ found_at self.now }
     {
@@ -119,7 +118,7 @@ impl Segments {
         }
     }
 
-    /// The least quanta from the start of a bit up to its sample, that quantum too: 2 to 17.
+    /// Returns the least quanta from the start of a bit up to and including its sample: 2 to 17.
     pub fn least_way(&self) -> u64
         ensures way { result ≡ least_way self.now }
         ensures lengths { AreLengths self.now }
@@ -127,7 +126,7 @@ impl Segments {
         self.sample_at() - self.found_at()
     }
 
-    /// PROP_SEG: 1 to 8 quanta.
+    /// Returns PROP_SEG: 1 to 8 quanta.
     pub fn prop(&self) -> u64
         ensures prop { result ≡ self.now.prop }
         ensures lengths { AreLengths self.now }
@@ -135,7 +134,7 @@ impl Segments {
         self.prop as u64
     }
 
-    /// PHASE_SEG1: 1 to 8 quanta.
+    /// Returns PHASE_SEG1: 1 to 8 quanta.
     pub fn ps1(&self) -> u64
         ensures ps1 { result ≡ self.now.ps1 }
         ensures lengths { AreLengths self.now }
@@ -143,7 +142,7 @@ impl Segments {
         self.ps1 as u64
     }
 
-    /// PHASE_SEG2: 2 to 8 quanta.
+    /// Returns PHASE_SEG2: 2 to 8 quanta.
     pub fn ps2(&self) -> u64
         ensures ps2 { result ≡ self.now.ps2 }
         ensures lengths { AreLengths self.now }
@@ -151,7 +150,7 @@ impl Segments {
         self.ps2 as u64
     }
 
-    /// The resynchronisation jump width: 1 to 4 quanta, and at most PHASE_SEG1.
+    /// Returns the resynchronisation jump width: 1 to 4 quanta, and at most PHASE_SEG1.
     pub fn sjw(&self) -> u64
         ensures sjw { result ≡ self.now.sjw }
         ensures lengths { AreLengths self.now }
@@ -159,7 +158,7 @@ impl Segments {
         self.sjw as u64
     }
 
-    /// The place of the sample in a bit that nothing moved: the quanta of SYNC_SEG, PROP_SEG and PHASE_SEG1.
+    /// Returns the place of the sample in a bit that nothing moved: the quanta of SYNC_SEG, PROP_SEG and PHASE_SEG1.
     pub fn sample_at(&self) -> u64
         ensures place { result ≡ sample_at self.now }
         ensures lengths { AreLengths self.now }
@@ -167,7 +166,7 @@ impl Segments {
         1 + self.prop() + self.ps1()
     }
 
-    /// The quanta of a bit that nothing moved: 8 to 25.
+    /// Returns the quanta of a bit that nothing moved: 8 to 25.
     pub fn bit_quanta(&self) -> u64
         ensures quanta { result ≡ bit_quanta self.now }
         ensures lengths { AreLengths self.now }
@@ -175,10 +174,10 @@ impl Segments {
         self.sample_at() + self.ps2()
     }
 
-    /// Whether two oscillators that each deviate by `ppm` parts per million stay in step with these segments, by this project's test.
+    /// True if two oscillators that each deviate by `ppm` parts per million stay in step with these segments, by this project's test.
     ///
-    /// With B the quanta of a bit this asks two things: `2 * ppm * (13 * B - ps2)` is at most
-    /// `1000000 * min(ps1, ps2)`, and `20 * ppm * B` is at most `1000000 * sjw`.
+    /// With B the quanta of a bit this asks two things: `2 * ppm * (13 * B - ps2)` is at most `1000000 * min(ps1, ps2)`, and `20 * ppm * B`
+    /// is at most `1000000 * sjw`.
     pub fn tolerance_ok(&self, ppm: u32) -> bool
         ensures { IsTrue result ↔ IsTolerated self.now ppm }
     {
@@ -188,7 +187,7 @@ impl Segments {
             && 20 * ppm * quanta <= 1_000_000 * self.sjw()
     }
 
-    /// The greatest deviation, in parts per million, that `tolerance_ok` allows.
+    /// Returns the greatest deviation, in parts per million, that `tolerance_ok` allows.
     pub fn greatest_ppm(&self) -> u32
         ensures reached { IsTolerated self.now result }
         ensures greatest { (ppm : ℕ) → IsTolerated self.now ppm → ppm ≤ result }

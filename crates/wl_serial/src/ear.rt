@@ -15,8 +15,8 @@ use wl_level::Level;
 use wl_plan::Plan;
 use wl_topology::MOST_NODES;
 
-/// What a place keeps of the line: the delay from each node and from each other node, what comes from each node, what the disturbances make,
-/// and what the nodes make by the changes that they have told.
+/// What a place keeps of the line. It has the delay from each node and from each other node, and what arrives from each node. It has what
+/// the disturbances make, and what the nodes make by the changes that are known.
 #[derive(Drop)]
 pub(crate) struct Ear {
     pub(crate) delays: Ticks,
@@ -34,7 +34,7 @@ pub(crate) struct Found {
 }
 
 impl Ear {
-    /// The ear of node `j`, which has heard nothing.
+    /// Returns the ear of node `j`, which has heard nothing.
     pub(crate) fn new(plan: &Plan, j: usize) -> Ear
         requires checked { IsChecked plan.now }
         requires node { j < length plan.now.nodes }
@@ -50,7 +50,7 @@ impl Ear {
         }
     }
 
-    /// The tick below which all is known that comes to node `j` from the others, and no later than the end.
+    /// Returns the tick below which all that arrives at node `j` from the others is known; at most the end.
     pub(crate) fn horizon(&self, plan: &Plan, running: &[Running], known: &Ticks, j: usize) -> u64
         requires checked { IsChecked plan.now }
         requires running { AreRunning plan.now running.now }
@@ -68,7 +68,7 @@ impl Ear {
         horizon
     }
 
-    /// What node `j` finds from its next quantum on, below a tick, by the changes that the nodes have told.
+    /// Returns what node `j` finds from its next quantum on, below a tick, by the changes that are known.
     pub(crate) fn hear(&mut self, plan: &Plan, running: &[Running], j: usize, until: u64) -> Found
         requires checked { IsChecked plan.now }
         requires node { j < length plan.now.nodes }
@@ -93,7 +93,7 @@ impl Ear {
         }
     }
 
-    /// The tick below which nothing dominant comes to node `j` from its next quantum on, by the changes that the nodes have told and by the
+    /// Returns the tick below which nothing dominant arrives at node `j` from its next quantum on, by the known changes and by the
     /// disturbances.
     pub(crate) fn silent_until(&self, running: &[Running], j: usize) -> u64
         requires node { j < length running.now }
@@ -106,7 +106,7 @@ impl Ear {
         self.heard.until.min(self.shaken.until)
     }
 
-    /// Asks what comes from the nodes, where what was heard of them last doesn't tell it for tick `t`, at which node `j` has its next quantum.
+    /// Asks what arrives from the nodes, if the last answer doesn't say it for tick `t`, at which node `j` has its next quantum.
     fn hear_anew(&mut self, plan: &Plan, running: &[Running], j: usize, t: u64)
         requires checked { IsChecked plan.now }
         requires node { j < length plan.now.nodes }
@@ -126,7 +126,7 @@ impl Ear {
         }
     }
 
-    /// Notes that a change of node `i` at this tick will come.
+    /// Notes that a change of node `i` at this tick will arrive.
     fn expect(&mut self, i: usize, tick: u64)
         requires delays { i < length self.old.delays }
         requires nexts { i < length self.old.sources.nexts }
@@ -145,7 +145,7 @@ impl Ear {
     }
 }
 
-/// The delay from each node to place `j`.
+/// Returns the delay from each node to place `j`.
 fn delays_to(plan: &Plan, j: usize) -> Ticks
     requires checked { IsChecked plan.now }
     requires node { j < length plan.now.nodes }
@@ -158,7 +158,7 @@ fn delays_to(plan: &Plan, j: usize) -> Ticks
     delays
 }
 
-/// The delay from each other node to place `j`, and from its own one more than any tick.
+/// Returns the delay from each other node to place `j`, and from its own one more than any tick.
 fn delays_of_others(plan: &Plan, j: usize) -> Ticks
     requires checked { IsChecked plan.now }
     requires node { j < length plan.now.nodes }
@@ -173,7 +173,7 @@ fn delays_of_others(plan: &Plan, j: usize) -> Ticks
     others
 }
 
-/// Tells the ears that node `i` changed its drive at this tick.
+/// Notes for all places that node `i` changed its drive at this tick.
 pub(crate) fn tell(plan: &Plan, ears: &mut [Ear], i: usize, tick: u64)
     requires checked { IsChecked plan.now }
     requires ears { AreEars plan.now ears.old }
@@ -188,7 +188,7 @@ pub(crate) fn tell(plan: &Plan, ears: &mut [Ear], i: usize, tick: u64)
     }
 }
 
-/// The level that nodes and disturbances make.
+/// Returns the level that nodes and disturbances make.
 fn level_by(driven: bool, disturbed: bool) -> Level
     ensures { result ≡ level_of (driven || disturbed) }
 {

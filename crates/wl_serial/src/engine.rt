@@ -1,4 +1,4 @@
-//! The engine: always the node whose drive is known the least far runs all quanta that it can, until none is left before the end.
+//! The engine. The node whose drive is known the least far always runs all quanta that it can, until none is left before the end.
 ghost use Rattle.std.specs.Prelude.{◌≡◌, ◌<◌, ◌≤◌, IfOk, OnOk, MatchOption, length, map, List, slice_index};
 ghost use Rattle.std.specs.List.{range_with_len};
 ghost use Rattle.wl_plan.specs.Checked.{IsChecked};
@@ -17,7 +17,7 @@ use wl_level::Listed;
 use wl_plan::Plan;
 use wl_topology::MOST_NODES;
 
-/// The outcome of the tick-by-tick simulation of a plan that passed its check.
+/// Returns the outcome of the tick-by-tick simulation of a plan that passed its check.
 ///
 /// Only quanta whose tick is below the end are run. Refused only when out of memory.
 pub fn run_serial(alloc: Global, plan: &Plan) -> Result<Outcome, AllocError>
@@ -34,7 +34,7 @@ pub fn run_serial(alloc: Global, plan: &Plan) -> Result<Outcome, AllocError>
     })
 }
 
-/// All nodes before their first quanta.
+/// Returns all nodes before their first quanta.
 fn begin(alloc: Global, plan: &Plan) -> Result<Vec<Running>, AllocError>
     requires { IsChecked plan.now }
     ensures { IfOk result (λ running. AreRunning plan.now running.items) }
@@ -46,7 +46,7 @@ fn begin(alloc: Global, plan: &Plan) -> Result<Vec<Running>, AllocError>
     Ok(running)
 }
 
-/// An ear at each place.
+/// Returns an ear at each place.
 fn listen(alloc: Global, plan: &Plan) -> Result<Vec<Ear>, AllocError>
     requires { IsChecked plan.now }
     ensures ears { IfOk result (λ ears. AreEars plan.now ears.items) }
@@ -59,7 +59,7 @@ fn listen(alloc: Global, plan: &Plan) -> Result<Vec<Ear>, AllocError>
     Ok(ears)
 }
 
-/// Up to which ticks the drives are known.
+/// Returns up to which ticks the drives are known.
 pub(crate) fn all_known(plan: &Plan, running: &[Running]) -> Ticks
     requires checked { IsChecked plan.now }
     requires running { AreRunning plan.now running.now }
@@ -98,8 +98,8 @@ fn run(
     Ok(())
 }
 
-/// Node `j` goes next: all go ahead by a guess if it leads them, and where that fails, or it doesn't, the node has its turn. Answers the tick up to which a
-/// guess failed, if one did.
+/// Lets node `j` go next. If all can go ahead by a guess they do; if not, or if the guess fails, the node has its turn. Returns the tick up
+/// to which a guess failed, if one did.
 fn step(
     alloc: Global,
     plan: &Plan,
@@ -132,7 +132,7 @@ fn step(
     Ok(failed)
 }
 
-/// Node `j` has its turn, where the line doesn't rest up to there.
+/// Gives node `j` its turn, if the line doesn't rest up to there.
 fn plain(
     plan: &Plan,
     running: &mut [Running],
@@ -156,7 +156,7 @@ fn plain(
     turn(plan, running, ears, known, j)
 }
 
-/// Of the nodes that have a quantum before the end, the one whose drive is known the least far: all others wait for it.
+/// Returns the node whose drive is known the least far, of those that have a quantum before the end: all others wait for it.
 fn next_before(plan: &Plan, running: &[Running], known: &Ticks) -> Option<usize>
     requires running { AreRunning plan.now running.now }
     requires known { AreKnown plan.now.end running.now known.now }
@@ -168,7 +168,7 @@ fn next_before(plan: &Plan, running: &[Running], known: &Ticks) -> Option<usize>
     left_before(plan, running)
 }
 
-/// The node whose drive is known the least far, unless all are known up to the end.
+/// Returns the node whose drive is known the least far, unless all are known up to the end.
 fn least_known(plan: &Plan, running: &[Running], known: &Ticks) -> Option<usize>
     requires running { AreRunning plan.now running.now }
     requires known { AreKnown plan.now.end running.now known.now }
@@ -188,7 +188,7 @@ fn least_known(plan: &Plan, running: &[Running], known: &Ticks) -> Option<usize>
     Some(node)
 }
 
-/// A node that has a quantum before the end, where all are known up to the end.
+/// Returns a node that has a quantum before the end, if all are known up to the end.
 fn left_before(plan: &Plan, running: &[Running]) -> Option<usize>
     requires { AllKnown plan.now.end running.now }
     ensures { MatchOption result (NoneBefore plan.now.end running.now) (IsNext plan.now.end running.now) }
@@ -201,7 +201,7 @@ fn left_before(plan: &Plan, running: &[Running]) -> Option<usize>
     None
 }
 
-/// What the nodes did, where all have run to the end.
+/// Returns what the nodes did; all have run to the end.
 fn finish(alloc: Global, plan: &Plan, running: Vec<Running>) -> Result<NodeOutcomes, AllocError>
     requires checked { IsChecked plan.now }
     requires running { AreRunning plan.now running.items }

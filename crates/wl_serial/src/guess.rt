@@ -1,6 +1,6 @@
-//! A guess: while one node sends and all others listen, nothing else comes but by an error or at the end of the frame. So the sender runs
-//! alone up to there, and then each listener runs as far beside what it sent. Where none of them changes its drive, all did what they do
-//! (`a_consistent_guess_holds` of `wl_plan`); else all go back to where they were.
+//! A guess: while one node sends and all others listen, nothing else is sent but by an error or at the end of the frame. So the sender runs
+//! alone up to there, and then each listener runs as far beside what it sent. If none of them changes its drive, all did what they do
+//! (`a_consistent_guess_holds` of `wl_plan`). Else all go back to where they were.
 ghost use Rattle.std.specs.Prelude.{◌≡◌, ◌≢◌, ℕ, ◌<◌, ◌≤◌, true, IfOk, OnOk, MatchOption, List, length, slice_index_or};
 ghost use Rattle.wl_plan.specs.Checked.{IsChecked};
 ghost use Rattle.wl_serial.specs.declared.running_node.Running.{Running as GivenRunning};
@@ -19,7 +19,7 @@ use wl_plan::Plan;
 /// With fewer bits before it than these a sender is not run ahead: the guess would cost more than it saves.
 const FEWEST_BITS: usize = 8;
 
-/// Whether a guess pays: node `j` sends, and all others listen. It decides nothing but speed.
+/// True if a guess pays: node `j` sends, and all others listen. It decides nothing but speed.
 pub(crate) fn is_led(running: &[Running], j: usize) -> bool
     requires { j < length running.now }
 {
@@ -34,8 +34,8 @@ pub(crate) fn is_led(running: &[Running], j: usize) -> bool
     true
 }
 
-/// Runs all nodes ahead beside what node `j` sends. Answers `None` if they did what they do, and else the tick up to which they were run: then all are
-/// where they were.
+/// Runs all nodes ahead beside what node `j` sends. Returns `None` if they did what they do, and else the tick up to which they were run;
+/// then all are where they were.
 pub(crate) fn guess(
     alloc: Global,
     plan: &Plan,
@@ -75,7 +75,7 @@ pub(crate) fn guess(
     Ok(Some(until))
 }
 
-/// Where all nodes are.
+/// Returns where all nodes are.
 fn keep(alloc: Global, running: &[Running]) -> Result<Vec<Before>, AllocError>
     ensures { IfOk result (λ marks. AreBefore running.now marks.items) }
 {
@@ -86,7 +86,7 @@ fn keep(alloc: Global, running: &[Running]) -> Result<Vec<Before>, AllocError>
     Ok(marks)
 }
 
-/// Node `j` runs on up to the end of its CRC sequence, beside what the others have told.
+/// Runs node `j` on up to the end of its CRC sequence, beside the known changes of the others.
 fn lead(plan: &Plan, running: &mut [Running], ears: &mut [Ear], j: usize) -> Result<(), AllocError>
     requires checked { IsChecked plan.now }
     requires node { j < length plan.now.nodes }
@@ -112,7 +112,7 @@ fn lead(plan: &Plan, running: &mut [Running], ears: &mut [Ear], j: usize) -> Res
     Ok(())
 }
 
-/// Each node but node `j` runs on up to a tick, beside what all have told. Answers whether none of them changed its drive; else not all have run.
+/// Runs each node but node `j` on up to a tick, beside all known changes. True if none of them changed its drive; else not all have run.
 fn follow(
     plan: &Plan,
     running: &mut [Running],
@@ -140,7 +140,7 @@ fn follow(
     Ok(true)
 }
 
-/// Node `i` runs on up to a tick, beside what all have told, as long as it doesn't change its drive. Answers whether it never did.
+/// Runs node `i` on up to a tick, beside all known changes, as long as it doesn't change its drive. True if it never did.
 fn listen(
     plan: &Plan,
     running: &mut [Running],
@@ -184,7 +184,7 @@ fn back(alloc: Global, running: &mut [Running], marks: &[Before]) -> Result<(), 
     Ok(())
 }
 
-/// All that the places have heard is dropped.
+/// Drops all that the places have found.
 fn forget(plan: &Plan, ears: &mut [Ear])
     requires checked { IsChecked plan.now }
     requires ears { AreEars plan.now ears.old }

@@ -40,7 +40,7 @@ pub struct NodeOutcome {
 /// What each node did, node `i` at place `i`.
 pub type NodeOutcomes = Listed<NodeOutcome>;
 
-/// What a simulation came to.
+/// The outcome of a simulation.
 #[derive(Debug, Drop)]
 pub struct Outcome {
     /// What each node did.

@@ -11,8 +11,8 @@ pub(crate) struct Pulse {
     pub(crate) dominant: bool,
 }
 
-/// Whether a node with these changes drove dominant `delay` ticks before tick `t`, and up to when that stays. `come` is how many changes had come
-/// when it was asked for last: it speeds up the next time, and decides nothing.
+/// Returns whether a node with these changes drove dominant `delay` ticks before tick `t`, and up to which tick that stays. `come` is how
+/// many changes had arrived when it was last asked for. It speeds up the next time, and decides nothing.
 pub(crate) fn pulse_of(changes: &[u64], delay: u64, t: u64, come: &mut usize) -> Pulse
     requires order { IsIncreasing changes.now }
     requires early { t < 2 ^ 63 }
@@ -37,7 +37,7 @@ pub(crate) fn pulse_of(changes: &[u64], delay: u64, t: u64, come: &mut usize) ->
     }
 }
 
-/// The tick of the change of this number, and where there is none the last tick of all.
+/// Returns the tick of the change of this number, and if there is none the last tick of all.
 fn change_at(changes: &[u64], number: usize) -> u64
     ensures there { number < length changes.now → result ≡ slice_index_or changes.now number 0 }
     ensures none { length changes.now ≤ number → result ≡ 2 ^ 64 - 1 }
@@ -48,7 +48,7 @@ fn change_at(changes: &[u64], number: usize) -> u64
     u64::MAX
 }
 
-/// How many of the changes are not after this tick, where `guess` were not after an earlier one.
+/// Returns how many of the changes are not after this tick; `guess` of them were not after an earlier one.
 fn count_until(changes: &[u64], tick: u64, guess: usize) -> usize
     requires { IsIncreasing changes.now }
     ensures { result ≡ count_below (tick + 1) changes.now }
@@ -61,7 +61,7 @@ fn count_until(changes: &[u64], tick: u64, guess: usize) -> usize
     count
 }
 
-/// The guess, if so many of the changes are surely not after this tick, and else none.
+/// Returns the guess, if this number of the changes is surely not after this tick, and else none.
 fn sure(changes: &[u64], tick: u64, guess: usize) -> usize
     requires { IsIncreasing changes.now }
     ensures { result ≤ count_below (tick + 1) changes.now }

@@ -8,7 +8,7 @@ use std::alloc::{AllocError, Global};
 use wl_record_core::{MOST_EDGES, MOST_NODES, Record, TICK_END};
 
 impl Outcome {
-    /// Whether records can tell all of it: there are at most 16 nodes and at most 262,145 changes of each, and the end is below 2^48.
+    /// True if records can say all of it: there are at most 16 nodes and at most 262,145 changes of each, and the end is below 2^48.
     ///
     /// The outcome of a plan that passed its check is recordable.
     #[tactic(auto, unfolding(wl_record_core::specs::Limits::most_nodes, wl_record_core::specs::Limits::tick_end))]
@@ -21,7 +21,7 @@ impl Outcome {
     }
 }
 
-/// Whether each of the nodes has at most 262,145 changes.
+/// True if each of the nodes has at most 262,145 changes.
 #[tactic(auto, unfolding(wl_record_core::specs::Limits::most_edges))]
 fn have_few_changes(nodes: &[NodeOutcome]) -> bool
     ensures { IsTrue result ↔ All (λ node. length node.changes ≤ most_edges) nodes.now }
@@ -31,8 +31,8 @@ fn have_few_changes(nodes: &[NodeOutcome]) -> bool
         .all(|node| node.changes.len() <= MOST_EDGES as usize)
 }
 
-/// The records of an outcome that is recordable: for each node in order all its edges, then one silence with the number of its changes and
-/// the end.
+/// Returns the records of an outcome that is recordable: for each node in order all its edges, then one silence with the number of its
+/// changes and the end.
 ///
 /// Refused only when out of memory.
 pub fn records_of(alloc: Global, outcome: &Outcome) -> Result<Vec<Record>, AllocError>
@@ -46,7 +46,7 @@ pub fn records_of(alloc: Global, outcome: &Outcome) -> Result<Vec<Record>, Alloc
     Ok(records)
 }
 
-/// The records of one node after those that are there.
+/// Adds the records of one node after those that are there.
 fn push_node(
     records: &mut Vec<Record>,
     node: u8,

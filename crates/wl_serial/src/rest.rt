@@ -9,7 +9,7 @@ use crate::ear::Ear;
 use crate::running_node::{Running, Ticks};
 use wl_plan::Plan;
 
-/// Lifts the ticks below which the drives are known, where the line is at rest. Node `j` goes next.
+/// Lifts the ticks below which the drives are known, if the line is at rest. Node `j` goes next.
 pub(crate) fn rest(plan: &Plan, running: &mut [Running], ears: &[Ear], known: &mut Ticks, j: usize)
     requires checked { IsChecked plan.now }
     requires running { AreRunning plan.now running.old }
@@ -27,8 +27,8 @@ pub(crate) fn rest(plan: &Plan, running: &mut [Running], ears: &[Ear], known: &m
     }
 }
 
-/// The tick below which no node changes its drive: the least at which something dominant could come to a place, or a node could drive dominant
-/// that saw recessive only. It is 0 where that is no later than the tick below which the drive of node `j` is known.
+/// Returns the tick below which no node changes its drive: the earliest at which a dominant level could arrive anywhere, or a node that has
+/// seen only recessive could drive dominant. It is 0 if that is no later than the tick below which the drive of node `j` is known.
 fn rests_until(plan: &Plan, running: &[Running], ears: &[Ear], j: usize) -> u64
     requires checked { IsChecked plan.now }
     requires running { AreRunning plan.now running.now }
@@ -53,7 +53,7 @@ fn rests_until(plan: &Plan, running: &[Running], ears: &[Ear], j: usize) -> u64
     all_stand_until(plan, running, silent)
 }
 
-/// The tick below which nothing dominant comes to a place from the next quantum of its node on, and no later than the end.
+/// Returns the tick below which nothing dominant arrives at a place from the next quantum of its node on; at most the end.
 fn all_silent_until(plan: &Plan, running: &[Running], ears: &[Ear]) -> u64
     requires running { AreRunning plan.now running.now }
     requires ears { AreEars plan.now ears.now }
@@ -67,7 +67,8 @@ fn all_silent_until(plan: &Plan, running: &[Running], ears: &[Ear]) -> u64
     until
 }
 
-/// The tick up to which each node drives recessive if it sees recessive only, and no later than tick `most`; 0 where one drives dominant.
+/// Returns the tick up to which each node drives recessive if it sees recessive only, and no later than tick `most`; 0 if one drives
+/// dominant.
 fn all_stand_until(plan: &Plan, running: &[Running], most: u64) -> u64
     requires checked { IsChecked plan.now }
     requires running { AreRunning plan.now running.now }
@@ -81,7 +82,7 @@ fn all_stand_until(plan: &Plan, running: &[Running], most: u64) -> u64
     until
 }
 
-/// The drives of all nodes are known up to tick `until`, and where they were known further, so far.
+/// Notes that the drives of all nodes are known up to tick `until`; one that is known further stays so.
 fn lift(plan: &Plan, running: &mut [Running], known: &mut Ticks, until: u64)
     requires checked { IsChecked plan.now }
     requires running { AreRunning plan.now running.old }

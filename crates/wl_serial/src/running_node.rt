@@ -31,7 +31,7 @@ pub(crate) struct Running {
     pub(crate) known: u64,
 }
 
-/// Where a node was: its mark, how many changes it had told, and its ticks.
+/// Where a node was: its mark, how many changes were known, and its ticks.
 #[derive(Drop)]
 pub(crate) struct Before {
     pub(crate) mark: Mark,
@@ -44,7 +44,7 @@ pub(crate) struct Before {
 const MOST_BITS: u64 = 118;
 
 impl Running {
-    /// Node `i` before its first quantum.
+    /// Returns node `i` before its first quantum.
     pub(crate) fn begin(alloc: Global, plan: &Plan, i: usize) -> Result<Running, AllocError>
         requires checked { IsChecked plan.now }
         requires node { i < length plan.now.nodes }
@@ -62,8 +62,8 @@ impl Running {
         })
     }
 
-    /// Runs the quanta below tick `until`, at which the node finds this level as long as its drive stays, up to the first that changes the drive.
-    /// Answers the tick of that one, if there is one.
+    /// Runs the quanta below tick `until`, up to the first that changes the drive; the node finds this level there as long as its drive
+    /// stays. Returns the tick of that quantum, if there is one.
     pub(crate) fn go(
         &mut self,
         plan: &Plan,
@@ -99,7 +99,7 @@ impl Running {
         Ok(change)
     }
 
-    /// Tells up to when the drive is known, whatever the node sees.
+    /// Notes up to which tick the drive is known, whatever the node sees.
     pub(crate) fn promise(&mut self, plan: &Plan, i: usize)
         requires checked { IsChecked plan.now }
         requires node { i < length plan.now.nodes }
@@ -114,7 +114,7 @@ impl Running {
         self.known = plan.nodes.as_slice()[i].clock.at(last);
     }
 
-    /// Where the node is.
+    /// Returns where the node is.
     pub(crate) fn keep(&self) -> Before
         ensures { IsBefore self.now result }
     {
@@ -139,7 +139,8 @@ impl Running {
         Ok(())
     }
 
-    /// The tick at which a transmitter is sure to be near the end of its CRC sequence, or before it; at most the end. 0 for a node that doesn't transmit.
+    /// Returns the tick at which a transmitter is sure to be near the end of its CRC sequence, or before it; at most the end. 0 for a node
+    /// that doesn't transmit.
     pub(crate) fn sends_until(&self, plan: &Plan, i: usize) -> u64
         requires checked { IsChecked plan.now }
         requires node { i < length plan.now.nodes }
@@ -156,7 +157,7 @@ impl Running {
         setup.clock.at(last).min(plan.end)
     }
 
-    /// Up to which tick the node is sure to drive recessive, if it sees recessive only; 0 where it drives dominant.
+    /// Returns up to which tick the node is sure to drive recessive, if it sees recessive only; 0 if it drives dominant.
     pub(crate) fn stands_until(&self, plan: &Plan, i: usize) -> u64
         requires checked { IsChecked plan.now }
         requires node { i < length plan.now.nodes }
@@ -185,7 +186,7 @@ impl Running {
         self.known = self.known.max(until);
     }
 
-    /// What the node did, where it has run all its quanta before the end.
+    /// Returns what the node did; it has run all its quanta before the end.
     pub(crate) fn finish(self) -> NodeOutcome
         ensures { (plan : GivenPlan) (i : ℕ) → IsChecked plan → i < length plan.nodes → IsRunning plan i self
             → plan.end ≤ self.next → result ≡ node_outcome_of plan i }
@@ -210,7 +211,7 @@ impl Running {
     }
 }
 
-/// The tick of a quantum more, where it changed the drive. Answers that tick.
+/// Adds the tick of a quantum that changed the drive, and returns it; nothing if the drive is as before.
 fn keep_change(
     changes: &mut Changes,
     clock: &Clock,
@@ -231,7 +232,7 @@ fn keep_change(
     Ok(Some(tick))
 }
 
-/// Keeps so many changes, the first ones. Refused only when out of memory.
+/// Keeps this many changes, the first ones. Refused only when out of memory.
 fn cut(alloc: Global, changes: &mut Changes, count: usize) -> Result<(), AllocError>
     ensures { OnOk result (changes.new ≡ take count changes.old) }
 {

@@ -7,7 +7,7 @@ ghost use Rattle.wl_serial.specs.Heard.{IsPulse, IsStill};
 use crate::pulse::Pulse;
 use wl_plan::Plan;
 
-/// Whether some disturbance makes the line dominant at node `j`, from tick `t` on.
+/// Returns whether some disturbance makes the line dominant at node `j`, from tick `t` on.
 pub(crate) fn shaken_at(plan: &Plan, j: usize, t: u64) -> Pulse
     requires checked { IsChecked plan.now }
     requires node { j < length plan.now.nodes }
@@ -23,7 +23,7 @@ pub(crate) fn shaken_at(plan: &Plan, j: usize, t: u64) -> Pulse
     }
 }
 
-/// The tick after `t` at which the next disturbance comes to node `j`, or is over there.
+/// Returns the tick after `t` at which the next disturbance arrives at node `j`, or is over there.
 fn next_edge(plan: &Plan, j: usize, t: u64) -> u64
     requires checked { IsChecked plan.now }
     requires node { j < length plan.now.nodes }
@@ -41,7 +41,7 @@ fn next_edge(plan: &Plan, j: usize, t: u64) -> u64
     until
 }
 
-/// An edge, where it is after tick `t` and before another tick, and else that one.
+/// Returns an edge, if it is after tick `t` and before another tick, and else that one.
 fn first_after(edge: u64, t: u64, until: u64) -> u64
     requires later { t < until }
     ensures later { t < result }

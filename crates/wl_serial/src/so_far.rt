@@ -10,7 +10,7 @@ use std::alloc::{AllocError, Global};
 use wl_level::Listed;
 use wl_node::Node;
 
-/// What a node has done so far, with the ticks at which its drive changed, which it doesn't keep itself. The node stays as it is.
+/// Returns what a node has done so far, with the ticks at which its drive changed, which it doesn't keep itself. The node stays as it is.
 /// Refused only when out of memory.
 pub fn node_outcome(alloc: Global, node: &Node, changes: Changes) -> Result<NodeOutcome, AllocError>
     ensures { IfOk result (λ outcome. (levels : List Level) → IsNode levels node.now

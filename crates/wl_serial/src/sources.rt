@@ -1,4 +1,4 @@
-//! What comes to a place from each node, and when that changes next.
+//! What arrives at a place from each node, and when that changes next.
 ghost use Rattle.std.specs.Prelude.{◌≡◌, ◌≢◌, ℕ, ◌<◌, ◌≤◌, ◌^◌, false, length, slice_index_or};
 ghost use Rattle.wl_plan.specs.Checked.{IsChecked};
 ghost use Rattle.wl_record_core.specs.Truth.{IsIncreasing};
@@ -10,8 +10,9 @@ use crate::running_node::{Running, Ticks};
 use wl_plan::Plan;
 use wl_topology::MOST_NODES;
 
-/// Of each node how many of its changes had come when they were last asked for, the tick at which the next one comes to the place, and whether
-/// it drives dominant there up to then; how many nodes do; and one node, with a tick before which no change of another one comes.
+/// What is cached of the nodes at a place. Of each node it is how many of its changes had arrived when they were last asked for, and the
+/// tick at which the next one arrives. It is also whether the node is dominant there up to then, and how many nodes are. And it is one
+/// node, with a tick before which no change of another one arrives.
 #[derive(Drop)]
 pub(crate) struct Sources {
     /// It speeds up the next time, and decides nothing.
@@ -24,7 +25,7 @@ pub(crate) struct Sources {
 }
 
 impl Sources {
-    /// The nodes of a plan, of which nothing has been asked yet.
+    /// Returns a cache in which no node of a plan has been asked yet.
     pub(crate) fn new(plan: &Plan) -> Sources
         requires { IsChecked plan.now }
         ensures kept { AreTallied (length plan.now.nodes) result }
@@ -45,8 +46,8 @@ impl Sources {
         }
     }
 
-    /// Whether the changes of some node tell that it drives dominant at place `j`, from tick `t` on. While one node alone changes its drive, no other
-    /// one is asked.
+    /// Returns whether some node is dominant at place `j`, by its changes, from tick `t` on. While one node alone changes its drive, no
+    /// other one is asked.
     pub(crate) fn hear(
         &mut self,
         plan: &Plan,
@@ -85,7 +86,7 @@ impl Sources {
         }
     }
 
-    /// The same, where any node may have changed its drive. Only those of which a change has come are asked.
+    /// Returns the same, if any node may have changed its drive. Only those are asked from which a change has arrived.
     fn hear_all(
         &mut self,
         plan: &Plan,
@@ -130,7 +131,7 @@ impl Sources {
         }
     }
 
-    /// Takes up the changes of node `i` that have come by tick `t`.
+    /// Takes up the changes of node `i` that have arrived by tick `t`.
     fn take(&mut self, plan: &Plan, changes: &[u64], delay: u64, i: usize, t: u64)
         requires checked { IsChecked plan.now }
         requires node { i < length plan.now.nodes }
@@ -153,7 +154,7 @@ impl Sources {
         self.drives[i] = one.dominant;
     }
 
-    /// Notes that a change of node `i` comes at this tick.
+    /// Notes that a change of node `i` arrives at this tick.
     pub(crate) fn expect(&mut self, i: usize, comes: u64)
         requires { i < length self.old.nexts }
         ensures { AreSooner i comes self.old self.new }

@@ -10,7 +10,7 @@ use crate::running_node::{Running, Ticks};
 use std::alloc::AllocError;
 use wl_plan::Plan;
 
-/// Node `j` runs all its quanta that are below its horizon, and tells up to when its drive is known then.
+/// Runs all quanta of node `j` below its horizon, and notes up to which tick its drive is known then.
 pub(crate) fn turn(
     plan: &Plan,
     running: &mut [Running],
@@ -37,7 +37,7 @@ pub(crate) fn turn(
     Ok(())
 }
 
-/// Node `j` runs all its quanta below a tick, up to which all that comes to it is known.
+/// Runs all quanta of node `j` below `horizon`; every level that arrives before it is known.
 fn run_below(
     plan: &Plan,
     running: &mut [Running],
@@ -67,8 +67,8 @@ fn run_below(
     Ok(())
 }
 
-/// Node `j` runs its quanta up to the next change of what it finds by what the nodes have told, to the first that changes its drive, or to a tick.
-/// All ears are told of its change. Answers whether there was one.
+/// Runs quanta of node `j`: up to the next change of what it finds by the known changes, to the first quantum that changes its drive, or to
+/// a tick. All places note its change. True if there was one.
 pub(crate) fn stretch(
     plan: &Plan,
     running: &mut [Running],

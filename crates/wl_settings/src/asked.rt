@@ -1,4 +1,4 @@
-//! What is asked for, of which controller, and what a setting of it is.
+//! What is asked for, for which controller, and what a setting is.
 ghost use Rattle.std.specs.Prelude.{◌≡◌, ◌<◌, ◌^◌};
 ghost use Rattle.wl_settings.specs.Settings.{bit_divisor, is_near, fits_registers, setting_quanta};
 
@@ -27,7 +27,7 @@ pub struct Asked {
     pub senders: Senders,
     /// By how many parts per million the bit rate of a setting may deviate from the one asked for.
     pub rate_error: u32,
-    /// How many picoseconds a tick takes.
+    /// Returns how many picoseconds a tick takes.
     pub tick: u64,
 }
 
@@ -81,7 +81,7 @@ impl Setting {
         1 + self.prop as u64 + self.ps1 as u64 + self.ps2 as u64
     }
 
-    /// Returns the periods of the clock in a second in which there are so many bits of this setting.
+    /// Returns the periods of the clock in a second in which there are `bitrate` bits of this setting.
     pub(crate) fn divisor(self, bitrate: u32) -> u128
         ensures value { result ≡ bit_divisor bitrate self }
         ensures most { result < 2 ^ 74 }

@@ -1,5 +1,6 @@
-//! The settings of a CAN controller with which a bus works: for a clock, a bit rate, a cable and a tolerance, every prescaler and bit whose
-//! margins allow it, the one with most to spare first.
+//! The settings of a CAN controller with which a bus works, the one with most to spare first.
+//!
+//! For a clock, a bit rate, a cable and a tolerance they are every prescaler and bit whose margins allow it.
 #![tactic(auto)]
 
 mod asked;

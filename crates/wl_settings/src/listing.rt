@@ -103,7 +103,8 @@ fn rank(row: &Row) -> u128
     MOST.saturating_sub(row.margin) as u128 * (1 << 64) + place_of(row.setting)
 }
 
-/// Returns the rows, the one with most to spare first; of those with as much the one first that comes first in the order of settings.
+/// Returns the rows, the one with most to spare first. Of those with the same margin the one comes first that comes first in the order of
+/// settings.
 fn ranked_rows(
     alloc: Global,
     asked: &Asked,

@@ -8,8 +8,8 @@ use crate::said::{Shown, said};
 use std::alloc::Global;
 use wl_device::{Sink, Source, write_all};
 
-/// Reads what is asked for, and writes the settings of each controller with which the bus works, or the plan of the first one; a tick takes so
-/// many picoseconds.
+/// Reads what is asked for, and writes the settings of each controller with which the bus works, or the plan of the first one. A tick takes
+/// `tick` picoseconds.
 ///
 /// The whole output is made before the first write. If the input is refused, memory runs out, or a plan is asked for and there is none, the
 /// writer isn't called; if the writer fails, a prefix of the output has been written.

@@ -15,7 +15,7 @@ use std::alloc::{AllocError, Global};
 /// What is written.
 #[derive(Clone, Copy, Debug, PartialEq, Eq)]
 pub enum Shown {
-    /// The settings of each controller: at most so many, all of them without a number.
+    /// The settings of each controller: at most this many, or all of them without a number.
     Best(Option<u32>),
     /// The plan of the first controller's first setting.
     Plan,

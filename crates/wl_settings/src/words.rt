@@ -11,7 +11,7 @@ use wl_bound::{Failure, Inequality};
 /// Millionths in one.
 const MILLION: u128 = 1_000_000;
 
-/// The longest time that is told, in millionths of a tick.
+/// The longest time that is written, in millionths of a tick.
 const LONGEST: u128 = 1 << 80;
 
 /// Adds a number of thousandths with a point.
@@ -171,7 +171,8 @@ fn push_rows(
     Ok(())
 }
 
-/// Returns a time in picoseconds, rounded up. The time is in millionths of a tick of so many picoseconds; what is above 2^80 is taken for that.
+/// Returns a time in picoseconds, rounded up. The time is in millionths of a tick of `tick` picoseconds; what is above 2^80 is taken for
+/// that.
 fn picoseconds_around(tick: u64, time: u128) -> u128
     ensures { result ≡ picoseconds_up tick time }
 {
@@ -258,7 +259,7 @@ fn push_controller(
     writeln!(text, "controller {name} clock {clock} Hz: {count} settings")
 }
 
-/// Adds what was found for a controller: at most so many rows.
+/// Adds what was found for a controller: at most this many rows.
 pub(crate) fn push_listing(
     text: &mut String,
     asked: &Asked,

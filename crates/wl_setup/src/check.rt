@@ -78,7 +78,7 @@ fn spelled_pair(alloc: Global, line: &PairLine) -> Result<String, AllocError>
     format!(in alloc; "{line}\n")
 }
 
-/// The line of node `i`.
+/// Returns the line of node `i`.
 fn node_line(alloc: Global, names: &Names, i: usize, node: &NodeSetup) -> Result<String, AllocError>
     ensures { IfOk result (λ line. IsNodeLine names.now (i, node.now) (string_bytes line)) }
 {
@@ -94,7 +94,7 @@ fn node_line(alloc: Global, names: &Names, i: usize, node: &NodeSetup) -> Result
     spelled_node(alloc, &line)
 }
 
-/// The lines of the nodes.
+/// Returns the lines of the nodes.
 fn node_lines(alloc: Global, nodes: &[NodeSetup], names: &Names) -> Result<String, AllocError>
     ensures { IfOk result (λ text. AreNodeLines names.now (enumerate_from 0 nodes.now) (string_bytes text)) }
 {
@@ -106,7 +106,7 @@ fn node_lines(alloc: Global, nodes: &[NodeSetup], names: &Names) -> Result<Strin
     Ok(text)
 }
 
-/// The line of nodes `i` and `j`.
+/// Returns the line of nodes `i` and `j`.
 fn pair_line(alloc: Global, topology: &Topology, i: u8, j: u8) -> Result<String, AllocError>
     requires first { i < length topology.now.places }
     requires second { j < length topology.now.places }
@@ -150,11 +150,11 @@ fn push_pairs(alloc: Global, topology: &Topology, text: &mut String) -> Result<(
     Ok(())
 }
 
-/// What a check prints of a plan.
+/// Returns what a check prints of a plan.
 ///
-/// For each node its number and name, the quanta of a bit, the quantum of the sample, the resynchronisation jump width, and the
-/// greatest deviation in parts per million that both oscillators of a pair may have. Then for each pair of nodes, by the first
-/// and then by the second, the ticks that a level takes from the first to the second, and those that it takes back. A node
+/// For each node it has the number and name, the quanta of a bit, the quantum of the sample and the resynchronisation jump width. The last
+/// number is the greatest deviation in parts per million that both oscillators of a pair may have. Then it has for each pair of nodes the
+/// ticks that a level takes from the first to the second, and those back. Pairs come by the first node and then by the second. A node
 /// without a name has an empty one. Refused only when out of memory.
 pub fn check_plan(alloc: Global, plan: &Plan, names: &Names) -> Result<String, AllocError>
     ensures { IfOk result (λ text. IsPlanCheck plan.now names.now (string_bytes text)) }

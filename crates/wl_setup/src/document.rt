@@ -45,7 +45,7 @@ trait Row: Drop {
         ensures { AnswersTable (Self.fault version) (Self.make version) (table_view table.now) result };
 }
 
-/// The tables in an array. What is no table is passed over.
+/// Returns the tables in an array. What is no table is passed over.
 fn rows<T: Row>(alloc: Global, version: u64, values: &[Value]) -> Result<Listed<T>, SetupFault>
     ensures { AnswersEach (T.fault version) (T.make version) (map view values.now) result }
 {
@@ -94,7 +94,7 @@ impl Row for DisturbanceText {
     }
 }
 
-/// How fast a clock goes, by the keys of this table.
+/// Returns how fast a clock goes, by the keys of this table.
 fn clock(table: &Table) -> ClockText
     ensures { result ≡ clock_of (table_view table.now) }
 {
@@ -125,7 +125,7 @@ impl Row for RateText {
     }
 }
 
-/// The rates of a node whose table has the keys that it should have.
+/// Returns the rates of a node whose table has the keys that it should have.
 fn rates(alloc: Global, version: u64, table: &Table) -> Result<Listed<RateText>, SetupFault>
     ensures { AnswersTable rates_fault (rates_of version) (table_view table.now) result }
 {
@@ -168,7 +168,7 @@ impl Row for NodeText {
     }
 }
 
-/// The plan text of a document's top table, and the names of its nodes.
+/// Returns the plan text of a document's top table, and the names of its nodes.
 pub(crate) fn plan_text(alloc: Global, top: &Table) -> Result<(PlanText, Names), SetupFault>
     ensures { Answers (document_fault (table_view top.now)) (named_text_of (table_view top.now)) result }
 {

@@ -74,7 +74,7 @@ pub enum Key {
 }
 
 impl Key {
-    /// The key as it is written.
+    /// Returns the key as it is written.
     pub fn text(self) -> &'static str
         ensures { result.now ≡ key_text self }
     {
@@ -116,7 +116,7 @@ impl Key {
         }
     }
 
-    /// What its value has to be.
+    /// Returns what its value has to be.
     pub(crate) fn kind(self) -> Kind
         ensures { result ≡ kind_of self }
     {
@@ -142,7 +142,7 @@ pub(crate) struct Keys {
     pub(crate) optional: &'static [Key],
 }
 
-/// The keys of the top table.
+/// Returns the keys of the top table.
 pub(crate) fn top_keys() -> Keys
     ensures required { result.required.now ≡ top_keys.required }
     ensures optional { result.optional.now ≡ top_keys.optional }
@@ -153,21 +153,21 @@ pub(crate) fn top_keys() -> Keys
     }
 }
 
-/// Whether frames come again, nodes only listen and disturbances are at one node.
+/// True if frames come again, nodes only listen and disturbances are at one node, in this version.
 pub(crate) fn has_traffic(version: u64) -> bool
     ensures { result ≡ has_traffic version }
 {
     version == VERSION_OF_TRAFFIC
 }
 
-/// Whether a node's rates are tables of their own.
+/// True if a node's rates are tables of their own.
 pub(crate) fn has_rates(version: u64, table: &Table) -> bool
     ensures { result ≡ has_rates version (table_view table.now) }
 {
     version == VERSION_OF_RATES || has_traffic(version) && value_at(table, Key::Rates).is_some()
 }
 
-/// The required keys of a node whose rate is written as a fraction.
+/// Returns the required keys of a node whose rate is written as a fraction.
 pub(crate) fn required_by_rate() -> &'static [Key]
     ensures { result.now ≡ required_by_rate }
 {
@@ -186,7 +186,8 @@ pub(crate) fn required_by_rate() -> &'static [Key]
     ]
 }
 
-/// The required keys of a node whose rate is written as a whole number of ticks and an error in ppm.
+/// Returns the required keys of a node whose rate is written as a whole number of ticks and an
+/// error in ppm.
 pub(crate) fn required_by_ppm() -> &'static [Key]
     ensures { result.now ≡ required_by_ppm }
 {
@@ -205,7 +206,7 @@ pub(crate) fn required_by_ppm() -> &'static [Key]
     ]
 }
 
-/// The required keys of a node whose rates are tables of their own.
+/// Returns the required keys of a node whose rates are tables of their own.
 fn required_by_rates() -> &'static [Key]
     ensures { result.now ≡ required_by_rates }
 {
@@ -223,7 +224,8 @@ fn required_by_rates() -> &'static [Key]
     ]
 }
 
-/// The required keys of a node: they go by the version, and by whether `rates` or `quantum` is there.
+/// Returns the required keys of a node: they go by the version, and by whether `rates` or `quantum`
+/// is there.
 fn node_required(version: u64, table: &Table) -> &'static [Key]
     ensures { result.now ≡ node_required version (table_view table.now) }
 {
@@ -236,7 +238,7 @@ fn node_required(version: u64, table: &Table) -> &'static [Key]
     }
 }
 
-/// The optional keys of a node, which may only listen or not.
+/// Returns the optional keys of a node, which may only listen or not.
 pub(crate) fn node_optional(traffic: bool) -> &'static [Key]
     ensures { result.now ≡ node_optional traffic }
 {
@@ -247,7 +249,7 @@ pub(crate) fn node_optional(traffic: bool) -> &'static [Key]
     }
 }
 
-/// The keys of a node's table.
+/// Returns the keys of a node's table.
 pub(crate) fn node_keys(version: u64, table: &Table) -> Keys
     ensures required { result.required.now ≡ (node_keys version (table_view table.now)).required }
     ensures optional { result.optional.now ≡ (node_keys version (table_view table.now)).optional }
@@ -258,7 +260,7 @@ pub(crate) fn node_keys(version: u64, table: &Table) -> Keys
     }
 }
 
-/// The keys of a rate's table, by whether it has `quantum`.
+/// Returns the keys of a rate's table, by whether it has `quantum`.
 pub(crate) fn rate_keys(table: &Table) -> Keys
     ensures required { result.required.now ≡ (rate_keys (table_view table.now)).required }
     ensures optional { result.optional.now ≡ (rate_keys (table_view table.now)).optional }
@@ -276,7 +278,7 @@ pub(crate) fn rate_keys(table: &Table) -> Keys
     }
 }
 
-/// The required keys of a frame, which has a count or not.
+/// Returns the required keys of a frame, which has a count or not.
 pub(crate) fn frame_required(counted: bool) -> &'static [Key]
     ensures { result.now ≡ frame_required counted }
 {
@@ -287,7 +289,7 @@ pub(crate) fn frame_required(counted: bool) -> &'static [Key]
     }
 }
 
-/// The optional keys of a frame, which may come again or not.
+/// Returns the optional keys of a frame, which may come again or not.
 pub(crate) fn frame_optional(traffic: bool) -> &'static [Key]
     ensures { result.now ≡ frame_optional traffic }
 {
@@ -305,7 +307,7 @@ pub(crate) fn frame_optional(traffic: bool) -> &'static [Key]
     }
 }
 
-/// The keys of a frame's table.
+/// Returns the keys of a frame's table.
 pub(crate) fn frame_keys(version: u64, table: &Table) -> Keys
     ensures required { result.required.now ≡ (frame_keys version (table_view table.now)).required }
     ensures optional { result.optional.now ≡ (frame_keys version (table_view table.now)).optional }
@@ -317,7 +319,7 @@ pub(crate) fn frame_keys(version: u64, table: &Table) -> Keys
     }
 }
 
-/// The required keys of a disturbance, at a node or at a place on the cable.
+/// Returns the required keys of a disturbance, at a node or at a place on the cable.
 pub(crate) fn disturbance_required(at_node: bool) -> &'static [Key]
     ensures { result.now ≡ disturbance_required at_node }
 {
@@ -328,7 +330,7 @@ pub(crate) fn disturbance_required(at_node: bool) -> &'static [Key]
     }
 }
 
-/// The keys of a disturbance's table.
+/// Returns the keys of a disturbance's table.
 pub(crate) fn disturbance_keys(version: u64, table: &Table) -> Keys
     ensures required { result.required.now ≡ (disturbance_keys version (table_view table.now)).required }
     ensures optional { result.optional.now ≡ (disturbance_keys version (table_view table.now)).optional }

@@ -1,4 +1,4 @@
-//! Plans from TOML, and what a check of a plan prints.
+//! Plans read from TOML, or the first fault of the text; and what a check of a plan prints.
 #![tactic(auto)]
 
 mod bus;

@@ -12,7 +12,7 @@ pub const LARGEST_SMALL: u64 = (1 << 31) - 1;
 /// The greatest rate error either way, in parts per million.
 pub const LARGEST_PPM: u64 = 1_000_000_000;
 
-/// The greatest tolerance of a node's rate, in parts per million: a tenth, as much as `ppm` may make a clock deviate.
+/// The greatest tolerance of a node's rate, in parts per million: a tenth, as `ppm` may make a clock deviate.
 pub const LARGEST_TOLERANCE: u64 = 100_000;
 
 /// The greatest byte of a frame.

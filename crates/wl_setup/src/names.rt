@@ -11,7 +11,7 @@ use indexmap::IndexSet;
 use std::alloc::{AllocError, Global};
 use std::marker::Model;
 
-/// The names of a plan's nodes, seen as their list: the name of node i stands at place i. No two are equal.
+/// The names of a plan's nodes, seen as their list: the name of node i is at place i. No two are equal.
 #[derive(Drop)]
 pub struct Names {
     names: IndexSet<String>,
@@ -26,7 +26,7 @@ impl Model for Names {
 }
 
 impl Names {
-    /// No name yet.
+    /// Returns the names of no node.
     fn new(alloc: Global) -> Names
         ensures { result ≡ [] }
     {
@@ -35,7 +35,7 @@ impl Names {
         }
     }
 
-    /// Adds a name, and answers whether it is new. One that is there already changes nothing.
+    /// Adds a name. True if it is new. One that is there already changes nothing.
     fn add(&mut self, name: &str) -> Result<bool, AllocError>
         ensures added { IfOk result (λ new. new ≡ not (list_any (bytes_eq name.now) self.old)) }
         ensures names { IfOk result (λ new. self.new ≡ (if new then self.old ++ name.now ∷ [] else self.old)) }
@@ -45,7 +45,7 @@ impl Names {
         Ok(self.names.insert(name)?)
     }
 
-    /// How many names there are.
+    /// Returns how many names there are.
     pub fn len(&self) -> usize
         ensures len { result ≡ length self.now }
         ensures distinct { has_repeat self.now ≡ false }
@@ -53,7 +53,7 @@ impl Names {
         self.names.len()
     }
 
-    /// The name of a node, counted from 0.
+    /// Returns the name of a node, counted from 0.
     pub fn name(&self, node: usize) -> Option<&str>
         ensures { option_map (λ name. name.now) result ≡ slice_get self.now node }
     {
@@ -63,7 +63,7 @@ impl Names {
         }
     }
 
-    /// The name of a node, counted from 0; empty where there is no such node.
+    /// Returns the name of a node, counted from 0; empty if there is no such node.
     pub fn name_of(&self, node: usize) -> &str
         ensures { result.now ≡ name_of self.now node }
     {
@@ -72,7 +72,7 @@ impl Names {
 }
 
 impl PlanText {
-    /// The names of the nodes, or `SameName` where two have one.
+    /// Returns the names of the nodes, or `SameName` if two have one.
     pub fn names(&self, alloc: Global) -> Result<Names, SetupFault>
         ensures { Answers (same_name_fault self.now) (names_of self.now) result }
     {

@@ -26,7 +26,7 @@ use wl_plan::{Disturbance, Disturbances, LATEST_END, MOST_QUEUED, Nodes, Plan};
 use wl_segments::{Segments, SegmentsFault, SyncRules};
 use wl_topology::{Place, Topology};
 
-/// How many frames may wait at a node.
+/// Returns how many frames may wait at a node.
 fn queued_in(version: u64) -> usize
     ensures most { result ≡ queued_in version }
     ensures few { result ≤ most_queued }
@@ -39,7 +39,7 @@ fn queued_in(version: u64) -> usize
 }
 
 impl FrameText {
-    /// The frame, as it waits: the `n`th of node `i`.
+    /// Returns the frame, as it waits: the `n`th of node `i`.
     fn queued(&self, i: u64, n: u64) -> Result<Queued, SetupFault>
         ensures { result ≡ queued_of i (n, self.now) }
     {
@@ -59,7 +59,7 @@ impl FrameText {
     }
 }
 
-/// The frames that are written at node `i`, or the first that is none.
+/// Returns the frames that are written at node `i`, or the first that is none.
 fn queue(alloc: Global, i: u64, frames: &[FrameText]) -> Result<Queue, SetupFault>
     ensures frames { IsAnswer (each (queued_of i) (enumerate_from 0 frames.now)) result }
     ensures each { IfOk result (λ queue. length queue ≡ length frames.now) }
@@ -72,7 +72,7 @@ fn queue(alloc: Global, i: u64, frames: &[FrameText]) -> Result<Queue, SetupFaul
 }
 
 impl RateText {
-    /// The rate that the keys make, or what refuses it.
+    /// Returns the rate that the keys make, or what refuses it.
     fn rate(&self) -> Result<Rate, ClockFault>
         ensures { result ≡ rate_from self.now.from self.now.clock }
     {
@@ -87,7 +87,7 @@ impl RateText {
     }
 }
 
-/// The rates of node `i`, or the first that is none.
+/// Returns the rates of node `i`, or the first that is none.
 pub(crate) fn rates(alloc: Global, i: u64, texts: &[RateText]) -> Result<Listed<Rate>, SetupFault>
     ensures { IsAnswer (each (rate_in i) texts.now) result }
 {
@@ -102,8 +102,8 @@ pub(crate) fn rates(alloc: Global, i: u64, texts: &[RateText]) -> Result<Listed<
 }
 
 impl NodeText {
-    /// The clock of node `i` that the keys `offset` and `rates`, or `offset` and the clock keys, make: the first rate
-    /// that is none, or what refuses all of them together.
+    /// Returns the clock of node `i` that the keys `offset` and `rates`, or `offset` and the clock keys, make: the first rate that is none,
+    /// or what refuses all of them together.
     fn make_clock(&self, alloc: Global, i: u64) -> Result<Clock, SetupFault>
         ensures { IsAnswer (clock_in i self.now) result }
     {
@@ -114,7 +114,7 @@ impl NodeText {
         }
     }
 
-    /// The bit segments that the keys `prop`, `ps1`, `ps2` and `sjw` make, with SYNC_SEG there in a bit that an edge begins.
+    /// Returns the bit segments that the keys `prop`, `ps1`, `ps2` and `sjw` make, with SYNC_SEG there in a bit that an edge begins.
     fn make_segments(&self, sync: SyncRules) -> Result<Segments, SegmentsFault>
         ensures { result ≡ segments_of_node sync self.now }
     {
@@ -124,7 +124,7 @@ impl NodeText {
         }
     }
 
-    /// What node `i` of a plan is made of: its clock, its segments and its frames, or the first fault of these in order.
+    /// Returns what node `i` of a plan is made of: its clock, its segments and its frames, or the first fault of these in order.
     fn setup(&self, alloc: Global, i: u64, plan: &PlanText) -> Result<NodeSetup, SetupFault>
         ensures { IsAnswer (setup_of plan.now (i, self.now)) result }
     {
@@ -142,7 +142,7 @@ impl NodeText {
         })
     }
 
-    /// The frames that wait at the node, of those that are written: from the version of traffic on each of them comes again.
+    /// Returns the frames that wait at the node, of those that are written: from the version of traffic on each of them comes again.
     fn waiting(
         &self,
         alloc: Global,
@@ -162,7 +162,7 @@ impl NodeText {
         }
     }
 
-    /// Where the node sits.
+    /// Returns where the node sits.
     fn place(&self) -> Place
         ensures { result ≡ place_of self.now }
     {
@@ -175,7 +175,7 @@ impl NodeText {
     }
 }
 
-/// What the nodes are made of, or the first fault, node by node.
+/// Returns what the nodes are made of, or the first fault, node by node.
 fn setups(alloc: Global, plan: &PlanText) -> Result<Nodes, SetupFault>
     ensures { IsAnswer (each (setup_of plan.now) (enumerate_from 0 plan.now.node)) result }
 {
@@ -186,7 +186,7 @@ fn setups(alloc: Global, plan: &PlanText) -> Result<Nodes, SetupFault>
     Ok(setups)
 }
 
-/// Where the nodes sit.
+/// Returns where the nodes sit.
 fn places(alloc: Global, nodes: &[NodeText]) -> Result<Listed<Place>, AllocError>
     ensures { IfOk result (λ places. places ≡ map place_of nodes.now) }
 {
@@ -197,7 +197,7 @@ fn places(alloc: Global, nodes: &[NodeText]) -> Result<Listed<Place>, AllocError
     Ok(places)
 }
 
-/// The number of the node with this name, and where none has it the number of no node.
+/// Returns the number of the node with this name, and if none has it the number of no node.
 fn node_named(nodes: &[NodeText], name: &str) -> usize
     ensures number { result ≡ node_named (map (λ node. node.name) nodes.now) name.now }
     ensures few { result ≤ length nodes.now }
@@ -211,7 +211,7 @@ fn node_named(nodes: &[NodeText], name: &str) -> usize
 }
 
 impl DisturbanceText {
-    /// The disturbance that the keys make in a bus of these nodes.
+    /// Returns the disturbance that the keys make in a bus of these nodes.
     fn disturbance(&self, nodes: &[NodeText]) -> Disturbance
         requires { length nodes.now ≤ most_places }
         ensures { result ≡ disturbance_in (map (λ node. node.name) nodes.now) self.now }
@@ -241,8 +241,8 @@ fn disturbances(alloc: Global, plan: &PlanText) -> Result<Disturbances, AllocErr
 }
 
 impl PlanText {
-    /// The plan that the keys make, which can be run; or the first fault: node by node `NodeClock`, `NodeSegments` and, frame
-    /// by frame, `NodeFrame`; then `Topology`; then `Plan`. `Memory` may be answered at any point.
+    /// Returns the plan that the keys make, which can be run; or the first fault: node by node `NodeClock`, `NodeSegments` and, frame by
+    /// frame, `NodeFrame`; then `Topology`; then `Plan`. `Memory` may be returned at any point.
     pub fn plan(&self, alloc: Global) -> Result<Plan, SetupFault>
         ensures answer { IsAnswer (plan_of_text self.now) result }
         ensures checked { IfOk result IsChecked }
@@ -261,7 +261,7 @@ impl PlanText {
         }
     }
 
-    /// The plan, and with it these names, which are those of its nodes.
+    /// Returns the plan, and with it these names, which are those of its nodes.
     fn named_plan(&self, alloc: Global, names: Names) -> Result<(Plan, Names), SetupFault>
         requires { names ≡ names_of self.now }
         ensures answer { IsAnswer (named_plan_of self.now) result }
@@ -272,7 +272,7 @@ impl PlanText {
         Ok((plan, names))
     }
 
-    /// Where the nodes sit on the cable.
+    /// Returns where the nodes sit on the cable.
     fn topology(&self, alloc: Global) -> Result<Topology, SetupFault>
         ensures { IsAnswer (cable_of self.now) result }
     {
@@ -286,9 +286,9 @@ impl PlanText {
 
 /// Reads a plan's text: TOML of at most 1,048,576 bytes, with the tables and keys of a plan.
 ///
-/// Answers a plan that can be run and the names of its nodes, node i's at place i; or the text's first fault: what `read_text`
-/// refuses; then node by node the clock (`NodeClock`), the segments (`NodeSegments`) and the frames in order (`NodeFrame`); then
-/// `Topology`; then `Plan`. `Memory` may be answered at any point. Nothing is promised of what a reader has left after a fault.
+/// Returns a plan that can be run and the names of its nodes, node i's at place i; or the text's first fault: what `read_text` refuses;
+/// then node by node the clock (`NodeClock`), the segments (`NodeSegments`) and the frames in order (`NodeFrame`); then `Topology`; then
+/// `Plan`. `Memory` may be returned at any point. Nothing is promised of what a reader has left after a fault.
 pub fn read_plan<R: Source>(alloc: Global, reader: &mut R) -> Result<(Plan, Names), SetupFault>
     ensures answer { result ≢ Err SetupFault.Memory → GivesPlan R.gives reader.old result reader.new }
     ensures checked { IfOk result (λ r. IsChecked r.0) }
@@ -298,7 +298,7 @@ pub fn read_plan<R: Source>(alloc: Global, reader: &mut R) -> Result<(Plan, Name
     text.named_plan(alloc, names)
 }
 
-/// The plan of a text and the names of its nodes, or the text's first fault, as `read_plan` answers them of a text that was read.
+/// Returns the plan of a text and the names of its nodes, or the text's first fault, as `read_plan` returns them of a text that was read.
 pub fn plan_of_bytes(alloc: Global, text: &[u8]) -> Result<(Plan, Names), SetupFault>
     ensures answer { IsAnswer (after (text_answer text.now) named_plan_of) result }
     ensures checked { IfOk result (λ r. IsChecked r.0) }

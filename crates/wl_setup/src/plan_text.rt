@@ -16,9 +16,9 @@ pub struct PlanText {
     pub per: u64,
     /// The nodes, in the order of their tables.
     pub node: Listed<NodeText>,
-    /// The disturbances, none where the key is absent.
+    /// The disturbances, none if the key is absent.
     pub disturbance: Listed<DisturbanceText>,
-    /// Where SYNC_SEG lies in a bit that an edge begins, at all nodes: after the edge where the key is absent.
+    /// Where SYNC_SEG lies in a bit that an edge begins, at all nodes: after the edge if the key is absent.
     pub sync: SyncRules,
 }
 
@@ -64,11 +64,11 @@ pub struct NodeText {
     pub out_delay: u64,
     /// The key `in`: ticks that it takes from the cable to the node.
     pub in_delay: u64,
-    /// The frames that wait at the node, in the order of their tables, none where the key is absent.
+    /// The frames that wait at the node, in the order of their tables, none if the key is absent.
     pub frame: Listed<FrameText>,
     /// By how many parts per million each rate may deviate either way from what it is without `ppm`: at most 100,000. No run uses it.
     pub tolerance: Option<u32>,
-    /// Whether the node only listens, false where the key is absent.
+    /// Whether the node only listens, false if the key is absent.
     pub listens: bool,
 }
 
@@ -79,13 +79,13 @@ pub struct FrameText {
     pub id: u32,
     /// The data length code, below 2^31.
     pub dlc: u32,
-    /// Whether it is a remote frame, false where the key is absent.
+    /// Whether it is a remote frame, false if the key is absent.
     pub remote: bool,
-    /// The data bytes, none where the key is absent.
+    /// The data bytes, none if the key is absent.
     pub bytes: Listed<u8>,
-    /// The quantum of the node from which on the frame may be sent, 0 where the key is absent.
+    /// The quantum of the node from which on the frame may be sent, 0 if the key is absent.
     pub ready: u64,
-    /// Whether it is an extended frame, false where the key is absent.
+    /// Whether it is an extended frame, false if the key is absent.
     pub extended: bool,
     /// After how many quanta it becomes ready again, if it does.
     pub every: Option<u64>,

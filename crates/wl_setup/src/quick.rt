@@ -28,7 +28,7 @@ use toml_parser::text::first;
 use wl_level::Listed;
 use wl_tables::{Header, Row, is_over, pass_header, read_row};
 
-/// The value of a key.
+/// Returns the value of a key.
 fn value<'a>(row: &'a Row, key: Key) -> Option<&'a Value>
     ensures { value_data result ≡ pair_value (pairs_of row.now) key }
 {
@@ -114,7 +114,7 @@ trait QuickRow: Drop {
         ensures value { IfSome result (λ r. r ≡ Self.make (members (pairs_of row.now))) };
 }
 
-/// The keys of a frame of the first version.
+/// Returns the keys of a frame of the first version.
 fn frame_keys() -> Keys
     ensures required { result.required.now ≡ first_frame_keys.required }
     ensures optional { result.optional.now ≡ first_frame_keys.optional }
@@ -125,7 +125,7 @@ fn frame_keys() -> Keys
     }
 }
 
-/// The frame that pairs say.
+/// Returns the frame that pairs say.
 fn frame(alloc: Global, row: &Row) -> Option<FrameText>
     ensures { IfSome result (λ f. f ≡ frame_of_pairs (pairs_of row.now)) }
 {
@@ -158,7 +158,7 @@ impl QuickRow for FrameText {
     }
 }
 
-/// The keys of a disturbance of the first version.
+/// Returns the keys of a disturbance of the first version.
 fn disturbance_keys() -> Keys
     ensures required { result.required.now ≡ first_disturbance_keys.required }
     ensures optional { result.optional.now ≡ first_disturbance_keys.optional }
@@ -169,7 +169,7 @@ fn disturbance_keys() -> Keys
     }
 }
 
-/// The disturbance that pairs say.
+/// Returns the disturbance that pairs say.
 fn disturbance(row: &Row) -> DisturbanceText
     ensures { result ≡ disturbance_of_pairs (pairs_of row.now) }
 {
@@ -214,7 +214,7 @@ fn read_tables<T: QuickRow>(alloc: Global, s: &str, which: Header) -> Option<(Li
     }
 }
 
-/// How fast a node's clock goes.
+/// Returns how fast a node's clock goes.
 fn clock(row: &Row) -> ClockText
     ensures { result ≡ clock_of_pairs (pairs_of row.now) }
 {
@@ -231,7 +231,7 @@ fn clock(row: &Row) -> ClockText
     }
 }
 
-/// The keys of a node of the first version.
+/// Returns the keys of a node of the first version.
 fn node_keys(row: &Row) -> Keys
     ensures required { result.required.now ≡ (pair_keys (pairs_of row.now)).required }
     ensures optional { result.optional.now ≡ (pair_keys (pairs_of row.now)).optional }
@@ -247,7 +247,7 @@ fn node_keys(row: &Row) -> Keys
     }
 }
 
-/// The node that its pairs and its frames say.
+/// Returns the node that its pairs and its frames say.
 fn node(alloc: Global, row: &Row, frame: Listed<FrameText>) -> Option<NodeText>
     ensures { IfSome result (λ n. n ≡ node_of_pairs (pairs_of row.now) frame) }
 {
@@ -330,7 +330,7 @@ fn is_top(row: &Row) -> bool
         && has_only(row, keys::top_keys())
 }
 
-/// The plan text that its parts say.
+/// Returns the plan text that its parts say.
 fn plan(row: &Row, node: Listed<NodeText>, disturbance: Listed<DisturbanceText>) -> PlanText
     ensures { result ≡ plan_of_pairs (pairs_of row.now) node disturbance }
 {

@@ -19,13 +19,13 @@ use wl_device::{Ended, Source, read_up_to};
 /// Why there is no document of a text.
 #[derive(Clone, Copy, Debug, PartialEq, Eq)]
 pub enum NoDocument {
-    /// The text is no TOML, or not UTF-8: the parser stopped after so many bytes of it.
+    /// The text is no TOML, or not UTF-8: the parser stopped after this many bytes of it.
     At(usize),
     /// Memory was refused.
     Memory,
 }
 
-/// The document of a text, or where the parser stopped in one that has none. Where in it that is, no clause says: the parser's
+/// Returns the document of a text, or where the parser stopped in one that has none. No clause says where in the text that is: the parser's
 /// contract leaves it open.
 pub fn document_or_place(alloc: Global, text: &[u8]) -> Result<Table, NoDocument>
     ensures document { IfOk result (λ top. document_of text.now ≡ Some (table_view top)) }
@@ -40,7 +40,7 @@ pub fn document_or_place(alloc: Global, text: &[u8]) -> Result<Table, NoDocument
     }
 }
 
-/// Reads a plan's text whole: at most 1,048,576 bytes, and what of the piece that made it more. Answers the bytes that came and how the
+/// Reads a plan's text whole: at most 1,048,576 bytes, and what of the piece that made it more. Returns the bytes that came and how the
 /// reading ended.
 #[tactic(auto, unfolding(crate::specs::Limits::most_bytes))]
 pub fn read_bytes<R: Source>(alloc: Global, reader: &mut R) -> Result<(Vec<u8>, Ended), AllocError>
@@ -49,7 +49,7 @@ pub fn read_bytes<R: Source>(alloc: Global, reader: &mut R) -> Result<(Vec<u8>, 
     read_up_to(alloc, reader, MOST_BYTES)
 }
 
-/// The document of a text.
+/// Returns the document of a text.
 fn document(alloc: Global, text: &[u8]) -> Result<Table, SetupFault>
     ensures document { IfOk result (λ top. document_of text.now ≡ Some (table_view top)) }
     ensures none { IfErr result (λ e. e ≢ SetupFault.Memory → (e ≡ SetupFault.Toml) × (document_of text.now ≡ None)) }
@@ -66,7 +66,7 @@ fn document(alloc: Global, text: &[u8]) -> Result<Table, SetupFault>
     }
 }
 
-/// The plan text of a text, and the names of its nodes.
+/// Returns the plan text of a text, and the names of its nodes.
 pub(crate) fn parse(alloc: Global, text: &[u8]) -> Result<(PlanText, Names), SetupFault>
     ensures ok { IfOk result (λ r. (text_answer text.now ≡ Ok r.0) × (r.1 ≡ names_of r.0)) }
     ensures fault { IfErr result (λ e. e ≢ SetupFault.Memory → text_answer text.now ≡ Err e) }
@@ -83,7 +83,7 @@ pub(crate) fn parse(alloc: Global, text: &[u8]) -> Result<(PlanText, Names), Set
     }
 }
 
-/// Reads a plan's text as `read_text` does. Answers with it the names of its nodes.
+/// Reads a plan's text as `read_text` does. Returns with it the names of its nodes.
 pub(crate) fn read_named<R: Source>(
     alloc: Global,
     reader: &mut R,
@@ -101,10 +101,9 @@ pub(crate) fn read_named<R: Source>(
 
 /// Reads a plan's text: TOML of at most 1,048,576 bytes, with the tables and keys of a plan.
 ///
-/// Answers what the document says, key by key, or its first fault: `Read` or `Size`, whichever the reading meets
-/// first; `Toml`; then, in the order of the tables, the version, missing keys, keys of a wrong kind and unknown
-/// keys; then `SameName`. `Memory` may be answered at any point. Nothing is promised of what a reader has left
-/// after a fault.
+/// Returns what the document says, key by key, or its first fault: `Read` or `Size`, whichever the reading meets first; `Toml`; then, in
+/// the order of the tables, the version, missing keys, keys of a wrong kind and unknown keys; then `SameName`. `Memory` may be returned at
+/// any point. Nothing is promised of what a reader has left after a fault.
 pub fn read_text<R: Source>(alloc: Global, reader: &mut R) -> Result<PlanText, SetupFault>
     ensures { result ≢ Err SetupFault.Memory → ReadsPlan R.gives reader.old result reader.new }
 {

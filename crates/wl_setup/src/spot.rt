@@ -1,4 +1,4 @@
-//! Where in a document its first fault stands.
+//! Where in a document its first fault is.
 ghost use Rattle.std.specs.Prelude.{◌≡◌, ◌∷◌, [], Some, None, if◌then◌else◌, is_some, option_and_then, option_map};
 ghost use Rattle.std.specs.List.{list_any, position};
 ghost use Rattle.toml.specs.View.{view, table_view};
@@ -63,7 +63,7 @@ fn has_unknown(table: &Table, known: Keys) -> bool
     first_unknown(table, known).is_some()
 }
 
-/// Whether a table has a fault of its own.
+/// True if a table has a fault of its own.
 fn has_fault(table: &Table, keys: Keys) -> bool
     ensures { result ≡ has_fault (table_keys keys.required.now keys.optional.now) (table_view table.now) }
 {
@@ -139,7 +139,7 @@ fn first_faulty_disturbance(version: u64, top: &Table) -> Option<usize>
     first_disturbance_in(version, elements_at(top, Key::Disturbance))
 }
 
-/// Whether a node, one of its rates or one of its frames has a fault.
+/// True if a node, one of its rates or one of its frames has a fault.
 fn has_node_fault(version: u64, node: &Table) -> bool
     ensures { result ≡ is_some (node_fault version (table_view node.now)) }
 {
@@ -171,7 +171,7 @@ fn first_faulty_node(version: u64, top: &Table) -> Option<usize>
     first_node_in(version, elements_at(top, Key::Node))
 }
 
-/// The first of three spots that is there.
+/// Returns the first of three spots that is there.
 fn first_spot(one: Option<Spot>, two: Option<Spot>, three: Option<Spot>) -> Option<Spot>
     ensures { result ≡ first_some (one ∷ two ∷ three ∷ []) }
 {
@@ -184,7 +184,7 @@ fn first_spot(one: Option<Spot>, two: Option<Spot>, three: Option<Spot>) -> Opti
     }
 }
 
-/// A spot where a test passes.
+/// Returns a spot, if a test passes there.
 fn spot_if(test: bool, spot: Spot) -> Option<Spot>
     ensures { result ≡ (if test then Some spot else None) }
 {
@@ -220,7 +220,7 @@ fn spot_in_disturbances(version: u64, top: &Table) -> Option<Spot>
     }
 }
 
-/// Where in node `i` the first fault stands.
+/// Returns where in node `i` the first fault is.
 fn spot_in_node(version: u64, i: u64, node: &Table) -> Option<Spot>
     ensures { result ≡ spot_in_node version i (table_view node.now) }
 {
@@ -232,7 +232,7 @@ fn spot_in_node(version: u64, i: u64, node: &Table) -> Option<Spot>
     )
 }
 
-/// The table with this number in the array at a key.
+/// Returns the table with this number in the array at a key.
 fn row_at(table: &Table, key: Key, n: u64) -> Option<&Table>
     ensures { option_map (λ t. table_view t.now) result ≡ row_at key n (table_view table.now) }
 {
@@ -242,7 +242,7 @@ fn row_at(table: &Table, key: Key, n: u64) -> Option<&Table>
     }
 }
 
-/// Where in the nodes the first fault stands.
+/// Returns where in the nodes the first fault is.
 fn spot_in_nodes(version: u64, top: &Table) -> Option<Spot>
     ensures { result ≡ option_and_then (spot_of_node version (table_view top.now))
         (first_faulty (node_fault version) Key.Node (table_view top.now)) }
@@ -259,8 +259,8 @@ fn spot_in_top(top: &Table) -> Option<Spot>
     spot_if(own, Spot::Top)
 }
 
-/// Where in a document of a known version the first fault of its tables stands: the top table, then node by node its own, its rates
-/// and its frames, then the disturbances. `None` where there is no such fault.
+/// Returns where in a document of a known version the first fault of its tables is: the top table, then node by node its own, its rates and
+/// its frames, then the disturbances. `None` if there is no such fault.
 pub fn faulty_spot(top: &Table) -> Option<Spot>
     ensures { result ≡ faulty_spot (table_view top.now) }
 {
@@ -272,7 +272,7 @@ pub fn faulty_spot(top: &Table) -> Option<Spot>
     )
 }
 
-/// The table at a spot, where the document has it.
+/// Returns the table at a spot, if the document has it.
 pub fn table_at(top: &Table, spot: Spot) -> Option<&Table>
     ensures { option_map (λ t. table_view t.now) result ≡ table_at spot (table_view top.now) }
 {

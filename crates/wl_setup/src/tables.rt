@@ -69,7 +69,7 @@ pub(crate) fn is_among(keys: &[Key], text: &str) -> bool
     keys.iter().any(|key| key.text() == text)
 }
 
-/// The first key, in the order of their bytes, that is none of these.
+/// Returns the first key, in the order of their bytes, that is none of these.
 pub(crate) fn first_unknown<'a>(table: &'a Table, known: Keys) -> Option<&'a str>
     ensures first { option_map (λ t. t.now) result
         ≡ first_unknown (table_keys known.required.now known.optional.now) (map string_bytes (keys table.now)) }

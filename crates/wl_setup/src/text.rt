@@ -20,7 +20,7 @@ impl Model for Text {
 }
 
 impl Text {
-    /// A copy of a text.
+    /// Returns a copy of a text.
     pub fn new(alloc: Global, letters: &str) -> Result<Text, AllocError>
         ensures { IfOk result (λ t. t ≡ letters.now) }
     {
@@ -29,7 +29,7 @@ impl Text {
         })
     }
 
-    /// The text.
+    /// Returns the text.
     pub fn as_str(&self) -> &str
         ensures { result.now ≡ self.now }
     {

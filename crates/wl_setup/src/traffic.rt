@@ -41,7 +41,7 @@ fn push_instances(
     Ok(())
 }
 
-/// The instances of all frames of a node, in the order in which they become ready. At most one more than may wait.
+/// Returns the instances of all frames of a node, in the order in which they become ready. At most one more than may wait.
 pub(crate) fn in_order(
     alloc: Global,
     clock: &Clock,

@@ -16,21 +16,21 @@ use toml::{Table, Value};
 use wl_level::Listed;
 use wl_segments::SyncRules;
 
-/// The value at a key of this name.
+/// Returns the value at a key of this name.
 pub fn value_named<'a>(table: &'a Table, name: &str) -> Option<&'a Value>
     ensures { option_map (λ v. view v.now) result ≡ get_member name.now (table_view table.now) }
 {
     table.get(name)
 }
 
-/// The value of a key.
+/// Returns the value of a key.
 pub(crate) fn value_at(table: &Table, key: Key) -> Option<&Value>
     ensures { option_map (λ v. view v.now) result ≡ value_at key (table_view table.now) }
 {
     table.get(key.text())
 }
 
-/// A whole number from 0 to the greatest.
+/// Returns a whole number from 0 to the greatest.
 fn number_in(most: u64, value: &Value) -> Option<u64>
     ensures { result ≡ number_in most (view value.now) }
 {
@@ -40,7 +40,7 @@ fn number_in(most: u64, value: &Value) -> Option<u64>
     }
 }
 
-/// A whole number from 1 on.
+/// Returns a whole number from 1 on.
 #[tactic(auto, unfolding(crate::specs::Limits::largest_number))]
 fn positive_in(value: &Value) -> Option<u64>
     ensures { result ≡ positive_in (view value.now) }
@@ -90,7 +90,7 @@ fn are_tables(values: &[Value]) -> bool
     values.iter().all(|value| value.is_table())
 }
 
-/// The elements of an array.
+/// Returns the elements of an array.
 fn elements_of(value: &Value) -> Option<&[Value]>
     ensures { option_map (λ vs. map view vs.now) result ≡ elements_of (view value.now) }
 {
@@ -100,7 +100,7 @@ fn elements_of(value: &Value) -> Option<&[Value]>
     }
 }
 
-/// Where SYNC_SEG lies, as a word says it.
+/// Returns where SYNC_SEG lies, as a word says it.
 fn sync_named(text: &str) -> Option<SyncRules>
     ensures { result ≡ sync_named text.now }
 {
@@ -122,7 +122,7 @@ fn sync_in(value: &Value) -> Option<SyncRules>
     }
 }
 
-/// Whether a value is of a kind.
+/// True if a value is of a kind.
 #[tactic(auto, unfolding(crate::specs::Limits::largest_number, crate::specs::Limits::largest_small))]
 pub(crate) fn has_kind(kind: Kind, value: &Value) -> bool
     ensures { result ≡ has_kind kind (view value.now) }
@@ -147,7 +147,7 @@ pub(crate) fn has_kind(kind: Kind, value: &Value) -> bool
     }
 }
 
-/// The number that a value is, 0 if there is none.
+/// Returns the number that a value is, 0 if there is none.
 #[tactic(auto, unfolding(crate::specs::Limits::largest_number))]
 pub(crate) fn number_of(value: Option<&Value>) -> u64
     ensures { result ≡ number_said (value_data value.entry) }
@@ -158,14 +158,14 @@ pub(crate) fn number_of(value: Option<&Value>) -> u64
     }
 }
 
-/// The number at a key, 0 where it has none.
+/// Returns the number at a key, 0 if it has none.
 pub(crate) fn number_at(table: &Table, key: Key) -> u64
     ensures { result ≡ number_at key (table_view table.now) }
 {
     number_of(value_at(table, key))
 }
 
-/// The small number that a value is, 0 if there is none.
+/// Returns the small number that a value is, 0 if there is none.
 #[tactic(auto, unfolding(crate::specs::Limits::largest_small))]
 pub(crate) fn small_of(value: Option<&Value>) -> u32
     ensures { result ≡ small_said (value_data value.entry) }
@@ -179,14 +179,14 @@ pub(crate) fn small_of(value: Option<&Value>) -> u32
     }
 }
 
-/// The small number at a key, 0 where it has none.
+/// Returns the small number at a key, 0 if it has none.
 pub(crate) fn small_at(table: &Table, key: Key) -> u32
     ensures { result ≡ small_at key (table_view table.now) }
 {
     small_of(value_at(table, key))
 }
 
-/// The whole number that a value is, 0 if there is none.
+/// Returns the whole number that a value is, 0 if there is none.
 pub(crate) fn ppm_of(value: Option<&Value>) -> i64
     ensures { result ≡ ppm_said (value_data value.entry) }
 {
@@ -196,7 +196,7 @@ pub(crate) fn ppm_of(value: Option<&Value>) -> i64
     }
 }
 
-/// The whole number at a key, 0 where it has none.
+/// Returns the whole number at a key, 0 if it has none.
 pub(crate) fn ppm_at(table: &Table, key: Key) -> i64
     ensures { result ≡ ppm_at key (table_view table.now) }
 {
@@ -220,7 +220,7 @@ pub(crate) fn tolerance_at(table: &Table, key: Key) -> Option<u32>
     tolerance_of(value_at(table, key))
 }
 
-/// The truth value that a value is, false if there is none.
+/// Returns the truth value that a value is, false if there is none.
 pub(crate) fn truth_of(value: Option<&Value>) -> bool
     ensures { result ≡ truth_said (value_data value.entry) }
 {
@@ -237,14 +237,14 @@ pub(crate) fn positive_at(table: &Table, key: Key) -> Option<u64>
     positive_in(value_at(table, key)?)
 }
 
-/// The truth value at a key, false where it has none.
+/// Returns the truth value at a key, false if it has none.
 pub(crate) fn truth_at(table: &Table, key: Key) -> bool
     ensures { result ≡ truth_at key (table_view table.now) }
 {
     truth_of(value_at(table, key))
 }
 
-/// Where SYNC_SEG lies, as a value says it; after an edge if there is none.
+/// Returns where SYNC_SEG lies, as a value says it; after an edge if there is none.
 pub(crate) fn sync_choice_of(value: Option<&Value>) -> SyncRules
     ensures { result ≡ sync_said (value_data value.entry) }
 {
@@ -254,14 +254,14 @@ pub(crate) fn sync_choice_of(value: Option<&Value>) -> SyncRules
     }
 }
 
-/// Where SYNC_SEG lies, at a key; after an edge where it has none.
+/// Returns where SYNC_SEG lies, at a key; after an edge if it has none.
 pub(crate) fn sync_choice_at(table: &Table, key: Key) -> SyncRules
     ensures { result ≡ sync_choice_at key (table_view table.now) }
 {
     sync_choice_of(value_at(table, key))
 }
 
-/// The text that a value is, empty if there is none.
+/// Returns the text that a value is, empty if there is none.
 pub(crate) fn name_of(alloc: Global, value: Option<&Value>) -> Result<Text, AllocError>
     ensures { IfOk result (λ t. t ≡ name_said (value_data value.entry)) }
 {
@@ -271,14 +271,14 @@ pub(crate) fn name_of(alloc: Global, value: Option<&Value>) -> Result<Text, Allo
     }
 }
 
-/// The text at a key, empty where it has none.
+/// Returns the text at a key, empty if it has none.
 pub(crate) fn name_at(alloc: Global, table: &Table, key: Key) -> Result<Text, AllocError>
     ensures { IfOk result (λ t. t ≡ name_at key (table_view table.now)) }
 {
     name_of(alloc, value_at(table, key))
 }
 
-/// The elements of the array that a value is, none if it is none.
+/// Returns the elements of the array that a value is, none if it is none.
 fn elements_in(value: Option<&Value>) -> &[Value]
     ensures { map view result.now ≡ elements_said (value_data value.entry) }
 {
@@ -288,7 +288,7 @@ fn elements_in(value: Option<&Value>) -> &[Value]
     }
 }
 
-/// The text at a key, if it has one.
+/// Returns the text at a key, if it has one.
 pub(crate) fn some_name_at(
     alloc: Global,
     table: &Table,
@@ -305,14 +305,14 @@ pub(crate) fn some_name_at(
     }
 }
 
-/// The elements of the array at a key, none where it has no array.
+/// Returns the elements of the array at a key, none if it has no array.
 pub(crate) fn elements_at(table: &Table, key: Key) -> &[Value]
     ensures { map view result.now ≡ elements_at key (table_view table.now) }
 {
     elements_in(value_at(table, key))
 }
 
-/// The bytes in the array that a value is.
+/// Returns the bytes in the array that a value is.
 pub(crate) fn bytes_of(alloc: Global, value: Option<&Value>) -> Result<Listed<u8>, AllocError>
     ensures { IfOk result (λ bytes. bytes ≡ bytes_said (value_data value.entry)) }
 {
@@ -325,7 +325,7 @@ pub(crate) fn bytes_of(alloc: Global, value: Option<&Value>) -> Result<Listed<u8
     Ok(bytes)
 }
 
-/// The bytes in the array at a key.
+/// Returns the bytes in the array at a key.
 pub(crate) fn bytes_at(alloc: Global, table: &Table, key: Key) -> Result<Listed<u8>, AllocError>
     ensures { IfOk result (λ bytes. bytes ≡ bytes_at key (table_view table.now)) }
 {

@@ -51,16 +51,16 @@ pub enum SweptKey {
 pub(crate) enum Side {
     /// It keeps the rates of the text.
     Own,
-    /// Its quanta are longer by so many parts per million.
+    /// Its quanta are longer by this many parts per million.
     Slow(u32),
-    /// Its quanta are shorter by so many parts per million.
+    /// Its quanta are shorter by this many parts per million.
     Fast(u32),
 }
 
 /// The greatest denominator of a clock, and what parts per million are parts of.
 const MILLION: u64 = 1_000_000;
 
-/// A clock with another value of a key, if it has that key.
+/// Returns a clock with another value of a key, if it has that key.
 fn clock_with(clock: ClockText, key: SweptKey, value: i64) -> ClockText
     ensures { result ≡ clock_with key value clock }
 {
@@ -82,7 +82,7 @@ fn clock_with(clock: ClockText, key: SweptKey, value: i64) -> ClockText
     }
 }
 
-/// The rates with another value of a key, each that has it.
+/// Returns the rates with another value of a key, each that has it.
 fn rates_with(
     alloc: Global,
     rates: &[RateText],
@@ -101,14 +101,14 @@ fn rates_with(
     Ok(all)
 }
 
-/// A value of a key that has 32 bits, 2^32 - 1 where it is greater.
+/// Returns a value of a key that has 32 bits, 2^32 - 1 if it is greater.
 fn narrowed(size: u64) -> u32
     ensures { result ≡ narrowed size }
 {
     size.min(u64::from(u32::MAX)) as u32
 }
 
-/// A node with another value of a key that is no clock's and no frame's.
+/// Returns a node with another value of a key that is no clock's and no frame's.
 fn node_with(node: NodeText, key: SweptKey, value: i64) -> NodeText
     ensures { result ≡ node_with key value node }
 {
@@ -142,7 +142,7 @@ fn node_with(node: NodeText, key: SweptKey, value: i64) -> NodeText
     }
 }
 
-/// An equal frame.
+/// Returns an equal frame.
 fn frame_again(alloc: Global, frame: &FrameText) -> Result<FrameText, AllocError>
     ensures { IfOk result (λ copy. copy ≡ frame.now) }
 {
@@ -158,7 +158,7 @@ fn frame_again(alloc: Global, frame: &FrameText) -> Result<FrameText, AllocError
     })
 }
 
-/// Equal frames.
+/// Returns equal frames.
 fn frames_again(alloc: Global, frames: &[FrameText]) -> Result<Listed<FrameText>, AllocError>
     ensures { IfOk result (λ copies. copies ≡ frames.now) }
 {
@@ -169,7 +169,7 @@ fn frames_again(alloc: Global, frames: &[FrameText]) -> Result<Listed<FrameText>
     Ok(copies)
 }
 
-/// A number in the place of another one, if there is one.
+/// Returns a number in the place of another one, if there is one.
 fn replaced(old: Option<u64>, value: i64) -> Option<u64>
     ensures { result ≡ replaced value old }
 {
@@ -179,7 +179,7 @@ fn replaced(old: Option<u64>, value: i64) -> Option<u64>
     }
 }
 
-/// A frame with another value of a key, if it has that key.
+/// Returns a frame with another value of a key, if it has that key.
 fn frame_with(frame: FrameText, key: SweptKey, value: i64) -> FrameText
     ensures { result ≡ frame_with key value frame }
 {
@@ -196,7 +196,7 @@ fn frame_with(frame: FrameText, key: SweptKey, value: i64) -> FrameText
     }
 }
 
-/// The frames with another value of a key, each that has it.
+/// Returns the frames with another value of a key, each that has it.
 fn frames_with(
     alloc: Global,
     frames: &[FrameText],
@@ -212,7 +212,7 @@ fn frames_with(
     Ok(all)
 }
 
-/// A node with another offset, other rates and other frames.
+/// Returns a node with another offset, other rates and other frames.
 fn node_made(
     alloc: Global,
     node: &NodeText,
@@ -239,7 +239,7 @@ fn node_made(
     })
 }
 
-/// A node with another offset and other rates.
+/// Returns a node with another offset and other rates.
 pub(crate) fn node_again(
     alloc: Global,
     node: &NodeText,
@@ -252,7 +252,7 @@ pub(crate) fn node_again(
     node_made(alloc, node, offset, rates, frame)
 }
 
-/// Equal nodes.
+/// Returns equal nodes.
 fn nodes_same(alloc: Global, nodes: &[NodeText]) -> Result<Listed<NodeText>, AllocError>
     ensures { IfOk result (λ copies. copies ≡ nodes.now) }
 {
@@ -264,7 +264,7 @@ fn nodes_same(alloc: Global, nodes: &[NodeText]) -> Result<Listed<NodeText>, All
     Ok(copies)
 }
 
-/// An equal name, if there is one.
+/// Returns an equal name, if there is one.
 fn name_again(alloc: Global, name: &Option<Text>) -> Result<Option<Text>, AllocError>
     ensures { IfOk result (λ copy. copy ≡ name.now) }
 {
@@ -274,7 +274,7 @@ fn name_again(alloc: Global, name: &Option<Text>) -> Result<Option<Text>, AllocE
     }
 }
 
-/// Equal disturbances.
+/// Returns equal disturbances.
 fn disturbances_again(
     alloc: Global,
     disturbances: &[DisturbanceText],
@@ -293,7 +293,7 @@ fn disturbances_again(
     Ok(copies)
 }
 
-/// An equal text.
+/// Returns an equal text.
 pub(crate) fn text_same(alloc: Global, text: &PlanText) -> Result<PlanText, AllocError>
     ensures { IfOk result (λ copy. copy ≡ text.now) }
 {
@@ -301,7 +301,7 @@ pub(crate) fn text_same(alloc: Global, text: &PlanText) -> Result<PlanText, Allo
     text_again(alloc, text, nodes)
 }
 
-/// A text with other nodes.
+/// Returns a text with other nodes.
 pub(crate) fn text_again(
     alloc: Global,
     text: &PlanText,
@@ -319,14 +319,14 @@ pub(crate) fn text_again(
     })
 }
 
-/// By how much both numbers of a rate are multiplied before it deviates.
+/// Returns by how much both numbers of a rate are multiplied before it deviates.
 fn refinement(den: u64) -> u64
     ensures { result ≡ refinement den }
 {
     (MILLION / den.max(1)).max(1)
 }
 
-/// So many ticks, longer or shorter by some parts per million, a fraction rounded towards the ticks.
+/// Returns a number of ticks, longer or shorter by some parts per million, rounded towards that number.
 fn num_on(side: Side, num: u128) -> u128
     requires { num < 2 ^ 85 }
     ensures { result ≡ num_on side num }
@@ -339,7 +339,7 @@ fn num_on(side: Side, num: u128) -> u128
     }
 }
 
-/// A rate of ticks and quanta on a side, with a denominator up to a million.
+/// Returns a rate of ticks and quanta on a side, with a denominator up to a million.
 fn refined(side: Side, num: u64, den: u64) -> ClockText
     ensures { result ≡ refined side num den }
 {
@@ -351,7 +351,7 @@ fn refined(side: Side, num: u64, den: u64) -> ClockText
     }
 }
 
-/// A deviation in the place of a clock's own, in parts per million.
+/// Returns a deviation in the place of a clock's own, in parts per million.
 fn ppm_on(side: Side, own: i64) -> i64
     ensures { result ≡ ppm_on side own }
 {
@@ -362,7 +362,7 @@ fn ppm_on(side: Side, own: i64) -> i64
     }
 }
 
-/// A clock on a side of what it is without its own `ppm`.
+/// Returns a clock on a side of what it is without its own `ppm`.
 fn clock_on(side: Side, clock: ClockText) -> ClockText
     ensures { result ≡ clock_on side clock }
 {
@@ -378,7 +378,7 @@ fn clock_on(side: Side, clock: ClockText) -> ClockText
     }
 }
 
-/// The rates on a side.
+/// Returns the rates on a side.
 fn rates_on(alloc: Global, rates: &[RateText], side: Side) -> Result<Listed<RateText>, AllocError>
     ensures { IfOk result (λ all. all ≡ map (rate_on side) rates.now) }
 {
@@ -392,7 +392,7 @@ fn rates_on(alloc: Global, rates: &[RateText], side: Side) -> Result<Listed<Rate
     Ok(all)
 }
 
-/// What is left of a tolerance on a side: nothing, if the clock has a rate within it.
+/// Returns what is left of a tolerance on a side: nothing, if the clock has a rate within it.
 fn tolerance_on(side: Side, tolerance: Option<u32>) -> Option<u32>
     ensures { result ≡ tolerance_on side tolerance }
 {
@@ -402,7 +402,7 @@ fn tolerance_on(side: Side, tolerance: Option<u32>) -> Option<u32>
     }
 }
 
-/// A node that begins `by` ticks later, and whose clock is on this side of its rates.
+/// Returns a node that begins `by` ticks later, and whose clock is on this side of its rates.
 pub(crate) fn moved_node(
     alloc: Global,
     node: &NodeText,
@@ -419,7 +419,7 @@ pub(crate) fn moved_node(
     })
 }
 
-/// A node with another value of a key, if it has that key.
+/// Returns a node with another value of a key, if it has that key.
 fn node_set(
     alloc: Global,
     node: &NodeText,
@@ -434,7 +434,7 @@ fn node_set(
     Ok(node_with(made, key, value))
 }
 
-/// Whether a value is one of node `i`: each node's where no node is named.
+/// True if a value is one of node `i`: each node's if no node is named.
 fn is_of(named: Option<usize>, i: usize) -> bool
     ensures { result ≡ is_of named i }
 {
@@ -444,7 +444,7 @@ fn is_of(named: Option<usize>, i: usize) -> bool
     }
 }
 
-/// Node `i` with another value of a key, if the value is one of its own.
+/// Returns node `i` with another value of a key, if the value is one of its own.
 fn node_at(
     alloc: Global,
     i: usize,
@@ -462,7 +462,7 @@ fn node_at(
     }
 }
 
-/// Nodes with another value of a key: of the node that is named, or of each that has it.
+/// Returns nodes with another value of a key: of the node that is named, or of each that has it.
 fn nodes_set(
     alloc: Global,
     nodes: &[NodeText],
@@ -479,7 +479,7 @@ fn nodes_set(
     Ok(all)
 }
 
-/// A text with another value of a key: of the top table, of the node that is named, or of each node that has it.
+/// Returns a text with another value of a key: of the top table, of the node that is named, or of each node that has it.
 pub(crate) fn text_with(
     alloc: Global,
     text: &PlanText,
@@ -494,7 +494,7 @@ pub(crate) fn text_with(
     Ok(top_with(copy, key, value))
 }
 
-/// A text with another value of a key of the top table.
+/// Returns a text with another value of a key of the top table.
 fn top_with(text: PlanText, key: SweptKey, value: i64) -> PlanText
     ensures { result ≡ top_with key value text }
 {

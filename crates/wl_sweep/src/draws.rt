@@ -15,7 +15,7 @@ pub(crate) enum Draws {
 }
 
 impl Draws {
-    /// The next digit below a radix; below 2 it is 0, and nothing is taken.
+    /// Returns the next digit below a radix; below 2 it is 0, and nothing is taken.
     pub(crate) fn below(&mut self, radix: u64) -> u64
         ensures { (result, self.new) ≡ drawn radix self.old }
     {

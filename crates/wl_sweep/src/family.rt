@@ -16,7 +16,7 @@ use wl_setup::{ClockText, NodeText, PlanText, SetupFault};
 /// The most ticks of a bit over which offsets go.
 const LONGEST_BIT: u128 = 1 << 48;
 
-/// The ticks of a quantum at a rate, rounded down, at least one.
+/// Returns the ticks of a quantum at a rate, rounded down, at least one.
 fn quantum_at(clock: ClockText) -> u64
     ensures { result ≡ quantum_at clock }
 {
@@ -26,7 +26,7 @@ fn quantum_at(clock: ClockText) -> u64
     }
 }
 
-/// The ticks of a node's quantum, at its first rate.
+/// Returns the ticks of a node's quantum, at its first rate.
 fn quantum_in(node: &NodeText) -> u64
     ensures { result ≡ quantum_in node.now }
 {
@@ -46,7 +46,7 @@ pub fn bit_in(node: &NodeText) -> u64
     ticks.min(LONGEST_BIT) as u64
 }
 
-/// The shortest quantum of some nodes.
+/// Returns the shortest quantum of some nodes.
 fn least_quantum(nodes: &[NodeText]) -> u64
     ensures { result ≡ least_quantum nodes.now }
 {
@@ -57,7 +57,7 @@ fn least_quantum(nodes: &[NodeText]) -> u64
     least
 }
 
-/// The ticks between two offsets of a node.
+/// Returns the ticks between two offsets of a node.
 fn offset_step(options: Options, text: &PlanText) -> u64
     ensures { result ≡ offset_step options text.now }
 {
@@ -67,7 +67,7 @@ fn offset_step(options: Options, text: &PlanText) -> u64
     }
 }
 
-/// How many offsets node `i` has.
+/// Returns how many offsets node `i` has.
 fn offset_count(options: Options, step: u64, i: usize, node: &NodeText) -> u64
     ensures { result ≡ offset_count options step (i, node.now) }
 {
@@ -78,7 +78,7 @@ fn offset_count(options: Options, step: u64, i: usize, node: &NodeText) -> u64
     }
 }
 
-/// How many signs the deviation of a node has.
+/// Returns how many signs the deviation of a node has.
 fn sign_count(options: Options, node: &NodeText) -> u64
     ensures { result ≡ sign_count options node.now }
 {
@@ -89,7 +89,7 @@ fn sign_count(options: Options, node: &NodeText) -> u64
     }
 }
 
-/// On which side of its rates a clock is, by its sign.
+/// Returns on which side of its rates a clock is, by its sign.
 fn side_of(options: Options, tolerance: Option<u32>, sign: u64) -> Side
     ensures { result ≡ side_of options tolerance sign }
 {
@@ -116,7 +116,7 @@ pub(crate) struct Choice {
     pub(crate) side: Side,
 }
 
-/// What a member changes of node `i`.
+/// Returns what a member changes of node `i`.
 pub(crate) fn choose(
     options: Options,
     step: u64,
@@ -134,7 +134,7 @@ pub(crate) fn choose(
     }
 }
 
-/// How many members nodes make.
+/// Returns how many members nodes make.
 fn choice_count(options: Options, step: u64, nodes: &[NodeText]) -> u128
     ensures { result ≡ choice_count options step (enumerate_from 0 nodes.now) }
 {
@@ -149,7 +149,7 @@ fn choice_count(options: Options, step: u64, nodes: &[NodeText]) -> u128
     count
 }
 
-/// Whether a text is accepted.
+/// True if a text is accepted.
 fn is_accepted(alloc: Global, text: &PlanText) -> Result<bool, AllocError>
     ensures { IfOk result (λ accepted. accepted ≡ is_ok (plan_of_text text.now)) }
 {
@@ -160,7 +160,8 @@ fn is_accepted(alloc: Global, text: &PlanText) -> Result<bool, AllocError>
     }
 }
 
-/// What is varied of a text: nothing if it is refused, so that its one member is the text itself.
+/// Returns what is varied of a text: nothing if it is refused, so that its one member is the text
+/// itself.
 fn varied(alloc: Global, options: Options, text: &PlanText) -> Result<Options, AllocError>
     ensures { IfOk result (λ all. all ≡ varied options text.now) }
 {
@@ -178,7 +179,7 @@ fn varied(alloc: Global, options: Options, text: &PlanText) -> Result<Options, A
 /// A family of plan texts: what its members are made of.
 #[derive(Drop)]
 pub(crate) struct Family {
-    /// The text as it stands.
+    /// The text as it is.
     pub(crate) text: PlanText,
     pub(crate) options: Options,
     free: Options,
@@ -190,7 +191,7 @@ pub(crate) struct Family {
 }
 
 impl Family {
-    /// The family of a text.
+    /// Returns the family of a text.
     pub(crate) fn new(alloc: Global, text: PlanText, options: Options) -> Result<Family, AllocError>
         ensures text { IfOk result (λ family. family.text ≡ text) }
         ensures options { IfOk result (λ family. family.options ≡ options) }
@@ -207,35 +208,35 @@ impl Family {
         })
     }
 
-    /// How many members it has, 2^128 - 1 where there are more.
+    /// Returns how many members it has, 2^128 - 1 if there are more.
     pub(crate) fn count(&self) -> u128
         ensures { result ≡ member_count self.now.options self.now.text }
     {
         self.count
     }
 
-    /// What is varied.
+    /// Returns what is varied.
     pub(crate) fn varied(&self) -> Options
         ensures { result ≡ varied self.now.options self.now.text }
     {
         self.free
     }
 
-    /// The ticks between two offsets.
+    /// Returns the ticks between two offsets.
     pub(crate) fn step(&self) -> u64
         ensures { result ≡ offset_step self.now.options self.now.text }
     {
         self.step
     }
 
-    /// How many members are run.
+    /// Returns how many members are run.
     pub(crate) fn runs(&self) -> u32
         ensures { result ≡ run_count self.now.options self.now.text }
     {
         self.count.min(u128::from(self.options.runs)) as u32
     }
 
-    /// What the digits of a run are taken from.
+    /// Returns what the digits of a run are taken from.
     pub(crate) fn draws(&self, run: u32) -> Draws
         ensures { result ≡ draws_of self.now.options (member_count self.now.options self.now.text) run }
     {
@@ -247,7 +248,7 @@ impl Family {
         }
     }
 
-    /// The nodes of the member that a run is of.
+    /// Returns the nodes of the member that a run is of.
     fn member_nodes(&self, alloc: Global, run: u32) -> Result<Listed<NodeText>, AllocError>
         ensures { IfOk result (λ nodes. nodes ≡ (member_of self.now.options self.now.text run).node) }
     {
@@ -260,7 +261,7 @@ impl Family {
         Ok(nodes)
     }
 
-    /// The member that a run is of.
+    /// Returns the member that a run is of.
     pub(crate) fn member(&self, alloc: Global, run: u32) -> Result<PlanText, AllocError>
         ensures { IfOk result (λ text. text ≡ member_of self.now.options self.now.text run) }
     {

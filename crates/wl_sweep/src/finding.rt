@@ -18,11 +18,11 @@ use wl_setup::{PlanText, SetupFault};
 pub enum Finding {
     /// No error, no node off the bus, no frame left to send, and the same frames, in one order, passed through every node.
     Clean,
-    /// Errors were found: so many, and so many frames were left to send.
+    /// Errors were found: how many, and how many frames were left to send.
     Faulty(u128, u128),
     /// A node is off the bus.
     Off,
-    /// No error was found, but so many frames were left to send: the plan ends too early.
+    /// No error was found, but this many frames were left to send: the plan ends too early.
     Early(u128),
     /// A frame that passed through one node passed through another at another place of its order, or not at all.
     Missed,
@@ -31,7 +31,7 @@ pub enum Finding {
 }
 
 impl Finding {
-    /// Whether the bus worked.
+    /// True if the bus worked.
     pub fn is_clean(&self) -> bool
         ensures { result ≡ is_clean self.now }
     {
@@ -41,7 +41,7 @@ impl Finding {
         }
     }
 
-    /// Whether the plan only ends too early.
+    /// True if the plan only ends too early.
     pub fn is_early(&self) -> bool
         ensures { result ≡ is_early self.now }
     {
@@ -51,7 +51,7 @@ impl Finding {
         }
     }
 
-    /// Whether the text was refused.
+    /// True if the text was refused.
     pub fn is_refused(&self) -> bool
         ensures { result ≡ is_refused self.now }
     {
@@ -61,7 +61,7 @@ impl Finding {
         }
     }
 
-    /// Whether a bus was run, and isn't clean.
+    /// True if a bus was run, and isn't clean.
     pub fn is_unclean(&self) -> bool
         ensures { result ≡ is_unclean self.now }
     {
@@ -72,7 +72,7 @@ impl Finding {
     }
 }
 
-/// Whether a node is off the bus.
+/// True if a node is off the bus.
 fn is_off_bus(node: &NodeOutcome) -> bool
     ensures { result ≡ is_off_bus node.now }
 {
@@ -82,7 +82,7 @@ fn is_off_bus(node: &NodeOutcome) -> bool
     }
 }
 
-/// Whether one of the nodes is off the bus.
+/// True if one of the nodes is off the bus.
 fn some_off(nodes: &[NodeOutcome]) -> bool
     ensures { result ≡ some_off nodes.now }
 {
@@ -94,7 +94,7 @@ fn some_off(nodes: &[NodeOutcome]) -> bool
     false
 }
 
-/// Whether the same frames passed through two nodes, in the same order.
+/// True if the same frames passed through two nodes, in the same order.
 #[tactic(auto, using(crate::proofs::Frames::unlike_length))]
 fn like(one: &[Passed], other: &[Passed]) -> bool
     ensures { result ≡ like one.now other.now }
@@ -110,7 +110,7 @@ fn like(one: &[Passed], other: &[Passed]) -> bool
     true
 }
 
-/// Whether the same frames passed through all nodes, in the same order.
+/// True if the same frames passed through all nodes, in the same order.
 fn all_like(nodes: &[NodeOutcome]) -> bool
     ensures { result ≡ all_like nodes.now }
 {
@@ -126,7 +126,7 @@ fn all_like(nodes: &[NodeOutcome]) -> bool
     true
 }
 
-/// What an outcome shows of its bus.
+/// Returns what an outcome shows of its bus.
 pub fn finding_of(outcome: &Outcome) -> Finding
     ensures { result ≡ finding_of_outcome outcome.now }
 {
@@ -146,7 +146,7 @@ pub fn finding_of(outcome: &Outcome) -> Finding
     }
 }
 
-/// What is found of a plan text.
+/// Returns what is found of a plan text.
 pub(crate) fn finding_of_text(alloc: Global, text: &PlanText) -> Result<Finding, AllocError>
     ensures { IfOk result (λ finding. finding ≡ finding_of_text text.now) }
 {
@@ -160,8 +160,8 @@ pub(crate) fn finding_of_text(alloc: Global, text: &PlanText) -> Result<Finding,
     }
 }
 
-/// Law: a member is clean exactly where no node found an error, none is off the bus, none has a frame left to send, and the frames
-/// that passed through a node are, in order, those that passed through the first one.
+/// Law: a member is clean exactly if four things hold. No node found an error, none is off the bus, none has a frame left to send, and the
+/// same frames passed through all nodes, in one order.
 pub fn clean_is_a_working_bus()
     ensures { CleanIsClean }
 {}

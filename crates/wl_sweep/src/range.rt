@@ -14,13 +14,13 @@ pub struct SweptRange {
     pub called: Text,
     /// The key.
     pub key: SweptKey,
-    /// The number of the node whose key it is; each that has it where none is named.
+    /// The number of the node whose key it is; each that has it if none is named.
     pub named: Option<usize>,
     /// The values, in the order of the rows.
     pub values: Listed<i64>,
 }
 
-/// How many rows ranges make, 2^64 - 1 where there are more: one for each choice of a value from each.
+/// Returns how many rows ranges make, 2^64 - 1 if there are more: one for each choice of a value from each.
 pub fn row_count(ranges: &[SweptRange]) -> u64
     ensures { result ≡ row_count ranges.now }
 {
@@ -31,7 +31,7 @@ pub fn row_count(ranges: &[SweptRange]) -> u64
     rows
 }
 
-/// The value of a range in a row, where so many rows go by before it takes the next one.
+/// Returns the value of a range in a row, if `rows` rows go by before it takes the next one.
 fn value_in(range: &SweptRange, later: u64, row: u64) -> i64
     ensures { result ≡ value_in range.now later row }
 {
@@ -52,7 +52,7 @@ pub fn row_value(ranges: &[SweptRange], i: usize, row: u64) -> i64
     value_in(&ranges[i], later, row)
 }
 
-/// The text of a row: in it each key of a range has the range's value.
+/// Returns the text of a row: in it each key of a range has the range's value.
 pub(crate) fn row_text(
     alloc: Global,
     text: &PlanText,

@@ -32,7 +32,7 @@ pub(crate) struct Progress {
 }
 
 impl Progress {
-    /// Begins to tell of so many rows, if there is a clock.
+    /// Begins to report on this many rows, if there is a clock.
     pub(crate) fn begin<R: Clock>(rt: &R, rows: u64) -> Option<Progress> {
         let begun = Instant::now(rt).ok()?;
         Some(Progress {
@@ -64,7 +64,7 @@ impl Progress {
     }
 }
 
-/// The first run of part `w` of those from one on up to another, which are cut into parts of a size.
+/// Returns the first run of part `w` of those from one on up to another, which are cut into parts of a size.
 fn part_start(from: u32, to: u32, size: u32, w: usize) -> u32
     ensures { result ≡ part_start from to size w }
 {
@@ -73,7 +73,7 @@ fn part_start(from: u32, to: u32, size: u32, w: usize) -> u32
 }
 
 impl Family {
-    /// What is found of the member that a run is of.
+    /// Returns what is found of the member that a run is of.
     pub(crate) fn finding(&self, alloc: Global, run: u32) -> Result<Finding, AllocError>
         ensures { IfOk result (λ found. found ≡ finding_at self.now.options self.now.text run) }
     {
@@ -81,7 +81,7 @@ impl Family {
         finding_of_text(alloc, &text)
     }
 
-    /// The tally of the runs from one on, up to another.
+    /// Returns the tally of the runs from one on, up to another.
     fn part(&self, alloc: Global, from: u32, to: u32) -> Result<Tally, AllocError>
         requires { from ≤ to }
         ensures { IfOk result (λ tally. tally ≡ tally_of (findings_from self.now.options self.now.text from (to - from))) }
@@ -94,7 +94,7 @@ impl Family {
         Ok(tally)
     }
 
-    /// The tallies of the parts of some runs, each by a thread of its own.
+    /// Returns the tallies of the parts of some runs, each by a thread of its own.
     fn parts<R: Threads + Sync>(
         &self,
         rt: &R,
@@ -124,7 +124,7 @@ impl Family {
         )
     }
 
-    /// The tally of the runs from one on, up to another, by so many threads.
+    /// Returns the tally of the runs from one on, up to another, by this many threads.
     fn batch<R: Threads + Sync>(
         &self,
         rt: &R,
@@ -151,8 +151,8 @@ impl Family {
         Ok(tally)
     }
 
-    /// The tally of all runs of a text, by so many threads. Lines on standard error say how many runs are done and how many of these are
-    /// clean, if that is asked for; no clause speaks of them.
+    /// Returns the tally of all runs of a text, by this many threads. If that is asked for, lines on standard error say how many runs are
+    /// done and how many of these are clean; no clause speaks of them.
     pub(crate) fn tally<R: Threads + Sync + Eprint + Clock>(
         &self,
         rt: &R,

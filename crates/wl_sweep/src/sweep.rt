@@ -25,15 +25,15 @@ pub const MOST_ROWS: u64 = 10_000;
 /// What is swept: a text, its ranges, and the options.
 #[derive(Drop)]
 pub struct Sweep {
-    /// The text of the plan as it stands.
+    /// The text of the plan as it is.
     pub text: PlanText,
-    /// The ranges, each of which has a value.
+    /// The ranges, each with a value.
     pub ranges: Listed<SweptRange>,
     /// What is varied beside.
     pub options: Options,
 }
 
-/// What the rows come to, so far.
+/// What the rows result in, so far.
 #[derive(Clone, Copy, Debug, PartialEq, Eq)]
 struct Sum {
     /// The tally of all members that were run.
@@ -42,7 +42,7 @@ struct Sum {
     members: u128,
 }
 
-/// The most members of a row that are run.
+/// Returns the most members of a row that are run.
 fn most_runs(options: Options) -> u32
     ensures { result ≡ options.runs }
 {
@@ -50,14 +50,14 @@ fn most_runs(options: Options) -> u32
 }
 
 impl Sweep {
-    /// True where there are at most 10,000 rows.
+    /// True if there are at most 10,000 rows.
     pub fn is_small(&self) -> bool
         ensures { result ≡ is_small self.now }
     {
         row_count(self.ranges.as_slice()) <= MOST_ROWS
     }
 
-    /// The family of a row.
+    /// Returns the family of a row.
     fn family(&self, alloc: Global, row: u64) -> Result<Family, AllocError>
         ensures text { IfOk result (λ family. family.text ≡ row_text row self.now.ranges self.now.text) }
         ensures options { IfOk result (λ family. family.options ≡ self.now.options) }
@@ -66,7 +66,7 @@ impl Sweep {
         Family::new(alloc, text, self.options)
     }
 
-    /// How far the sweep is, if lines of progress are asked for.
+    /// Returns how far the sweep is, if lines of progress are asked for.
     fn progress<R: Clock>(&self, rt: &R, workers: Workers) -> Option<Progress> {
         if workers.progress {
             Progress::begin(rt, row_count(self.ranges.as_slice()))
@@ -75,7 +75,7 @@ impl Sweep {
         }
     }
 
-    /// Runs one row, by so many threads, and adds its line where there are ranges.
+    /// Runs one row, by this many threads, and adds its line if there are ranges.
     fn run_row<R: Threads + Sync + Eprint + Clock>(
         &self,
         rt: &R,
@@ -131,7 +131,7 @@ impl Sweep {
         Ok(sum)
     }
 
-    /// The row and the run of a member, by its number.
+    /// Returns the row and the run of a member, by its number.
     fn locate(&self, alloc: Global, number: u64) -> Result<Option<(u64, u32)>, AllocError>
         ensures { IfOk result (λ place. place ≡ located self.now (range_with_len 0 (row_count self.now.ranges)) number) }
     {
@@ -180,7 +180,7 @@ impl Sweep {
         }
     }
 
-    /// What a member changes, and its plan's text.
+    /// Returns what a member changes, and its plan's text.
     fn member_in_row(
         &self,
         alloc: Global,
@@ -198,11 +198,11 @@ impl Sweep {
         ))
     }
 
-    /// What a sweep says, and its tally, by so many threads.
+    /// Returns what a sweep says, and its tally, by this many threads.
     ///
-    /// For each row a line `{range} {value} .. clean in {n} of {n}`, with `, too early in {n}` and `, refused in {n}` where there are such; one for
-    /// all rows together; a line on how much of the family was run; a line on the first member that isn't clean, and on the first that was
-    /// refused, where there is one. Refused only out of memory.
+    /// For each row it has a line `{range} {value} .. clean in {n} of {n}`, with `, too early in {n}` and `, refused in {n}` if there are
+    /// such. One line is for all rows together, and one on how much of the family was run. Then come a line on the first member that isn't
+    /// clean, and one on the first that was refused, if there is one. Refused only out of memory.
     pub fn run<R: Threads + Sync + Eprint + Clock>(
         &self,
         rt: &R,

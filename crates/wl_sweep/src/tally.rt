@@ -25,7 +25,7 @@ pub struct Tally {
     pub first_refused: Option<u64>,
 }
 
-/// A place among members that come after so many others.
+/// Returns a place among members that come after this many others.
 fn shifted(before: u64, place: Option<u64>) -> Option<u64>
     ensures { result ≡ option_map (λ n. capped (before + n)) place }
 {
@@ -36,7 +36,7 @@ fn shifted(before: u64, place: Option<u64>) -> Option<u64>
 }
 
 impl Tally {
-    /// Of no member.
+    /// Returns the tally of no member.
     pub fn new() -> Tally
         ensures { result ≡ tally_of [] }
     {
@@ -50,7 +50,7 @@ impl Tally {
         }
     }
 
-    /// Of one member.
+    /// Returns the tally of one member.
     pub fn of(finding: &Finding) -> Tally
         ensures { result ≡ tally_of (finding.now ∷ []) }
     {
@@ -71,7 +71,7 @@ impl Tally {
         self.clean == self.runs
     }
 
-    /// Of these members, and after them those of another tally.
+    /// Returns the tally of these members, and after them those of another tally.
     pub fn then(self, other: Tally) -> Tally
         ensures { (xs ys : List AFinding) → self ≡ tally_of xs → other ≡ tally_of ys → length xs + length ys < 2 ^ 64
             → result ≡ tally_of (xs ++ ys) }

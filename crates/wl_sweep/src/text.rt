@@ -16,7 +16,7 @@ use crate::tally::Tally;
 use std::alloc::AllocError;
 use wl_setup::NodeText;
 
-/// Adds a count of what isn't clean, where there is such.
+/// Adds a count of what isn't clean, if there is such.
 fn push_count(text: &mut String, what: &str, count: u64) -> Result<(), AllocError>
     ensures { OnOk result (GrowsBy text.old text.new (count_words what.now count)) }
 {

@@ -24,7 +24,7 @@ const LARGEST_PPM: u64 = 1_000_000_000;
 /// The greatest tolerance, in parts per million.
 const LARGEST_TOLERANCE: u64 = 100_000;
 
-/// The steps that a range has where it names none: the first of them that makes fewer than twenty rows more.
+/// The steps of a range that names none. The first of them is taken that makes fewer than twenty rows more.
 #[rattlefmt::skip]
 const ROUND_STEPS: [u64; 45] = [
     1, 2, 5, 10, 20, 50, 100, 200, 500, 1_000, 2_000, 5_000, 10_000, 20_000, 50_000, 100_000, 200_000, 500_000,
@@ -67,7 +67,7 @@ pub enum RangeFault {
     Memory,
 }
 
-/// The first value of a range, the last one, and the step where it is said.
+/// The first value of a range, the last one, and the step if it is said.
 #[derive(Clone, Copy, Debug, PartialEq, Eq)]
 struct Ends {
     low: i64,
@@ -75,49 +75,49 @@ struct Ends {
     step: Option<i64>,
 }
 
-/// A text before and after its first `=`.
+/// Returns a text before and after its first `=`.
 fn parted_at_equals(text: &str) -> Option<(&str, &str)>
     ensures { option_map (λ parts. (parts.0.now, parts.1.now)) result ≡ parted 61 text.now }
 {
     text.split_once('=')
 }
 
-/// A text before and after its first `.`.
+/// Returns a text before and after its first `.`.
 fn parted_at_dot(text: &str) -> Option<(&str, &str)>
     ensures { option_map (λ parts. (parts.0.now, parts.1.now)) result ≡ parted 46 text.now }
 {
     text.split_once('.')
 }
 
-/// A text before and after its first `:`.
+/// Returns a text before and after its first `:`.
 fn parted_at_colon(text: &str) -> Option<(&str, &str)>
     ensures { option_map (λ parts. (parts.0.now, parts.1.now)) result ≡ parted 58 text.now }
 {
     text.split_once(':')
 }
 
-/// A text after its first `.`, if it begins with one.
+/// Returns a text after its first `.`, if it begins with one.
 fn after_dot(text: &str) -> Option<&str>
     ensures { option_map (λ rest. rest.now) result ≡ after_byte 46 text.now }
 {
     text.strip_prefix('.')
 }
 
-/// A text after its first `-`, if it begins with one.
+/// Returns a text after its first `-`, if it begins with one.
 fn after_minus(text: &str) -> Option<&str>
     ensures { option_map (λ rest. rest.now) result ≡ after_byte 45 text.now }
 {
     text.strip_prefix('-')
 }
 
-/// A text after its first `+`, if it begins with one.
+/// Returns a text after its first `+`, if it begins with one.
 fn after_plus(text: &str) -> Option<&str>
     ensures { option_map (λ rest. rest.now) result ≡ after_byte 43 text.now }
 {
     text.strip_prefix('+')
 }
 
-/// The number that decimal digits are.
+/// Returns the number that decimal digits are.
 fn size_of(text: &str) -> Option<u64>
     ensures { result ≡ size_of text.now }
 {
@@ -130,7 +130,7 @@ fn size_of(text: &str) -> Option<u64>
     }
 }
 
-/// A number, or where it is negated the one as far below 0.
+/// Returns a number, or the one as far below 0 if it is negated.
 fn signed(size: u64, negated: bool) -> i64
     requires { size < 2 ^ 48 }
     ensures { result ≡ (if negated then neg_ℤ (pos size) else pos size) }
@@ -138,7 +138,7 @@ fn signed(size: u64, negated: bool) -> i64
     if negated { -(size as i64) } else { size as i64 }
 }
 
-/// The number that a text is: decimal digits, with a minus in front if it is negative.
+/// Returns the number that a text is: decimal digits, with a minus in front if it is negative.
 fn number_of(text: &str) -> Option<i64>
     ensures { result ≡ number_of text.now }
 {
@@ -148,7 +148,7 @@ fn number_of(text: &str) -> Option<i64>
     }
 }
 
-/// The ends of a range whose first value is known.
+/// Returns the ends of a range whose first value is known.
 fn ends_with_step(low: i64, text: &str) -> Option<Ends>
     ensures { result ≡ ends_with_step low (parted 58 text.now) text.now }
 {
@@ -166,7 +166,7 @@ fn ends_with_step(low: i64, text: &str) -> Option<Ends>
     }
 }
 
-/// The ends of a range: `A..B` or `A..B:STEP`.
+/// Returns the ends of a range: `A..B` or `A..B:STEP`.
 fn ends_of(values: &str) -> Option<Ends>
     ensures { result ≡ ends_of values.now }
 {
@@ -175,7 +175,7 @@ fn ends_of(values: &str) -> Option<Ends>
     ends_with_step(low, after_dot(rest)?)
 }
 
-/// The key of a name.
+/// Returns the key of a name.
 fn key_of(name: &str) -> Option<SweptKey>
     ensures { result ≡ key_of name.now }
 {
@@ -201,7 +201,7 @@ fn key_of(name: &str) -> Option<SweptKey>
     }
 }
 
-/// Whether a key is one of the top table.
+/// True if a key is one of the top table.
 fn is_top(key: SweptKey) -> bool
     ensures { result ≡ is_top key }
 {
@@ -211,7 +211,7 @@ fn is_top(key: SweptKey) -> bool
     }
 }
 
-/// Whether a key is one of a clock.
+/// True if a key is one of a clock.
 fn is_clock(key: SweptKey) -> bool
     ensures { result ≡ is_clock key }
 {
@@ -221,7 +221,7 @@ fn is_clock(key: SweptKey) -> bool
     }
 }
 
-/// Whether a key is one of a frame.
+/// True if a key is one of a frame.
 fn is_frame(key: SweptKey) -> bool
     ensures { result ≡ is_frame key }
 {
@@ -231,7 +231,7 @@ fn is_frame(key: SweptKey) -> bool
     }
 }
 
-/// Whether a clock has a key.
+/// True if a clock has a key.
 fn clock_has(key: SweptKey, clock: ClockText) -> bool
     ensures { result ≡ clock_has key clock }
 {
@@ -247,7 +247,7 @@ fn clock_has(key: SweptKey, clock: ClockText) -> bool
     }
 }
 
-/// Whether the clock of one of some rates has a key.
+/// True if the clock of one of some rates has a key.
 fn rates_have(key: SweptKey, rates: &[RateText]) -> bool
     ensures { result ≡ list_any (rate_has key) rates.now }
 {
@@ -259,7 +259,7 @@ fn rates_have(key: SweptKey, rates: &[RateText]) -> bool
     false
 }
 
-/// Whether a frame has a key.
+/// True if a frame has a key.
 fn frame_has(key: SweptKey, frame: &FrameText) -> bool
     ensures { result ≡ frame_has key frame.now }
 {
@@ -270,7 +270,7 @@ fn frame_has(key: SweptKey, frame: &FrameText) -> bool
     }
 }
 
-/// Whether one of some frames has a key.
+/// True if one of some frames has a key.
 fn frames_have(key: SweptKey, frames: &[FrameText]) -> bool
     ensures { result ≡ list_any (frame_has key) frames.now }
 {
@@ -282,7 +282,7 @@ fn frames_have(key: SweptKey, frames: &[FrameText]) -> bool
     false
 }
 
-/// Whether a node has a key.
+/// True if a node has a key.
 fn has_key(key: SweptKey, node: &NodeText) -> bool
     ensures { result ≡ has_key key node.now }
 {
@@ -295,7 +295,7 @@ fn has_key(key: SweptKey, node: &NodeText) -> bool
     }
 }
 
-/// Whether one of the nodes has a key.
+/// True if one of the nodes has a key.
 fn some_have(key: SweptKey, nodes: &[NodeText]) -> bool
     ensures { result ≡ list_any (has_key key) nodes.now }
 {
@@ -307,7 +307,7 @@ fn some_have(key: SweptKey, nodes: &[NodeText]) -> bool
     false
 }
 
-/// The first node of a name.
+/// Returns the first node of a name.
 fn node_named(nodes: &[NodeText], name: &str) -> Option<usize>
     ensures { result ≡ position_from (λ n. bytes_eq n.name name.now) 0 nodes.now }
 {
@@ -319,7 +319,7 @@ fn node_named(nodes: &[NodeText], name: &str) -> Option<usize>
     None
 }
 
-/// A number as that of one of so many nodes.
+/// Returns a number as that of one of this many nodes.
 fn numbered(count: usize, number: Option<i64>) -> Option<usize>
     ensures { result ≡ numbered count number }
 {
@@ -331,7 +331,7 @@ fn numbered(count: usize, number: Option<i64>) -> Option<usize>
     }
 }
 
-/// The node of a name, or else of a number.
+/// Returns the node of a name, or else of a number.
 fn node_of(nodes: &[NodeText], name: &str) -> Option<usize>
     ensures { result ≡ node_of nodes.now name.now }
 {
@@ -341,7 +341,7 @@ fn node_of(nodes: &[NodeText], name: &str) -> Option<usize>
     }
 }
 
-/// The greatest place of some nodes, 0 where there is none.
+/// Returns the greatest place of some nodes, 0 if there is none.
 fn greatest_x(nodes: &[NodeText]) -> u32
     ensures { result ≡ greatest_x nodes.now }
 {
@@ -352,7 +352,7 @@ fn greatest_x(nodes: &[NodeText]) -> u32
     most
 }
 
-/// The first of the nodes that are farthest away.
+/// Returns the first of the nodes that are farthest away.
 fn farthest(nodes: &[NodeText]) -> Option<usize>
     ensures { result ≡ farthest nodes.now }
 {
@@ -365,7 +365,7 @@ fn farthest(nodes: &[NodeText]) -> Option<usize>
     None
 }
 
-/// Node `i`, if it has the key.
+/// Returns node `i`, if it has the key.
 fn owned(nodes: &[NodeText], key: SweptKey, i: usize) -> Result<Option<usize>, RangeFault>
     ensures { result ≡ owned key i (slice_get nodes.now i) }
 {
@@ -381,7 +381,7 @@ fn owned(nodes: &[NodeText], key: SweptKey, i: usize) -> Result<Option<usize>, R
     }
 }
 
-/// The node whose key is varied, if it is the key of one node.
+/// Returns the node whose key is varied, if it is the key of one node.
 fn target_of(
     nodes: &[NodeText],
     name: Option<&str>,
@@ -403,7 +403,7 @@ fn target_of(
     }
 }
 
-/// The node whose key is varied where none is named.
+/// Returns the node whose key is varied if none is named.
 fn unnamed(nodes: &[NodeText], key: SweptKey) -> Result<Option<usize>, RangeFault>
     ensures { result ≡ target_of nodes.now None key }
 {
@@ -416,7 +416,7 @@ fn unnamed(nodes: &[NodeText], key: SweptKey) -> Result<Option<usize>, RangeFaul
     }
 }
 
-/// Whether a plan text may have a value at a key.
+/// True if a plan text may have a value at a key.
 fn takes(key: SweptKey, value: i64) -> bool
     ensures { result ≡ takes key value }
 {
@@ -430,7 +430,7 @@ fn takes(key: SweptKey, value: i64) -> bool
     }
 }
 
-/// The first of some steps by which there are fewer than twenty over a distance, and else the distance.
+/// Returns the first of some steps by which there are fewer than twenty over a distance, and else the distance.
 fn first_step(distance: u64, steps: &[u64]) -> u64
     ensures { result ≡ first_step distance steps.now }
 {
@@ -442,7 +442,7 @@ fn first_step(distance: u64, steps: &[u64]) -> u64
     distance
 }
 
-/// The step of a range over a distance.
+/// Returns the step of a range over a distance.
 fn step_of(distance: u64, step: Option<i64>) -> Result<u64, RangeFault>
     ensures { result ≡ step_of distance step }
 {
@@ -458,7 +458,7 @@ fn step_of(distance: u64, step: Option<i64>) -> Result<u64, RangeFault>
     }
 }
 
-/// A number, so much greater.
+/// Returns a number, greater by `by`.
 fn raised(low: i64, by: u64) -> i64
     requires low { unsigned_abs low < 2 ^ 48 }
     requires by { by < 2 ^ 62 }
@@ -467,7 +467,7 @@ fn raised(low: i64, by: u64) -> i64
     low + by as i64
 }
 
-/// The values from one on, so many steps further.
+/// Returns the values from one on, this many steps further.
 fn values_from(alloc: Global, low: i64, step: u64, steps: u64) -> Result<Listed<i64>, AllocError>
     requires low { unsigned_abs low < 2 ^ 48 }
     requires most { steps * step < 2 ^ 62 }
@@ -481,7 +481,7 @@ fn values_from(alloc: Global, low: i64, step: u64, steps: u64) -> Result<Listed<
     Ok(values)
 }
 
-/// The values from one on, so many steps further, if they aren't too many.
+/// Returns the values from one on, this many steps further, if they aren't too many.
 fn few_values(alloc: Global, low: i64, step: u64, steps: u64) -> Result<Listed<i64>, RangeFault>
     requires low { unsigned_abs low < 2 ^ 48 }
     requires most { steps * step < 2 ^ 62 }
@@ -494,7 +494,7 @@ fn few_values(alloc: Global, low: i64, step: u64, steps: u64) -> Result<Listed<i
     }
 }
 
-/// The values of a range, of those that the key may have.
+/// Returns the values of a range, of those that the key may have.
 fn values_of(alloc: Global, key: SweptKey, ends: Ends) -> Result<Listed<i64>, RangeFault>
     ensures { IsRead (values_of key ends) result }
 {
@@ -510,7 +510,7 @@ fn values_of(alloc: Global, key: SweptKey, ends: Ends) -> Result<Listed<i64>, Ra
     few_values(alloc, low, step, distance / step)
 }
 
-/// The key that is varied, and at which node.
+/// Returns the key that is varied, and at which node.
 fn swept_of(
     nodes: &[NodeText],
     name: Option<&str>,
@@ -527,7 +527,7 @@ fn swept_of(
     }
 }
 
-/// That of `NODE.KEY`, or of `KEY`.
+/// Returns that of `NODE.KEY`, or of `KEY`.
 fn swept_in(nodes: &[NodeText], called: &str) -> Result<(SweptKey, Option<usize>), RangeFault>
     ensures { result ≡ swept_in nodes.now (parted 46 called.now) called.now }
 {
@@ -537,11 +537,11 @@ fn swept_in(nodes: &[NodeText], called: &str) -> Result<(SweptKey, Option<usize>
     }
 }
 
-/// The range that a word means in a plan's text.
+/// Returns the range that a word means in a plan's text.
 ///
-/// The word is `[NODE.]KEY=A..B[:STEP]`: NODE the name of a node or its number from 0; KEY one of the numbers of the top table or of a node,
-/// or `every` or `count` of its frames; A and B whole numbers; STEP one above 0, the roundest that makes few rows where it is left out. Without NODE the key of a node is
-/// that of each node, but `x` that of the first of those that are farthest away.
+/// The word is `[NODE.]KEY=A..B[:STEP]`: NODE the name of a node or its number from 0; KEY one of the numbers of the top table or of a
+/// node, or `every` or `count` of its frames; A and B whole numbers; STEP one above 0, the roundest that makes few rows if it is left out.
+/// Without NODE the key of a node is that of each node, but `x` that of the first of those that are farthest away.
 ///
 /// The first of these faults: `Form`; `Key`; `Node`; `Absent`; `Bounds`; `Order`; `Step`; `Rows`. `Memory` may be answered at any point.
 pub fn read_range(alloc: Global, text: &PlanText, word: &str) -> Result<SweptRange, RangeFault>

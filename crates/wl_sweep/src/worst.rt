@@ -21,7 +21,7 @@ const BYTES: usize = 8;
 /// The bits that a frame takes at most, with stuff bits and intermission.
 const FRAME_BITS: u64 = 160;
 
-/// A data frame with edges ten bits apart, of this identifier, to be sent from this quantum on.
+/// Returns a data frame with edges ten bits apart, of this identifier, to be sent from this quantum on.
 fn worst_frame(alloc: Global, id: u32, ready: u64) -> Result<FrameText, AllocError>
     ensures { IfOk result (λ frame. frame ≡ worst_frame id ready) }
 {
@@ -38,7 +38,7 @@ fn worst_frame(alloc: Global, id: u32, ready: u64) -> Result<FrameText, AllocErr
     })
 }
 
-/// Whether a frame of a node has a base identifier.
+/// True if a frame of a node has a base identifier.
 fn has_id(id: u32, node: &NodeText) -> bool
     ensures { result ≡ has_id id node.now }
 {
@@ -50,7 +50,7 @@ fn has_id(id: u32, node: &NodeText) -> bool
     false
 }
 
-/// Whether a frame of some node has a base identifier.
+/// True if a frame of some node has a base identifier.
 fn some_have_id(id: u32, nodes: &[NodeText]) -> bool
     ensures { result ≡ some_have_id id nodes.now }
 {
@@ -62,7 +62,7 @@ fn some_have_id(id: u32, nodes: &[NodeText]) -> bool
     false
 }
 
-/// The greatest base identifier below one that no frame has; 0 if there is none.
+/// Returns the greatest base identifier below one that no frame has; 0 if there is none.
 fn free_id(nodes: &[NodeText], below: u32) -> u32
     ensures { result ≡ free_id nodes.now below }
 {
@@ -76,7 +76,7 @@ fn free_id(nodes: &[NodeText], below: u32) -> u32
     0
 }
 
-/// From which quantum on the last frame of a node may be sent.
+/// Returns from which quantum on the last frame of a node may be sent.
 fn last_ready(frames: &[FrameText]) -> u64
     ensures { result ≡ last_ready frames.now }
 {
@@ -87,14 +87,14 @@ fn last_ready(frames: &[FrameText]) -> u64
     ready
 }
 
-/// Whether a node has a frame to send.
+/// True if a node has a frame to send.
 fn sends(node: &NodeText) -> bool
     ensures { result ≡ sends node.now }
 {
     !node.frame.is_empty()
 }
 
-/// A node with a frame of this identifier more.
+/// Returns a node with a frame of this identifier more.
 fn with_frame(alloc: Global, node: &NodeText, id: u32) -> Result<NodeText, AllocError>
     ensures { IfOk result (λ n. n ≡ with_frame id node.now) }
 {
@@ -104,7 +104,7 @@ fn with_frame(alloc: Global, node: &NodeText, id: u32) -> Result<NodeText, Alloc
     Ok(copy)
 }
 
-/// The identifier of a node's new frame; the one before, if the node sends none.
+/// Returns the identifier of a node's new frame; the one before, if the node sends none.
 fn next_id(nodes: &[NodeText], node: &NodeText, below: u32) -> u32
     ensures { result ≡ next_id nodes.now below node.now }
 {
@@ -115,7 +115,7 @@ fn next_id(nodes: &[NodeText], node: &NodeText, below: u32) -> u32
     }
 }
 
-/// A node with a frame of this identifier more, if it sends any.
+/// Returns a node with a frame of this identifier more, if it sends any.
 fn next_frame(alloc: Global, node: &NodeText, id: u32) -> Result<NodeText, AllocError>
     ensures { IfOk result (λ n. n ≡ next_frame id node.now) }
 {
@@ -126,7 +126,7 @@ fn next_frame(alloc: Global, node: &NodeText, id: u32) -> Result<NodeText, Alloc
     }
 }
 
-/// Nodes, each that sends with a frame more.
+/// Returns nodes, in which each that sends has a frame more.
 fn add_frames(alloc: Global, nodes: &[NodeText]) -> Result<Listed<NodeText>, AllocError>
     ensures { IfOk result (λ all. all ≡ add_frames nodes.now IDS nodes.now) }
 {
@@ -139,7 +139,7 @@ fn add_frames(alloc: Global, nodes: &[NodeText]) -> Result<Listed<NodeText>, All
     Ok(all)
 }
 
-/// How many nodes have a frame to send.
+/// Returns how many nodes have a frame to send.
 fn sender_count(nodes: &[NodeText]) -> u64
     ensures { result ≡ sender_count nodes.now }
 {
@@ -152,7 +152,7 @@ fn sender_count(nodes: &[NodeText]) -> u64
     count
 }
 
-/// The ticks of the longest bit.
+/// Returns the ticks of the longest bit.
 fn longest_bit(nodes: &[NodeText]) -> u64
     ensures { result ≡ longest_bit nodes.now }
 {
@@ -163,7 +163,7 @@ fn longest_bit(nodes: &[NodeText]) -> u64
     most
 }
 
-/// The end of a plan with the new frames: later by 160 of the longest bits for each.
+/// Returns the end of a plan with the new frames: later by 160 of the longest bits for each.
 fn later_end(text: &PlanText) -> u64
     ensures { result ≡ later_end text.now }
 {

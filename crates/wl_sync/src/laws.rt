@@ -8,17 +8,17 @@ ghost use Rattle.wl_sync.specs.Running.{clock_after, sample_after};
 ghost use Rattle.wl_sync.specs.SampleLaws.{SampleLaws};
 ghost use Rattle.wl_sync.specs.Steps.{running_after, running_answer, running_beat, running_edge};
 
-/// Law: a bit's start is followed by a way to the sample as long as in a bit that nothing moved, but for SYNC_SEG where
-/// the edge that began the bit lies within that; a sample comes at the end of that way, and each other quantum takes one quantum off it at most.
+/// Law: after a bit's start the way to the sample is as long as in a bit that nothing moved. It is a quantum shorter if the edge that began
+/// the bit lies within SYNC_SEG. A sample comes at the end of that way, and each other quantum takes one quantum off it at most.
 pub fn the_sample_comes_near()
     ensures { SampleLaws }
 {}
 
 /// Law: what one more quantum does, by what the bit clock keeps.
 ///
-/// It is a function of this level, the level before, the last sample, whether the bus is idle to the node, whether it awaits a
-/// start of frame or drives dominant, and the bit's place, lengthening, shortening and whether it has synchronised. The level before is that of the
-/// last quantum, and the last sample that of the last quantum whose beat was a sample, in whatever bit.
+/// It is a function of this level, the level before, the last sample, and of what the node does: whether the bus is idle to it, it awaits a
+/// start of frame, or drives dominant. It also takes the bit's place, lengthening and shortening, and whether it has synchronised. The
+/// level before is that of the last quantum. The last sample is that of the last quantum whose beat was a sample, in whatever bit.
 pub fn clock_goes_on()
     ensures clock { (l : Lengths) (past : List Seen) (x : Seen)
         → clock_after l (past ++ x ∷ []) ≡ running_after (clock_after l past) x }

@@ -1,11 +1,10 @@
 //! The bit clock of a node: which quantum begins a bit, which one samples it, and how edges of the line move both.
 //!
-//! A bit is SYNC_SEG, PROP_SEG, PHASE_SEG1 and PHASE_SEG2, and is sampled after PHASE_SEG1. An edge from recessive to
-//! dominant synchronises the bit: where it may be a start of frame it begins a new bit (hard synchronisation), and otherwise
-//! it moves the sample or the end of the bit by the jump width at most (resynchronisation). Bosch CAN 2.0 part B, section 10;
-//! ISO 11898-1, bit timing. The line is looked at once a quantum, at the tick where the quantum begins: that is this
-//! project's profile. The segments have the rules: whether an edge lies in the quantum that finds it or in the one before, and
-//! where it may be a start of frame.
+//! A bit is SYNC_SEG, PROP_SEG, PHASE_SEG1 and PHASE_SEG2, and is sampled after PHASE_SEG1. An edge from recessive to dominant synchronises
+//! the bit (Bosch CAN 2.0 part B, section 10; ISO 11898-1, bit timing). If it may be a start of frame it begins a new bit: hard
+//! synchronisation. Otherwise it moves the sample or the end of the bit by the jump width at most: resynchronisation. The line is looked at
+//! once a quantum, at the tick where the quantum begins: that is this project's profile. The segments have the rules: whether an edge lies
+//! in the quantum that finds it or in the one before, and where it may be a start of frame.
 #![tactic(auto)]
 
 ghost use Rattle.std.specs.Prelude.{◌≡◌, ◌≢◌, ◌↔◌, ℕ, suc, ◌+◌, ◌-◌, ◌<◌, ◌≤◌, replicate, ◌==◌, ◌&&◌, true, false, List, [], ◌∷◌, ◌++◌, Some, MatchOption, if◌then◌else◌};
@@ -32,7 +31,7 @@ pub enum Beat {
 /// How a quantum synchronises its bit.
 #[derive(Clone, Copy, Debug, PartialEq, Eq)]
 pub enum Sync {
-    /// Hard synchronisation: the edge may be a start of frame, and the bit begins anew with the quantum in which the edge lies.
+    /// Hard synchronisation: the edge may be a start of frame, and the bit begins again with the quantum in which the edge lies.
     Hard,
     /// Resynchronisation at a phase error, in quanta: 0 at the start of the bit, positive before the sample, negative after it.
     Error(i8),
@@ -94,7 +93,8 @@ impl BitClock {
     ghost use Rattle.wl_sync.specs.Skips.{finds_edge, free_quanta, steady_clock, IsPlain, IsRestingBit, IsUnmoved, IsUnsampled};
     ghost use Rattle.wl_sync.specs.Steps.{IsBitClock, beat_between, end_of, is_by_the_book, is_sampled, longer_with, passed_edge, running_counts, running_due, running_edge, running_moved, running_on, running_passed, samples};
 
-    /// The bit clock before the first quantum: a bit begins with it, or where that finds an edge with the edge, and the line was recessive.
+    /// Returns the bit clock before the first quantum, on a line that was recessive. A bit begins with that quantum, or with the edge that
+    /// it finds.
     pub fn new(segments: Segments) -> BitClock
         ensures { result ≡ clock_after segments [] }
     {
@@ -114,13 +114,14 @@ impl BitClock {
         }
     }
 
-    /// One quantum: what it is in its bit, and how it synchronises the bit, if it does.
+    /// Runs one quantum, and returns what it is in its bit, and how it synchronises the bit, if it does.
     ///
-    /// `level` is the line's level at the quantum, `idle` that the bus is idle to the node, so that it is idle or in
-    /// suspend transmission, `awaits` that the next edge may be a start of frame to it, so that it is idle, suspended,
-    /// integrating, between the samples of the first and the third bit of an intermission, or has decided to send, and `driving`
-    /// that it drove dominant up to this quantum. The profile's rules synchronise hard with `idle`, those of the book with
-    /// `awaits` and without `driving`. After any list of quanta both answers, and what the clock keeps, are those of that list.
+    /// `level` is the line's level at the quantum. `idle`: the bus is idle to the node, so it is idle or in suspend transmission. `awaits`:
+    /// the next edge may be a start of frame to it. So it is idle, suspended or integrating, or has decided to send, or is between the
+    /// samples of the first and the third bit of an intermission. `driving`: it drove dominant up to this quantum.
+    ///
+    /// The profile's rules synchronise hard with `idle`, those of the book with `awaits` and without `driving`. After any list of quanta
+    /// both answers, and what the clock keeps, are those of that list.
     pub fn step(
         &mut self,
         level: Level,
@@ -140,11 +141,11 @@ impl BitClock {
         self.look(level, idle, awaits, driving)
     }
 
-    /// How many quanta come up to the sample of the running bit, that one too: from 1 to 21. None
-    /// before quantum 0, and from the sample up to the next bit's start.
+    /// Returns the number of quanta up to and including the sample of the current bit: from 1 to 21. `None` before quantum 0, and from the
+    /// sample up to the next bit's start.
     ///
-    /// It is the way from the last quantum's place in its bit to the place of the sample as edges have
-    /// moved it so far; an edge that comes later makes it longer.
+    /// It goes from the last quantum's place in its bit to the place of the sample, as edges have moved that so far. An edge that comes
+    /// later makes it longer.
     pub fn before_sample(&self) -> Option<u8>
         ensures { Follows self.now (λ l past. result ≡ before_sample l (bit_of l past)) }
     {
@@ -156,8 +157,8 @@ impl BitClock {
         }
     }
 
-    /// How many quanta of this level come before the next that samples or begins a bit; with `starts`, before the next
-    /// that samples one. 0 where the first of them finds an edge from recessive to dominant. From 0 to 24.
+    /// Returns how many quanta of this level come before the next that samples or begins a bit; with `starts`, before the next that samples
+    /// one. 0 if the first of them finds an edge from recessive to dominant. From 0 to 24.
     pub fn free_quanta(&self, level: Level, starts: bool) -> u8
         ensures { result ≡ free_quanta starts self.now level }
     {
@@ -179,8 +180,8 @@ impl BitClock {
         }
     }
 
-    /// The quanta of a bit, where as many recessive ones would leave what the clock keeps as it is: the last of them samples the bit, and
-    /// nothing else comes of them. So it is right behind the recessive sample of a bit that nothing moved; None elsewhere.
+    /// Returns the quanta of a bit, if that number of recessive ones would leave what the clock keeps as it is: the last of them samples
+    /// the bit, and nothing else happens. So it is right after the recessive sample of a bit that nothing moved; `None` elsewhere.
     pub fn resting_bit(&self) -> Option<u8>
         ensures steady { MatchOption result (self.now ≢ steady_clock self.now.lengths)
             (λ n. (self.now ≡ steady_clock self.now.lengths) × (n ≡ bit_quanta self.now.lengths)) }
@@ -195,7 +196,7 @@ impl BitClock {
         }
     }
 
-    /// The last quantum was the recessive sample of a bit that nothing moved.
+    /// True if the last quantum was the recessive sample of a bit that nothing moved.
     fn is_steady(&self) -> bool
         ensures { result ≡ true ↔ self.now ≡ steady_clock self.now.lengths }
     {
@@ -207,8 +208,8 @@ impl BitClock {
             && !self.sample.is_dominant()
     }
 
-    /// So many quanta of this level at once: no more than [`BitClock::free_quanta`] says with `starts`, so that none of them is a sample,
-    /// and no edge synchronises. What the clock keeps is what it keeps after as many steps. Where they are no more than
+    /// Runs this many quanta of this level at once. There are no more than [`BitClock::free_quanta`] says with `starts`, so none of them is
+    /// a sample, and no edge synchronises. What the clock keeps is what it keeps after the same number of steps. If there are no more than
     /// [`BitClock::free_quanta`] says without `starts`, none begins a bit.
     pub fn skip(&mut self, level: Level, quanta: u8)
         requires some { 0 < quanta }
@@ -231,7 +232,7 @@ impl BitClock {
         self.level = level;
     }
 
-    /// The quanta of the bit as it was moved.
+    /// Returns the quanta of the bit as it was moved.
     fn end_at(&self) -> u8
         ensures end { result ≡ end_of self.now }
         ensures clock { IsBitClock self.now }
@@ -239,7 +240,7 @@ impl BitClock {
         self.bit_quanta() + self.longer - self.shorter
     }
 
-    /// The place of the sample in a bit that nothing moved.
+    /// Returns the place of the sample in a bit that nothing moved.
     fn sample_at(&self) -> u8
         ensures place { result ≡ sample_at self.now.lengths }
         ensures lengths { AreLengths self.now.lengths }
@@ -247,7 +248,7 @@ impl BitClock {
         self.segments.sample_at() as u8
     }
 
-    /// The quanta of a bit that nothing moved.
+    /// Returns the quanta of a bit that nothing moved.
     fn bit_quanta(&self) -> u8
         ensures quanta { result ≡ bit_quanta self.now.lengths }
         ensures lengths { AreLengths self.now.lengths }
@@ -255,7 +256,7 @@ impl BitClock {
         self.segments.bit_quanta() as u8
     }
 
-    /// The jump width.
+    /// Returns the jump width.
     fn jump(&self) -> u8
         ensures jump { result ≡ self.now.lengths.sjw }
         ensures lengths { AreLengths self.now.lengths }
@@ -263,14 +264,14 @@ impl BitClock {
         self.segments.sjw() as u8
     }
 
-    /// The place, in the bit that an edge begins, of the quantum that finds the edge.
+    /// Returns the place, in the bit that an edge begins, of the quantum that finds the edge.
     fn found_at(&self) -> u8
         ensures { result ≡ found_at self.now.lengths }
     {
         self.segments.found_at() as u8
     }
 
-    /// The quantum finds no edge, and comes in the running bit, which has begun.
+    /// True if the quantum finds no edge, and comes in the running bit, which has begun.
     fn goes_on(&self, level: Level) -> bool
         ensures edge { result ≡ true → finds_edge self.now level ≡ false }
         ensures begun { result ≡ true → 0 < self.now.quanta }
@@ -281,7 +282,7 @@ impl BitClock {
         !finds_edge && 0 < self.quanta && self.quanta < self.end_at()
     }
 
-    /// Such a quantum: it samples the bit, or does nothing.
+    /// Runs such a quantum: it samples the bit, or does nothing.
     fn go_on(&mut self, level: Level) -> Beat
         requires begun { 0 < self.old.quanta }
         requires inside { self.old.quanta < end_of self.old }
@@ -292,7 +293,7 @@ impl BitClock {
         self.count(level, is_sampled)
     }
 
-    /// One quantum that may find an edge, or begin a bit.
+    /// Runs one quantum that may find an edge, or begin a bit.
     fn look(
         &mut self,
         level: Level,
@@ -326,7 +327,7 @@ impl BitClock {
         }
     }
 
-    /// Begins a new bit where the running one is over.
+    /// Begins a new bit if the running one is over.
     fn begin_due(&mut self)
         ensures due { self.new ≡ running_due self.old }
         ensures room { self.new.quanta + self.new.shorter < bit_quanta self.new.lengths + self.new.longer }
@@ -339,7 +340,7 @@ impl BitClock {
         }
     }
 
-    /// The node synchronises hard: on an idle bus, or by the book wherever the next edge may be a start of frame, up to its own.
+    /// True if the node synchronises hard: on an idle bus, or by the book wherever the next edge may be a start of frame, up to its own.
     fn is_hard_edge(&self, idle: bool, awaits: bool, driving: bool) -> bool
         ensures { (level : Level) → result ≡ is_hard_edge self.now.lengths.sync (seen_as level idle awaits driving) }
     {
@@ -349,7 +350,7 @@ impl BitClock {
         }
     }
 
-    /// The quantum looks for an edge.
+    /// True if the quantum looks for an edge.
     fn looks(&self) -> bool
         ensures { result ≡ looks self.now.lengths.sync (sample_at self.now.lengths) self.now.quanta }
     {
@@ -359,7 +360,7 @@ impl BitClock {
         }
     }
 
-    /// The edge that is seen now counts.
+    /// True if the edge that is seen now counts.
     fn is_sync(&self, level: Level, hard: bool, driving: bool) -> bool
         ensures { result ≡ running_counts self.now level hard driving }
     {
@@ -372,7 +373,7 @@ impl BitClock {
             && !self.synced
     }
 
-    /// How an edge that counts synchronises the bit.
+    /// Returns how an edge that counts synchronises the bit.
     fn sync(&self, hard: bool) -> Sync
         ensures { result ≡ (if hard then Sync.Hard else Sync.Error (phase_error self.now.lengths self.now.quanta)) }
     {
@@ -387,7 +388,7 @@ impl BitClock {
         }
     }
 
-    /// The edge counts, and begins the bit anew.
+    /// True if the edge counts, and begins the bit again.
     fn is_restart(&self, counts: bool, hard: bool) -> bool
         ensures restart { result ≡ (counts && restarts_at self.now.lengths hard self.now.quanta) }
         ensures stays { counts ≡ true → result ≡ false → sample_at self.now.lengths < self.now.quanta
@@ -398,7 +399,7 @@ impl BitClock {
         counts && (hard || is_near_end)
     }
 
-    /// Puts the quantum into its bit.
+    /// Puts the quantum into its bit, and returns what it is there.
     fn place(&mut self, level: Level, counts: bool, restarts: bool) -> Beat
         requires room { self.old.lengths.sync ≡ SyncRules.After
             → self.old.quanta + self.old.shorter < bit_quanta self.old.lengths + self.old.longer }
@@ -418,7 +419,7 @@ impl BitClock {
         self.count(level, is_sampled)
     }
 
-    /// Begins a new bit where an edge lies in the quantum before and the running one is over, by that edge too.
+    /// Begins a new bit, by the edge too, if an edge lies in the quantum before and the running bit is over.
     fn reach_quantum(&mut self)
         requires room { self.old.lengths.sync ≡ SyncRules.After
             → self.old.quanta + self.old.shorter < bit_quanta self.old.lengths + self.old.longer }
@@ -431,7 +432,7 @@ impl BitClock {
         }
     }
 
-    /// Begins a bit anew with the quantum in which the edge lies.
+    /// Begins a bit again with the quantum in which the edge lies.
     fn restart(&mut self, level: Level)
         ensures { self.new ≡ record self.old {
           quanta = suc (found_at self.old.lengths);
@@ -466,7 +467,7 @@ impl BitClock {
         self.quanta == self.sample_at() + self.longer
     }
 
-    /// Moves the sample or the end of a bit that nothing moved yet: the sample also where this quantum would be it.
+    /// Moves the sample or the end of a bit that nothing moved yet; the sample also if this quantum would be it.
     fn synchronise(&mut self)
         requires fresh { self.old.synced ≡ false }
         requires stays { sample_at self.old.lengths < self.old.quanta
@@ -521,8 +522,8 @@ mod tests {
     use super::*;
     use std::test::Fail;
 
-    /// The way to the sample of a bit of 1 + 3 + 3 + 3 quanta on a line that goes dominant at quantum 5, which
-    /// moves the sample from place 7 to 9 and the end to 12.
+    /// A bit of 1 + 3 + 3 + 3 quanta, on a line that goes dominant at quantum 5: the way to the sample. That moves the sample from place 7
+    /// to 9 and the end to 12.
     #[test]
     fn ways_to_the_sample(rt: HostRuntime) -> Result<(), Fail> {
         let mut clock = BitClock::new(Segments::new(3, 3, 3, 2)?);

@@ -52,7 +52,7 @@ pub const MOST_NODES: usize = 16;
 /// The longest propagation delay between two nodes, in ticks: this project's profile.
 pub const LONGEST_DELAY: u64 = 1_048_576;
 
-/// The delay, in ticks, of what comes to no node: longer than any plan lasts. It is 2^37.
+/// The delay, in ticks, of what arrives at no node: longer than any plan lasts. It is 2^37.
 pub const NEVER: u64 = 137_438_953_472;
 
 /// The places of the nodes of a bus, and the ticks that a level takes along one unit of length.
@@ -88,7 +88,7 @@ impl PartialEq for Topology {
 
     ghost laws = { same_cable_partial };
 
-    /// The same places in the same order, and the same ticks a unit of length.
+    /// True if both have the same places in the same order, and the same ticks a unit of length.
     fn eq(&self, other: &Topology) -> bool
         ensures value { result ≡ same_cable self.now other.now }
         ensures same { IsTrue result ↔ (self.now ≡ other.now) }
@@ -129,10 +129,11 @@ const NOWHERE: Place = Place {
 };
 
 impl Topology {
-    /// The topology of nodes at these places, node `i` at place `i`, on a cable along which a level takes `per` ticks a unit of length.
+    /// Returns the topology of nodes at these places, node `i` at place `i`, on a cable along which a level takes `per` ticks a unit of
+    /// length.
     ///
-    /// A level takes 1 to 1,048,576 ticks along the cable from node to node, and back to the node that drives it too. So it is asked of
-    /// nodes that only listen, too. Where several refusals apply, the answer is the first of `TopologyFault`.
+    /// A level takes 1 to 1,048,576 ticks along the cable from node to node, and back to the node that drives it too. That is asked of
+    /// nodes that only listen as well. If several refusals apply, the answer is the first of `TopologyFault`.
     pub fn new(places: &[Place], per: u64) -> Result<Topology, TopologyFault>
         ensures { result ≡ topology_of places.now per }
     {
@@ -155,7 +156,7 @@ impl Topology {
         })
     }
 
-    /// How many nodes there are: 1 to 16.
+    /// Returns how many nodes there are: 1 to 16.
     pub fn nodes(&self) -> u8
         ensures count { result ≡ length self.now.places }
         ensures topology { IsTopology self.now }
@@ -163,8 +164,8 @@ impl Topology {
         self.nodes
     }
 
-    /// The propagation delay from node `i` to node `j`, in ticks: 1 to 1,048,576. It is `out_delay` of `i`, then the distance times the ticks a
-    /// unit of length, then `in_delay` of `j` (this project's profile).
+    /// Returns the propagation delay from node `i` to node `j`, in ticks: 1 to 1,048,576. It is `out_delay` of `i`, then the distance times
+    /// the ticks a unit of length, then `in_delay` of `j` (this project's profile).
     pub fn propagation(&self, i: u8, j: u8) -> u64
         requires from { i < length self.now.places }
         requires to { j < length self.now.places }
@@ -178,8 +179,8 @@ impl Topology {
         from.out_delay + from.x.abs_diff(to.x) as u64 * self.per + to.in_delay
     }
 
-    /// How many ticks it takes until node `j` finds what node `i` drives: the propagation delay, and `NEVER` from a node that only listens to
-    /// another one.
+    /// Returns how many ticks it takes until node `j` finds what node `i` drives: the propagation delay, or `NEVER` from a node that only
+    /// listens to another one.
     pub fn delay(&self, i: u8, j: u8) -> u64
         requires from { i < length self.now.places }
         requires to { j < length self.now.places }
@@ -195,7 +196,7 @@ impl Topology {
         }
     }
 
-    /// The least delay of all pairs of nodes, in ticks. A node's own delay counts.
+    /// Returns the least delay of all pairs of nodes, in ticks. A node's own delay counts.
     pub fn least_delay(&self) -> u64
         ensures least { IsLeastDelay self.now result }
         ensures topology { IsTopology self.now }
@@ -208,8 +209,8 @@ impl Topology {
         least
     }
 
-    /// How many ticks a disturbance at `x` takes to node `j`: the way along the cable and `in_delay` of `j`. It may be 0, and it may be more
-    /// than any delay between nodes.
+    /// Returns how many ticks a disturbance at `x` takes to node `j`: the way along the cable and `in_delay` of `j`. It may be 0, and it
+    /// may be more than any delay between nodes.
     pub fn place_delay(&self, x: u32, j: u8) -> u128
         requires { j < length self.now.places }
         ensures ticks { result ≡ disturbance_delay self.now x j }
@@ -219,7 +220,8 @@ impl Topology {
         x.abs_diff(to.x) as u128 * self.per as u128 + to.in_delay as u128
     }
 
-    /// How many ticks a disturbance that is at node `n` alone takes to node `j`: `in_delay` of that node, and `NEVER` to another one.
+    /// Returns how many ticks a disturbance that is at node `n` alone takes to node `j`: `in_delay` of that node, or `NEVER` to another
+    /// one.
     pub fn local_delay(&self, n: u8, j: u8) -> u64
         requires { j < length self.now.places }
         ensures { result ≡ local_delay self.now n j }
@@ -231,14 +233,14 @@ impl Topology {
         }
     }
 
-    /// The places of the nodes, in order.
+    /// Returns the places of the nodes, in order.
     fn places(&self) -> &[Place]
         ensures { result.now ≡ self.now.places }
     {
         &self.places[..self.nodes as usize]
     }
 
-    /// The least delay from node `i`.
+    /// Returns the least delay from node `i`.
     fn least_from(&self, i: u8) -> u64
         requires { i < length self.now.places }
         ensures least { IsLeastFrom self.now i (length self.now.places) result }
@@ -252,14 +254,14 @@ impl Topology {
     }
 }
 
-/// How many ticks a level takes from one place to another.
+/// Returns how many ticks a level takes from one place to another.
 fn delay_between(per: u64, from: Place, to: Place) -> u128
     ensures { result ≡ delay_between per from to }
 {
     from.out_delay as u128 + from.x.abs_diff(to.x) as u128 * per as u128 + to.in_delay as u128
 }
 
-/// The first place, by number, to which place `i` has a delay with this flaw.
+/// Returns the first place, by number, to which place `i` has a delay with this flaw.
 fn first_from(places: &[Place], per: u64, i: usize, flaw: Flaw) -> Option<usize>
     requires { i < length places.now }
     ensures first { option_map (λ j. (i, j)) result ≡ first_flaw flaw places.now per (row i (length places.now)) }
@@ -273,7 +275,7 @@ fn first_from(places: &[Place], per: u64, i: usize, flaw: Flaw) -> Option<usize>
     None
 }
 
-/// The first pair of places, by the first and then by the second, whose delay has this flaw.
+/// Returns the first pair of places, by the first and then by the second, whose delay has this flaw.
 fn first_pair(places: &[Place], per: u64, flaw: Flaw) -> Option<(usize, usize)>
     ensures first { result ≡ first_flaw flaw places.now per (pairs (record { places = places.now; per = per })) }
     ensures within { IfSome result (λ p. (p.0 < length places.now) × (p.1 < length places.now)) }
@@ -286,7 +288,7 @@ fn first_pair(places: &[Place], per: u64, flaw: Flaw) -> Option<(usize, usize)>
     None
 }
 
-/// The places in an array, with nowhere after them.
+/// Returns the places in an array, with places that are nowhere after them.
 fn stored(places: &[Place]) -> [Place; MOST_NODES]
     requires { length places.now ≤ most_places }
     ensures { result ≡ padded_places places.now }

@@ -29,8 +29,8 @@ pub(crate) struct Controller {
     pub(crate) sent: usize,
 }
 
-/// The frame that is handed to the machine with a sample of this level: the first unsent one, if it is ready; with a dominant sample
-/// by the book alone, where it may be its start of frame (Bosch CAN 2.0 part B, section 3.2.5).
+/// Returns the frame that is handed to the machine with a sample of this level: the first unsent one, if it is ready. By the book alone it
+/// is handed with a dominant sample too, which may be its start of frame (Bosch CAN 2.0 part B, section 3.2.5).
 pub(crate) fn head_at(setup: &NodeSetup, sent: usize, quantum: u64, level: Level) -> Option<&Frame>
     ensures { option_copied result ≡ head_at setup.now sent quantum level }
 {
@@ -43,7 +43,7 @@ pub(crate) fn head_at(setup: &NodeSetup, sent: usize, quantum: u64, level: Level
     }
 }
 
-/// How many frames are sent with a sample that completed this.
+/// Returns how many frames are sent with a sample that completed this.
 fn sent_with(done: Done) -> usize
     ensures count { (quantum : ℕ) (ended : Ended) → done ≡ done_of ended
         → result ≡ count_by is_sent (passed_frames quantum ended) }
@@ -55,7 +55,7 @@ fn sent_with(done: Done) -> usize
     }
 }
 
-/// Whether a node goes off the bus, of which the mode was one and is another.
+/// True if the mode turned to bus off with this sample.
 pub(crate) fn goes_off(before: Mode, after: Mode) -> bool
     ensures { switched_off before after ≡ (if result then SwitchedOff ∷ [] else []) }
 {
@@ -67,7 +67,7 @@ pub(crate) fn goes_off(before: Mode, after: Mode) -> bool
 }
 
 impl Controller {
-    /// Before the first sample.
+    /// Returns what is kept before the first sample.
     pub(crate) fn new() -> Controller
         ensures past { IsController result no_past }
         ensures sent { result.sent ≡ 0 }
@@ -80,7 +80,7 @@ impl Controller {
         }
     }
 
-    /// A sample of this level, where this frame is to be sent next: what it did.
+    /// Takes a sample of this level, with this frame to be sent next, and returns what it did.
     pub(crate) fn sample(&mut self, level: Level, head: Option<&Frame>) -> Turn
         ensures past { (setup : NodeSetup) (p : SampledPast) (quantum : ℕ)
             → option_copied head.entry ≡ head_then setup p quantum level → self.old.sent < 2 ^ 64 - 1
@@ -104,7 +104,7 @@ impl Controller {
         turn
     }
 
-    /// Takes the machine off the bus where a sample made the mode bus off.
+    /// Takes the machine off the bus if a sample made the mode bus off.
     fn switch_off(&mut self, before: Mode, after: Mode)
         ensures machine { (past : List Input) → IsMachine self.old.machine past
             → IsMachine self.new.machine (past ++ switched_off before after) }

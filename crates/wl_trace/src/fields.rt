@@ -24,7 +24,7 @@ const HEADER: usize = 19;
 
 const EXTENDED_HEADER: usize = 39;
 
-/// The bit of a field of which this is the first place.
+/// Returns the bit of a field whose first place is this.
 fn place_from(field: FrameField, first: usize, k: usize) -> Place
     requires { first ≤ k }
     ensures { result ≡ record { field = field; bit = k - first } }
@@ -35,7 +35,7 @@ fn place_from(field: FrameField, first: usize, k: usize) -> Place
     }
 }
 
-/// Bit `k` of the header of a base frame.
+/// Returns bit `k` of the header of a base frame.
 fn base_place(k: usize) -> Place
     ensures { result ≡ base_place k }
 {
@@ -49,7 +49,7 @@ fn base_place(k: usize) -> Place
     }
 }
 
-/// Bit `k` of the header of an extended frame.
+/// Returns bit `k` of the header of an extended frame.
 fn extended_place(k: usize) -> Place
     ensures { result ≡ extended_place k }
 {
@@ -66,7 +66,7 @@ fn extended_place(k: usize) -> Place
     }
 }
 
-/// Bit `k` of the header of a frame of this format.
+/// Returns bit `k` of the header of a frame of this format.
 fn header_place(extended: bool, k: usize) -> Place
     ensures { result ≡ header_place extended k }
 {
@@ -77,14 +77,14 @@ fn header_place(extended: bool, k: usize) -> Place
     }
 }
 
-/// The IDE bit is there and recessive.
+/// True if the IDE bit is there and recessive.
 fn is_extended(bits: &[Level]) -> bool
     ensures { result ≡ is_extended bits.now }
 {
     rtr_place(bits) == EXTENDED_RTR
 }
 
-/// The bit as a number.
+/// Returns the bit as a number.
 fn value_at(bits: &[Level], k: usize) -> usize
     ensures value { result ≡ cond (is_dominant (at bits.now k)) 0 1 }
     ensures most { result ≤ 1 }
@@ -96,7 +96,7 @@ fn value_at(bits: &[Level], k: usize) -> usize
     }
 }
 
-/// How many bits the header has.
+/// Returns how many bits the header has.
 fn header_length(extended: bool) -> usize
     ensures value { result ≡ width_of (fields_of extended) }
     ensures least { 19 ≤ result }
@@ -105,7 +105,7 @@ fn header_length(extended: bool) -> usize
     if extended { EXTENDED_HEADER } else { HEADER }
 }
 
-/// The RTR bit is recessive.
+/// True if the RTR bit is recessive.
 #[tactic(auto, using(crate::proofs::Read::remote_read))]
 fn is_remote(bits: &[Level], extended: bool) -> bool
     requires { width_of (fields_of extended) ≤ length bits.now }
@@ -115,7 +115,7 @@ fn is_remote(bits: &[Level], extended: bool) -> bool
     !level_at(bits, place).is_dominant()
 }
 
-/// The data length code, the last four bits of the header.
+/// Returns the data length code, the last four bits of the header.
 fn data_length_code(bits: &[Level], extended: bool) -> usize
     requires { width_of (fields_of extended) ≤ length bits.now }
     ensures value { result ≡ value_in DataLengthCode extended bits.now }
@@ -127,7 +127,7 @@ fn data_length_code(bits: &[Level], extended: bool) -> usize
     4 * high + low
 }
 
-/// How many bytes a frame has whose header is there.
+/// Returns how many bytes a frame has whose header is there.
 fn byte_count(bits: &[Level], extended: bool) -> usize
     requires { width_of (fields_of extended) ≤ length bits.now }
     ensures bytes { result ≡ (layout_by extended bits.now).bytes }
@@ -140,7 +140,7 @@ fn byte_count(bits: &[Level], extended: bool) -> usize
     }
 }
 
-/// Bit `k` of a frame that begins so, whose header is there if the bit is after it.
+/// Returns bit `k` of a frame that begins so, whose header is there if the bit is after it.
 pub(crate) fn frame_place(bits: &[Level], k: usize) -> Place
     requires { (layout_of bits.now).header ≤ k → (layout_of bits.now).header ≤ length bits.now }
     ensures { result ≡ frame_place bits.now k }
@@ -158,7 +158,7 @@ pub(crate) fn frame_place(bits: &[Level], k: usize) -> Place
     }
 }
 
-/// Bit `n` of those after all that is stuffed.
+/// Returns bit `n` of those after all that is stuffed.
 pub(crate) fn tail_place(n: usize) -> Place
     ensures { result ≡ tail_place n }
 {

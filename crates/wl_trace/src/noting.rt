@@ -28,7 +28,7 @@ pub(crate) struct Notes {
 impl Notes {
     ghost use Rattle.wl_trace.specs.Notes.{Adds};
 
-    /// One event more.
+    /// Adds an event.
     fn push(&mut self, event: Event) -> Result<(), AllocError>
         ensures { OnOk result (Adds self.old self.new (event ∷ [])) }
     {
@@ -40,7 +40,7 @@ impl Notes {
         Ok(())
     }
 
-    /// That the arbitration is lost.
+    /// Notes that the arbitration is lost.
     fn push_lost(&mut self, stretch: &RunningStretch, level: Level) -> Result<(), AllocError>
         ensures { (s : Stretch) → KeepsStretch stretch.now s
             → OnOk result (Adds self.old self.new (lost_events s level)) }
@@ -51,7 +51,7 @@ impl Notes {
         Ok(())
     }
 
-    /// An error of this kind.
+    /// Notes an error of this kind.
     fn push_error_of(
         &mut self,
         stretch: &RunningStretch,
@@ -69,7 +69,7 @@ impl Notes {
         })
     }
 
-    /// The error that was found.
+    /// Notes the error that was found.
     fn push_error(&mut self, stretch: &RunningStretch, happened: Happened) -> Result<(), AllocError>
         ensures { (s : Stretch) → KeepsStretch stretch.now s
             → OnOk result (Adds self.old self.new (error_events s happened)) }
@@ -82,7 +82,7 @@ impl Notes {
         }
     }
 
-    /// The flag that begins, in this mode.
+    /// Notes the flag that begins, in this mode.
     fn push_flag(&mut self, mode: Mode, next: NextStretch) -> Result<(), AllocError>
         ensures { (level : Level) (begun : Option Stretch) → ComesNext level next begun
             → OnOk result (Adds self.old self.new (flag_events mode begun)) }
@@ -110,7 +110,7 @@ impl Notes {
         }
     }
 
-    /// The frame that was completed.
+    /// Notes the frame that was completed.
     fn push_frame(&mut self, stretch: &RunningStretch, done: Done) -> Result<(), AllocError>
         ensures { (s : Stretch) (ended : Ended) → KeepsStretch stretch.now s → done ≡ done_of ended
             → ((frame : Content) → ended ≡ SentFrame frame → head_of s.sort ≡ Some frame)
@@ -126,7 +126,7 @@ impl Notes {
         }
     }
 
-    /// The mode, where it is another than before.
+    /// Notes the mode, if it is another than before.
     fn push_mode(&mut self, old: Counters, new: Counters) -> Result<(), AllocError>
         ensures { OnOk result (Adds self.old self.new (mode_events old new)) }
     {
@@ -136,7 +136,7 @@ impl Notes {
         self.push(Event::ModeChanged(new))
     }
 
-    /// All that a sample of this level did: what happened and was completed, what comes next, and the counters before and after it.
+    /// Notes all that a sample of this level did: what happened and was completed, what comes next, and the counters before and after it.
     pub(crate) fn push_sample(
         &mut self,
         stretch: &RunningStretch,

@@ -26,7 +26,7 @@ pub(crate) struct Replay {
 }
 
 impl Replay {
-    /// Before the first sample.
+    /// Returns what is kept before the first sample.
     pub(crate) fn new(alloc: Global) -> Replay
         ensures past { IsReplay result no_past }
         ensures sent { result.controller.sent ≡ 0 }
@@ -37,7 +37,7 @@ impl Replay {
         }
     }
 
-    /// The sample at which `notes` stands, of this level.
+    /// Takes the sample at which `notes` is, of this level.
     pub(crate) fn sample(
         &mut self,
         setup: &NodeSetup,
@@ -72,7 +72,7 @@ impl Replay {
         Ok(())
     }
 
-    /// Ends the stretch where a sample made the mode bus off.
+    /// Ends the stretch if a sample made the mode bus off.
     fn switch_off(&mut self, before: Mode, after: Mode)
         ensures stretch { (past : List Input) → KeepsStretch self.old.stretch (stretch_of past)
             → KeepsStretch self.new.stretch (stretch_of (past ++ switched_off before after)) }
@@ -84,7 +84,7 @@ impl Replay {
     }
 }
 
-/// The events of a node of this setup, from its samples, each with its quantum. Refused only where memory runs out.
+/// Returns the events of a node of this setup, from its samples, each with its quantum. Refused only if memory runs out.
 pub fn node_events(
     alloc: Global,
     setup: &NodeSetup,

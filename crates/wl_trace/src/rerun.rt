@@ -31,7 +31,7 @@ pub struct Rerun {
     pub(crate) started: bool,
 }
 
-/// The event of an edge.
+/// Returns the event of an edge.
 fn sync_event(sync: Sync) -> Event
     ensures { result ≡ sync_event sync }
 {
@@ -41,7 +41,7 @@ fn sync_event(sync: Sync) -> Event
     }
 }
 
-/// How an edge that this quantum finds synchronises the node, after so many samples.
+/// Returns how an edge that this quantum finds synchronises the node, after this many samples.
 fn noted_sync(quantum: u64, bit: u64, sync: Option<Sync>) -> Option<Noted>
     ensures { result ≡ option_map (λ s. noted quantum bit (sync_event s)) sync }
 {
@@ -56,7 +56,7 @@ fn noted_sync(quantum: u64, bit: u64, sync: Option<Sync>) -> Option<Noted>
 }
 
 impl Rerun {
-    /// A node of these segments before its first quantum: it drives recessive.
+    /// Returns a node of these segments before its first quantum: it drives recessive.
     pub fn new(segments: Segments) -> Rerun
         ensures { (setup : NodeSetup) → setup.segments ≡ segments → IsRerun setup [] result }
     {
@@ -70,7 +70,7 @@ impl Rerun {
         }
     }
 
-    /// What a waveform shows of it after the quanta that it has seen.
+    /// Returns what a waveform shows of it after the quanta that it has seen.
     pub fn shown(&self) -> Shown
         ensures { (setup : NodeSetup) (levels : List Level) → IsRerun setup levels self.now
             → result ≡ shown_of setup levels }
@@ -89,8 +89,8 @@ impl Rerun {
         }
     }
 
-    /// Its next quantum, which has this number, counted from 0, and at which it sees this level; `setup` is what it was made of. How an
-    /// edge synchronises it then, if one does: hard, or with a phase error in quanta (Bosch CAN 2.0 part B, section 10).
+    /// Runs its next quantum, which has this number, counted from 0, and at which it sees this level; `setup` is what it was made of.
+    /// Returns how an edge synchronises it then, if one does: hard, or with a phase error in quanta (Bosch CAN 2.0 part B, section 10).
     pub fn quantum(&mut self, setup: &NodeSetup, quantum: u64, level: Level) -> Option<Noted>
         requires few { quantum < 2 ^ 64 - 1 }
         ensures sync { (levels : List Level) → length levels ≡ quantum
@@ -108,7 +108,7 @@ impl Rerun {
         noted_sync(quantum, bit, sync)
     }
 
-    /// What the quantum of this number does by its beat, where it is of this level.
+    /// Does what the quantum of this number does by its beat, if it is of this level.
     fn obey(&mut self, setup: &NodeSetup, quantum: u64, level: Level, beat: Beat)
         ensures run { (h : History) (starts : ℕ) → quantum ≡ length h.seen
             → self.old.controller.sent < 2 ^ 64 - 1 → self.old.bits < 2 ^ 64 - 1 → RunsTo self.old h starts
@@ -132,8 +132,8 @@ impl Rerun {
         }
     }
 
-    /// Goes over quanta of this level that neither sample nor begin a bit, so that nothing shown changes and no edge synchronises: as many as come, 24
-    /// at the most, and no more than `most`. Answers how many they were; 0 where the next one samples or begins a bit, or finds an edge.
+    /// Goes over quanta of this level that neither sample nor begin a bit, so that nothing shown changes and no edge synchronises: all that
+    /// come, but at most 24, and at most `most`. Returns how many they were; 0 if the next one samples or begins a bit, or finds an edge.
     pub fn pass(&mut self, level: Level, most: u64) -> u64
         ensures quanta { (setup : NodeSetup) (levels : List Level) → IsRerun setup levels self.old
             → result ≡ min most (plain_quanta setup levels level) }

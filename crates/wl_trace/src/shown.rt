@@ -12,7 +12,7 @@ pub struct NodeState {
     pub rec: u64,
     /// The mode that they give.
     pub mode: Mode,
-    /// What it does.
+    /// Returns what it does.
     pub doing: Doing,
 }
 

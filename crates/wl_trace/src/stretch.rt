@@ -28,10 +28,10 @@ use wl_frame::frame::Frame;
 use wl_frame::places::{is_arbitration, is_whole};
 use wl_level::Level;
 
-/// After so many equal bits a stuff bit is due.
+/// After this many equal bits a stuff bit is due.
 const STUFF_RUN: usize = 5;
 
-/// After so many recessive samples in a row an integration is over.
+/// After this many recessive samples in a row an integration is over.
 const INTEGRATION_RUN: usize = 11;
 
 /// How many equal samples in a row end a passive flag, and how many samples a dominant one.
@@ -54,7 +54,7 @@ const LAST: usize = 9;
 pub(crate) enum StretchKind {
     Integration,
     Idle,
-    /// A frame: the one that is sent, if there is one, and where all that is stuffed ends.
+    /// A frame: the one that is sent, if there is one, and the place at which all that is stuffed ends.
     Framing {
         head: Option<Frame>,
         sends: bool,
@@ -97,7 +97,7 @@ pub(crate) struct RunningStretch {
     pub(crate) bits: Vec<Level>,
 }
 
-/// A stretch that begins with the next sample.
+/// Returns a stretch that begins with the next sample.
 fn begins(kind: StretchKind) -> NextStretch
     ensures { result ≡ NextStretch.Begins kind false }
 {
@@ -107,7 +107,7 @@ fn begins(kind: StretchKind) -> NextStretch
     }
 }
 
-/// A frame that another node begins with this sample.
+/// Returns a frame that another node begins with this sample.
 fn received() -> NextStretch
     ensures { (level : Level) → ComesNext level result (Some (stretch_by (FramingSort None) (level ∷ []))) }
 {
@@ -121,7 +121,7 @@ fn received() -> NextStretch
     }
 }
 
-/// A frame begins with this sample: that of the head, if there is one, and else that of another node.
+/// Returns the stretch of a frame that begins with this sample: that of the head, if there is one, and else that of another node.
 fn framed(head: Option<&Frame>) -> NextStretch
     ensures { (level : Level)
         → ComesNext level result (Some (stretch_by (FramingSort (option_copied head.entry)) (level ∷ []))) }
@@ -139,7 +139,7 @@ fn framed(head: Option<&Frame>) -> NextStretch
     }
 }
 
-/// The bus is free: the head is sent from its start of frame on, if there is one.
+/// Returns what comes on a free bus: the head is sent from its start of frame on, if there is one.
 fn free(head: Option<&Frame>) -> NextStretch
     ensures { (level : Level) → ComesNext level result (Some (stretch_by (free (option_copied head.entry)) [])) }
 {
@@ -153,7 +153,7 @@ fn free(head: Option<&Frame>) -> NextStretch
     }
 }
 
-/// How many samples of a level are at the end of a list.
+/// Returns how many samples of a level are at the end of a list.
 fn run_at_end(level: Level, samples: &[Level]) -> usize
     ensures run { result ≡ run_at_end level samples.now }
     ensures few { result ≤ length samples.now }
@@ -165,7 +165,7 @@ fn run_at_end(level: Level, samples: &[Level]) -> usize
     run
 }
 
-/// How many there are with one sample more.
+/// Returns how many there are with one sample more.
 fn longer_run(level: Level, samples: &[Level], last: Level) -> usize
     ensures { result ≡ run_at_end level (samples.now ++ last ∷ []) }
 {
@@ -177,7 +177,7 @@ fn longer_run(level: Level, samples: &[Level], last: Level) -> usize
     }
 }
 
-/// A sample of an integration.
+/// Takes a sample of an integration.
 fn after_integration(own: &[Level], level: Level, head: Option<&Frame>) -> NextStretch
     ensures { (x : Sampled) → x.level ≡ level → x.head ≡ option_copied head.entry
         → ComesNext level result (integration own.now x).next }
@@ -189,7 +189,7 @@ fn after_integration(own: &[Level], level: Level, head: Option<&Frame>) -> NextS
     }
 }
 
-/// A sample of an idle bus.
+/// Takes a sample of an idle bus.
 fn after_idle(level: Level, head: Option<&Frame>) -> NextStretch
     ensures { (x : Sampled) → x.level ≡ level → x.head ≡ option_copied head.entry
         → ComesNext level result (idle x).next }
@@ -203,7 +203,7 @@ fn after_idle(level: Level, head: Option<&Frame>) -> NextStretch
     }
 }
 
-/// The flag of an error that was found in this mode.
+/// Returns the flag of an error that was found in this mode.
 fn error_flag(mode: Mode, sends: bool) -> StretchKind
     ensures { result ≡ error_kind mode sends }
 {
@@ -216,7 +216,7 @@ fn error_flag(mode: Mode, sends: bool) -> StretchKind
     }
 }
 
-/// The flag of an overload.
+/// Returns the flag of an overload.
 fn overload_flag(sends: bool) -> NextStretch
     ensures { (level : Level)
         → ComesNext level result (Some (stretch_by (FlaggingSort OverloadFlag (way_of sends)) [])) }
@@ -227,7 +227,7 @@ fn overload_flag(sends: bool) -> NextStretch
     })
 }
 
-/// A sample of a dominant flag.
+/// Takes a sample of a dominant flag.
 fn after_dominant_flag(own: &[Level], sends: bool) -> NextStretch
     ensures { (x : Sampled) (flag : Flag)
         → ComesNext x.level result (dominant_flag flag (way_of sends) own.now x).next }
@@ -239,7 +239,7 @@ fn after_dominant_flag(own: &[Level], sends: bool) -> NextStretch
     }
 }
 
-/// A sample of a passive flag.
+/// Takes a sample of a passive flag.
 fn after_passive_flag(own: &[Level], level: Level, sends: bool) -> NextStretch
     ensures { (x : Sampled) (unacknowledged : Bool) → x.level ≡ level
         → ComesNext level result (passive_flag unacknowledged (way_of sends) own.now x).next }
@@ -251,7 +251,7 @@ fn after_passive_flag(own: &[Level], level: Level, sends: bool) -> NextStretch
     }
 }
 
-/// A sample of the wait after a flag.
+/// Takes a sample of the wait after a flag.
 fn after_waiting(level: Level, sends: bool) -> NextStretch
     ensures { (x : Sampled) (flag : Flag) (flagged own : List Level) → x.level ≡ level
         → ComesNext level result (waiting flag (way_of sends) flagged own x).next }
@@ -265,7 +265,7 @@ fn after_waiting(level: Level, sends: bool) -> NextStretch
     }
 }
 
-/// A sample of a delimiter.
+/// Takes a sample of a delimiter.
 fn after_delimiting(own: &[Level], level: Level, mode: Mode, sends: bool) -> NextStretch
     ensures { (x : Sampled) → x.level ≡ level → x.mode ≡ mode
         → ComesNext level result (delimiting (way_of sends) own.now x).next }
@@ -279,7 +279,7 @@ fn after_delimiting(own: &[Level], level: Level, mode: Mode, sends: bool) -> Nex
     }
 }
 
-/// A sample of an intermission.
+/// Takes a sample of an intermission.
 fn after_intermission(
     own: &[Level],
     level: Level,
@@ -302,7 +302,7 @@ fn after_intermission(
     }
 }
 
-/// A sample of a suspension.
+/// Takes a sample of a suspension.
 fn after_suspension(own: &[Level], level: Level, head: Option<&Frame>) -> NextStretch
     ensures { (x : Sampled) → x.level ≡ level → x.head ≡ option_copied head.entry
         → ComesNext level result (suspension own.now x).next }
@@ -316,7 +316,7 @@ fn after_suspension(own: &[Level], level: Level, head: Option<&Frame>) -> NextSt
     }
 }
 
-/// A sample in bus off, by what happened at it.
+/// Takes a sample in bus off, by what happened at it.
 fn after_off(happened: Happened, head: Option<&Frame>) -> NextStretch
     ensures { (x : Sampled) (own : List Level) → x.head ≡ option_copied head.entry → happened ≡ (off_bus own x).happened
         → ComesNext x.level result (off_bus own x).next }
@@ -327,7 +327,7 @@ fn after_off(happened: Happened, head: Option<&Frame>) -> NextStretch
     }
 }
 
-/// The flag of an error, if one was found.
+/// Returns the flag of an error, if one was found.
 fn after_error(mode: Mode, happened: Happened, sends: bool) -> NextStretch
     ensures { result ≡ (if is_error happened then NextStretch.Begins (error_kind mode sends) false
         else NextStretch.Same) }
@@ -339,7 +339,7 @@ fn after_error(mode: Mode, happened: Happened, sends: bool) -> NextStretch
     }
 }
 
-/// A sample of a transmitter, up to the end of what is stuffed, by what happened at it.
+/// Takes a sample of a transmitter, up to the end of what is stuffed, by what happened at it.
 fn after_sending(mode: Mode, happened: Happened) -> NextStretch
     ensures { (x : Sampled) (head : Content) (own : List Level) → x.mode ≡ mode
         → happened ≡ (sending head own x).happened
@@ -348,7 +348,7 @@ fn after_sending(mode: Mode, happened: Happened) -> NextStretch
     after_error(mode, happened, true)
 }
 
-/// A sample of a receiver, up to the end of what is stuffed, by what happened at it.
+/// Takes a sample of a receiver, up to the end of what is stuffed, by what happened at it.
 fn after_receiving(mode: Mode, happened: Happened) -> NextStretch
     ensures { (x : Sampled) (own : List Level) → x.mode ≡ mode → happened ≡ (receiving own x).happened
         → ComesNext x.level result (receiving own x).next }
@@ -356,7 +356,7 @@ fn after_receiving(mode: Mode, happened: Happened) -> NextStretch
     after_error(mode, happened, false)
 }
 
-/// A sample of a transmitter after all that is stuffed, by what happened at it.
+/// Takes a sample of a transmitter after all that is stuffed, by what happened at it.
 fn after_sent_tail(mode: Mode, happened: Happened) -> NextStretch
     ensures { (x : Sampled) (head : Content) (n : ℕ) → x.mode ≡ mode → happened ≡ (sent_tail head n x).happened
         → ComesNext x.level result (sent_tail head n x).next }
@@ -368,7 +368,7 @@ fn after_sent_tail(mode: Mode, happened: Happened) -> NextStretch
     }
 }
 
-/// A sample of a receiver at this place after all that is stuffed, by what happened at it.
+/// Takes a sample of a receiver at this place after all that is stuffed, by what happened at it.
 fn after_received_tail(place: usize, level: Level, mode: Mode, happened: Happened) -> NextStretch
     ensures { (x : Sampled) (bits : List Level) → x.level ≡ level → x.mode ≡ mode
         → happened ≡ (received_tail bits place x).happened
@@ -384,7 +384,7 @@ fn after_received_tail(place: usize, level: Level, mode: Mode, happened: Happene
     }
 }
 
-/// A sample of a frame, by what happened at it. `count`: the samples of the frame before it.
+/// Takes a sample of a frame, by what happened at it. `count`: the samples of the frame before it.
 fn after_framing(
     sends: bool,
     end: Option<usize>,
@@ -408,15 +408,14 @@ fn after_framing(
     }
 }
 
-/// Whether a transmitter is still one after a sample with which it lost the arbitration or not.
+/// True if a transmitter is still one after a sample with which it lost the arbitration or not.
 fn still_sends(sends: bool, lost: bool) -> bool
     ensures { result ≡ (if lost then false else sends) }
 {
     sends && !lost
 }
 
-/// Whether the sender of a frame loses the arbitration with a sample of this level, after these samples, of which `bits` are no
-/// stuff bits.
+/// True if the sender of a frame loses the arbitration with a sample of this level, after these samples; `bits` of them are no stuff bits.
 fn is_lost(frame: &Frame, own: &[Level], bits: &[Level], level: Level) -> bool
     ensures { bits.now ≡ destuffed_bits own.now (length own.now)
         → result ≡ is_lost frame.now (own.now ++ level ∷ []) (length own.now) }
@@ -432,7 +431,7 @@ fn is_lost(frame: &Frame, own: &[Level], bits: &[Level], level: Level) -> bool
     inside & recessive & dominant
 }
 
-/// A stuff bit is due after these samples of a frame.
+/// True if a stuff bit is due after these samples of a frame.
 pub(crate) fn is_stuff_due(own: &[Level]) -> bool
     ensures { result ≡ is_stuff own.now (length own.now) }
 {
@@ -448,7 +447,7 @@ pub(crate) fn is_stuff_due(own: &[Level]) -> bool
 }
 
 impl RunningStretch {
-    /// The integration that a machine begins with.
+    /// Returns the integration that a machine begins with.
     pub(crate) fn new(alloc: Global) -> RunningStretch
         ensures { KeepsStretch result (stretch_by IntegrationSort []) }
     {
@@ -459,7 +458,7 @@ impl RunningStretch {
         }
     }
 
-    /// What comes with a sample of this level, with this head and in this mode, at which this happened.
+    /// Returns what comes with a sample of this level, with this head and in this mode, at which this happened.
     pub(crate) fn next(
         &self,
         level: Level,
@@ -490,7 +489,7 @@ impl RunningStretch {
         }
     }
 
-    /// Whether a transmitter loses the arbitration with a sample of this level.
+    /// True if a transmitter loses the arbitration with a sample of this level.
     pub(crate) fn loses(&self, level: Level) -> bool
         ensures { (s : Stretch) → KeepsStretch self.now s → result ≡ (is_transmitter (role_of s) && loses s level) }
     {
@@ -504,7 +503,7 @@ impl RunningStretch {
         }
     }
 
-    /// Where its next sample falls.
+    /// Returns where its next sample falls.
     pub(crate) fn place(&self) -> Place
         ensures { (s : Stretch) → KeepsStretch self.now s → result ≡ next_place s }
     {
@@ -523,7 +522,7 @@ impl RunningStretch {
         }
     }
 
-    /// The same in a frame, up to the end of what is stuffed.
+    /// Returns the place in a frame at which its next sample falls, up to the end of what is stuffed.
     fn stuffed_place(&self, head: Option<Frame>, sends: bool) -> Place
         ensures { (own : List Level) → self.now.own.items ≡ own → self.now.bits.items ≡ destuffed_bits own (length own)
             → result ≡ stuffed_place (is_stuff own (length own))
@@ -545,7 +544,7 @@ impl RunningStretch {
         }
     }
 
-    /// Whether its next sample is that of a stuff bit of a frame.
+    /// True if its next sample is that of a stuff bit of a frame.
     pub(crate) fn is_at_stuff(&self) -> bool
         ensures { (s : Stretch) → KeepsStretch self.now s → result ≡ is_at_stuff s }
     {
@@ -555,7 +554,7 @@ impl RunningStretch {
         }
     }
 
-    /// The kind of an error that leaves a transmitter's counter alone.
+    /// Returns the kind of an error that leaves a transmitter's counter alone.
     pub(crate) fn free_kind(&self) -> ErrorKind
         ensures { (s : Stretch) → KeepsStretch self.now s → result ≡ free_kind s }
     {
@@ -565,7 +564,7 @@ impl RunningStretch {
         }
     }
 
-    /// The frame that is sent, if this is the stretch of one.
+    /// Returns the frame that is sent, if this is the stretch of one.
     pub(crate) fn head(&self) -> Option<Frame>
         ensures { (s : Stretch) → KeepsStretch self.now s → result ≡ head_of s.sort }
     {
@@ -575,7 +574,7 @@ impl RunningStretch {
         }
     }
 
-    /// The running stretch after a sample of this level, with which this comes.
+    /// Takes a sample of this level, with which this comes.
     pub(crate) fn step(&mut self, next: &NextStretch, level: Level) -> Result<(), AllocError>
         ensures { (s : Stretch) (x : Sampled) → KeepsStretch self.old s → x.level ≡ level
             → ComesNext level next.now (judged s x).next
@@ -587,7 +586,7 @@ impl RunningStretch {
         }
     }
 
-    /// The stretch that begins with this sample or the next one.
+    /// Begins the stretch that begins with this sample or the next one.
     fn begin(&mut self, kind: StretchKind, sampled: bool, level: Level) -> Result<(), AllocError>
         ensures kind { OnOk result (self.new.kind ≡ kind) }
         ensures own { OnOk result (self.new.own.items ≡ first_samples sampled level) }
@@ -603,7 +602,7 @@ impl RunningStretch {
         Ok(())
     }
 
-    /// The stretch goes on with this sample.
+    /// Goes on with this sample, in the same stretch.
     fn take(&mut self, level: Level) -> Result<(), AllocError>
         ensures { (s : Stretch) (x : Sampled) → KeepsStretch self.old s → x.level ≡ level → (judged s x).next ≡ None
             → OnOk result (KeepsStretch self.new (stretch_after s (Sample x))) }
@@ -634,7 +633,7 @@ impl RunningStretch {
         Ok(())
     }
 
-    /// Where all that is stuffed ends, where that was its end before the last sample.
+    /// Returns where all that is stuffed ends, if `end` was its end before the last sample.
     fn end_after(&self, end: Option<usize>) -> Option<usize>
         ensures { result ≡ or_at end
             (is_whole self.now.bits.items && not (is_stuff self.now.own.items (length self.now.own.items)))
@@ -650,7 +649,7 @@ impl RunningStretch {
         }
     }
 
-    /// The machine goes off the bus.
+    /// Goes off the bus.
     pub(crate) fn switch_off(&mut self)
         ensures { (s : Stretch) → KeepsStretch self.new (stretch_after s SwitchedOff) }
     {
@@ -660,7 +659,7 @@ impl RunningStretch {
     }
 }
 
-/// The level at a place of a list, which is recessive after its end.
+/// Returns the level at a place of a list, which is recessive after its end.
 pub(crate) fn level_at(levels: &[Level], place: usize) -> Level
     ensures { result ≡ at levels.now place }
 {

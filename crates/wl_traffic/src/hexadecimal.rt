@@ -30,7 +30,7 @@ fn glyph(digit: u32) -> &'static str
     }
 }
 
-/// Adds the last so many hexadecimal digits of a number, with leading zeros.
+/// Adds the last `count` hexadecimal digits of a number, with leading zeros.
 pub(crate) fn push_hexadecimal(
     text: &mut String,
     digits: u32,

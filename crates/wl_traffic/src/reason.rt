@@ -60,7 +60,7 @@ fn most_passed(nodes: &[NodeOutcome]) -> usize
     most
 }
 
-/// True if a node takes part and fewer frames than so many passed through it.
+/// True if a node takes part and fewer frames than this many passed through it.
 fn misses_frames(most: usize, node: &NodeOutcome) -> bool
     ensures { result ≡ misses_frames most node.now }
 {

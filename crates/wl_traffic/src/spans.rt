@@ -12,7 +12,7 @@ use wl_node::NodeSetup;
 /// What a node does after a sample, and for how many ticks: up to its next sample, or up to the end.
 #[derive(Clone, Copy, Debug)]
 pub struct Span {
-    /// What it does.
+    /// Returns what it does.
     pub(crate) doing: Doing,
     /// For how many ticks.
     pub(crate) ticks: u64,

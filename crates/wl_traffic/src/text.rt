@@ -42,11 +42,11 @@ fn push_reason(text: &mut String, reason: Reason) -> Result<(), AllocError>
     writeln!(text, "verdict {word}")
 }
 
-/// Returns the traffic of a plan's simulation, which is `outcome`, under these names of its nodes; a tick takes as long as `tick` says.
+/// Returns the traffic of a plan's simulation, which is `outcome`, under these names of its nodes. A tick takes as long as `tick` says.
 ///
-/// The first line says for which share of the time the bus was not idle, and for how long it was idle without a break at most. Then
-/// follows a line for each identifier of each node: how many frames were sent and are left, how many waited at once at most, how many
-/// attempts lost the arbitration and broke off at an error, and how long the sent ones waited. The last line says why the run didn't
+/// The first line says for which share of the time the bus was not idle, and for how long it was idle without a break at most. Then follows
+/// a line for each identifier of each node. It has how many frames were sent and are left, and how many waited at once at most. It has how
+/// many attempts lost the arbitration and broke off at an error, and how long the sent ones waited. The last line says why the run didn't
 /// work, or that it did. Refused out of memory alone.
 pub fn traffic_of(
     alloc: Global,

@@ -24,7 +24,7 @@ pub(crate) fn quanta_waited(alloc: Global, mine: &[Entry]) -> Result<Vec<u64>, A
     Ok(waits)
 }
 
-/// Returns the whole microseconds that so many ticks take.
+/// Returns the whole microseconds that this many ticks take.
 fn microseconds(tick: Tick, ticks: u64) -> u64
     requires { ticks < 2 ^ 43 }
     ensures { result ≡ microseconds tick ticks }

@@ -5,7 +5,7 @@ ghost use Rattle.wl_views.specs.Digits.{Extends, digits_of};
 
 use std::alloc::AllocError;
 
-/// The letter of a digit, upper case above 9.
+/// Returns the letter of a digit, upper case above 9.
 fn glyph(digit: u8) -> u8
     requires { digit < 16 }
     ensures { result ≡ digit_glyph true digit }
@@ -17,7 +17,7 @@ fn glyph(digit: u8) -> u8
     }
 }
 
-/// Adds the last so many digits of a number to a base, with leading zeros.
+/// Adds the last `count` digits of a number to a base, with leading zeros.
 pub(crate) fn push_digits(
     text: &mut Vec<u8>,
     base: u128,

@@ -12,7 +12,7 @@ use std::alloc::{AllocError, Global};
 use wl_setup::Names;
 use wl_trace::NodeState;
 
-/// The word of a unit.
+/// Returns the word of a unit.
 fn unit_word(unit: TimeUnit) -> &'static str
     ensures { result.now ≡ unit_word unit }
 {
@@ -127,7 +127,7 @@ fn push_scopes(text: &mut String, names: &Names) -> Result<(), AllocError>
     Ok(())
 }
 
-/// Adds what stands in front of the changes.
+/// Adds what is in front of the changes.
 fn push_header(text: &mut String, tick: Tick, names: &Names) -> Result<(), AllocError>
     ensures { OnOk result (GrowsBy text.old text.new (header tick names.now)) }
 {
@@ -234,7 +234,7 @@ fn push_all_values(text: &mut String, now: &[NodeSignals]) -> Result<(), AllocEr
     Ok(())
 }
 
-/// What stands in front of the first change after tick 0: the signals, and their levels at tick 0, which are these.
+/// Returns what is before the first change after tick 0: the signals, and their levels at tick 0, which are these.
 pub(crate) fn front(
     alloc: Global,
     tick: Tick,

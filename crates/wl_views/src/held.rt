@@ -12,7 +12,7 @@ pub(crate) struct Held {
 }
 
 impl Held {
-    /// Whether this or another value is true, for as long as both stay.
+    /// Returns whether this or another value is true, for as long as both stay.
     pub(crate) fn or(self, other: Held) -> Held
         ensures both { (f g : ℕ → Bool) (t : ℕ) → Lasts f t self → Lasts g t other
             → Lasts (λ u. f u || g u) t result }

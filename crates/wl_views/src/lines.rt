@@ -64,7 +64,7 @@ fn push_value(text: &mut Lines, letter: &str, i: usize, high: bool)
     text.push(b'\n');
 }
 
-/// Adds the level of a signal of node `i`, where it is another than before.
+/// Adds the level of a signal of node `i`, if it is another than before.
 fn push_change(text: &mut Lines, letter: &str, i: usize, was: bool, now: bool)
     requires room { array_vec_len text.old + 23 ≤ 16384 }
     requires letter { length letter.now ≤ 1 }
@@ -76,7 +76,7 @@ fn push_change(text: &mut Lines, letter: &str, i: usize, was: bool, now: bool)
     }
 }
 
-/// Adds a number of node `i`, where it is another than before.
+/// Adds a number of node `i`, if it is another than before.
 fn push_number_change(text: &mut Lines, letter: &str, i: usize, was: u64, now: u64)
     requires room { array_vec_len text.old + 44 ≤ 16384 }
     requires letter { length letter.now ≤ 1 }
@@ -94,7 +94,7 @@ fn push_number_change(text: &mut Lines, letter: &str, i: usize, was: u64, now: u
     text.push(b'\n');
 }
 
-/// Adds a word of node `i`, where it is another than before.
+/// Adds a word of node `i`, if it is another than before.
 fn push_word_change(text: &mut Lines, letter: &str, i: usize, was: &str, now: &str)
     requires room { array_vec_len text.old + 37 ≤ 16384 }
     requires letter { length letter.now ≤ 1 }
@@ -113,7 +113,7 @@ fn push_word_change(text: &mut Lines, letter: &str, i: usize, was: &str, now: &s
     text.push(b'\n');
 }
 
-/// Adds what changed of that which node `i` drives, and of the line at its place.
+/// Adds the lines of node `i`'s drive and of the line at its place that changed.
 fn push_line_changes(text: &mut Lines, i: usize, was: NodeSignals, now: NodeSignals)
     requires { array_vec_len text.old + 92 ≤ 16384 }
     ensures lines { text.new.items ≡ text.old.items ++ line_changes i was now }
@@ -145,7 +145,7 @@ fn push_level_changes(text: &mut Lines, i: usize, was: NodeSignals, now: NodeSig
     push_mark_changes(text, i, was, now);
 }
 
-/// Adds what changed of that which node `i` is at.
+/// Adds the lines of node `i`'s counters, mode and state that changed.
 fn push_state_changes(text: &mut Lines, i: usize, was: NodeState, now: NodeState)
     requires { array_vec_len text.old + 162 ≤ 16384 }
     ensures lines { text.new.items ≡ text.old.items ++ state_changes i was now }

@@ -15,7 +15,7 @@ use wl_frame::frame::Frame;
 use wl_plan::Plan;
 use wl_serial::Outcome;
 
-/// Adds a time after so many seconds: seconds, and microseconds after a point.
+/// Adds a time after this many seconds: seconds, and microseconds after a point.
 fn push_time(text: &mut Vec<u8>, from: u32, us: u128) -> Result<(), AllocError>
     ensures { OnOk result (Extends text.old text.new (time_word from us)) }
 {
@@ -96,13 +96,13 @@ fn push_line(
     text.extend_from_slice(b"\n")
 }
 
-/// The log of the frames that were sent: for each a line `({seconds}.{microseconds}) can0 {id}#{bytes}`, in the order in which
-/// they were completed; those of one tick node by node.
+/// Returns the log of the frames that were sent: for each a line `({seconds}.{microseconds}) can0 {id}#{bytes}`, in the order in which they
+/// were completed; those of one tick node by node.
 ///
-/// The time is that of the quantum at which the sender sampled the last bit of end of frame (Bosch CAN 2.0 part B, section 5),
-/// counted from tick 0, which is at second `from`, and rounded down, 10 digits and 6. The identifier has 3 hexadecimal digits, or 8 of an extended
-/// frame. A remote frame has `R` in place of the bytes, and after it the data length code where that isn't 0. A code above 8 stands
-/// after the 8 bytes, or the `R8`, as `_9` to `_F`. Refused out of memory alone.
+/// The time is that of the quantum at which the sender sampled the last bit of end of frame (Bosch CAN 2.0 part B, section 5). It counts
+/// from tick 0, which is at second `from`, and is rounded down, 10 digits and 6. The identifier has 3 hexadecimal digits, or 8 of an
+/// extended frame. A remote frame has `R` in place of the bytes, and after it the data length code if that isn't 0. A code above 8 is after
+/// the 8 bytes, or the `R8`, as `_9` to `_F`. Refused out of memory alone.
 pub fn candump(
     alloc: Global,
     tick: Tick,

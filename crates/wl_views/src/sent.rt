@@ -28,7 +28,7 @@ fn push_sent(
     Ok(())
 }
 
-/// The frames that all nodes sent, node by node.
+/// Returns the frames that all nodes sent, node by node.
 fn all_sent(alloc: Global, plan: &Plan, outcome: &Outcome) -> Result<Vec<(u64, Frame)>, AllocError>
     requires { AreInTime plan.now outcome.now }
     ensures { IfOk result (λ sent. sent.items ≡ all_sent plan.now outcome.now) }
@@ -41,7 +41,8 @@ fn all_sent(alloc: Global, plan: &Plan, outcome: &Outcome) -> Result<Vec<(u64, F
     Ok(sent)
 }
 
-/// The frames that all nodes sent in the order of their ticks; those of one tick node by node.
+/// Returns the frames that all nodes sent in the order of their ticks; those of one tick node by
+/// node.
 pub(crate) fn sent_by_tick(
     alloc: Global,
     plan: &Plan,

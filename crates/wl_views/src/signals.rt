@@ -34,7 +34,7 @@ pub struct NodeSignals {
     pub rx: bool,
     /// What the nodes' drives make of the cable at its place: low is dominant.
     pub cable: bool,
-    /// High where a disturbance is at its place.
+    /// High if a disturbance is at its place.
     pub disturbance: bool,
     /// Low at first, and turned at each of its samples.
     pub sample: bool,
@@ -44,7 +44,8 @@ pub struct NodeSignals {
     pub state: NodeState,
 }
 
-/// Whether the drive of node `i` is dominant as it comes to node `j` at tick `t`: asked anew where what was known of it has run out.
+/// Returns whether the drive of node `i` is dominant as it arrives at node `j` at tick `t`. It is asked again if what was known of it has
+/// run out.
 fn come_from(
     plan: &Plan,
     outcome: &Outcome,
@@ -73,7 +74,7 @@ fn come_from(
     turned(changes, delay, t, come)
 }
 
-/// Whether some node's drive is dominant at node `j` at tick `t`. `come` and `sources` are what was known of each node's.
+/// Returns whether some node's drive is dominant at node `j` at tick `t`. `come` and `sources` are what was known of each node's.
 pub(crate) fn driven(
     plan: &Plan,
     outcome: &Outcome,
@@ -102,7 +103,7 @@ pub(crate) fn driven(
     all
 }
 
-/// Whether a disturbance that takes so long to a node is there at tick `t`.
+/// Returns whether a disturbance that takes so long to a node is there at tick `t`.
 fn disturbed_by(from: u64, to: u64, delay: u64, t: u64) -> Held
     requires starts { from < to }
     requires early { t ≤ latest_end }
@@ -130,7 +131,7 @@ fn disturbed_by(from: u64, to: u64, delay: u64, t: u64) -> Held
     }
 }
 
-/// Whether some disturbance is at node `j` at tick `t`.
+/// Returns whether some disturbance is at node `j` at tick `t`.
 pub(crate) fn disturbed(plan: &Plan, j: usize, t: u64) -> Held
     requires checked { IsChecked plan.now }
     requires node { j < length plan.now.nodes }
@@ -149,7 +150,7 @@ pub(crate) fn disturbed(plan: &Plan, j: usize, t: u64) -> Held
     held
 }
 
-/// What is known of each node's signals from tick 0 on. Refused only where memory runs out.
+/// Returns what is known of each node's signals from tick 0 on. Refused only if memory runs out.
 pub(crate) fn watch_all(
     alloc: Global,
     plan: &Plan,
@@ -168,7 +169,7 @@ pub(crate) fn watch_all(
     Ok(watched)
 }
 
-/// The signals of all nodes at tick 0, of which this is known. Refused only where memory runs out.
+/// Returns the signals of all nodes at tick 0, by what is known of each. Refused only if memory runs out.
 pub(crate) fn first_signals(
     alloc: Global,
     plan: &Plan,
@@ -187,7 +188,7 @@ pub(crate) fn first_signals(
     Ok(now)
 }
 
-/// Adds those signals of node `i` that change at tick `t`, notes what is known of it from then on, and answers how long that stays.
+/// Adds those signals of node `i` that change at tick `t`, notes what is known of it from then on, and returns how long that stays.
 fn push_node(
     text: &mut Lines,
     plan: &Plan,
@@ -220,7 +221,7 @@ fn push_node(
     known.until
 }
 
-/// Adds those signals of all nodes that change at tick `t`, and answers a later tick up to which none of them changes again.
+/// Adds those signals of all nodes that change at tick `t`, and returns a later tick up to which none of them changes again.
 pub(crate) fn push_changes(
     text: &mut Lines,
     plan: &Plan,

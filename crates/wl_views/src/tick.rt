@@ -14,7 +14,7 @@ pub enum TimeUnit {
 }
 
 impl TimeUnit {
-    /// How many picoseconds it has.
+    /// Returns how many picoseconds it has.
     fn picoseconds(self) -> u64
         ensures value { result ≡ unit_picoseconds self }
         ensures most { result ≤ 1000000 }
@@ -27,7 +27,7 @@ impl TimeUnit {
     }
 }
 
-/// How long a tick takes: so many of a unit.
+/// How long a tick takes: this many of a unit.
 #[derive(Clone, Copy, Debug, PartialEq, Eq)]
 pub struct Tick {
     /// How many of the unit.
@@ -37,7 +37,8 @@ pub struct Tick {
 }
 
 impl Tick {
-    /// The tick that a text spells: a number from 1 to 999, and `ps`, `ns` or `us` right after it.
+    /// Returns the tick that a text spells: a number from 1 to 999, and `ps`, `ns` or `us` right
+    /// after it.
     pub fn from_text(text: &[u8]) -> Option<Tick>
         ensures { result ≡ read_tick text.now }
     {
@@ -50,7 +51,7 @@ impl Tick {
         Some(Tick { count, unit })
     }
 
-    /// How many picoseconds a tick takes.
+    /// Returns how many picoseconds a tick takes.
     pub fn picoseconds(&self) -> u64
         ensures value { result ≡ tick_picoseconds self.now }
         ensures most { result < 65536000000 }
@@ -59,7 +60,7 @@ impl Tick {
         count as u64 * self.unit.picoseconds()
     }
 
-    /// The whole microseconds before a tick.
+    /// Returns the whole microseconds before a tick.
     pub(crate) fn microseconds(&self, tick: u64) -> u128
         ensures { result ≡ microseconds self.now tick }
     {
@@ -67,7 +68,7 @@ impl Tick {
     }
 }
 
-/// The unit that a word names.
+/// Returns the unit that a word names.
 fn unit_of(word: &[u8]) -> Option<TimeUnit>
     ensures { result ≡ unit_of word.now }
 {
@@ -82,7 +83,7 @@ fn unit_of(word: &[u8]) -> Option<TimeUnit>
     }
 }
 
-/// A number with one digit more after it, as long as it stays below 1000.
+/// Returns a number with one digit more after it, as long as it stays below 1000.
 fn with_digit(number: Option<u16>, digit: u8) -> Option<u16>
     ensures { result ≡ with_digit number digit }
 {
@@ -94,7 +95,7 @@ fn with_digit(number: Option<u16>, digit: u8) -> Option<u16>
     }
 }
 
-/// The number from 1 to 999 that decimal digits spell.
+/// Returns the number from 1 to 999 that decimal digits spell.
 fn count_of(digits: &[u8]) -> Option<u16>
     ensures { result ≡ count_of digits.now }
 {

@@ -19,7 +19,7 @@ use wl_serial::Outcome;
 use wl_setup::Names;
 use wl_trace::{Event, FlagForm, FrameField, Noted, Place, node_events};
 
-/// The word of a field.
+/// Returns the word of a field.
 fn field_word(field: FrameField) -> &'static str
     ensures { result.now ≡ field_word field }
 {
@@ -43,7 +43,7 @@ fn field_word(field: FrameField) -> &'static str
     }
 }
 
-/// The word of an error's kind.
+/// Returns the word of an error's kind.
 fn error_kind_word(kind: ErrorKind) -> &'static str
     ensures { result.now ≡ error_kind_word kind }
 {
@@ -56,7 +56,7 @@ fn error_kind_word(kind: ErrorKind) -> &'static str
     }
 }
 
-/// The word of a flag.
+/// Returns the word of a flag.
 fn flag_word(form: FlagForm) -> &'static str
     ensures { result.now ≡ flag_word form }
 {
@@ -211,7 +211,7 @@ fn push_sync(syncs: &mut Vec<Noted>, sync: Option<Noted>) -> Result<(), AllocErr
     }
 }
 
-/// How node `i` was synchronised: it runs again up to the end.
+/// Returns how node `i` was synchronised: it runs again up to the end.
 fn syncs_at_end(
     alloc: Global,
     plan: &Plan,
@@ -236,7 +236,7 @@ fn syncs_at_end(
     Ok(syncs)
 }
 
-/// What the samples of node `i` did.
+/// Returns what the samples of node `i` did.
 fn events_at_end(
     alloc: Global,
     plan: &Plan,
@@ -279,7 +279,7 @@ fn push_node(
     Ok(())
 }
 
-/// The events of all nodes, node by node, each with its tick.
+/// Returns the events of all nodes, node by node, each with its tick.
 fn all_told(
     alloc: Global,
     plan: &Plan,
@@ -296,7 +296,7 @@ fn all_told(
     Ok(told)
 }
 
-/// The events of all nodes in the order of their ticks; those of one tick node by node.
+/// Returns the events of all nodes in the order of their ticks; those of one tick node by node.
 fn told_in_order(
     alloc: Global,
     plan: &Plan,
@@ -314,7 +314,7 @@ fn told_in_order(
     Ok(told)
 }
 
-/// The trace of a plan's simulation, which is `outcome`, under these names of its nodes: for each event a line
+/// Returns the trace of a plan's simulation, which is `outcome`, under these names of its nodes: for each event a line
 /// `{tick} {node} {name} q {quantum} b {bit} {what}`, in the order of their ticks; those of one tick node by node.
 pub fn trace(
     alloc: Global,

@@ -7,8 +7,8 @@ ghost use Rattle.wl_views.specs.Held.{Lasts, IsBeforeTurn, turn_after};
 
 use crate::held::Held;
 
-/// What is false at first and turns a delay after each of these ticks, at tick `t`. `come` of them had come when it was last asked
-/// for: that speeds up the answer, and decides nothing.
+/// Returns what is false at first and turns a delay after each of these ticks, at tick `t`. `come` of them had come when it was last asked
+/// for. That speeds up the answer, and decides nothing.
 pub(crate) fn turned(ticks: &[u64], delay: u64, t: u64, come: &mut usize) -> Held
     requires increasing { IsIncreasing ticks.now }
     requires early { t ≤ latest_end }
@@ -30,7 +30,7 @@ pub(crate) fn turned(ticks: &[u64], delay: u64, t: u64, come: &mut usize) -> Hel
     }
 }
 
-/// The tick of this number and a delay, and the last of all ticks where there is none.
+/// Returns the tick of this number and a delay, and the last of all ticks if there is none.
 fn next_turn(ticks: &[u64], count: usize, delay: u64) -> u64
     ensures before { count < length ticks.now → result ≤ turn_after ticks.now count delay }
     ensures after { (t : ℕ) → t ≤ latest_end → IsBeforeTurn ticks.now count delay t → t < result }
@@ -42,7 +42,7 @@ fn next_turn(ticks: &[u64], count: usize, delay: u64) -> u64
     }
 }
 
-/// How many of the ticks are not after this one, where `guess` were not after an earlier one.
+/// Returns how many of the ticks are not after this one; `guess` of them were not after an earlier one.
 fn count_until(ticks: &[u64], tick: u64, guess: usize) -> usize
     requires { IsIncreasing ticks.now }
     ensures { result ≡ count_below (tick + 1) ticks.now }
@@ -55,7 +55,7 @@ fn count_until(ticks: &[u64], tick: u64, guess: usize) -> usize
     count
 }
 
-/// The guess, if so many of the ticks are surely not after this one, and else none.
+/// Returns the guess, if this number of the ticks is surely not after this one, and else none.
 fn sure(ticks: &[u64], tick: u64, guess: usize) -> usize
     requires { IsIncreasing ticks.now }
     ensures { result ≤ count_below (tick + 1) ticks.now }

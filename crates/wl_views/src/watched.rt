@@ -42,13 +42,13 @@ pub(crate) struct Watched {
     pub(crate) shown: Shown,
     /// How many they are.
     pub(crate) quanta: u64,
-    /// The tick of its next quantum before the end, and the last of all ticks where there is none.
+    /// The tick of its next quantum before the end, and the last of all ticks if there is none.
     pub(crate) next: u64,
     /// Up to which tick the signals stay.
     pub(crate) until: u64,
 }
 
-/// The level of a line that is dominant, or isn't.
+/// Returns the level of a line that is dominant, or isn't.
 fn level_of(dominant: bool) -> Level
     ensures { result ≡ level_of dominant }
 {
@@ -59,7 +59,7 @@ fn level_of(dominant: bool) -> Level
     }
 }
 
-/// The tick of this quantum where it is before the end, and else the last of all ticks.
+/// Returns the tick of this quantum if it is before the end, and else the last of all ticks.
 fn next_tick(clock: &Clock, end: u64, quantum: u64) -> u64
     requires { quantum ≤ 2 ^ 21 }
     ensures { result ≡ next_of clock.now end quantum }
@@ -69,7 +69,7 @@ fn next_tick(clock: &Clock, end: u64, quantum: u64) -> u64
 }
 
 impl Watched {
-    /// Node `i` before its first quantum.
+    /// Returns node `i` before its first quantum.
     pub(crate) fn new(plan: &Plan, i: usize) -> Watched
         requires node { i < length plan.now.nodes }
         ensures remembers { Remembers plan.now i 0 result }
@@ -96,7 +96,7 @@ impl Watched {
         }
     }
 
-    /// The signals.
+    /// Returns the signals.
     pub(crate) fn signals(&self) -> NodeSignals
         ensures { result ≡ signals_by self.now.shown self.now.cable.value self.now.disturbance.value }
     {
@@ -112,7 +112,7 @@ impl Watched {
         }
     }
 
-    /// Whether it finds the line dominant, for as long as cable and disturbances stay.
+    /// Returns whether it finds the line dominant, for as long as cable and disturbances stay.
     fn line(&self) -> Held
         ensures holds { (plan : Plan) (i t : ℕ) → Hears plan i t self.now
             → Lasts (found (line_of plan) (level (line_of plan)) i) t result }
@@ -122,7 +122,7 @@ impl Watched {
         self.cable.or(self.disturbance)
     }
 
-    /// Goes on to tick `t`. How an edge synchronises the node from the tick at which it was up to this one, if one does.
+    /// Goes on to tick `t`. Returns how an edge synchronises the node from the tick at which it was up to this one, if one does.
     pub(crate) fn go(&mut self, plan: &Plan, outcome: &Outcome, i: usize, t: u64) -> Option<Noted>
         requires checked { IsChecked plan.now }
         requires outcome { outcome.now ≡ outcome_of plan.now }
@@ -140,7 +140,7 @@ impl Watched {
         sync
     }
 
-    /// Asks anew for cable and disturbances where what was known of them has run out.
+    /// Asks again for cable and disturbances if what was known of them has run out.
     fn hear(&mut self, plan: &Plan, outcome: &Outcome, i: usize, t: u64)
         requires checked { IsChecked plan.now }
         requires outcome { outcome.now ≡ outcome_of plan.now }
@@ -161,7 +161,7 @@ impl Watched {
         }
     }
 
-    /// Sees the quantum of tick `t`, if one begins then. How an edge synchronises the node there, if one does.
+    /// Sees the quantum of tick `t`, if one begins then. Returns how an edge synchronises the node there, if one does.
     fn see(&mut self, plan: &Plan, i: usize, t: u64) -> Option<Noted>
         requires checked { IsChecked plan.now }
         requires node { i < length plan.now.nodes }
@@ -186,7 +186,7 @@ impl Watched {
         sync
     }
 
-    /// Sees those after tick `t` that neither sample nor begin a bit, as long as the line stays.
+    /// Sees the quanta after tick `t` that neither sample nor begin a bit, as long as the line stays.
     fn pass(&mut self, plan: &Plan, i: usize, t: u64)
         requires checked { IsChecked plan.now }
         requires node { i < length plan.now.nodes }

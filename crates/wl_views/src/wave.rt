@@ -26,7 +26,7 @@ use wl_setup::Names;
 /// From how many bytes on a piece goes out.
 const PIECE: usize = 8_192;
 
-/// Adds what changes at tick `t` under its time, and answers a later tick up to which nothing changes again.
+/// Adds what changes at tick `t` under its time, and returns a later tick up to which nothing changes again.
 fn push_tick(
     text: &mut Lines,
     tick: Tick,
@@ -102,8 +102,8 @@ fn write_from<W: Sink>(
 
 /// Writes the Value Change Dump of a plan's simulation, which is `outcome`, under these names of its nodes, by pieces.
 ///
-/// Memory is asked for before the first write. Where it runs out, the writer isn't called; where the writer fails, a prefix of the
-/// dump has been written.
+/// Memory is asked for before the first write. If it runs out, the writer isn't called; if the writer fails, a prefix of the dump has been
+/// written.
 pub fn vcd<W: Sink>(
     alloc: Global,
     tick: Tick,

@@ -7,7 +7,7 @@ use wl_confine::Mode;
 use wl_machine::Doing;
 use wl_report::mode_word;
 
-/// A mode.
+/// Returns a mode.
 pub(crate) fn mode(mode: Mode) -> &'static str
     ensures value { result.now ≡ mode_word mode }
     ensures short { length result.now ≤ 13 }
@@ -15,7 +15,7 @@ pub(crate) fn mode(mode: Mode) -> &'static str
     mode_word(mode)
 }
 
-/// What it does.
+/// Returns what it does.
 pub(crate) fn doing_word(doing: Doing) -> &'static str
     ensures value { result.now ≡ doing_word doing }
     ensures short { length result.now ≤ 13 }

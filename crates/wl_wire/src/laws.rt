@@ -9,9 +9,8 @@ ghost use Rattle.wl_wire.specs.Outcome.{Passage, HaveGot, IsFree, counts_after_a
 ghost use Rattle.wl_wire.specs.Winner.{HasOneWinner};
 ghost use Rattle.wl_wire.specs.Wire.{Event, Wire, idle_wire, wire_after};
 
-/// Law: two or more machines on one wire that are handed frames of different format, identifier or RTR stay in step,
-/// and none finds an error: whatever they are handed, in whatever modes, and however many recessive bits each samples
-/// by itself between frames.
+/// Law: two or more machines on one wire that are handed frames of different format, identifier or RTR stay in step, and none finds an
+/// error. So it is whatever they are handed, in whatever modes, and however many recessive bits each samples by itself between frames.
 pub fn machines_stay_in_step()
     ensures step { (count : ℕ) (frames : ℕ → List Content) (events : List Event) → AreSoundFrames count frames
         → AreInStep (wire_after (idle_wire count frames) events) }
@@ -40,9 +39,8 @@ pub fn the_least_field_wins()
     wl_frame::laws::the_arbitration_decides();
 }
 
-/// Law: each frame that such machines begin gets through: as soon as none is under way, each that was begun is one
-/// that one machine has sent, one of its own, and that every other machine has acknowledged and received, in the same
-/// order at all of them.
+/// Law: each frame that such machines begin gets through. As soon as none is under way, each that was begun is one that one machine has
+/// sent, and one of its own. Every other machine has acknowledged and received it. The order is the same at all of them.
 pub fn all_get_each_frame()
     ensures { (count : ℕ) (frames : ℕ → List Content) (events : List Event) → AreSoundFrames count frames
         → IsFree (wire_after (idle_wire count frames) events)
@@ -52,9 +50,8 @@ pub fn all_get_each_frame()
     wl_frame::laws::the_arbitration_decides();
 }
 
-/// Law: a frame that such machines begin comes to its end. While it is under way each has fewer than 157 bits of it,
-/// so it ends with the 157th at the latest: 118 bits, 29 stuff bits, and the ten bits after them (Bosch CAN 2.0 part
-/// B, sections 3.2.1 and 6).
+/// Law: a frame that such machines begin ends. While it is under way each has fewer than 157 bits of it, so it ends with the 157th at the
+/// latest: 118 bits, 29 stuff bits, and the ten bits after them (Bosch CAN 2.0 part B, sections 3.2.1 and 6).
 pub fn a_frame_ends()
     ensures { (count : ℕ) (frames : ℕ → List Content) (events : List Event) → AreSoundFrames count frames
         → (own : List Level) → AreInFrame (wire_after (idle_wire count frames) events) own → length own < 157 }

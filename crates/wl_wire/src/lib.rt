@@ -1,5 +1,4 @@
-//! Machines on one wire: where all sample the same bits, none makes an error (Bosch CAN 2.0 part B, sections 3.1 and
-//! 3.2).
+//! Machines on one wire: if all sample the same bits, none makes an error (Bosch CAN 2.0 part B, sections 3.1 and 3.2).
 #![tactic(auto)]
 
 pub mod laws;
@@ -32,11 +31,10 @@ pub fn is_without_error(happened: Happened) -> bool
     }
 }
 
-/// One sample of a machine on a wire, as [`Machine::bit`].
+/// Takes one sample of a machine on a wire, as [`Machine::bit`].
 ///
-/// The machine finds no error where it is one of two or more on a wire that are idle at first, with frames that
-/// differ in format, identifier or RTR bit, as long as it samples the level of the wire, or a recessive bit by itself
-/// between frames.
+/// The machine finds no error if it is one of two or more on a wire that are idle at first. Their frames differ in format, identifier or
+/// RTR bit. It has to sample the level of the wire, or a recessive bit by itself between frames.
 pub fn sample(machine: &mut Machine, level: Level, head: Option<&Frame>, mode: Mode) -> Turn
     ensures machine { (past : List Input) → IsMachine machine.old past
         → IsMachine machine.new (past ++ Sample (sample_of level (option_copied head.entry) mode) ∷ []) }

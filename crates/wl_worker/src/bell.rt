@@ -33,7 +33,7 @@ pub struct Bell {
 }
 
 impl Bell {
-    /// A bell for so many workers, at which none gave anything or stopped. Refused only when out of memory.
+    /// Returns a bell for this many workers, at which none gave anything or stopped. Refused only when out of memory.
     pub fn new(alloc: Global, workers: u8) -> Result<Bell, AllocError> {
         let mut gives = Vec::new(alloc);
         for _ in 0..workers {
@@ -48,14 +48,14 @@ impl Bell {
         })
     }
 
-    /// How often the bell rang so far: what `wait_past` is to be told.
+    /// Returns how often the bell rang so far: what `wait_past` is to be told.
     pub fn rings(&self) -> Rings {
         Rings {
             count: self.rings.load(Ordering::SeqCst),
         }
     }
 
-    /// How often the workers other than this one gave something, together; 2^64 - 1 stands for more.
+    /// Returns how often the workers other than this one gave something, together; 2^64 - 1 means more.
     pub fn gives_of_others(&self, worker: u8) -> u64 {
         let mut given = 0u64;
         for other in 0..self.gives.len() {
@@ -66,7 +66,7 @@ impl Bell {
         given
     }
 
-    /// Says that a worker gave what `given` stands for, and wakes all that wait.
+    /// Notes that a worker gave what `given` means, and wakes all that wait.
     pub fn give<R: Wait>(&self, rt: &R, worker: u8, given: Given) {
         let _ = given;
         if let Some(count) = self.gives.get(usize::from(worker)) {
@@ -80,7 +80,7 @@ impl Bell {
         }
     }
 
-    /// Says that a worker stopped, and wakes all that wait. The first one stays.
+    /// Notes that a worker stopped, and wakes all that wait. The first one stays.
     pub fn stop<R: Wait>(&self, rt: &R, worker: u8) {
         let mut stopped = self.stopped.lock(rt);
         if stopped.is_none() {
@@ -90,13 +90,13 @@ impl Bell {
         self.rang.notify_all();
     }
 
-    /// The first worker that stopped, if any.
+    /// Returns the first worker that stopped, if any.
     pub fn stopped<R: Wait>(&self, rt: &R) -> Option<u8> {
         *self.stopped.lock(rt)
     }
 
-    /// Waits until the bell has rung again since `heard`, or some worker stopped, and answers the first one that stopped. It looks a
-    /// hundred times before it sleeps.
+    /// Waits until the bell has rung again since `heard`, or some worker stopped. Returns the first one that stopped. It looks a hundred
+    /// times before it sleeps.
     pub fn wait_past<R: Wait>(&self, rt: &R, heard: Rings) -> Option<u8> {
         for _ in 0..LOOKS {
             if self.has_rung(heard) {

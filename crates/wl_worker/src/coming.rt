@@ -26,23 +26,23 @@ use wl_record_core::{Record, Slot};
 use wl_replica::{Word, slots_of_states, states_join_slot_by_slot};
 use wl_topology::MOST_NODES;
 
-/// How often a bell had rung before a look for what came. Only a look makes one, and of what the bell said before it: so whoever waits until
-/// the bell rings again can't miss what was given while it looked.
+/// How often a bell had rung before a look for what came. Only a look makes one, from what the bell said before it. So a worker that waits
+/// until the bell rings again can't miss what was given while it looked.
 #[derive(Clone, Copy, Drop)]
 pub(crate) struct Heard {
     rings: Option<Rings>,
 }
 
 impl Heard {
-    /// Before any look: no ring was heard.
+    /// Returns the state before any look: no ring was heard.
     pub(crate) fn nothing() -> Heard
         ensures { result.rings ≡ None }
     {
         Heard { rings: None }
     }
 
-    /// Waits until the bell has rung after the look, or some worker stopped; where there was no look it doesn't wait. Answers the first one
-    /// that stopped.
+    /// Waits until the bell has rung after the look, or some worker stopped; without a look it doesn't wait. Returns the first one that
+    /// stopped.
     pub(crate) fn wait<R: Wait>(self, rt: &R, bell: &Bell) -> Option<u8> {
         match self.rings {
             Some(rings) => bell.wait_past(rt, rings),
@@ -51,7 +51,7 @@ impl Heard {
     }
 }
 
-/// How many letters the workers other than this one have sent, by a bell that had rung so often before; 2^64 - 1 stands for more.
+/// Returns how many letters the workers other than this one have sent, by a bell that had rung so often before; 2^64 - 1 means more.
 pub(crate) fn sent_by_others(bell: &Bell, worker: u8, rings: Rings) -> (u64, Heard)
     ensures { result.1.rings ≡ Some rings }
 {
@@ -59,14 +59,14 @@ pub(crate) fn sent_by_others(bell: &Bell, worker: u8, rings: Rings) -> (u64, Hea
     (bell.gives_of_others(worker), heard)
 }
 
-/// Whether one of the two is.
+/// True if one of the two is.
 fn either(one: bool, other: bool) -> bool
     ensures { result ≡ (one || other) }
 {
     one || other
 }
 
-/// The tick of a change, where the hub has it.
+/// Returns the tick of a change, if the hub has it.
 fn edge_seen(hub: &Hub<PlanName>, pass: &mut Pass<PlanName>, node: u8, seq: u32) -> Option<u64>
     requires here { IsPassOf hub.now pass.old }
     ensures here { IsPassOf hub.now pass.new }
@@ -87,7 +87,7 @@ fn edge_seen(hub: &Hub<PlanName>, pass: &mut Pass<PlanName>, node: u8, seq: u32)
     Some(word - 1)
 }
 
-/// How far the silence after so many changes reaches, where the hub has one.
+/// Returns how far the silence after this many changes reaches, if the hub has one.
 fn silence_seen(hub: &Hub<PlanName>, pass: &mut Pass<PlanName>, node: u8, count: u32) -> Option<u64>
     requires here { IsPassOf hub.now pass.old }
     ensures here { IsPassOf hub.now pass.new }
@@ -109,7 +109,7 @@ fn silence_seen(hub: &Hub<PlanName>, pass: &mut Pass<PlanName>, node: u8, count:
     Some(word)
 }
 
-/// Takes an edge of which the group knows nothing yet. Answers whether it took it.
+/// Takes an edge about which the group knows nothing yet. True if it took it.
 #[tactic(auto, using(crate::proofs::Took::took_nothing, crate::proofs::Took::took_one, crate::proofs::Took::edge_changes))]
 fn learn_edge(group: &mut Group, node: u8, seq: u32, tick: u64) -> Result<bool, AllocError>
     requires { IsTrueOfPlan group.old.plan (Edge node seq tick) }
@@ -126,7 +126,7 @@ fn learn_edge(group: &mut Group, node: u8, seq: u32, tick: u64) -> Result<bool, 
     Ok(true)
 }
 
-/// Takes a silence that reaches further than what the group knows. Answers whether it took it.
+/// Takes a silence that reaches further than what the group knows. True if it took it.
 #[tactic(auto, using(crate::proofs::Took::took_nothing, crate::proofs::Took::took_one, crate::proofs::Took::silence_changes))]
 fn learn_silence(group: &mut Group, node: u8, count: u32, until: u64) -> Result<bool, AllocError>
     requires { IsTrueOfPlan group.old.plan (Silence node count until) }
@@ -147,8 +147,8 @@ fn learn_silence(group: &mut Group, node: u8, count: u32, until: u64) -> Result<
     Ok(true)
 }
 
-/// Takes the changes of a node that the hub has, from change `first` on, up to one that it hasn't. Answers whether some were taken, and
-/// the number of that one.
+/// Takes the changes of a node that the hub has, from change `first` on, up to one that it hasn't. Returns whether some were taken, and the
+/// number of that one.
 #[tactic(auto, using(crate::proofs::Took::took_nothing, crate::proofs::Took::took_both, crate::proofs::Named::still_of))]
 fn learn_edges(
     hub: &Hub<PlanName>,
@@ -183,8 +183,8 @@ fn learn_edges(
     Ok((came, next))
 }
 
-/// Takes what the hub has of a node's next changes and of the silence after them, where the node is no member. Answers whether something
-/// was taken. `handed` is how many of its changes were handed over so far.
+/// Takes what the hub has of a node's next changes and of the silence after them, if the node is no member. Returns whether something was
+/// taken. `handed` is how many of its changes were handed over so far.
 #[tactic(auto, using(crate::proofs::Took::took_nothing, crate::proofs::Took::took_both, crate::proofs::Named::still_of))]
 fn learn_node(
     hub: &Hub<PlanName>,
@@ -220,14 +220,14 @@ fn learn_node(
 /// For each node that there may be, how many of its changes were handed to a group.
 pub(crate) type Handed = [u32; MOST_NODES];
 
-/// Nothing was handed over so far.
+/// Returns the state in which nothing was handed over.
 pub(crate) fn nothing_handed() -> Handed
     ensures { All (λ count. count ≡ 0) result }
 {
     [0; MOST_NODES]
 }
 
-/// Takes what the hub has of all nodes that are no members of the group, whose bell had rung so often before. Answers whether something was
+/// Takes what the hub has of all nodes that are no members of the group; its bell had rung so often before. Returns whether something was
 /// taken.
 #[tactic(auto, using(crate::proofs::Took::took_nothing, crate::proofs::Took::took_both, crate::proofs::Named::still_of))]
 pub(crate) fn learn_all(

@@ -1,4 +1,4 @@
-//! All workers of a plan, each in a thread of its own, and what they come to.
+//! All workers of a plan, each in a thread of its own, and their outcome.
 ghost use Rattle.std.specs.Prelude.{◌≡◌, ◌≢◌, ◌<◌, ◌≤◌, ◌⊎◌, ◌↔◌, ℕ, true, All, Err, IsOk, IfOk, IfErr, IfSome, IfNone, Some, get_or, length, vec_len, vec_capacity};
 ghost use Rattle.wl_plan.specs.Checked.{IsChecked};
 ghost use Rattle.wl_group.specs.GroupValue.{belongs, has_ended};
@@ -36,13 +36,14 @@ impl Promise<Result<Group, Fault>> for OfShare {
     ghost kept_by = { KeepsPromise };
 }
 
-/// A worker's thread, which promises what it comes to.
+/// A worker's thread, which promises what it returns.
 type Child = PromisedHandle<Result<Group, Fault>, OfShare>;
 
-/// What the one-thread simulation of a plan comes to, by as many workers as there are links: link `w` is that of worker `w`, which runs
-/// the nodes `i` with `i` mod workers equal to `w`, in a thread of its own. Where it fails there is no partial outcome; of several faults
-/// the first by `Fault`'s order, and of these the lowest worker's, is answered. Where no thread can be made for a worker, that worker has
-/// stopped, and no more are started.
+/// Returns the outcome of the one-thread simulation of a plan, by one worker for each link. Link `w` is that of worker `w`, which runs the
+/// nodes `i` with `i` mod workers equal to `w`, in a thread of its own.
+///
+/// If it fails there is no partial outcome. Of several faults it is the first by `Fault`'s order, and of these the lowest worker's. If no
+/// thread can be made for a worker, that worker has stopped, and no more are started.
 pub fn simulate_over<R: Threads + Wait + Sync, L: Link + Send + Drop, G: Gate + Sync>(
     rt: &R,
     alloc: Global,
@@ -65,7 +66,7 @@ pub fn simulate_over<R: Threads + Wait + Sync, L: Link + Send + Drop, G: Gate + 
     outcome_of_ends(alloc, &plan, workers, ends.as_slice())
 }
 
-/// What all workers come to together: the outcome, or the first of their faults.
+/// Returns the outcome of all workers together, or the first of their faults.
 fn outcome_of_ends(
     alloc: Global,
     plan: &Plan,
@@ -88,7 +89,7 @@ fn outcome_of_ends(
     }
 }
 
-/// Runs all workers, each in a thread of its own, and answers what they came to, in order: all of them, or those up to one for which no
+/// Runs all workers, each in a thread of its own, and returns their ends, in order: of all of them, or of those up to one for which no
 /// thread could be made. Refused only when out of memory, before any began.
 fn run_all<R: Threads + Wait + Sync, L: Link + Send + Drop, G: Gate + Sync>(
     rt: &R,
@@ -119,7 +120,7 @@ fn run_all<R: Threads + Wait + Sync, L: Link + Send + Drop, G: Gate + Sync>(
     )
 }
 
-/// Starts a thread of this scope for each link, and joins them. Room for what they come to is made before the first begins.
+/// Starts a thread of this scope for each link, and joins them. Room for their ends is made before the first begins.
 fn run_in<'s, E, R: Threads + Wait + Sync, L: Link + Send + Drop + 's, G: Gate + Sync>(
     scope: &Scope<'s, E>,
     rt: &'s R,
@@ -149,7 +150,7 @@ fn run_in<'s, E, R: Threads + Wait + Sync, L: Link + Send + Drop + 's, G: Gate +
     Ok(ends)
 }
 
-/// Starts a thread of this scope for each link, up to one for which none can be made. Answers the threads, and the fault of that worker, if
+/// Starts a thread of this scope for each link, up to one for which none can be made. Returns the threads, and the fault of that worker, if
 /// there is one.
 fn start_all<'s, E, R: Threads + Wait + Sync, L: Link + Send + Drop + 's, G: Gate + Sync>(
     scope: &Scope<'s, E>,
@@ -185,7 +186,7 @@ fn start_all<'s, E, R: Threads + Wait + Sync, L: Link + Send + Drop + 's, G: Gat
     (children, None)
 }
 
-/// Joins the threads of workers 0, 1 and so on, and puts what they came to into a list with room.
+/// Joins the threads of workers 0, 1 and so on, and puts their ends into a list with room.
 fn join_all<R: Threads>(
     rt: &R,
     plan: &Plan,
@@ -209,7 +210,7 @@ fn join_all<R: Threads>(
     ends
 }
 
-/// Starts the thread of a worker. Where none can be made, the worker stops, and so do all that wait.
+/// Starts the thread of a worker. If none can be made, the worker stops, and so do all that wait.
 fn start<'s, E, R: Wait + Sync, L: Link + Send + Drop + 's, G: Gate + Sync>(
     scope: &Scope<'s, E>,
     rt: &'s R,
@@ -246,7 +247,7 @@ fn start<'s, E, R: Wait + Sync, L: Link + Send + Drop + 's, G: Gate + Sync>(
     }
 }
 
-/// One worker, from its group before the first quanta to its end. The worker for which no thread could be made stops.
+/// Runs one worker, from its group before the first quanta to its end. The worker for which no thread could be made stops.
 fn run_one<R: Wait, L: Link + Drop, G: Gate>(
     rt: &R,
     alloc: Global,
@@ -277,7 +278,7 @@ fn run_one<R: Wait, L: Link + Drop, G: Gate>(
     }
 }
 
-/// The first fault of these ends: by the order of faults, and then by worker.
+/// Returns the first fault of these ends: by the order of faults, and then by worker.
 fn first_fault(ends: &[Result<Group, Fault>]) -> Option<Fault>
     ensures { IsLowestFault ends.now result }
 {
@@ -288,7 +289,7 @@ fn first_fault(ends: &[Result<Group, Fault>]) -> Option<Fault>
     first
 }
 
-/// The first fault so far, or that of one end more.
+/// Returns the first fault so far, or that of one end more.
 fn with_end(first: Option<Fault>, end: &Result<Group, Fault>) -> Option<Fault>
     ensures { IsNextFault first end.now result }
 {
@@ -299,7 +300,7 @@ fn with_end(first: Option<Fault>, end: &Result<Group, Fault>) -> Option<Fault>
     }
 }
 
-/// The first of a fault and of that of one end more.
+/// Returns the first of a fault and of that of one end more.
 fn lower_of(first: Fault, end: &Result<Group, Fault>) -> Fault
     ensures { IsNextFault (Some first) end.now (Some result) }
 {
@@ -309,7 +310,7 @@ fn lower_of(first: Fault, end: &Result<Group, Fault>) -> Fault
     }
 }
 
-/// What all groups, at their ends, come to together. Refused only when out of memory.
+/// Returns the outcome of all groups together; they are at their ends. Refused only when out of memory.
 fn outcome_from(
     alloc: Global,
     plan: &Plan,
@@ -334,7 +335,7 @@ fn outcome_from(
     })
 }
 
-/// What node `i` did, by the group that has it.
+/// Returns what node `i` did, by the group that has it.
 fn node_from(
     alloc: Global,
     plan: &Plan,
@@ -355,7 +356,7 @@ fn node_from(
     outcome_at_end(alloc, group, i)
 }
 
-/// What a member did, at the end.
+/// Returns what a member did, at the end.
 fn outcome_at_end(alloc: Global, group: &Group, i: u8) -> Result<NodeOutcome, AllocError>
     requires node { i < length group.now.plan.nodes }
     requires member { belongs group.now i ≡ true }

@@ -17,7 +17,7 @@ use wl_mail::{MailFault, Post};
 use wl_plan::Plan;
 use wl_record_core::Record;
 
-/// That records went out: their words stand, or a letter of them was sent. Only the functions that give make one, so that no bell rings
+/// That records went out: their words have them, or a letter of them was sent. Only the functions that give make one, so that no bell rings
 /// before.
 #[derive(Drop)]
 pub struct Given {

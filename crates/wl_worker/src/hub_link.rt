@@ -31,7 +31,8 @@ pub struct HubLink<'h, R: Wait> {
 }
 
 impl<'h, R: Wait> HubLink<'h, R> {
-    /// The link of a worker over a pass of a hub that has the words of the plan that is the pass's name. Refused only when out of memory.
+    /// Returns the link of a worker over a pass of a hub that has the words of the plan that is the pass's name. Refused only when out of
+    /// memory.
     pub fn new(
         rt: &'h R,
         alloc: Global,
@@ -85,8 +86,8 @@ impl<'h, R: Wait> Link for HubLink<'h, R> {
         Ok(())
     }
 
-    /// Takes what the hub has of the nodes that are no members: of each whose first changes the group has, as many as were handed over, it
-    /// then has all that the pass has seen.
+    /// Takes what the hub has of the nodes that are no members. If the group has the first changes of a node that were handed over, it then
+    /// has all that the pass has seen of it.
     fn fetch(&mut self, alloc: Global, group: &mut Group) -> Result<bool, LinkFault>
         requires { IsOfPlan self.old.hub.now self.old.pass group.old.plan }
         ensures same { (p : GivenPlan) → IsOfPlan self.old.hub.now self.old.pass p
@@ -105,8 +106,7 @@ impl<'h, R: Wait> Link for HubLink<'h, R> {
         Ok(came)
     }
 
-    /// Hears no bell any more, so that a wait before the next fetch ends at once, and counts nothing as handed over, so that this fetch hands
-    /// over all that the pass has seen.
+    /// Begins again: the next fetch hands over all that the pass has seen, and a wait before it ends at once.
     fn rewind(&mut self) {
         self.heard = Heard::nothing();
         self.handed = nothing_handed();

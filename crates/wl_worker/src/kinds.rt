@@ -21,8 +21,8 @@ pub enum LinkKind {
     Mail,
 }
 
-/// What the one-thread simulation of a plan comes to, by so many workers that hand records over by this kind of link. Its refusals are
-/// those of `simulate_over`.
+/// Returns the outcome of the one-thread simulation of a plan, by this many workers that hand records over by this kind of link. Its
+/// refusals are those of `simulate_over`.
 pub fn simulate_by<R: Threads + Wait + Sync, G: Gate + Sync>(
     rt: &R,
     alloc: Global,
@@ -41,7 +41,7 @@ pub fn simulate_by<R: Threads + Wait + Sync, G: Gate + Sync>(
     }
 }
 
-/// What the one-thread simulation of a plan comes to, by so many workers over one hub: `simulate_by` with the hub.
+/// Returns the outcome of the one-thread simulation of a plan, by this many workers over one hub: `simulate_by` with the hub.
 pub fn simulate<R: Threads + Wait + Sync, G: Gate + Sync>(
     rt: &R,
     alloc: Global,

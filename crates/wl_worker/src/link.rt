@@ -27,7 +27,7 @@ impl From<AllocError> for LinkFault {
     }
 }
 
-/// Why workers came to no outcome. Where several apply, the first of these.
+/// Why workers have no outcome. If several apply, the first of these.
 #[derive(Clone, Copy, Debug, PartialEq, Eq, Error)]
 pub enum Fault {
     /// There is no worker, or there are more than 8.
@@ -45,7 +45,7 @@ pub enum Fault {
 }
 
 impl Fault {
-    /// The place in the order of faults; workers by their numbers.
+    /// Returns the place in the order of faults; workers by their numbers.
     fn rank(self) -> u16
         ensures { result ≡ rank self }
     {
@@ -57,7 +57,7 @@ impl Fault {
         }
     }
 
-    /// The first of two faults, by their order, and then by worker.
+    /// Returns the first of two faults, by their order, and then by worker.
     pub(crate) fn or_lower(self, other: Fault) -> Fault
         ensures { result ≡ lower_fault self other }
     {
@@ -92,7 +92,7 @@ pub trait Link {
     /// The link is of this plan.
     ghost is_of: { Self → GivenPlan → Type 0 };
 
-    /// And of the worker of this number.
+    /// And it is of the worker of this number.
     ghost number: { Self → ℕ };
 
     /// The next fetch begins with what was fetched first.
@@ -101,7 +101,7 @@ pub trait Link {
     /// These records were given, and made the second of the first.
     ghost gave: { Self → Self → List Told → Type 0 } = { λ _ _ _. Unit {0} };
 
-    /// The number of the worker whose link this is, from 0.
+    /// Returns the number of the worker whose link this is, from 0.
     fn worker(&self) -> u8
         ensures { result ≡ number self.now };
 
@@ -113,7 +113,7 @@ pub trait Link {
         ensures rewound { is_rewound self.old → is_rewound self.new }
         ensures gave { OnOk result (gave self.old self.new records.now) };
 
-    /// Hands to a group of the link's plan what others gave, and answers whether that changed what the group knows.
+    /// Hands to a group of the link's plan what others gave, and returns whether that changed what the group knows.
     fn fetch(&mut self, alloc: Global, group: &mut Group) -> Result<bool, LinkFault>
         requires { is_of self.old group.old.plan }
         ensures same { (p : GivenPlan) → is_of self.old p → is_of self.new p }
@@ -127,13 +127,13 @@ pub trait Link {
         ensures number { number self.new ≡ number self.old }
         ensures rewound { is_rewound self.new };
 
-    /// Waits until some worker gave something after this link's last `fetch` began, or some worker stopped. Answers the first one
-    /// that stopped, if any.
+    /// Waits until some worker gave something after this link's last `fetch` began, or some worker stopped. Returns the first one that
+    /// stopped, if any.
     fn wait(&mut self) -> Option<u8>
         ensures same { (p : GivenPlan) → is_of self.old p → is_of self.new p }
         ensures number { number self.new ≡ number self.old };
 
-    /// Tells the others that this worker stopped.
+    /// Lets the others know that this worker stopped.
     fn stop(&mut self)
         ensures same { (p : GivenPlan) → is_of self.old p → is_of self.new p }
         ensures number { number self.new ≡ number self.old };
@@ -141,10 +141,10 @@ pub trait Link {
 
 /// What is asked before each turn of a worker, so that workers can be watched, stopped and restarted.
 pub trait Gate {
-    /// Whether the worker may begin this turn; turns count from 0. Where it may not, the worker ends with its fault.
+    /// True if the worker may begin this turn; turns count from 0. If it may not, the worker ends with its fault.
     fn turn(&self, worker: u8, turn: u64) -> bool;
 
-    /// Whether the worker's group restarts before this turn, which it may begin.
+    /// True if the worker's group restarts before this turn, which it may begin.
     fn restart(&self, worker: u8, turn: u64) -> bool {
         let _ = (worker, turn);
         false

@@ -16,7 +16,7 @@ use wl_mail::{MailFault, Post};
 use wl_plan::Plan;
 use wl_record_core::Record;
 
-/// A link over a post. It waits at a bell, whose counts tell how many letters are still to come.
+/// A link over a post. It waits at a bell, whose counts say how many letters are still to come.
 #[derive(Drop)]
 pub struct MailLink<'h, R: Wait> {
     rt: &'h R,
@@ -45,8 +45,8 @@ impl From<MailFault> for LinkFault {
 }
 
 impl<'h, R: Wait> MailLink<'h, R> {
-    /// The link of a worker over its post, of a plan. All links of a run share one bell, at which each gives as often as it sends. Refused
-    /// only when out of memory; then the post is given up.
+    /// Returns the link of a worker over its post, of a plan. All links of a run share one bell, at which each gives as often as it sends.
+    /// Refused only when out of memory; then the post is given up.
     pub fn new(
         rt: &'h R,
         alloc: Global,
@@ -98,8 +98,8 @@ impl<'h, R: Wait> Link for MailLink<'h, R> {
         Ok(())
     }
 
-    /// Hands the group all letters that the post received and hasn't handed out, and then as many new ones as the others have sent, by
-    /// the bell; where there are none it waits for nobody.
+    /// Hands the group all letters that the post received and hasn't handed out, and then all new ones that the others have sent, by the
+    /// bell. If there are none it waits for nobody.
     fn fetch(&mut self, alloc: Global, group: &mut Group) -> Result<bool, LinkFault>
         requires { arc_value self.old.plan ≡ group.old.plan }
         ensures same { (p : GivenPlan) → arc_value self.old.plan ≡ p → arc_value self.new.plan ≡ p }
@@ -130,8 +130,8 @@ impl<'h, R: Wait> Link for MailLink<'h, R> {
     }
 }
 
-/// Hands a group all letters that a post received and hasn't handed out, and then new ones, until so many were handed out together. Answers
-/// whether that changed what the group knows.
+/// Hands a group all letters that a post received and hasn't handed out, and then new ones, until this many were handed out together.
+/// Returns whether that changed what the group knows.
 fn receive_all<R: Wait>(
     rt: &R,
     alloc: Global,
@@ -153,7 +153,7 @@ fn receive_all<R: Wait>(
     Ok(came)
 }
 
-/// A link for each post, of a plan: the posts are those of workers 0, 1 and so on, at most 256. Refused only when out of memory.
+/// Returns a link for each post, of a plan: the posts are those of workers 0, 1 and so on, at most 256. Refused only when out of memory.
 pub fn mail_links<'h, R: Wait>(
     rt: &'h R,
     alloc: Global,

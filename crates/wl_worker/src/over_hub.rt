@@ -18,7 +18,7 @@ use wl_hub::{Hub, Pass};
 use wl_plan::Plan;
 use wl_serial::Outcome;
 
-/// What the one-thread simulation of a plan comes to, by so many workers over one hub.
+/// Returns the outcome of the one-thread simulation of a plan, by this many workers over one hub.
 pub(crate) fn simulate_over_hub<R: Threads + Wait + Sync, G: Gate + Sync>(
     rt: &R,
     alloc: Global,
@@ -43,7 +43,8 @@ pub(crate) fn simulate_over_hub<R: Threads + Wait + Sync, G: Gate + Sync>(
     simulate_over(rt, alloc, plan, links, gate)
 }
 
-/// A link for each of so many workers, over a pass of its own that is split off a pass of the hub. Refused only when out of memory.
+/// Returns a link for each of this many workers, over a pass of its own that is split off a pass of the hub. Refused only when out of
+/// memory.
 pub fn hub_links<'h, R: Wait>(
     rt: &'h R,
     alloc: Global,

@@ -14,8 +14,8 @@ use wl_mail::posts;
 use wl_plan::Plan;
 use wl_serial::Outcome;
 
-/// What the one-thread simulation of a plan comes to, by so many workers that send letters. All receivers are held until the workers have
-/// ended, so that nobody's letter is refused because its reader ended before.
+/// Returns the outcome of the one-thread simulation of a plan, by this many workers that send letters. All receivers are held until the
+/// workers have ended, so that nobody's letter is refused because its reader ended before.
 pub(crate) fn simulate_over_mail<R: Threads + Wait + Sync, G: Gate + Sync>(
     rt: &R,
     alloc: Global,

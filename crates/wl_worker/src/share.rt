@@ -8,7 +8,7 @@ use std::alloc::{AllocError, Global};
 use wl_group::Group;
 use wl_plan::Plan;
 
-/// The group of a worker, before its first quanta: the nodes `i` with `i` mod `workers` equal to `worker`.
+/// Returns the group of a worker, before its first quanta: the nodes `i` with `i` mod `workers` equal to `worker`.
 pub(crate) fn share_of(
     alloc: Global,
     plan: &Plan,
@@ -23,7 +23,7 @@ pub(crate) fn share_of(
     Group::new(alloc, plan, members.as_slice())
 }
 
-/// Its numbers, of so many nodes.
+/// Returns its numbers, of this many nodes.
 fn members_of(alloc: Global, nodes: u8, workers: u8, worker: u8) -> Result<Vec<u8>, AllocError>
     requires { worker < workers }
     ensures below { IfOk result (λ members. AreBelow nodes members.items) }
@@ -36,7 +36,7 @@ fn members_of(alloc: Global, nodes: u8, workers: u8, worker: u8) -> Result<Vec<u
     Ok(members)
 }
 
-/// One number more, if it is wanted.
+/// Adds one number more, if it is wanted.
 fn add_member(members: &mut Vec<u8>, i: u8, wanted: bool) -> Result<(), AllocError>
     ensures below { OnOk result ((n : ℕ) → i < n → AreBelow n members.old.items → AreBelow n members.new.items) }
     ensures named { OnOk result ((k : ℕ)

@@ -19,8 +19,8 @@ impl Truth for PlanName {
     ghost is_true = { is_told };
 }
 
-/// The shape of a hub for a plan that passed its check: a node `k` of whose quanta begin before the end has `k / (least_way + 1) + 1` edge
-/// words, rounded down, and one silence word more. Refused only when out of memory.
+/// Returns the shape of a hub for a plan that passed its check: a node `k` of whose quanta begin before the end has
+/// `k / (least_way + 1) + 1` edge words, rounded down, and one silence word more. Refused only when out of memory.
 pub fn shape_of_plan(alloc: Global, plan: &Plan) -> Result<Vec<(u32, u32)>, AllocError>
     requires { IsChecked plan.now }
     ensures { IfOk result (λ shape. IsShapeOf plan.now shape.items) }
@@ -32,7 +32,7 @@ pub fn shape_of_plan(alloc: Global, plan: &Plan) -> Result<Vec<(u32, u32)>, Allo
     Ok(shape)
 }
 
-/// The numbers of edge words and of silence words of node `i`.
+/// Returns the numbers of edge words and of silence words of node `i`.
 fn words_of(plan: &Plan, i: usize) -> (u32, u32)
     requires checked { IsChecked plan.now }
     requires node { i < length plan.now.nodes }

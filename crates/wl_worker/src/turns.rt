@@ -15,17 +15,17 @@ use wl_record_core::Record;
 /// A worker has no turn of this number: there it ends with its fault.
 const MOST_TURNS: u64 = 1 << 63;
 
-/// How often at most each member has its turn before the worker gives what was said, by measurement: with fewer a worker gives and fetches
+/// How often at most each member has its turn before the worker gives what was said, by measurement. With fewer a worker gives and fetches
 /// more often on lines with long delays, and with more nothing is gained. So others needn't wait until it has run all that it can.
 const MOST_ROUNDS: u32 = 32;
 
 /// Runs a group to its end, with what comes by its link.
 ///
 /// The worker gives its members' first silences. Then in each turn it asks the gate, fetches, runs its members, and gives what they said,
-/// if anything; it waits where nothing came and nothing was said. It ends when all its members are at the end. Where it
-/// fails, it tells the others by `stop`.
+/// if anything. It waits if nothing came and nothing was said. It ends when all its members are at the end. If it fails, it lets the others
+/// know by `stop`.
 ///
-/// Where the gate asks a restart of a turn, the group begins again before it: fresh nodes that know nothing, to which the link hands again
+/// If the gate asks a restart of a turn, the group begins again before it: fresh nodes that know nothing, to which the link hands again
 /// what it handed, and which give their first silences again.
 pub fn work<R: Wait, L: Link + Drop, G: Gate>(
     rt: &R,
@@ -51,7 +51,7 @@ pub fn work<R: Wait, L: Link + Drop, G: Gate>(
     }
 }
 
-/// All turns of a worker.
+/// Runs all turns of a worker.
 fn run<L: Link, G: Gate>(
     alloc: Global,
     group: &mut Group,
@@ -90,7 +90,7 @@ fn run<L: Link, G: Gate>(
     Err(Fault::Worker(worker))
 }
 
-/// The worker's fault where its link has this one.
+/// Returns the worker's fault if its link has this one.
 fn fault_of(fault: LinkFault, worker: u8) -> Fault
     ensures { result ≢ Fault.Workers }
 {
@@ -127,7 +127,7 @@ fn begin<L: Link>(alloc: Global, group: &Group, link: &mut L) -> Result<(), Link
     hand(alloc, group, link, first.as_slice())
 }
 
-/// What the members say before their first quanta.
+/// Returns what the members say before their first quanta.
 #[tactic(auto, using(crate::proofs::Steps::pushed_true))]
 fn first_silences(alloc: Global, group: &Group) -> Result<Vec<Record>, AllocError>
     ensures truth { IfOk result (λ first. AreTrueOfPlan group.now.plan first.items) }
@@ -143,7 +143,7 @@ fn first_silences(alloc: Global, group: &Group) -> Result<Vec<Record>, AllocErro
     Ok(first)
 }
 
-/// Fetches, runs the members and gives what they said, if anything. Answers whether something came or was said.
+/// Fetches, runs the members and gives what they said, if anything. Returns whether something came or was said.
 fn step<L: Link>(alloc: Global, group: &mut Group, link: &mut L) -> Result<bool, LinkFault>
     requires { L.is_of link.old group.old.plan }
     ensures same { (p : GivenPlan) → L.is_of link.old p → L.is_of link.new p }
@@ -156,7 +156,7 @@ fn step<L: Link>(alloc: Global, group: &mut Group, link: &mut L) -> Result<bool,
     Ok(came || !said.is_empty())
 }
 
-/// Fetches what others gave. Answers whether something came.
+/// Fetches what others gave. Returns whether something came.
 #[tactic(auto, using(crate::proofs::Steps::took_members))]
 fn come<L: Link>(alloc: Global, group: &mut Group, link: &mut L) -> Result<bool, LinkFault>
     requires { L.is_of link.old group.old.plan }
@@ -167,7 +167,7 @@ fn come<L: Link>(alloc: Global, group: &mut Group, link: &mut L) -> Result<bool,
     link.fetch(alloc, group)
 }
 
-/// Runs all members until none may run or each had its turn often enough, and answers what they said.
+/// Runs all members until none may run or each had its turn often enough, and returns what they said.
 fn say(alloc: Global, group: &mut Group) -> Result<Vec<Record>, AllocError>
     ensures truth { IfOk result (λ said. AreTrueOfPlan group.old.plan said.items) }
     ensures plan { group.new.plan ≡ group.old.plan }
@@ -184,7 +184,7 @@ fn say(alloc: Global, group: &mut Group) -> Result<Vec<Record>, AllocError>
     Ok(said)
 }
 
-/// Runs a row of quanta of each member that may run one, and puts what it says behind the rest.
+/// Runs a row of quanta of each member that may run one, and puts what it says after the rest.
 fn run_members(group: &mut Group, said: &mut Vec<Record>) -> Result<(), AllocError>
     requires { AreTrueOfPlan group.old.plan said.old.items }
     ensures truth { AreTrueOfPlan group.old.plan said.new.items }
@@ -197,8 +197,7 @@ fn run_members(group: &mut Group, said: &mut Vec<Record>) -> Result<(), AllocErr
     Ok(())
 }
 
-/// Runs a row of quanta of a node, if it may run one, and puts what it says behind the rest: its change, if there is one, and one
-/// promise.
+/// Runs a row of quanta of a node, if it may run one, and puts what it says after the rest: its change, if there is one, and one promise.
 #[tactic(auto, using(crate::proofs::Steps::appended_true, crate::proofs::Steps::gone_true))]
 fn run_member(group: &mut Group, i: u8, said: &mut Vec<Record>) -> Result<(), AllocError>
     requires { AreTrueOfPlan group.old.plan said.old.items }
@@ -232,7 +231,7 @@ fn hand<L: Link>(
     link.give(alloc, said)
 }
 
-/// Whether all members of a group are at the end.
+/// True if all members of a group are at the end.
 fn is_at_end(group: &Group) -> bool
     ensures { IsTrue result ↔ MembersEnded group.now }
 {

@@ -13,7 +13,7 @@ use wl_group::{Group, first_silence};
 use wl_plan::{Grouping, Plan};
 use wl_record_core::Record;
 
-/// The groups of a grouping, each before the first quanta of its nodes.
+/// Returns the groups of a grouping, each before the first quanta of its nodes.
 pub(crate) fn first_groups(
     alloc: Global,
     plan: &Plan,
@@ -31,7 +31,7 @@ pub(crate) fn first_groups(
     Ok(groups)
 }
 
-/// Group `h` of a grouping, before the first quanta of its nodes.
+/// Returns group `h` of a grouping, before the first quanta of its nodes.
 fn first_group(alloc: Global, plan: &Plan, grouping: &Grouping, h: u8) -> Result<Group, AllocError>
     requires checked { IsChecked plan.now }
     requires grouping { IsGrouping (length plan.now.nodes) grouping.now }
@@ -46,7 +46,7 @@ fn first_group(alloc: Global, plan: &Plan, grouping: &Grouping, h: u8) -> Result
     Group::new(alloc, plan, members.as_slice())
 }
 
-/// The first silence of each node: that it keeps its first drive up to its first quantum.
+/// Returns the first silence of each node: that it keeps its first drive up to its first quantum.
 pub(crate) fn first_records(alloc: Global, plan: &Plan) -> Result<Vec<Record>, AllocError>
     requires { IsChecked plan.now }
     ensures { IfOk result (λ records.

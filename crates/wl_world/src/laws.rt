@@ -5,9 +5,9 @@ ghost use Rattle.wl_world.specs.Faithful.{WorldsAreFaithful, WorldsDoNotStall};
 ghost use Rattle.wl_world.specs.Headline.{Headline, NoStall};
 ghost use Rattle.wl_world.specs.Settling.{SettlingLaws};
 
-/// Law: whatever the groups do, in whatever order records come, repeated or late, whoever joins or
-/// restarts: every emitted record is true, replicas that took the same records are equal, and
-/// below each horizon, at each node and in each read, all is as in the one-thread simulation.
+/// Law: whatever the groups do, in whatever order records come, repeated or late, whoever joins or restarts, three things hold. Every
+/// emitted record is true. Replicas that took the same records are equal. Below each horizon, at each node and in each read, all is as in
+/// the one-thread simulation.
 pub fn headline()
     ensures { Headline }
 {
@@ -19,8 +19,8 @@ pub fn headline()
     wl_group::group_laws();
 }
 
-/// Law: the headline of a world as its calls see it: what was emitted is true, each group knows nothing but the truth, below each horizon
-/// its wave is the level of the one-thread simulation, and each node is where that has it after as many quanta.
+/// Law: the headline of a world as its calls see it. What was emitted is true. Each group knows nothing but the truth, and below each
+/// horizon its wave is the level of the one-thread simulation. Each node is where that has it after the same number of quanta.
 pub fn worlds_are_faithful()
     ensures { WorldsAreFaithful }
 {
@@ -31,9 +31,8 @@ pub fn worlds_are_faithful()
     wl_plan::grouping_laws();
 }
 
-/// Law: where each group has taken all that was emitted, some node can advance, or all are at the end:
-/// the groups never wait for each other in a ring. So it is in every world where each group knows all that was emitted, whatever way
-/// it came to know it.
+/// Law: if each group has taken all that was emitted, some node can advance, or all are at the end: the groups never wait for each other in
+/// a ring. So it is in every world in which each group knows all that was emitted, whatever way it came to know it.
 pub fn no_stall()
     ensures scenes { NoStall }
     ensures worlds { WorldsDoNotStall }
@@ -48,10 +47,9 @@ pub fn no_stall()
     wl_group::value_laws();
 }
 
-/// Law: what settling rests on: each advance runs one of the quanta that are left, a delivery none; no
-/// quantum is left exactly where all nodes are at the end; what is delivered is taken and stays.
-/// Rounds of deliveries to all and of advances until none can end with all nodes at the end, and
-/// there are no more of them than quanta were left. How many are left, and where the end is, a world's value tells.
+/// Law: what settling rests on. Each advance runs one of the quanta that are left, a delivery none. No quantum is left exactly if all nodes
+/// are at the end. What is delivered is taken and stays. Rounds of deliveries to all and of advances until none can end with all nodes at
+/// the end, and there are no more of them than quanta were left. A world's value says how many are left, and where the end is.
 pub fn settling_laws()
     ensures scenes { SettlingLaws }
     ensures worlds { EndLaws }

@@ -1,4 +1,4 @@
-//! All groups of a line together, over every schedule.
+//! All groups of a line together, over every schedule: the headline.
 #![tactic(auto)]
 
 mod begin;

@@ -1,4 +1,4 @@
-//! What a world has come to, where all nodes are at the end.
+//! The outcome of a world whose nodes are all at the end.
 ghost use Rattle.std.specs.Prelude.{◌≡◌, ◌<◌, IfOk, length};
 ghost use Rattle.wl_serial.specs.Outcome.{node_outcome_of, outcome_of};
 
@@ -10,8 +10,8 @@ use wl_serial::{NodeOutcome, Outcome, node_outcome, outcome_node_by_node};
 impl World {
     ghost use Rattle.wl_world.specs.Ended.{AreAtEnd};
 
-    /// What the nodes did, where all of them are at the end: the outcome of the one-thread simulation of the plan. Refused only when out of
-    /// memory.
+    /// Returns what the nodes did; all of them are at the end. It is the outcome of the one-thread simulation of the plan. Refused only
+    /// when out of memory.
     pub fn outcome(&self, alloc: Global) -> Result<Outcome, AllocError>
         requires { AreAtEnd self.now }
         ensures { IfOk result (λ outcome. outcome ≡ outcome_of self.now.plan) }
@@ -27,7 +27,7 @@ impl World {
         })
     }
 
-    /// What node `i` did, where all nodes are at the end.
+    /// Returns what node `i` did; all nodes are at the end.
     fn node_outcome(&self, alloc: Global, i: u8) -> Result<NodeOutcome, AllocError>
         requires ended { AreAtEnd self.now }
         requires node { i < length self.now.plan.nodes }

@@ -12,7 +12,7 @@ use crate::worlds_are_faithful;
 use std::alloc::AllocError;
 use wl_group::Group;
 
-/// Whether all members of a group are at the end.
+/// True if all members of a group are at the end.
 fn is_at_end(group: &Group) -> bool
     ensures { IsTrue result ↔ ((i : ℕ) → has group.now i ≡ true → has_ended group.now i ≡ true) }
 {
@@ -48,7 +48,7 @@ impl World {
     ghost use Rattle.wl_world.specs.WorldSteps.{SettlesIn, MovesOn, RoundsOn, HandsTo, HandsToAll, Exhausts, ExhaustsAll, MayAdvance, IsStuckIn};
     ghost use Rattle.wl_world.specs.WorldValue.{cast_of};
 
-    /// Whether all nodes are at the end: the next quantum of each isn't below it.
+    /// True if all nodes are at the end: the next quantum of each isn't below it.
     pub fn at_end(&self) -> bool
         ensures { IsTrue result ↔ AreAtEnd self.now }
     {
@@ -60,9 +60,9 @@ impl World {
         true
     }
 
-    /// Goes on until all nodes are at the end, and answers in how many rounds. In a round each group is handed all records that were
-    /// emitted before it, and then nodes advance until none can. There are no more rounds than quanta were left, and none where all
-    /// were at the end. Refused when out of memory, the deliveries and advances that were made stand.
+    /// Goes on until all nodes are at the end, and returns in how many rounds. In a round each group is handed all records that were
+    /// emitted before it, and then nodes advance until none can. There are no more rounds than quanta were left, and none if all were at
+    /// the end. Refused when out of memory, the deliveries and advances that were made stay.
     pub fn settle(&mut self) -> Result<u64, AllocError>
         ensures settled { IfOk result (λ n. SettlesIn self.old self.new n) }
         ensures few { IfOk result (λ n. n ≤ quanta_left_of self.old) }
@@ -82,7 +82,7 @@ impl World {
         rounds
     }
 
-    /// Round after round, until all nodes are at the end. Answers how many.
+    /// Runs round after round, until all nodes are at the end. Returns how many.
     fn go_round(&mut self) -> Result<u64, AllocError>
         ensures settled { IfOk result (λ n. SettlesIn self.old self.new n) }
         ensures few { IfOk result (λ n. n ≤ quanta_left_of self.old) }
@@ -105,7 +105,7 @@ impl World {
         Ok(rounds)
     }
 
-    /// One round, where each group has taken the first `from` records. Answers how many each has taken then.
+    /// Runs one round, before which each group has taken the first `from` records. Returns how many each has taken then.
     fn round(&mut self, from: u64) -> Result<u64, AllocError>
         ensures rounded { IfOk result (λ to. RoundsOn from to self.old self.new) }
         ensures moved { OnErr result (MovesLed (line_of self.old.plan) (cast_of self.old.numbers) self.old self.new) }
@@ -118,7 +118,7 @@ impl World {
         Ok(to)
     }
 
-    /// Each group takes the emitted records from number `from` up to number `to`.
+    /// Hands each group the emitted records from number `from` up to number `to`.
     fn deliver_to_all(&mut self, from: u64, to: u64) -> Result<(), AllocError>
         ensures handed { OnOk result (HandsToAll from to self.old self.new) }
         ensures moved { OnErr result (MovesLed (line_of self.old.plan) (cast_of self.old.numbers) self.old self.new) }
@@ -131,7 +131,7 @@ impl World {
         Ok(())
     }
 
-    /// A group takes the emitted records from number `from` up to number `to`.
+    /// Hands a group the emitted records from number `from` up to number `to`.
     fn deliver_to(&mut self, group: u8, from: u64, to: u64) -> Result<(), AllocError>
         requires { group < groups_of self.old.numbers }
         ensures handed { OnOk result (HandsTo group from to self.old self.new) }
@@ -145,7 +145,7 @@ impl World {
         Ok(())
     }
 
-    /// Each group advances until no node of it can.
+    /// Advances each group until no node of it can.
     fn advance_all(&mut self) -> Result<(), AllocError>
         ensures stuck { OnOk result (ExhaustsAll self.old self.new) }
         ensures moved { OnErr result (MovesLed (line_of self.old.plan) (cast_of self.old.numbers) self.old self.new) }
@@ -158,7 +158,7 @@ impl World {
         Ok(())
     }
 
-    /// A group advances until no node of it can.
+    /// Advances a group until no node of it can.
     fn advance_group(&mut self, group: u8) -> Result<(), AllocError>
         ensures stuck { OnOk result (Exhausts group self.old self.new) }
         ensures moved { OnErr result (MovesLed (line_of self.old.plan) (cast_of self.old.numbers) self.old self.new) }
@@ -175,7 +175,7 @@ impl World {
         Ok(())
     }
 
-    /// The least node of a group that may run its next quantum; any number may be asked.
+    /// Returns the least node of a group that may run its next quantum; any number may be asked.
     fn ready(&self, group: u8) -> Option<u8>
         ensures ready { IfSome result (MayAdvance self.now group) }
         ensures stuck { IfNone result (IsStuckIn self.now group) }

@@ -17,8 +17,9 @@ impl World {
     ghost use Rattle.wl_world.specs.WorldSteps.{StepsBy, RunsEvents, StopsAfter};
     ghost use Rattle.wl_world.specs.WorldValue.{IsWorldValue};
 
-    /// Handles events in order, and answers for each whether it was possible; one that is not changes
-    /// nothing. Refused when out of memory, the world is as the first `done` events left it.
+    /// Handles events in order, and returns for each whether it was possible; one that is not
+    /// changes nothing. Refused when out of memory, the world is as the first `done` events left
+    /// it.
     pub fn run(&mut self, alloc: Global, events: &[Event]) -> Result<Vec<Answer>, Stopped>
         ensures ok { IfOk result (λ answers. RunsEvents events.now self.old self.new answers.items) }
         ensures stopped { IfErr result (λ s. StopsAfter events.now self.old self.new s.done) }
@@ -74,7 +75,7 @@ impl World {
         }
     }
 
-    /// A group runs the next quantum of its node, and what it emits is kept.
+    /// Lets a group run the next quantum of its node, and keeps what it emits.
     pub(crate) fn advance(&mut self, group: u8, node: u8) -> Result<Answer, AllocError>
         ensures ok { IfOk result (λ a. StepsBy (events.Advance group node) self.old self.new a) }
         ensures err { OnErr result (self.new ≡ self.old) }
@@ -98,7 +99,7 @@ impl World {
         }
     }
 
-    /// A group takes an emitted record.
+    /// Lets a group take an emitted record.
     pub(crate) fn deliver(&mut self, group: u8, number: u64) -> Result<Answer, AllocError>
         ensures ok { IfOk result (λ a. StepsBy (events.Deliver group number) self.old self.new a) }
         ensures err { OnErr result (self.new ≡ self.old) }
@@ -116,7 +117,7 @@ impl World {
         Ok(Answer::Done)
     }
 
-    /// A group takes all that another has taken.
+    /// Lets a group take all that another has taken.
     fn join(&mut self, group: u8, other: u8) -> Result<Answer, AllocError>
         ensures ok { IfOk result (λ a. StepsBy (events.Join group other) self.old self.new a) }
         ensures err { OnErr result (self.new ≡ self.old) }
@@ -134,7 +135,7 @@ impl World {
         Ok(Answer::Done)
     }
 
-    /// A group begins again.
+    /// Lets a group begin again.
     fn restart(&mut self, group: u8) -> Result<Answer, AllocError>
         ensures ok { IfOk result (λ a. StepsBy (events.Restart group) self.old self.new a) }
         ensures err { OnErr result (self.new ≡ self.old) }

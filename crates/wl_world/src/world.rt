@@ -43,9 +43,8 @@ impl World {
     ghost use Rattle.wl_world.specs.Steps.{HasStarted};
     ghost use Rattle.wl_world.specs.WorldValue.{IsWorldAt, IsWorldValue, cast_of};
 
-    /// The world of a plan that passed its check and a grouping of its nodes, before the first quanta:
-    /// the first silence of each node is emitted, in the order of the nodes, and each group has taken
-    /// those of its members. Refused only when out of memory.
+    /// Returns the world of a plan that passed its check and a grouping of its nodes, before the first quanta: the first silence of each
+    /// node is emitted, in the order of the nodes, and each group has taken those of its members. Refused only when out of memory.
     pub fn new(alloc: Global, plan: Plan, grouping: Grouping) -> Result<World, AllocError>
         requires checked { IsChecked plan }
         requires grouping { length grouping ≡ length plan.nodes }
@@ -66,14 +65,14 @@ impl World {
         })
     }
 
-    /// How many groups there are, those without nodes too.
+    /// Returns how many groups there are, those without nodes too.
     pub fn groups(&self) -> usize
         ensures { result ≡ length self.now.groups }
     {
         self.groups.len()
     }
 
-    /// A group, as it is by now: `g` counts from 0 and is below `groups`.
+    /// Returns a group, as it is by now: `g` counts from 0 and is below `groups`.
     pub fn group(&self, g: u8) -> &Group
         requires { g < length self.now.groups }
         ensures group { slice_get self.now.groups g ≡ Some result.now }
@@ -84,7 +83,7 @@ impl World {
         &self.groups[g as usize]
     }
 
-    /// All records that were ever emitted, the oldest first. Each of them is true of the plan.
+    /// Returns all records that were ever emitted, the oldest first. Each of them is true of the plan.
     pub fn emitted(&self) -> &[Record]
         ensures value { result.now ≡ self.now.emitted }
         ensures faithful { IsFaithfulValue self.now }
