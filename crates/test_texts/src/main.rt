@@ -1,4 +1,4 @@
-//! `text_rows`: answers rows about record texts, plan texts and the engines.
+//! `test_texts`: answers rows about record texts, plan texts and the engines.
 //!
 //! It reads them on standard input, and writes what is answered to each.
 //!
