@@ -1,3 +1,4 @@
 mod Alone
 mod Celled
 mod Coloured
+mod Growing

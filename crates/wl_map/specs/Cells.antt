@@ -57,8 +57,12 @@ abbrev pub first_error_of : Sweep → Option ℕ → List ℕ
 first_error_of s None = []
 first_error_of s (Some n) = member_error (member_at s n)
 
+-- a colour, and what a sweep says
+abbrev pub coloured_words : Colour → List ℕ → List ℕ
+coloured_words colour said = codes "cell " ++ colour_word colour ++ codes "\n" ++ said
+
 -- a row that is alone: its colour, what its sweep says, and the first error of its first member that isn't clean
 abbrev pub cell_of_row : Sweep → List ℕ
 cell_of_row s =
     let tally = tally_of (all_findings s) in
-    (codes "cell " ++ colour_word (colour_of tally) ++ codes "\n" ++ sweep_text s) ++ first_error_of s tally.first
+    coloured_words (colour_of tally) (sweep_text s) ++ first_error_of s tally.first

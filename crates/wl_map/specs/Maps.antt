@@ -20,11 +20,15 @@ abbrev pub flag_words : List ℕ → Bool → List ℕ
 flag_words flag true = flag
 flag_words flag false = []
 
+abbrev pub counts_words : Options → List ℕ
+counts_words o = (codes "options --runs " ++ (decimal o.runs ++ (codes " --seed " ++ decimal o.seed))) ++ step_words o.step
+
+abbrev pub flags_words : Options → Bool → List ℕ
+flags_words o worst =
+    flag_words (codes " --keep-offsets") o.keep_offsets ++ flag_words (codes " --keep-ppm") o.keep_ppm ++ flag_words (codes " --worst") worst
+
 abbrev pub options_line : Options → Bool → List ℕ
-options_line o worst =
-    (codes "options --runs " ++ decimal o.runs ++ codes " --seed " ++ decimal o.seed) ++ step_words o.step
-    ++ flag_words (codes " --keep-offsets") o.keep_offsets ++ flag_words (codes " --keep-ppm") o.keep_ppm
-    ++ flag_words (codes " --worst") worst ++ codes "\n"
+options_line o worst = counts_words o ++ flags_words o worst ++ codes "\n"
 
 -- a range by its name, with its values
 abbrev pub axis_value : ℤ → List ℕ

@@ -2,7 +2,7 @@
 ghost use Rattle.std.specs.Prelude.{OnOk};
 ghost use Rattle.std.specs.List.{flat_map};
 ghost use Rattle.wl_report.specs.Lines.{GrowsBy};
-ghost use Rattle.wl_map.specs.Maps.{axes_text, flag_words, options_line, range_line, range_lines, step_words, axis_value};
+ghost use Rattle.wl_map.specs.Maps.{axes_text, axis_value, counts_words, flag_words, flags_words, options_line, range_line, range_lines, step_words};
 
 use crate::rows::split;
 use std::alloc::AllocError;
@@ -25,17 +25,32 @@ fn push_flag(text: &mut String, flag: &str, set: bool) -> Result<(), AllocError>
     if set { text.push_str(flag) } else { Ok(()) }
 }
 
+/// Adds the words that say how many members are run.
+fn push_counts(text: &mut String, options: Options) -> Result<(), AllocError>
+    ensures { OnOk result (GrowsBy text.old text.new (counts_words options)) }
+{
+    let (runs, seed) = (options.runs, options.seed);
+    write!(text, "options --runs {runs} --seed {seed}")?;
+    push_step(text, options.step)
+}
+
+/// Adds the words that say what is varied.
+fn push_flags(text: &mut String, options: Options, worst: bool) -> Result<(), AllocError>
+    ensures { OnOk result (GrowsBy text.old text.new (flags_words options worst)) }
+{
+    push_flag(text, " --keep-offsets", options.keep_offsets)?;
+    push_flag(text, " --keep-ppm", options.keep_ppm)?;
+    push_flag(text, " --worst", worst)
+}
+
 /// Adds the words that ask for these options.
 fn push_options(text: &mut String, options: Options, worst: bool) -> Result<(), AllocError>
     ensures { OnOk result (GrowsBy text.old text.new (options_line options worst)) }
 {
-    let (runs, seed) = (options.runs, options.seed);
-    write!(text, "options --runs {runs} --seed {seed}")?;
-    push_step(text, options.step)?;
-    push_flag(text, " --keep-offsets", options.keep_offsets)?;
-    push_flag(text, " --keep-ppm", options.keep_ppm)?;
-    push_flag(text, " --worst", worst)?;
-    text.push_str("\n")
+    push_counts(text, options)?;
+    push_flags(text, options, worst)?;
+    text.push_str("\n")?;
+    Ok(())
 }
 
 /// Adds values.

@@ -3,7 +3,7 @@ ghost use Rattle.std.specs.Prelude.{◌≡◌, true, IfOk, OnOk};
 ghost use Rattle.std.specs.List.{list_all};
 ghost use Rattle.wl_plan.specs.Checked.{IsChecked};
 ghost use Rattle.wl_report.specs.Lines.{GrowsBy};
-ghost use Rattle.wl_map.specs.Cells.{cell_of_row, colour_of, colour_word, error_line, first_error_of, plan_error, text_error};
+ghost use Rattle.wl_map.specs.Cells.{cell_of_row, coloured_words, colour_of, colour_word, error_line, first_error_of, plan_error, text_error};
 ghost use Rattle.wl_setup.specs.Names.{names_of};
 ghost use Rattle.wl_setup.specs.Plans.{plan_of_text};
 ghost use Rattle.wl_sweep.specs.Findings.{is_clean};
@@ -126,6 +126,14 @@ fn push_first_error(
     }
 }
 
+/// Adds a colour, and what a sweep says.
+fn push_coloured(text: &mut String, colour: Colour, said: &str) -> Result<(), AllocError>
+    ensures { OnOk result (GrowsBy text.old text.new (coloured_words colour said.now)) }
+{
+    let colour = colour.word();
+    write!(text, "cell {colour}\n{said}")
+}
+
 /// Runs a row that is alone, by so many threads, and adds its cell: its colour, what its sweep says, and the first error of its first member
 /// that isn't clean. Returns whether each member is clean.
 pub(crate) fn push_cell<H: Threads + Sync + Eprint + Clock>(
@@ -143,9 +151,8 @@ pub(crate) fn push_cell<H: Threads + Sync + Eprint + Clock>(
         count: workers,
         progress: false,
     };
-    let (said, tally) = row.run(rt, alloc, workers)?;
-    let (colour, said) = (Colour::of(tally).word(), said.as_str());
-    write!(text, "cell {colour}\n{said}")?;
+    let (told, tally) = row.run(rt, alloc, workers)?;
+    push_coloured(text, Colour::of(tally), told.as_str())?;
     push_first_error(alloc, text, row, tally.first)?;
     Ok(tally.all_clean())
 }
