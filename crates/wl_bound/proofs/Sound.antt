@@ -1,7 +1,7 @@
 -- No inequality fails exactly if all three hold for each pair.
-use Rattle.std.proofs.Common.{◌≡◌, ◌≢◌, ℕ, ◌<◌, ◌≤◌, ◌==◌, ◌&&◌, nat_lt, not, Bool, true, false, length, Option, Some, None, refl, ap, ap₂, arith}
+use Rattle.std.proofs.Common.{◌≡◌, ℕ, ◌<◌, ◌≤◌, ◌&&◌, nat_lt, Bool, true, false, length, Option, Some, None, refl, ap, ap₂, arith}
 use Rattle.std.specs.Option.{is_some}
-use Rattle.std.proofs.lemmas.Bool.{ltb-false, le-ltb, eq-eqb, ne_eqb}
+use Rattle.std.proofs.lemmas.Bool.{ltb-false, le-ltb}
 use Rattle.wl_level.specs.Places.{first_place}
 use Rattle.wl_level.proofs.Callers.{first_is, first_none, none_first}
 use Rattle.wl_bound.specs.declared.condition.Failure.{Failure}
