@@ -11,10 +11,10 @@ use Rattle.wl_sweep.specs.declared.sweep.TheConstants.{MOST_ROWS}
 use Rattle.wl_sweep.specs.Changes.{text_with}
 use Rattle.wl_sweep.specs.Findings.{is_clean}
 use Rattle.wl_sweep.specs.Rows.{row_count, row_text, value_in}
-use Rattle.wl_sweep.specs.Sweeps.{is_small, row_findings, rows_findings}
+use Rattle.wl_sweep.specs.Sweeps.{all_findings, is_small, row_findings, rows_findings}
 use Rattle.wl_sweep.specs.Tallies.{findings_of}
 use Rattle.wl_map.specs.Maps.{cell_in}
-use Rattle.wl_map.specs.Rows.{FindsTheSame, with_one, ranges_alone, row_alone}
+use Rattle.wl_map.specs.Rows.{FindsTheSame, ranges_alone, row_alone, with_one, with_ranges}
 
 pub row_count_alone : (row : ℕ) (gs : List SweptRange) → row_count (ranges_alone row gs) ≡ 1
 row_count_alone row [] = refl
@@ -71,3 +71,9 @@ clean_up s row =
     ap (λ rows. list_all is_clean (rows_findings s rows)) (rows_up row)
     ∙ ap (list_all is_clean) (flat_map-append (row_findings s) (range_with_len 0 row) (row ∷ []) ∙ ap (λ l. rows_findings s (range_with_len 0 row) ++ l) (append-nil (row_findings s row)))
     ∙ list_all-append is_clean (rows_findings s (range_with_len 0 row)) (row_findings s row)
+
+-- a row alone is clean exactly if the row is
+pub clean_alone : (s : Sweep) (row : ℕ) (made : List SweptRange) (clean : Bool) → FindsTheSame → made ≡ ranges_alone row s.ranges
+    → clean ≡ list_all is_clean (all_findings (with_ranges s made)) → clean ≡ list_all is_clean (row_findings s row)
+clean_alone s row made clean same is h =
+    h ∙ ap (λ gs. list_all is_clean (all_findings (with_ranges s gs))) is ∙ ap (list_all is_clean) (same s row)
