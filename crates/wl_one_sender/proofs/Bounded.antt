@@ -1,17 +1,16 @@
 -- From the condition for margins to the inequalities on clocks.
-use Rattle.std.proofs.Common.{◌≡◌, ◌≢◌, ◌∙◌, inl, inr, refl, sym, ap, subst, ℕ, zero, suc, ◌+◌, ◌-◌, ◌*◌, ◌<◌, ◌≤◌, min, max, Bool, true, false, cond, not, ◌&&◌, arith}
+use Rattle.std.proofs.Common.{◌≡◌, ◌≢◌, ◌∙◌, inl, inr, refl, sym, ap, ℕ, zero, suc, ◌+◌, ◌-◌, ◌*◌, ◌<◌, ◌≤◌, min, Bool, true, cond, not, arith}
 use Rattle.std.specs.Prelude.{◌==◌, nat_lt}
 use Rattle.std.proofs.lemmas.Bool.{cases_eq, and_from, eq-eqb, ne_eqb}
-use Rattle.std.proofs.Math.Nat.{mul-le-mul_left, mul-le-mul_right}
+use Rattle.std.proofs.Math.Nat.{mul-le-mul_left}
 use Rattle.wl_segments.specs.Lengths.{sample_at, bit_quanta}
-use Rattle.wl_bound.specs.declared.condition.Inequality.TheVariants.{DriftFitsJump, BitIsThereAtSample, NoBitTooEarly}
 use Rattle.wl_bound.specs.Families.{Bus}
 use Rattle.wl_bound.specs.Terms.{greatest, sends_but}
 use Rattle.wl_bound.specs.Terms.{drift, jump, late, look, strays, trip, way}
 use Rattle.wl_bound.specs.Conditions.{IsSound}
 use Rattle.wl_bound.specs.Conditions.{left_of, right_of}
 use Rattle.wl_one_sender.specs.OneSender.{SenderBus, IsBus, IsListener, lengths_of}
-use Rattle.wl_one_sender.specs.Tolerances.{Tolerance, FitClocks, fastest_bit, slowest_bit, longer_bit}
+use Rattle.wl_one_sender.specs.Tolerances.{Tolerance, FitClocks, longer_bit}
 use Rattle.wl_one_sender.specs.Bounds.{IsBoundOf}
 
 greatest_each : (n : ℕ) (test : ℕ → Bool) (f : ℕ → ℕ) (k : ℕ) → k < n → test k ≡ true → f k ≤ greatest n test f
