@@ -1,7 +1,14 @@
 -- Worked clocks and delays: a sender and two listeners, one a hundredth faster and one a hundredth slower.
-use Rattle.std.proofs.Common.{[], arith}
+use Rattle.std.proofs.Common.{◌≡◌, refl, ℕ, zero, suc, List, [], ◌∷◌, false, arith}
 use Rattle.wl_segments.specs.declared.SyncRules.TheVariants.{Book}
 use Rattle.wl_segments.specs.Lengths.{Lengths}
+use Rattle.wl_level.specs.declared.Level.{Level}
+use Rattle.wl_level.specs.declared.Level.TheVariants.{Dominant}
+use Rattle.wl_frame.specs.Grammar.{content_of}
+use Rattle.wl_one_sender.specs.OneSender.{SenderBus}
+use Rattle.wl_one_sender.specs.Through.{due_quantum}
+use Rattle.wl_one_sender.specs.Tolerances.{FitAll, Tolerance}
+use Rattle.wl_phase.specs.Clocks.{steady_timing}
 use Rattle.wl_phase.specs.InStep.{Sender, Listener, AreNear}
 use Rattle.wl_phase.specs.Answer.{IsInTime, ComesAfterBegin, ComesAfterOwn, ComesAfterSample, EndsBeforeSample, EndsInTime}
 
@@ -66,3 +73,64 @@ slow_over = omega arith
 
 slow_not_over : EndsBeforeSample s slow fast 374 → ⊥
 slow_not_over h = omega arith
+
+-- three nodes with the sender the first, whose levels come after so many ticks from each to each
+abbrev cable_of : ℕ → SenderBus
+cable_of way = record {
+  line = record {
+    nodes = 3;
+    instant = λ i k. k;
+    drives = λ i levels. false;
+    quiet = λ i levels. 0;
+    delay = λ i j. way;
+    disturbed = λ j t. false;
+    stop = 0;
+  };
+  setups = λ i. record {
+    clock = steady_timing s.clock;
+    segments = l;
+    queue = record { frame = content_of []; ready = 0 } ∷ record { frame = content_of []; ready = 500 } ∷ [];
+  };
+  clocks = λ i. s.clock;
+  sender = 0;
+  frame = content_of [];
+  stuffed = [];
+  decides = 10;
+}
+
+-- quanta of 100 ticks, by 5 parts in 1000 shorter or longer; a tick has 10 units
+abbrev crystals : Tolerance
+crystals = record { units = 10; shortest = λ i. 995; longest = λ i. 1005 }
+
+-- 292 ticks from each node to each, and back to itself: 12865 units and the way are within a bit of 9950 and two ways; 5840 and 1100 within 7 quanta of 995
+all_fit : FitAll crystals (cable_of 292)
+all_fit = record {
+  clocks = record {
+    slow = λ j p. omega arith;
+    fast = λ j p. omega arith;
+    sample = λ j p. omega arith;
+    jump = λ j p. omega arith;
+    loops = λ j p. omega arith;
+    ends_there = λ j p. omega arith;
+  };
+  slots = record { begins_there = λ j p. omega arith; begins = λ i j p q apart. omega arith; ends = λ i j p q apart. omega arith };
+}
+
+-- with a tick less an acknowledgement may be early, and with two more one may end late
+one_early : FitAll crystals (cable_of 291) → ⊥
+one_early fit = let h = fit.slots.begins 1 2 (omega arith, λ e. omega (arith, e)) (omega arith, λ e. omega (arith, e)) (λ e. omega (arith, e)) in omega arith
+
+one_late : FitAll crystals (cable_of 294) → ⊥
+one_late fit = let h = fit.clocks.ends_there 1 (omega arith, λ e. omega (arith, e)) in omega arith
+
+-- two frames of 3 and 4 bits, in bits of 10 quanta: 18 bits after the first 8, and 19 after quantum 500
+abbrev lists : ℕ → List Level
+lists zero = Dominant ∷ Dominant ∷ Dominant ∷ []
+lists (suc n) = Dominant ∷ Dominant ∷ Dominant ∷ Dominant ∷ []
+
+first_due : due_quantum (cable_of 292) lists 1 ≡ 260
+first_due = refl
+
+second_due : due_quantum (cable_of 292) lists 2 ≡ 690
+second_due = refl
+
