@@ -31,7 +31,7 @@ REFUSED = [
     "version = 1\nend = 10\nper = 5\n\"\\u0007x\" = 1\n", "[[[\n",
 ]
 # A plan with strange names of nodes.
-NAMES = ["-", "in", "0x1F", "_", "11", "1e5"]
+NAMES = ["-", "in", "0x1F", "_", "n11", "1e5"]
 
 
 def run(program, words, plan):
@@ -40,13 +40,21 @@ def run(program, words, plan):
     return made.returncode, made.stdout, made.stderr
 
 
-def shown(value):
+def shown(name, value):
     """Returns a value as the text has it, or None if it has another form there."""
     if value is None:
         return None
-    if value.startswith("0x"):
+    if name in {"id", "bytes"}:
         return value[2:] or "-"
     return value
+
+
+def place_of(text, line, at):
+    """Returns where a line has a value from a place on, or -1: a number not within a word."""
+    if not re.fullmatch(r"-?[0-9.]+", text):
+        return line.find(text, at)
+    found = re.compile(rf"(?<![\w.]){re.escape(text)}(?!\w|\.\d)").search(line, at)
+    return found.start() if found else -1
 
 
 def line_differs(line, record):
@@ -55,10 +63,10 @@ def line_differs(line, record):
     for name, value in record.items():
         if name == "kind" or name in SAID_OF_LINE:
             continue
-        text = shown(value)
+        text = shown(name, value)
         if text is None:
             continue
-        found = line.find(text, at)
+        found = place_of(text, line, at)
         if found < 0:
             # Given of lines that don't say it: no count is none, and a clean run has none.
             if value == "0" and name in {"too_early", "refused", "errors", "unsent"} or value == "does not hold":
