@@ -84,7 +84,7 @@ fn push_fails(
     push_fail(text, family, names, Inequality::NoBitTooEarly, i, j)
 }
 
-/// Whether two nodes have bit rates that no clocks of one nominal rate can have.
+/// True if two nodes have bit rates that no clocks of one nominal rate can have.
 fn are_unlike(end: u64, one: &NodeSetup, other: &NodeSetup) -> bool
     requires { end < 2 ^ 48 }
     ensures { result ≡ are_unlike end one.now other.now }
@@ -193,7 +193,7 @@ fn push_lines(
     Ok(())
 }
 
-/// Whether the ticks of a clock up to the end are too few or too many for its tolerance. They are told to less than a tick.
+/// True if the ticks of a clock up to the end are too few or too many for its tolerance. They are told to less than a tick.
 fn strays(end: u64, clock: &Clock, oscillator: &Oscillator) -> bool
     requires { end < 2 ^ 48 }
     ensures { result ≡ strays end clock.now oscillator.now }

@@ -11,7 +11,7 @@ use wl_node::NodeSetup;
 use wl_plan::Plan;
 use wl_segments::Segments;
 
-/// Node `i` of a plan.
+/// Returns node `i` of a plan.
 pub(crate) fn setup(plan: &Plan, i: u8) -> &NodeSetup
     requires { i < length plan.now.nodes }
     ensures { result.now ≡ setup_at plan.now i }
@@ -21,7 +21,7 @@ pub(crate) fn setup(plan: &Plan, i: u8) -> &NodeSetup
     &nodes[place]
 }
 
-/// The mean length of a node's bit up to tick `end`, in millionths of a tick.
+/// Returns the mean length of a node's bit up to tick `end`, in millionths of a tick.
 fn bit_length(end: u64, node: &NodeSetup) -> u128
     requires { end < 2 ^ 48 }
     ensures value { result ≡ bit_length end node.now }
@@ -32,8 +32,8 @@ fn bit_length(end: u64, node: &NodeSetup) -> u128
     quanta as u128 * Quantum::of_clock(&node.clock, end).num() as u128
 }
 
-/// By how many millionths of the shorter of two nodes' bits the longer one is longer, rounded down. A bit is the mean of those up to tick `end`,
-/// which is below 2^48.
+/// Returns by how many millionths of the shorter of two nodes' bits the longer one is longer, rounded down. A bit is the mean of those up
+/// to tick `end`, which is below 2^48.
 pub fn difference(end: u64, one: &NodeSetup, other: &NodeSetup) -> u128
     requires { end < 2 ^ 48 }
     ensures { result ≡ difference end one.now other.now }
@@ -43,14 +43,14 @@ pub fn difference(end: u64, one: &NodeSetup, other: &NodeSetup) -> u128
     1_000_000 * first.abs_diff(second) / first.min(second)
 }
 
-/// By how many parts per million the bits of two nodes may differ: each by what the segments of both bear.
+/// Returns by how many parts per million the bits of two nodes may differ: each by what the segments of both bear.
 pub fn borne(one: &NodeSetup, other: &NodeSetup) -> u128
     ensures { result ≡ borne one.now other.now }
 {
     2 * tolerance(&one.segments).min(tolerance(&other.segments)) as u128
 }
 
-/// What the clocks of all others leave of what the clocks of node `i` and each of them may differ by, in parts per million.
+/// Returns the least, over all other nodes, of what the clocks of node `i` and that node may still differ by, in parts per million.
 pub fn left(plan: &Plan, i: u8) -> u128
     requires checked { IsChecked plan.now }
     requires node { i < length plan.now.nodes }
@@ -65,7 +65,7 @@ pub fn left(plan: &Plan, i: u8) -> u128
     left
 }
 
-/// How many ticks a level takes from node `i` to node `j` and back.
+/// Returns how many ticks a level takes from node `i` to node `j` and back.
 pub fn round_trip(plan: &Plan, i: u8, j: u8) -> u64
     requires from { i < length plan.now.topology.places }
     requires to { j < length plan.now.topology.places }
@@ -74,8 +74,8 @@ pub fn round_trip(plan: &Plan, i: u8, j: u8) -> u64
     plan.topology.propagation(i, j) + plan.topology.propagation(j, i)
 }
 
-/// The most ticks there and back with which a level is there at the earlier sample of two nodes, by their mean quanta up to tick `end`, which is
-/// below 2^48.
+/// Returns the most ticks there and back with which a level has arrived by the earlier sample of two nodes. Their mean quanta up to tick
+/// `end` count, which is below 2^48.
 pub fn longest_round(end: u64, one: &NodeSetup, other: &NodeSetup) -> u64
     requires { end < 2 ^ 48 }
     ensures { result ≡ longest_round end one.now other.now }
@@ -85,7 +85,7 @@ pub fn longest_round(end: u64, one: &NodeSetup, other: &NodeSetup) -> u64
     first.min(second)
 }
 
-/// The bits of a frame without stuff bits, and three of intermission.
+/// Returns the bits of a frame without stuff bits, and three of intermission.
 fn frame_bits(frame: &Frame) -> u128
     ensures value { result ≡ frame_bits frame.now }
     ensures few { result ≤ 131 }
@@ -94,7 +94,7 @@ fn frame_bits(frame: &Frame) -> u128
     own + 8 * frame.bytes().len() as u128
 }
 
-/// Those of all frames that wait at a node.
+/// Returns those of all frames that wait at a node.
 fn queue_bits(node: &NodeSetup) -> u128
     ensures value { result ≡ queue_bits node.now }
     ensures few { result < 2 ^ 80 }
@@ -108,8 +108,8 @@ fn queue_bits(node: &NodeSetup) -> u128
     bits
 }
 
-/// The least bits that a node takes until the last frame of its queue is out: the 11 that it waits for, and the frames, with intermission
-/// between two. Stuff bits, and bits in which it doesn't send, are more.
+/// Returns the least bits that a node takes until the last frame of its queue is out: the 11 that it waits for, and the frames, with
+/// intermission between two. Stuff bits, and bits in which it doesn't send, are more.
 pub fn wanted_bits(node: &NodeSetup) -> u128
     ensures value { result ≡ wanted_bits node.now }
     ensures some { 0 < result }
@@ -118,7 +118,7 @@ pub fn wanted_bits(node: &NodeSetup) -> u128
     11 + queue_bits(node) - 3
 }
 
-/// The quanta of so many bits at least, however early edges come.
+/// Returns the least quanta of this many bits, however early edges come.
 fn least_quanta(segments: &Segments, bits: u128) -> u128
     requires few { bits < 2 ^ 81 }
     ensures { result ≡ least_quanta segments.now bits }
@@ -126,7 +126,7 @@ fn least_quanta(segments: &Segments, bits: u128) -> u128
     bits * (1 + segments.least_way()) as u128
 }
 
-/// The tick at which a node has counted the 11 bits that it waits for (Bosch CAN 2.0 part B, section 9).
+/// Returns the tick at which a node has counted the 11 bits that it waits for (Bosch CAN 2.0 part B, section 9).
 fn idle_at(node: &NodeSetup) -> u64
     ensures value { result ≡ idle_at node.now }
     ensures soon { result < 2 ^ 40 }
@@ -134,7 +134,7 @@ fn idle_at(node: &NodeSetup) -> u64
     node.clock.at(11 * node.segments.bit_quanta())
 }
 
-/// The tick from which on all nodes can be idle.
+/// Returns the tick from which on all nodes can be idle.
 pub fn idle_from(plan: &Plan) -> u64
     requires { IsChecked plan.now }
     ensures value { result ≡ idle_from plan.now }
@@ -147,7 +147,7 @@ pub fn idle_from(plan: &Plan) -> u64
     latest
 }
 
-/// Whether quantum `k` of a node begins before tick `t`.
+/// True if quantum `k` of a node begins before tick `t`.
 fn begins_before(node: &NodeSetup, k: u128, t: u64) -> bool
     requires { t < 2 ^ 48 }
     ensures { result ≡ begins_before node.now k t }
@@ -156,7 +156,7 @@ fn begins_before(node: &NodeSetup, k: u128, t: u64) -> bool
     node.clock.first_not_before(t) as u128 > k
 }
 
-/// The number of the first frame of a node that becomes ready before tick `t`.
+/// Returns the number of the first frame of a node that becomes ready before tick `t`.
 pub fn first_early(t: u64, node: &NodeSetup) -> Option<usize>
     requires { t < 2 ^ 48 }
     ensures { result ≡ first_early t node.now }
@@ -167,7 +167,7 @@ pub fn first_early(t: u64, node: &NodeSetup) -> Option<usize>
         .position(|waiting| begins_before(node, waiting.ready as u128, t))
 }
 
-/// The number of the first frame of a node that becomes ready at tick `t` or later.
+/// Returns the number of the first frame of a node that becomes ready at tick `t` or later.
 pub fn first_late(t: u64, node: &NodeSetup) -> Option<usize>
     requires { t < 2 ^ 48 }
     ensures { result ≡ first_late t node.now }
@@ -178,11 +178,11 @@ pub fn first_late(t: u64, node: &NodeSetup) -> Option<usize>
         .position(|waiting| !begins_before(node, waiting.ready as u128, t))
 }
 
-/// Whether some frames wait at a node and can't all be sent before tick `end`, which is below 2^48: the least quanta of its least bits, by its own
-/// clock, last beyond it.
+/// True if some frames wait at a node and can't all be sent before tick `end`, which is below 2^48: the least quanta of its least bits, by
+/// its own clock, last beyond it.
 ///
-/// What is said is always so: a node sends its frames one after another, each of their bits takes a sample, and from one sample to the next
-/// there are the start of a bit and the least way after it. It may be so and not be said: stuff bits are not counted, nor what other nodes send,
+/// If it says so, it is so. A node sends its frames one after another, and each of their bits takes a sample. Between two samples there are
+/// the start of a bit and the least way after it. It may be so without being said: stuff bits aren't counted, nor what other nodes send,
 /// since equal frames may go out at once.
 pub fn has_no_room(end: u64, node: &NodeSetup) -> bool
     requires { end < 2 ^ 48 }

@@ -144,21 +144,22 @@ fn family_in(alloc: Global, bus: &Bus) -> Result<Option<Family>, AllocError>
     }
 }
 
-/// The explanation of a plan that can be run: what is doubtful of it, one a line, and then its figures.
+/// Returns the explanation of a plan that can be run: what is doubtful of it, one a line, and then its figures.
 ///
-/// First comes what lies outside of the condition for a sound bus. If all nodes synchronise by the book, then each inequality that
-/// fails follows, by node, the other node and the inequality: for one sender at a time, or if several nodes send at once; in place
-/// of these, two nodes whose bit rates no clocks of one nominal rate can have; and clocks that deviate by more than their
-/// tolerance. Else no such condition is known, and clocks and ways are doubted by themselves: clocks further apart than the
-/// segments of both bear, and a way there and back for which the earlier sample is too early. Then come of each node a jump width
-/// above PHASE_SEG2, its first frame that becomes ready at the end or later, and its first that becomes ready before all nodes
-/// have counted 11 bits; and of each node an end that leaves no room for its frames.
+/// First comes what lies outside of the condition for a sound bus. If all nodes synchronise by the book, each inequality that fails
+/// follows, by node, by the other node and by inequality: for one sender at a time, or if several nodes send at once. Two nodes whose bit
+/// rates no clocks of one nominal rate can have come in place of these; then clocks that deviate by more than their tolerance.
 ///
-/// The figures of a node are bit rate in kbit/s, sample point in per cent and quantum in nanoseconds. By the book two lines
-/// follow: how much longer the cable and how much wider every tolerance may be. Else each node has its tolerance in parts per
-/// million, how much of it the other clocks leave to both nodes of a pair, and the longest cable in nanoseconds along it and in
-/// metres at 5 ns each. A quantum is the mean of those that the node runs before the end. A tick is taken for a nanosecond.
-/// Refused out of memory alone.
+/// If they don't, no such condition is known, and clocks and ways are doubted by themselves: clocks further apart than the segments of both
+/// allow, and a way there and back for which the earlier sample is too early.
+///
+/// Then come, for each node: a jump width above PHASE_SEG2; its first frame that becomes ready at the end or later; its first that becomes
+/// ready before all nodes have counted 11 bits. Last comes, for each node, an end that leaves no room for its frames.
+///
+/// The figures of a node are bit rate in kbit/s, sample point in per cent and quantum in nanoseconds. By the book two lines follow: how
+/// much longer the cable and how much wider every tolerance may be. Else each node has its tolerance in parts per million, and how much of
+/// it the other clocks leave to both nodes of a pair. It also has the longest cable, in nanoseconds along it and in metres at 5 ns each. A
+/// quantum is the mean of those that the node runs before the end. A tick is taken for a nanosecond. Refused out of memory alone.
 pub fn explain_plan(alloc: Global, bus: &Bus) -> Result<String, AllocError>
     requires checked { IsChecked bus.now.plan }
     requires deviations { length bus.now.deviations ≡ length bus.now.plan.nodes }

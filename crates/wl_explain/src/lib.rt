@@ -1,9 +1,10 @@
-//! What an engineer reads off a plan's settings: the length of a quantum, the bit rate, the sample point, how far a level may go and
-//! still be back at the sample, and what is doubtful of a plan that can be run; and the text that says all of it. Of a plan that is
-//! refused the text says what is wrong, and what to change.
+//! What is doubtful of a plan and its bus, and the figures of its nodes, as numbers and as text.
 //!
-//! A tick is taken for a nanosecond. The rules are those of Bosch CAN 2.0 part B, section 10; that a level is seen up to a quantum
-//! after it came is this project's profile. The tolerance of an oscillator is `Segments::greatest_ppm`.
+//! The figures are the length of a quantum, the bit rate, the sample point, and how far a level may go and still be back at the sample. Of
+//! a plan that is refused the text says what is wrong, and what to change.
+//!
+//! A tick is taken for a nanosecond. The rules are those of Bosch CAN 2.0 part B, section 10; that a level is seen up to a quantum after it
+//! arrived is this project's profile. The tolerance of an oscillator is `Segments::greatest_ppm`.
 #![tactic(auto)]
 
 ghost use Rattle.std.specs.Prelude.{◌≡◌, ℕ, ◌+◌, ◌*◌, ◌^◌, ◌<◌, ◌≤◌, ◌↔◌, IsTrue, [], ◌∷◌, IfSome, None};
@@ -60,8 +61,10 @@ impl Model for Quantum {
 }
 
 impl Quantum {
-    /// The quantum of `num / den` ticks; `None` where `den` isn't 1 to 1,000,000 or the quantum takes less than a tick or more than
-    /// 1,048,576, which is what a clock refuses of its rate.
+    /// Returns the quantum of `num / den` ticks.
+    ///
+    /// `None` if `den` isn't 1 to 1,000,000, or if the quantum takes less than a tick or more than 1,048,576: what a clock refuses of its
+    /// rate.
     pub fn new(num: u64, den: u64) -> Option<Quantum>
         ensures { result ≡ quantum_of num den }
     {
@@ -71,12 +74,13 @@ impl Quantum {
         Some(Quantum { num, den })
     }
 
-    /// The mean quantum of a clock up to the end of a plan, in millionths of a tick, rounded down: of the quanta that begin before tick `end`, of
-    /// quantum 0 where none does, and of the first 1,048,576 where there are more, as in no plan that can be run.
+    /// Returns the mean quantum of a clock up to the end of a plan, in millionths of a tick, rounded down. It is the mean of the n quanta
+    /// that begin before tick `end`: of quantum 0 if there are none, and of the first 1,048,576 if there are more, as in no plan that can
+    /// be run.
     ///
-    /// Ticks are whole, so those of n quanta tell their mean to less than a tick in n. Where that leaves room for the mean of the clock's first
-    /// 1,000,000 quanta, the answer is that one, which of a clock with one rate is the rate, whatever the end; else it is the ticks of the n
-    /// quanta by n. `end` is below 2^48.
+    /// Ticks are whole, so those of n quanta give their mean to less than a tick in n. If that leaves room for the mean of the clock's
+    /// first 1,000,000 quanta, the answer is that one. Of a clock with one rate it is the rate, whatever the end. Else it is the ticks of
+    /// the n quanta by n. `end` is below 2^48.
     pub fn of_clock(clock: &Clock, end: u64) -> Quantum
         requires { end < 2 ^ 48 }
         ensures mean { result ≡ mean_quantum end clock.now }
@@ -97,7 +101,7 @@ impl Quantum {
         Quantum { num, den: MILLION }
     }
 
-    /// The numerator of its ticks.
+    /// Returns the numerator of its ticks.
     fn num(&self) -> u64
         ensures num { result ≡ self.now.num }
         ensures quantum { IsQuantum self.now }
@@ -105,7 +109,7 @@ impl Quantum {
         self.num
     }
 
-    /// The denominator of its ticks: 1 to 1,000,000.
+    /// Returns the denominator of its ticks: 1 to 1,000,000.
     fn den(&self) -> u64
         ensures den { result ≡ self.now.den }
         ensures quantum { IsQuantum self.now }
@@ -113,22 +117,22 @@ impl Quantum {
         self.den
     }
 
-    /// Its length in picoseconds, rounded down, where a tick is a nanosecond.
+    /// Returns its length in picoseconds, rounded down, if a tick is a nanosecond.
     pub fn picoseconds(&self) -> u64
         ensures { result ≡ picoseconds self.now }
     {
         1000 * self.num() / self.den()
     }
 
-    /// Bits a second with these segments, rounded down, where a tick is a nanosecond: the nominal bit rate.
+    /// Returns the bits a second with these segments, rounded down, if a tick is a nanosecond: the nominal bit rate.
     pub fn bits_per_second(&self, segments: &Segments) -> u64
         ensures { result ≡ bits_per_second self.now segments.now }
     {
         1_000_000_000 * self.den() / (segments.bit_quanta() * self.num())
     }
 
-    /// The greatest delay, in ticks, from a node to another and as much back, with which a level, seen up to a quantum later, is there
-    /// at the sample of the bit in which it set out.
+    /// Returns the greatest delay, in ticks, from one node to another with which a level is back by the sample of the bit in which it set
+    /// out. The way back takes as long, and a level is seen up to a quantum after it arrives.
     pub fn furthest_way(&self, segments: &Segments) -> u64
         ensures reached { ComesBack self.now segments.now result }
         ensures furthest { (way : ℕ) → ComesBack self.now segments.now way → way ≤ result }
@@ -137,8 +141,8 @@ impl Quantum {
         (segments.sample_at() - 1) * self.num() / (2 * self.den())
     }
 
-    /// The most ticks that a level may take to another node and back, with which it, seen up to a quantum later, is there at the sample
-    /// of the bit in which it set out.
+    /// Returns the most ticks that a level may take to another node and back, so that it is there by the sample of the bit in which it set
+    /// out. A level is seen up to a quantum after it arrives.
     pub fn longest_trip(&self, segments: &Segments) -> u64
         ensures { result ≡ longest_trip self.now segments.now }
     {
@@ -146,7 +150,7 @@ impl Quantum {
     }
 }
 
-/// How many quanta of a clock begin before tick `end`: 1 to 1,048,576.
+/// Returns how many quanta of a clock begin before tick `end`: 1 to 1,048,576.
 fn quanta_begun(clock: &Clock, end: u64) -> u64
     requires { end < 2 ^ 48 }
     ensures quanta { result ≡ quanta_begun end clock.now }
@@ -157,7 +161,7 @@ fn quanta_begun(clock: &Clock, end: u64) -> u64
     clock.first_not_before(end).min(MOST_QUANTA).max(1)
 }
 
-/// Whether so many quanta of this mean, in millionths of a tick, may take so many ticks, where both are rounded down.
+/// True if this many quanta of this mean, in millionths of a tick, may take this many ticks; both are rounded down.
 fn may_take(quanta: u64, mean: u64, ticks: u64) -> bool
     requires few { quanta ≤ 2 ^ 20 }
     requires short { mean < 2 ^ 42 }
@@ -167,29 +171,29 @@ fn may_take(quanta: u64, mean: u64, ticks: u64) -> bool
     quanta * mean < MILLION * (ticks + 1) && MILLION * ticks < quanta * (mean + 1)
 }
 
-/// The sample point in hundredths of a per cent of the bit, rounded down.
+/// Returns the sample point in hundredths of a per cent of the bit, rounded down.
 pub fn sample_point(segments: &Segments) -> u64
     ensures { result ≡ sample_point segments.now }
 {
     10_000 * segments.sample_at() / segments.bit_quanta()
 }
 
-/// The greatest deviation in parts per million that both oscillators of a pair may have with these segments, as a number.
+/// Returns the greatest deviation in parts per million that both oscillators of a pair may have with these segments, as a number.
 pub fn tolerance(segments: &Segments) -> u32
     ensures { result ≡ tolerance segments.now }
 {
     segments.greatest_ppm()
 }
 
-/// The whole metres of a cable along which a level takes so many nanoseconds, at 5 ns a metre.
+/// Returns the whole metres of a cable along which a level takes this many nanoseconds, at 5 ns a metre.
 pub fn metres(time: u64) -> u64
     ensures { result ≡ metres time }
 {
     time / METRE
 }
 
-/// The greatest length of a cable, in its units, that takes at most `way` ticks where `ends` of them are out of the one node and into the
-/// other and `per` go with each unit; `None` where the nodes' own are too many for any cable.
+/// Returns the greatest length of a cable, in its units, that takes at most `way` ticks: `ends` of them out of the one node and into the
+/// other, and `per` with each unit. `None` if the nodes' own are too many for any cable.
 pub fn longest_cable(way: u64, ends: u64, per: u64) -> Option<u64>
     requires { 0 < per }
     ensures reached { IfSome result (λ length. ends + length * per ≤ way) }

@@ -20,7 +20,7 @@ use wl_setup::{
 };
 use wl_topology::TopologyFault;
 
-/// What a value is.
+/// Returns what a value is.
 fn value_words(alloc: Global, value: &Value) -> Result<String, AllocError>
     ensures { IfOk result (λ text. string_bytes text ≡ value_words (view value.now)) }
 {
@@ -44,7 +44,7 @@ fn value_words(alloc: Global, value: &Value) -> Result<String, AllocError>
     }
 }
 
-/// The number of an array's elements.
+/// Returns the number of an array's elements.
 #[tactic(auto, using(crate::proofs::Counts::counted))]
 fn many_of(items: &Array) -> usize
     ensures { result ≡ length (list_of (array_view items.now)) }
@@ -59,7 +59,7 @@ fn push_key(text: &mut String, label: &str, said: &str, beside: &str) -> Result<
     write!(text, ", {label} = {said}{beside}")
 }
 
-/// A number in hexadecimal digits, in brackets, where it is none below 0.
+/// Returns a number in hexadecimal digits, in brackets; nothing of one below 0.
 fn hexadecimal_words(alloc: Global, number: i64) -> Result<String, AllocError>
     ensures { IfOk result (λ text. string_bytes text ≡ hexadecimal_words number) }
 {
@@ -69,7 +69,7 @@ fn hexadecimal_words(alloc: Global, number: i64) -> Result<String, AllocError>
     }
 }
 
-/// What is said beside the value of a key: of an identifier its hexadecimal digits.
+/// Returns what is said beside the value of a key: of an identifier its hexadecimal digits.
 fn beside_words(alloc: Global, label: &str, value: &Value) -> Result<String, AllocError>
     ensures { IfOk result (λ text. string_bytes text ≡ beside_words label.now (view value.now)) }
 {
@@ -79,7 +79,7 @@ fn beside_words(alloc: Global, label: &str, value: &Value) -> Result<String, All
     }
 }
 
-/// A key with its value, where it is there.
+/// Returns a key with its value, if it is there.
 fn key_words(alloc: Global, label: &str, value: Option<&Value>) -> Result<String, AllocError>
     ensures { IfOk result (λ text. string_bytes text ≡ key_words label.now (option_map (λ v. view v.now) value.entry)) }
 {
@@ -92,7 +92,7 @@ fn key_words(alloc: Global, label: &str, value: Option<&Value>) -> Result<String
     Ok(text)
 }
 
-/// Some keys of a table with their values.
+/// Returns some keys of a table with their values.
 fn keys_in(alloc: Global, keys: &[Key], table: &Table) -> Result<String, AllocError>
     ensures { IfOk result (λ text. string_bytes text ≡ keys_words keys.now (Some (table_view table.now))) }
 {
@@ -115,7 +115,7 @@ fn keys_words(alloc: Global, keys: &[Key], table: Option<&Table>) -> Result<Stri
     }
 }
 
-/// A name, where the value is one.
+/// Returns a name, if the value is one.
 fn name_words(alloc: Global, value: Option<&Value>) -> Result<String, AllocError>
     ensures { IfOk result (λ text. string_bytes text ≡ name_words (option_map (λ v. view v.now) value.entry)) }
 {
@@ -128,7 +128,7 @@ fn name_words(alloc: Global, value: Option<&Value>) -> Result<String, AllocError
     }
 }
 
-/// What stands at the name of node `i`.
+/// Returns what is at the name of node `i`.
 fn name_of_node(top: &Table, i: u64) -> Option<&Value>
     ensures { option_map (λ v. view v.now) result
         ≡ option_and_then (value_at Key.Name) (table_at (Spot.Node i) (table_view top.now)) }
@@ -139,7 +139,7 @@ fn name_of_node(top: &Table, i: u64) -> Option<&Value>
     }
 }
 
-/// A node by its number, and its name where the text gives one.
+/// Returns a node by its number, and its name if the text gives one.
 fn node_called(alloc: Global, top: &Table, i: u64) -> Result<String, AllocError>
     ensures { IfOk result (λ text. string_bytes text ≡ node_called (table_view top.now) i) }
 {
@@ -177,7 +177,7 @@ fn frame_of_node(alloc: Global, node: &str, n: u64) -> Result<String, AllocError
     Ok(text)
 }
 
-/// A table of the document.
+/// Returns a table of the document.
 fn spot_words(alloc: Global, top: &Table, spot: Spot) -> Result<String, AllocError>
     ensures { IfOk result (λ text. string_bytes text ≡ spot_words (table_view top.now) spot) }
 {
@@ -196,7 +196,7 @@ fn spot_words(alloc: Global, top: &Table, spot: Spot) -> Result<String, AllocErr
     }
 }
 
-/// A table, and what some of its keys say.
+/// Returns a table, and what some of its keys say.
 fn subject_words(alloc: Global, top: &Table, spot: Spot, keys: &[Key]) -> Result<String, AllocError>
     ensures { IfOk result (λ text. string_bytes text ≡ subject_words (table_view top.now) spot keys.now) }
 {
@@ -205,7 +205,7 @@ fn subject_words(alloc: Global, top: &Table, spot: Spot, keys: &[Key]) -> Result
     format!(in alloc; "{place}{said}")
 }
 
-/// The keys that a refused clock is made of.
+/// Returns the keys that a refused clock is made of.
 fn keys_of_clock(fault: ClockFault) -> &'static [Key]
     ensures { result.now ≡ keys_of_clock fault }
 {
@@ -215,7 +215,7 @@ fn keys_of_clock(fault: ClockFault) -> &'static [Key]
     }
 }
 
-/// The keys that refused segments are made of.
+/// Returns the keys that refused segments are made of.
 fn keys_of_segments(fault: SegmentsFault) -> &'static [Key]
     ensures { result.now ≡ keys_of_segments fault }
 {
@@ -228,7 +228,7 @@ fn keys_of_segments(fault: SegmentsFault) -> &'static [Key]
     }
 }
 
-/// The keys that a refused frame is made of.
+/// Returns the keys that a refused frame is made of.
 fn keys_of_frame(fault: FrameFault) -> &'static [Key]
     ensures { result.now ≡ keys_of_frame fault }
 {
@@ -239,7 +239,7 @@ fn keys_of_frame(fault: FrameFault) -> &'static [Key]
     }
 }
 
-/// A node that sends and one that receives.
+/// Returns a node that sends and one that receives.
 fn two_nodes(alloc: Global, top: &Table, i: u64, j: u64) -> Result<String, AllocError>
     ensures { IfOk result (λ text. string_bytes text ≡ two_nodes (table_view top.now) i j) }
 {
@@ -248,7 +248,7 @@ fn two_nodes(alloc: Global, top: &Table, i: u64, j: u64) -> Result<String, Alloc
     format!(in alloc; "{from}; {to}")
 }
 
-/// What a fault of the topology is about.
+/// Returns what a fault of the topology is about.
 fn topology_subject(alloc: Global, top: &Table, fault: TopologyFault) -> Result<String, AllocError>
     ensures { IfOk result (λ text. string_bytes text ≡ topology_subject (table_view top.now) fault) }
 {
@@ -262,7 +262,7 @@ fn topology_subject(alloc: Global, top: &Table, fault: TopologyFault) -> Result<
     }
 }
 
-/// An end, and the clock of node `i`.
+/// Returns an end, and the clock of node `i`.
 fn quanta_words(alloc: Global, top: &Table, i: u64) -> Result<String, AllocError>
     ensures { IfOk result (λ text. string_bytes text ≡ quanta_words (table_view top.now) i) }
 {
@@ -279,7 +279,7 @@ fn quanta_words(alloc: Global, top: &Table, i: u64) -> Result<String, AllocError
     format!(in alloc; "{end}; {node}")
 }
 
-/// What a fault of the whole plan is about.
+/// Returns what a fault of the whole plan is about.
 fn plan_subject(alloc: Global, top: &Table, fault: PlanFault) -> Result<String, AllocError>
     ensures { IfOk result (λ text. string_bytes text ≡ plan_subject (table_view top.now) fault) }
 {
@@ -297,7 +297,7 @@ fn plan_subject(alloc: Global, top: &Table, fault: PlanFault) -> Result<String, 
     }
 }
 
-/// The table in which the first fault of keys stands.
+/// Returns the table in which the first fault of keys is.
 fn fault_spot(top: &Table) -> Spot
     ensures { result ≡ fault_spot (table_view top.now) }
 {
@@ -311,7 +311,7 @@ fn push_missing(text: &mut String, place: &str, key: &Text) -> Result<(), AllocE
     write!(text, "{place}, no {key}")
 }
 
-/// A table that lacks a key.
+/// Returns a table that lacks a key.
 fn missing_words(alloc: Global, top: &Table, key: &Text) -> Result<String, AllocError>
     ensures { IfOk result (λ text. string_bytes text ≡ missing_words (table_view top.now) key.now) }
 {
@@ -321,7 +321,7 @@ fn missing_words(alloc: Global, top: &Table, key: &Text) -> Result<String, Alloc
     Ok(text)
 }
 
-/// The value at a key of the table in which the first fault of keys stands.
+/// Returns the value at a key of the table in which the first fault of keys is.
 fn value_of_fault<'a>(top: &'a Table, key: &Text) -> Option<&'a Value>
     ensures { option_map (λ v. view v.now) result
         ≡ option_and_then (get_member key.now) (table_at (fault_spot (table_view top.now)) (table_view top.now)) }
@@ -332,7 +332,7 @@ fn value_of_fault<'a>(top: &'a Table, key: &Text) -> Option<&'a Value>
     }
 }
 
-/// A key of that table with its value.
+/// Returns a key of that table with its value.
 fn named_words(alloc: Global, top: &Table, key: &Text) -> Result<String, AllocError>
     ensures { IfOk result (λ text. string_bytes text ≡ named_words (table_view top.now) key.now) }
 {
@@ -342,7 +342,7 @@ fn named_words(alloc: Global, top: &Table, key: &Text) -> Result<String, AllocEr
     format!(in alloc; "{place}{said}")
 }
 
-/// What a fault is about.
+/// Returns what a fault is about.
 fn subject(alloc: Global, top: &Table, fault: &SetupFault) -> Result<String, AllocError>
     ensures { IfOk result (λ text. string_bytes text ≡ subject (table_view top.now) fault.now) }
 {
@@ -373,7 +373,7 @@ fn push_lines(text: &mut String, about: &str, wrong: &str, change: &str) -> Resu
     write!(text, "wrong: {about}: {wrong}\nchange: {change}\n")
 }
 
-/// The two lines on what is wrong and what to change.
+/// Returns the two lines on what is wrong and what to change.
 fn lines(alloc: Global, about: &str, wrong: &str, change: &str) -> Result<String, AllocError>
     ensures { IfOk result (λ text. string_bytes text ≡ lines about.now wrong.now change.now) }
 {
@@ -415,7 +415,7 @@ pub fn line_number(before: &[u8]) -> u64
     line
 }
 
-/// The column behind a byte that stands in this column.
+/// Returns the column of the byte after one in this column.
 fn next_column(column: u64, byte: u8) -> u64
     requires { column < 2 ^ 63 }
     ensures value { result ≡ column_behind column byte }
@@ -449,7 +449,7 @@ fn push_place(text: &mut String, line: u64, column: u64) -> Result<(), AllocErro
     write!(text, "line {line}, column {column}")
 }
 
-/// The text on a text that is no TOML, behind these bytes.
+/// Returns the text on a text that isn't TOML; `before` are the bytes before the parser's position.
 fn toml_words(alloc: Global, before: &[u8]) -> Result<String, AllocError>
     ensures { IfOk result (λ text. string_bytes text ≡ toml_words before.now) }
 {
@@ -460,16 +460,16 @@ fn toml_words(alloc: Global, before: &[u8]) -> Result<String, AllocError>
     lines(alloc, about.as_str(), NO_TOML, CORRECT)
 }
 
-/// The text on a plan that is too long.
+/// Returns the text on a plan that is too long.
 pub fn explain_size(alloc: Global) -> Result<String, AllocError>
     ensures { IfOk result (λ text. string_bytes text ≡ size_words) }
 {
     lines(alloc, "the plan", TOO_LONG, SHORTEN)
 }
 
-/// The text on a plan's text that is refused by this fault, its first: two lines. The one says what is wrong: the table with its number
-/// and, of a node, its name; the keys with their values; and what of them is refused. The other says what to change. Of a text that
-/// is no TOML the first line has line and column, from 1, of a place where the parser stopped. Refused out of memory alone.
+/// Returns the text on a plan's text that is refused by this fault, its first: two lines. The first one says what is wrong: the table with
+/// its number and, of a node, its name; the keys with their values; and what of them is refused. The second one says what to change. Of a
+/// text that is no TOML the first line has line and column, from 1, of a place where the parser stopped. Refused out of memory alone.
 pub fn explain_fault(alloc: Global, text: &[u8], fault: &SetupFault) -> Result<String, AllocError>
     ensures { IfOk result (λ said. IsRefusal text.now fault.now (string_bytes said)) }
 {

@@ -221,7 +221,7 @@ fn plan_remedy(fault: PlanFault) -> &'static str
     }
 }
 
-/// What is wrong at a fault.
+/// Returns what is wrong at a fault.
 pub(crate) fn cause(fault: &SetupFault) -> &'static str
     ensures { result.now ≡ cause fault.now }
 {
@@ -243,7 +243,7 @@ pub(crate) fn cause(fault: &SetupFault) -> &'static str
     }
 }
 
-/// What to change at a fault.
+/// Returns what to change at a fault.
 pub(crate) fn remedy(fault: &SetupFault) -> &'static str
     ensures { result.now ≡ remedy fault.now }
 {

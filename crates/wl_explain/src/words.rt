@@ -21,7 +21,7 @@ use wl_setup::Names;
 /// By how many parts per million clocks of one nominal bit rate can differ: each deviates by a tenth at most.
 pub(crate) const GREATEST_DIFFERENCE: u128 = 222_222;
 
-/// The mean bit rate of a node up to tick `end`, in bit/s.
+/// Returns the mean bit rate of a node up to tick `end`, in bit/s.
 pub(crate) fn bit_rate(end: u64, node: &NodeSetup) -> u64
     requires { end < 2 ^ 48 }
     ensures { result ≡ bit_rate end node.now }

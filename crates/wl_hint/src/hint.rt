@@ -40,7 +40,7 @@ pub struct Hint {
 }
 
 impl Hint {
-    /// A hint without a place.
+    /// Returns a hint without a place.
     pub(crate) fn anywhere(alloc: Global, said: &str) -> Result<Hint, AllocError>
         ensures { IfOk result (λ hint. hint.place ≡ None) }
     {

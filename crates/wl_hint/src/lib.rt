@@ -1,7 +1,8 @@
-//! What to change of an input that is refused, in one line, with the place in the input: its line and column, from 1, in characters.
+//! What to change of an input that is refused, in one line, with the place in the input.
 //!
-//! The words are those of the explanation (`wl_explain`). The place is found by a scan of the text: clauses say that it is one of the text, and
-//! that nothing in a hint steers a terminal, and not that the place is the fault's.
+//! The place is a line and a column, from 1, in characters. It is found by a scan of the text. The words are those of the explanation
+//! (`wl_explain`). Clauses say that the place is one of the text, and that nothing in a hint steers a terminal, but not that the place is
+//! the fault's.
 #![tactic(auto)]
 
 mod hint;

@@ -25,7 +25,7 @@ impl Tables {
         }
     }
 
-    /// The tables behind the header `[[node]]`.
+    /// Returns the tables after the header `[[node]]`.
     fn node(self) -> Tables {
         Tables {
             here: Some(Spot::Node(self.nodes)),
@@ -36,7 +36,7 @@ impl Tables {
         }
     }
 
-    /// The tables behind a header.
+    /// Returns the tables after a header.
     fn behind(mut self, text: &[u8], from: usize, end: usize) -> Tables {
         let node = self.nodes.saturating_sub(1);
         if is_key(text, from, end, b"node") {
@@ -58,7 +58,7 @@ impl Tables {
     }
 }
 
-/// The place of element `n` of the array at a key, where the key from one place to another is this word and its value an array.
+/// Returns the place of element `n` of the array at a key, if the key from one place to another is this word and its value an array.
 fn element_of(text: &[u8], key: usize, equals: usize, word: &[u8], n: u64) -> Option<usize> {
     if is_key(text, key, equals, word) {
         element_at(text, value_behind(text, equals), n)
@@ -67,13 +67,13 @@ fn element_of(text: &[u8], key: usize, equals: usize, word: &[u8], n: u64) -> Op
     }
 }
 
-/// The place of element `n` of the array at a key of the inline table at a place.
+/// Returns the place of element `n` of the array at a key of the inline table at a place.
 fn element_in(text: &[u8], table: usize, word: &[u8], n: u64) -> Option<usize> {
     let key = member_at(text, table, word)?;
     element_at(text, value_behind(text, key_end(text, key)), n)
 }
 
-/// The place of a table that is written in line at a key of the table `here`.
+/// Returns the place of a table that is written in line at a key of the table `here`.
 fn inline_table(text: &[u8], here: Spot, key: usize, equals: usize, wanted: Spot) -> Option<usize> {
     match (here, wanted) {
         (Spot::Top, Spot::Node(i)) => element_of(text, key, equals, b"node", i),
@@ -92,7 +92,7 @@ fn inline_table(text: &[u8], here: Spot, key: usize, equals: usize, wanted: Spot
     }
 }
 
-/// The place of the key in a statement of the table `here` that begins at a place: its own, or one in a table in line.
+/// Returns the place of the key in a statement of the table `here` that begins at a place: its own, or one in a table in line.
 fn found_in(
     text: &[u8],
     here: Spot,
@@ -114,7 +114,7 @@ fn found_in(
     }
 }
 
-/// A place in a text: its end for one behind it.
+/// Returns a place in a text: its end for one after it.
 fn inside(text: &[u8], place: Option<usize>) -> Option<usize>
     ensures { IfSome result (λ at. at ≤ length text.now) }
 {
@@ -124,8 +124,8 @@ fn inside(text: &[u8], place: Option<usize>) -> Option<usize>
     }
 }
 
-/// The place of a key in a plan's text, by its table; that of the table where the table hasn't the key. `None` where neither is found, as
-/// the top table, or tables that are written with other headers than `[[..]]`.
+/// Returns the place of a key in a plan's text, by its table; that of the table if the table hasn't the key. `None` if neither is found, as
+/// of the top table, or of tables with other headers than `[[..]]`.
 pub(crate) fn place_of(text: &[u8], wanted: Spot, word: &[u8]) -> Option<usize>
     ensures { IfSome result (λ at. at ≤ length text.now) }
 {

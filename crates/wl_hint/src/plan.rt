@@ -20,7 +20,7 @@ use wl_topology::TopologyFault;
 /// The most bytes of a value that a hint shows.
 const MOST_SHOWN: usize = 60;
 
-/// The key of a clock that is refused.
+/// Returns the key of a clock that is refused.
 fn clock_key(fault: ClockFault) -> &'static str {
     match fault {
         ClockFault::BigOffset => "offset",
@@ -31,7 +31,7 @@ fn clock_key(fault: ClockFault) -> &'static str {
     }
 }
 
-/// The key of segments that are refused.
+/// Returns the key of segments that are refused.
 fn segments_key(fault: SegmentsFault) -> &'static str {
     match fault {
         SegmentsFault::Prop | SegmentsFault::Length => "prop",
@@ -41,7 +41,7 @@ fn segments_key(fault: SegmentsFault) -> &'static str {
     }
 }
 
-/// The key of a frame that is refused.
+/// Returns the key of a frame that is refused.
 fn frame_key(fault: FrameFault) -> &'static str {
     match fault {
         FrameFault::Dlc => "dlc",
@@ -50,7 +50,7 @@ fn frame_key(fault: FrameFault) -> &'static str {
     }
 }
 
-/// The table and the key that a fault of a whole plan is about.
+/// Returns the table and the key that a fault of a whole plan is about.
 fn plan_subject(fault: PlanFault) -> (Spot, &'static str) {
     match fault {
         PlanFault::Nodes => (Spot::Top, "node"),
@@ -60,7 +60,7 @@ fn plan_subject(fault: PlanFault) -> (Spot, &'static str) {
     }
 }
 
-/// The table and the key that a fault of the places is about.
+/// Returns the table and the key that a fault of the places is about.
 fn topology_subject(fault: TopologyFault) -> (Spot, &'static str) {
     match fault {
         TopologyFault::ZeroDelay(i, _) => (Spot::Node(i as u64), "out"),
@@ -69,7 +69,7 @@ fn topology_subject(fault: TopologyFault) -> (Spot, &'static str) {
     }
 }
 
-/// The table and the key that a fault of numbers is about.
+/// Returns the table and the key that a fault of numbers is about.
 fn subject(fault: &SetupFault) -> Option<(Spot, &'static str)> {
     match fault {
         SetupFault::Version => Some((Spot::Top, "version")),
@@ -82,7 +82,7 @@ fn subject(fault: &SetupFault) -> Option<(Spot, &'static str)> {
     }
 }
 
-/// The table that a fault is about.
+/// Returns the table that a fault is about.
 fn spot_in(top: &Table, fault: &SetupFault) -> Option<Spot> {
     match fault {
         SetupFault::Missing(_) | SetupFault::Kind(_) | SetupFault::Unknown(_) => faulty_spot(top),
@@ -97,7 +97,7 @@ fn spot_in(top: &Table, fault: &SetupFault) -> Option<Spot> {
     }
 }
 
-/// The key that a fault is about; none where the table lacks it.
+/// Returns the key that a fault is about; none if the table lacks it.
 fn key_in(fault: &SetupFault) -> &str {
     match fault {
         SetupFault::Kind(key) => key.as_str(),
@@ -110,7 +110,7 @@ fn key_in(fault: &SetupFault) -> &str {
     }
 }
 
-/// What is written at the place of a key, up to the end of its line; nothing at that of a table.
+/// Returns what is written at the place of a key, up to the end of its line; nothing at that of a table.
 fn written(alloc: Global, text: &[u8], at: usize) -> Result<String, AllocError> {
     let equals = key_end(text, at);
     let end = value_end(text, value_behind(text, equals)).min(at.saturating_add(MOST_SHOWN));
@@ -127,7 +127,7 @@ fn written(alloc: Global, text: &[u8], at: usize) -> Result<String, AllocError> 
     }
 }
 
-/// What an explanation says is wrong, and what to change.
+/// Returns what an explanation says is wrong, and what to change.
 fn parts(said: &str) -> (&str, &str) {
     let (wrong, change) = said.split_once("\nchange: ").unwrap_or((said, ""));
     (
@@ -136,7 +136,7 @@ fn parts(said: &str) -> (&str, &str) {
     )
 }
 
-/// The hint on a text that isn't at hand.
+/// Returns the hint on a text that isn't at hand.
 fn without_text(alloc: Global, fault: &SetupFault) -> Result<Hint, AllocError>
     ensures { IfOk result (PointsInto None) }
 {
@@ -150,14 +150,14 @@ fn without_text(alloc: Global, fault: &SetupFault) -> Result<Hint, AllocError>
     Hint::anywhere(alloc, said.as_str())
 }
 
-/// Where in a text a fault is, and what is remarked of it.
+/// The place of a fault in a text, and what is remarked of it.
 #[derive(Drop)]
 struct Found {
     at: Option<usize>,
     remark: String,
 }
 
-/// The place of a fault in a document, and what is remarked of it.
+/// Returns the place of a fault in a document, and what is remarked of it.
 fn found_in(
     alloc: Global,
     text: &[u8],
@@ -178,7 +178,7 @@ fn found_in(
     }
 }
 
-/// The same of a text, which may be no TOML.
+/// Returns the same of a text, which may be no TOML.
 fn found_of(alloc: Global, text: &[u8], fault: &SetupFault) -> Result<Found, AllocError>
     ensures { IfOk result (λ found. IfSome found.at (λ at. at ≤ length text.now)) }
 {
@@ -191,7 +191,7 @@ fn found_of(alloc: Global, text: &[u8], fault: &SetupFault) -> Result<Found, All
     }
 }
 
-/// The hint on a text, with what is written in front of what is wrong.
+/// Returns the hint on a text, with what is written in front of what is wrong.
 fn hint_at(
     alloc: Global,
     text: &[u8],
@@ -206,7 +206,7 @@ fn hint_at(
     Text::new(alloc, said.as_str())
 }
 
-/// The hint on a text.
+/// Returns the hint on a text.
 fn with_text(alloc: Global, text: &[u8], fault: &SetupFault) -> Result<Hint, AllocError>
     ensures { IfOk result (PointsInto (Some text.now)) }
 {
@@ -226,8 +226,8 @@ fn with_text(alloc: Global, text: &[u8], fault: &SetupFault) -> Result<Hint, All
     }
 }
 
-/// Returns what to change of a plan's text that is refused by this fault, its first: the place in the text, what is wrong there, and what to
-/// change; of a text that isn't at hand no place. Refused out of memory alone.
+/// Returns what to change of a plan's text that is refused by this fault, its first: the place in the text, what is wrong there, and what
+/// to change. Of a text that isn't at hand it has no place. Refused out of memory alone.
 pub fn hint_of_plan(
     alloc: Global,
     text: Option<&[u8]>,

@@ -10,7 +10,7 @@ use wl_record::TextFault;
 /// The most bytes of a line that a hint shows.
 const MOST_SHOWN: usize = 80;
 
-/// Line `n` of a text, from 1, up to some length; `None` where the text doesn't have it with its newline.
+/// Returns line `n` of a text, from 1, up to some length; `None` if the text doesn't have it with its newline.
 fn line_of(text: &[u8], n: u64) -> Option<&[u8]> {
     let mut rest = text;
     for _ in 1..n {
@@ -21,7 +21,7 @@ fn line_of(text: &[u8], n: u64) -> Option<&[u8]> {
     rest.get(..end.min(MOST_SHOWN))
 }
 
-/// A line as it is shown: nothing where it is no UTF-8.
+/// Returns a line as it is shown: nothing of one that is no UTF-8.
 fn shown(alloc: Global, line: &[u8]) -> Result<String, AllocError> {
     match str::from_utf8(line) {
         Ok(line) => format!(in alloc; " is `{line}`"),
@@ -29,7 +29,7 @@ fn shown(alloc: Global, line: &[u8]) -> Result<String, AllocError> {
     }
 }
 
-/// A line by its number, with what it says where the text is at hand.
+/// Returns a line by its number, with what it says if the text is at hand.
 fn line_words(alloc: Global, text: Option<&[u8]>, n: u64) -> Result<String, AllocError> {
     let said = match text.and_then(|text| line_of(text, n)) {
         Some(line) => shown(alloc, line)?,
@@ -38,7 +38,7 @@ fn line_words(alloc: Global, text: Option<&[u8]>, n: u64) -> Result<String, Allo
     format!(in alloc; "line {n}{said}. ")
 }
 
-/// What is said of a record text.
+/// Returns what is said of a record text.
 fn said_of(alloc: Global, text: Option<&[u8]>, fault: TextFault) -> Result<String, AllocError> {
     match fault {
         TextFault::Line(n) => {

@@ -1,4 +1,4 @@
-//! What a plan's document tells beside the words of its explanation.
+//! What a plan's document adds to the words of its explanation.
 ghost use Rattle.std.specs.Prelude.{◌≡◌};
 
 use std::alloc::{AllocError, Global};
@@ -19,12 +19,12 @@ const KNOWN: [&str; 33] = [
 /// The most nodes among which a repeated name is looked for.
 const MOST_NAMED: u64 = 1_000;
 
-/// The name of node `i`.
+/// Returns the name of node `i`.
 fn name_of(top: &Table, i: u64) -> Option<&str> {
     value_named(table_at(top, Spot::Node(i))?, "name")?.as_str()
 }
 
-/// Whether an earlier node has the name of node `i`.
+/// True if an earlier node has the name of node `i`.
 fn is_repeated(top: &Table, i: u64) -> bool {
     let name = name_of(top, i);
     for j in 0..i {
@@ -35,7 +35,7 @@ fn is_repeated(top: &Table, i: u64) -> bool {
     false
 }
 
-/// The first node with the name of an earlier one.
+/// Returns the first node with the name of an earlier one.
 pub(crate) fn repeated_name(top: &Table) -> Option<u64> {
     for i in 0..MOST_NAMED {
         if is_repeated(top, i) {
@@ -45,7 +45,7 @@ pub(crate) fn repeated_name(top: &Table) -> Option<u64> {
     None
 }
 
-/// The first key of a table that no table of a plan has, which may be a misspelt one.
+/// Returns the first key of a table that no table of a plan has, which may be a misspelt one.
 fn strange_key(table: &Table) -> Option<&str> {
     for key in table.keys() {
         if !KNOWN.contains(&key.as_str()) {
@@ -55,12 +55,12 @@ fn strange_key(table: &Table) -> Option<&str> {
     None
 }
 
-/// A whole number at a key.
+/// Returns a whole number at a key.
 fn number(table: &Table, key: &str) -> Option<i64> {
     value_named(table, key)?.as_integer()
 }
 
-/// The clock of a node with one rate.
+/// Returns the clock of a node with one rate.
 fn clock_of(node: &Table) -> Option<Clock> {
     let offset = u64::try_from(number(node, "offset")?).ok()?;
     match number(node, "quantum") {
@@ -76,7 +76,7 @@ fn clock_of(node: &Table) -> Option<Clock> {
     }
 }
 
-/// Whether a node's edges may make it sample each third quantum.
+/// True if a node's edges may make it sample each third quantum.
 fn is_short(top: &Table, node: &Table) -> bool {
     let sync = value_named(top, "sync").and_then(Value::as_str);
     let follows = match sync {
@@ -86,7 +86,7 @@ fn is_short(top: &Table, node: &Table) -> bool {
     follows && number(node, "prop") == Some(1) && number(node, "ps1") == Some(1)
 }
 
-/// The greatest end that the clock of node `i` allows, where it has one rate.
+/// Returns the greatest end that the clock of node `i` allows, if it has one rate.
 fn latest_end(top: &Table, i: u64) -> Option<u64> {
     let node = table_at(top, Spot::Node(i))?;
     let most = if is_short(top, node) {
@@ -97,7 +97,7 @@ fn latest_end(top: &Table, i: u64) -> Option<u64> {
     Some(clock_of(node)?.at(most))
 }
 
-/// What is remarked of a missing key.
+/// Returns what is remarked of a missing key.
 fn of_missing(alloc: Global, table: Option<&Table>) -> Result<String, AllocError> {
     match table.and_then(strange_key) {
         Some(key) => {
@@ -108,7 +108,7 @@ fn of_missing(alloc: Global, table: Option<&Table>) -> Result<String, AllocError
     }
 }
 
-/// What is remarked of an end that comes too late for node `i`.
+/// Returns what is remarked of an end that comes too late for node `i`.
 fn of_quanta(alloc: Global, top: &Table, i: u64) -> Result<String, AllocError> {
     match latest_end(top, i) {
         Some(end) => format!(in alloc; " (with this clock the end is at most {end})"),
@@ -116,7 +116,7 @@ fn of_quanta(alloc: Global, top: &Table, i: u64) -> Result<String, AllocError> {
     }
 }
 
-/// The unit of a key of a table, whose value is a whole number.
+/// Returns the unit of a key of a table, whose value is a whole number.
 fn unit_of(key: &str, spot: Spot) -> &'static str {
     match (key, spot) {
         ("from", Spot::Rate(_, _)) => " (it is in quanta)",
@@ -128,7 +128,7 @@ fn unit_of(key: &str, spot: Spot) -> &'static str {
     }
 }
 
-/// Where a key belongs that is in another table.
+/// Returns where a key belongs that is in another table.
 fn home_of(key: &str, spot: Spot) -> &'static str {
     match (key, spot) {
         (_, Spot::Top) => "",
@@ -155,7 +155,7 @@ fn home_of(key: &str, spot: Spot) -> &'static str {
     }
 }
 
-/// What is remarked of a segment: registers hold one quantum less, and a bit of too many quanta wants longer ones.
+/// Returns what is remarked of a segment: registers hold one quantum less, and a bit of too many quanta wants longer ones.
 fn of_segment(table: Option<&Table>, key: &str, least: i64) -> &'static str {
     match table.and_then(|table| number(table, key)) {
         Some(quanta) if quanta < least => " (a register may hold one less than the quanta)",
@@ -164,7 +164,7 @@ fn of_segment(table: Option<&Table>, key: &str, least: i64) -> &'static str {
     }
 }
 
-/// What is remarked of segments.
+/// Returns what is remarked of segments.
 fn of_segments(table: Option<&Table>, fault: SegmentsFault) -> &'static str {
     match fault {
         SegmentsFault::Prop => of_segment(table, "prop", 1),
@@ -175,7 +175,7 @@ fn of_segments(table: Option<&Table>, fault: SegmentsFault) -> &'static str {
     }
 }
 
-/// What is remarked of a fault in the table where it is; nothing of most.
+/// Returns what is remarked of a fault in the table where it is; nothing of most.
 pub(crate) fn remark(
     alloc: Global,
     top: &Table,

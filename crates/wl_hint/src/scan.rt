@@ -1,10 +1,11 @@
-//! The parts of a TOML text, by where they begin and end (TOML 1.0). A text that is no TOML gives some place. A place behind the text is its end.
-/// The byte at a place; 0 behind the text.
+//! The parts of a TOML text, by where they begin and end (TOML 1.0). A text that is no TOML gives some place. A place after the text is its
+//! end.
+/// Returns the byte at a place; 0 after the text.
 fn byte_at(text: &[u8], at: usize) -> u8 {
     text.get(at).copied().unwrap_or(0)
 }
 
-/// Whether a text has these bytes at a place.
+/// True if a text has these bytes at a place.
 fn has_at(text: &[u8], at: usize, wanted: &[u8]) -> bool {
     match text.get(at..) {
         Some(rest) => rest.starts_with(wanted),
@@ -12,7 +13,7 @@ fn has_at(text: &[u8], at: usize, wanted: &[u8]) -> bool {
     }
 }
 
-/// The place of the first of these bytes from a place on; the end of the text where there is none.
+/// Returns the place of the first of these bytes from a place on; the end of the text if there is none.
 fn next_of(text: &[u8], from: usize, wanted: u8) -> usize {
     for at in from..text.len() {
         if text[at] == wanted {
@@ -22,7 +23,7 @@ fn next_of(text: &[u8], from: usize, wanted: u8) -> usize {
     text.len()
 }
 
-/// The place behind a string of three quotes, whose first is at a place.
+/// Returns the place after a string of three quotes, whose first is at a place.
 fn long_string_end(text: &[u8], from: usize, quote: u8) -> usize {
     let marks = [quote, quote, quote];
     let mut escaped = false;
@@ -38,7 +39,7 @@ fn long_string_end(text: &[u8], from: usize, quote: u8) -> usize {
     text.len()
 }
 
-/// The place behind a string of one quote on one line.
+/// Returns the place after a string of one quote on one line.
 fn short_string_end(text: &[u8], from: usize, quote: u8) -> usize {
     let mut escaped = false;
     for at in from.saturating_add(1)..text.len() {
@@ -55,7 +56,7 @@ fn short_string_end(text: &[u8], from: usize, quote: u8) -> usize {
     text.len()
 }
 
-/// The place behind a string that begins at a place with this quote.
+/// Returns the place after a string that begins at a place with this quote.
 fn string_end(text: &[u8], from: usize, quote: u8) -> usize {
     let marks = [quote, quote, quote];
     if has_at(text, from, &marks) {
@@ -65,7 +66,7 @@ fn string_end(text: &[u8], from: usize, quote: u8) -> usize {
     }
 }
 
-/// The place behind the string, the comment or the byte at a place.
+/// Returns the place after the string, the comment or the byte at a place.
 fn piece_end(text: &[u8], from: usize) -> usize {
     match byte_at(text, from) {
         b'"' => string_end(text, from, b'"'),
@@ -75,7 +76,7 @@ fn piece_end(text: &[u8], from: usize) -> usize {
     }
 }
 
-/// The first place from a place on where neither white space, nor a comment, nor a comma is.
+/// Returns the first place from a place on where neither white space, nor a comment, nor a comma is.
 pub(crate) fn skip_blanks(text: &[u8], from: usize) -> usize {
     let mut at = from;
     for _ in 0..text.len() {
@@ -87,7 +88,7 @@ pub(crate) fn skip_blanks(text: &[u8], from: usize) -> usize {
     at
 }
 
-/// The place behind the value that begins at a place: a newline, a comma or a bracket that closes what it is in.
+/// Returns the place after the value that begins at a place: a newline, a comma or a bracket that closes what it is in.
 pub(crate) fn value_end(text: &[u8], from: usize) -> usize {
     let mut at = from;
     let mut depth = 0u32;
@@ -104,7 +105,7 @@ pub(crate) fn value_end(text: &[u8], from: usize) -> usize {
     at
 }
 
-/// The place of the `=` or `]` behind the key that begins at a place; the end of its line where there is none.
+/// Returns the place of the `=` or `]` after the key that begins at a place; the end of its line if there is none.
 pub(crate) fn key_end(text: &[u8], from: usize) -> usize {
     let mut at = from;
     for _ in 0..text.len() {
@@ -116,7 +117,7 @@ pub(crate) fn key_end(text: &[u8], from: usize) -> usize {
     at
 }
 
-/// Whether the key from one place to another is this word, bare or in quotes.
+/// True if the key from one place to another is this word, bare or in quotes.
 pub(crate) fn is_key(text: &[u8], from: usize, end: usize, word: &[u8]) -> bool {
     let Some(key) = text.get(from..end) else {
         return false;
@@ -129,7 +130,7 @@ pub(crate) fn is_key(text: &[u8], from: usize, end: usize, word: &[u8]) -> bool 
     }
 }
 
-/// The place of the value behind the `=` at a place.
+/// Returns the place of the value after the `=` at a place.
 pub(crate) fn value_behind(text: &[u8], equals: usize) -> usize {
     let mut at = equals.saturating_add(1).min(text.len());
     for _ in 0..text.len() {
@@ -141,7 +142,7 @@ pub(crate) fn value_behind(text: &[u8], equals: usize) -> usize {
     at
 }
 
-/// The place of element `n` of the array that begins at a place.
+/// Returns the place of element `n` of the array that begins at a place.
 pub(crate) fn element_at(text: &[u8], array: usize, n: u64) -> Option<usize> {
     if byte_at(text, array) != b'[' {
         return None;
@@ -161,7 +162,7 @@ pub(crate) fn element_at(text: &[u8], array: usize, n: u64) -> Option<usize> {
     }
 }
 
-/// The place of a key of the inline table that begins at a place.
+/// Returns the place of a key of the inline table that begins at a place.
 pub(crate) fn member_at(text: &[u8], table: usize, word: &[u8]) -> Option<usize> {
     let mut at = skip_blanks(text, table.saturating_add(1).min(text.len()));
     for _ in 0..text.len() {

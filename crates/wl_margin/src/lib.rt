@@ -1,5 +1,7 @@
-//! The margin of a bus as text: whether it works at all offsets and clocks within tolerance, with how much to spare, how much
-//! longer its cable and wider its tolerances may be, and which change helps most.
+//! The margin of a bus as text: whether it works, with how much to spare, and which change helps most.
+//!
+//! That is at all offsets, and with all clocks within their tolerance. The text also says how much longer the cable and how much wider the
+//! tolerances may be.
 #![tactic(auto)]
 
 mod found;

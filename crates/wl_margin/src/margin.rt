@@ -185,7 +185,7 @@ fn push_pair_line(
     )
 }
 
-/// Adds what is to spare for nodes `i` and `j`, if they are two.
+/// Adds what is to spare for nodes `i` and `j`, if they aren't one.
 fn push_pair(
     text: &mut String,
     family: &Family,
@@ -260,7 +260,7 @@ fn push_told(
     push_failure(text, units(family, tick, failure.node), names, failure)
 }
 
-/// Adds some words, after them what goes wrong in the units of a tick of so many picoseconds, and ends the line.
+/// Adds some words, after them what goes wrong in the units of a tick of `tick` picoseconds, and ends the line.
 pub fn push_failure_line(
     text: &mut String,
     family: &Family,
@@ -347,12 +347,12 @@ fn family_text(
     Ok(text)
 }
 
-/// Returns the margin of a bus as text, for ticks of so many picoseconds, below 2^36.
+/// Returns the margin of a bus as text, for ticks of `tick` picoseconds, below 2^36.
 ///
-/// The first line says whether the condition for a sound bus holds for any senders, for one sender at a time, or not, and then which
-/// inequality fails, for which nodes and by how much; or that no condition is known for the plan. Then follow what is to spare for
-/// each node and each other, how much longer the cable and wider the tolerances may be, and which change by a quantum helps most.
-/// Refused out of memory alone.
+/// The first line says whether the condition for a sound bus holds: for any senders, for one sender at a time, or not. If it fails the line
+/// says which inequality fails, for which nodes and by how much. It may also say that no condition is known for the plan. Then follows what
+/// is to spare for each node and each other. Last come how much longer the cable and wider the tolerances may be, and which change by a
+/// quantum helps most. Refused out of memory alone.
 pub fn margin_text(alloc: Global, tick: u64, bus: &Bus) -> Result<String, AllocError>
     requires tick { tick < 2 ^ 36 }
     requires checked { IsChecked bus.now.plan }

@@ -1,4 +1,4 @@
-//! Times as text, and what goes wrong where the condition for a sound bus fails.
+//! Times as text, and what goes wrong if the condition for a sound bus fails.
 ghost use Rattle.std.specs.Prelude.{◌≡◌, ◌++◌, string_bytes, OnOk};
 ghost use Rattle.wl_setup.specs.Names.{name_of};
 ghost use Rattle.wl_margin.specs.Sentences.{amount_words, drift_words, early_words, inequality_words, late_words, loop_words, picoseconds_around, picoseconds_within, quanta_around, quanta_within, sentence, signed_words, spare_words};
@@ -182,7 +182,7 @@ fn push_early(
     )
 }
 
-/// Adds what goes wrong where an inequality fails.
+/// Adds what goes wrong if an inequality fails.
 pub(crate) fn push_failure(
     text: &mut String,
     units: Units,

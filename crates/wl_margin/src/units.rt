@@ -29,7 +29,7 @@ impl Model for Units {
 }
 
 impl Units {
-    /// Returns the units of a tick of so many picoseconds and a quantum of so many millionths of a tick.
+    /// Returns the units of a tick of this many picoseconds and a quantum of this many millionths of a tick.
     pub(crate) fn new(tick: u64, quantum: u128) -> Units
         requires tick { tick < 2 ^ 36 }
         requires quantum { 0 < quantum }

@@ -1,4 +1,4 @@
-//! What a task comes to.
+//! What a task results in.
 ghost use Rattle.std.specs.Prelude.{◌≡◌, List};
 ghost use Rattle.std.specs.List.{list_all};
 ghost use Rattle.wl_sweep.specs.Findings.{is_clean};
@@ -17,7 +17,7 @@ use wl_sweep_engine::{SweepFault, Tally};
 pub enum Done {
     /// The output says all.
     Plain,
-    /// Some member of a sweep isn't clean, or a run doesn't work whose status is to say so.
+    /// Some member of a sweep isn't clean, or a run doesn't work and its status is to say so.
     Unclean,
 }
 
@@ -38,7 +38,7 @@ pub enum Fault {
     Format,
 }
 
-/// What an engine answered, as an answer of the program.
+/// Returns what an engine answered, as an answer of the program.
 pub(crate) fn plainly(answer: Result<(), RunFault>) -> Result<Done, Fault>
     ensures { result ≡ plainly answer }
 {
@@ -48,7 +48,7 @@ pub(crate) fn plainly(answer: Result<(), RunFault>) -> Result<Done, Fault>
     }
 }
 
-/// A fault of a sweep: of its plan, its devices or memory it is that of any engine, else it is one of its words.
+/// Returns a fault of a sweep: of its plan, its devices or memory it is that of any engine, else it is one of its words.
 fn of_sweep(fault: SweepFault) -> Fault
     ensures { result ≡ of_sweep fault }
 {
@@ -60,7 +60,7 @@ fn of_sweep(fault: SweepFault) -> Fault
     }
 }
 
-/// What came of a sweep with this tally: whether all its members are clean.
+/// Returns what came of a sweep with this tally: whether all its members are clean.
 fn done_of(tally: Tally) -> Done
     ensures { (found : List Finding) → tally ≡ tally_of found → result ≡ done_by (list_all is_clean found) }
 {
@@ -71,7 +71,7 @@ fn done_of(tally: Tally) -> Done
     }
 }
 
-/// What a sweep answered, by the tally of its members.
+/// Returns what a sweep answered, by the tally of its members.
 pub(crate) fn of_tally(answer: Result<Tally, SweepFault>) -> Result<Done, Fault>
     ensures { AnswersSweep answer result }
 {
@@ -92,7 +92,7 @@ pub(crate) fn of_map(answer: Result<bool, SweepFault>) -> Result<Done, Fault>
     }
 }
 
-/// What the writing of a member answered.
+/// Returns what the writing of a member answered.
 pub(crate) fn of_print(answer: Result<(), SweepFault>) -> Result<Done, Fault>
     ensures { result ≡ of_print answer }
 {
@@ -102,7 +102,7 @@ pub(crate) fn of_print(answer: Result<(), SweepFault>) -> Result<Done, Fault>
     }
 }
 
-/// A fault of a search for settings: of its devices or memory it is that of any engine, else it is one of its text.
+/// Returns a fault of a search for settings: of its devices or memory it is that of any engine, else it is one of its text.
 fn of_settings_fault(fault: SettingsFault) -> Fault
     ensures { result ≡ of_settings_fault fault }
 {
@@ -114,7 +114,7 @@ fn of_settings_fault(fault: SettingsFault) -> Fault
     }
 }
 
-/// What a search for settings answered.
+/// Returns what a search for settings answered.
 pub(crate) fn of_settings(answer: Result<(), SettingsFault>) -> Result<Done, Fault>
     ensures { result ≡ of_settings answer }
 {
@@ -124,7 +124,7 @@ pub(crate) fn of_settings(answer: Result<(), SettingsFault>) -> Result<Done, Fau
     }
 }
 
-/// What the traffic of a run answered, whose status is to say whether it works.
+/// Returns what the traffic of a run answered, whose status is to say whether it works.
 pub(crate) fn of_traffic(strict: bool, answer: Result<Reason, RunFault>) -> Result<Done, Fault>
     ensures { result ≡ of_traffic strict answer }
 {

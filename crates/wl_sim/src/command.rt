@@ -32,15 +32,16 @@ docs/use/first-hour.md leads from a data sheet to a report.";
 /// What the program is asked to do.
 #[derive(Clone, Copy, Debug, PartialEq, Eq)]
 pub enum Task {
-    /// The canonical text of a record text.
+    /// Returns the canonical text of a record text.
     Merge,
-    /// What a record text tells of each node, and up to when.
+    /// What a record text says of each node, and up to which tick.
     Horizon,
     /// The settings of a plan's nodes, and the delays between them.
     Check,
     /// The records of a plan's simulation.
     Records,
-    /// The report of a plan's simulation by so many workers, 1 to 8, over this kind of link; one works alone, on the program's own thread.
+    /// The report of a plan's simulation by this many workers, 1 to 8, over this kind of link. One works alone, on the program's own
+    /// thread.
     Run(u8, LinkKind),
     /// What is doubtful of a plan, and the figures of its nodes; or what is wrong with it.
     Explain,
@@ -54,8 +55,8 @@ pub enum Task {
     Page(Tick),
     /// Whether a plan's bus works, and with how much to spare, at ticks that take so long.
     Margin(Tick),
-    /// How busy a plan's bus was, how long its messages waited, and why the run didn't work, at ticks that take so long; the status says, if
-    /// that is asked for, whether it worked.
+    /// How busy a plan's bus was, how long its messages waited, and why the run didn't work, at ticks that take so long. If that is asked
+    /// for, the status says whether it worked.
     Traffic(Tick, bool),
     /// The settings with which a bus works, or the plan of the best one, at ticks that take so long.
     Settings(Tick, Shown),
@@ -91,7 +92,7 @@ pub enum Refusal {
     Memory,
 }
 
-/// The argument that names the file to read.
+/// Returns the argument that names the file to read.
 fn input_argument<'a>(alloc: Global) -> Arg<'a>
     ensures rule { rule_of result ≡ input_rule }
     ensures local { result.global ≡ false }
@@ -101,7 +102,7 @@ fn input_argument<'a>(alloc: Global) -> Arg<'a>
         .help("The file to read; without it, or for -, standard input")
 }
 
-/// The option that names the file to write.
+/// Returns the option that names the file to write.
 fn output_option<'a>(alloc: Global) -> Arg<'a>
     ensures rule { rule_of result ≡ output_rule }
     ensures local { result.global ≡ false }
@@ -111,7 +112,7 @@ fn output_option<'a>(alloc: Global) -> Arg<'a>
     )
 }
 
-/// The option that asks for a hint after a fault.
+/// Returns the option that asks for a hint after a fault.
 fn hint_option<'a>(alloc: Global) -> Arg<'a>
     ensures rule { rule_of result ≡ flag_rule (codes "hint") }
     ensures local { result.global ≡ false }
@@ -122,7 +123,7 @@ fn hint_option<'a>(alloc: Global) -> Arg<'a>
         .help("Says after a fault where in the input it is, and what to change")
 }
 
-/// The option that asks for lines on a run that takes long.
+/// Returns the option that asks for lines on a run that takes long.
 fn progress_option<'a>(alloc: Global) -> Arg<'a>
     ensures rule { rule_of result ≡ flag_rule (codes "progress") }
     ensures local { result.global ≡ false }
@@ -133,7 +134,7 @@ fn progress_option<'a>(alloc: Global) -> Arg<'a>
         .help("Says each second how long the run has taken, or of a sweep how far it is")
 }
 
-/// A subcommand with the arguments that each has.
+/// Returns a subcommand with the arguments that each has.
 fn filed<'a>(alloc: Global, word: &'a str, about: &'a str) -> Result<Command<'a>, AllocError>
     ensures app { IfOk result (λ sub. app_of sub ≡ filed word.now) }
     ensures local { IfOk result (λ sub. (out-Command sub).has_globals ≡ false) }
@@ -146,7 +147,7 @@ fn filed<'a>(alloc: Global, word: &'a str, about: &'a str) -> Result<Command<'a>
     Ok(told)
 }
 
-/// The option that says how long a tick takes.
+/// Returns the option that says how long a tick takes.
 fn tick_option<'a>(alloc: Global) -> Arg<'a>
     ensures rule { rule_of result ≡ tick_rule }
     ensures local { result.global ≡ false }
@@ -158,7 +159,7 @@ fn tick_option<'a>(alloc: Global) -> Arg<'a>
         .default_value("1ns")
 }
 
-/// The option that says which format the output has.
+/// Returns the option that says which format the output has.
 fn format_option<'a>(alloc: Global) -> Arg<'a>
     ensures rule { rule_of result ≡ format_rule }
     ensures local { result.global ≡ false }
@@ -170,7 +171,7 @@ fn format_option<'a>(alloc: Global) -> Arg<'a>
         .default_value("text")
 }
 
-/// A subcommand that has this option too.
+/// Returns a subcommand that has this option too.
 fn formatted<'a>(alloc: Global, sub: Command<'a>) -> Result<Command<'a>, AllocError>
     requires { (out-Command sub).has_globals ≡ false }
     ensures app { IfOk result (λ all. app_of all ≡ formatted_app (app_of sub.entry)) }
@@ -179,7 +180,7 @@ fn formatted<'a>(alloc: Global, sub: Command<'a>) -> Result<Command<'a>, AllocEr
     sub.arg(format_option(alloc))
 }
 
-/// A subcommand with the arguments that each has, and with this option.
+/// Returns a subcommand with the arguments that each has, and with this option.
 fn filed_formatted<'a>(
     alloc: Global,
     word: &'a str,
@@ -192,7 +193,7 @@ fn filed_formatted<'a>(
     formatted(alloc, sub)
 }
 
-/// The option that says how many workers simulate the plan.
+/// Returns the option that says how many workers simulate the plan.
 fn workers_option<'a>(alloc: Global) -> Arg<'a>
     ensures rule { rule_of result ≡ workers_rule }
     ensures local { result.global ≡ false }
@@ -205,7 +206,7 @@ fn workers_option<'a>(alloc: Global) -> Arg<'a>
         .default_value("1")
 }
 
-/// The option that says what workers hand records over by.
+/// Returns the option that says what workers hand records over by.
 fn link_option<'a>(alloc: Global) -> Arg<'a>
     ensures rule { rule_of result ≡ link_rule }
     ensures local { result.global ≡ false }
@@ -219,7 +220,7 @@ fn link_option<'a>(alloc: Global) -> Arg<'a>
         .default_value("hub")
 }
 
-/// A subcommand that has this option.
+/// Returns a subcommand that has this option.
 fn optioned<'a>(
     alloc: Global,
     word: &'a str,
@@ -234,7 +235,7 @@ fn optioned<'a>(
     sub.arg(option)
 }
 
-/// The subcommand `run`, with its options.
+/// Returns the subcommand `run`, with its options.
 fn run_command<'a>(alloc: Global) -> Result<Command<'a>, AllocError>
     ensures app { IfOk result (λ sub. app_of sub ≡ run_app) }
     ensures local { IfOk result (λ sub. (out-Command sub).has_globals ≡ false) }
@@ -249,7 +250,7 @@ fn run_command<'a>(alloc: Global) -> Result<Command<'a>, AllocError>
     formatted(alloc, linked)
 }
 
-/// The program's command with the subcommands that have no tick, each with one line of help.
+/// Returns the program's command with the subcommands that have no tick, each with one line of help.
 fn untimed<'a>(alloc: Global) -> Result<Command<'a>, AllocError>
     ensures { IfOk result (λ all. app_of all ≡ untimed_program) }
 {
@@ -293,7 +294,7 @@ fn untimed<'a>(alloc: Global) -> Result<Command<'a>, AllocError>
     Ok(all)
 }
 
-/// The subcommand `sweep`, with its options.
+/// Returns the subcommand `sweep`, with its options.
 fn sweep_command<'a>(alloc: Global) -> Result<Command<'a>, AllocError>
     ensures app { IfOk result (λ sub. app_of sub ≡ sweep_app) }
     ensures local { IfOk result (λ sub. (out-Command sub).has_globals ≡ false) }
@@ -307,7 +308,7 @@ fn sweep_command<'a>(alloc: Global) -> Result<Command<'a>, AllocError>
     formatted(alloc, swept)
 }
 
-/// The option that makes the status say whether the run works.
+/// Returns the option that makes the status say whether the run works.
 fn strict_option<'a>(alloc: Global) -> Arg<'a>
     ensures rule { rule_of result ≡ flag_rule (codes "strict") }
     ensures local { result.global ≡ false }
@@ -318,7 +319,7 @@ fn strict_option<'a>(alloc: Global) -> Arg<'a>
         .help("Ends with status 1 if the verdict is another than works")
 }
 
-/// The subcommand `traffic`, with its options.
+/// Returns the subcommand `traffic`, with its options.
 fn traffic_command<'a>(alloc: Global) -> Result<Command<'a>, AllocError>
     ensures app { IfOk result (λ sub. app_of sub ≡ traffic_app) }
     ensures local { IfOk result (λ sub. (out-Command sub).has_globals ≡ false) }
@@ -333,7 +334,7 @@ fn traffic_command<'a>(alloc: Global) -> Result<Command<'a>, AllocError>
     formatted(alloc, strict)
 }
 
-/// The option that says at which second a log begins.
+/// Returns the option that says at which second a log begins.
 fn from_option<'a>(alloc: Global) -> Arg<'a>
     ensures rule { rule_of result ≡ from_rule }
     ensures local { result.global ≡ false }
@@ -346,7 +347,7 @@ fn from_option<'a>(alloc: Global) -> Arg<'a>
         .default_value("0")
 }
 
-/// The subcommand `candump`, with its options.
+/// Returns the subcommand `candump`, with its options.
 fn candump_command<'a>(alloc: Global) -> Result<Command<'a>, AllocError>
     ensures app { IfOk result (λ sub. app_of sub ≡ candump_app) }
     ensures local { IfOk result (λ sub. (out-Command sub).has_globals ≡ false) }
@@ -360,7 +361,7 @@ fn candump_command<'a>(alloc: Global) -> Result<Command<'a>, AllocError>
     candump.arg(from_option(alloc))
 }
 
-/// The subcommand `margin`, with its options.
+/// Returns the subcommand `margin`, with its options.
 fn margin_command<'a>(alloc: Global) -> Result<Command<'a>, AllocError>
     ensures app { IfOk result (λ sub. app_of sub ≡ margin_app) }
     ensures local { IfOk result (λ sub. (out-Command sub).has_globals ≡ false) }
@@ -374,7 +375,7 @@ fn margin_command<'a>(alloc: Global) -> Result<Command<'a>, AllocError>
     formatted(alloc, margin)
 }
 
-/// The command line of single runs: after those, the trace and the subcommands that have a tick.
+/// Returns the command line of single runs: after those, the trace and the subcommands that have a tick.
 fn without_sweep<'a>(alloc: Global) -> Result<Command<'a>, AllocError>
     ensures { IfOk result (λ all. app_of all ≡ single_program) }
 {
@@ -408,7 +409,7 @@ fn without_sweep<'a>(alloc: Global) -> Result<Command<'a>, AllocError>
     Ok(all)
 }
 
-/// The option that says how many settings are listed.
+/// Returns the option that says how many settings are listed.
 fn best_option<'a>(alloc: Global) -> Arg<'a>
     ensures rule { rule_of result ≡ best_rule }
     ensures local { result.global ≡ false }
@@ -420,7 +421,7 @@ fn best_option<'a>(alloc: Global) -> Arg<'a>
         .value_parser(value_parser!(u32).range(1..))
 }
 
-/// The flag that asks for the plan of the best setting.
+/// Returns the flag that asks for the plan of the best setting.
 fn plan_option<'a>(alloc: Global) -> Arg<'a>
     ensures rule { rule_of result ≡ flag_rule (codes "plan") }
     ensures local { result.global ≡ false }
@@ -433,7 +434,7 @@ fn plan_option<'a>(alloc: Global) -> Arg<'a>
         )
 }
 
-/// The subcommand `settings`, with its options.
+/// Returns the subcommand `settings`, with its options.
 fn settings_command<'a>(alloc: Global) -> Result<Command<'a>, AllocError>
     ensures app { IfOk result (λ sub. app_of sub ≡ settings_app) }
     ensures local { IfOk result (λ sub. (out-Command sub).has_globals ≡ false) }
@@ -448,7 +449,7 @@ fn settings_command<'a>(alloc: Global) -> Result<Command<'a>, AllocError>
     counted.arg(plan_option(alloc))
 }
 
-/// The command line without the sweep: single runs, and the search for settings.
+/// Returns the command line without the sweep: single runs, and the search for settings.
 fn with_search<'a>(alloc: Global) -> Result<Command<'a>, AllocError>
     ensures { IfOk result (λ all. app_of all ≡ search_program) }
 {
@@ -458,7 +459,7 @@ fn with_search<'a>(alloc: Global) -> Result<Command<'a>, AllocError>
     Ok(all)
 }
 
-/// The whole command line: after those, the sweep.
+/// Returns the whole command line: after those, the sweep.
 fn command<'a>(alloc: Global) -> Result<Command<'a>, AllocError>
     ensures { IfOk result (λ all. app_of all ≡ program) }
 {
@@ -468,7 +469,7 @@ fn command<'a>(alloc: Global) -> Result<Command<'a>, AllocError>
     Ok(all)
 }
 
-/// The task of a subcommand, by its name and the values of its options.
+/// Returns the task of a subcommand, by its name and the values of its options.
 fn task_named(name: Option<&str>, values: Option<Values>) -> Option<Task>
     ensures { (task : Task) → (result ≡ Some task) ↔ NamedTask (option_map (λ s. s.now) name.entry) values task }
 {
@@ -503,7 +504,7 @@ fn task_named(name: Option<&str>, values: Option<Values>) -> Option<Task>
     }
 }
 
-/// The task that a parse of these words found.
+/// Returns the task that a parse of these words found.
 fn task_in(matches: &ArgMatches) -> Option<Task>
     ensures { (task : Task) → (result ≡ Some task) ↔ FoundTask (subcommand_rows_of matches.now) task }
 {
@@ -511,7 +512,7 @@ fn task_in(matches: &ArgMatches) -> Option<Task>
     task_named(matches.subcommand_name(), values)
 }
 
-/// What is asked for beside a task, by the words of the subcommand.
+/// Returns what is asked for beside a task, by the words of the subcommand.
 fn order_for(
     alloc: Global,
     matches: &ArgMatches,
@@ -540,7 +541,7 @@ fn order_for(
     })
 }
 
-/// What these words ask for, the program's own name first; an error that isn't out of memory is what clap says to them.
+/// Returns what these words ask for, the program's own name first; an error that isn't out of memory is what clap says to them.
 fn order_of(alloc: Global, words: &[String]) -> Result<Option<Order>, Error>
     ensures order { IfOk result (FindsOrder (map string_bytes words.now)) }
     ensures memory { IfErr result (λ e. (task : Task) → Enters task (map string_bytes words.now)
@@ -559,7 +560,7 @@ fn order_of(alloc: Global, words: &[String]) -> Result<Option<Order>, Error>
     }
 }
 
-/// Why words that clap refused with this kind of error name no task.
+/// Returns why words that clap refused with this kind of error name no task.
 fn refusal_of(kind: ErrorKind) -> Refusal
     ensures memory { kind ≡ ErrorKind.OutOfMemory → result ≡ Refusal.Memory }
     ensures words { kind ≢ ErrorKind.OutOfMemory → result ≡ Refusal.Words }
@@ -571,7 +572,7 @@ fn refusal_of(kind: ErrorKind) -> Refusal
     }
 }
 
-/// What options want, where clap lets in values that name nothing.
+/// Returns what options want, if clap lets in values that name nothing.
 fn wanted(words: &[String]) -> &'static str {
     match words.get(1) {
         Some(word) => match word.as_str() {
@@ -586,7 +587,7 @@ fn wanted(words: &[String]) -> &'static str {
     }
 }
 
-/// A text of several lines, with escapes for what could steer a terminal: words are said again as they came.
+/// Returns a text of several lines, with escapes for what could steer a terminal: words are said again as they came.
 fn shown_lines(alloc: Global, said: &str) -> Result<String, AllocError> {
     let mut shown = String::new(alloc);
     let mut is_first = true;
@@ -601,13 +602,13 @@ fn shown_lines(alloc: Global, said: &str) -> Result<String, AllocError> {
     Ok(shown)
 }
 
-/// What clap finds wrong with words, or its help.
+/// Returns what clap finds wrong with words, or its help.
 fn said_of(alloc: Global, error: &Error) -> Result<String, AllocError> {
     let said = format!(in alloc; "{error}")?;
     shown_lines(alloc, said.as_str())
 }
 
-/// Says what clap finds wrong with words. Where memory ran out, the line of that fault is all that is said.
+/// Says what clap finds wrong with words. If memory ran out, the line of that fault is all that is said.
 fn say(rt: &impl Eprint, alloc: Global, refusal: Refusal, error: &Error) {
     if refusal == Refusal::Words {
         if let Ok(said) = said_of(alloc, error) {
@@ -616,8 +617,8 @@ fn say(rt: &impl Eprint, alloc: Global, refusal: Refusal, error: &Error) {
     }
 }
 
-/// What the words ask for, the program's own name first. What is wrong with them goes to standard error, help too;
-/// that this text goes out is said by no clause, since none can speak of standard error.
+/// Returns what the words ask for, the program's own name first. What is wrong with them goes to standard error, and so does help. No
+/// clause says that this text goes out, since none can speak of standard error.
 pub fn read(rt: &impl Eprint, alloc: Global, words: &[String]) -> Result<Order, Refusal>
     ensures { ReadsOrder (map string_bytes words.now) result }
 {
@@ -636,7 +637,7 @@ pub fn read(rt: &impl Eprint, alloc: Global, words: &[String]) -> Result<Order, 
     }
 }
 
-/// The words of the command line, the program's own name first.
+/// Returns the words of the command line, the program's own name first.
 pub fn words_of<R: Env + AllocGlobal>(rt: &R) -> io::Result<Vec<String>> {
     let words = std::env::args(rt)?;
     Ok(words.collect(rt.alloc())?)

@@ -17,7 +17,7 @@ use wl_sweep_engine::{RangeFault, SweepFault};
 /// The most bytes of an input that a hint is made from.
 const MOST_HINTED: usize = 1 << 20;
 
-/// The file of an order that a fault is about.
+/// Returns the file of an order that a fault is about.
 fn file_of<'a>(order: &'a Order, fault: &RunFault) -> Option<&'a Text> {
     match fault {
         RunFault::Setup(SetupFault::Read) | RunFault::Text(TextFault::Read) => order.input.as_ref(),
@@ -26,7 +26,7 @@ fn file_of<'a>(order: &'a Order, fault: &RunFault) -> Option<&'a Text> {
     }
 }
 
-/// The input once more, or its front, where it is a file.
+/// Returns the input once more, or its front, if it is a file.
 fn input_again<F: Folder>(
     alloc: Global,
     order: &Order,
@@ -45,7 +45,7 @@ fn input_again<F: Folder>(
     }
 }
 
-/// What to change after a fault of the input; `None` after another.
+/// Returns what to change after a fault of the input; `None` after another.
 fn input_hint<F: Folder>(
     alloc: Global,
     order: &Order,
@@ -64,7 +64,7 @@ fn input_hint<F: Folder>(
     }
 }
 
-/// What to change after a fault of another kind.
+/// Returns what to change after a fault of another kind.
 fn advice(fault: &RunFault, has_name: bool) -> &'static str {
     match (fault, has_name) {
         (RunFault::Write, true) => WRITE_FILE,
@@ -76,7 +76,7 @@ fn advice(fault: &RunFault, has_name: bool) -> &'static str {
     }
 }
 
-/// Says what to change after a fault, in one line. Nothing where memory for it is refused.
+/// Says what to change after a fault, in one line. Nothing if memory for it is refused.
 fn say_hint<F: Folder>(
     rt: &impl Eprint,
     alloc: Global,
@@ -94,7 +94,7 @@ fn say_hint<F: Folder>(
     }
 }
 
-/// What to change of a range that a plan doesn't allow.
+/// Returns what to change of a range that a plan doesn't allow.
 fn range_advice(fault: RangeFault) -> &'static str {
     match fault {
         RangeFault::Form =>
@@ -114,7 +114,7 @@ fn range_advice(fault: RangeFault) -> &'static str {
     }
 }
 
-/// What to change of the words of a sweep that a plan doesn't allow.
+/// Returns what to change of the words of a sweep that a plan doesn't allow.
 fn word_advice(fault: &SweepFault) -> &'static str {
     match fault {
         SweepFault::Range(_, fault) => range_advice(*fault),
@@ -130,7 +130,7 @@ fn word_advice(fault: &SweepFault) -> &'static str {
     }
 }
 
-/// The range of an order that a fault is about.
+/// Returns the range of an order that a fault is about.
 fn range_of<'a>(order: &'a Order, fault: &SweepFault) -> Option<&'a String> {
     match fault {
         SweepFault::Range(i, _) => order.ranges.get(*i),
@@ -153,7 +153,7 @@ fn say_of_word(rt: &impl Eprint, alloc: Global, order: &Order, fault: &SweepFaul
     }
 }
 
-/// What to change of a text that says what settings are asked for.
+/// Returns what to change of a text that says what settings are asked for.
 fn settings_advice(fault: &SettingsFault) -> &'static str {
     match fault {
         SettingsFault::Toml => "Correct the TOML.",
@@ -169,7 +169,7 @@ fn settings_advice(fault: &SettingsFault) -> &'static str {
     }
 }
 
-/// Says beside the fault of a run the file that couldn't be read or written, and where the order asks for it a hint.
+/// Says beside the fault of a run the file that couldn't be read or written, and a hint if the order asks for it.
 fn say_of_run<F: Folder>(
     rt: &impl Eprint,
     alloc: Global,
@@ -185,7 +185,7 @@ fn say_of_run<F: Folder>(
     }
 }
 
-/// Says a fault in one line; in a second one the file that couldn't be read or written; and where the order asks for it a hint.
+/// Says a fault in one line; in a second one the file that couldn't be read or written; and a hint if the order asks for it.
 pub fn say_fault<F: Folder>(
     rt: &impl Eprint,
     alloc: Global,

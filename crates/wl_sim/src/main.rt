@@ -1,14 +1,18 @@
-//! `wl_sim`: the program of Wireline.
+//! `wl_sim`: the program of Wireline: its command line, its files, hints and progress, and the status.
 //!
-//! It reads one input from standard input or from a file, does what its one subcommand says, and writes the answer to standard output or to
-//! a file. `merge` and `horizon` read a record text: the one writes the canonical text of the replica that its records make, the
-//! other what that replica tells of each node, and up to when. `check`, `records` and `run` read a plan text: the first writes what
-//! the bit segments allow and how long the cable takes, the second the records of the plan's simulation, the third its report.
-//! `candump`, `vcd` and `page` read a plan text too: the first writes the frames that were sent as can-utils logs them, the second the
-//! waveform, the third one page of HTML that shows all of it. `margin` writes whether the plan's bus works, and with how much to spare.
-//! `explain` writes what is doubtful of a plan, and the figures of its nodes, or what is wrong with a plan that is refused; `trace` what
-//! happened to each node, and where; `sweep` how many members of a family of plans are clean. `settings` reads a text of its own kind, and
-//! writes the bit timings with which a bus works.
+//! It reads one input from standard input or from a file, does what its one subcommand says, and writes the output to standard output or to
+//! a file. Of a record text `merge` writes the canonical text of the replica that its records make, and `horizon` what that replica knows
+//! of each node, and up to which tick. `settings` reads a text of its own kind, and writes the bit timings with which a bus works. The
+//! others read a plan text:
+//!
+//! - `check` writes what the bit segments allow and how long the cable takes;
+//! - `records` writes the records of the plan's simulation, `run` its report;
+//! - `candump` writes the frames that were sent as can-utils logs them, `vcd` the waveform, `page` one page of HTML that shows all of it;
+//! - `trace` writes what happened to each node, and where;
+//! - `traffic` writes how busy the bus was and how long messages waited;
+//! - `margin` writes whether the plan's bus works, and with how much to spare;
+//! - `explain` writes what is doubtful of a plan, and the figures of its nodes, or what is wrong with a plan that is refused;
+//! - `sweep` writes how many members of a family of plans are clean.
 #![tactic(auto)]
 
 ghost use Rattle.std.specs.Prelude.{◌≡◌, ◌≢◌, ◌≤◌, map, string_bytes, IfOk, IfErr, Err, option_map};
@@ -77,8 +81,8 @@ struct Work<'a> {
     progress: bool,
 }
 
-/// Hands the words of the command line, standard input, standard output and the system's files to `run_words`, whose answer is the program's
-/// status. That these are handed on, and that the answer is the status, is said by no clause: none can speak of a program's devices.
+/// Hands the words of the command line, standard input, standard output and the system's files to `run_words`, whose answer is the
+/// program's status. No clause says that these are handed on, and that the answer is the status: none can speak of a program's devices.
 fn main(rt: HostRuntime) -> ExitCode {
     let words = command::words_of(&rt);
     let mut reader = Host::new(rt.stdin());
@@ -94,8 +98,8 @@ fn main(rt: HostRuntime) -> ExitCode {
     )
 }
 
-/// Does what the words ask for: runs the engine of the task that they name, over the reader and the writer, or over the files that they name
-/// in their place. Words that name no task, or that the system doesn't give, use none of these. It may wait where the task is a run by
+/// Does what the words ask for: runs the engine of the task that they name, over the reader and the writer, or over the files that they
+/// name in their place. Words that name no task, or that the system doesn't give, use none of these. It may wait if the task is a run by
 /// several workers.
 fn run_words<
     H: Eprint + Threads + Wait + Clock + Clone + Drop + Send + Sync + 'static,
@@ -145,8 +149,8 @@ fn run_words<
     }
 }
 
-/// Does the task of an order over the file to read that the order names, or over the reader where it names none. A file that can't be
-/// opened is answered as a reader that fails.
+/// Does the task of an order over the file to read that the order names, or over the reader if it names none. A file that can't be opened
+/// is answered as a reader that fails.
 fn perform<H: Threads + Wait + Sync + Eprint + Clock, R: Source, W: Sink, F: Folder>(
     rt: &H,
     alloc: Global,
@@ -174,8 +178,8 @@ fn perform<H: Threads + Wait + Sync + Eprint + Clock, R: Source, W: Sink, F: Fol
     }
 }
 
-/// Does a task over a new file for its output, or over the writer where no file is named. Where the task is done the file is moved to
-/// its name; else it is given up, and what was at its name stays.
+/// Does a task over a new file for its output, or over the writer if no file is named. If the task is done the file is moved to its name.
+/// Else it is given up, and what was at its name stays.
 fn write_to<H: Threads + Wait + Sync + Eprint + Clock, R: Source, W: Sink, F: Folder>(
     rt: &H,
     alloc: Global,
@@ -201,7 +205,7 @@ fn write_to<H: Threads + Wait + Sync + Eprint + Clock, R: Source, W: Sink, F: Fo
     }
 }
 
-/// Moves a new file to its name where the task was done, and gives it up else.
+/// Moves a new file to its name if the task was done, and else gives it up.
 fn finish<F: Folder>(
     folder: &mut F,
     file: F::Writer,
@@ -225,14 +229,14 @@ fn finish<F: Folder>(
     }
 }
 
-/// Says that there are no words to read. Where memory ran out, the line of that fault is all that is said.
+/// Says that there are no words to read. If memory ran out, the line of that fault is all that is said.
 fn say_unread(rt: &impl Eprint, refusal: Refusal) {
     if refusal == Refusal::Words {
         let _ = eprintln!(rt; "error: the arguments can't be read");
     }
 }
 
-/// Why words that the system didn't give name no task.
+/// Returns why words that the system didn't give name no task.
 fn unread(error: &io::Error) -> Refusal
     ensures memory { error_kind error.now ≡ ErrorKind.OutOfMemory → result ≡ Refusal.Memory }
     ensures words { error_kind error.now ≢ ErrorKind.OutOfMemory → result ≡ Refusal.Words }
@@ -244,7 +248,7 @@ fn unread(error: &io::Error) -> Refusal
     }
 }
 
-/// How many threads a sweep is to have where no number is said: as many as there are processors, 1 to 8.
+/// Returns how many threads a sweep has if no number is said: one for each processor, 1 to 8.
 fn threads_here<H: Threads>(rt: &H) -> u8
     ensures least { 1 ≤ result }
     ensures most { result ≤ 8 }
@@ -257,7 +261,7 @@ fn threads_here<H: Threads>(rt: &H) -> u8
     }
 }
 
-/// How many threads a sweep has.
+/// Returns how many threads a sweep has.
 fn thread_count<H: Threads>(rt: &H, said: Option<u8>) -> u8
     ensures { IsCount said result }
 {
@@ -302,7 +306,7 @@ fn run_sweep<H: Threads + Sync + Eprint + Clock, R: Source, W: Sink>(
     }
 }
 
-/// Runs the engine of a task. It may wait where that is a run by several workers.
+/// Runs the engine of a task. It may wait if that is a run by several workers.
 fn run<H: Threads + Wait + Sync + Eprint + Clock, R: Source, W: Sink>(
     rt: &H,
     alloc: Global,
@@ -374,7 +378,7 @@ fn run_as<H: Threads + Wait + Sync + Eprint + Clock, R: Source, W: Sink>(
     }
 }
 
-/// The status of a run.
+/// Returns the status of a run.
 fn status_of(answer: &Result<Done, Fault>) -> ExitCode
     ensures { exit_status result ≡ run_status answer.now }
 {
@@ -394,7 +398,7 @@ fn status_of(answer: &Result<Done, Fault>) -> ExitCode
     }
 }
 
-/// The status of a command line that named no task. What was wrong with its words has been said; out of memory is reported here.
+/// Returns the status of a command line that named no task. What was wrong with its words has been said; out of memory is reported here.
 fn refused(rt: &impl Eprint, refusal: Refusal) -> ExitCode
     ensures { exit_status result ≡ refusal_status refusal }
 {

@@ -11,7 +11,7 @@ use std::time::{Clock, Duration, Instant};
 /// How long a run takes before the first line, and how long after a line the next comes, at the earliest, in seconds.
 const PAUSE: u64 = 1;
 
-/// What the two threads share: whether the run has ended, and where the one waits for that.
+/// What the two threads share: whether the run has ended, and the place at which one waits for that.
 #[derive(Drop)]
 struct Run {
     ended: AtomicBool,
@@ -59,7 +59,7 @@ fn start<H: Eprint + Threads + Wait + Clock + Clone + Drop + Send + 'static>(
     Ok(Ticker { run, thread })
 }
 
-/// Begins to say how long a run takes, where the order asks for that, and a thread can be made. A sweep says itself how far it is.
+/// Begins to say how long a run takes, if the order asks for that, and a thread can be made. A sweep says itself how far it is.
 pub fn begin<H: Eprint + Threads + Wait + Clock + Clone + Drop + Send + 'static>(
     rt: &H,
     alloc: Global,

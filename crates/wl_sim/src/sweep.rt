@@ -13,7 +13,7 @@ use wl_sweep_engine::Asked;
 pub struct Swept {
     /// What is varied, and how many members are run.
     pub asked: Asked,
-    /// How many threads run them, 1 to 8; `None`: as many as there are processors, at most 8.
+    /// How many threads run them, 1 to 8; `None`: one for each processor, at most 8.
     pub workers: Option<u8>,
     /// The number of a member whose plan is written in the place of what is found.
     pub print: Option<u64>,
@@ -21,7 +21,7 @@ pub struct Swept {
     pub page: bool,
 }
 
-/// The option that gives a key a range of values. It may come several times.
+/// Returns the option that gives a key a range of values. It may come several times.
 fn vary_option<'a>(alloc: Global) -> Arg<'a>
     ensures rule { rule_of result ≡ vary_rule }
     ensures local { result.global ≡ false }
@@ -35,7 +35,7 @@ fn vary_option<'a>(alloc: Global) -> Arg<'a>
         )
 }
 
-/// The option that says how far two offsets are apart.
+/// Returns the option that says how far two offsets are apart.
 fn step_option<'a>(alloc: Global) -> Arg<'a>
     ensures rule { rule_of result ≡ step_rule }
     ensures local { result.global ≡ false }
@@ -49,7 +49,7 @@ fn step_option<'a>(alloc: Global) -> Arg<'a>
         .value_parser(value_parser!(u64).range(1..))
 }
 
-/// The option that says how many members are run.
+/// Returns the option that says how many members are run.
 fn runs_option<'a>(alloc: Global) -> Arg<'a>
     ensures rule { rule_of result ≡ runs_rule }
     ensures local { result.global ≡ false }
@@ -62,7 +62,7 @@ fn runs_option<'a>(alloc: Global) -> Arg<'a>
         .default_value("1000")
 }
 
-/// The option that says which random part is run.
+/// Returns the option that says which random part is run.
 fn seed_option<'a>(alloc: Global) -> Arg<'a>
     ensures rule { rule_of result ≡ seed_rule }
     ensures local { result.global ≡ false }
@@ -75,7 +75,7 @@ fn seed_option<'a>(alloc: Global) -> Arg<'a>
         .default_value("1")
 }
 
-/// The option that says how many threads run members.
+/// Returns the option that says how many threads run members.
 fn threads_option<'a>(alloc: Global) -> Arg<'a>
     ensures rule { rule_of result ≡ threads_rule }
     ensures local { result.global ≡ false }
@@ -89,7 +89,7 @@ fn threads_option<'a>(alloc: Global) -> Arg<'a>
         .value_parser(value_parser!(u8).range(1..=8))
 }
 
-/// The option that asks for a member as a plan.
+/// Returns the option that asks for a member as a plan.
 fn print_option<'a>(alloc: Global) -> Arg<'a>
     ensures rule { rule_of result ≡ print_rule }
     ensures local { result.global ≡ false }
@@ -101,7 +101,7 @@ fn print_option<'a>(alloc: Global) -> Arg<'a>
         .value_parser(value_parser!(u64))
 }
 
-/// The flag that keeps offsets as the plan has them.
+/// Returns the flag that keeps offsets as the plan has them.
 fn keep_offsets_option<'a>(alloc: Global) -> Arg<'a>
     ensures rule { rule_of result ≡ flag_rule (codes "keep-offsets") }
     ensures local { result.global ≡ false }
@@ -112,7 +112,7 @@ fn keep_offsets_option<'a>(alloc: Global) -> Arg<'a>
         .help("Leaves the offsets as the plan has them")
 }
 
-/// The flag that keeps the rates of clocks as the plan has them.
+/// Returns the flag that keeps the rates of clocks as the plan has them.
 fn keep_ppm_option<'a>(alloc: Global) -> Arg<'a>
     ensures rule { rule_of result ≡ flag_rule (codes "keep-ppm") }
     ensures local { result.global ≡ false }
@@ -123,7 +123,7 @@ fn keep_ppm_option<'a>(alloc: Global) -> Arg<'a>
         .help("Leaves the rates of the clocks as the plan has them")
 }
 
-/// The flag that adds the frame that tests clocks.
+/// Returns the flag that adds the frame that tests clocks.
 fn worst_option<'a>(alloc: Global) -> Arg<'a>
     ensures rule { rule_of result ≡ flag_rule (codes "worst") }
     ensures local { result.global ≡ false }
@@ -145,7 +145,7 @@ fn page_option<'a>(alloc: Global) -> Arg<'a>
         .help("Writes one page of HTML: a map of the rows of the first two ranges")
 }
 
-/// A subcommand with the options of a sweep that say what is run.
+/// Returns a subcommand with the options of a sweep that say what is run.
 fn with_counts<'a>(alloc: Global, sub: Command<'a>) -> Result<Command<'a>, AllocError>
     requires { (out-Command sub).has_globals ≡ false }
     ensures app { IfOk result (λ all. app_of all ≡ counted_app (app_of sub.entry)) }
@@ -159,7 +159,7 @@ fn with_counts<'a>(alloc: Global, sub: Command<'a>) -> Result<Command<'a>, Alloc
     Ok(shared)
 }
 
-/// A subcommand with the options of a sweep.
+/// Returns a subcommand with the options of a sweep.
 pub(crate) fn with_sweep_options<'a>(
     alloc: Global,
     sub: Command<'a>,

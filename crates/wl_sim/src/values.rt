@@ -34,7 +34,7 @@ pub(crate) struct Values {
     pub(crate) from: Option<u32>,
 }
 
-/// The tick that a subcommand's option gives.
+/// Returns the tick that a subcommand's option gives.
 #[tactic(auto, using(crate::proofs::Words::tick_text))]
 fn tick_in(matches: &ArgMatches) -> Option<Tick>
     ensures { result ≡ tick_among (rows_of (found_of matches.now)) }
@@ -45,7 +45,7 @@ fn tick_in(matches: &ArgMatches) -> Option<Tick>
     }
 }
 
-/// The number of workers that a subcommand's option gives. Its range keeps out what is no number from 1 to 8.
+/// Returns the number of workers that a subcommand's option gives. Its range keeps out what is no number from 1 to 8.
 fn workers_in(matches: &ArgMatches) -> Option<u8>
     ensures { result ≡ workers_among (rows_of (found_of matches.now)) }
 {
@@ -53,7 +53,7 @@ fn workers_in(matches: &ArgMatches) -> Option<u8>
     Some(text.parse().unwrap_or(0))
 }
 
-/// The kind of link that a text names.
+/// Returns the kind of link that a text names.
 fn link_named(text: &str) -> Option<LinkKind>
     ensures { result ≡ read_link text.now }
 {
@@ -64,7 +64,7 @@ fn link_named(text: &str) -> Option<LinkKind>
     }
 }
 
-/// The kind of link that a subcommand's option gives.
+/// Returns the kind of link that a subcommand's option gives.
 #[tactic(auto, using(crate::proofs::Words::link_text))]
 fn link_in(matches: &ArgMatches) -> Option<LinkKind>
     ensures { result ≡ link_among (rows_of (found_of matches.now)) }
@@ -75,7 +75,7 @@ fn link_in(matches: &ArgMatches) -> Option<LinkKind>
     }
 }
 
-/// The format that a text names: `None` within is text. `None` if there is no such format.
+/// Returns the format that a text names: `None` within is text. `None` if there is no such format.
 fn format_named(text: &str) -> Option<Option<Format>>
     ensures { result ≡ read_format text.now }
 {
@@ -87,7 +87,7 @@ fn format_named(text: &str) -> Option<Option<Format>>
     }
 }
 
-/// The format that a subcommand's option gives, text if it has no such option.
+/// Returns the format that a subcommand's option gives, text if it has no such option.
 #[tactic(auto, using(crate::proofs::Words::format_text))]
 fn format_in(matches: &ArgMatches) -> Option<Option<Format>>
     ensures { result ≡ format_among (rows_of (found_of matches.now)) }
@@ -98,7 +98,7 @@ fn format_in(matches: &ArgMatches) -> Option<Option<Format>>
     }
 }
 
-/// The format that the subcommand's option gives, text if there is none.
+/// Returns the format that the subcommand's option gives, text if there is none.
 pub(crate) fn format_of_subcommand(matches: &ArgMatches) -> Option<Option<Format>>
     ensures { result ≡ format_in (subcommand_rows_of matches.now) }
 {
@@ -108,7 +108,7 @@ pub(crate) fn format_of_subcommand(matches: &ArgMatches) -> Option<Option<Format
     }
 }
 
-/// The file that a text names in the place of a standard stream, which `-` means.
+/// Returns the file that a text names in the place of a standard stream, which `-` means.
 fn file_named(alloc: Global, text: &str) -> Result<Option<Text>, AllocError>
     ensures { IfOk result (λ name. name ≡ file_named text.now) }
 {
@@ -118,7 +118,7 @@ fn file_named(alloc: Global, text: &str) -> Result<Option<Text>, AllocError>
     }
 }
 
-/// The file that an argument of a subcommand names.
+/// Returns the file that an argument of a subcommand names.
 #[tactic(auto, using(crate::proofs::Words::file_text))]
 fn file_in(alloc: Global, matches: &ArgMatches, id: &str) -> Result<Option<Text>, AllocError>
     ensures { IfOk result (λ name. name ≡ file_among id.now (rows_of (found_of matches.now))) }
@@ -129,7 +129,7 @@ fn file_in(alloc: Global, matches: &ArgMatches, id: &str) -> Result<Option<Text>
     }
 }
 
-/// The file that an argument of the subcommand names, where it has one.
+/// Returns the file that an argument of the subcommand names, if it has one.
 pub(crate) fn file_of_subcommand(
     alloc: Global,
     matches: &ArgMatches,
@@ -154,7 +154,7 @@ fn is_set(text: &str) -> bool
     }
 }
 
-/// Whether a flag of a subcommand is set.
+/// True if a flag of a subcommand is set.
 #[tactic(auto, using(crate::proofs::Words::flag_text))]
 fn flag_in(matches: &ArgMatches, id: &str) -> bool
     ensures { result ≡ is_flagged id.now (rows_of (found_of matches.now)) }
@@ -165,7 +165,7 @@ fn flag_in(matches: &ArgMatches, id: &str) -> bool
     }
 }
 
-/// Whether a flag of the subcommand is set, where it has one.
+/// True if a flag of the subcommand is set, if it has one.
 pub(crate) fn flag_of_subcommand(matches: &ArgMatches, id: &str) -> bool
     ensures { result ≡ option_map_or (λ p. is_flagged id.now p.1) (subcommand_rows_of matches.now) false }
 {
@@ -175,7 +175,7 @@ pub(crate) fn flag_of_subcommand(matches: &ArgMatches, id: &str) -> bool
     }
 }
 
-/// The number that an option of a subcommand gives, below 2^64; `None` if it isn't given. Its parser keeps out what is no number.
+/// Returns the number that an option of a subcommand gives, below 2^64; `None` if it isn't given. Its parser keeps out what is no number.
 fn number_in(matches: &ArgMatches, id: &str) -> Option<u64>
     ensures { result ≡ number_among 64 id.now (rows_of (found_of matches.now)) }
 {
@@ -183,7 +183,7 @@ fn number_in(matches: &ArgMatches, id: &str) -> Option<u64>
     Some(text.parse().unwrap_or(0))
 }
 
-/// The same of a number below 2^32.
+/// Returns the same of a number below 2^32.
 fn small_number_in(matches: &ArgMatches, id: &str) -> Option<u32>
     ensures { result ≡ number_among 32 id.now (rows_of (found_of matches.now)) }
 {
@@ -191,7 +191,7 @@ fn small_number_in(matches: &ArgMatches, id: &str) -> Option<u32>
     Some(text.parse().unwrap_or(0))
 }
 
-/// What the options of a subcommand say of a sweep, with so many runs and this seed.
+/// Returns what the options of a subcommand say of a sweep, with this many runs and this seed.
 fn swept_by(matches: &ArgMatches, runs: u32, seed: u32) -> Swept
     ensures { result ≡ swept_by (rows_of (found_of matches.now)) runs seed }
 {
@@ -213,7 +213,7 @@ fn swept_by(matches: &ArgMatches, runs: u32, seed: u32) -> Swept
     }
 }
 
-/// What the options of a subcommand say of a sweep, if it is one.
+/// Returns what the options of a subcommand say of a sweep, if it is one.
 fn swept_in(matches: &ArgMatches) -> Option<Swept>
     ensures { result ≡ swept_among (rows_of (found_of matches.now)) }
 {
@@ -222,7 +222,7 @@ fn swept_in(matches: &ArgMatches) -> Option<Swept>
     Some(swept_by(matches, runs, seed))
 }
 
-/// What the options of a subcommand say of the settings of a bus: its plan if that is asked for, else the list.
+/// Returns what the options of a subcommand say of the settings of a bus: its plan if that is asked for, else the list.
 fn shown_in(matches: &ArgMatches) -> Shown
     ensures { result ≡ shown_among (rows_of (found_of matches.now)) }
 {
@@ -233,7 +233,7 @@ fn shown_in(matches: &ArgMatches) -> Shown
     }
 }
 
-/// What the options of a subcommand say.
+/// Returns what the options of a subcommand say.
 fn values_in(matches: &ArgMatches) -> Values
     ensures { result ≡ values_among (rows_of (found_of matches.now)) }
 {
@@ -248,7 +248,7 @@ fn values_in(matches: &ArgMatches) -> Values
     }
 }
 
-/// What the options of the subcommand say, if there is one.
+/// Returns what the options of the subcommand say, if there is one.
 pub(crate) fn values_of_subcommand(matches: &ArgMatches) -> Option<Values>
     ensures { result ≡ option_map (λ p. values_among p.1) (subcommand_rows_of matches.now) }
 {
@@ -258,7 +258,7 @@ pub(crate) fn values_of_subcommand(matches: &ArgMatches) -> Option<Values>
     }
 }
 
-/// Texts of words as strings.
+/// Returns texts of words as strings.
 fn strings(alloc: Global, words: &[&str]) -> Result<Vec<String>, AllocError>
     ensures { IfOk result (λ strings. map string_bytes strings.items ≡ map (λ w. w.now) words.now) }
 {
@@ -269,7 +269,7 @@ fn strings(alloc: Global, words: &[&str]) -> Result<Vec<String>, AllocError>
     Ok(strings)
 }
 
-/// The ranges of a sweep that a subcommand's words give.
+/// Returns the ranges of a sweep that a subcommand's words give.
 #[tactic(auto, using(crate::proofs::Words::ranges_text))]
 fn ranges_of(alloc: Global, matches: &ArgMatches) -> Result<Vec<String>, AllocError>
     ensures { IfOk result (λ ranges. map string_bytes ranges.items ≡ ranges_among (rows_of (found_of matches.now))) }
@@ -280,7 +280,7 @@ fn ranges_of(alloc: Global, matches: &ArgMatches) -> Result<Vec<String>, AllocEr
     }
 }
 
-/// The ranges of a sweep that the words of the subcommand give, if there is one.
+/// Returns the ranges of a sweep that the words of the subcommand give, if there is one.
 pub(crate) fn ranges_of_subcommand(
     alloc: Global,
     matches: &ArgMatches,

@@ -24,7 +24,7 @@ pub struct Asked {
     pub worst: bool,
 }
 
-/// The first fault of options.
+/// Returns the first fault of options.
 pub(crate) fn check_options(options: Options) -> Result<(), SweepFault>
     ensures { result ≡ checked_options options }
 {
@@ -37,7 +37,7 @@ pub(crate) fn check_options(options: Options) -> Result<(), SweepFault>
     }
 }
 
-/// The first fault of options, or of the number of threads.
+/// Returns the first fault of options, or of the number of threads.
 pub(crate) fn check_workers(options: Options, count: u8) -> Result<(), SweepFault>
     ensures { result ≡ checked_workers options count }
 {
@@ -49,7 +49,7 @@ pub(crate) fn check_workers(options: Options, count: u8) -> Result<(), SweepFaul
     }
 }
 
-/// A fault of a range as that of its word.
+/// Returns a fault of a range as that of its word.
 fn of_range(i: usize, fault: RangeFault) -> SweepFault
     ensures { result ≡ of_range i fault }
 {
@@ -59,7 +59,7 @@ fn of_range(i: usize, fault: RangeFault) -> SweepFault
     }
 }
 
-/// The ranges of words, or the fault of the first that is none.
+/// Returns the ranges of words, or the fault of the first that is none.
 fn read_ranges(
     alloc: Global,
     text: &PlanText,
@@ -77,7 +77,7 @@ fn read_ranges(
     Ok(ranges)
 }
 
-/// The sweep of a text, if it has few enough rows.
+/// Returns the sweep of a text, if it has few enough rows.
 fn if_small(sweep: Sweep) -> Result<Sweep, SweepFault>
     ensures value { result ≡ if_small sweep }
     ensures small { IfOk result (λ s. is_small s ≡ true) }
@@ -89,7 +89,7 @@ fn if_small(sweep: Sweep) -> Result<Sweep, SweepFault>
     }
 }
 
-/// A plan's text with the frames that are asked for.
+/// Returns a plan's text with the frames that are asked for.
 fn text_asked(alloc: Global, text: PlanText, worst: bool) -> Result<PlanText, AllocError>
     ensures { IfOk result (λ asked. asked ≡ text_asked worst text) }
 {
@@ -100,7 +100,7 @@ fn text_asked(alloc: Global, text: PlanText, worst: bool) -> Result<PlanText, Al
     }
 }
 
-/// The plan of a text as it is asked for, and its sweep, or the first fault.
+/// Returns the plan of a text as it is asked for, and its sweep, or the first fault.
 pub(crate) fn read_sweep(
     alloc: Global,
     text: PlanText,

@@ -42,7 +42,7 @@ impl SweepFault {
     ghost use Rattle.std.specs.Prelude.{◌≡◌};
     ghost use Rattle.wl_sweep_engine.specs.Faults.{is_refusal, is_word};
 
-    /// True if what was asked is refused, and not the plan as it stands.
+    /// True if what was asked is refused, and not the plan as it is.
     pub fn is_word(&self) -> bool
         ensures { result ≡ is_word self.now }
     {

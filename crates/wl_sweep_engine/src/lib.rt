@@ -1,5 +1,7 @@
-//! The engines of sweeps: each reads a plan's text. One runs the members of its family and writes what it finds of them, the other writes one
-//! member as a plan text.
+//! The engines of sweeps, over any reader and writer.
+//!
+//! Each reads a plan's text. One runs the members of its family and writes what it finds of them, the other writes one member as a plan
+//! text.
 #![tactic(auto)]
 
 mod asked;

@@ -9,7 +9,7 @@ use wl_frame::laws::a_list_has_one_stuffing;
 use wl_level::Level;
 use wl_node::{NodeSetup, Queued};
 
-/// The level of a bit: of the stuffed bits of a frame, or the CRC delimiter or an ACK slot that is acknowledged after them.
+/// Returns the level of a bit: of the stuffed bits of a frame, or the CRC delimiter or an ACK slot that is acknowledged after them.
 fn level_at(stuffed: &[Level], k: usize) -> Level
     ensures { result ≡ at (up_to_ack stuffed.now) k }
 {
@@ -25,7 +25,7 @@ fn level_at(stuffed: &[Level], k: usize) -> Level
     }
 }
 
-/// The level of the bit before.
+/// Returns the level of the bit before.
 fn level_before(stuffed: &[Level], k: usize) -> Level
     ensures { result ≡ before (up_to_ack stuffed.now) k }
 {
@@ -36,14 +36,14 @@ fn level_before(stuffed: &[Level], k: usize) -> Level
     }
 }
 
-/// Whether a bit begins with an edge from recessive to dominant.
+/// True if a bit begins with an edge from recessive to dominant.
 fn is_edge(stuffed: &[Level], k: usize) -> bool
     ensures { result ≡ is_edge (up_to_ack stuffed.now) k }
 {
     !level_before(stuffed, k).is_dominant() && level_at(stuffed, k).is_dominant()
 }
 
-/// Whether one of nine bits from a place on begins with an edge.
+/// True if one of nine bits from a place on begins with an edge.
 fn edge_within(stuffed: &[Level], from: usize) -> bool
     requires { from ≤ 2 ^ 16 }
     ensures { result ≡ edge_within (up_to_ack stuffed.now) from 9 }
@@ -57,7 +57,7 @@ fn edge_within(stuffed: &[Level], from: usize) -> bool
     found
 }
 
-/// Whether a bit begins with an edge, and the next edge is ten bits later.
+/// True if a bit begins with an edge, and the next edge is ten bits later.
 fn is_far(stuffed: &[Level], k: usize) -> bool
     requires { k < 2 ^ 16 }
     ensures { result ≡ is_far (up_to_ack stuffed.now) k }
@@ -65,7 +65,7 @@ fn is_far(stuffed: &[Level], k: usize) -> bool
     is_edge(stuffed, k) && !edge_within(stuffed, k + 1) && is_edge(stuffed, k + 10)
 }
 
-/// Whether two edges that follow each other are ten bits apart.
+/// True if two edges that follow each other are ten bits apart.
 fn has_far_edges(stuffed: &[Level]) -> bool
     requires { length stuffed.now < 2 ^ 15 }
     ensures { result ≡ has_far_edges (up_to_ack stuffed.now) }
@@ -79,7 +79,7 @@ fn has_far_edges(stuffed: &[Level]) -> bool
     found
 }
 
-/// Whether a frame tests the clocks: two edges of it that follow each other are ten bits apart, which is the most that there can be.
+/// True if a frame tests the clocks: two edges of it that follow each other are ten bits apart, which is the most that there can be.
 fn tests_clocks(frame: &Frame) -> bool
     ensures { (result ≡ true) ↔ TestsClocks frame.now }
 {
@@ -87,7 +87,7 @@ fn tests_clocks(frame: &Frame) -> bool
     has_far_edges(frame.stuffed().as_slice())
 }
 
-/// Whether none of some frames tests the clocks.
+/// True if none of some frames tests the clocks.
 fn no_frame_tests(queue: &[Queued]) -> bool
     ensures yes { result ≡ true → NoFrameTests queue.now }
     ensures no { result ≡ false → ¬ NoFrameTests queue.now }
@@ -100,7 +100,7 @@ fn no_frame_tests(queue: &[Queued]) -> bool
     true
 }
 
-/// Whether no frame of some nodes tests the clocks.
+/// True if no frame of some nodes tests the clocks.
 pub(crate) fn none_tests(nodes: &[NodeSetup]) -> bool
     ensures yes { result ≡ true → NoneTests nodes.now }
     ensures no { result ≡ false → ¬ NoneTests nodes.now }

@@ -12,7 +12,7 @@ use wl_device::{Sink, Source, write_all};
 use wl_setup::{PlanText, Text, read_text};
 use wl_sweep::Sweep;
 
-/// The text of a member: what it changes as a comment, and its plan.
+/// Returns the text of a member: what it changes as a comment, and its plan.
 fn member_text(
     alloc: Global,
     number: u64,
@@ -28,7 +28,7 @@ fn member_text(
     Ok(text)
 }
 
-/// The text of a member by its number, if there is such a member.
+/// Returns the text of a member by its number, if there is such a member.
 fn printed(alloc: Global, sweep: &Sweep, number: u64) -> Result<String, SweepFault>
     ensures ok { IfOk result (λ text. printed_of sweep.now number ≡ Ok (string_bytes text)) }
     ensures fault { IfErr result (λ e. e ≢ Memory → printed_of sweep.now number ≡ Err e) }

@@ -41,7 +41,7 @@ fn push_untested(text: &mut String, untested: bool) -> Result<(), AllocError>
     }
 }
 
-/// What a sweep says, and on the frames of its plan, and the tally.
+/// Returns what a sweep says, and on the frames of its plan, and the tally.
 fn say<H: Threads + Sync + Eprint + Clock>(
     rt: &H,
     alloc: Global,
@@ -60,14 +60,16 @@ fn say<H: Threads + Sync + Eprint + Clock>(
     Ok((text, tally))
 }
 
-/// Reads a plan's text, runs the members of its family by so many threads, and writes what is found of them: for each row of the ranges
-/// how many members are clean, the same of all rows, how much of the family was run, the first member that isn't clean, the first that was
-/// refused, and whether the frames test the clocks. Returns the tally of all members.
+/// Reads a plan's text, runs the members of its family by this many threads, and writes what is found of them. Returns the tally of all
+/// members.
 ///
-/// Each word is a range `[NODE.]KEY=A..B[:STEP]`. The first of these faults: `Runs`, `Step`, `Workers`, before anything is read; `Setup`, as
-/// `run` has it; `Range`, of the first word that is none; `Rows`. The whole output is made before the first write. If the input or a word is
-/// refused, or memory runs out, the writer isn't called; if the writer fails, a prefix of the output has been written. The output is the same
-/// for each number of threads.
+/// For each row of the ranges it writes how many members are clean, and the same of all rows. Then it writes how much of the family was
+/// run, the first member that isn't clean, the first that was refused, and whether the frames test the clocks.
+///
+/// Each word is a range `[NODE.]KEY=A..B[:STEP]`. The first of these faults: `Runs`, `Step`, `Workers`, before anything is read; `Setup`,
+/// as `run` has it; `Range`, of the first word that is none; `Rows`. The whole output is made before the first write. If the input or a
+/// word is refused, or memory runs out, the writer isn't called; if the writer fails, a prefix of the output has been written. The output
+/// is the same for each number of threads.
 pub fn sweep_run<H: Threads + Sync + Eprint + Clock, R: Source, W: Sink>(
     rt: &H,
     alloc: Global,

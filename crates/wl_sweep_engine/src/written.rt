@@ -8,7 +8,7 @@ use std::alloc::AllocError;
 use wl_segments::SyncRules;
 use wl_setup::{ClockText, DisturbanceText, FrameText, NodeText, PlanText, RateText, Text};
 
-/// The word of a choice of rules.
+/// Returns the word of a choice of rules.
 fn sync_word(sync: SyncRules) -> &'static str
     ensures { result.now ≡ sync_word sync }
 {
@@ -119,7 +119,7 @@ fn push_number(text: &mut String, key: &str, number: Option<u64>) -> Result<(), 
     }
 }
 
-/// A tolerance with more bits.
+/// Returns a tolerance with more bits.
 fn widened(tolerance: Option<u32>) -> Option<u64>
     ensures { result ≡ tolerance }
 {
