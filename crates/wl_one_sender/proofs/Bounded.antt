@@ -1,7 +1,7 @@
 -- From the condition for margins to the inequalities on clocks.
-use Rattle.std.proofs.Common.{◌≡◌, ◌≢◌, ◌∙◌, inl, inr, refl, sym, ap, ℕ, zero, suc, ◌+◌, ◌-◌, ◌*◌, ◌<◌, ◌≤◌, min, Bool, true, cond, not, arith}
+use Rattle.std.proofs.Common.{◌≡◌, ◌≢◌, ◌∙◌, inl, inr, refl, sym, ap, ℕ, zero, suc, ◌+◌, ◌-◌, ◌*◌, ◌<◌, ◌≤◌, min, Bool, true, false, cond, not, ◌&&◌, ◌||◌, arith}
 use Rattle.std.specs.Prelude.{◌==◌, nat_lt}
-use Rattle.std.proofs.lemmas.Bool.{cases_eq, and_from, eq-eqb, ne_eqb}
+use Rattle.std.proofs.lemmas.Bool.{cases_eq, and_from, and_left, eq-eqb, ne_eqb}
 use Rattle.std.proofs.Math.Nat.{mul-le-mul_left}
 use Rattle.wl_segments.specs.Lengths.{sample_at, bit_quanta}
 use Rattle.wl_bound.specs.Families.{Bus}
@@ -22,6 +22,10 @@ greatest_each (suc n) test f k less e = elim (cases_eq k n) [
       omega arith)
   | inr apart ↦ (let h = greatest_each n test f k (omega arith) e in omega arith)
 ]
+
+or_not : (x y : Bool) → y ≡ false → (x || not y) ≡ true
+or_not true y e = refl
+or_not false y e = ap not e
 
 module _ (bus : Bus) (t : Tolerance) (b : SenderBus) (is : IsBus b) (of : IsBoundOf bus t b) (sound : IsSound bus) where
   abbrev a : ℕ
@@ -46,7 +50,8 @@ module _ (bus : Bus) (t : Tolerance) (b : SenderBus) (is : IsBus b) (of : IsBoun
       → (10 * longer_bit t b i j ≤ (lengths_of b i).sjw * t.shortest i) × (10 * longer_bit t b i j ≤ (lengths_of b j).sjw * t.shortest j)
   unfolding left_of right_of
   drifts i j ni nj apart =
-      let h : 10 * drift bus i j ≤ min (jump bus i) (jump bus j) = sound.drift_fits_jump i j (inside i ni) (inside j nj) apart in
+      let h : 10 * drift bus i j ≤ min (jump bus i) (jump bus j) = sound.drift_fits_jump i j (inside i ni) (inside j nj)
+      (and_from (not (i == j)) (not (bus.listens i && bus.listens j)) (ap not (ne_eqb i j apart)) (ap not (and_left (bus.listens i) (bus.listens j) (of.answers i ni)))) in
       let d = drift_is i j in
       let x = jump_is i in
       let y = jump_is j in
@@ -61,7 +66,7 @@ module _ (bus : Bus) (t : Tolerance) (b : SenderBus) (is : IsBus b) (of : IsBoun
   early : (i j : ℕ) → i < b.line.nodes → j < b.line.nodes → i ≢ j → 10 * longer_bit t b i j + t.units ≤ (lengths_of b i).ps2 * t.shortest i
   unfolding left_of right_of
   early i j ni nj apart =
-      let h = sound.no_bit_too_early i j (inside i ni) (inside j nj) apart in
+      let h = sound.no_bit_too_early i j (inside i ni) (inside j nj) (and_from (not (i == j)) (not (bus.listens j)) (ap not (ne_eqb i j apart)) (ap not (of.answers j nj))) in
       let d = drift_is i j in
       let x = ps2_is i in
       let e = of.tick in
@@ -70,7 +75,8 @@ module _ (bus : Bus) (t : Tolerance) (b : SenderBus) (is : IsBus b) (of : IsBoun
   loop : (i : ℕ) → i < b.line.nodes → b.line.delay i i * t.units ≤ sample_at (lengths_of b i) * t.shortest i
   unfolding left_of right_of
   loop i ni =
-      let h : cond (i == i) (bus.delay i i) (late bus i i + 11 * strays bus i) ≤ sample_at (bus.lengths i) * bus.shortest i = sound.bit_is_there_at_sample i i (inside i ni) (inside i ni) in
+      let h : cond (i == i) (bus.delay i i) (late bus i i + 11 * strays bus i) ≤ sample_at (bus.lengths i) * bus.shortest i = sound.bit_is_there_at_sample i i (inside i ni) (inside i ni)
+      (or_not (i == i) (bus.listens i) (of.answers i ni)) in
       let e = ap (λ c. cond c (bus.delay i i) (late bus i i + 11 * strays bus i)) (eq-eqb i i refl) in
       let d = of.delays i i ni ni in
       let x = sample_is i in
@@ -101,7 +107,7 @@ module _ (bus : Bus) (t : Tolerance) (b : SenderBus) (is : IsBus b) (of : IsBoun
   unfolding left_of right_of
   there j p =
       let h : cond (a == j) (bus.delay a a) (late bus a j + 11 * strays bus j) ≤ sample_at (bus.lengths a) * bus.shortest a =
-      sound.bit_is_there_at_sample a j (inside a is.sender) (inside j p.0) in
+      sound.bit_is_there_at_sample a j (inside a is.sender) (inside j p.0) (or_not (a == j) (bus.listens j) (of.answers j p.0)) in
       let e = ap (λ c. cond c (bus.delay a a) (late bus a j + 11 * strays bus j)) (ne_eqb a j (λ e. p.1 (sym e))) in
       let x = trip_there j in
       let w = way_there j p in

@@ -1,10 +1,10 @@
 -- A bus with one sender as one of those of the condition for margins.
-use Rattle.std.specs.Prelude.{◌≡◌, ℕ, ◌*◌, ◌<◌, ◌≤◌, ◌==◌}
+use Rattle.std.specs.Prelude.{◌≡◌, ℕ, ◌*◌, ◌<◌, ◌≤◌, ◌==◌, false}
 use Rattle.wl_bound.specs.Families.{Bus}
 use Rattle.wl_one_sender.specs.OneSender.{SenderBus, lengths_of}
 use Rattle.wl_one_sender.specs.Tolerances.{Tolerance}
 
--- Its nodes, tolerances and delays are these, in the same units, and this node alone sends.
+-- Its nodes, tolerances and delays are these, in the same units. This node alone sends, and none only listens.
 pub record IsBoundOf (bus : Bus) (t : Tolerance) (b : SenderBus) : Type 0 where
   pub nodes : bus.nodes ≡ b.line.nodes
   pub tick : bus.tick ≡ t.units
@@ -14,3 +14,4 @@ pub record IsBoundOf (bus : Bus) (t : Tolerance) (b : SenderBus) : Type 0 where
   pub lengths : (i : ℕ) → bus.lengths i ≡ lengths_of b i
   pub delays : (i j : ℕ) → i < b.line.nodes → j < b.line.nodes → bus.delay i j ≡ b.line.delay i j * t.units
   pub alone : (i : ℕ) → bus.sends i ≡ (i == b.sender)
+  pub answers : (i : ℕ) → i < b.line.nodes → bus.listens i ≡ false
