@@ -1,3 +1,2 @@
 mod Rows
 mod Words
-mod Written

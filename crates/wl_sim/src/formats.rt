@@ -38,7 +38,6 @@ pub(crate) fn subject_of(task: Task) -> Option<Subject>
 }
 
 /// Writes a text in another format, and returns an answer if all of it went.
-#[tactic(auto, using(crate::proofs::Written::sent_bytes, crate::proofs::Written::no_bytes, crate::proofs::Written::no_memory))]
 fn write_formatted<W: Sink>(
     alloc: Global,
     format: Format,
