@@ -1,5 +1,5 @@
 -- What the program does for its words, and the status that it ends with (this project's profile).
-use Rattle.std.specs.Prelude.{◌≡◌, ◌≤◌, ◌==◌, ◌||◌, ◌⊎◌, ℕ, Bool, true, false, MatchBool, List, [], ◌∷◌, Option, Some, None, is_some, if◌then◌else◌, Result, Ok, Err}
+use Rattle.std.specs.Prelude.{◌≡◌, ◌≤◌, ◌==◌, ◌||◌, ◌⊎◌, ℕ, Bool, true, false, MatchBool, List, [], length, ◌∷◌, Option, Some, None, is_some, if◌then◌else◌, Result, Ok, Err}
 use Rattle.std.specs.List.{list_all}
 use Rattle.clap.specs.Words.{Text}
 use Rattle.wl_device.specs.Devices.{Answer}
@@ -177,6 +177,15 @@ module _ {S T : Type 0} (gives : S → Answer → S → Type 0) (takes : T → A
   abbrev pub EndsTask : Task → ℕ → Type 0
   EndsTask task status = (r : Result Done Fault) × Does task [] r × (status ≡ run_status r)
 
+-- whether a fault is one of writing
+abbrev pub is_write_of : RunFault → Bool
+is_write_of run.Write = true
+is_write_of f = false
+
+abbrev pub is_write : Fault → Bool
+is_write (fault.Run f) = is_write_of f
+is_write f = false
+
 -- the answer after the whole output was sent, or not
 abbrev pub after_sent : Result Done Fault → Result (Unit {0}) WriteFault → Result Done Fault
 after_sent answer (Ok u) = answer
@@ -191,16 +200,19 @@ module _ {T : Type 0} (takes : T → Answer → T → Type 0) (t t' : T) (format
       × (r ≡ after_sent answer sent))
       ⊎ ((t' ≡ t) × (((formatted format what text ≡ None) × (r ≡ Err fault.Format)) ⊎ (r ≡ Err (fault.Run run.Memory))))
 
-  -- after a fault: if the engine wrote nothing, nothing is written
-  abbrev pub WritesRefused : Fault → List ℕ → Result Done Fault → Type 0
-  WritesRefused f [] r = (t' ≡ t) × (r ≡ Err f)
-  WritesRefused f (byte ∷ text) r = WritesFormatted (byte ∷ text) (Err f) r
+  -- nothing
+  abbrev pub WritesNothing : Fault → Result Done Fault → Type 0
+  WritesNothing f r = (t' ≡ t) × (r ≡ Err f)
 
-  -- only for want of memory nothing can be written into memory
+  -- after a fault: if the engine wrote nothing, nothing is written; and only for want of memory nothing can be written into memory
+  abbrev pub WritesRefused : List ℕ → Fault → Result Done Fault → Type 0
+  WritesRefused text f r =
+      MatchBool (is_write f) (WritesNothing (fault.Run run.Memory) r)
+      (MatchBool (length text == 0) (WritesNothing f r) (WritesFormatted text (Err f) r))
+
   abbrev pub WritesAs : List ℕ → Result Done Fault → Result Done Fault → Type 0
   WritesAs text (Ok done) r = WritesFormatted text (Ok done) r
-  WritesAs text (Err (fault.Run run.Write)) r = (t' ≡ t) × (r ≡ Err (fault.Run run.Memory))
-  WritesAs text (Err f) r = WritesRefused f text r
+  WritesAs text (Err f) r = WritesRefused text f r
 
 -- what was written into memory
 abbrev pub keeps : Kept → Answer → Kept → Type 0

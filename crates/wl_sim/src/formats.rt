@@ -1,6 +1,6 @@
 //! The output of a task in another format.
 ghost use Rattle.std.specs.Prelude.{◌≡◌};
-ghost use Rattle.wl_sim.specs.Tasks.{WritesAs, WritesFormatted, subject_of};
+ghost use Rattle.wl_sim.specs.Tasks.{WritesAs, WritesFormatted, WritesRefused, is_write, subject_of};
 
 use crate::answer::{Done, Fault};
 use crate::command::Task;
@@ -58,8 +58,41 @@ fn write_formatted<W: Sink>(
     }
 }
 
-/// Writes what an engine wrote into memory in another format, and returns what the engine answered. Nothing is written if the engine
-/// wrote nothing, or if memory ran out.
+/// True if a fault is one of writing.
+fn is_write(fault: &Fault) -> bool
+    ensures { result ≡ is_write fault.now }
+{
+    match fault {
+        Fault::Run(fault) => match fault {
+            RunFault::Write => true,
+            _ => false,
+        },
+        _ => false,
+    }
+}
+
+/// Writes what an engine wrote into memory before a fault, and returns that fault. Nothing is written if the engine wrote nothing, or if
+/// memory ran out.
+fn write_refused<W: Sink>(
+    alloc: Global,
+    format: Format,
+    subject: Subject,
+    text: &[u8],
+    fault: Fault,
+    writer: &mut W,
+) -> Result<Done, Fault>
+    ensures { WritesRefused W.takes writer.old writer.new format subject text.now fault result }
+{
+    if is_write(&fault) {
+        return Err(Fault::Run(RunFault::Memory));
+    }
+    if text.is_empty() {
+        return Err(fault);
+    }
+    write_formatted(alloc, format, subject, text, Err(fault), writer)
+}
+
+/// Writes what an engine wrote into memory in another format, and returns what the engine answered.
 pub(crate) fn write_kept<W: Sink>(
     alloc: Global,
     format: Format,
@@ -72,13 +105,6 @@ pub(crate) fn write_kept<W: Sink>(
 {
     match answer {
         Ok(done) => write_formatted(alloc, format, subject, text, Ok(done), writer),
-        Err(Fault::Run(RunFault::Write)) => Err(Fault::Run(RunFault::Memory)),
-        Err(fault) => {
-            if text.is_empty() {
-                Err(fault)
-            } else {
-                write_formatted(alloc, format, subject, text, Err(fault), writer)
-            }
-        }
+        Err(fault) => write_refused(alloc, format, subject, text, fault, writer),
     }
 }
