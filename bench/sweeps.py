@@ -1,7 +1,7 @@
 #!/usr/bin/env python3
 """Sweeps by an independent program: what `sweep` says of a plan, and the plans of its members, from docs/use/sweeps.md; members run by plain.py.
 
-usage: sweeps.py answers [--program PROGRAM] [--jobs N] < crates/sweep_rows/stdin     what sweep_rows has to answer
+usage: sweeps.py answers [--program PROGRAM] [--jobs N] < crates/test_sweeps/stdin     what test_sweeps has to answer
        sweeps.py says [--program PROGRAM] [--jobs N] PLAN WORD..                      what is said of one plan; words as those rows have them
 
 With --program members are run by a build of wl_sim in the place of plain.py: less independent, and a thousand times as fast.

@@ -1,4 +1,4 @@
-//! `sweep_rows`: answers rows about sweeps: what they say, and members that are printed and read again.
+//! `test_sweeps`: answers rows about sweeps: what they say, and members that are printed and read again.
 //!
 //! Standard input has blocks with a line `---` between two of them. Each is a plan text, a line `asked`, and requests, a line each. What is
 //! answered to a request follows it. Its words: `runs=N`, `step=N`, `seed=N`, `workers=N`, `offsets` and `ppm` (they stay as they are),
