@@ -869,7 +869,7 @@ def waves(line, i, node):
     """The signals of a node, each as a list of ticks from which on it has a value; tick -1 is before all."""
     def turning(ticks, first): return [(-1, str(first))] + [(tick, str((first + turns) % 2)) for turns, tick in enumerate(ticks, 1)]
 
-    edges = {tick + delay for other, delay in zip(line.nodes, line.delays[i]) for tick in other.changes}
+    edges = {tick + delay for other, delay in line.sources[i] for tick in other.changes}
     turns = {tick for disturbance in line.disturbed[i] for tick in disturbance}
     found = [(-1, "1")] + [(tick, str(line.found(i, tick))) for tick in sorted(edges | turns)]
     cable = [(-1, "1")] + [(tick, str(int(not line.driven(i, tick)))) for tick in sorted(edges)]
