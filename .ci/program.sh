@@ -260,11 +260,22 @@ vcd --tick 1ms
 WORDS
 
 # What an option wants, where clap lets in a value that names nothing.
-printf 'error: --link wants hub or mail\n' > "$room/fault"
+printf 'error: --link wants hub or mail, and --format text, json or csv\n' > "$room/fault"
 runs "a link that is none" examples/clean_500k.toml 2 "$room/none" "$room/fault" run --link post
-printf 'error: --tick wants 1 to 999 and ps, ns or us, as 125ps\n' > "$room/fault"
-for word in candump vcd page margin traffic settings; do
+runs "a format that is none, run" examples/clean_500k.toml 2 "$room/none" "$room/fault" run --format xml
+printf 'error: --format wants text, json or csv\n' > "$room/fault"
+for word in check explain trace sweep; do
+  runs "a format that is none, $word" examples/clean_500k.toml 2 "$room/none" "$room/fault" "$word" --format xml
+done
+tick='error: --tick wants 1 to 999 and ps, ns or us, as 125ps'
+for word in candump vcd page settings; do
+  printf '%s\n' "$tick" > "$room/fault"
   runs "a tick that is none, $word" examples/clean_500k.toml 2 "$room/none" "$room/fault" "$word" --tick 1ms
+done
+for word in margin traffic; do
+  printf '%s, and --format text, json or csv\n' "$tick" > "$room/fault"
+  runs "a tick that is none, $word" examples/clean_500k.toml 2 "$room/none" "$room/fault" "$word" --tick 1ms
+  runs "a format that is none, $word" examples/clean_500k.toml 2 "$room/none" "$room/fault" "$word" --format xml
 done
 
 printf "error: the arguments can't be read\n" > "$room/fault"
