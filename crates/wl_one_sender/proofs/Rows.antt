@@ -133,4 +133,3 @@ first_due = refl
 
 second_due : due_quantum (cable_of 292) lists 2 ≡ 690
 second_due = refl
-

@@ -48,8 +48,8 @@ mod sweep;
 mod values;
 
 use crate::answer::{of_map, of_print, of_settings, of_tally, of_traffic, plainly};
-pub use answer::{Done, Fault};
 use crate::formats::{subject_of, write_kept};
+pub use answer::{Done, Fault};
 pub use command::{Order, Refusal, Task};
 pub use sweep::Swept;
 pub use wl_engines::{
