@@ -134,7 +134,7 @@ fn push_coloured(text: &mut String, colour: Colour, said: &str) -> Result<(), Al
     write!(text, "cell {colour}\n{said}")
 }
 
-/// Runs a row that is alone, by so many threads, and adds its cell: its colour, what its sweep says, and the first error of its first member
+/// Runs a row that is alone, by `workers` threads, and adds its cell: its colour, what its sweep says, and the first error of its first member
 /// that isn't clean. Returns whether each member is clean.
 pub(crate) fn push_cell<H: Threads + Sync + Eprint + Clock>(
     rt: &H,

@@ -28,8 +28,8 @@ pub fn one_driver_is_found()
     wl_topology::driven_laws();
 }
 
-/// Law: what is expected of the nodes of a line is what they do: if each drives this as long as all do, up to a tick of its
-/// own, then all do, and see what comes of it.
+/// Law: what is expected of the nodes of a line is what they do. If each drives this as long as all do, up to a tick of its own, then all
+/// do, and see what results.
 pub fn what_is_expected_is_driven()
     ensures driven { (l : Line) (until : ℕ → ℕ) (drove : ℕ → ℕ → Bool) → IsCausal l → IsExpected l until drove
         → (i t : ℕ) → i < l.nodes → t < until i → level l i t ≡ drove i t }
@@ -40,8 +40,8 @@ pub fn what_is_expected_is_driven()
     wl_plan::simulation_laws();
 }
 
-/// Law: on a bus on which one node has a frame, all others sample its bits, from their power-up to the CRC delimiter, and it
-/// samples their acknowledgement; whatever the offsets, if the clocks are near enough and the delays short enough.
+/// Law: on a bus on which one node has a frame, all others sample its bits, from their power-up to the CRC delimiter, and it samples their
+/// acknowledgement. So it is at any offsets, if the clocks are near enough and the delays short enough.
 pub fn the_first_frame_is_acknowledged()
     ensures { (b : SenderBus) → IsBus b → SendsFirst b → IsInStepWithAll b → EndsAfterSlot b → IsAcknowledged b }
 {
@@ -57,7 +57,7 @@ pub fn the_first_frame_is_acknowledged()
     wl_plan::simulation_laws();
 }
 
-/// Law: so it is with each plan of such nodes on a cable: it is such a bus, whichever node sends, whatever and when.
+/// Law: each plan of such nodes on a cable is such a bus, whichever node sends, and whatever and when it sends.
 pub fn a_plan_is_such_a_bus()
     ensures bus { (plan : Plan) (clocks : ℕ → Steady) → IsSteadyPlan plan clocks
         → (sender : ℕ) → sender < length plan.nodes → (frame : Content) (stuffed : List Level) (decides : ℕ)

@@ -13,10 +13,10 @@ ghost use Rattle.wl_segments.specs.Lengths.{bit_quanta};
 use wl_phase::{Pace, parts};
 use wl_segments::Segments;
 
-/// Returns whether a listener's acknowledgement comes back to the sender in time, with so many ticks there and back.
+/// True if a listener's acknowledgement comes back to the sender in time, with `there_and_back` ticks there and back.
 ///
-/// It comes by the sender's sample of the ACK slot, and after that of the CRC delimiter, though ten bits' drift makes it late
-/// or early; and it lasts until the sample that it moves. With [`are_near`](wl_phase::are_near) that is enough for a listener:
+/// It arrives by the sender's sample of the ACK slot, and after that of the CRC delimiter, though ten bits' drift makes it late or early.
+/// It lasts until the sample that it moves. With [`are_near`](wl_phase::are_near) that is enough for a listener:
 /// [`the_first_frame_is_acknowledged`](laws::the_first_frame_is_acknowledged).
 pub fn comes_in_time(
     sender: &Segments,

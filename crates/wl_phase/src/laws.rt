@@ -12,8 +12,8 @@ ghost use Rattle.wl_phase.specs.Clocks.{Finds, Steady, IsSteady, instant, steady
 ghost use Rattle.wl_phase.specs.InStep.{ClocksAreNear, FindsTheFirst, HaveEdges, Listener, Listens, SamplesBit, Sender, SyncsHard, arrival};
 ghost use Rattle.wl_phase.specs.Ways.{ByTheBook, PhaseLaws, WayLaws};
 
-/// Law: of a clock with `num / den` ticks per quantum, quantum `k` begins at its instant, rounded down to a tick. So any
-/// `n` quanta take `n * num / den` ticks, by less than one more or less.
+/// Law: quantum `k` of a clock with `num / den` ticks per quantum begins at its instant, rounded down to a tick. So any `n` quanta take
+/// `n * num / den` ticks, by less than one more or less.
 pub fn quanta_take_their_ticks()
     ensures instant { (c : Steady) (k : ℕ) → IsSteady c → steady_tick c k ≡ instant c k / c.den }
     ensures low { (c : Steady) (k n : ℕ) → IsSteady c
@@ -22,9 +22,9 @@ pub fn quanta_take_their_ticks()
         → c.den * steady_tick c (k + n) < c.den * steady_tick c k + n * c.num + c.den }
 {}
 
-/// Law: what one quantum does to the way to the next sample, by the rules of the book. It takes one off, and a sample begins
-/// the way of the next bit; a hard synchronisation puts the edge into SYNC_SEG; any other edge that counts moves the sample
-/// to where that would put it, by the jump width at most. Its phase error is the place of the sample, less one, less the way.
+/// Law: what one quantum does to the way to the next sample, by the rules of the book. It takes one off, and a sample begins the way of the
+/// next bit. A hard synchronisation puts the edge into SYNC_SEG. Any other edge that counts moves the sample to where that would put it, by
+/// the jump width at most. Its phase error is the place of the sample, less one, less the way.
 pub fn an_edge_moves_the_sample()
     ensures { WayLaws }
 {
@@ -50,9 +50,9 @@ pub fn the_first_edge_synchronises_hard()
     wl_sync::clock_goes_on();
 }
 
-/// Law: a listener stays in step with a sender whose bits nothing moves, for as many bits as there are, if ten bits in a row
-/// always have an edge and both clocks are near enough. Then the n-th sample after the edge of the start of frame is that
-/// of bit n, and it comes while that bit is there.
+/// Law: a listener stays in step with a sender whose bits nothing moves, for all its bits. The conditions: ten bits in a row always have an
+/// edge, and both clocks are near enough. Then the n-th sample after the edge of the start of frame is that of bit n, and it comes while
+/// that bit is there.
 pub fn a_listener_stays_in_step()
     ensures { (s : Sender) (j : Listener) (seen : ℕ → Seen) (found : ℕ) → IsSteady s.clock → IsSteady j.clock
         → ByTheBook j.lengths → ClocksAreNear s j → HaveEdges s.bits → Listens s j seen found
@@ -73,17 +73,17 @@ pub fn a_listener_samples_each_frame()
     wl_frame::laws::ten_bits_have_an_edge();
 }
 
-/// Law: the acknowledgement of a listener comes back in time. What it drives in the bit after one that it has sampled
-/// reaches the sender after the sample of that bit, by the sample of the next one, and for long enough, if the way there
-/// and back is no longer than PROP_SEG and PHASE_SEG1 leave beside ten bits' drift.
+/// Law: the acknowledgement of a listener comes back in time, if the way there and back is no longer than PROP_SEG and PHASE_SEG1 leave
+/// beside ten bits' drift. Let the listener drive a level in the bit after one that it has sampled. It reaches the sender after the sample
+/// of that bit, by the sample of the next one, and for long enough.
 pub fn an_acknowledgement_comes_in_time()
     ensures { (s : Sender) (own : Lengths) (j : Listener) (seen : ℕ → Seen) (found back d k : ℕ) → IsSteady s.clock
         → IsSteady j.clock → ByTheBook own → ByTheBook j.lengths → s.bit_quanta ≡ bit_quanta own → ClocksAreNear s j
         → ComesInTime s own j back → SamplesBit s j seen found d k → IsAnswered s own j back d k }
 {}
 
-/// Law: a node that has sampled a recessive bit which nothing moved, and then finds a dominant level by the quantum of its
-/// next sample and up to it, samples that level next.
+/// Law: let a node have sampled a recessive bit that nothing moved, and then find a dominant level by the quantum of its next sample and up
+/// to it. Then it samples that level next.
 pub fn the_next_sample_is_dominant()
     ensures { (l : Lengths) (seen : ℕ → Seen) (k n : ℕ) → ByTheBook l → FindsDominant l seen k n
         → SamplesNext l seen k (moved_sample l k n) Dominant }
@@ -92,8 +92,8 @@ pub fn the_next_sample_is_dominant()
     wl_sync::clock_goes_on();
 }
 
-/// Law: what a listener drives in the bit after one that it has sampled reaches another listener after that one's sample
-/// of the same bit, if the way is long enough beside the drift.
+/// Law: let a listener drive a level in the bit after one that it has sampled. It reaches another listener after that one's sample of the
+/// same bit, if the way is long enough beside the drift.
 pub fn an_acknowledgement_comes_after_each_sample()
     ensures { (s : Sender) (i j : Listener) (seen other_seen : ℕ → Seen) (found other_found between d k n : ℕ)
         → IsSteady s.clock → IsSteady i.clock → IsSteady j.clock → ComesAfterSample s i j between
@@ -114,8 +114,8 @@ pub fn the_sender_samples_the_acknowledgement()
     the_next_sample_is_dominant();
 }
 
-/// Law: the acknowledgement of a listener is over by the sender's sample after the one that it moved, if the way there and
-/// back is no longer than PROP_SEG and PHASE_SEG1 leave beside eleven bits' drift.
+/// Law: the acknowledgement of a listener is over by the sender's sample after the one that it moved. The condition: the way there and back
+/// is no longer than PROP_SEG and PHASE_SEG1 leave beside eleven bits' drift.
 pub fn an_acknowledgement_ends_in_time()
     ensures { (s : Sender) (own : Lengths) (j : Listener) (seen : ℕ → Seen) (found back d k n : ℕ) → IsSteady s.clock
         → IsSteady j.clock → ByTheBook own → ByTheBook j.lengths → s.bit_quanta ≡ bit_quanta own → ClocksAreNear s j
@@ -124,8 +124,8 @@ pub fn an_acknowledgement_ends_in_time()
         → answer_end j back k ≤ steady_tick s.clock (moved_sample own (own_sample s own d) n + bit_quanta own) }
 {}
 
-/// Law: a node that samples a dominant bit after an edge, and then finds the line go recessive within a bit, samples
-/// recessive next, a bit after that sample: the end of a dominant level moves nothing.
+/// Law: a node that samples a dominant bit after an edge, and then finds the line go recessive within a bit, samples recessive next, a bit
+/// after that sample. The end of a dominant level moves nothing.
 pub fn the_sample_after_is_recessive()
     ensures { (l : Lengths) (seen : ℕ → Seen) (k n : ℕ) → ByTheBook l → FindsDominant l seen k n
         → FindsItsEnd l seen (moved_sample l k n)

@@ -1,8 +1,8 @@
 //! The phase of a node: where the edges of the line lie in its bits, and what moves them.
 //!
-//! A clock of one rate says when its quanta begin, in exact parts of a tick. The bit clock says after how many quanta the
-//! node samples next, and each edge that counts moves that sample, by the rules of the book (Bosch CAN 2.0 part B,
-//! section 10; ISO 11898-1, synchronisation).
+//! A clock of one rate says when its quanta begin, in exact parts of a tick. The bit clock says after how many quanta the node samples
+//! next. Each edge that counts moves that sample, by the rules of the book (Bosch CAN 2.0 part B, section 10; ISO 11898-1,
+//! synchronisation).
 #![tactic(auto)]
 
 pub mod laws;
@@ -45,11 +45,10 @@ pub struct Pace {
     pub den: u32,
 }
 
-/// Returns whether a listener with these segments and this pace stays in step with a sender whose bits nothing moves.
+/// True if a listener with these segments and this pace stays in step with a sender whose bits nothing moves.
 ///
-/// By ten bits of either the other is off by the jump width at most, and if the sender is the faster one, a tick more doesn't
-/// bring its next bit before the listener's sample. By the rules of the book that is enough:
-/// [`a_listener_stays_in_step`](laws::a_listener_stays_in_step).
+/// In ten bits of either the other is off by the jump width at most. If the sender is the faster one, a tick more doesn't bring its next
+/// bit before the listener's sample. By the rules of the book that is enough: [`a_listener_stays_in_step`](laws::a_listener_stays_in_step).
 pub fn are_near(
     sender: &Segments,
     sender_pace: Pace,
@@ -68,7 +67,7 @@ pub fn are_near(
     10 * bit <= ten + jump && ten <= 10 * bit + jump && ten + tick <= 10 * bit + rest
 }
 
-/// Returns the parts of a tick that so many quanta take, 25 at most, of `num` parts by another denominator each.
+/// Returns the parts of a tick that this many quanta take, 25 at most, of `num` parts by another denominator each.
 pub fn parts(den: u32, quanta: u64, num: u64) -> u128
     requires { quanta ≤ 25 }
     ensures parts { result ≡ den * (quanta * num) }

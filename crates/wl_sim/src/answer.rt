@@ -81,7 +81,7 @@ pub(crate) fn of_tally(answer: Result<Tally, SweepFault>) -> Result<Done, Fault>
     }
 }
 
-/// What the map of a sweep answered, by whether each member is clean.
+/// Returns what the map of a sweep answered, by whether each member is clean.
 pub(crate) fn of_map(answer: Result<bool, SweepFault>) -> Result<Done, Fault>
     ensures { result ≡ of_map answer }
 {

@@ -134,7 +134,7 @@ fn worst_option<'a>(alloc: Global) -> Arg<'a>
         .help("Adds to each sender a frame whose edges are ten bits apart")
 }
 
-/// The flag that asks for a page.
+/// Returns the flag that asks for a page.
 fn page_option<'a>(alloc: Global) -> Arg<'a>
     ensures rule { rule_of result ≡ flag_rule (codes "page") }
     ensures local { result.global ≡ false }
