@@ -3,15 +3,15 @@
 # usage: program.sh PROGRAM
 # - each plan of examples/ with the report beside it, and each of those plans through check, records and candump, which must accept it;
 #   and by 2, 3 and 8 workers over either link
-# - the explanation, the trace and the waveform of each of them as bench/plain.py gives them, and the explanations of plans with every doubt, by the book and
+# - the explanation, the trace and the waveform of each of them as check/plain.py gives them, and the explanations of plans with every doubt, by the book and
 #   not, and of one whose clocks change their rates
 # - the log of one plan, as ticks of three lengths have it, and the waveform of one, as ticks of two have it
-# - two nodes with full queues, as bench/plain.py reports them
+# - two nodes with full queues, as check/plain.py reports them
 # - each row of .ci/refused.txt: the status, the one line on standard error, nothing on standard output but what explain says of it, and the hint
 # - files for input and output: what stands at the named place on each outcome; devices, rights, full disks, closed descriptors, odd names
-# - settings: lists and plans as bench/settings.py has them, and what is refused (.ci/settings.sh)
+# - settings: lists and plans as check/settings.py has them, and what is refused (.ci/settings.sh)
 # - the commands of docs/use/first-hour.md, whose outputs are those that the page shows (.ci/shown.py)
-# - JSON and CSV of each command, by Python's readers (bench/formats.py)
+# - JSON and CSV of each command, by Python's readers (check/formats.py)
 # - sweeps: known answers, what is refused, files, memory (.ci/sweeps.sh)
 # - command lines that name no task, or are no text: status 2, and nothing on standard output
 # - a run that doesn't end in 300 seconds, as one whose workers wait for each other for ever, has failed
@@ -51,28 +51,28 @@ for report in examples/*.report; do
     "$program" "$word" < "examples/$name.toml" > "$room/out" 2> "$room/err"
     is "$word of $name" [ $? = 0 -a -s "$room/out" -a ! -s "$room/err" ]
   done
-  python3 bench/plain.py explain < "examples/$name.toml" > "$room/explained"
+  python3 check/plain.py explain < "examples/$name.toml" > "$room/explained"
   runs "explain of $name" "examples/$name.toml" 0 "$room/explained" "$room/none" explain
-  python3 bench/plain.py trace < "examples/$name.toml" > "$room/traced"
+  python3 check/plain.py trace < "examples/$name.toml" > "$room/traced"
   runs "trace of $name" "examples/$name.toml" 0 "$room/traced" "$room/none" trace
-  python3 -B bench/traffic.py text < "examples/$name.toml" > "$room/traffic"
+  python3 -B check/traffic.py text < "examples/$name.toml" > "$room/traffic"
   runs "traffic of $name" "examples/$name.toml" 0 "$room/traffic" "$room/none" traffic
   "$program" candump < "examples/$name.toml" > "$room/out" 2> "$room/err"
   is "candump of $name" [ $? = 0 -a ! -s "$room/err" ]
   is "lines of candump of $name" [ "$(grep -c '^frame [0-9]* sent ' "$report")" = "$(wc -l < "$room/out")" ]
-  python3 bench/plain.py vcd < "examples/$name.toml" > "$room/waved"
+  python3 check/plain.py vcd < "examples/$name.toml" > "$room/waved"
   runs "vcd of $name" "examples/$name.toml" 0 "$room/waved" "$room/none" vcd
 done
 
 # The status says whether a run works only if that is asked for.
 runs "traffic of a plan that works" examples/cyclic_500k.toml 0 examples/cyclic_500k.traffic "$room/none" traffic --strict
-python3 -B bench/traffic.py text 100ps < examples/burst.toml > "$room/traffic"
+python3 -B check/traffic.py text 100ps < examples/burst.toml > "$room/traffic"
 runs "traffic of a plan with errors" examples/burst.toml 1 "$room/traffic" "$room/none" traffic --strict --tick 100ps
 runs "traffic of that plan, not strict" examples/burst.toml 0 "$room/traffic" "$room/none" traffic --tick 100ps
 
 # Full queues: each of two nodes sends 64 frames and receives the other's 64, more than in any example.
 python3 -Bc 'import sys; sys.path.insert(0, "bench"); import worst; print(worst.plan(nodes=2, quanta=200_000))' > "$room/full.toml"
-python3 bench/plain.py run < "$room/full.toml" > "$room/full"
+python3 check/plain.py run < "$room/full.toml" > "$room/full"
 is "frames of full queues" [ "$(grep -c '^frame 0' "$room/full")" = 128 ]
 runs "run of full queues" "$room/full.toml" 0 "$room/full" "$room/none" run
 for word in candump vcd page margin traffic; do
@@ -87,8 +87,8 @@ for page in examples/*.toml "$room/marked.toml"; do
   is "page of $page" python3 -B .ci/page.py "$program" "$page"
 done
 if command -v chromium > /dev/null; then
-  is "a page in a browser" python3 -B bench/page.py "$program" examples/burst.toml
-  is "maps of sweeps in a browser" python3 -B bench/page.py "$program" --sweeps
+  is "a page in a browser" python3 -B check/page.py "$program" examples/burst.toml
+  is "maps of sweeps in a browser" python3 -B check/page.py "$program" --sweeps
 fi
 
 is "what the first hour shows" python3 -B .ci/shown.py docs/use/first-hour.md "$program"
@@ -175,7 +175,7 @@ is "faults without a row: $(tr '\n' ' ' < "$room/out")" [ ! -s "$room/out" ]
 . .ci/files.sh
 . .ci/sweeps.sh
 ended=0
-python3 -B bench/formats.py "$program" examples/clean_500k.toml examples/burst.toml examples/bus_off.toml .ci/bounds.toml .ci/doubts.toml > "$room/out" || ended=$?
+python3 -B check/formats.py "$program" examples/clean_500k.toml examples/burst.toml examples/bus_off.toml .ci/bounds.toml .ci/doubts.toml > "$room/out" || ended=$?
 is "JSON and CSV: $(tail -3 "$room/out" | tr '\n' '/')" [ "$ended" = 0 ]
 . .ci/settings.sh
 
@@ -311,31 +311,31 @@ is "eight workers where there is room for two (status $ended)" [ "$ended" = 3 -a
 
 world=crates/test_worlds/out/test_worlds
 if [ -x "$world" ]; then
-  for wanted in bench/world/*.stdout; do
+  for wanted in check/world/*.stdout; do
     [ -e "$wanted" ] || continue
     name=$(basename "$wanted" .stdout)
-    "$world" < "bench/world/$name" > "$room/out" 2> "$room/err"
+    "$world" < "check/world/$name" > "$room/out" 2> "$room/err"
     is "the world $name" cmp -s "$room/out" "$wanted"
   done
-  is "worlds that restart" python3 bench/worlds.py "$world" restarts
+  is "worlds that restart" python3 check/worlds.py "$world" restarts
 fi
 
 # Each allocation refused in turn, where there is a C compiler to make the library that does it.
 if command -v gcc > /dev/null; then
   # No clause says by which link workers hand records over: each letter takes memory, and a record in a hub takes none.
-  gcc -O2 -shared -fPIC -o "$room/refuse.so" bench/refuse.c -ldl
+  gcc -O2 -shared -fPIC -o "$room/refuse.so" check/refuse.c -ldl
   calls() { REFUSE=0 LD_PRELOAD="$room/refuse.so" timeout 300 "$program" run --workers 2 --link "$1" < examples/clean_500k.toml 2>&1 > /dev/null | sed -n 's/^calls //p'; }
   by_hub=$(calls hub) by_mail=$(calls mail)
   is "the links (allocations by hub: $by_hub, by mail: $by_mail)" [ "${by_mail:-0}" -gt $((${by_hub:-999999} * 5 / 4)) ]
-  is "merge, each allocation refused" bench/refuse.sh "$program" merge examples/records.txt
-  is "horizon, each allocation refused" bench/refuse.sh "$program" horizon examples/records.txt
+  is "merge, each allocation refused" check/refuse.sh "$program" merge examples/records.txt
+  is "horizon, each allocation refused" check/refuse.sh "$program" horizon examples/records.txt
   is "run FILE -o FILE, each allocation refused" refused_files
-  is "run, each allocation refused" bench/refuse.sh "$program" run examples/clean_500k.toml
-  is "run --workers 2, each allocation refused" bench/refuse.sh "$program" run examples/clean_500k.toml --workers 2
-  is "traffic --format json, each allocation refused" bench/refuse.sh "$program" traffic examples/clean_500k.toml --format json
-  is "settings, each allocation refused" bench/refuse.sh "$program" settings examples/settings/narrow_1m.toml
-  is "sweep, each allocation refused" bench/refuse.sh "$program" sweep examples/clean_500k.toml --runs 3 --workers 2
-  [ ! -x "$world" ] || is "worlds, each allocation refused" python3 bench/worlds.py "$world" refused
+  is "run, each allocation refused" check/refuse.sh "$program" run examples/clean_500k.toml
+  is "run --workers 2, each allocation refused" check/refuse.sh "$program" run examples/clean_500k.toml --workers 2
+  is "traffic --format json, each allocation refused" check/refuse.sh "$program" traffic examples/clean_500k.toml --format json
+  is "settings, each allocation refused" check/refuse.sh "$program" settings examples/settings/narrow_1m.toml
+  is "sweep, each allocation refused" check/refuse.sh "$program" sweep examples/clean_500k.toml --runs 3 --workers 2
+  [ ! -x "$world" ] || is "worlds, each allocation refused" python3 check/worlds.py "$world" refused
 fi
 
 echo "$passed passed, $failed failed"

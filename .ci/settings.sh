@@ -1,21 +1,21 @@
 # The part of .ci/program.sh on settings: it takes that script's $program, $room, is and runs.
-# - the lists of examples/settings and the plans of their first settings, as bench/settings.py has them, with ticks of two lengths
+# - the lists of examples/settings and the plans of their first settings, as check/settings.py has them, with ticks of two lengths
 # - each plan runs clean, holds by margin, and is the file that -o names
 # - what is refused: the fault's line, the hint, the status, and nothing on standard output
 
 for given in examples/settings/*.toml; do
   name=$(basename "$given" .toml)
-  python3 bench/settings.py < "$given" > "$room/listed"
+  python3 check/settings.py < "$given" > "$room/listed"
   runs "settings of $name" "$given" 0 "$room/listed" "$room/none" settings
   sed '/^setting [3-9] /d; /^setting [0-9][0-9]/d' "$room/listed" > "$room/two"
   runs "settings --best 2 of $name" "$given" 0 "$room/two" "$room/none" settings --best 2
-  python3 bench/settings.py --plan < "$given" > "$room/planned"
+  python3 check/settings.py --plan < "$given" > "$room/planned"
   runs "settings --plan of $name" "$given" 0 "$room/planned" "$room/none" settings --plan
   runs "settings --plan -o of $name" "$given" 0 "$room/none" "$room/none" settings --plan -o "$room/written.toml"
   is "the plan of $name in a file" cmp -s "$room/written.toml" "$room/planned"
   is "the plan of $name runs clean" [ "$("$program" run "$room/written.toml" | tail -1)" = "verdict clean" ]
   is "the plan of $name holds" grep -q '^holds for ' <("$program" margin "$room/written.toml")
-  python3 bench/settings.py --tick 10ns < "$given" > "$room/listed"
+  python3 check/settings.py --tick 10ns < "$given" > "$room/listed"
   runs "settings --tick 10ns of $name" "$given" 0 "$room/listed" "$room/none" settings --tick 10ns
 done
 

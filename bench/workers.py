@@ -1,7 +1,7 @@
 #!/usr/bin/env python3
 """Compares runs by workers with runs by one thread, and measures them.
 
-usage: workers.py same PROGRAM [SEED [COUNT]]    PROGRAM is the built wl_sim: random plans of bench/differ.py by 2 to 8 workers and either link; the
+usage: workers.py same PROGRAM [SEED [COUNT]]    PROGRAM is the built wl_sim: random plans of check/differ.py by 2 to 8 workers and either link; the
                                                  bytes, the fault and the status have to be those of one thread; status 1 where one differs
        workers.py table PROGRAM [ROUNDS]         whole processes, one thread and workers in turns on the same three plans: wall and processor time (the median of
                                                  the rounds) beside one thread's, and peak memory; the table of docs/change/speed.md
@@ -26,6 +26,7 @@ from pathlib import Path
 
 sys.dont_write_bytecode = True
 HERE = Path(__file__).resolve().parent
+sys.path.insert(0, str(HERE.parent / "check"))
 NUMBERS = range(2, 9)
 LINKS = ("hub", "mail")
 RUNS = [(None, 0)] + [(link, workers) for workers in (1, 2, 4) for link in LINKS]

@@ -1,7 +1,7 @@
 #!/usr/bin/env bash
 # Has GTKWave and sigrok read the waveforms that the built program writes of every example, and of the plans that are named; installs both where
 # they are lacking (Debian, as root).
-# usage: bench/vcd.sh [PLAN..]      status 1 where a waveform is read otherwise than records and report say
+# usage: check/vcd.sh [PLAN..]      status 1 where a waveform is read otherwise than records and report say
 set -euo pipefail
 here=$(cd "$(dirname "$0")" && pwd)
 program=${WIRELINE_PROGRAM-$here/../crates/wl_sim/out/wl_sim}

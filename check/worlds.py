@@ -24,7 +24,7 @@ import differ
 import plain
 
 HERE = os.path.dirname(os.path.abspath(__file__))
-STORED = "a_restart_and_a_join"  # a script of bench/world, whose plan has two nodes and a frame
+STORED = "a_restart_and_a_join"  # a script of check/world, whose plan has two nodes and a frame
 
 
 def stored_plan():

@@ -3,7 +3,7 @@
 
 usage: sync_tables.py [--program PROGRAM] [--jobs N] [TABLE]..     all of phases pairs pulses deviations cables senders both joins sweeps by default
 
-Without a program bench/plain.py answers, which takes some hours in all, and leaves out the sweeps; a proved build takes minutes. A run is clean
+Without a program check/plain.py answers, which takes some hours in all, and leaves out the sweeps; a proved build takes minutes. A run is clean
 where its verdict is, and each node has received what the others sent. Nodes are 5 m apart, a level takes 5 ns a metre and 80 ns through both transceivers,
 and all nodes are idle before the first frame, whose edges are ten bits apart: the longest way between two resynchronisations.
 

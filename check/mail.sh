@@ -1,6 +1,6 @@
 #!/usr/bin/env bash
 # Refuses each allocation of the letters of test_workers in turn:
-#   bench/mail.sh PROGRAM      the built test_workers
+#   check/mail.sh PROGRAM      the built test_workers
 # Every run must end with a fault and nothing on standard output, with the rows of crates/test_workers/stdout, or with rows of which one answer more is
 # Memory. Where memory was refused while a group took the letter of many records, that is a line of its own, which says how many records the group
 # kept; and the letter comes again.

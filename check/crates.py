@@ -14,7 +14,7 @@ from pathlib import Path
 
 TOP = Path(__file__).resolve().parent.parent
 PAGE = TOP / "docs" / "change" / "ARCHITECTURE.md"
-BEGIN, END = "<!-- crates: bench/crates.py writes what is between these lines -->", "<!-- crates: end -->"
+BEGIN, END = "<!-- crates: check/crates.py writes what is between these lines -->", "<!-- crates: end -->"
 LEFT_OUT = {"std_collections", "thiserror", "itoa", "arrayvec", "anyhow", "toml_parser", "rand_core"}
 
 
@@ -95,7 +95,7 @@ def main():
     if sys.argv[1:] == ["check"]:
         if old != new:
             print("\n".join(difflib.unified_diff(old.splitlines(), new.splitlines(), "docs/change/ARCHITECTURE.md", "the sources", lineterm="", n=0)))
-            sys.exit("crates.py: the table of crates is stale; bench/crates.py writes it")
+            sys.exit("crates.py: the table of crates is stale; check/crates.py writes it")
     elif not sys.argv[1:]:
         PAGE.write_text(before + BEGIN + "\n" + new + END + after, encoding="utf-8")
     else:

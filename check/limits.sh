@@ -1,6 +1,6 @@
 #!/usr/bin/env bash
 # What the machine can do to the program: full disks, closed pipes, no input, little memory, little stack, many runs at once.
-# usage: bench/limits.sh [PROGRAM]      prints a line each; the status is 1 where one is not as it should be
+# usage: check/limits.sh [PROGRAM]      prints a line each; the status is 1 where one is not as it should be
 set -uo pipefail
 here=$(cd "$(dirname "$0")/.." && pwd)
 program=${1:-$here/crates/wl_sim/out/wl_sim}

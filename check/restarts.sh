@@ -1,7 +1,7 @@
 #!/usr/bin/env bash
 # Restarts random workers before random turns, and counts the runs that come to what one thread comes to: the plan of those
 # steps in crates/test_workers/stdin RUNS times over each kind of link, by 2 and by 3 workers.
-# usage: bench/restarts.sh [PROGRAM]      PROGRAM is the built test_workers; RUNS is 200 by default; status 1 where a run differs
+# usage: check/restarts.sh [PROGRAM]      PROGRAM is the built test_workers; RUNS is 200 by default; status 1 where a run differs
 set -euo pipefail
 here=$(cd "$(dirname "$0")" && pwd)
 program=${1:-$here/../crates/test_workers/out/test_workers}

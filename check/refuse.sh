@@ -1,6 +1,6 @@
 #!/usr/bin/env bash
 # Refuses each allocation of a run in turn:
-#   bench/refuse.sh PROGRAM TASK INPUT [OPTION..]      as refuse.sh PROGRAM run PLAN --workers 2
+#   check/refuse.sh PROGRAM TASK INPUT [OPTION..]      as refuse.sh PROGRAM run PLAN --workers 2
 # Every run must end with status 3, `fault: Memory` and nothing on standard output, or with the right answer. By several workers it may
 # be `fault: Worker(n)`, where the memory was that for a thread.
 set -euo pipefail

@@ -1,6 +1,6 @@
 #!/usr/bin/env bash
 # Runs a program on every example and compares its report with the one beside the plan; its check, its records and its explanation with those of plain.py.
-# usage: bench/examples.sh [PROGRAM]      PROGRAM is the built wl_sim, or bench/plain.py; status 1 where something differs, by name
+# usage: check/examples.sh [PROGRAM]      PROGRAM is the built wl_sim, or check/plain.py; status 1 where something differs, by name
 set -euo pipefail
 here=$(cd "$(dirname "$0")" && pwd)
 program=${1:-$here/../crates/wl_sim/out/wl_sim}

@@ -1,7 +1,7 @@
 #!/usr/bin/env bash
 # Runs plans by workers in threads, and counts the runs that come to what one thread comes to, over a hub and by letters: the first plan of
 # crates/test_workers/stdin RUNS times by 2, by 3 and by 8 workers, and each plan of examples/ once by each of 1 to 8 workers.
-# usage: bench/workers.sh [PROGRAM]      PROGRAM is the built test_workers; RUNS is 1000 by default; status 1 where a run differs
+# usage: check/workers.sh [PROGRAM]      PROGRAM is the built test_workers; RUNS is 1000 by default; status 1 where a run differs
 set -euo pipefail
 here=$(cd "$(dirname "$0")" && pwd)
 program=${1:-$here/../crates/test_workers/out/test_workers}

@@ -1,6 +1,6 @@
 #!/usr/bin/env bash
 # Has can-utils read the logs that the built program writes of every example, and of the plans that are named; installs can-utils where it is lacking (Debian, as root).
-# usage: bench/candump.sh [PLAN..]      status 1 where a frame is read otherwise than the report says
+# usage: check/candump.sh [PLAN..]      status 1 where a frame is read otherwise than the report says
 set -euo pipefail
 here=$(cd "$(dirname "$0")" && pwd)
 program=$here/../crates/wl_sim/out/wl_sim

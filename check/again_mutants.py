@@ -68,7 +68,7 @@ MUTANTS = (
 def seen(number, count, program):
     section, module, old, new = MUTANTS[number]
     with tempfile.TemporaryDirectory() as room:
-        copy = Path(shutil.copytree(HERE, Path(room) / "bench", ignore=shutil.ignore_patterns("world", "hub", "wrong-bodies", "__pycache__")))
+        copy = Path(shutil.copytree(HERE, Path(room) / "check", ignore=shutil.ignore_patterns("world", "hub", "wrong-bodies", "__pycache__")))
         (Path(room) / "docs").symlink_to(HERE.parent / "docs")
         text = (copy / module).read_text()
         if text.count(old) != 1: return f"stands {text.count(old)} times"

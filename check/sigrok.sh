@@ -1,6 +1,6 @@
 #!/usr/bin/env bash
 # Has sigrok's decoder `can` read back what the built program's nodes send; installs sigrok-cli where it is lacking (Debian, as root).
-# usage: bench/sigrok.sh [SEED [PLANS]]      status 1 where a frame is read otherwise than the report says
+# usage: check/sigrok.sh [SEED [PLANS]]      status 1 where a frame is read otherwise than the report says
 set -euo pipefail
 here=$(cd "$(dirname "$0")" && pwd)
 program=$here/../crates/wl_sim/out/wl_sim
