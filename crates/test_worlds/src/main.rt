@@ -17,7 +17,7 @@
 //! go on. The answers go to standard output, a line for each step but `text` and `report`. If the script, the grouping or the plan is
 //! refused, nothing goes there: one line `fault: ..` goes to standard error, and the status is 1.
 //!
-//! `bench/world/` has scripts and their answers: `rt try --cases ../../bench/world` in this folder compares them.
+//! `check/world/` has scripts and their answers: `rt try --cases ../../check/world` in this folder compares them.
 #![tactic(auto)]
 
 mod fault;
