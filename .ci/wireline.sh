@@ -114,7 +114,8 @@ cp crates.txt "$tree"
 touch "$tree/crates/wl_sim/src/main.rt" "$tree/crates/wl_sim/stdin"
 script=(env "PATH=/usr/bin:/bin" "$tree/wireline")
 if ! env PATH=/usr/bin:/bin bash -c 'command -v rt' > /dev/null; then
-  ends 1 run "$plan" && says "no toolchain" "building takes the Rattle kit"
+  ends 1 run "$plan" && says "no toolchain" "no command 'rt' on the PATH"
+  ends 1 build && is "no toolchain, said once" [ "$(grep -c "no command 'rt'" "$room/err")" = 1 ]
 fi
 ends 2 help && is "help without a build" cmp -s "$room/err" tools/help.txt
 cat > "$stub/rt" << 'STUB'
@@ -137,7 +138,9 @@ chmod +x "$stub/rt"
 script=(env "PATH=$stub:/usr/bin:/bin" "CALLS=$room/calls" "PROGRAM=$program" "$tree/wireline")
 FAILS='no such name' ends 1 run "$plan" && says "a build that fails" "error: no such name"
 says "a build that fails" "no program could be made"
+says "a build that fails" "by this kit: error: no such name"
 FAILS='not proved' ends 1 build && says "a proof that fails" "the program was not proved"
+is "after a proof that fails nothing else is built" [ "$(grep -c compiling "$room/err")" = 0 ]
 ends 0 run "$plan" && says "what is built, and for how long" "compiling a build without proof, once"
 is "the first report" cmp -s "$room/out" "$report"
 ends 0 run "$plan"
