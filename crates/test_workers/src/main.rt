@@ -13,8 +13,8 @@
 //! - `hold W T P N`: one run by N workers, in which a gate holds worker W before its turn T for P polls and then refuses it; the others sleep
 //!   by then, and have had a hundred turns at most.
 //! - `turns N K`: one run by N workers; whether each of them had at least K turns.
-//! - `overlap N P`: one run by N workers, in which workers 0 and 1 are each held in their first turn until the other one is in its first
-//!   turn too, for at most P polls; then the turn is refused.
+//! - `overlap N P`: one run by N workers. Workers 0 and 1 are each held in their first turn until the other one is in its first turn too,
+//!   for at most P polls; then the turn is refused.
 //! - `over N`: one run by N workers, over links that this program makes and watches.
 //! - `count N`: the same, and what was counted: the turns of each worker; and of all together the records that were given, the times that some
 //!   were, the fetches that brought something, and the waits.

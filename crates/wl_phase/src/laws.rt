@@ -154,9 +154,9 @@ pub fn the_sender_samples_the_delimiter()
 
 /// Law: an acknowledgement stays in its slot. Let it come no earlier than the slot of the sender, and of each other listener,
 /// and let drift leave room for its end. Then it begins in the slot of each of them, and is over by that one's sample of the
-/// ACK delimiter. The sender samples it no earlier than by its own bits, and later by the jump width at most. Up to eleven bits
-/// later each listener is behind the sender by two bits at most, and it samples the last but one bit of the end of frame
-/// before the sender samples the last one.
+/// ACK delimiter. The sender samples it no earlier than by its own bits, and later by the jump width at most. For eleven
+/// bits more each listener is late by two bits at most. It samples the last but one bit of the end of frame before the sender
+/// samples the last one.
 pub fn an_acknowledgement_stays_in_its_slot()
     ensures begins { (s : Sender) (i j : Listener) (seen other_seen : ℕ → Seen) (found other_found between d k n : ℕ)
         → IsSteady s.clock → IsSteady i.clock → IsSteady j.clock → ComesAfterBegin s i j between
