@@ -1,0 +1,5 @@
+mod Measures
+mod Nearing
+mod Rows
+mod Sampled
+mod Starting

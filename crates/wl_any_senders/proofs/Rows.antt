@@ -1,0 +1,77 @@
+-- Worked stations, by computation.
+use Rattle.std.proofs.Common.{◌≡◌, ℕ, zero, suc, ◌+◌, true, refl}
+use Rattle.wl_segments.specs.declared.SyncRules.TheVariants.{Book}
+use Rattle.wl_segments.specs.Lengths.{Lengths}
+use Rattle.wl_clock.specs.Timing.{tick_of}
+use Rattle.wl_phase.specs.Clocks.{Steady}
+use Rattle.wl_any_senders.specs.Stations.{Stations, shared_tick, shared_quantum, shared_instant, bit_drift, own_look}
+use Rattle.wl_any_senders.specs.Starts.{Start, reaches_at}
+
+-- a bit of 1 + 3 + 3 + 3 quanta with its sample at place 7
+abbrev l : Lengths
+l = record { prop = 3; ps1 = 3; ps2 = 3; sjw = 2; sync = Book }
+
+-- station 0 has quanta of 10 ticks from tick 0 on, each other one of 10 1/2 ticks from tick 7 on
+abbrev clock_of : ℕ → Steady
+clock_of zero = record { offset = 0; num = 10; den = 1 }
+clock_of (suc i) = record { offset = 7; num = 21; den = 2 }
+
+-- 4 ticks to itself, 9 to another
+abbrev delay_of : ℕ → ℕ → ℕ
+delay_of zero zero = 4
+delay_of zero (suc k) = 9
+delay_of (suc i) zero = 9
+delay_of (suc i) (suc k) = 4
+
+abbrev s : Stations
+s = record { count = 2; clocks = clock_of; lengths = λ i. l; delay = delay_of }
+
+-- in half ticks
+tick : shared_tick s 0 1 ≡ 2
+tick = refl
+
+quantum : shared_quantum s 0 1 ≡ 20
+quantum = refl
+
+other_quantum : shared_quantum s 1 0 ≡ 21
+other_quantum = refl
+
+third : shared_instant s 1 0 3 ≡ 77
+third = refl
+
+-- ten quanta of 10 1/2 ticks take 5 ticks more than ten of 10
+slower : bit_drift s 1 0 ≡ 10
+slower = refl
+
+faster : bit_drift s 0 1 ≡ 0
+faster = refl
+
+-- a quantum of 10 ticks and one more, less a loop of 4
+look : own_look s 0 1 ≡ 14
+look = refl
+
+other_look : own_look s 1 0 ≡ 15
+other_look = refl
+
+-- station 0 begins its bit with quantum 20, and station 1 follows that edge: at tick 209 it lies between its quanta 19 and 20
+abbrev places : ℕ → ℕ
+places zero = 20
+places (suc i) = 19
+
+abbrev b : Start
+b = record { drives = λ i. true; due = λ i. 20 + i; place = places; from = λ i. 20 }
+
+edge : reaches_at s b 0 1 ≡ 209
+unfolding tick_of
+edge = refl
+
+back : reaches_at s b 1 0 ≡ 226
+unfolding tick_of
+back = refl
+
+-- instants of both in half ticks: 0 begins less than a way before 1 is there, and 1 less than a way and its look before
+own : shared_instant s 0 1 20 ≡ 400
+own = refl
+
+their : shared_instant s 1 0 19 ≡ 413
+their = refl

@@ -1,0 +1,62 @@
+-- Stations that share a line, and how far apart their bits begin.
+use Rattle.std.specs.Prelude.{◌≢◌, ◌⊎◌, ◌≡◌, ℕ, ◌+◌, ◌-◌, ◌*◌, ◌<◌, ◌≤◌, Bool, true}
+use Rattle.wl_segments.specs.Lengths.{Lengths, sample_at, bit_quanta}
+use Rattle.wl_phase.specs.Clocks.{Steady, IsSteady, instant}
+use Rattle.wl_phase.specs.Ways.{ByTheBook}
+
+-- Stations by number: their clocks, their segments, and the delay from one to another in ticks. That from a station to itself is the delay of its own loop.
+pub record Stations : Type 0 where
+  pub count : ℕ
+  pub clocks : ℕ → Steady
+  pub lengths : ℕ → Lengths
+  pub delay : ℕ → ℕ → ℕ
+
+-- They synchronise by the rules of the book, delays take a tick or more, and no way over a third station's loop is shorter (this project's profile).
+pub record AreStations (s : Stations) : Type 0 where
+  pub steady : (i : ℕ) → i < s.count → IsSteady (s.clocks i)
+  pub book : (i : ℕ) → i < s.count → ByTheBook (s.lengths i)
+  pub later : (i k : ℕ) → i < s.count → k < s.count → 0 < s.delay i k
+  pub detours : (i j k : ℕ) → i < s.count → j < s.count → k < s.count → s.delay i k + s.delay j j ≤ s.delay i j + s.delay j k
+
+-- What takes time at two stations i and k is measured in the parts of a tick that both clocks have: the product of their denominators makes one. A tick, a quantum of i
+-- and the instant at which quantum n of i begins:
+abbrev pub shared_tick : Stations → (i k : ℕ) → ℕ
+shared_tick s i k = (s.clocks i).den * (s.clocks k).den
+
+abbrev pub shared_quantum : Stations → (i k : ℕ) → ℕ
+shared_quantum s i k = (s.clocks k).den * (s.clocks i).num
+
+abbrev pub shared_instant : Stations → (i k n : ℕ) → ℕ
+shared_instant s i k n = (s.clocks k).den * instant (s.clocks i) n
+
+-- by how much a bit of station i is longer than one of station k
+abbrev pub bit_drift : Stations → (i k : ℕ) → ℕ
+bit_drift s i k = bit_quanta (s.lengths i) * shared_quantum s i k - bit_quanta (s.lengths k) * shared_quantum s k i
+
+-- By how much station i may begin a bit ahead of the edge that it follows, since it looks at the line once a quantum: not at all if its own loop takes a quantum and a tick.
+abbrev pub own_look : Stations → (i k : ℕ) → ℕ
+own_look s i k = shared_quantum s i k + shared_tick s i k - s.delay i i * shared_tick s i k
+
+-- The bit that station i begins by its quantum n begins before station k's, by its quantum p, has reached it; but for k's look, and for what so many bits since the last edge
+-- drift apart.
+abbrev pub BeginsBefore : Stations → (since i k n p : ℕ) → Type 0
+BeginsBefore s since i k n p = shared_instant s i k n < shared_instant s k i p + s.delay k i * shared_tick s i k + own_look s k i + since * bit_drift s i k
+
+-- It is so with each two stations if one of them sends, whichever begins: the bit of k is late at i by the way there and back at most, and early by k's look at most. Place 0
+-- of the bit of each is at the quantum `place`.
+abbrev pub AreClose : Stations → (sends : ℕ → Bool) → (since : ℕ) → (place : ℕ → ℕ) → Type 0
+AreClose s sends since place = (i k : ℕ) → i < s.count → k < s.count → i ≢ k → (sends i ≡ true) ⊎ (sends k ≡ true)
+    → BeginsBefore s since i k (place i) (place k)
+
+-- The inequalities of the condition, for two stations and ten bits' drift.
+pub record HaveRoom (s : Stations) : Type 0 where
+  -- an edge puts right what has gathered since the one before (Bosch CAN 2.0 part B, section 10: the resynchronisation jump width)
+  pub early_fits : (i k : ℕ) → i < s.count → k < s.count → i ≢ k → own_look s k i + 10 * bit_drift s i k ≤ (s.lengths i).sjw * shared_quantum s i k
+  pub late_fits : (i k : ℕ) → i < s.count → k < s.count → i ≢ k → 10 * bit_drift s k i ≤ (s.lengths i).sjw * shared_quantum s i k
+  -- a bit is there at each sample, though the sampler is early by the way there and back (Bosch CAN 2.0 part B, section 10: PROP_SEG)
+  pub is_there : (i k : ℕ) → i < s.count → k < s.count → i ≢ k
+      → (s.delay i k + s.delay k i) * shared_tick s i k + own_look s i k + 10 * bit_drift s k i ≤ sample_at (s.lengths i) * shared_quantum s i k
+  pub loops : (i : ℕ) → i < s.count → (s.clocks i).den * s.delay i i ≤ sample_at (s.lengths i) * (s.clocks i).num
+  -- and the next one isn't there yet
+  pub not_early : (i k : ℕ) → i < s.count → k < s.count → i ≢ k
+      → own_look s k i + 10 * bit_drift s i k + shared_tick s i k ≤ (s.lengths i).ps2 * shared_quantum s i k

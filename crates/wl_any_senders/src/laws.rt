@@ -1,0 +1,36 @@
+//! Laws of several senders, each proved as the contract of a function that does nothing.
+
+ghost use Rattle.std.specs.Prelude.{◌+◌, ◌≤◌, ℕ, suc, true, Bool};
+ghost use Rattle.wl_segments.specs.Lengths.{bit_quanta};
+ghost use Rattle.wl_any_senders.specs.Stations.{AreClose, AreStations, HaveRoom, Stations};
+ghost use Rattle.wl_any_senders.specs.Starts.{AreSenders, BeginBit, BeginFrame, Start};
+ghost use Rattle.wl_any_senders.specs.OneBit.{AreRight, OneBit};
+
+/// Law: stations that begin a frame begin it close together. A station begins by itself if no edge has reached it. Each other one
+/// follows the first edge that it finds. Then the bit of each reaches each other before that one's own is more than the way there
+/// and back ahead of it. It is early by no more than the look of a station that follows.
+pub fn a_frame_begins_close_together()
+    ensures { (s : Stations) (b : Start) → AreStations s → BeginFrame s b → AreClose s (λ i. true) 0 b.place }
+{}
+
+/// Law: in each bit without an edge they drift apart by one bit's drift.
+pub fn a_bit_without_an_edge_adds_its_drift()
+    ensures { (s : Stations) (sends : ℕ → Bool) (since : ℕ) (place : ℕ → ℕ) → AreClose s sends since place
+        → AreClose s sends (suc since) (λ i. place i + bit_quanta (s.lengths i)) }
+{}
+
+/// Law: an edge brings them close together again, if ten bits' drift and the look fit the jump width of each. So it is with those that drive
+/// the bit dominant; whoever sends recessive loses the arbitration by it, and stays close to each of them.
+pub fn an_edge_brings_them_close_again()
+    ensures { (s : Stations) (sends : ℕ → Bool) (since : ℕ) (b : Start) → AreStations s → HaveRoom s → since ≤ 10
+        → AreClose s sends since b.due → AreSenders s sends b → BeginBit s b → AreClose s b.drives 0 b.place }
+{}
+
+/// Law: each station samples what all drive: dominant if one sender drives the bit dominant, else recessive. The conditions are those of the margins: the way there and
+/// back, the look and ten bits' drift are within the way to the sample, and the look, the drift and a tick within PHASE_SEG2.
+pub fn all_sample_what_is_driven()
+    ensures { (s : Stations) (sends : ℕ → Bool) (since : ℕ) (b c : Start) (drove : ℕ → ℕ → Bool) → AreStations s → HaveRoom s
+        → OneBit s sends since b c drove → AreRight s b drove }
+{
+    wl_topology::driven_laws();
+}
