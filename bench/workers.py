@@ -1,19 +1,16 @@
 #!/usr/bin/env python3
-"""Compares runs by workers with runs by one thread, and measures them.
+"""Measures runs by workers beside runs by one thread.
 
-usage: workers.py same PROGRAM [SEED [COUNT]]    PROGRAM is the built wl_sim: random plans of check/differ.py by 2 to 8 workers and either link; the
-                                                 bytes, the fault and the status have to be those of one thread; status 1 where one differs
-       workers.py table PROGRAM [ROUNDS]         whole processes, one thread and workers in turns on the same three plans: wall and processor time (the median of
-                                                 the rounds) beside one thread's, and peak memory; the table of docs/change/speed.md
-       workers.py speed ROWS [ROUNDS]            ROWS is the built test_workers: three plans of 16 nodes with 60,000 quanta each, by one thread and by
-                                                 1, 2 and 4 workers and either link in turns; the table of docs/proof/workers.md
+usage: workers.py PROGRAM table [ROUNDS]     PROGRAM is the built wl_sim: whole processes, one thread and workers in turns on the same three plans: wall and processor
+                                             time (the median of the rounds) beside one thread's, and peak memory; the table of docs/change/speed.md
+       workers.py PROGRAM speed [ROUNDS]     PROGRAM is the built test_workers: three plans of 16 nodes with 60,000 quanta each, by one thread and by
+                                             1, 2 and 4 workers and either link in turns; the table of docs/proof/workers.md
 
 In the table a time is the least and the median of the rounds, in seconds. One thread's is that of reading the plan, the simulation and the report;
 that of workers is what a process that runs them after it takes more. Records, turns and waits are of all workers together, in the last round. Sleeps
 are voluntary context switches (getrusage) beyond those of one thread, the median.
 """
 import os
-import random
 import re
 import resource
 import statistics
@@ -26,34 +23,8 @@ from pathlib import Path
 
 sys.dont_write_bytecode = True
 HERE = Path(__file__).resolve().parent
-sys.path.insert(0, str(HERE.parent / "check"))
-NUMBERS = range(2, 9)
 LINKS = ("hub", "mail")
 RUNS = [(None, 0)] + [(link, workers) for workers in (1, 2, 4) for link in LINKS]
-
-
-def answer(words, text):
-    ran = subprocess.run(words, input=text, capture_output=True, timeout=600)
-    return ran.returncode, ran.stdout, ran.stderr
-
-
-def same(program, seed, count):
-    """Runs random plans, and says whether each answer by workers is that of one thread."""
-    import differ
-
-    rng, differs, refused = random.Random(seed), 0, 0
-    for number in range(count):
-        text = differ.toml_text(differ.random_plan(rng), False).encode() + b"\n"
-        wanted = answer([program, "run"], text)
-        refused += wanted[0] != 0
-        for workers, link in ((workers, link) for workers in NUMBERS for link in LINKS):
-            if answer([program, "run", "--workers", str(workers), "--link", link], text) != wanted:
-                differs += 1
-                with tempfile.NamedTemporaryFile("wb", prefix=f"workers-{workers}-{link}-", suffix=".toml", delete=False) as kept: kept.write(text)
-                print(f"plan {number} by {workers} workers, {link}, differs: {kept.name}")
-    runs = count * len(NUMBERS) * len(LINKS)
-    print(f"{count} random plans from {seed}, of which {refused} are refused, by 2 to 8 workers and either link: {differs} of {runs} answers differ")
-    return differs == 0
 
 
 def plans():
@@ -145,12 +116,9 @@ def table(program, rounds):
 
 def main():
     words = sys.argv[1:]
-    if len(words) in (2, 3) and words[0] == "table": return table(words[1], int(words[2]) if len(words) == 3 else 9)
-    if len(words) in (2, 3, 4) and words[0] == "same":
-        seed, count = map(int, words[2:] + ["1", "500"][len(words) - 2:])
-        sys.exit(0 if same(words[1], seed, count) else 1)
-    if len(words) in (2, 3) and words[0] == "speed": speed(words[1], int(words[2]) if len(words) == 3 else 5)
-    else: sys.exit(__doc__)
+    if len(words) not in (2, 3) or words[1] not in ("table", "speed"): sys.exit(__doc__)
+    measure, rounds = {"table": (table, 9), "speed": (speed, 5)}[words[1]]
+    measure(words[0], int(words[2]) if len(words) == 3 else rounds)
 
 
 main()

@@ -2,19 +2,19 @@
 """The traffic of plans by a second program, over plain.py's simulation: load and gap of the bus, what each message waited, and why a run
 didn't work. It shares no line with the proved program. The definitions are in docs/use/traffic.md.
 
-usage: traffic.py text [TICK]                          the traffic of a plan from standard input
-       traffic.py differ PROGRAM [SEED [COUNT]]        the examples, and COUNT random plans (1000); status 1 if two texts differ
+usage: traffic.py text [TICK]      the traffic of a plan from standard input
+
+It is the comparison `traffic` of compare.py, too.
 """
 import bisect
-import glob
-import os
 import random
-import subprocess
 import sys
 from collections import Counter
 
 sys.dont_write_bytecode = True
 import plain
+import random_plans
+from tally import asked
 
 PICOSECONDS = {"ps": 1, "ns": 1_000, "us": 1_000_000}
 IDLE = ("idle", "suspended")
@@ -107,32 +107,17 @@ def picoseconds(word):
 plain.COMMANDS["traffic"] = lambda text: traffic_text(plain.read_plan(text))
 
 
-def agrees(program, text, name):
-    done = subprocess.run([program, "traffic"], input=text, capture_output=True)
-    said, wanted = (done.stdout.decode(), done.stderr.decode(), done.returncode), plain.answer("traffic", text)
-    if said == wanted: return True
-    print(f"{name}: the program answers {said}, and plain.py {wanted}")
-    return False
-
-
-def differ(program, seed="1", count="1000"):
-    import differ as plans
-    here, bad, verdicts = os.path.dirname(os.path.abspath(__file__)), 0, Counter()
-    examples = sorted(glob.glob(os.path.join(here, "..", "examples", "*.toml")))
-    texts = [(open(path, "rb").read(), os.path.basename(path)) for path in examples]
-    for number in range(int(count)):
-        text = plans.plan_input(random.Random(f"{seed} {number}"), random.Random(f"{seed} {number} sync"), "mixed")
-        texts.append((text, f"plan {number} of seed {seed}"))
-    for text, name in texts:
-        bad += not agrees(program, text, name)
-        verdicts[(plain.answer("traffic", text)[0].splitlines() or ["refused"])[-1]] += 1
-    print(f"{len(examples)} examples, {count} random plans: {bad} differ;", ", ".join(f"{k} {n}" for k, n in sorted(verdicts.items())))
-    return 1 if bad else 0
+def traffic(tally, program, seed, numbers, options):
+    for number in numbers:
+        text = random_plans.plan_input(random.Random(f"{seed} {number}"), random.Random(f"{seed} {number} sync"), "mixed")
+        wanted = plain.answer("traffic", text)
+        tally.tried += 1
+        tally.count("answers", (wanted[0].splitlines() or ["refused"])[-1])
+        tally.compare(f"plan {number} of seed {seed}", "traffic", text, asked(program, "traffic", text=text), wanted)
 
 
 def main():
     words = sys.argv[1:]
-    if words[:1] == ["differ"] and len(words) > 1: sys.exit(differ(*words[1:]))
     if words[:1] != ["text"]: sys.exit(__doc__)
     try:
         lines = traffic_text(plain.read_plan(sys.stdin.buffer.read()), picoseconds((words[1:] + ["1ns"])[0]))

@@ -1,41 +1,35 @@
-#!/usr/bin/env python3
-"""Compares plans of version 3 with what they stand for, and a program with plain.py on them.
+"""Plans of version 3 beside what they stand for: the comparisons `versions`, `repeats`, `version-3` and `cyclic`.
 
-usage: versions.py same PROGRAM [SEED [COUNT [BITS]]]      plans of version 1 or 2 against the same in version 3: equal reports
-       versions.py written PROGRAM [SEED [COUNT [BITS]]]   frames that come again against each instance as a table of its own: equal reports
-       versions.py written PROGRAM PLAN..                  the same of these plans
-       versions.py traffic PROGRAM [SEED [COUNT [BITS]]]   random plans in which frames come again, nodes listen and disturbances are at one
-                                                           node, by the program and by plain.py; by `run` with WORKERS workers too, if that is set
-
-PROGRAM - runs plain.py in its place. COUNT (1000) may be A-B: the plans from number A up to B. BITS ends each plan after so many bits of its
-first node. Prints how many differ, the verdicts and faults, and of how many plans each key of version 3 is one; status 1 if two differ.
+`versions` has plans of version 1 or 2 beside the same in version 3, `repeats` frames that come again beside each instance as a table of its own, and
+`cyclic` the same of the plans of plans/: equal reports. `version-3` has plans in which frames come again, nodes listen and disturbances are at one node,
+beside plain.py. PROGRAM - runs plain.py in its place.
 """
-import os
 import random
-import subprocess
 import sys
 import tomllib
-from collections import Counter
+from pathlib import Path
 
 sys.dont_write_bytecode = True
-import differ
 import plain
+import random_plans
+from tally import asked
+
+PLANS = sorted((Path(__file__).resolve().parent / "plans").glob("*.toml"))
+COUNTS = {"cyclic": len(PLANS)}
 
 FEW = 64  # frames that wait at a node before version 3
 
 
-def report(program, text):
-    if program == "-": return plain.answer("run", text)
-    words = ["--workers", os.environ["WORKERS"]] if "WORKERS" in os.environ else []
-    done = subprocess.run([program, "run", *words], input=text, capture_output=True)
-    return done.stdout.decode(), done.stderr.decode(), done.returncode
+def report(program, text, workers=""):
+    words = ["--workers", workers] if workers else []
+    return plain.answer("run", text) if program == "-" else asked(program, "run", *words, text=text)
 
 
 # ---- Plans
 
 
 def random_plan(rng, bits):
-    plan = differ.random_plan(rng)
+    plan = random_plans.random_plan(rng)
     sync = rng.choice((None, "after", "book"))
     first = plan["node"][0]
     clock = clock_of(0, first)
@@ -128,78 +122,45 @@ def written(plan):
 
 
 def text_of(rng, plan):
-    return differ.toml_text(plan, rng.random() < 0.3).encode()
+    return random_plans.toml_text(plan, rng.random() < 0.3).encode()
 
 
-def word_of(answer):
-    """The verdict of a report, or the fault."""
-    return answer[1].split("(")[0].strip() or answer[0].splitlines()[-1].split()[1]
+def compare(tally, name, text, first, second):
+    """Counts the verdict of the first report, or its fault, and compares it with the second."""
+    tally.tried += 1
+    tally.count("answers", first[1].split("(")[0].strip() or first[0].splitlines()[-1].split()[1])
+    tally.compare(name, "run", text, first, second)
 
 
-class Tally:
-    def __init__(self):
-        self.compared = self.bad = 0
-        self.words = Counter()
-
-    def take(self, name, first, second):
-        self.compared += 1
-        self.words[word_of(first)] += 1
-        if first == second: return
-        self.bad += 1
-        print(f"{name}: {first} and {second}")
-
-    def ends(self):
-        print(f"{self.bad} of {self.compared} differ;", ", ".join(f"{word} {times}" for word, times in sorted(self.words.items())))
-        sys.exit(1 if self.bad else 0)
-
-
-def numbers(count):
-    first, _, last = count.rpartition("-")
-    return range(int(first or 0), int(last))
-
-
-def same(tally, program, seed="1", count="1000", bits="0"):
-    for number in numbers(count):
+def versions(tally, program, seed, numbers, options):
+    for number in numbers:
         rng = random.Random(f"{seed} {number}")
-        plan = random_plan(rng, int(bits))
-        texts = text_of(rng, plan), text_of(rng, in_order(plan))
-        tally.take(f"plan {number} of seed {seed}", *(report(program, text) for text in texts))
+        plan = random_plan(rng, int(options["bits"]))
+        texts = text_of(rng, in_order(plan)), text_of(rng, plan)
+        compare(tally, f"plan {number} of seed {seed}", texts[0], *(report(program, text) for text in texts))
 
 
-def written_again(tally, program, seed="1", count="1000", bits="0"):
-    for number in numbers(count):
-        rng = random.Random(f"{seed} {number} written")
-        plan = with_repeats(rng, random_plan(rng, int(bits)))
-        other = written(plan)
-        if other is None: tally.words["too many frames"] += 1
-        else: tally.take(f"plan {number} of seed {seed}", *(report(program, text_of(rng, one)) for one in (plan, other)))
+def repeats(tally, program, seed, numbers, options):
+    for number in numbers:
+        rng, other = random.Random(f"{seed} {number} written"), None
+        while other is None:
+            plan = with_repeats(rng, random_plan(rng, int(options["bits"])))
+            other = written(plan)
+        texts = text_of(rng, plan), text_of(rng, other)
+        compare(tally, f"plan {number} of seed {seed}", texts[0], *(report(program, text) for text in texts))
 
 
-def written_plans(tally, program, *paths):
-    for path in paths:
-        with open(path, "rb") as file: text = file.read()
-        other = written(tomllib.loads(text.decode()))
-        if other is None: sys.exit(f"{path}: it can't be written in version 1 or 2")
-        tally.take(path, report(program, text), report(program, differ.toml_text(other, False).encode()))
+def cyclic(tally, program, seed, numbers, options):
+    for path in [PLANS[number] for number in numbers]:
+        text = path.read_bytes()
+        other = random_plans.toml_text(written(tomllib.loads(text.decode())), False).encode()
+        compare(tally, path.stem, text, report(program, text), report(program, other))
 
 
-def traffic(tally, program, seed="1", count="1000", bits="0"):
-    for number in numbers(count):
+def version_3(tally, program, seed, numbers, options):
+    for number in numbers:
         rng = random.Random(f"{seed} {number} traffic")
-        plan, kinds = with_traffic(rng, random_plan(rng, int(bits)))
+        plan, kinds = with_traffic(rng, random_plan(rng, int(options["bits"])))
         text = text_of(rng, plan)
-        tally.words.update(set(kinds))
-        tally.take(f"plan {number} of seed {seed}", report(program, text), plain.answer("run", text))
-
-
-def main():
-    words, tally = sys.argv[1:], Tally()
-    if len(words) < 2 or words[0] not in ("same", "written", "traffic"): sys.exit(__doc__)
-    are_plans = words[0] == "written" and any(word.endswith(".toml") for word in words[2:])
-    compare = {"same": same, "written": written_plans if are_plans else written_again, "traffic": traffic}[words[0]]
-    compare(tally, *words[1:])
-    tally.ends()
-
-
-if __name__ == "__main__":
-    main()
+        for kind in set(kinds): tally.count("plans with", kind)
+        compare(tally, f"plan {number} of seed {seed}", text, report(program, text, options["workers"]), plain.answer("run", text))

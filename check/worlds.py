@@ -1,16 +1,16 @@
 #!/usr/bin/env python3
 """Drives worlds of groups through restarts, repeated deliveries and refused memory, and compares each with the one-thread simulation.
 
-usage: worlds.py WORLD_ROWS restarts
-       worlds.py WORLD_ROWS schedules [PLANS [EVENTS [SEED]]]        10 plans, 2,000 events and seed 1 where no number is given
-       worlds.py WORLD_ROWS refused
+usage: worlds.py PROGRAM restarts
+       worlds.py PROGRAM schedules [--count PLANS] [--seed S] [--events N]        10 plans of 2,000 events each, and seed 1 by default
+       worlds.py PROGRAM refused
 
-WORLD_ROWS is the program that plays a script over a world. `restarts`: two nodes in two groups, a stored list of events with a restart of either
+PROGRAM is the built test_worlds, which plays a script over a world. `restarts`: two nodes in two groups, a stored list of events with a restart of either
 group before each of its first 60; then on to the end. `schedules`: random plans, random groups, random events (advances, deliveries of any record,
 joins, restarts), then on to the end. In both the report has to be that of `plain.py`, and no replica may hold a clash.
 `refused`: ten lists of 20 events, each with each allocation refused in turn. The world has to be the one after those events that were handled, and the same
-report has to come once memory is there; where memory is refused outside of events, one fault and no output.
-Prints what was counted; the status is 1 where anything differs.
+report has to come once memory is there; if memory is refused outside of events, one fault and no output.
+Prints what was counted; the status is 1 if anything differs.
 """
 import os
 import random
@@ -20,8 +20,9 @@ import tempfile
 from collections import Counter
 
 sys.dont_write_bytecode = True
-import differ
 import plain
+import random_plans
+from tally import words_of
 
 HERE = os.path.dirname(os.path.abspath(__file__))
 STORED = "a_restart_and_a_join"  # a script of check/world, whose plan has two nodes and a frame
@@ -84,7 +85,7 @@ def restarts(program):
 
 def random_plan(rng):
     while True:
-        text = differ.plan_input(rng, rng, "mixed")
+        text = random_plans.plan_input(rng, rng, "mixed")
         try:
             plan = plain.read_plan(text)
         except plain.Fault:
@@ -134,10 +135,9 @@ def refused(program):
 
 
 def main():
-    if len(sys.argv) < 3 or sys.argv[2] not in ("restarts", "schedules", "refused"): sys.exit(sys.stderr.write(__doc__) and 2)
-    program, what, words = sys.argv[1], sys.argv[2], sys.argv[3:] + ["10", "2000", "1"][len(sys.argv) - 3:]
+    program, what, options = words_of(__doc__, {"restarts": {}, "schedules": {"count": "10", "seed": "1", "events": "2000"}, "refused": {}})
     if what == "restarts": counts = restarts(program)
-    elif what == "schedules": counts = schedules(program, *(int(word) for word in words))
+    elif what == "schedules": counts = schedules(program, int(options["count"]), int(options["events"]), int(options["seed"]))
     else: counts = refused(program)
     for name, times in sorted(counts.items()): print(f"{times:>6} {name}")
     good = ("as one thread", "refused outside", "nothing of", "stopped amid")

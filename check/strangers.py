@@ -1,32 +1,18 @@
-#!/usr/bin/env python3
-"""Compares a program with plain.py on strangers' texts: good ones, ones made by mutation of good ones, and ones of no sense at all.
+"""The comparisons `record-texts` and `plan-texts`: strangers' texts, which are good ones, ones made by mutation of good ones, and ones of no sense at all.
 
-usage: fuzz.py PROGRAM records|plans [COUNT [SEED [JOBS]]]     1000 texts of seed 1 in one process where no number is given
-
-COUNT may be A-B: the texts from number A up to B. Each text goes through one command: a record text through `merge` or `horizon`, a plan text
-through `check`, or `run` where it is accepted and short. Standard output, the fault line and the status have to be the same. The same numbers make
-the same texts, in however many processes. The program is started once for each text, by `many.c`.
-
-Prints how many answers agreed, how often each fault came, how long the longest answer took, and where the two differ; the first text on which
-they do is kept in a file, and the status is then 1. A plan text that only one of the two reads as TOML is counted by itself: the program's reader
-knows TOML 1.1, where an inline table may go over several lines and a time may lack its seconds, and Python's TOML 1.0; and it refuses what nests
-deeper than 80 and a number with an exponent that no double holds.
+Each text goes through one command: a record text through `merge` or `horizon`, a plan text through `check`, or `run` if it is accepted and short.
+A plan text that only one of the two reads as TOML is counted by itself: the program's reader knows TOML 1.1, where an inline table may go over several
+lines and a time may lack its seconds, and Python's TOML 1.0; and it refuses what nests deeper than 80 and a number with an exponent that no double holds.
 """
 import math
-import os
 import random
 import re
-import struct
-import subprocess
 import sys
-import tempfile
-import time
-from collections import Counter
-from multiprocessing import Pool
 
 sys.dont_write_bytecode = True
-import differ
 import plain
+import random_plans
+from tally import asked
 
 NUMBERS = [0, 1, 9, 10, 15, 16, 63, 64, 65, 2**20, 2**20 + 1, 262_143, 262_144, 262_145, 262_146, 2**31 - 1, 2**31, 2**32, 2**36, 2**36 + 1, 2**48 - 1, 2**48,
            2**53 + 1, 2**63 - 1, 2**63, 2**64 - 1, 2**64, 10**19, 10**20, 10**33, 10**34, 10**300]
@@ -120,7 +106,7 @@ def change_key(rng, text):
 
 
 def record_pieces(rng):
-    return [line.encode("latin-1") + b"\n" for line in (rng.choice(differ.EDGE_LINES), rng.choice(differ.BAD_LINES))] + [b"E 0 1 7\n", b"C 1 0\n", b"S 2 3 4"]
+    return [line.encode("latin-1") + b"\n" for line in (rng.choice(random_plans.EDGE_LINES), rng.choice(random_plans.BAD_LINES))] + [b"E 0 1 7\n", b"C 1 0\n", b"S 2 3 4"]
 
 
 def plan_pieces(rng):
@@ -133,7 +119,7 @@ def garbage(rng):
 
 def text_of(rng, kind):
     if rng.random() < 0.02: return garbage(rng)
-    text = differ.record_input(rng) if kind == "records" else differ.plan_input(rng, rng, "mixed")
+    text = random_plans.record_input(rng) if kind == "records" else random_plans.plan_input(rng, rng, "mixed")
     if kind == "plans" and rng.random() < 0.6:
         for _ in range(rng.choice([1, 1, 2])): text = change_key(rng, text)
         return text
@@ -205,75 +191,24 @@ def goes_beyond(text):
         return False
 
 
-class Many:
-    """The program asked through `many`, which starts it for each text without a copy of this Python."""
-
-    def __init__(self, many, program):
-        self.pipe = subprocess.Popen([many, program], stdin=subprocess.PIPE, stdout=subprocess.PIPE)
-
-    def asked(self, command, text):
-        word = command.encode()
-        self.pipe.stdin.write(struct.pack("<I", len(word)) + word + struct.pack("<I", len(text)) + text)
-        self.pipe.stdin.flush()
-        status = self.number()
-        out = self.pipe.stdout.read(self.number())
-        return out, self.pipe.stdout.read(self.number()), status
-
-    def number(self):
-        return struct.unpack("<I", self.pipe.stdout.read(4))[0]
-
-    def end(self):
-        self.pipe.stdin.close()
-        self.pipe.wait()
-
-
-def compare(work):
-    many, program, kind, seed, numbers = work
-    asker = Many(many, program)
-    agreed, faults, longest, first, newer, deep = Counter(), Counter(), (0.0, 0), None, 0, 0
+def compare(kind, tally, program, seed, numbers):
     for number in numbers:
         rng = random.Random(f"{kind} {seed} {number}")
         text = text_of(rng, kind)
         command = command_of(rng, kind, text)
         out, fault, status = plain.answer(command, text)
         name = re.sub(r"\b[0-9]+\b", "n", fault[7:-1]) or "no fault"
-        faults["Unknown" if name.startswith("Unknown(") else name] += 1
-        began = time.monotonic()
-        got = asker.asked(command, text)
-        longest = max(longest, (time.monotonic() - began, number))
-        if got == (out.encode(), fault.encode(), status): agreed[command] += 1
-        elif fault == "fault: Toml\n" and reads_as_newer(text): newer += 1
-        elif got == (b"", b"fault: Toml\n", 1) and goes_beyond(text): deep += 1
-        elif first is None: first = number, command, text, got, (out.encode(), fault.encode(), status)
-    asker.end()
-    return agreed, faults, longest, first, len(numbers), newer, deep
+        tally.tried += 1
+        tally.count("answers", "Unknown" if name.startswith("Unknown(") else name)
+        got = asked(program, command, text=text)
+        if fault == "fault: Toml\n" != got[1] and reads_as_newer(text): tally.count("read by one alone", "TOML 1.1")
+        elif got == ("", "fault: Toml\n", 1) and fault != got[1] and goes_beyond(text): tally.count("read by one alone", "beyond the reader's limits")
+        else: tally.compare(f"text {number} of seed {seed}", command, text, got, (out, fault, status))
 
 
-def main():
-    if len(sys.argv) not in (3, 4, 5, 6) or sys.argv[2] not in ("records", "plans"): sys.exit(sys.stderr.write(__doc__) and 2)
-    program, kind = sys.argv[1:3]
-    words = sys.argv[3:] + ["1000", "1", "1"][len(sys.argv) - 3:]
-    first, last = (int(word) for word in (words[0].split("-") if "-" in words[0] else ("0", words[0])))
-    seed, jobs, count = int(words[1]), int(words[2]), last - first
-    agreed, faults, longest, different, tried, newer, deep, began = Counter(), Counter(), (0.0, 0), [], 0, 0, 0, time.monotonic()
-    with tempfile.TemporaryDirectory() as scratch, Pool(jobs) as pool:
-        many = os.path.join(scratch, "many")
-        subprocess.run(["gcc", "-O2", "-o", many, os.path.join(os.path.dirname(os.path.abspath(__file__)), "many.c")], check=True)
-        work = [(many, program, kind, seed, range(start, min(start + 500, last))) for start in range(first, last, 500)]
-        for one in pool.imap_unordered(compare, work):
-            agreed, faults, longest, tried = agreed + one[0], faults + one[1], max(longest, one[2]), tried + one[4]
-            newer, deep = newer + one[5], deep + one[6]
-            if one[3]: different.append(one[3])
-            if sys.stderr.isatty(): sys.stderr.write(f"\r{tried} of {count}")
-    print(f"{kind}: {tried} texts of seed {seed} in {time.monotonic() - began:.0f} s, {jobs} at a time, {sum(agreed.values())} the same,",
-          f"{tried - sum(agreed.values()) - newer - deep} differ, {newer} of TOML 1.1 alone, {deep} beyond the reader's limits; longest {longest[0]:.3f} s (text {longest[1]})")
-    print("commands:", dict(agreed))
-    print("answers:", ", ".join(f"{fault} {times}" for fault, times in sorted(faults.items())))
-    for number, command, text, got, wanted in sorted(different, key=lambda one: one[0])[:5]: differ.keep(program, seed, number, command, text, got, wanted)
-    sys.exit(1 if different else 0)
+def record_texts(tally, program, seed, numbers, options):
+    compare("records", tally, program, seed, numbers)
 
 
-if __name__ == "__main__":
-    # Sets are walked in the order of their hashes, so these have to be the same for the same texts.
-    if os.environ.get("PYTHONHASHSEED") != "0": os.execve(sys.executable, [sys.executable, *sys.argv], {**os.environ, "PYTHONHASHSEED": "0"})
-    main()
+def plan_texts(tally, program, seed, numbers, options):
+    compare("plans", tally, program, seed, numbers)

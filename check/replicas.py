@@ -1,20 +1,18 @@
 #!/usr/bin/env python3
-"""Lists of takes and joins for `test_replica`, and what is to be told after them, by plain.py.
+"""Lists of takes and joins for `test_replica`, and what it has to write after them, by plain.py: the comparison `replicas`.
 
-usage: slots.py rows COUNT [SEED]        so many lists, one a line; the same numbers give the same lists
-       slots.py answers < ROWS           the lines that `test_replica` has to write
-       slots.py PROGRAM COUNT [SEED]     runs the program on so many lists, compares, and tells how many differ
+usage: replicas.py rows COUNT [SEED]     lists, one a line; the same numbers give the same lists
+       replicas.py answers < ROWS        the lines that `test_replica` has to write
 
 A list is of two holders: a record is taken, `join` joins in what the other holder knows, `tell` tells what is known; after `+` the second one does so.
 Ticks and numbers are small, so that records meet in their slots, clash, and lie in silences; now and then one is the greatest that there may be.
 """
-import os
 import random
-import subprocess
 import sys
 
 sys.dont_write_bytecode = True
 import plain
+from tally import asked
 
 GREATEST_SEQ, GREATEST_COUNT, GREATEST_TICK = 262_144, 262_145, 2 ** 48 - 1
 
@@ -71,23 +69,20 @@ def answer(row):
     return row + said + told(holders[0])
 
 
+def replicas(tally, program, seed, numbers, options):
+    rows = [a_list(random.Random(f"{seed} {number}")) for number in numbers]
+    lines = asked(program, text="".join(row + "\n" for row in rows).encode())[0].splitlines()
+    for number, row, line in zip(numbers, rows, lines + [""] * (len(rows) - len(lines))):
+        tally.tried += 1
+        tally.compare(f"list {number} of seed {seed}", "lists", row.encode(), line, answer(row))
+
+
 def main():
     words = sys.argv[1:]
     if words == ["answers"]:
         for line in sys.stdin: print(answer(line.rstrip("\n")))
-        return
-    if not 2 <= len(words) <= 3: sys.exit(sys.stderr.write(__doc__) and 2)
-    rows = lists(int(words[1]), int(words[2]) if len(words) > 2 else 1)
-    if words[0] == "rows":
-        print("\n".join(rows))
-        return
-    text = "".join(row + "\n" for row in rows).encode()
-    lines = subprocess.run([os.path.abspath(words[0])], input=text, capture_output=True, check=True).stdout.decode().splitlines()
-    differ = [(row, line) for row, line in zip(rows, lines) if line != answer(row)]
-    steps = sum(row.count(";") + 1 for row in rows)
-    for row, line in differ[:3]: print("program:", line, "\nplain:  ", answer(row), sep="\n")
-    print(f"{len(rows)} lists of {steps} steps, {len(lines)} answers: {len(differ)} differ")
-    sys.exit(bool(differ) or len(lines) != len(rows))
+    elif words[:1] == ["rows"] and len(words) in (2, 3): print("\n".join(lists(*map(int, [*words[1:], 1][:2]))))
+    else: sys.exit(sys.stderr.write(__doc__) and 2)
 
 
-main()
+if __name__ == "__main__": main()

@@ -1,0 +1,63 @@
+"""What the comparisons share: the order of their words, how a program is asked, and what was counted."""
+import subprocess
+import sys
+import tempfile
+from collections import Counter
+
+KEPT = 5  # inputs with differing answers of which more is said than their number
+
+
+def words_of(usage, whats):
+    """Reads PROGRAM WHAT [--OPTION VALUE].., where each WHAT has its options with their values; PROGRAM, WHAT and the options."""
+    words = sys.argv[1:]
+    if len(words) < 2 or words[1] not in whats: sys.exit(sys.stderr.write(usage) and 2)
+    program, what, *words = words
+    options = dict(whats[what])
+    while words:
+        if len(words) < 2 or words[0][:2] != "--" or words[0][2:] not in options: sys.exit(sys.stderr.write(usage) and 2)
+        options[words[0][2:]], words = words[1], words[2:]
+    return program, what, options
+
+
+def asked(program, *words, text=b""):
+    """Standard output, standard error and status."""
+    done = subprocess.run([program, *words], input=text, capture_output=True)
+    return done.stdout.decode("utf-8", "replace"), done.stderr.decode("utf-8", "replace"), done.returncode
+
+
+class Tally:
+    def __init__(self):
+        self.tried = self.differ = 0
+        self.counts, self.kept = {}, []
+
+    def count(self, heading, word, times=1):
+        self.counts.setdefault(heading, Counter())[word] += times
+
+    def compare(self, name, words, text, got, wanted):
+        """Counts two answers to a text; whether they are the same."""
+        if got == wanted: self.count("agreed", words)
+        else: self.differs(name, words, text, got, wanted)
+        return got == wanted
+
+    def differs(self, name, words, text, got, wanted):
+        self.differ += 1
+        self.count("differ", words)
+        self.kept.append((name, words, text, got, wanted))
+
+    def add(self, other):
+        self.tried, self.differ = self.tried + other.tried, self.differ + other.differ
+        for heading, counts in other.counts.items(): self.counts.setdefault(heading, Counter()).update(counts)
+        self.kept = (self.kept + other.kept)[:KEPT]
+
+    def say(self):
+        for heading, counts in self.counts.items():
+            if heading != "rows": print(f"{heading}:", ", ".join(f"{word} {times}" for word, times in sorted(counts.items())))
+        for name, words, text, got, wanted in self.kept:
+            with tempfile.NamedTemporaryFile(prefix="differs-", delete=False) as file: file.write(text)
+            print(f"{name} differs, {words}: the input is in {file.name}")
+            if not isinstance(got, tuple):
+                print(f"  {str(got)[:2_000]}\n  wanted {str(wanted)[:2_000]}")
+                continue
+            for who, (out, fault, status) in (("program", got), ("wanted", wanted)): print(f"  {who}: status {status}, {fault[:100]!r}, {len(out)} characters out")
+            lines = [(number, *pair) for number, pair in enumerate(zip(got[0].split("\n"), wanted[0].split("\n")), 1) if pair[0] != pair[1]]
+            for number, ours, theirs in lines[:1]: print(f"  first line that differs, {number}:\n    program: {ours}\n    wanted:  {theirs}")
