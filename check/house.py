@@ -1,9 +1,10 @@
 #!/usr/bin/env python3
-"""Looks for what makes the sources hard to read: a search, not a verdict.
+"""Looks for what makes the sources hard to read, and fails if it finds something that accepted.txt doesn't have with a reason.
 
-usage: house.py [repeats|wide|names|unused|long|english|comments|links|quotes]..     all of them if none is named
+usage: house.py [--all] [repeats|wide|names|unused|long|english|comments|links|quotes]..     all of them if none is named; --all shows what is accepted, too
 
-repeats  lemma statements that stand more than once, up to the names of their variables (definitions and proofs are read, bodies not)
+repeats  lemma statements that stand more than once, up to the names of their variables (definitions and proofs are read, bodies not; a module's own
+         name for a lemma of another one is none)
 wide     clauses of more than 120 columns
 names    words of specs/ that two crates define
 unused   definitions of specs/ that no clause and no other definition names, but for `most_x-is`: they belong into proofs/
@@ -13,10 +14,13 @@ comments of the doc comments of src/: sentences of more than 30 words, words to 
          it ('Returns ..', 'True if ..') or with a verb
 links    links of pages that lead to no file or to no heading
 quotes   code that a page quotes from a file that it names just above, and that isn't there
+
+Each search yields what accepted.txt may name, and the line that is printed. A line of accepted.txt is `KIND: WHAT`, or `KIND N: WHAT` if there may be N of
+them, below the line `reason: ..`. The status is 1 if something is found that isn't accepted; what is accepted and no longer found is only named.
 """
 import re
 import sys
-from collections import defaultdict
+from collections import Counter, defaultdict
 from pathlib import Path
 
 TOP = Path(__file__).resolve().parent.parent
@@ -42,7 +46,17 @@ def signatures(text):
             if not more.strip() or len(more) - len(more.lstrip()) <= indent:
                 break
             said.append(more.strip())
-        yield at + 1, found[1], " ".join(said)
+        if not is_citation(lines, at, indent, found[1]):
+            yield at + 1, found[1], " ".join(said)
+
+
+def is_citation(lines, at, indent, name):
+    """Whether a signature's value is another name with arguments: a module's own name for a lemma of another one."""
+    for line in lines[at + 1 :]:
+        if line.strip() and len(line) - len(line.lstrip()) <= indent:
+            value = re.fullmatch(rf"{re.escape(name)} = [\w'-]+(\.[\w'-]+)+( .*)?|{re.escape(name)} = [\w'-]+", line.strip())
+            return "abbrev" in lines[at].split(name)[0] and bool(value)
+    return False
 
 
 def shape(statement):
@@ -65,21 +79,17 @@ def repeats():
             continue
         for line, name, statement in signatures(text):
             if len(statement) > 24 and ("≡" in statement or "→" in statement):
-                where[shape(statement)].append(f"{path}:{line} {name}")
-    found = [it for it in where.values() if len({name.rsplit(":", 1)[0] for name in it}) > 1]
+                where[shape(statement)].append((str(path), line, name))
+    found = [it for it in where.values() if len({path for path, _, _ in it}) > 1]
     for group in sorted(found, key=len, reverse=True):
-        print("  " + "\n    ".join(group))
-    print(f"repeats: {len(found)} statements stand more than once")
+        yield " = ".join(f"{path.removeprefix('crates/')} {name}" for path, _, name in group), "\n    ".join(f"{path}:{line} {name}" for path, line, name in group)
 
 
 def wide():
-    count = 0
     for path, text in files("rt", "src"):
         for at, line in enumerate(text.splitlines()):
             if re.match(r"\s*(ensures|requires|holds)\b", line) and len(line) > 120:
-                count += 1
-                print(f"  {path}:{at + 1} {len(line)}")
-    print(f"wide: {count} clauses of more than 120 columns")
+                yield path, f"{path}:{at + 1} {len(line)} columns"
 
 
 def defined():
@@ -95,10 +105,9 @@ def names():
     crates = defaultdict(set)
     for path, _, name in defined():
         crates[name].add(path.parts[1])
-    found = sorted((name, sorted(it)) for name, it in crates.items() if len(it) > 1)
-    for name, it in found:
-        print(f"  {name}: {', '.join(it)}")
-    print(f"names: {len(found)} words that two crates define")
+    for name, it in sorted(crates.items()):
+        if len(it) > 1:
+            yield f"{name} of {', '.join(sorted(it))}", f"{name}: {', '.join(sorted(it))}"
 
 
 def unused():
@@ -109,21 +118,18 @@ def unused():
             if not re.match(r"\s*(pub |ghost )*use\s", line):
                 for name in set(re.findall(r"[^\s(){}\[\],.;:`]+", line)):
                     counts[name] += 1
-    found = []
     for path, line, name in defined():
         own = sum(1 for it in (TOP / path).read_text(encoding="utf-8").splitlines() if re.match(rf"^(?:(?:pub|abbrev|unfoldable)\s+)*{re.escape(name)}\s", it))
         # a limit's `most_x-is` opens the name `most_x` where a proof needs its number, and stands beside it
         if counts[name] <= own and not name.endswith("-is"):
-            found.append(f"  {path}:{line} {name}")
-    print("\n".join([*found, f"unused: {len(found)} definitions that nothing but proofs names"]))
+            yield f"{path} {name}", f"{path}:{line} {name}"
 
 
 def long():
-    found = []
     for kind in ("rt", "antt"):
         for path, text in files(kind, "*"):
             if text.count("\n") > 800:
-                found.append(f"  {path} {text.count(chr(10))} lines")
+                yield path, f"{path} {text.count(chr(10))} lines"
     for path, text in files("rt", "src"):
         began = None
         for at, line in enumerate(text.splitlines()):
@@ -132,9 +138,8 @@ def long():
             if began and line == " " * began[1] + "}":
                 body = at - began[0]
                 if body > 40:
-                    found.append(f"  {path}:{began[0] + 1} {began[2]}, {body} lines with its clauses")
+                    yield f"{path} {began[2]}", f"{path}:{began[0] + 1} {began[2]}, {body} lines with its clauses"
                 began = None
-    print("\n".join([*found, f"long: {len(found)} files or functions"]))
 
 
 AVOIDED = ["of which", "that one too", "anew", "so many", "behind", "stands", "comes to", "tells", "as many", "up to when"]
@@ -172,18 +177,17 @@ def plain_lines(text):
 
 
 def english():
-    total = [0, 0, 0]
     for path in pages():
-        text = path.read_text(encoding="utf-8")
-        lengthy = [(line, len(words)) for line, words in sentences(text) if len(words) > 30]
-        wide = [at + 1 for at, line in plain_lines(text) if len(line) > 100]
-        prose = " ".join(" ".join(words) for _, words in sentences(text))
-        avoided = {it: n for it in AVOIDED if (n := len(re.findall(rf"\b{it}\b", prose)))}
-        for at, n in enumerate((len(lengthy), len(wide), sum(avoided.values()))):
-            total[at] += n
-        if lengthy or wide or avoided:
-            print(f"  {path.relative_to(TOP)}: {len(lengthy)} long sentences {lengthy[:6]}, {len(wide)} wide lines, {avoided}")
-    print(f"english: {total[0]} sentences of more than 30 words, {total[1]} lines of more than 100 columns, {total[2]} words to avoid")
+        text, name = path.read_text(encoding="utf-8"), path.relative_to(TOP)
+        for line, words in sentences(text):
+            if len(words) > 30:
+                yield name, f"{name}:{line} a sentence of {len(words)} words"
+            for it in AVOIDED:
+                if re.search(rf"\b{it}\b", " ".join(words)):
+                    yield name, f"{name}:{line} '{it}'"
+        for at, line in plain_lines(text):
+            if len(line) > 100:
+                yield name, f"{name}:{at + 1} {len(line)} columns"
 
 
 def doc_blocks(text):
@@ -205,21 +209,18 @@ BEGINS = re.compile(rf"Returns|True (if|of|only)|False if|Law\b|(?!{NOUNS})[A-Z]
 
 
 def comments():
-    total = [0, 0, 0]
     for path, text in files("rt", "src"):
         for line, said, code in doc_blocks(text):
-            lengthy = [len(words) for _, words in sentences(said) if len(words) > 30]
-            avoided = [it for it in AVOIDED if re.search(rf"\b{it}\b", re.sub(r"`[^`]*`", "x", said.replace("\n", " ")))]
+            lengthy = [f"a sentence of {len(words)} words" for _, words in sentences(said) if len(words) > 30]
+            avoided = [f"'{it}'" for it in AVOIDED if re.search(rf"\b{it}\b", re.sub(r"`[^`]*`", "x", said.replace("\n", " ")))]
             answers = re.match(r"\s*(pub(\(crate\))? )?(const )?fn ", code) and "->" in code
             begins = answers and not re.search(r"-> (Self|Result<Self)", code) and not BEGINS.match(said)
-            for at, it in enumerate((len(lengthy), len(avoided), bool(begins))): total[at] += it
-            if lengthy or avoided or begins:
-                print(f"  {path}:{line} {lengthy or ''} {avoided or ''} {'begins: ' + said[:50] if begins else ''}")
-    print(f"comments: {total[0]} sentences of more than 30 words, {total[1]} words to avoid, {total[2]} that don't begin with what is returned")
+            for it in lengthy + avoided + [f"begins with '{said[:50]}'"] * bool(begins):
+                yield path, f"{path}:{line} {it}"
 
 
 def pages():
-    return sorted([*TOP.glob("*.md"), *TOP.glob("docs/**/*.md"), *TOP.glob("crates/*/README.md")])
+    return sorted([*TOP.glob("*.md"), *TOP.glob("docs/**/*.md"), *TOP.glob("crates/*/README.md"), *TOP.glob("check/*.md")])
 
 
 def anchors(text):
@@ -236,7 +237,6 @@ def anchors(text):
 
 
 def links():
-    count = 0
     for path in pages():
         text = re.sub(r"`[^`\n]*`", "x", re.sub(r"^```.*?^```", "", path.read_text(encoding="utf-8"), flags=re.M | re.S))
         for target in re.findall(r"\]\(([^)]+)\)", text):
@@ -245,9 +245,7 @@ def links():
             name, _, anchor = target.partition("#")
             file = (path.parent / name).resolve() if name else path
             if not file.exists() or anchor and anchor not in anchors(file.read_text(encoding="utf-8")):
-                count += 1
-                print(f"  {path.relative_to(TOP)}: {target}")
-    print(f"links: {count} links that lead nowhere")
+                yield f"{path.relative_to(TOP)} {target}", f"{path.relative_to(TOP)}: {target} leads nowhere"
 
 
 def quotes():
@@ -255,7 +253,6 @@ def quotes():
     def flat(lines):
         return "\n".join(line.strip() for line in lines.splitlines())
 
-    count = missed = 0
     for path in pages():
         text, last = path.read_text(encoding="utf-8"), None
         for found in re.finditer(r"\]\(([^)]*\.(?:antt|rt))\)|^```(antt|rust)\n(.*?)^```", text, re.M | re.S):
@@ -263,15 +260,41 @@ def quotes():
                 last = path.parent / found[1]
             elif last:
                 source = flat(last.read_text(encoding="utf-8"))
-                count += 1
                 for part in re.split(r"\n\n+", found[3].strip("\n")):
                     if flat(part) not in source:
-                        missed += 1
-                        print(f"  {path.relative_to(TOP)}: not in {last.resolve().relative_to(TOP)}: {part.splitlines()[0]}")
-    print(f"quotes: {missed} parts of {count} quoted blocks that their file hasn't")
+                        yield path.relative_to(TOP), f"{path.relative_to(TOP)}: not in {last.resolve().relative_to(TOP)}: {part.splitlines()[0]}"
+
+
+def accepted():
+    """Returns how many of each kind and thing are accepted; each has a reason above it."""
+    found, reason = Counter(), None
+    for line in (TOP / "check" / "accepted.txt").read_text(encoding="utf-8").splitlines():
+        if line.startswith("reason: "): reason = line
+        elif line and line[0] != "#":
+            kind, many, what = re.fullmatch(r"(\w+)(?: (\d+))?: (.*)", line).groups()
+            if not reason: sys.exit(f"accepted.txt: no reason above '{line}'")
+            found[kind, what] += int(many or 1)
+    return found
+
+
+def main():
+    every = {it.__name__: it for it in (repeats, wide, names, unused, long, english, comments, links, quotes)}
+    words, left, bad = sys.argv[1:], accepted(), 0
+    show = "--all" in words
+    for kind in [it for it in words if it != "--all"] or every:
+        new = old = 0
+        for what, line in every[kind]():
+            is_old = left[kind, str(what)] > 0
+            left[kind, str(what)] -= is_old
+            new, old = new + (not is_old), old + is_old
+            if show or not is_old: print(f"  {line}")
+        bad += new
+        print(f"{kind}: {new} found" + (f", and {old} that are accepted" if old else ""))
+        for (of, what), many in left.items():
+            if of == kind and many > 0: print(f"  no longer found, and may leave accepted.txt: {kind} {what}")
+    if bad: print("Mend them, or say in check/accepted.txt why they stay.")
+    sys.exit(1 if bad else 0)
 
 
 if __name__ == "__main__":
-    every = {it.__name__: it for it in (repeats, wide, names, unused, long, english, comments, links, quotes)}
-    for word in sys.argv[1:] or every:
-        every[word]()
+    main()
