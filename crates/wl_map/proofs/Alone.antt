@@ -1,5 +1,5 @@
 -- A row alone: one row, with the text of that row.
-use Rattle.std.proofs.Common.{◌≡◌, ◌∙◌, ◌+◌, ◌-◌, ◌<◌, ◌&&◌, ℕ, zero, suc, Bool, true, false, List, [], ◌∷◌, ◌++◌, nat_le, length, drop, get_or, ap, sym, refl, arith, add-one}
+use Rattle.std.proofs.Common.{◌≡◌, ◌∙◌, ◌+◌, ◌-◌, ◌<◌, ◌&&◌, ℕ, zero, suc, Bool, true, List, [], ◌∷◌, ◌++◌, nat_le, length, drop, get_or, ap, sym, refl, arith, add-one}
 use Rattle.std.specs.List.{flat_map, list_all, range_with_len}
 use Rattle.std.proofs.lemmas.List.{append_assoc, append-nil, drop_more}
 use Rattle.std.proofs.lemmas.List.Concat.{flat_map-append}

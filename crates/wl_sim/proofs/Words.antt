@@ -1,5 +1,5 @@
 -- What clap makes of the command line of the program.
-use Rattle.std.proofs.Common.{◌≡◌, ◌∙◌, refl, sym, subst, ap, ap₂, inl, inr, arith, ℕ, ◌<◌, ◌≤◌, ◌==◌, ◌+◌, ◌*◌, ◌^◌, ◌&&◌, nat_lt, Bool, true, false, [], ◌∷◌, List, length, map, string_bytes, slice_index, if◌then◌else◌, Option, Some, None, option_map, option_and_then, unwrap_or, codes}
+use Rattle.std.proofs.Common.{◌≡◌, ◌∙◌, refl, sym, subst, ap, ap₂, inl, inr, arith, ℕ, ◌==◌, ◌+◌, ◌*◌, ◌^◌, ◌&&◌, nat_lt, Bool, true, false, [], ◌∷◌, List, length, map, string_bytes, slice_index, if◌then◌else◌, Option, Some, None, option_map, option_and_then, unwrap_or, codes}
 use Rattle.std.specs.Char.{digit_value}
 use Rattle.std.specs.List.{list_all}
 use Rattle.std.specs.Option.{option_map_or}
@@ -18,19 +18,18 @@ use Rattle.clap.specs.declared.parser.matches.SubCommand.{SubCommand}
 use Rattle.clap.proofs.OnLiterals.{clap_on_literals}
 use Rattle.clap.proofs.WalkLemmas.{both, first_value-rows, raw_values-rows}
 use Rattle.wl_device.specs.Devices.{Answer}
-use Rattle.wl_engines.specs.declared.fault.RunFault.{RunFault}
 use Rattle.wl_engines.specs.declared.fault.RunFault.TheVariants as run
 use Rattle.wl_sweep_engine.specs.declared.fault.SweepFault.TheVariants as sweep
 use Rattle.wl_settings.specs.declared.fault.SettingsFault.TheVariants as settings
 use Rattle.wl_settings.specs.declared.said.Shown.{Shown}
 use Rattle.wl_settings.specs.declared.said.Shown.TheVariants.{Best}
-use Rattle.wl_sim.specs.CommandLine.{program, task_word, tick_among, workers_among, read_link, link_among, entered, file_among, file_in, file_named, format_among, format_in, read_format, is_flagged, is_set, number_among, number_or_zero, plain_values, plainly_swept, ranges_among, ranges_in, values_among, word_in, Enters, FoundTask, NamedTask, HasValues, NamesTask}
+use Rattle.wl_sim.specs.CommandLine.{program, task_word, tick_among, workers_among, read_link, link_among, entered, file_among, file_in, file_named, format_among, format_in, read_format, is_flagged, is_set, number_among, number_or_zero, plain_values, plainly_swept, ranges_among, ranges_in, values_among, word_in, Enters, NamedTask, HasValues, NamesTask}
 use Rattle.wl_worker.specs.declared.kinds.LinkKind.{LinkKind}
 use Rattle.wl_worker.specs.declared.kinds.LinkKind.TheVariants.{Hub}
 use Rattle.wl_views.specs.declared.tick.Tick.{Tick}
 use Rattle.wl_views.specs.declared.tick.TimeUnit.TheVariants.{Nanosecond}
 use Rattle.wl_views.specs.Ticks.{read_tick}
-use Rattle.wl_sim.specs.Tasks.{Does, DoesSweep, EndsTask, IsCount, Plainly, run_status, refusal_status}
+use Rattle.wl_sim.specs.Tasks.{Does, DoesSweep, IsCount, run_status}
 use Rattle.wl_sim.specs.Orders.{Asks, Ends, EndsPlainly, Performs, ReadsFrom, ReadsOrder}
 use Rattle.wl_files.specs.Files.{Standing}
 use Rattle.wl_formats.specs.declared.formats.Format.{Format}

@@ -1,27 +1,17 @@
 -- What is written in another format, by what was formatted and sent.
-use Rattle.std.proofs.Common.{◌≡◌, refl, inl, inr, ℕ, List, [], ◌∷◌, Some, None}
-use Rattle.std.specs.Prelude.{Result, Ok, Err}
+use Rattle.std.proofs.Common.{◌≡◌, inl, ℕ, List, Some}
+use Rattle.std.specs.Prelude.{Result}
 use Rattle.wl_device.specs.Devices.{Answer, Writes}
 use Rattle.wl_device.specs.declared.device.WriteFault.{WriteFault}
-use Rattle.wl_engines.specs.declared.fault.RunFault.TheVariants as run
 use Rattle.wl_formats.specs.Formats.{formatted}
 use Rattle.wl_formats.specs.declared.formats.Format.{Format}
 use Rattle.wl_formats.specs.declared.tables.Subject.{Subject}
 use Rattle.wl_sim.specs.Tasks.{WritesFormatted, after_sent}
 use Rattle.wl_sim.specs.declared.answer.Done.{Done}
 use Rattle.wl_sim.specs.declared.answer.Fault.{Fault}
-use Rattle.wl_sim.specs.declared.answer.Fault.TheVariants as fault
 
 module _ {T : Type 0} (takes : T → Answer → T → Type 0) (t t' : T) (format : Format) (what : Subject) (text : List ℕ) (answer : Result Done Fault) where
   -- the bytes were sent, or not
   pub sent_bytes : (bytes : List ℕ) (sent : Result (Unit {0}) WriteFault) (r : Result Done Fault) → formatted format what text ≡ Some bytes
       → Writes takes t bytes sent t' → r ≡ after_sent answer sent → WritesFormatted takes t t' format what text answer r
   sent_bytes bytes sent r made wrote is = inl (bytes, sent, made, wrote, is)
-
-  -- there were none
-  pub no_bytes : (r : Result Done Fault) → t' ≡ t → formatted format what text ≡ None → r ≡ Err fault.Format
-      → WritesFormatted takes t t' format what text answer r
-  no_bytes r same made is = inr (same, inl (made, is))
-
-  pub no_memory : (r : Result Done Fault) → t' ≡ t → r ≡ Err (fault.Run run.Memory) → WritesFormatted takes t t' format what text answer r
-  no_memory r same is = inr (same, inr is)

@@ -4,7 +4,6 @@ use Rattle.clap.specs.Words.{App, Text, fault_of, is_simple, is_simple_and_free,
 use Rattle.clap.proofs.TakesLemmas.{passed_up}
 use Rattle.wl_formats.specs.declared.formats.Format.{Format}
 use Rattle.wl_sim.specs.CommandLine.{Enters, FoundTask, file_in, format_in, has_flag, ranges_in}
-use Rattle.wl_sim.specs.declared.command.Task.{Task}
 use Rattle.wl_sim.proofs.Words.{memory_alone, program_is_free, program_is_simple}
 use Rattle.wl_sim.proofs.command.order_of.Goals as goal
 
