@@ -1,48 +1,93 @@
 #!/usr/bin/env python3
-"""Holds the table of faults in docs/use/commands.md against .ci/refused.txt: each fault of the table has a row there, and the row's change is the
-table's. It prints what differs.
+"""Holds the table of faults in docs/use/commands.md against the sources and against .ci/refused.txt. It prints what differs; status 1 if something does.
 
-usage: faults.py
+usage: faults.py          the last column of each row has the words of wl_explain or wl_hint, each fault of theirs has a row, and each row a refused input with its
+                          change
+       faults.py write    writes that column from the sources
 """
 import re
 import sys
 from pathlib import Path
 
 TOP = Path(__file__).resolve().parent.parent
+PAGE = TOP / "docs/use/commands.md"
 # Faults that no refused input has: .ci/program.sh makes them by devices and limits.
 MADE_ELSEWHERE = {"Read", "Write", "Memory", "Worker(n)"}
+# What a fault is called that has another one in it, by the function of remedies.rt with its words.
+WITHIN = {
+    "missing": "Missing(%s)", "kind": "Kind(%s)", "unknown": "Unknown(%s)", "clock": "NodeClock(i, %s)", "segments": "NodeSegments(i, %s)",
+    "frame": "NodeFrame(i, n, %s)", "topology": "Topology(%s)", "plan": "Plan(%s)", "": "%s",
+}
+VALUES = {"ZeroDelay": "ZeroDelay(i, j)", "TooLong": "TooLong(i, j)", "Quanta": "Quanta(i)", "Queue": "Queue(i)", "Disturbance": "Disturbance(n)"}
+# No text has it: its nodes are its places.
+IN_NO_TEXT = {"Plan(Nodes)"}
+TEXT = r'"((?:[^"\\]|\\.)*)"'
 
 
-def table():
-    """Returns the table's rows: the fault's pattern and what to change."""
-    text = (TOP / "docs/use/commands.md").read_text().split("\n## Faults\n")[1].split("\n## ")[0]
-    cells = [line.strip("| ").split(" | ") for line in text.splitlines() if line.startswith("| `")]
-    return [(cell[0].strip("`"), cell[3]) for cell in cells]
+def source(path):
+    return (TOP / "crates" / path).read_text(encoding="utf-8")
+
+
+def constants(text):
+    return {name: words.replace('\\"', '"') for name, words in re.findall(rf"const (\w+): &str =\s*{TEXT};", text)}
+
+
+def remedies():
+    """Returns what to change at each fault, as the sources have it."""
+    text, found = source("wl_explain/src/remedies.rt"), {}
+    named = constants(text)
+    for kind, body in re.findall(r"^(?:pub\(crate\) )?fn (?:(\w+)_)?remedy\(.*?^\{\n(.*?)^\}", text, re.M | re.S):
+        for key, variant, words, name in re.findall(rf'^ +(?:"(\w+)"|(?:\w+::)?(\w+)(?:\([^)]*\))?) =>\s*(?:{TEXT}|([A-Z_]+)),$', body, re.M):
+            fault = WITHIN[kind] % (key or ("key" if variant == "_" else VALUES.get(variant, variant)))
+            found[fault] = named[name] if name else words.replace('\\"', '"')
+    records = re.findall(rf'TextFault::(\w+)(\(\w+\))? =>.*?{TEXT}', source("wl_hint/src/records.rt"), re.S)
+    found |= {f"{name}(n)" if value else name: re.sub(r"^(\{place\}|line \{n\}\. )", "", words) for name, value, words in records}
+    named = constants(source("wl_hint/src/table.rt"))
+    found |= {fault: named[name] for fault, name in (("Read", "READ"), ("Write", "WRITE"), ("Worker(n)", "THREADS"), ("Memory", "FREE_MEMORY"))}
+    return {fault: words for fault, words in found.items() if fault not in IN_NO_TEXT}
+
+
+def table(text):
+    """Returns the table's rows: the line, the fault's pattern and what to change."""
+    text = text.split("\n## Faults\n")[1].split("\n## ")[0]
+    cells = [(line, line.strip("| ").split(" | ")) for line in text.splitlines() if line.startswith("| `")]
+    return [(line, cell[0].strip("`"), cell[3]) for line, cell in cells]
 
 
 def matched(fault, rows):
     """Returns the first row whose pattern is this fault."""
-    for pattern, remedy in rows:
+    for _, pattern, remedy in rows:
         form = re.sub(r"\b(?:n|i|j)\b(?=,|\\\))", r"\\d+", re.escape(pattern))
         if re.fullmatch(re.sub(r"\bkey\b", ".*", form), fault):
             return pattern, remedy
     return None
 
 
-def main():
-    rows, seen, fault = table(), set(), ""
-    for line in (TOP / ".ci/refused.txt").read_text().splitlines():
+def differences(rows, words):
+    for _, pattern, remedy in rows:
+        if pattern not in words: yield f"{pattern}: the sources have no such fault"
+        elif words[pattern] != remedy: yield f"{pattern}: the page has '{remedy}', the sources '{words[pattern]}'"
+    for pattern in words.keys() - {row[1] for row in rows}: yield f"{pattern}: the page has no row of it"
+    seen, fault = set(), ""
+    for line in (TOP / ".ci/refused.txt").read_text(encoding="utf-8").splitlines():
         if line.startswith("change: "):
             found = matched(fault, rows)
-            if found is None or found[1] != line.removeprefix("change: "):
-                print(f"{fault}: the change is not the table's")
-            elif found:
-                seen.add(found[0])
+            if found is None or found[1] != line.removeprefix("change: "): yield f"{fault}: the change is not the table's"
+            else: seen.add(found[0])
         elif re.match(r"\w+\|", line):
             fault = line.split("|", 4)[3].removeprefix("fault: ")
-    for pattern, _ in rows:
-        if pattern not in seen | MADE_ELSEWHERE:
-            print(f"{pattern}: no row of .ci/refused.txt has it with its change")
+    for _, pattern, _ in rows:
+        if pattern not in seen | MADE_ELSEWHERE: yield f"{pattern}: no row of .ci/refused.txt has it with its change"
+
+
+def main():
+    text, words = PAGE.read_text(encoding="utf-8"), remedies()
+    if sys.argv[1:] == ["write"]:
+        for line, pattern, remedy in table(text): text = text.replace(line, line.replace(f" | {remedy} |", f" | {words.get(pattern, remedy)} |"))
+        PAGE.write_text(text, encoding="utf-8")
+    found = list(differences(table(text), words))
+    print("\n".join(found), end="\n" if found else "")
+    return 1 if found else 0
 
 
 if __name__ == "__main__":

@@ -41,7 +41,6 @@ MUTANTS = {
         (SCHEDULES, "len(node.changes), node.setup", "changed, node.setup"),
         (SCHEDULES, "or world.line.is_disturbed(i, tick)", ""),
         (SCHEDULES, "tick - delay) for j", "tick - delay + 1) for j"),
-        (SCHEDULES, "return 7 - count", "return 8 - count"),
         (SCHEDULES, "return 0 if has_head else 5", "return 5"),
         (SCHEDULES, "min(5, 7 - count) if has_head else 5", "5"),
         (SCHEDULES, "min(5 - machine.equal, least - len(machine.bits))", "5 - machine.equal"),
