@@ -1,5 +1,6 @@
 mod Measures
 mod Nearing
+mod Passing
 mod Rows
 mod Sampled
 mod Starting

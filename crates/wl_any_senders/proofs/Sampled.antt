@@ -7,7 +7,7 @@ use Rattle.wl_topology.specs.Driven.{DrivenLaws, driven, any_below}
 use Rattle.wl_topology.proofs.Callers.{any_from, any_one}
 use Rattle.wl_phase.specs.Clocks.{steady_tick, instant}
 use Rattle.wl_phase.proofs.Callers.{floor_low, floor_high}
-use Rattle.wl_any_senders.specs.Stations.{Stations, AreStations, HaveRoom, shared_tick, shared_quantum, shared_instant, bit_drift}
+use Rattle.wl_any_senders.specs.Stations.{Stations, AreStations, AreClose, HaveRoom, shared_tick, shared_quantum, shared_instant, bit_drift}
 use Rattle.wl_any_senders.specs.Starts.{Start, reaches_at}
 use Rattle.wl_any_senders.specs.OneBit.{OneBit, AreRight, IsRight, sampled_at}
 use Rattle.wl_any_senders.proofs.Measures.{same_tick, instant_more, reaches_by, ticks_before, tick_next}
@@ -16,16 +16,13 @@ use Rattle.wl_any_senders.proofs.Measures.{same_tick, instant_more, reaches_by, 
 none_below : (n : ℕ) (test : ℕ → Bool) → any_below n test ≡ false → (k : ℕ) → k < n → test k ≡ false
 none_below n test e k less = false_from_ne_true (test k) (λ passes. (let some = any_from n k test less passes in cc))
 
-module _ (s : Stations) (are : AreStations s) (room : HaveRoom s) (sends : ℕ → Bool) (since : ℕ) (b c : Start) (drove : ℕ → ℕ → Bool) (one : OneBit s sends since b c drove) where
-  place : ℕ → ℕ
-  place i = b.place i + sample_at (s.lengths i)
-
+module _ (s : Stations) (are : AreStations s) (room : HaveRoom s) (sends : ℕ → Bool) (since : ℕ) (few : since ≤ 9) (b : Start) (close : AreClose s sends since b.place) where
   -- a bit that a sender begins with its place 0 is there at the sample of each other station, and at its own
   there_other : (i k : ℕ) → i < s.count → k < s.count → i ≢ k → sends k ≡ true → b.from k ≡ b.place k → reaches_at s b k i ≤ sampled_at s b i
   there_other i k inside there other sender from =
-      let near = one.close k i there inside (λ e. other (sym e)) (inl sender) in
+      let near = close k i there inside (λ e. other (sym e)) (inl sender) in
       let fits = room.is_there i k inside there other in
-      let drift : since * bit_drift s k i ≤ 10 * bit_drift s k i = mul-le-mul_right (bit_drift s k i) (let f = one.few in omega arith) in
+      let drift : since * bit_drift s k i ≤ 10 * bit_drift s k i = mul-le-mul_right (bit_drift s k i) (let f : since ≤ 10 = omega arith in f) in
       let same = same_tick s are i k inside there in
       let all = instant_more s are i k inside there (b.place i) (sample_at (s.lengths i)) in
       let e : s.delay i k * shared_tick s k i ≡ s.delay i k * shared_tick s i k = ap (λ t. s.delay i k * t) same in
@@ -44,12 +41,13 @@ module _ (s : Stations) (are : AreStations s) (room : HaveRoom s) (sends : ℕ �
       let e : steady_tick (s.clocks i) (b.from i) ≡ steady_tick (s.clocks i) (b.place i) = ap (steady_tick (s.clocks i)) from in
       omega arith
 
-  is_there : (i k : ℕ) → i < s.count → k < s.count → sends k ≡ true → b.from k ≡ b.place k → reaches_at s b k i ≤ sampled_at s b i
+  pub is_there : (i k : ℕ) → i < s.count → k < s.count → sends k ≡ true → b.from k ≡ b.place k → reaches_at s b k i ≤ sampled_at s b i
   is_there i k inside there sender from = elim (cases_eq k i) [
     | inl own ↦ subst (λ n. reaches_at s b n i ≤ sampled_at s b i) (sym own) (there_own i inside (subst (λ n. b.from n ≡ b.place n) own from))
     | inr other ↦ there_other i k inside there (λ e. other (sym e)) sender from
   ]
 
+module _ (s : Stations) (are : AreStations s) (room : HaveRoom s) (sends : ℕ → Bool) (since : ℕ) (b c : Start) (drove : ℕ → ℕ → Bool) (one : OneBit s sends since b c drove) where
   -- a dominant bit has one that began by itself
   origin : (n k : ℕ) → k < s.count → b.drives k ≡ true → steady_tick (s.clocks k) (b.from k) < n → (w : ℕ) × (w < s.count) × (b.drives w ≡ true) × (b.from w ≡ b.place w)
   origin zero k there dominant less = absurd (omega arith)
@@ -116,7 +114,7 @@ module _ (s : Stations) (are : AreStations s) (room : HaveRoom s) (sends : ℕ �
   -- what a sender drives in the bit is what is found at the sample, a delay later
   driven_then : (i k : ℕ) → i < s.count → k < s.count → RightBefore i → sends k ≡ true → b.from k ≡ b.place k → (s.delay k i ≤ sampled_at s b i) × (drove k (sampled_at s b i - s.delay k i) ≡ b.drives k)
   driven_then i k inside there right sender from =
-      let here = is_there i k inside there sender from in
+      let here = is_there s are room sends since one.few b one.close i k inside there sender from in
       let later = next_later (suc (steady_tick (s.clocks k) (c.from k))) i k inside there right sender (omega arith) in
       (omega arith, one.drives k (sampled_at s b i - s.delay k i) there sender (omega arith) (omega arith))
 
@@ -133,7 +131,7 @@ module _ (s : Stations) (are : AreStations s) (room : HaveRoom s) (sends : ℕ �
       | inl from ↦ (driven_then i k inside there right sender from).1 ∙ none k there
       | inr moved ↦ (let d = moved.1.dominant in let e = none moved.0 moved.1.inside in cc)
     ]
-    | inr quiet ↦ one.quiet i k inside there quiet later
+    | inr quiet ↦ one.quiet i k inside there quiet (right k there) later
   ]
 
   is_right : DrivenLaws → (i : ℕ) → i < s.count → RightBefore i → IsRight s b drove i

@@ -1,3 +1,4 @@
 pub mod Stations
 pub mod Starts
 pub mod OneBit
+pub mod Course

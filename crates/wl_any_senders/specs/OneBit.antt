@@ -32,7 +32,8 @@ pub record OneBit (s : Stations) (sends : ℕ → Bool) (since : ℕ) (b c : Sta
   pub next : (k : ℕ) → k < s.count → sends k ≡ true → IsRight s b drove k → (c.from k ≡ b.place k + bit_quanta (s.lengths k)) ⊎ FollowsOne s c k
   -- a sender drives the bit from its begin to that of the next one, and what a station drives that sends no more is found recessive
   pub drives : (k t : ℕ) → k < s.count → sends k ≡ true → steady_tick (s.clocks k) (b.from k) ≤ t → t < steady_tick (s.clocks k) (c.from k) → drove k t ≡ b.drives k
-  pub quiet : (i k : ℕ) → i < s.count → k < s.count → sends k ≡ false → s.delay k i ≤ sampled_at s b i → drove k (sampled_at s b i - s.delay k i) ≡ false
+  pub quiet : (i k : ℕ) → i < s.count → k < s.count → sends k ≡ false
+      → (sampled_at s b k < sampled_at s b i → IsRight s b drove k) → s.delay k i ≤ sampled_at s b i → drove k (sampled_at s b i - s.delay k i) ≡ false
 
 -- all samples are right
 abbrev pub AreRight : Stations → Start → (drove : ℕ → ℕ → Bool) → Type 0

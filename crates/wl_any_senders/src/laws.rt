@@ -1,10 +1,11 @@
 //! Laws of several senders, each proved as the contract of a function that does nothing.
 
-ghost use Rattle.std.specs.Prelude.{◌+◌, ◌≤◌, ℕ, suc, true, Bool};
+ghost use Rattle.std.specs.Prelude.{◌+◌, ◌<◌, ◌≤◌, ℕ, suc, true, Bool};
 ghost use Rattle.wl_segments.specs.Lengths.{bit_quanta};
 ghost use Rattle.wl_any_senders.specs.Stations.{AreClose, AreStations, HaveRoom, Stations};
 ghost use Rattle.wl_any_senders.specs.Starts.{AreSenders, BeginBit, BeginFrame, Start};
 ghost use Rattle.wl_any_senders.specs.OneBit.{AreRight, OneBit};
+ghost use Rattle.wl_any_senders.specs.Course.{IsCourse, IsSampled};
 
 /// Law: stations that begin a frame begin it close together. A station begins by itself if no edge has reached it. Each other one
 /// follows the first edge that it finds. Then the bit of each reaches each other before that one's own is more than the way there
@@ -31,6 +32,15 @@ pub fn an_edge_brings_them_close_again()
 pub fn all_sample_what_is_driven()
     ensures { (s : Stations) (sends : ℕ → Bool) (since : ℕ) (b c : Start) (drove : ℕ → ℕ → Bool) → AreStations s → HaveRoom s
         → OneBit s sends since b c drove → AreRight s b drove }
+{
+    wl_topology::driven_laws();
+}
+
+/// Law: so all stations sample the bits of a frame as they are on the bus, one after another, whoever sends them, from the start of frame on. Whoever has sent each as it
+/// is on the bus still sends; each other one has lost, and all go on close to those that still send.
+pub fn all_sample_the_same_bits()
+    ensures { (s : Stations) (bits : ℕ → Start) (drove : ℕ → ℕ → Bool) (length : ℕ) (until : ℕ → ℕ) → AreStations s → HaveRoom s
+        → IsCourse s bits drove length until → (n : ℕ) → n < length → IsSampled s bits drove n }
 {
     wl_topology::driven_laws();
 }
