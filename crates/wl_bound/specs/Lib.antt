@@ -7,3 +7,4 @@ pub mod Helps
 pub mod SearchLaws
 pub mod Searches
 pub mod Verdicts
+pub mod Senders

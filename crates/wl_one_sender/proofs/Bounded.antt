@@ -2,7 +2,7 @@
 use Rattle.std.proofs.Common.{◌≡◌, ◌≢◌, ◌∙◌, inl, inr, refl, sym, ap, ℕ, zero, suc, ◌+◌, ◌-◌, ◌*◌, ◌<◌, ◌≤◌, min, Bool, true, false, cond, not, ◌&&◌, ◌||◌, arith}
 use Rattle.std.specs.Prelude.{◌==◌, nat_lt}
 use Rattle.std.proofs.lemmas.Bool.{cases_eq, and_from, and_left, eq-eqb, ne_eqb}
-use Rattle.std.proofs.Math.Nat.{mul-le-mul_left}
+use Rattle.std.proofs.Math.Nat.{mul-le-mul_left, mul-le-mul_right}
 use Rattle.wl_segments.specs.Lengths.{sample_at, bit_quanta}
 use Rattle.wl_bound.specs.Families.{Bus}
 use Rattle.wl_bound.specs.Terms.{greatest, sends_but}
@@ -72,6 +72,33 @@ module _ (bus : Bus) (t : Tolerance) (b : SenderBus) (is : IsBus b) (of : IsBoun
       let e = of.tick in
       omega arith
 
+  look_is : (i : ℕ) → i < b.line.nodes → t.longest i + t.units ≤ look bus i + b.line.delay i i * t.units
+  unfolding look
+  look_is i ni =
+      let d = of.delays i i ni ni in
+      let h = of.longest i in
+      let e = of.tick in
+      omega arith
+
+  early_look : (i j : ℕ) → i < b.line.nodes → j < b.line.nodes → i ≢ j
+      → t.longest j + 2 * t.units + 10 * longer_bit t b i j ≤ (lengths_of b i).ps2 * t.shortest i + b.line.delay j j * t.units
+  unfolding left_of right_of
+  early_look i j ni nj apart =
+      let h = sound.no_bit_too_early i j (inside i ni) (inside j nj) (and_from (not (i == j)) (not (bus.listens j)) (ap not (ne_eqb i j apart)) (ap not (of.answers j nj))) in
+      let d = drift_is i j in
+      let x = ps2_is i in
+      let e = of.tick in
+      let l = look_is j nj in
+      omega arith
+
+  -- in units
+  loops_less : (i j k : ℕ) → i < b.line.nodes → j < b.line.nodes → k < b.line.nodes
+      → b.line.delay i k * t.units + b.line.delay j j * t.units ≤ (b.line.delay i j + b.line.delay j k) * t.units
+  loops_less i j k ni nj nk =
+      let h : (b.line.delay i k + b.line.delay j j) * t.units ≤ (b.line.delay i j + b.line.delay j k) * t.units = mul-le-mul_right t.units (of.loops i j k ni nj nk) in
+      let e : (b.line.delay i k + b.line.delay j j) * t.units ≡ b.line.delay i k * t.units + b.line.delay j j * t.units = omega arith in
+      omega arith
+
   loop : (i : ℕ) → i < b.line.nodes → b.line.delay i i * t.units ≤ sample_at (lengths_of b i) * t.shortest i
   unfolding left_of right_of
   loop i ni =
@@ -94,6 +121,53 @@ module _ (bus : Bus) (t : Tolerance) (b : SenderBus) (is : IsBus b) (of : IsBoun
   way_there j p =
       let sends : sends_but bus j a ≡ true = and_from (bus.sends a) (not (a == j)) (of.alone a ∙ eq-eqb a a refl) (ap not (ne_eqb a j (λ e. p.1 (sym e)))) in
       let h = greatest_each bus.nodes (sends_but bus j) (trip bus a j) a (inside a is.sender) sends in
+      omega arith
+
+  -- a bit of j at another node w, by the edges of the sender that both follow
+  way_others : (w j : ℕ) → j < b.line.nodes → j ≢ a → trip bus w j a ≤ late bus w j
+  unfolding late way
+  way_others w j nj apart =
+      let sends : sends_but bus j a ≡ true = and_from (bus.sends a) (not (a == j)) (of.alone a ∙ eq-eqb a a refl) (ap not (ne_eqb a j (λ e. apart (sym e)))) in
+      let h = greatest_each bus.nodes (sends_but bus j) (trip bus w j) a (inside a is.sender) sends in
+      omega arith
+
+  trip_over : (w j : ℕ) → w ≢ a → bus.delay a j + bus.delay j w + bus.longest w + bus.tick ≤ trip bus w j a + bus.delay a w
+  unfolding trip
+  trip_over w j apart =
+      let e : trip bus w j a ≡ bus.delay a j + bus.delay j w + bus.longest w + bus.tick - bus.delay a w =
+      ap (λ c. cond c (bus.delay w j + bus.delay j w + cond (nat_lt 2 bus.nodes) (look bus w) 0) (bus.delay a j + bus.delay j w + bus.longest w + bus.tick - bus.delay a w)) (ne_eqb a w (λ e. apart (sym e))) in
+      omega arith
+
+  strays_by : (j w : ℕ) → w < b.line.nodes → w ≢ j → longer_bit t b j w ≤ strays bus j
+  unfolding strays
+  strays_by j w nw apart =
+      let h = greatest_each bus.nodes (λ w. not (w == j)) (λ w. drift bus j w) w (inside w nw) (ap not (ne_eqb w j apart)) in
+      let d = drift_is j w in
+      omega arith
+
+  in_time : (w j : ℕ) → w < b.line.nodes → j < b.line.nodes → w ≢ j → late bus w j + 11 * strays bus j ≤ sample_at (lengths_of b w) * t.shortest w
+  unfolding left_of right_of
+  in_time w j nw nj apart =
+      let h : cond (w == j) (bus.delay w w) (late bus w j + 11 * strays bus j) ≤ sample_at (bus.lengths w) * bus.shortest w =
+      sound.bit_is_there_at_sample w j (inside w nw) (inside j nj) (or_not (w == j) (bus.listens j) (of.answers j nj)) in
+      let e = ap (λ c. cond c (bus.delay w w) (late bus w j + 11 * strays bus j)) (ne_eqb w j apart) in
+      let z = sample_is w in
+      omega arith
+
+  -- the acknowledgement of i is over at j
+  over : (i j : ℕ) → (p : IsListener b i) → (q : IsListener b j) → i ≢ j
+      → t.longest j + t.units + 11 * longer_bit t b i j + (b.line.delay a i + b.line.delay i j) * t.units ≤ sample_at (lengths_of b j) * t.shortest j + b.line.delay a j * t.units
+  over i j p q apart =
+      let h = in_time j i q.0 p.0 (λ e. apart (sym e)) in
+      let x = trip_over j i q.1 in
+      let w = way_others j i p.0 p.1 in
+      let s = strays_by i j q.0 (λ e. apart (sym e)) in
+      let d = of.delays a i is.sender p.0 in
+      let g = of.delays i j p.0 q.0 in
+      let k = of.delays a j is.sender q.0 in
+      let l = of.longest j in
+      let e = of.tick in
+      let sum : (b.line.delay a i + b.line.delay i j) * t.units ≡ b.line.delay a i * t.units + b.line.delay i j * t.units = omega arith in
       omega arith
 
   strays_there : (j : ℕ) → IsListener b j → longer_bit t b j a ≤ strays bus j
@@ -136,5 +210,14 @@ module _ (bus : Bus) (t : Tolerance) (b : SenderBus) (is : IsBus b) (of : IsBoun
         let more : (lengths_of b a).sjw * t.shortest a ≤ (lengths_of b a).sjw * t.longest a = mul-le-mul_left (lengths_of b a).sjw (of.order a is.sender) in
         omega arith);
     loops = λ j p. loop j p.0;
+    after_sample = λ j p.
+        (let x = early_look a j is.sender p.0 (λ e. p.1 (sym e)) in
+        let w = loops_less a j a is.sender p.0 is.sender in
+        omega arith);
+    apart = λ i j p q apart.
+        (let x = early_look j i q.0 p.0 (λ e. apart (sym e)) in
+        let w = loops_less a i j is.sender p.0 q.0 in
+        omega arith);
     ends_there = there;
+    ends = over;
   }

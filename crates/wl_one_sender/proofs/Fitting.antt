@@ -1,9 +1,9 @@
 -- From the inequalities over tolerances to those of the clocks.
-use Rattle.std.proofs.Common.{◌≡◌, inl, inr, ap, ℕ, ◌+◌, ◌-◌, ◌*◌, ◌<◌, ◌≤◌, arith}
+use Rattle.std.proofs.Common.{◌≡◌, ◌≢◌, ◌∙◌, inl, inr, ap, ℕ, ◌+◌, ◌-◌, ◌*◌, ◌<◌, ◌≤◌, arith}
 use Rattle.std.proofs.lemmas.Bool.{cases_lt}
 use Rattle.std.proofs.Math.Nat.{mul-le-mul_left, mul-le-mul_right, le_of_mul-le-mul_left}
 use Rattle.wl_segments.specs.Lengths.{sample_at, bit_quanta}
-use Rattle.wl_phase.specs.Answer.{ComesAfterBegin, ComesAfterSample}
+use Rattle.wl_phase.specs.Answer.{ComesAfterBegin, ComesAfterSample, EndsBeforeSample, longer_parts}
 use Rattle.wl_one_sender.specs.OneSender.{SenderBus, IsBus, IsListener, IsInStepWithAll, lengths_of, listener_of, sender_of}
 use Rattle.wl_one_sender.specs.Through.{StaysInSlots}
 use Rattle.wl_one_sender.specs.Tolerances.{Tolerance, IsWithinTolerance, FitAll}
@@ -90,6 +90,17 @@ module _ (u ad an jd jn la ha lj hj : ℕ) (some : 0 < u) (a_low : la * ad ≤ u
       let all : u * (d * (ad * jd) + n * (B * (ad * jn) - jd * (A * an))) ≤ u * (S * (jd * an)) = omega arith in
       le_of_mul-le-mul_left all some
 
+  -- not before a sample
+  pub early_fits : (A B P d : ℕ) → hj + 2 * u + 10 * (A * ha - B * lj) ≤ P * la + d * u
+      → ad * jn + 2 * (ad * jd) + 10 * (jd * (A * an) - B * (ad * jn)) ≤ P * (jd * an) + d * (ad * jd)
+  early_fits A B P d h =
+      let x = slower_fits A B in
+      let y = quanta_high 1 in
+      let z = bit_low P in
+      let g : ad * jd * (hj + 2 * u + 10 * (A * ha - B * lj)) ≤ ad * jd * (P * la + d * u) = mul-le-mul_left (ad * jd) h in
+      let all : u * (ad * jn + 2 * (ad * jd) + 10 * (jd * (A * an) - B * (ad * jn))) ≤ u * (P * (jd * an) + d * (ad * jd)) = omega arith in
+      le_of_mul-le-mul_left all some
+
   pub begins_fits : (A B d : ℕ) → hj + 2 * u + 10 * (A * ha - B * lj) ≤ d * u → ad * jn + 2 * (ad * jd) + 10 * (jd * (A * an) - B * (ad * jn)) ≤ d * (ad * jd)
   begins_fits A B d h =
       let x = slower_fits A B in
@@ -98,51 +109,46 @@ module _ (u ad an jd jn la ha lj hj : ℕ) (some : 0 < u) (a_low : la * ad ≤ u
       let all : u * (ad * jn + 2 * (ad * jd) + 10 * (jd * (A * an) - B * (ad * jn))) ≤ u * (d * (ad * jd)) = omega arith in
       le_of_mul-le-mul_left all some
 
--- and those of two listeners
-module _ (u ad an id in_ jd jn la ha li hi lj hj : ℕ) (some : 0 < u) (a_low : la * ad ≤ u * an) (a_high : u * an ≤ ha * ad)
-    (i_low : li * id ≤ u * in_) (i_high : u * in_ ≤ hi * id) (j_low : lj * jd ≤ u * jn) (j_high : u * jn ≤ hj * jd) where
-  pub others_begin : (A Bi Bj e f g : ℕ) → 1 ≤ Bi → li + 2 * u + 9 * (A * ha - Bi * li) + Bj * hj + 9 * (Bj * hj - A * la) + f * u ≤ Bi * li + (e + g) * u
-      → jd * (ad * in_ + 2 * (ad * id) + 9 * (id * (A * an) - Bi * (ad * in_))) + id * (Bj * (ad * jn) + 9 * (Bj * (ad * jn) - jd * (A * an)) + f * (ad * jd))
-      ≤ jd * (Bi * (ad * in_) + (e + g) * (ad * id))
-  others_begin A Bi Bj e f g few h =
-      let one : Bi - 1 + 1 ≡ Bi = omega arith in
-      let x : jd * (u * (id * (A * an) - Bi * (ad * in_))) ≤ jd * (ad * id * (A * ha - Bi * li)) =
-      mul-le-mul_left jd (slower_fits u ad an id in_ la ha li hi some a_low a_high i_low i_high A Bi) in
-      let y : id * (u * (Bj * (ad * jn) - jd * (A * an))) ≤ id * (ad * jd * (Bj * hj - A * la)) =
-      mul-le-mul_left id (faster_fits u ad an jd jn la ha lj hj some a_low a_high j_low j_high A Bj) in
-      let z : id * (u * (Bj * (ad * jn))) ≤ id * (ad * jd * (Bj * hj)) = mul-le-mul_left id (quanta_high u ad an jd jn la ha lj hj some a_low a_high j_low j_high Bj) in
-      let w : jd * (ad * id * ((Bi - 1) * li)) ≤ jd * (u * ((Bi - 1) * (ad * in_))) = mul-le-mul_left jd (quanta_low u ad an id in_ la ha li hi some a_low a_high i_low i_high (Bi - 1)) in
-      let all_short : (Bi - 1 + 1) * li ≡ Bi * li = ap (λ n. n * li) one in
-      let all_quanta : (Bi - 1 + 1) * (ad * in_) ≡ Bi * (ad * in_) = ap (λ n. n * (ad * in_)) one in
-      let less : 2 * u + 9 * (A * ha - Bi * li) + Bj * hj + 9 * (Bj * hj - A * la) + f * u ≤ (Bi - 1) * li + (e + g) * u = omega arith in
-      let k : ad * id * jd * (2 * u + 9 * (A * ha - Bi * li) + Bj * hj + 9 * (Bj * hj - A * la) + f * u) ≤ ad * id * jd * ((Bi - 1) * li + (e + g) * u) = mul-le-mul_left (ad * id * jd) less in
-      let all : u * (jd * (2 * (ad * id) + 9 * (id * (A * an) - Bi * (ad * in_))) + id * (Bj * (ad * jn) + 9 * (Bj * (ad * jn) - jd * (A * an)) + f * (ad * jd)))
-      ≤ u * (jd * ((Bi - 1) * (ad * in_) + (e + g) * (ad * id))) = omega arith in
-      let done = le_of_mul-le-mul_left all some in
-      let more : jd * ((Bi - 1 + 1) * (ad * in_)) ≡ jd * (Bi * (ad * in_)) = ap (λ n. jd * n) all_quanta in
-      omega arith
+-- and those of two listeners: a tick takes M parts and u units, and a quantum of either p or q parts
+module _ (u M p q li hi lj hj : ℕ) (some : 0 < u) (i_low : M * li ≤ u * p) (i_high : u * p ≤ M * hi) (j_low : M * lj ≤ u * q) (j_high : u * q ≤ M * hj) where
+  i_most : (n : ℕ) → u * (n * p) ≤ M * (n * hi)
+  i_most n = let h : n * (u * p) ≤ n * (M * hi) = mul-le-mul_left n i_high in omega arith
 
-  pub others_end : (A Bi Bj S e f g : ℕ) → 1 ≤ S → 2 * (Bi * hi) + 9 * (Bi * hi - A * la) + (e + g) * u + lj + u + 9 * (A * ha - Bj * lj) ≤ (S + 2 * Bj) * lj + f * u
-      → jd * (2 * Bi * (ad * in_) + 9 * (Bi * (ad * in_) - id * (A * an)) + (e + g) * (ad * id)) + id * (ad * jn + ad * jd + 9 * (jd * (A * an) - Bj * (ad * jn)))
-      ≤ id * ((S + 2 * Bj) * (ad * jn) + f * (ad * jd))
-  others_end A Bi Bj S e f g few h =
-      let one : S + 2 * Bj - 1 + 1 ≡ S + 2 * Bj = omega arith in
-      let x : jd * (u * (Bi * (ad * in_) - id * (A * an))) ≤ jd * (ad * id * (Bi * hi - A * la)) =
-      mul-le-mul_left jd (faster_fits u ad an id in_ la ha li hi some a_low a_high i_low i_high A Bi) in
-      let y : id * (u * (jd * (A * an) - Bj * (ad * jn))) ≤ id * (ad * jd * (A * ha - Bj * lj)) =
-      mul-le-mul_left id (slower_fits u ad an jd jn la ha lj hj some a_low a_high j_low j_high A Bj) in
-      let z : jd * (u * (Bi * (ad * in_))) ≤ jd * (ad * id * (Bi * hi)) = mul-le-mul_left jd (quanta_high u ad an id in_ la ha li hi some a_low a_high i_low i_high Bi) in
-      let w : id * (ad * jd * ((S + 2 * Bj - 1) * lj)) ≤ id * (u * ((S + 2 * Bj - 1) * (ad * jn))) =
-      mul-le-mul_left id (quanta_low u ad an jd jn la ha lj hj some a_low a_high j_low j_high (S + 2 * Bj - 1)) in
-      let all_short : (S + 2 * Bj - 1 + 1) * lj ≡ (S + 2 * Bj) * lj = ap (λ n. n * lj) one in
-      let all_quanta : (S + 2 * Bj - 1 + 1) * (ad * jn) ≡ (S + 2 * Bj) * (ad * jn) = ap (λ n. n * (ad * jn)) one in
-      let less : 2 * (Bi * hi) + 9 * (Bi * hi - A * la) + (e + g) * u + u + 9 * (A * ha - Bj * lj) ≤ (S + 2 * Bj - 1) * lj + f * u = omega arith in
-      let k : ad * id * jd * (2 * (Bi * hi) + 9 * (Bi * hi - A * la) + (e + g) * u + u + 9 * (A * ha - Bj * lj)) ≤ ad * id * jd * ((S + 2 * Bj - 1) * lj + f * u) = mul-le-mul_left (ad * id * jd) less in
-      let all : u * (jd * (2 * Bi * (ad * in_) + 9 * (Bi * (ad * in_) - id * (A * an)) + (e + g) * (ad * id)) + id * (ad * jd + 9 * (jd * (A * an) - Bj * (ad * jn))))
-      ≤ u * (id * ((S + 2 * Bj - 1) * (ad * jn) + f * (ad * jd))) = omega arith in
-      let done = le_of_mul-le-mul_left all some in
-      let more : id * ((S + 2 * Bj - 1 + 1) * (ad * jn)) ≡ id * ((S + 2 * Bj) * (ad * jn)) = ap (λ n. id * n) all_quanta in
-      omega arith
+  i_least : (n : ℕ) → M * (n * li) ≤ u * (n * p)
+  i_least n = let h : n * (M * li) ≤ n * (u * p) = mul-le-mul_left n i_low in omega arith
+
+  j_most : (n : ℕ) → u * (n * q) ≤ M * (n * hj)
+  j_most n = let h : n * (u * q) ≤ n * (M * hj) = mul-le-mul_left n j_high in omega arith
+
+  j_least : (n : ℕ) → M * (n * lj) ≤ u * (n * q)
+  j_least n = let h : n * (M * lj) ≤ n * (u * q) = mul-le-mul_left n j_low in omega arith
+
+  -- by how much a bit of i is longer, and one of j
+  i_longer : (A B : ℕ) → u * (A * p - B * q) ≤ M * (A * hi - B * lj)
+  i_longer A B = minus_fits u M (A * p) (B * q) (A * hi) (B * lj) (i_most A) (j_least B)
+
+  j_longer : (A B : ℕ) → u * (B * q - A * p) ≤ M * (B * hj - A * li)
+  j_longer A B = minus_fits u M (B * q) (A * p) (B * hj) (A * li) (j_most B) (i_least A)
+
+  -- the acknowledgement of i isn't early at j, with n quanta of j to spare
+  pub apart_fits : (A B n f w : ℕ) → hi + 2 * u + 10 * (B * hj - A * li) + f * u ≤ n * lj + w * u → p + 2 * M + 10 * (B * q - A * p) + f * M ≤ n * q + w * M
+  apart_fits A B n f w h =
+      let x = i_most 1 in
+      let y = j_longer A B in
+      let z = j_least n in
+      let g : M * (hi + 2 * u + 10 * (B * hj - A * li) + f * u) ≤ M * (n * lj + w * u) = mul-le-mul_left M h in
+      let all : u * (p + 2 * M + 10 * (B * q - A * p) + f * M) ≤ u * (n * q + w * M) = omega arith in
+      le_of_mul-le-mul_left all some
+
+  -- and over by so many quanta of j
+  pub ends_by_fits : (A B n f w : ℕ) → hj + u + 11 * (A * hi - B * lj) + w * u ≤ n * lj + f * u → q + M + 11 * (A * p - B * q) + w * M ≤ n * q + f * M
+  ends_by_fits A B n f w h =
+      let x = j_most 1 in
+      let y = i_longer A B in
+      let z = j_least n in
+      let g : M * (hj + u + 11 * (A * hi - B * lj) + w * u) ≤ M * (n * lj + f * u) = mul-le-mul_left M h in
+      let all : u * (q + M + 11 * (A * p - B * q) + w * M) ≤ u * (n * q + f * M) = omega arith in
+      le_of_mul-le-mul_left all some
 
 module _ (t : Tolerance) (b : SenderBus) (is : IsBus b) (within : IsWithinTolerance t b) (fit : FitAll t b) where
   abbrev a : ℕ
@@ -193,21 +199,87 @@ module _ (t : Tolerance) (b : SenderBus) (is : IsBus b) (within : IsWithinTolera
         begins_fits t.units (den a) (num a) (den j) (num j) (t.shortest a) (t.longest a) (t.shortest j) (t.longest j) within.some
         (within.fastest a is.sender) (within.slowest a is.sender) (within.fastest j p.0) (within.slowest j p.0)
 
+  longer_is : (i j : ℕ) → longer_parts (sender_of b) (listener_of b j) (listener_of b i)
+      ≡ bit_quanta (lengths_of b j) * (den i * (den a * num j)) - bit_quanta (lengths_of b i) * (den j * (den a * num i))
+  longer_is i j =
+      let x : den i * (bit_quanta (lengths_of b j) * (den a * num j)) ≡ bit_quanta (lengths_of b j) * (den i * (den a * num j)) = omega arith in
+      let y : den j * (bit_quanta (lengths_of b i) * (den a * num i)) ≡ bit_quanta (lengths_of b i) * (den j * (den a * num i)) = omega arith in
+      ap (λ n. n - den j * (bit_quanta (lengths_of b i) * (den a * num i))) x ∙ ap (λ n. bit_quanta (lengths_of b j) * (den i * (den a * num j)) - n) y
+
+  longer_is_back : (i j : ℕ) → longer_parts (sender_of b) (listener_of b i) (listener_of b j)
+      ≡ bit_quanta (lengths_of b i) * (den j * (den a * num i)) - bit_quanta (lengths_of b j) * (den i * (den a * num j))
+  longer_is_back i j = longer_is j i
+
+  -- quanta of two listeners, in the parts of a tick that their clocks and the sender's have
+  module _ (i j : ℕ) (p : IsListener b i) (q : IsListener b j) where
+    abbrev M : ℕ
+    M = den a * den i * den j
+
+    abbrev first : ℕ
+    first = den j * (den a * num i)
+
+    abbrev second : ℕ
+    second = den i * (den a * num j)
+
+    first_low : M * t.shortest i ≤ t.units * first
+    first_low = let h : den a * den j * (t.shortest i * den i) ≤ den a * den j * (t.units * num i) = mul-le-mul_left (den a * den j) (within.fastest i p.0) in omega arith
+
+    first_high : t.units * first ≤ M * t.longest i
+    first_high = let h : den a * den j * (t.units * num i) ≤ den a * den j * (t.longest i * den i) = mul-le-mul_left (den a * den j) (within.slowest i p.0) in omega arith
+
+    second_low : M * t.shortest j ≤ t.units * second
+    second_low = let h : den a * den i * (t.shortest j * den j) ≤ den a * den i * (t.units * num j) = mul-le-mul_left (den a * den i) (within.fastest j q.0) in omega arith
+
+    second_high : t.units * second ≤ M * t.longest j
+    second_high = let h : den a * den i * (t.units * num j) ≤ den a * den i * (t.longest j * den j) = mul-le-mul_left (den a * den i) (within.slowest j q.0) in omega arith
+
+    pub apart_at : (A B n f w : ℕ) → t.longest i + 2 * t.units + 10 * (B * t.longest j - A * t.shortest i) + f * t.units ≤ n * t.shortest j + w * t.units
+        → first + 2 * M + 10 * (B * second - A * first) + f * M ≤ n * second + w * M
+    apart_at =
+        apart_fits t.units M first second (t.shortest i) (t.longest i) (t.shortest j) (t.longest j) within.some first_low first_high second_low second_high
+
+    pub ends_by_at : (A B n f w : ℕ) → t.longest j + t.units + 11 * (A * t.longest i - B * t.shortest j) + w * t.units ≤ n * t.shortest j + f * t.units
+        → second + M + 11 * (A * first - B * second) + w * M ≤ n * second + f * M
+    ends_by_at =
+        ends_by_fits t.units M first second (t.shortest i) (t.longest i) (t.shortest j) (t.longest j) within.some first_low first_high second_low second_high
+
+    abbrev Bi : ℕ
+    Bi = bit_quanta (lengths_of b i)
+
+    abbrev Bj : ℕ
+    Bj = bit_quanta (lengths_of b j)
+
+    pub apart_from : i ≢ j → ComesAfterSample (sender_of b) (listener_of b i) (listener_of b j) (b.line.delay i j)
+    apart_from apart =
+        let h = apart_at (bit_quanta (lengths_of b i)) (bit_quanta (lengths_of b j)) (lengths_of b j).ps2 (b.line.delay a j) (b.line.delay a i + b.line.delay i j) (fit.clocks.apart i j p q apart) in
+        let longer : longer_parts (sender_of b) (listener_of b j) (listener_of b i) ≡ Bj * second - Bi * first = longer_is i j in
+        let whole : Bj * second ≡ sample_at (lengths_of b j) * second + (lengths_of b j).ps2 * second = omega arith in
+        omega arith
+
+    pub ends_before : i ≢ j → EndsBeforeSample (sender_of b) (listener_of b i) (listener_of b j) (b.line.delay i j)
+    ends_before apart =
+        let h = ends_by_at (bit_quanta (lengths_of b i)) (bit_quanta (lengths_of b j)) (sample_at (lengths_of b j)) (b.line.delay a j) (b.line.delay a i + b.line.delay i j) (fit.clocks.ends i j p q apart) in
+        let longer : longer_parts (sender_of b) (listener_of b i) (listener_of b j) ≡ Bi * first - Bj * second = longer_is_back i j in
+        omega arith
+
+    pub begins_from : i ≢ j → ComesAfterBegin (sender_of b) (listener_of b i) (listener_of b j) (b.line.delay i j)
+    begins_from apart =
+        let h = apart_at (bit_quanta (lengths_of b i)) (bit_quanta (lengths_of b j)) 0 (b.line.delay a j) (b.line.delay a i + b.line.delay i j) (let s = fit.slots.begins i j p q apart in omega arith) in
+        let longer : longer_parts (sender_of b) (listener_of b j) (listener_of b i) ≡ Bj * second - Bi * first = longer_is i j in
+        omega arith
+
+  early_at : (A B P d j : ℕ) → IsListener b j → t.longest j + 2 * t.units + 10 * (A * t.longest a - B * t.shortest j) ≤ P * t.shortest a + d * t.units
+      → den a * num j + 2 * (den a * den j) + 10 * (den j * (A * num a) - B * (den a * num j)) ≤ P * (den j * num a) + d * (den a * den j)
+  early_at A B P d j p h =
+      early_fits t.units (den a) (num a) (den j) (num j) (t.shortest a) (t.longest a) (t.shortest j) (t.longest j) within.some
+      (within.fastest a is.sender) (within.slowest a is.sender) (within.fastest j p.0) (within.slowest j p.0) A B P d h
+
   pub stays : StaysInSlots b
   stays = record {
     begins_there = λ j p. begins_at j p (bit_quanta (lengths_of b b.sender)) (bit_quanta (lengths_of b j)) (b.line.delay b.sender j + b.line.delay j b.sender) (fit.slots.begins_there j p);
-    begins = λ i j p q apart.
-        (let low = (is.book i p.0).lengths.low in
-        others_begin t.units (den a) (num a) (den i) (num i) (den j) (num j) (t.shortest a) (t.longest a) (t.shortest i) (t.longest i) (t.shortest j) (t.longest j) within.some
-        (within.fastest a is.sender) (within.slowest a is.sender) (within.fastest i p.0) (within.slowest i p.0) (within.fastest j q.0) (within.slowest j q.0)
-        (bit_quanta (lengths_of b b.sender)) (bit_quanta (lengths_of b i)) (bit_quanta (lengths_of b j)) (b.line.delay b.sender i) (b.line.delay b.sender j) (b.line.delay i j) (omega arith)
-        (fit.slots.begins i j p q apart));
+    begins = λ i j p q apart. begins_from i j p q apart;
     ends_there = λ j p. ends_at j p (bit_quanta (lengths_of b b.sender)) (bit_quanta (lengths_of b j)) (sample_at (lengths_of b b.sender)) (b.line.delay b.sender j + b.line.delay j b.sender) 11 (fit.clocks.ends_there j p);
-    ends = λ i j p q apart.
-        (others_end t.units (den a) (num a) (den i) (num i) (den j) (num j) (t.shortest a) (t.longest a) (t.shortest i) (t.longest i) (t.shortest j) (t.longest j) within.some
-        (within.fastest a is.sender) (within.slowest a is.sender) (within.fastest i p.0) (within.slowest i p.0) (within.fastest j q.0) (within.slowest j q.0)
-        (bit_quanta (lengths_of b b.sender)) (bit_quanta (lengths_of b i)) (bit_quanta (lengths_of b j)) (sample_at (lengths_of b j)) (b.line.delay b.sender i) (b.line.delay b.sender j) (b.line.delay i j) (omega arith)
-        (fit.slots.ends i j p q apart));
+    ends = λ i j p q apart. ends_before i j p q apart;
   }
 
   pub in_step : IsInStepWithAll b
@@ -228,24 +300,17 @@ module _ (t : Tolerance) (b : SenderBus) (is : IsBus b) (within : IsWithinTolera
           omega arith);
     };
     answers = λ j p. record {
-      late = (let e = stays.ends_there j p in omega arith);
-      early = (let e = stays.begins_there j p in omega arith);
+      late = (let e = ends_at j p (bit_quanta (lengths_of b b.sender)) (bit_quanta (lengths_of b j)) (sample_at (lengths_of b b.sender)) (b.line.delay b.sender j + b.line.delay j b.sender) 11 (fit.clocks.ends_there j p) in omega arith);
+      early = early_at (bit_quanta (lengths_of b b.sender)) (bit_quanta (lengths_of b j)) (lengths_of b b.sender).ps2 (b.line.delay b.sender j + b.line.delay j b.sender) j p (fit.clocks.after_sample j p);
       jump =
           (let low = (is.book a is.sender).lengths.sjw_high in
           let many = (is.book a is.sender).lengths.low in
           jump_at j p (bit_quanta (lengths_of b b.sender)) (bit_quanta (lengths_of b j)) (lengths_of b b.sender).sjw (omega arith) (fit.clocks.jump j p));
     };
-    apart = λ i j p q apart. sooner i j (stays.begins i j p q apart);
+    apart = λ i j p q apart. apart_from i j p q apart;
     loops = λ j p. loops_at j p;
   }
     where
-      -- a sample comes before the next bit
-      sooner : (i j : ℕ) → ComesAfterBegin (sender_of b) (listener_of b i) (listener_of b j) (b.line.delay i j) → ComesAfterSample (sender_of b) (listener_of b i) (listener_of b j) (b.line.delay i j)
-      sooner i j h =
-          let less : den i * (sample_at (lengths_of b j) * (den a * num j)) ≤ den i * (bit_quanta (lengths_of b j) * (den a * num j)) =
-          mul-le-mul_left (den i) (mul-le-mul_right (den a * num j) (let e : sample_at (lengths_of b j) ≤ bit_quanta (lengths_of b j) = omega arith in e)) in
-          omega arith
-
       loops_at : (j : ℕ) → (p : IsListener b j) → den j * b.line.delay j j ≤ sample_at (lengths_of b j) * num j
       loops_at j p =
           let h : den j * (b.line.delay j j * t.units) ≤ den j * (sample_at (lengths_of b j) * t.shortest j) = mul-le-mul_left (den j) (fit.clocks.loops j p) in

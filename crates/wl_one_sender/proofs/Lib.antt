@@ -4,6 +4,7 @@ mod Answering
 mod Bits
 mod Bounded
 mod Calm
+mod Cleaning
 mod Expecting
 mod Fitting
 mod Frames

@@ -19,6 +19,9 @@ use Rattle.wl_plan.specs.PlanLine.{is_at, no_setup, setup_at}
 use Rattle.wl_one_sender.specs.OneSender.{IsBus, IsListener}
 use Rattle.wl_one_sender.specs.Plans.{IsSteadyPlan, sender_bus_of}
 
+same_place : (x per : ℕ) → abs_diff x x * per ≡ 0
+same_place x per = let e : abs_diff x x ≡ 0 = omega arith in let f : abs_diff x x * per ≡ 0 * per = ap (λ n. n * per) e in omega arith
+
 -- on a cable a way over a third node is longer
 way_over : (cable : Cable) → IsTopology cable → (i j k : ℕ) → j < length cable.places → propagation_of cable i k < propagation_of cable i j + propagation_of cable j k
 way_over cable is i j k inside =
@@ -32,9 +35,16 @@ way_over cable is i j k inside =
     let sum : (abs_diff (place_at cable i).x (place_at cable j).x + abs_diff (place_at cable j).x (place_at cable k).x) * cable.per
     ≡ abs_diff (place_at cable i).x (place_at cable j).x * cable.per + abs_diff (place_at cable j).x (place_at cable k).x * cable.per = omega arith in
     omega arith
-  where
-    same_place : (x per : ℕ) → abs_diff x x * per ≡ 0
-    same_place x per = let e : abs_diff x x ≡ 0 = omega arith in let f : abs_diff x x * per ≡ 0 * per = ap (λ n. n * per) e in omega arith
+
+-- by the loop of the third node
+pub loop_over : (cable : Cable) (i j k : ℕ) → propagation_of cable i k + propagation_of cable j j ≤ propagation_of cable i j + propagation_of cable j k
+loop_over cable i j k =
+    let none : abs_diff (place_at cable j).x (place_at cable j).x * cable.per ≡ 0 = same_place (place_at cable j).x cable.per in
+    let way : abs_diff (place_at cable i).x (place_at cable k).x * cable.per ≤ (abs_diff (place_at cable i).x (place_at cable j).x + abs_diff (place_at cable j).x (place_at cable k).x) * cable.per =
+    mul-le-mul_right cable.per (omega arith) in
+    let sum : (abs_diff (place_at cable i).x (place_at cable j).x + abs_diff (place_at cable j).x (place_at cable k).x) * cable.per
+    ≡ abs_diff (place_at cable i).x (place_at cable j).x * cable.per + abs_diff (place_at cable j).x (place_at cable k).x * cable.per = omega arith in
+    omega arith
 
 -- also if some nodes only listen: what they drive comes to no other node
 delay_own : (cable : Cable) (i j : ℕ) → ((place_at cable i).listens && not (i == j)) ≡ false → delay_of cable i j ≡ propagation_of cable i j

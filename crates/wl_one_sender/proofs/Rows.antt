@@ -102,7 +102,7 @@ cable_of way = record {
 abbrev crystals : Tolerance
 crystals = record { units = 10; shortest = λ i. 995; longest = λ i. 1005 }
 
--- 292 ticks from each node to each, and back to itself: 12865 units and the way are within a bit of 9950 and two ways; 5840 and 1100 within 7 quanta of 995
+-- 292 ticks from each node to each, and back to itself: a quantum of 1005 units, two ticks and 1000 units of drift are within 2920; 5840 and 1100 within 7 quanta of 995
 all_fit : FitAll crystals (cable_of 292)
 all_fit = record {
   clocks = record {
@@ -111,13 +111,16 @@ all_fit = record {
     sample = λ j p. omega arith;
     jump = λ j p. omega arith;
     loops = λ j p. omega arith;
+    after_sample = λ j p. omega arith;
+    apart = λ i j p q apart. omega arith;
     ends_there = λ j p. omega arith;
+    ends = λ i j p q apart. omega arith;
   };
-  slots = record { begins_there = λ j p. omega arith; begins = λ i j p q apart. omega arith; ends = λ i j p q apart. omega arith };
+  slots = record { begins_there = λ j p. omega arith; begins = λ i j p q apart. omega arith };
 }
 
--- with a tick less an acknowledgement may be early, and with two more one may end late
-one_early : FitAll crystals (cable_of 291) → ⊥
+-- with 202 ticks, 2020 units, an acknowledgement may be early, and with 294 one may end late
+one_early : FitAll crystals (cable_of 202) → ⊥
 one_early fit = let h = fit.slots.begins 1 2 (omega arith, λ e. omega (arith, e)) (omega arith, λ e. omega (arith, e)) (λ e. omega (arith, e)) in omega arith
 
 one_late : FitAll crystals (cable_of 294) → ⊥

@@ -1,5 +1,5 @@
 -- A bus with one sender as one of those of the condition for margins.
-use Rattle.std.specs.Prelude.{◌≡◌, ℕ, ◌*◌, ◌<◌, ◌≤◌, ◌==◌, false}
+use Rattle.std.specs.Prelude.{◌≡◌, ℕ, ◌+◌, ◌*◌, ◌<◌, ◌≤◌, ◌==◌, false}
 use Rattle.wl_bound.specs.Families.{Bus}
 use Rattle.wl_one_sender.specs.OneSender.{SenderBus, lengths_of}
 use Rattle.wl_one_sender.specs.Tolerances.{Tolerance}
@@ -15,3 +15,5 @@ pub record IsBoundOf (bus : Bus) (t : Tolerance) (b : SenderBus) : Type 0 where
   pub delays : (i j : ℕ) → i < b.line.nodes → j < b.line.nodes → bus.delay i j ≡ b.line.delay i j * t.units
   pub alone : (i : ℕ) → bus.sends i ≡ (i == b.sender)
   pub answers : (i : ℕ) → i < b.line.nodes → bus.listens i ≡ false
+  -- a way over a third node is longer by that one's own loop at least
+  pub loops : (i j k : ℕ) → i < b.line.nodes → j < b.line.nodes → k < b.line.nodes → b.line.delay i k + b.line.delay j j ≤ b.line.delay i j + b.line.delay j k

@@ -5,3 +5,4 @@ pub mod Plans
 pub mod Through
 pub mod Tolerances
 pub mod Bounds
+pub mod Clean

@@ -40,20 +40,24 @@ pub record FitClocks (t : Tolerance) (b : SenderBus) : Type 0 where
   pub jump : (j : ℕ) → IsListener b j → slowest_bit t b b.sender ≤ fastest_bit t b j + (lengths_of b b.sender).sjw * t.longest b.sender
   -- what a node drives comes back to it by its sample
   pub loops : (j : ℕ) → IsListener b j → b.line.delay j j * t.units ≤ sample_at (lengths_of b j) * t.shortest j
-  -- an acknowledgement is over by the sender's sample, there and back
+  -- an acknowledgement comes after the sender's sample of the CRC delimiter, and after that of each other listener
+  pub after_sample : (j : ℕ) → IsListener b j
+      → t.longest j + 2 * t.units + 10 * longer_bit t b b.sender j ≤ (lengths_of b b.sender).ps2 * t.shortest b.sender + way_over t b b.sender j b.sender
+  pub apart : (i j : ℕ) → IsListener b i → IsListener b j → i ≢ j
+      → t.longest i + 2 * t.units + 10 * longer_bit t b j i + b.line.delay b.sender j * t.units ≤ (lengths_of b j).ps2 * t.shortest j + way_over t b b.sender i j
+  -- it is over by the sender's sample of the ACK delimiter, there and back, and by that of each other listener
   pub ends_there : (j : ℕ) → IsListener b j
       → way_over t b b.sender j b.sender + 11 * longer_bit t b j b.sender ≤ sample_at (lengths_of b b.sender) * t.shortest b.sender
+  pub ends : (i j : ℕ) → IsListener b i → IsListener b j → i ≢ j
+      → t.longest j + t.units + 11 * longer_bit t b i j + way_over t b b.sender i j
+      ≤ sample_at (lengths_of b j) * t.shortest j + b.line.delay b.sender j * t.units
 
--- and those by which it begins in the slot of each node, and is over at each other listener
+-- and those by which it isn't early: it begins in the slot of each node
 pub record FitSlots (t : Tolerance) (b : SenderBus) : Type 0 where
   pub begins_there : (j : ℕ) → IsListener b j
       → t.longest j + 2 * t.units + 10 * longer_bit t b b.sender j ≤ way_over t b b.sender j b.sender
   pub begins : (i j : ℕ) → IsListener b i → IsListener b j → i ≢ j
-      → t.shortest i + 2 * t.units + 9 * longer_bit t b b.sender i + slowest_bit t b j + 9 * longer_bit t b j b.sender + b.line.delay b.sender j * t.units
-      ≤ fastest_bit t b i + way_over t b b.sender i j
-  pub ends : (i j : ℕ) → IsListener b i → IsListener b j → i ≢ j
-      → 2 * slowest_bit t b i + 9 * longer_bit t b i b.sender + way_over t b b.sender i j + t.shortest j + t.units + 9 * longer_bit t b b.sender j
-      ≤ (sample_at (lengths_of b j) + 2 * bit_quanta (lengths_of b j)) * t.shortest j + b.line.delay b.sender j * t.units
+      → t.longest i + 2 * t.units + 10 * longer_bit t b j i + b.line.delay b.sender j * t.units ≤ way_over t b b.sender i j
 
 pub record FitAll (t : Tolerance) (b : SenderBus) : Type 0 where
   pub clocks : FitClocks t b

@@ -14,10 +14,12 @@ ghost use Rattle.wl_one_sender.specs.Levels.{levels_before};
 ghost use Rattle.wl_one_sender.specs.OneSender.{SenderBus, IsBus, IsInStepWithAll, SendsFirst, EndsAfterSlot, IsAcknowledged};
 ghost use Rattle.wl_one_sender.specs.Plans.{IsSteadyPlan, sender_bus_of};
 ghost use Rattle.wl_one_sender.specs.Through.{AreFrames, GetThrough, StaysInSlots};
-ghost use Rattle.wl_one_sender.specs.Tolerances.{FitAll, FitClocks, IsWithinTolerance, Tolerance};
+ghost use Rattle.wl_one_sender.specs.Tolerances.{FitAll, FitClocks, FitSlots, IsWithinTolerance, Tolerance};
 ghost use Rattle.wl_one_sender.specs.Bounds.{IsBoundOf};
-ghost use Rattle.wl_bound.specs.Families.{Bus};
+ghost use Rattle.wl_one_sender.specs.Clean.{HasOneSender, IsOfFamily, bus_with, tolerance_of};
+ghost use Rattle.wl_bound.specs.Families.{Bus, Buses, bus_of};
 ghost use Rattle.wl_bound.specs.Conditions.{IsSound};
+ghost use Rattle.wl_bound.specs.Senders.{alone};
 
 /// Law: if one node alone has driven dominant, any node finds what that one drove a delay earlier.
 pub fn one_driver_is_found()
@@ -117,3 +119,26 @@ pub fn tolerances_are_enough()
 pub fn a_sound_bus_fits()
     ensures { (bus : Bus) (t : Tolerance) (b : SenderBus) → IsBus b → IsBoundOf bus t b → IsSound bus → FitClocks t b }
 {}
+
+/// Law: a family's bus on which this node alone sends is that of each of its plans.
+pub fn a_plan_is_bound()
+    ensures { (f : Buses) (plan : Plan) (clocks : ℕ → Steady) (sender : ℕ) (one : HasOneSender plan sender)
+        (stuffed : ℕ → List Level) → IsSteadyPlan plan clocks → IsOfFamily f plan clocks
+        → IsBoundOf (bus_of f (alone sender)) (tolerance_of f) (bus_with plan clocks sender one stuffed) }
+{
+    a_plan_is_such_a_bus();
+}
+
+/// Law: let the condition for margins hold for a family on which this node alone sends, and let no acknowledgement be early. Then on
+/// each of its plans on which this node alone has frames all frames get through.
+pub fn one_sender_is_clean()
+    ensures { (f : Buses) (plan : Plan) (clocks : ℕ → Steady) (sender : ℕ) (one : HasOneSender plan sender)
+        (stuffed : ℕ → List Level) → IsSteadyPlan plan clocks → IsOfFamily f plan clocks
+        → AreFrames (bus_with plan clocks sender one stuffed) stuffed
+        → IsSound (bus_of f (alone sender)) → FitSlots (tolerance_of f) (bus_with plan clocks sender one stuffed)
+        → GetThrough (bus_with plan clocks sender one stuffed) stuffed }
+{
+    a_plan_is_such_a_bus();
+    tolerances_are_enough();
+    a_sound_bus_fits();
+}

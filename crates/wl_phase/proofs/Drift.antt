@@ -25,6 +25,8 @@ faster A q B = B * q - A
 pub record IsNear (A q T B S : ℕ) (m a t : ℕ) : Type 0 where
   pub early : t < a + S * q + m * faster A q B
   pub late : a + S * q < t + q + T + m * slower A q B
+  pub ahead : t + m * A < a + S * q + m * (B * q)
+  pub behind : a + S * q + m * (B * q) < t + q + T + m * A
 
 module _ {A q T B S P J : ℕ} (is : AreLong A q T B S P J) where
   -- what ten bits drift
@@ -93,15 +95,19 @@ module _ {A q T B S P J : ℕ} (is : AreLong A q T B S P J) where
       let late = n.late in
       let e : suc m * faster A q B ≡ m * faster A q B + faster A q B = omega arith in
       let f : suc m * slower A q B ≡ m * slower A q B + slower A q B = omega arith in
-      record { early = omega arith; late = omega arith }
+      let ahead = n.ahead in
+      let behind = n.behind in
+      let g : suc m * A ≡ m * A + A = omega arith in
+      let h : suc m * (B * q) ≡ m * (B * q) + B * q = omega arith in
+      record { early = omega arith; late = omega arith; ahead = omega arith; behind = omega arith }
 
   -- An edge: the bit has begun by t, and hadn't a quantum before. Within the jump width the sample comes S - 1 quanta later.
   pub near_edge : (a t : ℕ) → t < a + q → a < t + T → IsNear A q T B S 0 a (t + S * q - q)
-  near_edge a t below above = let far = sample_far in record { early = omega arith; late = omega arith }
+  near_edge a t below above = let far = sample_far in record { early = omega arith; late = omega arith; ahead = omega arith; behind = omega arith }
 
   -- an edge that is later, and one that is earlier: the sample moves from t by the jump width
   pub near_late : (m a t : ℕ) → m ≤ 10 → IsNear A q T B S m a t → t + J * q < a + S * q → IsNear A q T B S 0 a (t + J * q)
-  near_late m a t h n far = let late = n.late in let few = few_slower m h in record { early = omega arith; late = omega arith }
+  near_late m a t h n far = let late = n.late in let few = few_slower m h in record { early = omega arith; late = omega arith; ahead = omega arith; behind = omega arith }
 
   pub near_early : (m a t u : ℕ) → m ≤ 10 → IsNear A q T B S m a t → u + J * q ≡ t → a + S * q < u + q + T → IsNear A q T B S 0 a u
-  near_early m a t u h n e far = let early = n.early in let few = few_faster m h in record { early = omega arith; late = omega arith }
+  near_early m a t u h n e far = let early = n.early in let few = few_faster m h in record { early = omega arith; late = omega arith; ahead = omega arith; behind = omega arith }

@@ -1,6 +1,8 @@
 mod Answering
 mod Drift
+mod Early
 mod Edges
+mod Ends
 mod Finding
 mod Floors
 mod Fronts
@@ -11,6 +13,7 @@ mod Others
 mod Phases
 mod Rows
 mod Runs
+mod Sharing
 mod Starting
 mod Stays
 mod Steps

@@ -204,6 +204,7 @@ module _ (s : Sender) (j : Listener) (seen : ℕ → Seen) (found : ℕ) (is : G
     pub since : ℕ
     pub some : since ≤ suc b
     pub clear : (i : ℕ) → suc b < i + since → i < suc b → IsEdge s.bits i → ⊥
+    pub edge : IsEdge s.bits (suc b - since)
     pub near : NearAt since (suc b) (k + way k)
     pub sample : (clock k).sample ≡ at s.bits b
     pub unseen : IsEdge s.bits (suc b) → (0 < k) × (steady_tick j.clock (k - 1) < arrival s j (suc b)) × ((clock k).level ≡ Recessive)
@@ -217,6 +218,7 @@ module _ (s : Sender) (j : Listener) (seen : ℕ → Seen) (found : ℕ) (is : G
     pub near : NearAt 0 b (k + way k)
     pub level : (clock k).level ≡ Dominant
     pub bit : at s.bits b ≡ Dominant
+    pub edge : IsEdge s.bits b
     pub arrived : arrival s j b ≤ steady_tick j.clock k
     pub after : found < k
     pub later : found + sample_at l ≤ suc (k + way k)
@@ -251,9 +253,9 @@ module _ (s : Sender) (j : Listener) (seen : ℕ → Seen) (found : ℕ) (is : G
 
   -- the sample's quantum, of bit c that lies within it
   done_at : (c m k : ℕ) → c < length s.bits → m ≤ 9 → m ≤ c → ((i : ℕ) → c < i + m → i < c → IsEdge s.bits i → ⊥) → (IsEdge s.bits c → m ≡ 0)
-      → NearAt m c k → running_sync (clock k) (seen k) ≡ false → way k ≡ 0 → found < k → found + sample_at l ≤ suc k
+      → IsEdge s.bits (c - m) → NearAt m c k → running_sync (clock k) (seen k) ≡ false → way k ≡ 0 → found < k → found + sample_at l ≤ suc k
       → ((clock k).synced ≡ true → (at s.bits c ≡ Dominant)) → Sampled c k → Done c k
-  done_at c m k less few some clear edge n e z after later fresh g =
+  done_at c m k less few some clear edge last_edge n e z after later fresh g =
       let begun = begun_at m c k (omega arith) n in
       let lasts = lasts_at m c k few n in
       let level = is.listens.level k c c (listening c k less g) less begun lasts in
@@ -275,11 +277,18 @@ module _ (s : Sender) (j : Listener) (seen : ℕ → Seen) (found : ℕ) (is : G
           few = few;
           early = n.early;
           late = n.late;
+          ahead = n.ahead;
+          behind = n.behind;
+          some = some;
+          edge = last_edge;
+          clear = λ i above below is_edge. at_or_below i (omega arith) (omega arith) is_edge;
+          unsynced = λ none. false_from_ne_true (clock (suc k)).synced (λ f. (let was = (p.sampled z).2 in let dominant = fresh (sym was ∙ f) in cc));
         };
         waits = record {
           since = suc m;
           some = omega arith;
           clear = λ i above below is_edge. at_or_below i above below is_edge;
+          edge = (let e : c - m ≡ suc c - suc m = omega arith in subst (IsEdge s.bits) e last_edge);
           near = (let more = quantum_more s j den_s den_j k (bit_quanta l) in
               let place : suc k + way (suc k) ≡ k + bit_quanta l = omega arith in
               subst (λ t. IsNear A q T (bit_quanta l) (sample_at l) (suc m) (bit_instant s j (suc c)) t) (sym (ap (quantum_instant s j) place ∙ more))
@@ -308,7 +317,7 @@ module _ (s : Sender) (j : Listener) (seen : ℕ → Seen) (found : ℕ) (is : G
       let place : k + way k ≡ k = omega arith in
       let near : NearAt 0 b k = subst (NearAt 0 b) place h.near in
       let none = before_dominant (clock k) (seen k) h.level in
-      (k, done_at b 0 k less (omega arith) (omega arith) (λ i above below is_edge. omega arith) (λ is_edge. refl) near none e h.after (let w = h.later in omega arith) (λ f. h.bit) h.sampled)
+      (k, done_at b 0 k less (omega arith) (omega arith) (λ i above below is_edge. omega arith) (λ is_edge. refl) (let f : b ≡ b - 0 = omega arith in subst (IsEdge s.bits) f h.edge) near none e h.after (let w = h.later in omega arith) (λ f. h.bit) h.sampled)
   hold (suc n) b k less e h =
       let none = before_dominant (clock k) (seen k) h.level in
       let down = way_down k none (omega arith) in
@@ -323,6 +332,7 @@ module _ (s : Sender) (j : Listener) (seen : ℕ → Seen) (found : ℕ) (is : G
         near = subst (NearAt 0 b) place h.near;
         level = (leaves_at k).level ∙ level ∙ h.bit;
         bit = h.bit;
+        edge = h.edge;
         arrived = omega arith;
         after = (let a = h.after in omega arith);
         later = omega arith;
@@ -438,6 +448,7 @@ module _ (s : Sender) (j : Listener) (seen : ℕ → Seen) (found : ℕ) (is : G
         near = subst (λ n. NearAt 0 (suc b) (suc k + n)) (sym way_is) (moved_at w.since (suc b) k (way k) few below above w.near);
         level = (leaves_at k).level ∙ level;
         bit = is_edge.is;
+        edge = is_edge;
         arrived = omega arith;
         after = omega arith;
         later = omega arith;
@@ -463,6 +474,7 @@ module _ (s : Sender) (j : Listener) (seen : ℕ → Seen) (found : ℕ) (is : G
         since = w.since;
         some = w.some;
         clear = w.clear;
+        edge = w.edge;
         near = subst (NearAt w.since (suc b)) place w.near;
         sample = p.unsampled some ∙ w.sample;
         unseen = λ is_edge. (let u = unseen is_edge in (omega arith, subst (λ i. steady_tick j.clock i < arrival s j (suc b)) (sym back) u.0, (leaves_at k).level ∙ u.1));
@@ -521,7 +533,7 @@ module _ (s : Sender) (j : Listener) (seen : ℕ → Seen) (found : ℕ) (is : G
       let near : NearAt w.since (suc b) k = subst (NearAt w.since (suc b)) place w.near in
       let few = few_from b k w (few_since b k less w) quiet.never in
       let later = w.later in
-      done_at (suc b) w.since k less few w.some w.clear (λ e. absurd (quiet.never e)) near quiet.none z (omega arith) (omega arith)
+      done_at (suc b) w.since k less few w.some w.clear (λ e. absurd (quiet.never e)) w.edge near quiet.none z (omega arith) (omega arith)
       (λ f. (let g = (w.fresh f).0 in let h = zero_is (clock k) (valid k) z in absurd (omega arith))) w.sampled
 
   -- from one sample to the next
@@ -579,6 +591,7 @@ module _ (s : Sender) (j : Listener) (seen : ℕ → Seen) (found : ℕ) (is : G
         near = near_at 0 found (suc found + way (suc found)) below above (omega arith);
         level = (leaves_at found).level ∙ hard_level;
         bit = sym level ∙ hard_level;
+        edge = record { was = refl; is = sym level ∙ hard_level };
         arrived = omega arith;
         after = omega arith;
         later = omega arith;

@@ -8,7 +8,7 @@ use Rattle.wl_sync.specs.Edges.{Seen}
 use Rattle.wl_sync.specs.Bits.{beat_of}
 use Rattle.wl_sync.specs.Running.{clock_after}
 use Rattle.wl_sync.specs.Skips.{steady_clock}
-use Rattle.wl_phase.specs.Clocks.{Finds, steady_tick}
+use Rattle.wl_phase.specs.Clocks.{Finds, Steady, steady_tick}
 use Rattle.wl_phase.specs.Ways.{moved_to}
 use Rattle.wl_phase.specs.InStep.{Sender, Listener, bit_parts, quantum_parts, tick_parts, slower_parts, faster_parts, samples_from, seen_before}
 
@@ -91,29 +91,57 @@ pub record FindsItsEnd (l : Lengths) (seen : ℕ → Seen) (m : ℕ) : Type 0 wh
   pub before : (i : ℕ) → m < i → i < end → (seen i).level ≡ Dominant
   pub after : (i : ℕ) → end ≤ i → i ≤ m + bit_quanta l → (seen i).level ≡ Recessive
 
+-- by how much a bit of listener i is longer than one of listener j, in the parts of a tick that the three clocks have
+abbrev pub longer_parts : Sender → (i j : Listener) → ℕ
+longer_parts s i j =
+    j.clock.den * (bit_quanta i.lengths * quantum_parts s i) - i.clock.den * (bit_quanta j.lengths * quantum_parts s j)
+
 -- The acknowledgement of listener i is no earlier at listener j, with so many ticks between them, than that one's sample of the bit before: though i begins its bit
--- before the edge that it follows, ticks are rounded, and nine bits' drift makes i early and j late. In the parts of a tick that the three clocks have.
+-- before the edge that it follows, ticks are rounded, and in the nine bits since that edge, which both follow, the bits of j may be longer. In those parts.
 abbrev pub ComesAfterSample : Sender → (i j : Listener) → (between : ℕ) → Type 0
 ComesAfterSample s i j between =
-    j.clock.den * (quantum_parts s i + 2 * tick_parts s i + 9 * slower_parts s i)
-    + i.clock.den * (sample_at j.lengths * quantum_parts s j + 9 * faster_parts s j + j.delay * tick_parts s j)
+    j.clock.den * (quantum_parts s i + 2 * tick_parts s i) + 9 * longer_parts s j i
+    + i.clock.den * (sample_at j.lengths * quantum_parts s j + j.delay * tick_parts s j)
     ≤ j.clock.den * (bit_quanta i.lengths * quantum_parts s i + (i.delay + between) * tick_parts s i)
 
--- The acknowledgement of listener i comes at listener j after that one's own slot has begun, though i begins its bit before the edge that it follows, ticks are rounded, and
--- nine bits' drift makes i early and j late. In the parts of a tick that the three clocks have.
+-- The acknowledgement of listener i comes at listener j after that one's own slot has begun.
 abbrev pub ComesAfterBegin : Sender → (i j : Listener) → (between : ℕ) → Type 0
 ComesAfterBegin s i j between =
-    j.clock.den * (quantum_parts s i + 2 * tick_parts s i + 9 * slower_parts s i)
-    + i.clock.den * (bit_quanta j.lengths * quantum_parts s j + 9 * faster_parts s j + j.delay * tick_parts s j)
+    j.clock.den * (quantum_parts s i + 2 * tick_parts s i) + 9 * longer_parts s j i
+    + i.clock.den * (bit_quanta j.lengths * quantum_parts s j + j.delay * tick_parts s j)
     ≤ j.clock.den * (bit_quanta i.lengths * quantum_parts s i + (i.delay + between) * tick_parts s i)
 
--- And it is over there by j's sample of the ACK delimiter, though nine bits' drift makes i late and j early.
+-- And it is over there by j's sample of the ACK delimiter, though j begins its bit before the edge that it follows, and the bits of i may be longer.
 abbrev pub EndsBeforeSample : Sender → (i j : Listener) → (between : ℕ) → Type 0
 EndsBeforeSample s i j between =
-    j.clock.den * (2 * bit_quanta i.lengths * quantum_parts s i + 9 * faster_parts s i + (i.delay + between) * tick_parts s i)
-    + i.clock.den * (quantum_parts s j + tick_parts s j + 9 * slower_parts s j)
+    j.clock.den * (2 * bit_quanta i.lengths * quantum_parts s i + (i.delay + between) * tick_parts s i) + 9 * longer_parts s i j
+    + i.clock.den * (quantum_parts s j + tick_parts s j)
     ≤ i.clock.den * ((sample_at j.lengths + 2 * bit_quanta j.lengths) * quantum_parts s j + j.delay * tick_parts s j)
 
 -- The acknowledgement comes back to the sender after its slot has begun, though ten bits' drift makes it early.
 abbrev pub ComesAfterOwn : Sender → Listener → (back : ℕ) → Type 0
 ComesAfterOwn s j back = quantum_parts s j + 2 * tick_parts s j + 10 * slower_parts s j ≤ (j.delay + back) * tick_parts s j
+
+-- The acknowledgement of listener i moves a node of this clock and these segments, which is in its PHASE_SEG2: it is there until that one's next sample, wherever it puts that,
+-- and over by the one after it. In the parts of a tick that both clocks have.
+pub record FitsBit (i : Listener) (c : Steady) (l : Lengths) : Type 0 where
+  pub until : sample_at l * (i.clock.den * c.num) + i.clock.den * c.den ≤ c.den * (bit_quanta i.lengths * i.clock.num)
+  pub far : bit_quanta l * (i.clock.den * c.num) ≤ c.den * (bit_quanta i.lengths * i.clock.num) + l.sjw * (i.clock.den * c.num)
+  pub over : c.den * (bit_quanta i.lengths * i.clock.num) + i.clock.den * c.den ≤ (sample_at l - 1 + bit_quanta l) * (i.clock.den * c.num)
+
+-- The acknowledgement of listener j is over by that node's sample of the ACK delimiter too, though that of i has moved it, and j's bits may be longer. So many ticks lie between
+-- the node and each of them. In the parts of a tick that the four clocks have.
+abbrev pub EndsAfterMove : Sender → (i j : Listener) → (c : Steady) → (l : Lengths) → (from_i from_j : ℕ) → Type 0
+EndsAfterMove s i j c l from_i from_j =
+    j.clock.den * c.den * (quantum_parts s i + 2 * tick_parts s i)
+    + i.clock.den * c.den * (2 * bit_quanta j.lengths * quantum_parts s j + (j.delay + from_j) * tick_parts s j)
+    + 9 * (i.clock.den * c.den * (bit_quanta j.lengths * quantum_parts s j) - j.clock.den * c.den * (bit_quanta i.lengths * quantum_parts s i))
+    ≤ j.clock.den * c.den * (bit_quanta i.lengths * quantum_parts s i + (i.delay + from_i) * tick_parts s i)
+    + (sample_at l - 1 + bit_quanta l) * (s.clock.den * i.clock.den * j.clock.den * c.num)
+
+-- A node finds an acknowledgement by quantum m, after quantum n, by which it has sampled the bit before: in PHASE_SEG2, and it stays there until the sample that it moves.
+pub record FindsEarly (l : Lengths) (c : Steady) (begin end n m : ℕ) : Type 0 where
+  pub after : n < m
+  pub early : m ≤ n + l.ps2
+  pub finds : Finds c m begin
+  pub lasts : (x : ℕ) → x ≤ moved_sample l n m → steady_tick c x < end

@@ -9,6 +9,7 @@ use Rattle.wl_sync.specs.declared.Beat.{Beat}
 use Rattle.wl_sync.specs.declared.Beat.TheVariants.{Plain, Sample, Start}
 use Rattle.wl_sync.specs.Edges.{Seen}
 use Rattle.wl_sync.specs.Bits.{beat_of, sync_of}
+use Rattle.wl_sync.specs.Running.{clock_after}
 use Rattle.wl_frame.specs.Laws.{IsEdge}
 use Rattle.wl_phase.specs.Clocks.{Steady, Finds, steady_tick, instant}
 
@@ -114,7 +115,8 @@ abbrev pub faster_parts : Sender → Listener → ℕ
 faster_parts s j = bit_quanta j.lengths * quantum_parts s j - bit_parts s j
 
 -- Quantum k of the listener samples bit b of the sender: it is the sample after those of the bits before, it comes while that bit is there, and where
--- the bit began lies in the listener's bit within SYNC_SEG and a tick, but for what the bits since the last edge drift, nine at most.
+-- the bit began lies in the listener's bit within SYNC_SEG and a tick, but for what the bits since the last edge drift, nine at most. So many bits of the
+-- listener take their time, whether that is longer or shorter than the sender's bits do.
 pub record SamplesBit (s : Sender) (j : Listener) (seen : ℕ → Seen) (found b k : ℕ) : Type 0 where
   pub after : found < k
   pub level : beat_of j.lengths (seen_before seen k) (seen k) ≡ Sample (at s.bits b)
@@ -128,3 +130,12 @@ pub record SamplesBit (s : Sender) (j : Listener) (seen : ℕ → Seen) (found b
   pub early : quantum_instant s j k < bit_instant s j b + sample_at j.lengths * quantum_parts s j + since * faster_parts s j
   pub late : bit_instant s j b + sample_at j.lengths * quantum_parts s j
       < quantum_instant s j k + quantum_parts s j + tick_parts s j + since * slower_parts s j
+  pub ahead : quantum_instant s j k + since * bit_parts s j
+      < bit_instant s j b + sample_at j.lengths * quantum_parts s j + since * (bit_quanta j.lengths * quantum_parts s j)
+  pub behind : bit_instant s j b + sample_at j.lengths * quantum_parts s j + since * (bit_quanta j.lengths * quantum_parts s j)
+      < quantum_instant s j k + quantum_parts s j + tick_parts s j + since * bit_parts s j
+  pub some : since ≤ b
+  pub edge : IsEdge s.bits (b - since)
+  pub clear : (i : ℕ) → b < i + since → i ≤ b → IsEdge s.bits i → ⊥
+  -- no edge has moved a recessive bit
+  pub unsynced : at s.bits b ≡ Recessive → (clock_after j.lengths (seen_before seen (suc k))).synced ≡ false

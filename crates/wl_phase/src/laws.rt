@@ -1,10 +1,10 @@
 //! Laws of clocks and their edges, each proved as the contract of a function that does nothing.
 
-ghost use Rattle.std.specs.Prelude.{◌≡◌, ℕ, suc, ◌+◌, ◌*◌, ◌/◌, ◌<◌, ◌≤◌, List, ◌++◌, length};
+ghost use Rattle.std.specs.Prelude.{◌≡◌, ℕ, suc, ◌+◌, ◌-◌, ◌*◌, ◌/◌, ◌<◌, ◌≤◌, List, ◌++◌, length};
 ghost use Rattle.wl_level.specs.declared.Level.{Level};
 ghost use Rattle.wl_level.specs.declared.Level.TheVariants.{Dominant, Recessive};
-ghost use Rattle.wl_phase.specs.Answer.{ComesAfterBegin, ComesAfterOwn, ComesAfterSample, ComesInTime, EndsBeforeSample, EndsInTime, FindsDominant, FindsItsEnd, HearsAnswer, IsAnswered, SamplesNext, answer_begin, answer_end, moved_sample, own_sample};
-ghost use Rattle.wl_segments.specs.Lengths.{Lengths, bit_quanta};
+ghost use Rattle.wl_phase.specs.Answer.{ComesAfterBegin, ComesAfterOwn, ComesAfterSample, ComesInTime, EndsAfterMove, EndsBeforeSample, EndsInTime, FindsDominant, FindsEarly, FindsItsEnd, FitsBit, HearsAnswer, IsAnswered, SamplesNext, answer_begin, answer_end, moved_sample, own_sample};
+ghost use Rattle.wl_segments.specs.Lengths.{Lengths, bit_quanta, sample_at};
 ghost use Rattle.wl_sync.specs.Edges.{Seen};
 ghost use Rattle.wl_frame.specs.Laws.{up_to_ack};
 ghost use Rattle.wl_frame.specs.Stuffing.{Stuffs};
@@ -186,6 +186,37 @@ pub fn an_acknowledgement_stays_in_its_slot()
     ensures behind { (s : Sender) (j : Listener) (seen : ℕ → Seen) (found d k : ℕ) → IsSteady s.clock → IsSteady j.clock
         → ByTheBook j.lengths → ClocksAreNear s j → SamplesBit s j seen found d k
         → (c : ℕ) → c ≤ 11 → steady_tick j.clock (k + c * bit_quanta j.lengths) < arrival s j (d + c + 2) }
+{
+    an_acknowledgement_comes_in_time();
+    the_next_sample_is_dominant();
+}
+
+/// Law: an acknowledgement that is early moves a node that finds it in its PHASE_SEG2. It is there until the sample that it
+/// moves, and over by the one after it; so are those of all others. A listener's sample so many bits after the end of its own
+/// comes no later than the sender's after as many bits and one more.
+pub fn an_early_acknowledgement_moves_a_node()
+    ensures finds { (s : Sender) (i j : Listener) (seen other_seen : ℕ → Seen) (found other_found between d k n : ℕ)
+        → IsSteady s.clock → IsSteady i.clock → IsSteady j.clock → ByTheBook j.lengths → ComesAfterSample s i j between
+        → FitsBit i j.clock j.lengths → SamplesBit s i seen found d k → SamplesBit s j other_seen other_found d n
+        → answer_begin i between k ≤ steady_tick j.clock (n + j.lengths.ps2)
+        → (m : ℕ) × FindsEarly j.lengths j.clock (answer_begin i between k) (answer_end i between k) n m }
+    ensures over { (i : Listener) (c : Steady) (l : Lengths) (between k x : ℕ) → IsSteady i.clock → IsSteady c
+        → FitsBit i c l → answer_begin i between k ≤ steady_tick c x
+        → answer_end i between k ≤ steady_tick c (x + (sample_at l - 1) + bit_quanta l) }
+    ensures others { (s : Sender) (i j : Listener) (c : Steady) (l : Lengths) (seen other_seen : ℕ → Seen)
+        (found other_found from_i from_j d k n x : ℕ) → IsSteady s.clock → IsSteady i.clock → IsSteady j.clock → IsSteady c
+        → EndsAfterMove s i j c l from_i from_j → SamplesBit s i seen found d k → SamplesBit s j other_seen other_found d n
+        → answer_begin i from_i k ≤ steady_tick c x
+        → answer_end j from_j n ≤ steady_tick c (x + (sample_at l - 1) + bit_quanta l) }
+    ensures later { (s : Sender) (j : Listener) (back k x c : ℕ) → IsSteady s.clock → IsSteady j.clock
+        → ByTheBook j.lengths → ClocksAreNear s j → 1 ≤ back → c ≤ 9 → answer_end j back k ≤ steady_tick s.clock x
+        → steady_tick j.clock (k + (2 + c) * bit_quanta j.lengths) ≤ steady_tick s.clock (x + suc c * s.bit_quanta) }
+    ensures sampled { (s : Sender) (own : Lengths) (j : Listener) (seen sender_seen : ℕ → Seen) (found back d k : ℕ)
+        → IsSteady s.clock → IsSteady j.clock → ByTheBook own → ByTheBook j.lengths → s.bit_quanta ≡ bit_quanta own
+        → ClocksAreNear s j → ComesInTime s own j back → SamplesBit s j seen found d k
+        → HearsAnswer s own j back d k sender_seen
+        → (m : ℕ) × Finds s.clock m (answer_begin j back k) × (own_sample s own d < m) × (m ≤ own_sample s own (suc d))
+        × SamplesNext own sender_seen (own_sample s own d) (moved_sample own (own_sample s own d) m) Dominant }
 {
     an_acknowledgement_comes_in_time();
     the_next_sample_is_dominant();

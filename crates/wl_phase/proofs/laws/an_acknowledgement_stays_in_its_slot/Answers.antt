@@ -5,7 +5,8 @@ use Rattle.wl_phase.specs.Clocks.{steady_tick}
 use Rattle.wl_phase.specs.Answer.{moved_sample, own_sample}
 use Rattle.wl_phase.proofs.Answering.{ends_late, samples_before}
 use Rattle.wl_phase.proofs.Hearing.{heard, moved_most, tick_up}
-use Rattle.wl_phase.proofs.Stays.{after_begin, after_own, behind, ends_by, moved_later}
+use Rattle.wl_phase.proofs.Others.{after_begin, ends_by}
+use Rattle.wl_phase.proofs.Stays.{after_own, behind, moved_later}
 use Rattle.wl_phase.proofs.laws.an_acknowledgement_stays_in_its_slot.Goals as goal
 
 pub returns : goal.returns

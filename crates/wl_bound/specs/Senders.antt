@@ -1,0 +1,9 @@
+-- The setting in which one node alone sends. This project's.
+use Rattle.std.specs.Prelude.{ℕ}
+use Rattle.wl_bound.specs.declared.family.Setting.{Setting}
+use Rattle.wl_bound.specs.declared.family.Source.TheVariants.{Alone}
+use Rattle.wl_bound.specs.Conditions.{plain}
+
+-- the plan's own cable and tolerances, and this node alone sends
+abbrev pub alone : ℕ → Setting
+alone k = record plain { source = Alone k }
