@@ -7,9 +7,9 @@ ghost use Rattle.wl_serial.specs.Heard.{AreDelays, AreOthers, AreSooner, IsEar, 
 ghost use Rattle.wl_serial.specs.Rest.{IsSilent};
 ghost use Rattle.wl_serial.specs.Running.{AreRunning, AreSomewhere, AreKnown, KnowsOthers, RunsBelow, AllKnown};
 
+use crate::disturbed::disturbed_at;
 use crate::pulse::{Pulse, SILENCE};
 use crate::running_node::{Running, Ticks};
-use crate::shaken::shaken_at;
 use crate::sources::Sources;
 use wl_level::Level;
 use wl_plan::Plan;
@@ -85,7 +85,7 @@ impl Ear {
         let t = running[j].next;
         self.hear_anew(plan, running, j, t);
         if t < self.shaken.from || self.shaken.until <= t {
-            self.shaken = shaken_at(plan, j, t);
+            self.shaken = disturbed_at(plan, j, t);
         }
         Found {
             until: self.heard.until.min(self.shaken.until).min(until),

@@ -1,6 +1,7 @@
 //! The one-thread engine: the outcome of the tick-by-tick simulation of a plan, computed from quantum to quantum.
 #![tactic(auto)]
 
+mod disturbed;
 mod ear;
 mod engine;
 mod guess;
@@ -10,13 +11,14 @@ mod pulse;
 mod records;
 mod rest;
 mod running_node;
-mod shaken;
 mod so_far;
 mod sources;
 mod turn;
 
+pub use disturbed::disturbed_at;
 pub use engine::run_serial;
 pub use laws::{outcome_is_recordable, outcome_node_by_node, records_are_true};
 pub use outcome::{Changes, Frames, NodeOutcome, NodeOutcomes, Outcome, Phases, Samples};
+pub use pulse::{Pulse, pulse_of};
 pub use records::records_of;
 pub use so_far::node_outcome;

@@ -5,15 +5,18 @@ ghost use Rattle.wl_serial.specs.Heard.{IsPulse, drove};
 
 /// Whether something is dominant, from a tick on and below another one.
 #[derive(Clone, Copy)]
-pub(crate) struct Pulse {
-    pub(crate) from: u64,
-    pub(crate) until: u64,
-    pub(crate) dominant: bool,
+pub struct Pulse {
+    /// The first tick.
+    pub from: u64,
+    /// The first tick at which it may be otherwise.
+    pub until: u64,
+    /// Whether it is dominant.
+    pub dominant: bool,
 }
 
 /// Returns whether a node with these changes drove dominant `delay` ticks before tick `t`, and up to which tick that stays. `come` is how
 /// many changes had arrived when it was last asked for. It speeds up the next time, and decides nothing.
-pub(crate) fn pulse_of(changes: &[u64], delay: u64, t: u64, come: &mut usize) -> Pulse
+pub fn pulse_of(changes: &[u64], delay: u64, t: u64, come: &mut usize) -> Pulse
     requires order { IsIncreasing changes.now }
     requires early { t < 2 ^ 63 }
     ensures from { result.from ≡ t }

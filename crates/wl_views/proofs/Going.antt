@@ -14,7 +14,7 @@ use Rattle.wl_plan.specs.Simulation.{AreInside, level, ran, seen}
 use Rattle.wl_plan.specs.SimulationLaws.{SimulationLaws}
 use Rattle.wl_plan.specs.Checked.{IsChecked, CheckedIsSound}
 use Rattle.wl_trace.specs.Shown.{shown_of}
-use Rattle.wl_views.specs.declared.held.Held.{Held}
+use Rattle.wl_serial.specs.declared.pulse.Pulse.{Pulse}
 use Rattle.wl_views.specs.Held.{Lasts, next_of, no_tick}
 use Rattle.wl_views.specs.Signals.{shown_then}
 use Rattle.wl_views.proofs.InTime.{sound}
@@ -118,13 +118,13 @@ module _ (sounds : CheckedIsSound) (laws : SimulationLaws) (plan : Plan) (checke
   shown_ran u = ap (shown_of (setup_at plan i)) (laws.history_seen (line_of plan) i (suc u) (sound sounds laws plan checked).causal b)
 
   -- on a line that stays all quanta see the same
-  module _ (t : ℕ) (held : Held) (line : Lasts (found (line_of plan) (level (line_of plan)) i) t held) (k : ℕ) where
+  module _ (t : ℕ) (held : Pulse) (line : Lasts (found (line_of plan) (level (line_of plan)) i) t held) (k : ℕ) where
     pub same_seen : (n : ℕ) → ((q : ℕ) → k ≤ q → q < k + n → (t ≤ at q) × (at q < held.until))
-        → seen (line_of plan) i (k + n) ≡ seen (line_of plan) i k ++ replicate n (level_of held.value)
+        → seen (line_of plan) i (k + n) ≡ seen (line_of plan) i k ++ replicate n (level_of held.dominant)
     same_seen zero during = ap (seen (line_of plan) i) {x = k + 0} {y = k} (omega arith) ∙ sym (append-nil (seen (line_of plan) i k))
     same_seen (suc n) during =
         let here = during (k + n) (omega arith) (omega arith) in
-        let l : Level = level_of held.value in
+        let l : Level = level_of held.dominant in
         ap (seen (line_of plan) i) {x = k + suc n} {y = (k + n) + 1} (omega arith)
         ∙ seen_more sounds laws plan checked i b (k + n)
         ∙ ap (λ (d : Bool). seen (line_of plan) i (k + n) ++ level_of d ∷ []) (line.same (at (k + n)) here.0 here.1)
@@ -135,7 +135,7 @@ module _ (sounds : CheckedIsSound) (laws : SimulationLaws) (plan : Plan) (checke
     -- and where they leave what is shown, that stays up to the next one
     module _ (n : ℕ) (inside : AreInside (line_of plan) i k) (begun : (q : ℕ) → q < k → at q ≤ t) (after : t < next k)
         (during : (q : ℕ) → k ≤ q → q < k + n → (at q < held.until) × (at q < plan.end))
-        (plain : (m : ℕ) → m ≤ n → shown_of (setup_at plan i) (seen (line_of plan) i k ++ replicate m (level_of held.value)) ≡ shown_of (setup_at plan i) (seen (line_of plan) i k)) where
+        (plain : (m : ℕ) → m ≤ n → shown_of (setup_at plan i) (seen (line_of plan) i k ++ replicate m (level_of held.dominant)) ≡ shown_of (setup_at plan i) (seen (line_of plan) i k)) where
       pub in_time : (q : ℕ) → k ≤ q → q < k + n → (t ≤ at q) × (at q < held.until)
       in_time q from below =
           let here = during q from below in

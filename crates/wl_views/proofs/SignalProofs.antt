@@ -13,7 +13,7 @@ use Rattle.wl_serial.specs.declared.outcome.NodeOutcome.{NodeOutcome}
 use Rattle.wl_serial.specs.declared.outcome.Outcome.{Outcome}
 use Rattle.wl_serial.specs.Heard.{drove}
 use Rattle.wl_serial.specs.Outcome.{node_outcome_of, outcome_of}
-use Rattle.wl_views.specs.declared.held.Held.{Held}
+use Rattle.wl_serial.specs.declared.pulse.Pulse.{Pulse}
 use Rattle.wl_views.specs.Held.{Lasts}
 use Rattle.wl_views.specs.Signals.{shown_then}
 use Rattle.wl_level.specs.declared.Level.{Level}
@@ -39,7 +39,7 @@ module _ (laws : SimulationLaws) (plan : Plan) (sound : IsSound (line_of plan)) 
       (ap (λ n. odd (count_below n (table_of plan i))) (add-one (u - delay)) ∙ sym (laws.level_odd (line_of plan) i (u - delay) sound.causal b))
 
   -- one node more
-  pub driven_more : (j t delay : ℕ) (ticks : List ℕ) (from : Held) → delay ≡ delay_of plan.topology i j → ticks ≡ table_of plan i → Lasts (drove ticks delay) t from
+  pub driven_more : (j t delay : ℕ) (ticks : List ℕ) (from : Pulse) → delay ≡ delay_of plan.topology i j → ticks ≡ table_of plan i → Lasts (drove ticks delay) t from
       → Lasts (λ u. nat_le (delay_of plan.topology i j) u && level (line_of plan) i (u - delay_of plan.topology i j)) t from
   driven_more j t delay ticks from is are h =
       holds_as (drove ticks delay) (λ u. nat_le (delay_of plan.topology i j) u && level (line_of plan) i (u - delay_of plan.topology i j)) t from
@@ -52,13 +52,3 @@ driven_then sounds laws plan checked i b t =
     let causal = (sound sounds laws plan checked).causal in
     laws.level_is (line_of plan) i t causal b
     ∙ ap (λ (ls : List Level). is_dominant (history_of (setup_at plan i) ls).drive) (sym (laws.history_seen (line_of plan) i (suc t) causal b))
-
--- a disturbance that hasn't come, lasts, or is gone
-pub not_come : (from to u : ℕ) → u < from → (nat_le from u && nat_lt u to) ≡ false
-not_come from to u h = ap (λ v. v && nat_lt u to) (lt-leb from u h)
-
-pub lasts : (from to u : ℕ) → from ≤ u → u < to → (nat_le from u && nat_lt u to) ≡ true
-lasts from to u h k = ap₂ (λ a b. a && b) (le-leb from u h) (lt-ltb u to k)
-
-pub gone : (from to u : ℕ) → from ≤ u → to ≤ u → (nat_le from u && nat_lt u to) ≡ false
-gone from to u h k = ap₂ (λ a b. a && b) (le-leb from u h) (le-ltb u to k)

@@ -13,7 +13,7 @@ use Rattle.wl_plan.specs.PlanLine.{setup_at}
 use Rattle.wl_plan.specs.SimulationLaws.{SimulationLaws}
 use Rattle.wl_plan.specs.Checked.{IsChecked, CheckedIsSound}
 use Rattle.wl_trace.specs.declared.shown.Shown.{Shown}
-use Rattle.wl_views.specs.declared.held.Held.{Held}
+use Rattle.wl_serial.specs.declared.pulse.Pulse.{Pulse}
 use Rattle.wl_views.specs.declared.signals.NodeSignals.{NodeSignals}
 use Rattle.wl_views.specs.declared.watched.Watched.{Watched}
 use Rattle.wl_views.specs.Held.{Awaits, Comes, Hears, Lasts, Remembers, Watches, heard_until, not_held, signals_by}
@@ -27,10 +27,10 @@ use Rattle.wl_views.proofs.Walk.{changed_more}
 abbrev pub low : NodeSignals
 low = record { tx = false; rx = false; cable = false; disturbance = false; sample = false; start = false; state = record { tec = 0; rec = 0; mode = Active; doing = Integrating } }
 
-narrow : (f : ℕ → Bool) (t u : ℕ) (held : Held) → Lasts f t held → t ≤ u → u < held.until → Lasts f u held
+narrow : (f : ℕ → Bool) (t u : ℕ) (held : Pulse) → Lasts f t held → t ≤ u → u < held.until → Lasts f u held
 narrow f t u held h from below = record { later = below; same = λ v more less. h.same v (omega arith) less }
 
-comes_on : (plan : Plan) (j t u : ℕ) (all : List Held) → Comes plan j t all → t ≤ u → Comes plan j u all
+comes_on : (plan : Plan) (j t u : ℕ) (all : List Pulse) → Comes plan j t all → t ≤ u → Comes plan j u all
 comes_on plan j t u all h from i b below = narrow _ t u (get_or all i not_held) (h i b (omega arith)) from below
 
 hears_on : (plan : Plan) (i t u : ℕ) (w : Watched) → Hears plan i t w → t ≤ u → u < heard_until w → Hears plan i u w
@@ -54,7 +54,7 @@ on plan i t u w h from below = record {
 
 module _ (sounds : CheckedIsSound) (laws : SimulationLaws) (plan : Plan) (checked : IsChecked plan) (i : ℕ) (b : i < length plan.nodes) where
   pub stays : (t u : ℕ) (w : Watched) → Watches plan i t w → t ≤ u → u < w.until
-      → node_signals plan u i ≡ signals_by w.shown w.cable.value w.disturbance.value
+      → node_signals plan u i ≡ signals_by w.shown w.cable.dominant w.disturbance.dominant
   unfolding node_signals
   stays t u w h from below =
       let same : shown_then plan i u ≡ w.shown = h.same u from below in
@@ -70,7 +70,7 @@ module _ (sounds : CheckedIsSound) (laws : SimulationLaws) (plan : Plan) (checke
       }
 
   pub now : (t : ℕ) (w : Watched) → Watches plan i t w
-      → node_signals plan t i ≡ signals_by w.shown w.cable.value w.disturbance.value
+      → node_signals plan t i ≡ signals_by w.shown w.cable.dominant w.disturbance.dominant
   now t w h =
       let p = h.hears.cable.later in
       let r = h.hears.disturbance.later in

@@ -1,5 +1,5 @@
 -- Values that stay from one tick up to another, so that the ticks in between needn't be asked for (this project's profile).
-use Rattle.std.specs.Prelude.{◌≡◌, ℕ, ◌+◌, ◌<◌, ◌≤◌, ◌||◌, nat_lt, min, not, Bool, false, List, length, slice_index, slice_index_or, if◌then◌else◌}
+use Rattle.std.specs.Prelude.{◌≡◌, ℕ, ◌<◌, ◌≤◌, ◌||◌, nat_lt, min, not, Bool, false, List, length, slice_index_or, if◌then◌else◌}
 use Rattle.wl_level.specs.Levels.{is_dominant}
 use Rattle.wl_clock.specs.Timing.{Timing, tick_of}
 use Rattle.wl_plan.specs.declared.plan.Plan.{Plan}
@@ -11,23 +11,15 @@ use Rattle.wl_trace.specs.declared.event.Noted.{Noted}
 use Rattle.wl_trace.specs.Rerun.{IsRerun}
 use Rattle.wl_trace.specs.Shown.{shown_of}
 use Rattle.wl_trace.specs.Synced.{syncs_of}
-use Rattle.wl_views.specs.declared.held.Held.{Held}
+use Rattle.wl_serial.specs.declared.pulse.Pulse.{Pulse}
 use Rattle.wl_views.specs.declared.signals.NodeSignals.{NodeSignals}
 use Rattle.wl_views.specs.declared.watched.Watched.{Watched}
 use Rattle.wl_views.specs.Signals.{driven_at, shown_then}
 
 -- from tick t up to another one a value is this one
-pub record Lasts (f : ℕ → Bool) (t : ℕ) (held : Held) : Type 0 where
+pub record Lasts (f : ℕ → Bool) (t : ℕ) (held : Pulse) : Type 0 where
   pub later : t < held.until
-  pub same : (u : ℕ) → t ≤ u → u < held.until → f u ≡ held.value
-
--- the tick of this number and a delay
-abbrev pub turn_after : List ℕ → ℕ → ℕ → ℕ
-turn_after ticks count delay = slice_index ticks count + delay
-
--- whether a tick is before that one, where there is one
-abbrev pub IsBeforeTurn : List ℕ → ℕ → ℕ → ℕ → Type 0
-IsBeforeTurn ticks count delay t = count < length ticks → t < turn_after ticks count delay
+  pub same : (u : ℕ) → t ≤ u → u < held.until → f u ≡ held.dominant
 
 -- later than any tick
 abbrev pub no_tick : ℕ
@@ -53,11 +45,11 @@ signals_by shown driven disturbed = record {
 abbrev pub heard_until : Watched → ℕ
 heard_until w = min w.cable.until w.disturbance.until
 
-abbrev pub not_held : Held
-not_held = record { value = false; until = 0 }
+abbrev pub not_held : Pulse
+not_held = record { from = 0; until = 0; dominant = false }
 
 -- of each node what is known of that, where it hasn't run out at tick t
-abbrev pub Comes : Plan → ℕ → ℕ → List Held → Type 0
+abbrev pub Comes : Plan → ℕ → ℕ → List Pulse → Type 0
 Comes plan j t all = (i : ℕ) → i < length plan.nodes → t < (slice_index_or all i not_held).until → Lasts (comes plan i j) t (slice_index_or all i not_held)
 
 -- from tick t on cable and disturbances are these

@@ -12,7 +12,6 @@ mod sent;
 mod signals;
 mod tick;
 mod told;
-mod turned;
 mod watched;
 mod wave;
 mod words;

@@ -15,13 +15,12 @@ ghost use Rattle.wl_views.specs.Held.{AllWatched, Comes, Lasts, Watches};
 ghost use Rattle.wl_views.specs.Signals.{driven_at, node_signals, signals};
 ghost use Rattle.wl_views.specs.Vcd.{changes_from, node_changes};
 
-use crate::held::Held;
+use crate::held::either;
 use crate::lines::{Lines, push_node_changes};
-use crate::turned::turned;
 use crate::watched::Watched;
 use std::alloc::{AllocError, Global};
-use wl_plan::{Disturbance, Plan};
-use wl_serial::Outcome;
+use wl_plan::Plan;
+use wl_serial::{Outcome, Pulse, pulse_of};
 use wl_topology::MOST_NODES;
 use wl_trace::NodeState;
 
@@ -53,8 +52,8 @@ fn come_from(
     j: usize,
     t: u64,
     come: &mut usize,
-    held: Held,
-) -> Held
+    held: Pulse,
+) -> Pulse
     requires checked { IsChecked plan.now }
     requires outcome { outcome.now ≡ outcome_of plan.now }
     requires from { i < length plan.now.nodes }
@@ -71,7 +70,7 @@ fn come_from(
     let delay = plan.topology.delay(i as u8, j as u8);
     let nodes = outcome.nodes.as_slice();
     let changes = nodes[i].changes.as_slice();
-    turned(changes, delay, t, come)
+    pulse_of(changes, delay, t, come)
 }
 
 /// Returns whether some node's drive is dominant at node `j` at tick `t`. `come` and `sources` are what was known of each node's.
@@ -81,8 +80,8 @@ pub(crate) fn driven(
     j: usize,
     t: u64,
     come: &mut [usize; MOST_NODES],
-    sources: &mut [Held; MOST_NODES],
-) -> Held
+    sources: &mut [Pulse; MOST_NODES],
+) -> Pulse
     requires checked { IsChecked plan.now }
     requires outcome { outcome.now ≡ outcome_of plan.now }
     requires node { j < length plan.now.nodes }
@@ -91,63 +90,17 @@ pub(crate) fn driven(
     ensures drives { Lasts (driven_at plan.now j) t result }
     ensures sources { Comes plan.now j t sources.new }
 {
-    let mut all = Held {
-        value: false,
+    let mut all = Pulse {
+        from: t,
         until: u64::MAX,
+        dominant: false,
     };
     for i in 0..plan.nodes.len() {
         let from = come_from(plan, outcome, i, j, t, &mut come[i], sources[i]);
         sources[i] = from;
-        all = all.or(from);
+        all = either(all, from);
     }
     all
-}
-
-/// Returns whether a disturbance that takes so long to a node is there at tick `t`.
-fn disturbed_by(from: u64, to: u64, delay: u64, t: u64) -> Held
-    requires starts { from < to }
-    requires early { t ≤ latest_end }
-    requires ends { to ≤ latest_end }
-    requires near { delay ≤ never }
-    ensures { Lasts (λ u. nat_le (from + delay) u && nat_lt u (to + delay)) t result }
-{
-    let come = from + delay;
-    let gone = to + delay;
-    if t < come {
-        return Held {
-            value: false,
-            until: come,
-        };
-    }
-    if t < gone {
-        return Held {
-            value: true,
-            until: gone,
-        };
-    }
-    Held {
-        value: false,
-        until: u64::MAX,
-    }
-}
-
-/// Returns whether some disturbance is at node `j` at tick `t`.
-pub(crate) fn disturbed(plan: &Plan, j: usize, t: u64) -> Held
-    requires checked { IsChecked plan.now }
-    requires node { j < length plan.now.nodes }
-    requires early { t ≤ latest_end }
-    ensures { Lasts (disturbed plan.now j) t result }
-{
-    let mut held = Held {
-        value: false,
-        until: u64::MAX,
-    };
-    for d in plan.disturbances.as_slice() {
-        let delay = plan.disturbance_delay(*d, j as u8);
-        let from = disturbed_by(d.from, d.to, delay, t);
-        held = held.or(from);
-    }
-    held
 }
 
 /// Returns what is known of each node's signals from tick 0 on. Refused only if memory runs out.

@@ -16,12 +16,12 @@ ghost use Rattle.wl_trace.specs.Shown.{shown_of};
 ghost use Rattle.wl_trace.specs.Synced.{with_next};
 ghost use Rattle.wl_views.specs.Held.{Awaits, SawUpTo, Hears, Lasts, Remembers, Watches, heard_until, next_of, signals_by, syncs_then};
 
-use crate::held::Held;
-use crate::signals::{NodeSignals, disturbed, driven};
+use crate::held::either;
+use crate::signals::{NodeSignals, driven};
 use wl_clock::Clock;
 use wl_level::Level;
 use wl_plan::Plan;
-use wl_serial::Outcome;
+use wl_serial::{Outcome, Pulse, disturbed_at};
 use wl_topology::MOST_NODES;
 use wl_trace::{Noted, Rerun, Shown};
 
@@ -29,11 +29,11 @@ use wl_trace::{Noted, Rerun, Shown};
 #[derive(Drop)]
 pub(crate) struct Watched {
     /// Whether the cable is dominant at its place.
-    pub(crate) cable: Held,
+    pub(crate) cable: Pulse,
     /// Whether a disturbance is there.
-    pub(crate) disturbance: Held,
+    pub(crate) disturbance: Pulse,
     /// Of each node, whether its drive is dominant as it comes there.
-    pub(crate) sources: [Held; MOST_NODES],
+    pub(crate) sources: [Pulse; MOST_NODES],
     /// How many changes of each node had come there when its drive was last asked for: that speeds up the next time, and decides nothing.
     come: [usize; MOST_NODES],
     /// The node after the quanta that it has seen.
@@ -76,9 +76,10 @@ impl Watched {
         ensures awaits { Awaits plan.now i 0 result }
         ensures quanta { result.quanta ≡ 0 }
     {
-        let none = Held {
-            value: false,
+        let none = Pulse {
+            from: 0,
             until: 0,
+            dominant: false,
         };
         let setup = &plan.nodes.as_slice()[i];
         let node = Rerun::new(setup.segments);
@@ -98,14 +99,14 @@ impl Watched {
 
     /// Returns the signals.
     pub(crate) fn signals(&self) -> NodeSignals
-        ensures { result ≡ signals_by self.now.shown self.now.cable.value self.now.disturbance.value }
+        ensures { result ≡ signals_by self.now.shown self.now.cable.dominant self.now.disturbance.dominant }
     {
         let shown = self.shown;
         NodeSignals {
             tx: !shown.drive.is_dominant(),
-            rx: !self.line().value,
-            cable: !self.cable.value,
-            disturbance: self.disturbance.value,
+            rx: !self.line().dominant,
+            cable: !self.cable.dominant,
+            disturbance: self.disturbance.dominant,
             sample: shown.sampled,
             start: shown.started,
             state: shown.state,
@@ -113,13 +114,13 @@ impl Watched {
     }
 
     /// Returns whether it finds the line dominant, for as long as cable and disturbances stay.
-    fn line(&self) -> Held
+    fn line(&self) -> Pulse
         ensures holds { (plan : Plan) (i t : ℕ) → Hears plan i t self.now
             → Lasts (found (line_of plan) (level (line_of plan)) i) t result }
-        ensures value { result.value ≡ (self.now.cable.value || self.now.disturbance.value) }
+        ensures dominant { result.dominant ≡ (self.now.cable.dominant || self.now.disturbance.dominant) }
         ensures until { result.until ≡ heard_until self.now }
     {
-        self.cable.or(self.disturbance)
+        either(self.cable, self.disturbance)
     }
 
     /// Goes on to tick `t`. Returns how an edge synchronises the node from the tick at which it was up to this one, if one does.
@@ -157,7 +158,7 @@ impl Watched {
             self.cable = driven(plan, outcome, i, t, &mut self.come, &mut self.sources);
         }
         if self.disturbance.until <= t {
-            self.disturbance = disturbed(plan, i, t);
+            self.disturbance = disturbed_at(plan, i, t);
         }
     }
 
@@ -179,7 +180,7 @@ impl Watched {
             return None;
         }
         let setup = &plan.nodes.as_slice()[i];
-        let level = level_of(self.line().value);
+        let level = level_of(self.line().dominant);
         let sync = self.node.quantum(setup, self.quanta, level);
         self.shown = self.node.shown();
         self.quanta += 1;
@@ -202,7 +203,7 @@ impl Watched {
         let clock = &plan.nodes.as_slice()[i].clock;
         let until = line.until.min(plan.end);
         let most = clock.first_not_before(until).saturating_sub(self.quanta);
-        self.quanta += self.node.pass(level_of(line.value), most);
+        self.quanta += self.node.pass(level_of(line.dominant), most);
         self.next = next_tick(clock, plan.end, self.quanta);
         self.until = line.until.min(self.next);
     }

@@ -4,6 +4,7 @@ use Rattle.wl_record_core.specs.Truth.{IsIncreasing}
 use Rattle.wl_plan.specs.PlanLine.{line_of, table_of}
 use Rattle.wl_serial.specs.declared.outcome.NodeOutcome.{NodeOutcome}
 use Rattle.wl_views.proofs.SignalProofs.{driven_more, node_is, nodes_all}
+use Rattle.wl_views.proofs.Turns.{known_from}
 use Rattle.wl_views.proofs.signals.come_from.Goals as goal
 
 pub bounds-nodes-i : goal.bounds-nodes-i
@@ -12,8 +13,8 @@ bounds-nodes-i c =
     let n = nodes_all c.args.plan.now c.args.outcome.now c.requires.outcome in
     omega arith
 
-pub turned-requires-clause-increasing : goal.turned-requires-clause-increasing
-turned-requires-clause-increasing c =
+pub pulse_of-requires-clause-order : goal.pulse_of-requires-clause-order
+pulse_of-requires-clause-order c =
     let are : c.as_slice-changes.result.now ≡ table_of c.args.plan.now c.args.i =
     c.as_slice-changes.ensures
     ∙ ap (λ (n : NodeOutcome). n.changes)
@@ -29,4 +30,5 @@ returns c =
     (ap (λ (xs : List NodeOutcome). get_or xs c.args.i c.index-nodes-i.result) c.as_slice-nodes.ensures ∙ node_is c.args.plan.now c.args.outcome.now c.args.i c.index-nodes-i.result c.requires.outcome c.requires.from)
     in
     driven_more c.simulation_laws.ensures c.args.plan.now (c.checked_is_sound.ensures c.args.plan.now c.requires.checked) c.args.i c.requires.from c.args.j c.args.t c.delay-delay.result
-    c.as_slice-changes.result.now c.turned.result c.delay-delay.ensures.ticks are c.turned.ensures
+    c.as_slice-changes.result.now c.pulse_of.result c.delay-delay.ensures.ticks are
+    (known_from _ c.args.t c.pulse_of.result c.pulse_of.ensures.from c.pulse_of.ensures.until c.pulse_of.ensures.dominant)

@@ -12,7 +12,7 @@ use Rattle.wl_plan.specs.Simulation.{AreInside, seen}
 use Rattle.wl_trace.specs.Rerun.{IsRerun}
 use Rattle.wl_trace.specs.Synced.{syncs_of}
 use Rattle.wl_trace.specs.Shown.{shown_of}
-use Rattle.wl_views.specs.declared.held.Held.{Held}
+use Rattle.wl_serial.specs.declared.pulse.Pulse.{Pulse}
 use Rattle.wl_views.specs.Held.{next_of}
 use Rattle.wl_views.proofs.Going.{all_inside, few_inside, in_time, next_on, same_seen, setup_is, shown_stays, shown_upto}
 use Rattle.wl_views.proofs.watched.Watched.pass.Goals as goal
@@ -47,7 +47,7 @@ returns-clause-watches c =
     let n : ℕ = c.pass.result in
     let b = c.requires.node in
     let h = c.requires.seen in
-    let held : Held = c.line-line.result in
+    let held : Pulse = c.line-line.result in
     let line = c.line-line.ensures.holds plan i t c.requires.hears in
     let whole = c.line-line.ensures.until in
     let sounds = c.checked_is_sound.ensures in
@@ -61,7 +61,7 @@ returns-clause-watches c =
     let early : tick_of (setup_at plan i).clock q < c.min-until.result = subst (λ (s : NodeSetup). tick_of s.clock q < c.min-until.result) setup (c.first_not_before.ensures.least q less) in
     (omega (arith, c.min-until.ensures), omega (arith, c.min-until.ensures)))
     in
-    let plain : (m : ℕ) → m ≤ n → shown_of (setup_at plan i) (seen (line_of plan) i k ++ replicate m (level_of held.value)) ≡ shown_of (setup_at plan i) (seen (line_of plan) i k) =
+    let plain : (m : ℕ) → m ≤ n → shown_of (setup_at plan i) (seen (line_of plan) i k ++ replicate m (level_of held.dominant)) ≡ shown_of (setup_at plan i) (seen (line_of plan) i k) =
     λ m less. ap (λ (l : Level). shown_of (setup_at plan i) (seen (line_of plan) i k ++ replicate m l)) (sym c.level_of.ensures) ∙ c.pass.ensures.same (setup_at plan i) (seen (line_of plan) i k) h.runs.node m less
     in
     let timely = in_time sounds laws plan checked i b t held line k n h.runs.inside h.before h.later during plain in
@@ -99,7 +99,7 @@ returns-clause-syncs c =
     let n : ℕ = c.pass.result in
     let b = c.requires.node in
     let h = c.requires.seen in
-    let held : Held = c.line-line.result in
+    let held : Pulse = c.line-line.result in
     let line = c.line-line.ensures.holds plan i t c.requires.hears in
     let whole = c.line-line.ensures.until in
     let sounds = c.checked_is_sound.ensures in
@@ -113,7 +113,7 @@ returns-clause-syncs c =
     let early : tick_of (setup_at plan i).clock q < c.min-until.result = subst (λ (s : NodeSetup). tick_of s.clock q < c.min-until.result) setup (c.first_not_before.ensures.least q less) in
     (omega (arith, c.min-until.ensures), omega (arith, c.min-until.ensures)))
     in
-    let plain : (m : ℕ) → m ≤ n → shown_of (setup_at plan i) (seen (line_of plan) i k ++ replicate m (level_of held.value)) ≡ shown_of (setup_at plan i) (seen (line_of plan) i k) =
+    let plain : (m : ℕ) → m ≤ n → shown_of (setup_at plan i) (seen (line_of plan) i k ++ replicate m (level_of held.dominant)) ≡ shown_of (setup_at plan i) (seen (line_of plan) i k) =
     λ m less. ap (λ (l : Level). shown_of (setup_at plan i) (seen (line_of plan) i k ++ replicate m l)) (sym c.level_of.ensures) ∙ c.pass.ensures.same (setup_at plan i) (seen (line_of plan) i k) h.runs.node m less
     in
     let timely = in_time sounds laws plan checked i b t held line k n h.runs.inside h.before h.later during plain in

@@ -48,7 +48,7 @@ returns-clause-seen c =
     let begins : tick_of (setup_at plan i).clock k ≡ t = now.0 in
     let early : tick_of (setup_at plan i).clock k < plan.end = omega (arith, now.0, now.1) in
     let line = c.line.ensures.holds plan i t c.requires.hears in
-    let is : found (line_of plan) (level (line_of plan)) i (tick_of (setup_at plan i).clock k) ≡ c.line.result.value =
+    let is : found (line_of plan) (level (line_of plan)) i (tick_of (setup_at plan i).clock k) ≡ c.line.result.dominant =
     ap (found (line_of plan) (level (line_of plan)) i) begins ∙ line.same t (omega arith) line.later
     in
     let levels : List Level = seen (line_of plan) i k in
@@ -86,7 +86,7 @@ returns-clause-syncs c =
     let now = next_now c.checked_is_sound.ensures c.simulation_laws.ensures plan c.requires.checked i b k t c.requires.early (sym old.next ∙ c.if-self-t.false) in
     let begins : tick_of (setup_at plan i).clock k ≡ t = now.0 in
     let line = c.line.ensures.holds plan i t c.requires.hears in
-    let is : found (line_of plan) (level (line_of plan)) i (tick_of (setup_at plan i).clock k) ≡ c.line.result.value =
+    let is : found (line_of plan) (level (line_of plan)) i (tick_of (setup_at plan i).clock k) ≡ c.line.result.dominant =
     ap (found (line_of plan) (level (line_of plan)) i) begins ∙ line.same t (omega arith) line.later
     in
     let l : Level = c.level_of-level.result in

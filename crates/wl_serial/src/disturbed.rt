@@ -8,7 +8,7 @@ use crate::pulse::Pulse;
 use wl_plan::Plan;
 
 /// Returns whether some disturbance makes the line dominant at node `j`, from tick `t` on.
-pub(crate) fn shaken_at(plan: &Plan, j: usize, t: u64) -> Pulse
+pub fn disturbed_at(plan: &Plan, j: usize, t: u64) -> Pulse
     requires checked { IsChecked plan.now }
     requires node { j < length plan.now.nodes }
     requires early { t < 2 ^ 63 }
