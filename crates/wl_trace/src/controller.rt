@@ -3,6 +3,7 @@ ghost use Rattle.std.specs.Prelude.{◌≡◌, ℕ, [], ◌∷◌, count_by, if�
 ghost use Rattle.std.specs.Option.{option_copied};
 ghost use Rattle.wl_machine.specs.Stretch.{Ended, Input};
 ghost use Rattle.wl_machine.specs.Stretch.Input.{SwitchedOff};
+ghost use Rattle.wl_machine.specs.Doing.{doing_of};
 ghost use Rattle.wl_machine.specs.States.{done_of};
 ghost use Rattle.wl_machine.specs.Judged.{drive_of, stretch_of};
 ghost use Rattle.wl_machine.specs.Reached.{IsMachine};
@@ -14,13 +15,14 @@ ghost use Rattle.wl_confine.specs.Counts.{counts_after};
 use wl_confine::{Counters, Mode};
 use wl_frame::frame::Frame;
 use wl_level::Level;
-use wl_machine::{Done, Machine, Turn};
+use wl_machine::{Doing, Done, Machine, Turn};
 use wl_node::NodeSetup;
 use wl_segments::SyncRules;
 
-/// What is kept of a node's samples so far.
+/// A node's machine, error counters and queue, sample by sample (Bosch CAN 2.0 part B, sections 3, 6 and 8). It knows no ticks. No call takes
+/// memory or is refused.
 #[derive(Drop)]
-pub(crate) struct Controller {
+pub struct Controller {
     pub(crate) machine: Machine,
     pub(crate) counters: Counters,
     /// What the node drives from its next bit start on.
@@ -67,8 +69,8 @@ pub(crate) fn goes_off(before: Mode, after: Mode) -> bool
 }
 
 impl Controller {
-    /// Returns what is kept before the first sample.
-    pub(crate) fn new() -> Controller
+    /// Returns a node before its first sample.
+    pub fn new() -> Controller
         ensures past { IsController result no_past }
         ensures sent { result.sent ≡ 0 }
     {
@@ -78,6 +80,20 @@ impl Controller {
             pending: Level::Recessive,
             sent: 0,
         }
+    }
+
+    /// Takes the sample of this quantum, which has this level, and returns what the node does after it; `setup` is the node's.
+    pub fn take(&mut self, setup: &NodeSetup, quantum: u64, level: Level) -> Doing
+        ensures past { (p : SampledPast) → count_by is_sent p.frames < 2 ^ 64 - 1 → IsController self.old p
+            → IsController self.new (past_after setup.now p (quantum, level)) }
+        ensures doing { (p : SampledPast) → count_by is_sent p.frames < 2 ^ 64 - 1 → IsController self.old p
+            → result ≡ doing_of (stretch_of (past_after setup.now p (quantum, level)).inputs) }
+        ensures sent { (p : SampledPast) → count_by is_sent p.frames < 2 ^ 64 - 1 → IsController self.old p
+            → count_by is_sent (past_after setup.now p (quantum, level)).frames ≤ count_by is_sent p.frames + 1 }
+    {
+        let head = head_at(setup, self.sent, quantum, level);
+        let _ = self.sample(level, head);
+        self.machine.doing()
     }
 
     /// Takes a sample of this level, with this frame to be sent next, and returns what it did.

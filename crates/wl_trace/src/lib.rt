@@ -11,6 +11,7 @@ mod rerun;
 mod shown;
 mod stretch;
 
+pub use controller::Controller;
 pub use event::{Event, FlagForm, FrameField, Noted, Place};
 pub use laws::trace_laws;
 pub use replay::node_events;

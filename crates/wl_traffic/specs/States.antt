@@ -1,29 +1,19 @@
 -- What a node does after its samples, and for how long (Bosch CAN 2.0 part B, sections 3, 6 and 8; the words are those of a waveform).
-use Rattle.std.specs.Prelude.{◌≡◌, ℕ, ◌+◌, ◌-◌, List, length, map, take, fold, count_by, slice_index_or, if◌then◌else◌, nat_lt}
+use Rattle.std.specs.Prelude.{ℕ, ◌+◌, ◌-◌, List, length, map, take, fold, slice_index_or, if◌then◌else◌, nat_lt}
 use Rattle.std.specs.List.{range_with_len}
 use Rattle.wl_level.specs.declared.Level.{Level}
 use Rattle.wl_level.specs.declared.Level.TheVariants.{Recessive}
 use Rattle.wl_clock.specs.Timing.{tick_of}
-use Rattle.wl_confine.specs.Counts.{counts_of}
 use Rattle.wl_machine.specs.declared.doing.Doing.{Doing}
 use Rattle.wl_machine.specs.Doing.{doing_of}
 use Rattle.wl_machine.specs.Judged.{stretch_of}
-use Rattle.wl_machine.specs.Reached.{IsMachine}
 use Rattle.wl_node.specs.declared.setup.NodeSetup.{NodeSetup}
-use Rattle.wl_node.specs.History.{is_sent}
 use Rattle.wl_trace.specs.Replay.{SampledPast, no_past, past_after}
-use Rattle.wl_traffic.specs.declared.sampling.Sampling.{Sampling}
 use Rattle.wl_traffic.specs.declared.spans.Span.{Span}
 
 -- what came before, after these samples
 abbrev pub past_of_samples : NodeSetup → List (ℕ × Level) → SampledPast
 past_of_samples setup samples = fold (past_after setup) no_past samples
-
--- machine, counters and queue are those of this past
-pub record HasSampled (kept : Sampling) (p : SampledPast) : Type 0 where
-  pub machine : IsMachine kept.machine p.inputs
-  pub counters : kept.counters ≡ counts_of p.happened
-  pub sent : kept.sent ≡ count_by is_sent p.frames
 
 -- what the node does after sample k
 abbrev pub doing_at : NodeSetup → List (ℕ × Level) → ℕ → Doing

@@ -8,7 +8,6 @@ mod hexadecimal;
 mod messages;
 mod nodes;
 mod reason;
-mod sampling;
 mod spans;
 mod spread;
 mod text;

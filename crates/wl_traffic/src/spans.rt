@@ -3,16 +3,16 @@ ghost use Rattle.std.specs.Prelude.{◌≡◌, ◌≤◌, ◌^◌, IfOk};
 ghost use Rattle.std.specs.List.{All};
 ghost use Rattle.wl_traffic.specs.States.{sample_tick, spans_of};
 
-use crate::sampling::Sampling;
 use std::alloc::{AllocError, Global};
 use wl_level::Level;
 use wl_machine::Doing;
 use wl_node::NodeSetup;
+use wl_trace::Controller;
 
 /// What a node does after a sample, and for how many ticks: up to its next sample, or up to the end.
 #[derive(Clone, Copy, Debug)]
 pub struct Span {
-    /// Returns what it does.
+    /// What it does.
     pub(crate) doing: Doing,
     /// For how many ticks.
     pub(crate) ticks: u64,
@@ -40,11 +40,11 @@ pub(crate) fn spans(
     requires { All (λ s. s.0 ≤ 2 ^ 21) samples.now }
     ensures { IfOk result (λ spans. spans.items ≡ spans_of setup.now end samples.now) }
 {
-    let mut kept = Sampling::new();
+    let mut kept = Controller::new();
     let mut spans = Vec::new(alloc);
     for k in 0..samples.len() {
         let (quantum, level) = samples[k];
-        let doing = kept.sample(setup, quantum, level);
+        let doing = kept.take(setup, quantum, level);
         let until = sample_tick(setup, end, samples, k + 1);
         let ticks = until.saturating_sub(sample_tick(setup, end, samples, k));
         spans.push(Span { doing, ticks })?;
