@@ -1,3 +1,4 @@
+mod Bounded
 mod Measures
 mod Nearing
 mod Passing

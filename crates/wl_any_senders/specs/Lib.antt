@@ -2,3 +2,4 @@ pub mod Stations
 pub mod Starts
 pub mod OneBit
 pub mod Course
+pub mod Bounds

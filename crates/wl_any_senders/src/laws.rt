@@ -1,7 +1,14 @@
 //! Laws of several senders, each proved as the contract of a function that does nothing.
 
-ghost use Rattle.std.specs.Prelude.{◌+◌, ◌<◌, ◌≤◌, ℕ, suc, true, Bool};
-ghost use Rattle.wl_segments.specs.Lengths.{bit_quanta};
+ghost use Rattle.std.specs.Prelude.{◌+◌, ◌-◌, ◌<◌, ◌≤◌, ℕ, suc, true, Bool};
+ghost use Rattle.wl_level.specs.declared.Level.TheVariants.{Dominant};
+ghost use Rattle.wl_segments.specs.Lengths.{Lengths, bit_quanta, sample_at};
+ghost use Rattle.wl_sync.specs.Edges.{Seen};
+ghost use Rattle.wl_phase.specs.Answer.{FindsDominant, SamplesNext};
+ghost use Rattle.wl_phase.specs.Ways.{ByTheBook, moved_to};
+ghost use Rattle.wl_bound.specs.Conditions.{IsSound};
+ghost use Rattle.wl_bound.specs.Families.{Bus};
+ghost use Rattle.wl_any_senders.specs.Bounds.{IsBusOf};
 ghost use Rattle.wl_any_senders.specs.Stations.{AreClose, AreStations, HaveRoom, Stations};
 ghost use Rattle.wl_any_senders.specs.Starts.{AreSenders, BeginBit, BeginFrame, Start};
 ghost use Rattle.wl_any_senders.specs.OneBit.{AreRight, OneBit};
@@ -44,3 +51,18 @@ pub fn all_sample_the_same_bits()
 {
     wl_topology::driven_laws();
 }
+
+/// Law: a bit clock moves place 0 of a bit as [`an_edge_brings_them_close_again`] has it. Let a node have sampled a recessive bit by its place 0, and find an edge
+/// before its next sample while it drives recessive. Then it samples that bit next, dominant, by the place 0 to which the edge has moved it.
+pub fn a_bit_clock_follows_an_edge()
+    ensures { (l : Lengths) (seen : ℕ → Seen) (place found : ℕ) → ByTheBook l → FindsDominant l seen (place + sample_at l) found
+        → SamplesNext l seen (place + sample_at l) (moved_to (found - 1) l.sjw (place + bit_quanta l) + sample_at l) Dominant }
+{
+    wl_phase::laws::the_next_sample_is_dominant();
+}
+
+/// Law: a bus that meets the condition for margins has room for any senders, wherever within its tolerance each clock lies. All its nodes send, and the loop of each takes
+/// a quantum and a tick.
+pub fn a_sound_bus_has_room()
+    ensures { (bus : Bus) (s : Stations) → IsBusOf bus s → IsSound bus → HaveRoom s }
+{}

@@ -1,0 +1,239 @@
+#!/usr/bin/env python3
+"""Stations that send at once, beside the crate wl_any_senders: the definitions as a program of their own, and bit clocks that are played.
+
+    senders.py search RUNS SEED [LEFT]    plays 2 to 5 stations on buses that keep the condition, half of them at its border; or, with LEFT
+                                          (early_fits, late_fits, is_there or not_early), on buses that break that inequality alone. Says how
+                                          many frames were played, bits sampled and starts compared, and how many were refused
+
+A station is a bit clock of bench/phase.py and a list of bits to send, or none. It begins its start of frame at the first bit that begins
+once it is ready, or with the first edge. It sends on as long as it samples what it sends.
+
+The claim. Each station samples each bit as it is on the bus. Each bit begins at each station by itself, or by the first edge, as
+specs/Starts.antt has it. Any two stations are close, as specs/Stations.antt has it, if one of them still sends.
+"""
+import random
+import sys
+from fractions import Fraction
+
+import phase
+
+BITS = 60
+
+
+def bit_of(lengths): return 1 + sum(lengths[:3])
+
+
+def sample_of(lengths): return 1 + lengths[0] + lengths[1]
+
+
+def quantum(clock): return Fraction(clock[1], clock[2])
+
+
+def tick(clock, k): return clock[0] + k * clock[1] // clock[2]
+
+
+def instant(clock, k): return clock[0] + k * quantum(clock)
+
+
+def drift(bus, i, k): return max(Fraction(0), bit_of(bus.lengths[i]) * quantum(bus.clocks[i]) - bit_of(bus.lengths[k]) * quantum(bus.clocks[k]))
+
+
+def look(bus, i): return max(Fraction(0), quantum(bus.clocks[i]) + 1 - bus.delay[i][i])
+
+
+def begins_before(bus, since, i, k, n, p):
+    return instant(bus.clocks[i], n) < instant(bus.clocks[k], p) + bus.delay[k][i] + look(bus, k) + since * drift(bus, i, k)
+
+
+def moved_to(aim, jump, n): return max(n - jump, min(n + jump, aim))
+
+
+class Bus:
+    def __init__(self, rng):
+        self.count = rng.choice([2, 2, 3, 3, 4, 5])
+        ppm, ticks = rng.choice([0, 100, 2000, 10000, 25000]), rng.choice([1, 2, 5, 20, 60])
+        loop = rng.choice([1, 3, ticks, 2 * ticks + 1, 2 * ticks + 1])
+        same = phase.random_lengths()
+        mixed = rng.random() < 0.4
+        self.lengths = [phase.random_lengths() if mixed else same for _ in range(self.count)]
+        self.clocks = []
+        for lengths in self.lengths:
+            den = rng.choice([1, 3, 7, 1000])
+            deviation = rng.choice([-ppm, ppm, rng.randint(-ppm, ppm)])
+            num = int(Fraction(25 * ticks * den, bit_of(lengths)) * (1 + Fraction(deviation, 1000000)))
+            self.clocks.append((rng.randint(0, 75 * ticks), max(den, num), den))
+        self.out = [rng.randint(1, loop) for _ in range(self.count)]
+        self.into = [rng.randint(0, loop) for _ in range(self.count)]
+        self.place = [rng.randint(0, rng.choice([1, 10, 100])) for _ in range(self.count)]
+        self.stretch(1)
+
+    def stretch(self, times):
+        nodes = range(self.count)
+        self.delay = [[self.out[i] + abs(self.place[i] - self.place[k]) * times + self.into[k] for k in nodes] for i in nodes]
+
+    def broken(self):
+        """The inequalities that some pair breaks."""
+        found = set()
+        for i in range(self.count):
+            mine = quantum(self.clocks[i])
+            for k in range(self.count):
+                if i == k: continue
+                if look(self, k) + 10 * drift(self, i, k) > self.lengths[i][3] * mine: found.add("early_fits")
+                if 10 * drift(self, k, i) > self.lengths[i][3] * mine: found.add("late_fits")
+                if self.delay[i][k] + self.delay[k][i] + look(self, i) + 10 * drift(self, k, i) > sample_of(self.lengths[i]) * mine: found.add("is_there")
+                if look(self, k) + 10 * drift(self, i, k) + 1 > self.lengths[i][2] * mine: found.add("not_early")
+        return found
+
+
+def draw(rng, left):
+    while True:
+        bus = Bus(rng)
+        broken = bus.broken()
+        if broken - {left}: continue
+        if left is None or left == "is_there":
+            low, times = 1, 1
+            while times < 4096 and not bus.broken():
+                low, times = times, times * 2
+                bus.stretch(times)
+            high = times
+            while high - low > 1:
+                middle = (low + high) // 2
+                bus.stretch(middle)
+                low, high = (low, middle) if bus.broken() else (middle, high)
+            if left is None: bus.stretch(low if rng.random() < 0.5 else 1)
+            else: bus.stretch(high + rng.randint(0, high))
+            broken = bus.broken()
+        if broken == ({left} if left else set()): return bus
+
+
+def stuffed(rng):
+    bits, run = [True], 1
+    chance = rng.choice([0.05, 0.5, 0.5, 0.95])
+    while len(bits) < BITS + 2:
+        bit = rng.random() < chance if run < 5 else not bits[-1]
+        run = run + 1 if bit == bits[-1] else 1
+        bits.append(bit)
+    return bits
+
+
+class Station:
+    def __init__(self, bus, i, ready, bits):
+        self.clock, self.lengths, self.state = bus.clocks[i], bus.lengths[i], phase.at_first(bus.lengths[i])
+        self.k, self.ready, self.bits, self.sends = 0, ready, bits, False
+        self.samples, self.changes, self.drives = [], [], False
+        self.place, self.start, self.begun = [], [], False
+
+    def drove(self, t):
+        for at, level in reversed(self.changes):
+            if at <= t: return level
+        return False
+
+    def next(self, level):
+        idle, old = not self.samples, self.state[0]
+        self.state, sample, found = phase.step(self.lengths, self.state, level, idle, self.drives)
+        starts = self.state[0] == 1 or found == "hard" or (found is not None and old > sample_of(self.lengths) and self.state[0] == 2)
+        now = tick(self.clock, self.k)
+        if starts and idle and not self.begun:
+            decided = self.bits is not None and self.k >= self.ready
+            if found == "hard" or decided:
+                self.begun, self.sends = True, decided
+                self.start.append(self.k)
+                if decided: self.drive(now, True)
+        elif starts and not idle:
+            self.start.append(self.k)
+            self.drive(now, self.sends and self.bits[len(self.samples)])
+        if sample is not None and self.begun:
+            n = len(self.samples)
+            self.samples.append(sample)
+            self.place.append(self.k - sample_of(self.lengths))
+            if self.sends and self.bits[n] != sample: self.sends = False
+        self.k += 1
+
+    def drive(self, now, level):
+        if level != self.drives:
+            self.drives = level
+            self.changes.append((now, level))
+
+
+def play(bus, stations):
+    while any(len(s.samples) < BITS + 1 for s in stations):
+        now = min(tick(s.clock, s.k) for s in stations)
+        due = [i for i, s in enumerate(stations) if tick(s.clock, s.k) == now]
+        levels = [any(now >= bus.delay[k][i] and s.drove(now - bus.delay[k][i]) for k, s in enumerate(stations)) for i in due]
+        for i, level in zip(due, levels): stations[i].next(level)
+        if stations[due[0]].k > 40000: raise AssertionError("doesn't end")
+
+
+def finds(clock, edge):
+    k = max(0, (edge - clock[0]) * clock[2] // clock[1] - 1)
+    while tick(clock, k) < edge: k += 1
+    return k
+
+
+def compare(bus, stations, counts):
+    """What is refused: a sample, how a bit begins, or how far apart."""
+    nodes = range(bus.count)
+    sends = [s.changes != [] for s in stations]
+    since, before = 0, False
+    for n in range(BITS):
+        drives = [sends[i] and stations[i].bits[n] for i in nodes]
+        bit = any(drives)
+        for i in nodes:
+            counts["samples"] += 1
+            if stations[i].samples[n] != bit: return f"sample {n} of {i}"
+        edge = n == 0 or (bit and not before)
+        since = 0 if edge else since + 1
+        place = [stations[i].place[n] for i in nodes]
+        for i in nodes:
+            counts["starts"] += 1
+            due = stations[i].place[n - 1] + bit_of(bus.lengths[i]) if n else None
+            arrivals = [tick(bus.clocks[k], stations[k].start[n]) + bus.delay[k][i] for k in nodes if drives[k] and k != i]
+            start = stations[i].start[n]
+            itself = drives[i] and (n == 0 or place[i] == due) and start == place[i] and all(tick(bus.clocks[i], place[i]) < a for a in arrivals)
+            found = finds(bus.clocks[i], min(arrivals)) if arrivals else None
+            if n == 0: follows = found is not None and place[i] + 1 == found and (start == found)
+            elif edge: follows = found is not None and place[i] == moved_to(found - 1, bus.lengths[i][3], due) and (not drives[i] or (found <= due and place[i] <= start <= place[i] + 1 and found <= start))
+            else: itself, follows = place[i] == due and start == place[i], False
+            if not (itself or follows): return f"start {n} of {i}"
+            if n and not stations[i].place[n - 1] + sample_of(bus.lengths[i]) < start: return f"start {n} of {i} before its sample"
+        if bit: sends = [sends[i] and drives[i] for i in nodes]
+        for i in nodes:
+            for k in nodes:
+                if i != k and (sends[i] or sends[k]) and not begins_before(bus, since, i, k, place[i], place[k]): return f"{i} and {k} in bit {n}"
+        before = bit
+    return None
+
+
+def search(runs, seed, left):
+    random.seed(seed)
+    rng = random
+    counts = {"frames": 0, "samples": 0, "starts": 0, "refused": 0}
+    for _ in range(runs):
+        bus = draw(rng, left)
+        wanted = sorted(rng.sample(range(bus.count), rng.randint(1, bus.count)))
+        around = rng.choice([1, 1, 3, 40])
+        bits = stuffed(rng)
+        stations = []
+        for i in range(bus.count):
+            sent = bits[:rng.choice([1, BITS // 2, BITS])]
+            sent = (sent + stuffed(rng)[1:])[:BITS + 2] if i in wanted else None
+            ready = 14 * bit_of(bus.lengths[i]) + rng.randint(0, around * bit_of(bus.lengths[i])) if sent else 0
+            if sent:
+                run = 1
+                for n in range(1, len(sent)):
+                    run = run + 1 if sent[n] == sent[n - 1] else 1
+                    if run > 5: sent[n], run = not sent[n], 1
+            stations.append(Station(bus, i, ready, sent))
+        counts["frames"] += 1
+        try: play(bus, stations)
+        except (AssertionError, IndexError) as fault: wrong = str(fault)
+        else: wrong = compare(bus, stations, counts)
+        if wrong:
+            counts["refused"] += 1
+            if left is None: print(wrong, bus.lengths, bus.clocks, bus.delay, [(s.ready, s.bits is not None) for s in stations])
+    print(" ".join(f"{name} {count}" for name, count in counts.items()))
+
+
+if __name__ == "__main__":
+    if len(sys.argv) < 4 or sys.argv[1] != "search": sys.exit(__doc__)
+    search(int(sys.argv[2]), int(sys.argv[3]), sys.argv[4] if len(sys.argv) > 4 else None)
