@@ -18,7 +18,7 @@ use Rattle.wl_plan.specs.Line.{Line}
 use Rattle.wl_plan.specs.Simulation.{seen, AreInside}
 use Rattle.wl_one_sender.specs.Levels.{levels_before}
 use Rattle.wl_one_sender.specs.OneSender.{SenderBus, IsBus, IsListener, IsInStepWithAll, SendsFirst, lengths_of}
-use Rattle.wl_one_sender.specs.Through.{AreFrames, GetThrough, StaysInSlots, queued_contents, history_at, sender_queue, ready_at, due_quantum}
+use Rattle.wl_one_sender.specs.Through.{AreFrames, GetThrough, EndsInSlots, queued_contents, history_at, sender_queue, ready_at, due_quantum}
 use Rattle.wl_one_sender.proofs.Calm as calm
 use Rattle.wl_one_sender.proofs.Expecting.{seen_by_quanta}
 use Rattle.wl_one_sender.proofs.Nodes.{Does}
@@ -26,7 +26,7 @@ use Rattle.wl_one_sender.proofs.Leasts.{split}
 use Rattle.wl_one_sender.proofs.Passing.{IsNext, IsPassed, contents_long, next_is, none_passed, ready_late, ready_not}
 use Rattle.wl_one_sender.proofs.Planned.{Laws}
 use Rattle.wl_one_sender.proofs.Replies as replies
-use Rattle.wl_one_sender.proofs.Replies.{StayLaws}
+use Rattle.wl_one_sender.proofs.Choosing.{StayLaws}
 use Rattle.wl_one_sender.proofs.Resting as resting
 use Rattle.wl_one_sender.proofs.Resting.{Rests, RestsAt, SendsNext, rests_first}
 use Rattle.wl_one_sender.proofs.Silence.{CountsTo, Decides, counts_to, integrating, left_of}
@@ -44,7 +44,7 @@ none_or_some o h e f = absurd (apart h (sym e ∙ f))
     apart h e = cc
 
 module _ (laws : Laws) (stay : StayLaws) (b : SenderBus) (stuffed : ℕ → List Level) (is : IsBus b) (sends : SendsFirst b) (frames : AreFrames b stuffed) (meets : IsInStepWithAll b)
-    (slots : StaysInSlots b) where
+    (slots : EndsInSlots b) where
   abbrev l : Line
   l = b.line
 
@@ -332,7 +332,7 @@ module _ (laws : Laws) (stay : StayLaws) (b : SenderBus) (stuffed : ℕ → List
       later : t < after_it
       later =
           let before = speaking.rest_before laws.clocks laws.frame b is meets t ep.rest head (stuffed n) from m sends_next in
-          let low = at_slot.low in
+          let low = through.q_late laws stay b is meets slots t ep.rest head (stuffed n) from m sends_next first.0 first.1 at_slot in
           let some = (is.book a is.sender).lengths.low in
           let next_tick = is.causal.clocks a from is.sender in
           let e = is.ticks a from is.sender in
@@ -379,23 +379,23 @@ module _ (laws : Laws) (stay : StayLaws) (b : SenderBus) (stuffed : ℕ → List
           other : (p : IsListener b i) → (ep.rest.node i p.0).start ≤ k → ((q : ℕ) → q < k → l.instant i q < cut) → IsGood i k
           other p late soon =
               let w = replies.plan_of laws stay b is meets slots t ep.rest head (stuffed n) from m sends_next i p in
-              let start : (ep.rest.node i w.heard.listener.0).start ≤ k = subst (λ h. (ep.rest.node i h).start ≤ k) (le_prop p.0 w.heard.listener.0) late in
+              let start : (ep.rest.node i w.nat.heard.listener.0).start ≤ k = subst (λ h. (ep.rest.node i h).start ≤ k) (le_prop p.0 w.nat.heard.listener.0) late in
               let d = replies.doing laws stay b is meets slots t ep.rest head (stuffed n) from m sends_next i w k start in
-              good_from i k w.heard.listener.0 (replies.lv laws stay b is meets slots t ep.rest head (stuffed n) from m sends_next i) d.passed d.stretch d.drive d.does
-              (through.lists_then laws stay b is meets slots t ep.rest head (stuffed n) from m sends_next first.0 first.1 at_slot i k w.heard.listener.0 soon)
+              good_from i k w.nat.heard.listener.0 (replies.lv laws stay b is meets slots t ep.rest head (stuffed n) from m sends_next i) d.passed d.stretch d.drive d.does
+              (through.lists_then laws stay b is meets slots t ep.rest head (stuffed n) from m sends_next first.0 first.1 at_slot i k w.nat.heard.listener.0 soon)
               (elim d.gone [
                 | inl e ↦
-                    (let r = ep.kept i w.heard.listener.0 (min d.count 10) in
+                    (let r = ep.kept i w.nat.heard.listener.0 (min d.count 10) in
                     (r.0, subst (IsPassed (sender_queue b) (i == b.sender) r.0) (sym e.0) r.1))
                 | inr e ↦ elim (cases_lt 6 (min d.count 10)) [
                   | inl over ↦ (
                     suc n,
-                    of_node i false (suc n) d.passed ((through.after laws stay b is meets slots t ep.rest head (stuffed n) from m sends_next i w).passed (min d.count 10)) (ne_eqb i a w.heard.listener.1) e
+                    of_node i false (suc n) d.passed ((through.after laws stay b is meets slots t ep.rest head (stuffed n) from m sends_next i w).passed (min d.count 10)) (ne_eqb i a w.nat.heard.listener.1) e
                         (through.other_late laws stay b is meets slots t ep.rest head (stuffed n) from m sends_next first.0 first.1 at_slot (sender_queue b) n next ep.sent ep.received i w (min d.count 10) over),
                   )
                   | inr early ↦ (
                     n,
-                    of_node i false n d.passed ((through.after laws stay b is meets slots t ep.rest head (stuffed n) from m sends_next i w).passed (min d.count 10)) (ne_eqb i a w.heard.listener.1) e
+                    of_node i false n d.passed ((through.after laws stay b is meets slots t ep.rest head (stuffed n) from m sends_next i w).passed (min d.count 10)) (ne_eqb i a w.nat.heard.listener.1) e
                         (through.other_early laws stay b is meets slots t ep.rest head (stuffed n) from m sends_next first.0 first.1 at_slot (sender_queue b) n next ep.sent ep.received i w (min d.count 10) early),
                   )
                 ]
@@ -455,12 +455,12 @@ module _ (laws : Laws) (stay : StayLaws) (b : SenderBus) (stuffed : ℕ → List
       other_frame : (j : ℕ) (p : IsListener b j) (k : ℕ) → (ep.rest.node j p.0).start ≤ k → ((q : ℕ) → q < k → l.instant j q < cut) → OtherCount j p k
       other_frame j p k late soon =
           let w = replies.plan_of laws stay b is meets slots t ep.rest head (stuffed n) from m sends_next j p in
-          subst (λ h. OtherCount j (h, p.1) k) (le_prop w.heard.listener.0 p.0)
-          (let start : (ep.rest.node j w.heard.listener.0).start ≤ k = subst (λ h. (ep.rest.node j h).start ≤ k) (le_prop p.0 w.heard.listener.0) late in
+          subst (λ h. OtherCount j (h, p.1) k) (le_prop w.nat.heard.listener.0 p.0)
+          (let start : (ep.rest.node j w.nat.heard.listener.0).start ≤ k = subst (λ h. (ep.rest.node j h).start ≤ k) (le_prop p.0 w.nat.heard.listener.0) late in
           let d = replies.doing laws stay b is meets slots t ep.rest head (stuffed n) from m sends_next j w k start in
-          let e = frames_are j k w.heard.listener.0 (replies.lv laws stay b is meets slots t ep.rest head (stuffed n) from m sends_next j) d.passed d.stretch d.drive d.does (through.lists_then laws stay b is meets slots t ep.rest head (stuffed n) from m sends_next first.0 first.1 at_slot j k w.heard.listener.0 soon) in
+          let e = frames_are j k w.nat.heard.listener.0 (replies.lv laws stay b is meets slots t ep.rest head (stuffed n) from m sends_next j) d.passed d.stretch d.drive d.does (through.lists_then laws stay b is meets slots t ep.rest head (stuffed n) from m sends_next first.0 first.1 at_slot j k w.nat.heard.listener.0 soon) in
           elim d.gone [
-            | inl g ↦ other_by j (w.heard.listener.0, p.1) k d.count (e ∙ g.0) g.1
+            | inl g ↦ other_by j (w.nat.heard.listener.0, p.1) k d.count (e ∙ g.0) g.1
             | inr g ↦ elim (cases_lt 6 (min d.count 10)) [
               | inl over ↦
                   (let x = (through.other_late laws stay b is meets slots t ep.rest head (stuffed n) from m sends_next first.0 first.1 at_slot (sender_queue b) n next ep.sent ep.received j w (min d.count 10) over).long in
@@ -582,7 +582,7 @@ module _ (laws : Laws) (stay : StayLaws) (b : SenderBus) (stuffed : ℕ → List
               let g = (node j p.0).base_is p.1 in
               let before = through.received_before laws stay b is meets slots t ep.rest head (stuffed n) from m sends_next first.0 first.1 at_slot j g.0 in
               subst (λ x. tick j (x + 6 * B j + S j) ≤ tick a ((node a is.sender).rests.base + 7 * B a + S a)) (sym g.1)
-              (subst (λ x. tick j (through.reply laws stay b is meets slots t ep.rest head (stuffed n) from m sends_next j g.0 + S j + (lengths_of b j).ps2 + 6 * B j + S j) ≤ tick a (x + 7 * B a + S a)) (sym e) before));
+              (subst (λ x. tick j (through.sample laws stay b is meets slots t ep.rest head (stuffed n) from m sends_next j g.0 + (lengths_of b j).ps2 + 6 * B j + S j) ≤ tick a (x + 7 * B a + S a)) (sym e) before));
           due = (let e = (node a is.sender).own_base refl in let d = due_next in omega arith);
         }
 

@@ -1,11 +1,11 @@
 -- From the condition for margins to the inequalities on clocks.
 use Rattle.std.proofs.Common.{◌≡◌, ◌≢◌, ◌∙◌, inl, inr, refl, sym, ap, ℕ, zero, suc, ◌+◌, ◌-◌, ◌*◌, ◌<◌, ◌≤◌, min, Bool, true, false, cond, not, ◌&&◌, ◌||◌, arith}
 use Rattle.std.specs.Prelude.{◌==◌, nat_lt}
-use Rattle.std.proofs.lemmas.Bool.{cases_eq, and_from, and_left, eq-eqb, ne_eqb}
+use Rattle.std.proofs.lemmas.Bool.{cases_eq, and_from, and_left, eq-eqb, lt-ltb, ne_eqb}
 use Rattle.std.proofs.Math.Nat.{mul-le-mul_left, mul-le-mul_right}
 use Rattle.wl_segments.specs.Lengths.{sample_at, bit_quanta}
 use Rattle.wl_bound.specs.Families.{Bus}
-use Rattle.wl_bound.specs.Terms.{greatest, sends_but}
+use Rattle.wl_bound.specs.Terms.{greatest, is_third, sends_but}
 use Rattle.wl_bound.specs.Terms.{drift, jump, late, look, strays, trip, way}
 use Rattle.wl_bound.specs.Conditions.{IsSound}
 use Rattle.wl_bound.specs.Conditions.{left_of, right_of}
@@ -154,6 +154,61 @@ module _ (bus : Bus) (t : Tolerance) (b : SenderBus) (is : IsBus b) (of : IsBoun
       let z = sample_is w in
       omega arith
 
+  -- with the look of a third node
+  way_third : (w j i : ℕ) → j < b.line.nodes → j ≢ a → i < b.line.nodes → i ≢ w → i ≢ j → trip bus w j a + look bus i ≤ late bus w j
+  unfolding late way
+  way_third w j i nj apart ni not_w not_j =
+      let sends : sends_but bus j a ≡ true = and_from (bus.sends a) (not (a == j)) (of.alone a ∙ eq-eqb a a refl) (ap not (ne_eqb a j (λ e. apart (sym e)))) in
+      let h = greatest_each bus.nodes (sends_but bus j) (trip bus w j) a (inside a is.sender) sends in
+      let third : is_third w j i ≡ true = and_from (not (i == w)) (not (i == j)) (ap not (ne_eqb i w not_w)) (ap not (ne_eqb i j not_j)) in
+      let g = greatest_each bus.nodes (is_third w j) (look bus) i (inside i ni) third in
+      omega arith
+
+  trip_back : (j : ℕ) → 2 < bus.nodes → bus.delay a j + bus.delay j a + look bus a ≤ trip bus a j a
+  unfolding trip
+  trip_back j many =
+      let e : trip bus a j a ≡ bus.delay a j + bus.delay j a + cond (nat_lt 2 bus.nodes) (look bus a) 0 =
+      ap (λ c. cond c (bus.delay a j + bus.delay j a + cond (nat_lt 2 bus.nodes) (look bus a) 0) (bus.delay a j + bus.delay j a + bus.longest a + bus.tick - bus.delay a a)) (eq-eqb a a refl) in
+      let f : cond (nat_lt 2 bus.nodes) (look bus a) 0 ≡ look bus a = ap (λ c. cond c (look bus a) 0) (lt-ltb 2 bus.nodes many) in
+      omega arith
+
+  -- the acknowledgement of j is over at a node that the one of i has moved
+  moved : (i j w : ℕ) → (p : IsListener b i) → (q : IsListener b j) → i ≢ j → w < b.line.nodes → w ≢ i → w ≢ j
+      → 10 * longer_bit t b j i + longer_bit t b j w + (b.line.delay a j + b.line.delay j w) * t.units + t.longest i + 2 * t.units + t.longest w
+      ≤ (b.line.delay a i + b.line.delay i w) * t.units + sample_at (lengths_of b w) * t.shortest w
+  moved i j w p q apart there not_i not_j =
+      let h = in_time w j there q.0 not_j in
+      let third = way_third w j i q.0 q.1 p.0 (λ e. not_i (sym e)) apart in
+      let x = strays_by j i p.0 apart in
+      let y = strays_by j w there not_j in
+      let l = look_is i p.0 in
+      let m = look_is w there in
+      let loops = loops_less a i w is.sender p.0 there in
+      let d = of.delays a j is.sender q.0 in
+      let g = of.delays j w q.0 there in
+      let k = of.delays a w is.sender there in
+      let lw = of.longest w in
+      let e = of.tick in
+      let sum : (b.line.delay a j + b.line.delay j w) * t.units ≡ b.line.delay a j * t.units + b.line.delay j w * t.units = omega arith in
+      elim (cases_eq w a) [
+        | inl here ↦
+            (let n = of.nodes in
+            let p1 = p.1 in
+            let q1 = q.1 in
+            let p0 = p.0 in
+            let q0 = q.0 in
+            let s0 = is.sender in
+            let many : 2 < bus.nodes = omega arith in
+            let back = trip_back j many in
+            let f : trip bus w j a ≡ trip bus a j a = ap (λ n. trip bus n j a) here in
+            let v : bus.delay j w ≡ bus.delay j a = ap (bus.delay j) here in
+            let o : look bus w ≡ look bus a = ap (look bus) here in
+            let z : b.line.delay w w ≡ b.line.delay a w = ap (λ n. b.line.delay n w) here in
+            let zz : b.line.delay w w * t.units ≡ b.line.delay a w * t.units = ap (λ n. n * t.units) z in
+            omega arith)
+        | inr other ↦ (let over = trip_over w j other in omega arith)
+      ]
+
   -- the acknowledgement of i is over at j
   over : (i j : ℕ) → (p : IsListener b i) → (q : IsListener b j) → i ≢ j
       → t.longest j + t.units + 11 * longer_bit t b i j + (b.line.delay a i + b.line.delay i j) * t.units ≤ sample_at (lengths_of b j) * t.shortest j + b.line.delay a j * t.units
@@ -220,4 +275,7 @@ module _ (bus : Bus) (t : Tolerance) (b : SenderBus) (is : IsBus b) (of : IsBoun
         omega arith);
     ends_there = there;
     ends = over;
+    lasts = λ i j p q apart. early j i q.0 p.0 (λ e. apart (sym e));
+    jumps = λ i j p q apart. (drifts j i q.0 p.0 (λ e. apart (sym e))).0;
+    moved = moved;
   }

@@ -1,31 +1,29 @@
 -- From a family to the bus of one of its plans.
-use Rattle.std.proofs.Common.{◌≡◌, ◌≢◌, ◌∙◌, inl, inr, refl, sym, ap, subst, ℕ, suc, ◌+◌, ◌-◌, ◌*◌, ◌<◌, ◌≤◌, max, List, [], ◌∷◌, length, Bool, true, false, cond, not, ◌&&◌, Option, Some, None, arith}
-use Rattle.std.specs.Prelude.{◌==◌, nat_le, nat_lt, drop}
+use Rattle.std.proofs.Common.{◌≡◌, ◌∙◌, inl, inr, refl, sym, ap, ℕ, suc, ◌+◌, ◌-◌, ◌*◌, ◌<◌, ◌≤◌, List, length, Bool, true, false, cond, not, ◌&&◌, Some, None, arith}
+use Rattle.std.specs.Prelude.{◌==◌, nat_lt}
 use Rattle.std.specs.Int.{div_ceil}
 use Rattle.std.proofs.lemmas.Bool.{cases_eq, cases_lt, le-leb, lt-leb, lt-ltb, eq-eqb, ne_eqb}
 use Rattle.std.proofs.lemmas.Grind.{div_ceil_times}
 use Rattle.std.proofs.lemmas.List.{get_or_past}
-use Rattle.std.proofs.Math.Nat.{mul-le-mul_right, mul-le-mul_left, le_of_mul-le-mul_right}
+use Rattle.std.proofs.Math.Nat.{mul-le-mul_right, le_of_mul-le-mul_right}
 use Rattle.wl_level.specs.declared.Level.{Level}
 use Rattle.wl_clock.specs.Timing.{tick_of}
 use Rattle.wl_segments.specs.Lengths.{Lengths, sample_at, bit_quanta}
-use Rattle.wl_topology.specs.Delays.{delay_of, place_at, propagation_of}
-use Rattle.wl_frame.specs.Grammar.{Content}
-use Rattle.wl_node.specs.declared.setup.Queued.{Queued}
+use Rattle.wl_topology.specs.Delays.{delay_of, propagation_of}
 use Rattle.wl_node.specs.History.{ready_head}
 use Rattle.wl_plan.specs.declared.plan.Plan.{Plan}
 use Rattle.wl_plan.specs.PlanLine.{no_setup, setup_at}
-use Rattle.wl_phase.specs.Clocks.{Steady, steady_tick, steady_timing}
+use Rattle.wl_phase.specs.Clocks.{Steady, steady_tick}
 use Rattle.wl_phase.specs.InStep.{arrival}
 use Rattle.wl_topology.specs.Limits.{never}
 use Rattle.wl_phase.proofs.Callers.{tick_up}
 use Rattle.wl_bound.specs.Conditions.{plain}
 use Rattle.wl_one_sender.proofs.PlanProofs.{loop_over}
 use Rattle.wl_bound.specs.Senders.{alone}
-use Rattle.wl_bound.specs.Families.{Buses, bus_of, delay_in, lengths_in, longest_in, member_at, no_member, only_listens, sends_in, shortest_in, units}
+use Rattle.wl_bound.specs.Families.{Buses, bus_of, delay_in, lengths_in, longest_in, no_member, only_listens, sends_in, shortest_in, units}
 use Rattle.wl_bound.specs.Verdicts.{idle_at, is_ready_from}
 use Rattle.wl_one_sender.specs.OneSender.{SenderBus, IsBus, IsListener, SendsFirst, lengths_of, sender_of, listener_of}
-use Rattle.wl_one_sender.specs.Plans.{IsSteadyPlan, sender_bus_of}
+use Rattle.wl_one_sender.specs.Plans.{IsSteadyPlan}
 use Rattle.wl_one_sender.specs.Tolerances.{IsWithinTolerance}
 use Rattle.wl_one_sender.specs.Bounds.{IsBoundOf}
 use Rattle.wl_one_sender.specs.Through.{AreFrames}

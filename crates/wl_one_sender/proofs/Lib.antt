@@ -4,12 +4,14 @@ mod Answering
 mod Bits
 mod Bounded
 mod Calm
+mod Choosing
 mod Cleaning
 mod Expecting
 mod Fitting
 mod Frames
 mod Gliding
 mod Leasts
+mod Moving
 mod Nodes
 mod Passing
 mod PlanProofs
@@ -26,3 +28,4 @@ mod Speaking
 mod Tails
 mod Through
 mod Together
+mod Yielding

@@ -1,4 +1,4 @@
--- One frame of a bus with one sender, from its rest to the acknowledgements: none is early, so nothing moves a listener, and each is over in time.
+-- One frame of a bus with one sender, from its rest to the acknowledgements: one that is early moves the nodes to which it comes first, and each is over in time.
 use Rattle.std.proofs.Common.{◌≡◌, ◌≢◌, ◌∙◌, ◌⊎◌, inl, inr, refl, sym, ap, subst, ℕ, suc, ◌+◌, ◌-◌, ◌*◌, ◌<◌, ◌≤◌, List, [], ◌∷◌, ◌++◌, length, min, Bool, true, false, cond, ◌||◌, ◌&&◌, arith}
 use Rattle.std.specs.Prelude.{nat_le, nat_lt, ◌==◌}
 use Rattle.std.proofs.lemmas.Bool.{both_ways, cases_lt, cases_eq, and_from, and_left, and_right, false_from_ne_true, le-leb, lt-leb, lt-ltb, le-ltb, eq-eqb, ne_eqb}
@@ -6,24 +6,27 @@ use Rattle.wl_level.specs.declared.Level.{Level}
 use Rattle.wl_level.specs.declared.Level.TheVariants.{Dominant, Recessive}
 use Rattle.wl_level.specs.Levels.{level_of}
 use Rattle.wl_topology.specs.Driven.{driven}
-use Rattle.wl_segments.specs.Lengths.{Lengths, sample_at, bit_quanta}
-use Rattle.wl_sync.specs.Edges.{Seen}
+use Rattle.wl_segments.specs.Lengths.{sample_at, bit_quanta}
+use Rattle.wl_sync.specs.Running.{clock_after}
 use Rattle.wl_frame.specs.Grammar.{Content}
 use Rattle.wl_machine.specs.Stretch.{Stretch}
 use Rattle.wl_node.specs.declared.setup.Passed.{Passed}
-use Rattle.wl_node.specs.History.{ready_head}
-use Rattle.wl_phase.specs.Clocks.{IsSteady, steady_tick}
+use Rattle.wl_node.specs.History.{history_of, ready_head}
+use Rattle.wl_phase.specs.Clocks.{steady_tick}
 use Rattle.wl_phase.specs.Ways.{ByTheBook}
-use Rattle.wl_phase.specs.InStep.{Sender, Listener, ClocksAreNear, SamplesBit, arrival}
-use Rattle.wl_phase.specs.Answer.{ComesInTime, ComesAfterBegin, ComesAfterOwn, EndsBeforeSample, EndsInTime, HearsAnswer, SamplesNext, answer_begin, answer_end, own_sample}
+use Rattle.wl_phase.specs.InStep.{Sender}
+use Rattle.wl_phase.specs.Answer.{FindsEarly, answer_begin, answer_end}
 use Rattle.wl_plan.specs.Line.{Line}
 use Rattle.wl_plan.specs.Simulation.{level}
 use Rattle.wl_one_sender.specs.Levels.{levels_before}
 use Rattle.wl_one_sender.specs.Expected.{levels_found}
 use Rattle.wl_one_sender.specs.OneSender.{SenderBus, IsBus, IsListener, IsInStepWithAll, lengths_of, listener_of}
-use Rattle.wl_one_sender.specs.Through.{StaysInSlots}
+use Rattle.wl_one_sender.specs.Through.{EndsInSlots}
 use Rattle.wl_one_sender.proofs.Alone.{sent, sent_after}
 use Rattle.wl_one_sender.proofs.Answering as answering
+use Rattle.wl_one_sender.proofs.Choosing as choosing
+use Rattle.wl_one_sender.proofs.Choosing.{StayLaws}
+use Rattle.wl_one_sender.proofs.Moving as moving
 use Rattle.wl_one_sender.proofs.Bits.{at_place}
 use Rattle.wl_one_sender.proofs.Expecting.{levels_same}
 use Rattle.wl_one_sender.proofs.Nodes.{IsGoing, Does, clock_at, node, does_same, going_same}
@@ -36,26 +39,6 @@ use Rattle.wl_one_sender.proofs.Silence.{CountsTo, Waits, IsSilentAt, left_none,
 use Rattle.wl_one_sender.proofs.Speaking as speaking
 use Rattle.wl_one_sender.proofs.Speaking.{HearsOwn, comes_back}
 use Rattle.wl_one_sender.proofs.Tails.{after_receiving, received_first, received_passed, received_quiet}
-
--- the law of an acknowledgement in its slot
-pub record StayLaws : Type 0 where
-  pub begins : (s : Sender) (i j : Listener) (seen other_seen : ℕ → Seen) (found other_found between d k n : ℕ) → IsSteady s.clock → IsSteady i.clock → IsSteady j.clock
-      → ComesAfterBegin s i j between → SamplesBit s i seen found d k → SamplesBit s j other_seen other_found d n → steady_tick j.clock (n + j.lengths.ps2) < answer_begin i between k
-  pub ends : (s : Sender) (i j : Listener) (seen other_seen : ℕ → Seen) (found other_found between d k n : ℕ) → IsSteady s.clock → IsSteady i.clock → IsSteady j.clock
-      → EndsBeforeSample s i j between → SamplesBit s i seen found d k → SamplesBit s j other_seen other_found d n → answer_end i between k ≤ steady_tick j.clock (n + 2 * bit_quanta j.lengths)
-  pub begins_there : (s : Sender) (j : Listener) (seen : ℕ → Seen) (found back d k : ℕ) → IsSteady s.clock → IsSteady j.clock → ComesAfterOwn s j back → SamplesBit s j seen found d k
-      → steady_tick s.clock (s.from + suc d * s.bit_quanta) < answer_begin j back k
-  pub ends_there : (s : Sender) (own : Lengths) (j : Listener) (seen : ℕ → Seen) (found back d k : ℕ) → IsSteady s.clock → IsSteady j.clock → ByTheBook own → ByTheBook j.lengths
-      → s.bit_quanta ≡ bit_quanta own → ClocksAreNear s j → ComesInTime s own j back → EndsInTime s own j back → SamplesBit s j seen found d k
-      → answer_end j back k ≤ steady_tick s.clock (own_sample s own (suc (suc d)))
-  pub samples_before : (s : Sender) (own : Lengths) (j : Listener) (seen : ℕ → Seen) (found back d k : ℕ) → IsSteady s.clock → IsSteady j.clock → ByTheBook own → ByTheBook j.lengths
-      → s.bit_quanta ≡ bit_quanta own → ClocksAreNear s j → ComesInTime s own j back → EndsInTime s own j back → SamplesBit s j seen found d k
-      → steady_tick j.clock (k + 8 * bit_quanta j.lengths) ≤ steady_tick s.clock (own_sample s own (d + 9))
-  pub sampled : (s : Sender) (own : Lengths) (j : Listener) (seen sender_seen : ℕ → Seen) (found back d k : ℕ) → IsSteady s.clock → IsSteady j.clock → ByTheBook own → ByTheBook j.lengths
-      → s.bit_quanta ≡ bit_quanta own → ClocksAreNear s j → ComesInTime s own j back → ComesAfterOwn s j back → SamplesBit s j seen found d k → HearsAnswer s own j back d k sender_seen
-      → (m : ℕ) × (own_sample s own (suc d) ≤ m) × (m ≤ own_sample s own (suc d) + own.sjw) × SamplesNext own sender_seen (own_sample s own d) m Dominant
-  pub behind : (s : Sender) (j : Listener) (seen : ℕ → Seen) (found d k : ℕ) → IsSteady s.clock → IsSteady j.clock → ByTheBook j.lengths → ClocksAreNear s j → SamplesBit s j seen found d k
-      → (c : ℕ) → c ≤ 11 → steady_tick j.clock (k + c * bit_quanta j.lengths) < arrival s j (d + c + 2)
 
 -- a level on the line from a tick to another one
 abbrev pub lasts : (from to : ℕ) → ℕ → Bool
@@ -70,7 +53,7 @@ lasts_no_more from to u h = and_right (nat_le from u) (nat_lt u to) (le-ltb u to
 pub lasts_now : (from to u : ℕ) → from ≤ u → u < to → lasts from to u ≡ true
 lasts_now from to u low high = and_from (nat_le from u) (nat_lt u to) (le-leb from u low) (lt-ltb u to high)
 
-module _ (laws : Laws) (stay : StayLaws) (b : SenderBus) (is : IsBus b) (meets : IsInStepWithAll b) (slots : StaysInSlots b) (t : ℕ) (rest : Rests laws.clocks b is t)
+module _ (laws : Laws) (stay : StayLaws) (b : SenderBus) (is : IsBus b) (meets : IsInStepWithAll b) (slots : EndsInSlots b) (t : ℕ) (rest : Rests laws.clocks b is t)
     (frame : Content) (y : List Level) (from m : ℕ) (sends : SendsNext laws.clocks b is t rest frame y from m) where
   abbrev pub l : Line
   l = b.line
@@ -111,22 +94,46 @@ module _ (laws : Laws) (stay : StayLaws) (b : SenderBus) (is : IsBus b) (meets :
   abbrev answer : (j : ℕ) → Heard j → ℕ
   answer = planned.answer laws b is meets t rest frame y from m sends
 
-  abbrev slot_sample : ℕ
-  slot_sample = own_sample s (lengths_of b a) (suc last)
+  abbrev pub natural : ℕ → ℕ
+  natural = choosing.natural laws stay b is meets slots t rest frame y from m sends
 
-  -- when each listener begins its acknowledgement, and ends it
-  pub who : (j : ℕ) → IsListener b j ⊎ (IsListener b j → ⊥)
-  who j = elim (cases_lt j l.nodes) [
-    | inl inside ↦ elim (cases_eq j a) [ inl here ↦ inr (λ p. p.1 here) | inr apart ↦ inl (inside, apart) ]
-    | inr out ↦ inr (λ p. (let inside = p.0 in omega arith))
-  ]
+  abbrev pub natural_end : ℕ → ℕ
+  natural_end = choosing.natural_end laws stay b is meets slots t rest frame y from m sends
 
+  abbrev pub IsNatural : ℕ → Type 0
+  IsNatural = choosing.IsNatural laws stay b is meets slots t rest frame y from m sends
+
+  abbrev natural_of : (j : ℕ) → IsListener b j → IsNatural j
+  natural_of = choosing.natural_of laws stay b is meets slots t rest frame y from m sends
+
+  abbrev pub Stays : ℕ → Type 0
+  Stays = choosing.Stays laws stay b is meets slots t rest frame y from m sends
+
+  abbrev pub Comes : ℕ → Type 0
+  Comes = choosing.Comes laws stay b is meets slots t rest frame y from m sends
+
+  -- the quantum with which a listener begins its acknowledgement, and that of its sample of the ACK slot
+  pub reply_by : (j : ℕ) → (v : IsNatural j) → (Stays j ⊎ Comes j) → ℕ
+  reply_by j v (inl stays) = answer j v.heard
+  reply_by j v (inr comes) = (moving.replies laws stay b is meets slots t rest frame y from m sends j v comes).reply
+
+  pub sample_by : (j : ℕ) → (v : IsNatural j) → (Stays j ⊎ Comes j) → ℕ
+  sample_by j v (inl stays) = answer j v.heard + S j
+  sample_by j v (inr comes) = moving.sample laws stay b is meets slots t rest frame y from m sends j v comes
+
+  abbrev chosen : (j : ℕ) → IsListener b j → Stays j ⊎ Comes j
+  chosen = choosing.chosen laws stay b is meets slots t rest frame y from m sends
+
+  abbrev who : (j : ℕ) → IsListener b j ⊎ (IsListener b j → ⊥)
+  who = choosing.who laws stay b is meets slots t rest frame y from m sends
+
+  -- when it begins, and ends
   begin_by : (j : ℕ) → (IsListener b j ⊎ (IsListener b j → ⊥)) → ℕ
-  begin_by j (inl p) = tick j (answer j (planned.heard_by laws b is meets t rest frame y from m sends j p))
-  begin_by j (inr n) = suc (tick a slot_sample)
+  begin_by j (inl p) = tick j (reply_by j (natural_of j p) (chosen j p))
+  begin_by j (inr n) = 0
 
   end_by : (j : ℕ) → (IsListener b j ⊎ (IsListener b j → ⊥)) → ℕ
-  end_by j (inl p) = tick j (answer j (planned.heard_by laws b is meets t rest frame y from m sends j p) + B j)
+  end_by j (inl p) = tick j (sample_by j (natural_of j p) (chosen j p) + (lengths_of b j).ps2)
   end_by j (inr n) = 0
 
   pub begin : ℕ → ℕ
@@ -136,32 +143,73 @@ module _ (laws : Laws) (stay : StayLaws) (b : SenderBus) (is : IsBus b) (meets :
   end j = end_by j (who j)
 
   pub record IsPlanned (j : ℕ) : Type 0 where
-    pub heard : Heard j
-    pub begin_is : begin j ≡ tick j (answer j heard)
-    pub end_is : end j ≡ tick j (answer j heard + B j)
+    pub nat : IsNatural j
+    pub choice : Stays j ⊎ Comes j
+    pub begin_is : begin j ≡ tick j (reply_by j nat choice)
+    pub end_is : end j ≡ tick j (sample_by j nat choice + (lengths_of b j).ps2)
 
   pub plan_of : (j : ℕ) → IsListener b j → IsPlanned j
   unfolding begin begin_by end end_by
   plan_of j p = by (who j) refl
     where
       by : (w : IsListener b j ⊎ (IsListener b j → ⊥)) → who j ≡ w → IsPlanned j
-      by (inl q) e = record { heard = planned.heard_by laws b is meets t rest frame y from m sends j q; begin_is = ap (begin_by j) e; end_is = ap (end_by j) e }
+      by (inl q) e = record { nat = natural_of j q; choice = chosen j q; begin_is = ap (begin_by j) e; end_is = ap (end_by j) e }
       by (inr n) e = absurd (n p)
 
-  pub begin_sender : begin a ≡ suc (tick a slot_sample)
-  unfolding begin begin_by
-  begin_sender = by (who a) refl
-    where
-      by : (w : IsListener b a ⊎ (IsListener b a → ⊥)) → who a ≡ w → begin_by a (who a) ≡ suc (tick a slot_sample)
-      by (inl q) e = absurd (q.1 refl)
-      by (inr n) e = ap (begin_by a) e
+  -- what is known of these quanta: the sample comes no later than without, and the acknowledgement begins no earlier than where another one comes
+  pub record AreQuanta (j : ℕ) (v : IsNatural j) (c : Stays j ⊎ Comes j) : Type 0 where
+    pub sample_high : sample_by j v c ≤ v.heard.quantum + B j
+    pub sample_late : v.heard.quantum < sample_by j v c
+    pub reply_late : v.heard.quantum < reply_by j v c
+    pub begins : (natural j ≡ tick j (reply_by j v c)) ⊎ ((i : ℕ) × IsListener b i × (natural i + l.delay i j ≤ tick j (reply_by j v c)))
+
+  pub quanta_are : (j : ℕ) (v : IsNatural j) (c : Stays j ⊎ Comes j) → AreQuanta j v c
+  unfolding reply_by sample_by
+  quanta_are j v (inl stays) =
+      let low = (is.book j v.heard.listener.0).lengths.ps2_low in
+      record { sample_high = omega arith; sample_late = omega arith; reply_late = omega arith; begins = inl v.natural_is }
+  quanta_are j v (inr comes) =
+      let r = moving.replies laws stay b is meets slots t rest frame y from m sends j v comes in
+      let e = moving.early laws stay b is meets slots t rest frame y from m sends j v comes in
+      let low = moving.sample_low laws stay b is meets slots t rest frame y from m sends j v comes in
+      let after = e.1.after in
+      let from_it = r.low in
+      let seen_it = e.1.finds.seen in
+      let by_it = (natural_of comes.by comes.listener).natural_is in
+      let rise = up j v.heard.listener.0 e.0 r.reply r.low in
+      record {
+        sample_high = moving.sample_high laws stay b is meets slots t rest frame y from m sends j v comes;
+        sample_late = omega arith;
+        reply_late = omega arith;
+        begins = inr (comes.by, comes.listener, omega arith);
+      }
+
+  -- one to which none comes begins and ends its own as if it were alone
+  pub stays_by : (j : ℕ) → Stays j → (v : IsNatural j) (c : Stays j ⊎ Comes j) → (natural j ≡ tick j (reply_by j v c)) × (natural_end j ≡ tick j (sample_by j v c + (lengths_of b j).ps2))
+  unfolding reply_by sample_by
+  stays_by j alone v (inl stays) =
+      let e : answer j v.heard + B j ≡ answer j v.heard + S j + (lengths_of b j).ps2 = omega arith in
+      (v.natural_is, v.natural_end_is ∙ ap (steady_tick (b.clocks j)) e)
+  stays_by j alone v (inr comes) =
+      let late = alone comes.by comes.listener comes.apart in
+      let soon = comes.soon in
+      absurd (omega arith)
+
+  -- and no other one ends later than that
+  pub ends_by : (j : ℕ) (v : IsNatural j) (c : Stays j ⊎ Comes j) → tick j (sample_by j v c + (lengths_of b j).ps2) ≤ natural_end j
+  ends_by j v c =
+      let high = (quanta_are j v c).sample_high in
+      let e = v.natural_end_is in
+      let rise = up j v.heard.listener.0 (sample_by j v c + (lengths_of b j).ps2) (answer j v.heard + B j) (omega arith) in
+      omega arith
 
   -- it begins after the rest
   pub begin_late : (j : ℕ) → (p : IsPlanned j) → t ≤ begin j
   begin_late j p =
-      let r = rest.node j p.heard.listener.0 in
-      let late = planned.quantum_late laws b is meets t rest frame y from m sends j p.heard in
-      let rise = up j p.heard.listener.0 (rest.node j p.heard.listener.0).start (answer j p.heard) (omega arith) in
+      let r = rest.node j p.nat.heard.listener.0 in
+      let late = planned.quantum_late laws b is meets t rest frame y from m sends j p.nat.heard in
+      let reply_late = (quanta_are j p.nat p.choice).reply_late in
+      let rise = up j p.nat.heard.listener.0 (rest.node j p.nat.heard.listener.0).start (reply_by j p.nat p.choice) (omega arith) in
       let after = r.after in
       let e = p.begin_is in
       omega arith
@@ -188,6 +236,19 @@ module _ (laws : Laws) (stay : StayLaws) (b : SenderBus) (is : IsBus b) (meets :
   -- no acknowledgement has come there by then
   abbrev Unanswered : (i x : ℕ) → Type 0
   Unanswered i x = (j : ℕ) → IsPlanned j → x < begin j + l.delay j i
+
+  -- an acknowledgement that is moved comes to no node before the one that moved it
+  pub none_from : (i x : ℕ) → i < l.nodes → ((j : ℕ) → IsListener b j → x < natural j + l.delay j i) → Unanswered i x
+  none_from i x inside none j p =
+      let e = p.begin_is in
+      elim (quanta_are j p.nat p.choice).begins [
+        | inl own ↦ (let h = none j p.nat.heard.listener in omega arith)
+        | inr other ↦
+            (let h = none other.0 other.1 in
+            let come = other.2 in
+            let way = is.detours other.0 j i other.1.0 p.nat.heard.listener.0 inside in
+            omega arith)
+      ]
 
   -- all are over there by then, and the sender's bits
   pub record AllOver (i x : ℕ) : Type 0 where
@@ -249,8 +310,8 @@ module _ (laws : Laws) (stay : StayLaws) (b : SenderBus) (is : IsBus b) (meets :
         let e = is.ticks i k inside in
         let late = begin_late j p in
         ap (λ v. level_of (v || l.disturbed i (l.instant i k)))
-        (laws.lines.dominant_from l.nodes l.delay drove j i (l.instant i k) p.heard.listener.0 (omega arith)
-        (drove_other j (l.instant i k - l.delay j i) p.heard.listener.1 (omega arith) ∙ lasts_now (begin j) (end j) (l.instant i k - l.delay j i) (omega arith) (omega arith)))
+        (laws.lines.dominant_from l.nodes l.delay drove j i (l.instant i k) p.nat.heard.listener.0 (omega arith)
+        (drove_other j (l.instant i k - l.delay j i) p.nat.heard.listener.1 (omega arith) ∙ lasts_now (begin j) (end j) (l.instant i k - l.delay j i) (omega arith) (omega arith)))
 
   -- where all nodes are at the rest
   module _ (i : ℕ) (inside : i < l.nodes) where
@@ -274,133 +335,348 @@ module _ (laws : Laws) (stay : StayLaws) (b : SenderBus) (is : IsBus b) (meets :
 
   -- a listener
   module _ (j : ℕ) (p : IsPlanned j) where
-    abbrev h : Heard j
-    h = p.heard
-
     abbrev there : j < l.nodes
-    there = p.heard.listener.0
+    there = p.nat.heard.listener.0
 
     abbrev book : ByTheBook (lengths_of b j)
-    book = is.book j p.heard.listener.0
+    book = is.book j p.nat.heard.listener.0
 
-    abbrev gone : List Passed
-    gone = planned.frames_of laws b is meets t rest frame y from m sends j p.heard.listener
+    abbrev pub gone : List Passed
+    gone = planned.frames_of laws b is meets t rest frame y from m sends j p.nat.heard.listener
 
     abbrev pub reply : ℕ
-    reply = answer j p.heard
+    reply = reply_by j p.nat p.choice
 
-    -- nothing has come by the time that its own begins
-    pub none_by : (k : ℕ) → k ≤ reply → Unanswered j (tick j k)
-    none_by k few i q =
-        let rise = up j there k reply few in
-        let here = q.begin_is in
-        elim (cases_eq i j) [
-          | inl same ↦
-              (let some = is.causal.delays i j q.heard.listener.0 there in
-              let e : begin i ≡ begin j = ap begin same in
-              let own = p.begin_is in
-              omega arith)
-          | inr apart ↦
-              (let after =
-              stay.begins s (listener_of b i) (listener_of b j) (planned.seen_by laws b is meets t rest frame y from m sends i q.heard.listener) (planned.seen_by laws b is meets t rest frame y from m sends j p.heard.listener)
-              q.heard.found p.heard.found (l.delay i j) last q.heard.quantum p.heard.quantum (is.steady a is.sender) (is.steady i q.heard.listener.0) (is.steady j p.heard.listener.0)
-              (slots.begins i j q.heard.listener p.heard.listener apart) q.heard.sampled p.heard.sampled in
-              omega arith)
-        ]
+    abbrev pub sample : ℕ
+    sample = sample_by j p.nat p.choice
 
-    -- and all are over by its sample of the ACK delimiter
-    pub over_by : (k : ℕ) → reply + S j + B j ≤ k → AllOver j (tick j k)
+    abbrev Hears : ℕ → Stretch
+    Hears n = planned.Heard laws b is meets t rest frame y from m sends j p.nat.heard n
+
+    abbrev old : ℕ → Level
+    old = planned.levels laws b is meets t rest frame y from m sends j
+
+    lists_by : (q : ℕ) → ((n : ℕ) → n < q → Unanswered j (tick j n)) → levels_before old q ≡ levels_before (lv j) q
+    lists_by q none = levels_same old (lv j) q (λ n less. sym (as_planned j n there (none n less)))
+
+    -- up to a quantum after its sample of the CRC delimiter, and what it does from then on to its sample of the ACK slot
+    pub record Outcome (r q : ℕ) : Type 0 where
+      pub none : (n : ℕ) → n ≤ p.nat.heard.quantum → Unanswered j (tick j n)
+      pub drive_at : ℕ → Level
+      pub does : (k : ℕ) → p.nat.heard.quantum < k → k ≤ q → Does laws.clocks (b.setups j) (is.book j p.nat.heard.listener.0) (lv j) gone k (Hears (suc last)) (drive_at k)
+      pub quiet : (k : ℕ) → k ≤ r → drive_at k ≡ Recessive
+      pub loud : (k : ℕ) → r < k → drive_at k ≡ Dominant
+      pub drive : Level
+      pub longer : ℕ
+      pub going : IsGoing laws.clocks (b.setups j) (is.book j p.nat.heard.listener.0) (lv j) gone (suc q) (suc (S j)) longer false (Hears (suc (suc last))) drive
+      pub slot : (clock_at laws.clocks (b.setups j) (is.book j p.nat.heard.listener.0) (lv j) (suc q)).sample ≡ Dominant
+      pub after_quiet : q ≤ r → drive ≡ Recessive
+      pub after_loud : r < q → drive ≡ Dominant
+      pub kind : (r < q) ⊎ (r ≡ q + (lengths_of b j).ps2)
+      pub over : (i : ℕ) → (w : IsPlanned i) → natural_end i + l.delay i j ≤ tick j (q + B j) ⊎ (i ≡ j)
+
+    drives_at : ℕ → ℕ → Level
+    drives_at r k = cond (nat_le k r) Recessive Dominant
+
+    quiet_at : (r k : ℕ) → k ≤ r → drives_at r k ≡ Recessive
+    unfolding drives_at
+    quiet_at r k h = rw (le-leb k r h) refl
+
+    loud_at : (r k : ℕ) → r < k → drives_at r k ≡ Dominant
+    unfolding drives_at
+    loud_at r k h = rw (lt-leb k r h) refl
+
+    does_at : (r k : ℕ) (s : Stretch) → (k ≤ r → Does laws.clocks (b.setups j) (is.book j p.nat.heard.listener.0) (lv j) gone k s Recessive)
+        → (r < k → Does laws.clocks (b.setups j) (is.book j p.nat.heard.listener.0) (lv j) gone k s Dominant)
+        → Does laws.clocks (b.setups j) (is.book j p.nat.heard.listener.0) (lv j) gone k s (drives_at r k)
+    does_at r k s low high = elim (cases_lt r k) [
+      | inl late ↦ subst (λ v. Does laws.clocks (b.setups j) (is.book j p.nat.heard.listener.0) (lv j) gone k s v) (sym (loud_at r k late)) (high late)
+      | inr early ↦ subst (λ v. Does laws.clocks (b.setups j) (is.book j p.nat.heard.listener.0) (lv j) gone k s v) (sym (quiet_at r k early)) (low early)
+    ]
+
+    start_before : (rest.node j p.nat.heard.listener.0).start ≤ p.nat.heard.quantum
+    start_before = planned.quantum_late laws b is meets t rest frame y from m sends j p.nat.heard
+
+    -- if no other one comes before its own begins
+    module _ (alone : Stays j) (choice_is : p.choice ≡ inl alone) where
+      abbrev own_reply : ℕ
+      own_reply = answer j p.nat.heard
+
+      reply_is : reply_by j p.nat p.choice ≡ answer j p.nat.heard
+      unfolding reply_by
+      reply_is = ap (reply_by j p.nat) choice_is
+
+      sample_is : sample_by j p.nat p.choice ≡ answer j p.nat.heard + S j
+      unfolding sample_by
+      sample_is = ap (sample_by j p.nat) choice_is
+
+      begin_is : begin j ≡ tick j (answer j p.nat.heard)
+      begin_is = p.begin_is ∙ ap (steady_tick (b.clocks j)) reply_is
+
+      end_is : end j ≡ tick j (answer j p.nat.heard + B j)
+      end_is = p.end_is ∙ ap (λ n. tick j (n + (lengths_of b j).ps2)) sample_is ∙ ap (steady_tick (b.clocks j)) (let e : answer j p.nat.heard + S j + (lengths_of b j).ps2 ≡ answer j p.nat.heard + B j = omega arith in e)
+
+      -- nothing has come by the time that its own begins
+      none_alone : (k : ℕ) → k ≤ answer j p.nat.heard → Unanswered j (tick j k)
+      none_alone k few =
+          let rise = up j there k (answer j p.nat.heard) few in
+          let e = p.nat.natural_is in
+          none_from j (tick j k) there (λ i w. elim (cases_eq i j) [
+            | inl same ↦
+                (let f : natural i ≡ natural j = ap natural same in
+                let some = is.causal.delays i j w.0 there in
+                omega arith)
+            | inr apart ↦ (let h = alone i w apart in omega arith)
+          ])
+
+      lists_alone : (k : ℕ) → k ≤ suc (answer j p.nat.heard) → levels_before old k ≡ levels_before (lv j) k
+      lists_alone k few = lists_by k (λ n less. none_alone n (omega arith))
+
+      place : (longer : ℕ) × IsGoing laws.clocks (b.setups j) (is.book j p.nat.heard.listener.0) (lv j) gone (suc p.nat.heard.quantum) (suc (S j)) longer false (Hears (suc last)) Recessive
+      place =
+          let low = (is.book j p.nat.heard.listener.0).lengths.ps2_low in
+          let q = planned.place laws b is meets t rest frame y from m sends j p.nat.heard in (
+            q.0,
+            going_same laws.clocks (b.setups j) (is.book j p.nat.heard.listener.0) old (lv j) (suc p.nat.heard.quantum) (lists_alone (suc p.nat.heard.quantum) (omega arith))
+                (suc (S j)) q.0 false (Hears (suc last)) Recessive q.1,
+          )
+
+      quiet_alone : (k : ℕ) → p.nat.heard.quantum < k → k ≤ answer j p.nat.heard → lv j k ≡ Recessive
+      quiet_alone k low high = as_planned j k there (none_alone k high) ∙ planned.quiet laws b is meets t rest frame y from m sends j p.nat.heard k low high
+
+      own_found : (n : ℕ) → S j ≤ n → n < B j → ((q : ℕ) → 1 ≤ q → q ≤ n → (node laws.clocks (b.setups j) (is.book j p.nat.heard.listener.0) (lv j) (answer j p.nat.heard + q)).drive ≡ Dominant)
+          → lv j (answer j p.nat.heard + n) ≡ Dominant
+      own_found n low high drives =
+          let loop = comes_back (b.clocks j) (is.steady j p.nat.heard.listener.0) (answer j p.nat.heard) (S j) (l.delay j j) (meets.loops j p.nat.heard.listener) in
+          let rise = up j there (answer j p.nat.heard + S j) (answer j p.nat.heard + n) (omega arith) in
+          let fall = up j there (answer j p.nat.heard + n) (answer j p.nat.heard + B j) (omega arith) in
+          let some = is.causal.delays j j there there in
+          let e = begin_is in
+          let f = end_is in
+          answered_then j (answer j p.nat.heard + n) there j p (omega arith) (omega arith)
+
+      -- all others are over by its sample of the ACK delimiter
+      over_alone : (i : ℕ) → (w : IsPlanned i) → natural_end i + l.delay i j ≤ tick j (answer j p.nat.heard + S j + B j) ⊎ (i ≡ j)
+      over_alone i w = elim (cases_eq i j) [
+        | inl same ↦ inr same
+        | inr apart ↦ inl
+            (let here = w.nat.natural_end_is in
+            let two : p.nat.heard.quantum + 2 * B j ≡ answer j p.nat.heard + S j + B j = omega arith in
+            let same_tick = ap (steady_tick (b.clocks j)) two in
+            let after =
+            stay.ends s (listener_of b i) (listener_of b j) (planned.seen_by laws b is meets t rest frame y from m sends i w.nat.heard.listener) (planned.seen_by laws b is meets t rest frame y from m sends j p.nat.heard.listener)
+            w.nat.heard.found p.nat.heard.found (l.delay i j) last w.nat.heard.quantum p.nat.heard.quantum (is.steady a is.sender) (is.steady i w.nat.heard.listener.0) (is.steady j p.nat.heard.listener.0)
+            (slots.ends i j w.nat.heard.listener p.nat.heard.listener apart) w.nat.heard.sampled p.nat.heard.sampled in
+            omega arith)
+      ]
+
+      alone_outcome : Outcome (answer j p.nat.heard) (answer j p.nat.heard + S j)
+      alone_outcome =
+          let low = (is.book j p.nat.heard.listener.0).lengths.ps2_low in
+          let prop = (is.book j p.nat.heard.listener.0).lengths.prop_low in
+          record {
+            none = λ n few. none_alone n (omega arith);
+            drive_at = drives_at (answer j p.nat.heard);
+            does = λ k after up_to. does_at (answer j p.nat.heard) k (Hears (suc last))
+                (λ early.
+                (let here : p.nat.heard.quantum + (S j + (k - p.nat.heard.quantum) - S j) ≡ k = omega arith in
+                subst (λ i. Does laws.clocks (b.setups j) (is.book j p.nat.heard.listener.0) (lv j) gone i (Hears (suc last)) Recessive) here
+                (answering.rests laws.clocks laws.frame (b.setups j) (is.book j p.nat.heard.listener.0) (lv j) frame sends.content y sends.stuffs gone p.nat.heard.quantum place.0 place.1 quiet_alone
+                (S j + (k - p.nat.heard.quantum)) (omega arith) (omega arith)).does))
+                (λ late.
+                (let here : answer j p.nat.heard + (k - answer j p.nat.heard) ≡ k = omega arith in
+                subst (λ i. Does laws.clocks (b.setups j) (is.book j p.nat.heard.listener.0) (lv j) gone i (Hears (suc last)) Dominant) here
+                (answering.before laws.clocks laws.frame (b.setups j) (is.book j p.nat.heard.listener.0) (lv j) frame sends.content y sends.stuffs gone p.nat.heard.quantum place.0 place.1 quiet_alone own_found
+                (k - answer j p.nat.heard) (omega arith) (omega arith)).does));
+            quiet = quiet_at (answer j p.nat.heard);
+            loud = loud_at (answer j p.nat.heard);
+            drive = Dominant;
+            longer = 0;
+            going =
+                at_place laws.clocks (b.setups j) (is.book j p.nat.heard.listener.0) (lv j) (answer j p.nat.heard + (suc (S j) + 0)) (suc (answer j p.nat.heard + S j)) (suc (S j) + 0) (suc (S j)) 0 false
+                (Hears (suc (suc last))) Dominant (omega arith) (omega arith)
+                (answering.answers laws.clocks laws.frame (b.setups j) (is.book j p.nat.heard.listener.0) (lv j) frame sends.content y sends.stuffs gone p.nat.heard.quantum place.0 place.1 quiet_alone own_found 0 (omega arith)).going;
+            slot = answering.sampled laws.clocks laws.frame (b.setups j) (is.book j p.nat.heard.listener.0) (lv j) frame sends.content y sends.stuffs gone p.nat.heard.quantum place.0 place.1 quiet_alone own_found;
+            after_quiet = λ h. absurd (omega arith);
+            after_loud = λ h. refl;
+            kind = inl (omega arith);
+            over = over_alone;
+          }
+
+    -- if one does
+    module _ (comes : Comes j) where
+      abbrev i : ℕ
+      i = comes.by
+
+      abbrev n : ℕ
+      n = moving.found laws stay b is meets slots t rest frame y from m sends j p.nat comes
+
+      abbrev q : ℕ
+      q = moving.sample laws stay b is meets slots t rest frame y from m sends j p.nat comes
+
+      abbrev early : (x : ℕ) × FindsEarly (lengths_of b j) (b.clocks j) (answer_begin (listener_of b comes.by) (l.delay comes.by j) (natural_of comes.by comes.listener).heard.quantum)
+          (answer_end (listener_of b comes.by) (l.delay comes.by j) (natural_of comes.by comes.listener).heard.quantum) p.nat.heard.quantum x
+      early = moving.early laws stay b is meets slots t rest frame y from m sends j p.nat comes
+
+      abbrev finds : ℕ → Level
+      finds = moving.finds laws stay b is meets slots t rest frame y from m sends j p.nat comes
+
+      abbrev by_it : IsPlanned comes.by
+      by_it = plan_of comes.by comes.listener
+
+      it_begins : begin comes.by ≡ tick comes.by (answer comes.by (natural_of comes.by comes.listener).heard)
+      it_begins =
+          let h = stays_by comes.by comes.stays by_it.nat by_it.choice in
+          by_it.begin_is ∙ sym h.0 ∙ (natural_of comes.by comes.listener).natural_is
+
+      it_ends : end comes.by ≡ tick comes.by (answer comes.by (natural_of comes.by comes.listener).heard + B comes.by)
+      it_ends =
+          let h = stays_by comes.by comes.stays by_it.nat by_it.choice in
+          by_it.end_is ∙ sym h.1 ∙ (natural_of comes.by comes.listener).natural_end_is
+
+      none_moved : (k : ℕ) → k < n → Unanswered j (tick j k)
+      none_moved k less =
+          let unseen = early.1.finds.unseen k less in
+          let e = (natural_of comes.by comes.listener).natural_is in
+          let few = early.1.early in
+          let rise = up j there k (answer j p.nat.heard) (omega arith) in
+          let own = p.nat.natural_is in
+          none_from j (tick j k) there (λ w r. elim (cases_eq w j) [
+            | inl same ↦
+                (let f : natural w ≡ natural j = ap natural same in
+                let some = is.causal.delays w j r.0 there in
+                omega arith)
+            | inr apart ↦ (let h = comes.first w r apart in omega arith)
+          ])
+
+      finds_it : (k : ℕ) → k ≤ q → finds k ≡ lv j k
+      finds_it k up_to = elim (cases_lt k n) [
+        | inl less ↦ moving.finds_old laws stay b is meets slots t rest frame y from m sends j p.nat comes k less ∙ sym (as_planned j k there (none_moved k less))
+        | inr late ↦
+            (let seen_it = early.1.finds.seen in
+            let rise = up j there n k late in
+            let lasts = early.1.lasts k up_to in
+            let e = it_begins in
+            let g = it_ends in
+            moving.finds_new laws stay b is meets slots t rest frame y from m sends j p.nat comes k late
+            ∙ sym (answered_then j k there comes.by by_it (omega arith) (omega arith)))
+      ]
+
+      lists_moved : (k : ℕ) → k ≤ suc q → levels_before finds k ≡ levels_before (lv j) k
+      lists_moved k few = levels_same finds (lv j) k (λ x less. finds_it x (omega arith))
+
+      over_moved : (w : ℕ) → (r : IsPlanned w) → natural_end w + l.delay w j ≤ tick j (q + B j) ⊎ (w ≡ j)
+      over_moved w r = elim (cases_eq w j) [
+        | inl same ↦ inr same
+        | inr apart ↦ inl
+            (let low = moving.sample_low laws stay b is meets slots t rest frame y from m sends j p.nat comes in
+            let rise = up j there (n + (S j - 1) + B j) (q + B j) (omega arith) in
+            let seen_it = early.1.finds.seen in
+            let here = r.nat.natural_end_is in
+            elim (cases_eq comes.by w) [
+              | inl it ↦
+                  (let e = (natural_of comes.by comes.listener).natural_end_is in
+                  let f : natural_end comes.by ≡ natural_end w = ap natural_end it in
+                  let d : l.delay comes.by j ≡ l.delay w j = ap (λ x. l.delay x j) it in
+                  let after =
+                  stay.over (listener_of b comes.by) (b.clocks j) (lengths_of b j) (l.delay comes.by j) (natural_of comes.by comes.listener).heard.quantum n (is.steady comes.by (natural_of comes.by comes.listener).heard.listener.0) (is.steady j there)
+                  (slots.fits comes.by j (natural_of comes.by comes.listener).heard.listener p.nat.heard.listener comes.apart) early.1.finds.seen in
+                  omega arith)
+              | inr third ↦
+                  (let after =
+                  stay.others s (listener_of b comes.by) (listener_of b w) (b.clocks j) (lengths_of b j)
+                  (planned.seen_by laws b is meets t rest frame y from m sends comes.by (natural_of comes.by comes.listener).heard.listener) (planned.seen_by laws b is meets t rest frame y from m sends w r.nat.heard.listener)
+                  (natural_of comes.by comes.listener).heard.found r.nat.heard.found (l.delay comes.by j) (l.delay w j) last (natural_of comes.by comes.listener).heard.quantum r.nat.heard.quantum n
+                  (is.steady a is.sender) (is.steady comes.by (natural_of comes.by comes.listener).heard.listener.0) (is.steady w r.nat.heard.listener.0) (is.steady j there)
+                  (slots.moved comes.by w j (natural_of comes.by comes.listener).heard.listener r.nat.heard.listener third there (λ e. comes.apart (sym e)) (λ e. apart (sym e)))
+                  (natural_of comes.by comes.listener).heard.sampled r.nat.heard.sampled early.1.finds.seen in
+                  omega arith)
+            ])
+      ]
+
+      moved_outcome : Outcome (moving.replies laws stay b is meets slots t rest frame y from m sends j p.nat comes).reply q
+      moved_outcome =
+          let r = moving.replies laws stay b is meets slots t rest frame y from m sends j p.nat comes in
+          let z = moving.sampled laws stay b is meets slots t rest frame y from m sends j p.nat comes in
+          let after = early.1.after in
+          record {
+            none = λ x few. none_moved x (omega arith);
+            drive_at = drives_at r.reply;
+            does = λ k past up_to. does_at r.reply k (Hears (suc last))
+                (λ low. does_same laws.clocks (b.setups j) (is.book j p.nat.heard.listener.0) finds (lv j) k (lists_moved k (omega arith)) (Hears (suc last)) Recessive (r.recessive k past low up_to))
+                (λ high. does_same laws.clocks (b.setups j) (is.book j p.nat.heard.listener.0) finds (lv j) k (lists_moved k (omega arith)) (Hears (suc last)) Dominant (r.dominant k high up_to));
+            quiet = quiet_at r.reply;
+            loud = loud_at r.reply;
+            drive = z.drive;
+            longer = z.longer;
+            going = going_same laws.clocks (b.setups j) (is.book j p.nat.heard.listener.0) finds (lv j) (suc q) (lists_moved (suc q) (omega arith)) (suc (S j)) z.longer false (Hears (suc (suc last))) z.drive z.going;
+            slot = ap (λ ls. (clock_after (lengths_of b j) (history_of (b.setups j) ls).seen).sample) (sym (lists_moved (suc q) (omega arith))) ∙ z.slot;
+            after_quiet = z.if_not;
+            after_loud = z.if_replied;
+            kind = r.kind;
+            over = over_moved;
+          }
+
+    outcome_by : (c : Stays j ⊎ Comes j) → p.choice ≡ c → Outcome (reply_by j p.nat c) (sample_by j p.nat c)
+    unfolding reply_by sample_by
+    outcome_by (inl alone) e = alone_outcome alone e
+    outcome_by (inr comes) e = moved_outcome comes
+
+    pub outcome : Outcome (reply_by j p.nat p.choice) (sample_by j p.nat p.choice)
+    outcome = outcome_by p.choice refl
+
+    -- all are over by its sample of the ACK delimiter
+    pub over_by : (k : ℕ) → sample + B j ≤ k → AllOver j (tick j k)
     over_by k late = record {
       bits =
-          (let begun = p.heard.sampled.begun in
-          let rise = up j there p.heard.quantum k (omega arith) in
+          (let begun = p.nat.heard.sampled.begun in
+          let low = (quanta_are j p.nat p.choice).sample_late in
+          let rise = up j there p.nat.heard.quantum k (omega arith) in
           omega arith);
-      answers = λ i q.
-          (let here = q.end_is in
-          let two : p.heard.quantum + 2 * B j ≡ reply + S j + B j = omega arith in
-          let rise = up j there (reply + S j + B j) k late in
-          let same_tick = ap (steady_tick (b.clocks j)) two in
-          elim (cases_eq i j) [
-            | inl same ↦
-                (let loop = comes_back (b.clocks j) (is.steady j p.heard.listener.0) (reply + B j) (S j) (l.delay j j) (meets.loops j p.heard.listener) in
-                let e : end i ≡ end j = ap end same in
+      answers = λ i w.
+          (let rise = up j there (sample + B j) k late in
+          let ends = ends_by i w.nat w.choice in
+          let e = w.end_is in
+          elim (outcome.over i w) [
+            | inl over ↦ omega arith
+            | inr same ↦
+                (let loop = comes_back (b.clocks j) (is.steady j p.nat.heard.listener.0) (sample + (lengths_of b j).ps2) (S j) (l.delay j j) (meets.loops j p.nat.heard.listener) in
+                let f : end i ≡ end j = ap end same in
                 let d : l.delay i j ≡ l.delay j j = ap (λ n. l.delay n j) same in
-                let place : reply + B j + S j ≡ reply + S j + B j = omega arith in
-                let f = ap (steady_tick (b.clocks j)) place in
+                let place : sample + (lengths_of b j).ps2 + S j ≡ sample + B j = omega arith in
+                let g = ap (steady_tick (b.clocks j)) place in
                 let own = p.end_is in
-                omega arith)
-            | inr apart ↦
-                (let after =
-                stay.ends s (listener_of b i) (listener_of b j) (planned.seen_by laws b is meets t rest frame y from m sends i q.heard.listener) (planned.seen_by laws b is meets t rest frame y from m sends j p.heard.listener)
-                q.heard.found p.heard.found (l.delay i j) last q.heard.quantum p.heard.quantum (is.steady a is.sender) (is.steady i q.heard.listener.0) (is.steady j p.heard.listener.0)
-                (slots.ends i j q.heard.listener p.heard.listener apart) q.heard.sampled p.heard.sampled in
                 omega arith)
           ]);
     }
 
-    lists : (k : ℕ) → k ≤ suc reply → levels_before (planned.levels laws b is meets t rest frame y from m sends j) k ≡ levels_before (lv j) k
-    lists k few = levels_same (planned.levels laws b is meets t rest frame y from m sends j) (lv j) k (λ n less. sym (as_planned j n there (none_by n (omega arith))))
-
-    place : (longer : ℕ) × IsGoing laws.clocks (b.setups j) (is.book j p.heard.listener.0) (lv j) gone (suc p.heard.quantum) (suc (S j)) longer false
-        (planned.Heard laws b is meets t rest frame y from m sends j p.heard (suc last)) Recessive
-    place =
-        let low = (is.book j p.heard.listener.0).lengths.ps2_low in
-        let q = planned.place laws b is meets t rest frame y from m sends j p.heard in (
-          q.0,
-          going_same laws.clocks (b.setups j) (is.book j p.heard.listener.0) (planned.levels laws b is meets t rest frame y from m sends j) (lv j) (suc p.heard.quantum) (lists (suc p.heard.quantum) (omega arith))
-              (suc (S j)) q.0 false (planned.Heard laws b is meets t rest frame y from m sends j p.heard (suc last)) Recessive q.1,
-        )
-
-    quiet : (k : ℕ) → p.heard.quantum < k → k ≤ reply → lv j k ≡ Recessive
-    quiet k low high = as_planned j k there (none_by k high) ∙ planned.quiet laws b is meets t rest frame y from m sends j p.heard k low high
-
-    own : (n : ℕ) → S j ≤ n → n < B j → ((q : ℕ) → 1 ≤ q → q ≤ n → (node laws.clocks (b.setups j) (is.book j p.heard.listener.0) (lv j) (reply + q)).drive ≡ Dominant) → lv j (reply + n) ≡ Dominant
-    own n low high drives =
-        let loop = comes_back (b.clocks j) (is.steady j p.heard.listener.0) reply (S j) (l.delay j j) (meets.loops j p.heard.listener) in
-        let rise = up j there (reply + S j) (reply + n) (omega arith) in
-        let fall = up j there (reply + n) (reply + B j) (omega arith) in
-        let some = is.causal.delays j j there there in
-        let e = p.begin_is in
-        let f = p.end_is in
-        answered_then j (reply + n) there j p (omega arith) (omega arith)
-
     -- its rest after the slot
-    abbrev pub after : Waits (reply + S j + (lengths_of b j).ps2) (S j) (B j)
-    after = after_receiving laws.frame frame sends.content y sends.stuffs (reply + S j + (lengths_of b j).ps2) (S j) (B j) gone
+    abbrev pub after : Waits (sample + (lengths_of b j).ps2) (S j) (B j)
+    after = after_receiving laws.frame frame sends.content y sends.stuffs (sample + (lengths_of b j).ps2) (S j) (B j) gone
 
     abbrev Done : Stretch
-    Done = planned.Heard laws b is meets t rest frame y from m sends j p.heard (suc (suc last))
+    Done = Hears (suc (suc last))
 
-    slot_going : IsGoing laws.clocks (b.setups j) (is.book j p.heard.listener.0) (lv j) gone (suc (reply + S j)) (suc (S j)) 0 false Done Dominant
-    slot_going =
-        let low = (is.book j p.heard.listener.0).lengths.ps2_low in
-        at_place laws.clocks (b.setups j) (is.book j p.heard.listener.0) (lv j) (reply + (suc (S j) + 0)) (suc (reply + S j)) (suc (S j) + 0) (suc (S j)) 0 false Done Dominant (omega arith) (omega arith)
-        (answering.answers laws.clocks laws.frame (b.setups j) (is.book j p.heard.listener.0) (lv j) frame sends.content y sends.stuffs gone p.heard.quantum place.0 place.1 quiet own 0 (omega arith)).going
+    silent_on : (k : ℕ) → sample + B j ≤ k → lv j k ≡ Recessive
+    silent_on k late =
+        let e = start_before in
+        let low = (quanta_are j p.nat p.choice).sample_late in
+        silent_then j k there (omega arith) (over_by k late)
 
-    slot_dominant : (clock_at laws.clocks (b.setups j) (is.book j p.heard.listener.0) (lv j) (suc (reply + S j))).sample ≡ Dominant
-    slot_dominant =
-        answering.sampled laws.clocks laws.frame (b.setups j) (is.book j p.heard.listener.0) (lv j) frame sends.content y sends.stuffs gone p.heard.quantum place.0 place.1 quiet own
-
-    start_before : (rest.node j p.heard.listener.0).start ≤ p.heard.quantum
-    start_before = planned.quantum_late laws b is meets t rest frame y from m sends j p.heard
-
-    silent_on : (k : ℕ) → reply + S j + B j ≤ k → lv j k ≡ Recessive
-    silent_on k late = let e = start_before in silent_then j k there (omega arith) (over_by k late)
-
-    pub settled : IsSilentAt laws.clocks (b.setups j) (is.book j p.heard.listener.0) (lv j) (reply + S j + (lengths_of b j).ps2) after (suc (reply + S j + B j))
+    pub settled : IsSilentAt laws.clocks (b.setups j) (is.book j p.nat.heard.listener.0) (lv j) (sample + (lengths_of b j).ps2) after (suc (sample + B j))
     settled =
-        settling.settled laws.clocks (b.setups j) (is.book j p.heard.listener.0) (lv j) gone (reply + S j) 0 Done Dominant
+        settling.settled laws.clocks (b.setups j) (is.book j p.nat.heard.listener.0) (lv j) gone sample outcome.longer Done outcome.drive
         (received_quiet laws.frame frame sends.content y sends.stuffs) after
-        (received_first laws.frame frame sends.content y sends.stuffs (reply + S j + (lengths_of b j).ps2) (S j) (B j) gone)
-        (received_passed laws.frame frame sends.content y sends.stuffs (reply + S j + (lengths_of b j).ps2) (S j) (B j) gone 0) slot_going slot_dominant
-        (silent_on (reply + S j + B j) (omega arith))
+        (received_first laws.frame frame sends.content y sends.stuffs (sample + (lengths_of b j).ps2) (S j) (B j) gone)
+        (received_passed laws.frame frame sends.content y sends.stuffs (sample + (lengths_of b j).ps2) (S j) (B j) gone 0) outcome.going outcome.slot
+        (silent_on (sample + B j) (omega arith))
 
-    pub rests_from : (k : ℕ) → suc (reply + S j + B j) ≤ k
-        → IsSilentAt laws.clocks (b.setups j) (is.book j p.heard.listener.0) (lv j) (reply + S j + (lengths_of b j).ps2) after k
+    pub rests_from : (k : ℕ) → suc (sample + B j) ≤ k
+        → IsSilentAt laws.clocks (b.setups j) (is.book j p.nat.heard.listener.0) (lv j) (sample + (lengths_of b j).ps2) after k
     rests_from k late =
-        silent_at laws.clocks (b.setups j) (is.book j p.heard.listener.0) (lv j) (reply + S j + (lengths_of b j).ps2) after (suc (reply + S j + B j)) k
+        silent_at laws.clocks (b.setups j) (is.book j p.nat.heard.listener.0) (lv j) (sample + (lengths_of b j).ps2) after (suc (sample + B j)) k
         (λ i low high. silent_on i (omega arith))
-        (λ c many low high. ap (λ v. ready_head v (reply + S j + (lengths_of b j).ps2 + c * B j + S j)) (left_none (b.setups j) (after.passed 10) (sends.alone j p.heard.listener)))
+        (λ c many low high. ap (λ v. ready_head v (sample + (lengths_of b j).ps2 + c * B j + S j)) (left_none (b.setups j) (after.passed 10) (sends.alone j p.nat.heard.listener)))
         settled k late (omega arith)
 
     -- what it does at each quantum
@@ -408,77 +684,56 @@ module _ (laws : Laws) (stay : StayLaws) (b : SenderBus) (is : IsBus b) (meets :
       pub passed : List Passed
       pub stretch : Stretch
       pub drive : Level
-      pub does : Does laws.clocks (b.setups j) (is.book j p.heard.listener.0) (lv j) passed k stretch drive
-      pub quiet : (k ≤ reply) ⊎ (reply + B j < k) → drive ≡ Recessive
-      pub loud : reply < k → k ≤ reply + B j → drive ≡ Dominant
+      pub does : Does laws.clocks (b.setups j) (is.book j p.nat.heard.listener.0) (lv j) passed k stretch drive
+      pub quiet : (k ≤ reply) ⊎ (sample + (lengths_of b j).ps2 < k) → drive ≡ Recessive
+      pub loud : reply < k → k ≤ sample + (lengths_of b j).ps2 → drive ≡ Dominant
       pub count : ℕ
-      pub gone : ((passed ≡ (rest.node j p.heard.listener.0).waits.passed (min count 10)) × CountsTo (rest.node j p.heard.listener.0).base (S j) (B j) k count)
+      pub gone : ((passed ≡ (rest.node j p.nat.heard.listener.0).waits.passed (min count 10)) × CountsTo (rest.node j p.nat.heard.listener.0).base (S j) (B j) k count)
           ⊎ (passed ≡ after.passed (min count 10))
 
-    pub doing : (k : ℕ) → (rest.node j p.heard.listener.0).start ≤ k → Doing k
-    doing k late = elim (cases_lt reply k) [
-      | inr up_to ↦
-          (let d = planned.silent laws b is meets t rest frame y from m sends j p.heard k late up_to in
-          record {
-            passed = (rest.node j p.heard.listener.0).waits.passed (min d.0 10);
-            stretch = d.1;
-            drive = Recessive;
-            does = does_same laws.clocks (b.setups j) (is.book j p.heard.listener.0) (planned.levels laws b is meets t rest frame y from m sends j) (lv j) k (lists k (omega arith)) d.1 Recessive d.2;
-            quiet = λ w. refl;
-            loud = λ above below. absurd (omega arith);
-            count = d.0;
-            gone = inl (refl, d.3);
-          })
-      | inl past ↦ elim (cases_lt (reply + B j) k) [
-        | inr in_it ↦ answers_then past in_it
-        | inl over ↦ after_it over
-      ]
-    ]
+    pub doing : (k : ℕ) → (rest.node j p.nat.heard.listener.0).start ≤ k → Doing k
+    doing k late =
+        let quanta = quanta_are j p.nat p.choice in
+        let reply_late = quanta.reply_late in
+        let sample_late = quanta.sample_late in
+        let low = (is.book j p.nat.heard.listener.0).lengths.ps2_low in
+        elim (cases_lt p.nat.heard.quantum k) [
+          | inr up_to ↦
+              (let d = planned.silent laws b is meets t rest frame y from m sends j p.nat.heard k late (omega arith) in
+              record {
+                passed = (rest.node j p.nat.heard.listener.0).waits.passed (min d.0 10);
+                stretch = d.1;
+                drive = Recessive;
+                does = does_same laws.clocks (b.setups j) (is.book j p.nat.heard.listener.0) old (lv j) k (lists_by k (λ n less. outcome.none n (omega arith))) d.1 Recessive d.2;
+                quiet = λ w. refl;
+                loud = λ above below. absurd (omega arith);
+                count = d.0;
+                gone = inl (refl, d.3);
+              })
+          | inl past ↦ elim (cases_lt sample k) [
+            | inr before_it ↦
+                record {
+                  passed = gone;
+                  stretch = Hears (suc last);
+                  drive = outcome.drive_at k;
+                  does = outcome.does k past before_it;
+                  quiet = λ w. elim w [ inl few ↦ outcome.quiet k few | inr many ↦ absurd (omega arith) ];
+                  loud = λ above below. outcome.loud k above;
+                  count = 10;
+                  gone = inl (ap (rest.node j p.nat.heard.listener.0).waits.passed (sym ten), counted_then past);
+                }
+            | inl over ↦ after_it past over
+          ]
+        ]
       where
         ten : min 10 10 ≡ 10
         ten = omega arith
 
-        counted_then : reply < k → CountsTo (rest.node j p.heard.listener.0).base (S j) (B j) k 10
-        counted_then past = ten_counted (rest.node j p.heard.listener.0).base (S j) (B j) k (let e = p.heard.ten in let f = p.heard.sampled.after in omega arith)
+        counted_then : p.nat.heard.quantum < k → CountsTo (rest.node j p.nat.heard.listener.0).base (S j) (B j) k 10
+        counted_then past = ten_counted (rest.node j p.nat.heard.listener.0).base (S j) (B j) k (let e = p.nat.heard.ten in let f = p.nat.heard.sampled.after in omega arith)
 
-        answers_then : reply < k → k ≤ reply + B j → Doing k
-        answers_then past in_it =
-            let ten_then = counted_then past in
-            let low = (is.book j p.heard.listener.0).lengths.ps2_low in
-            let place_is : reply + (k - reply) ≡ k = omega arith in
-            elim (cases_lt (S j) (k - reply)) [
-              | inl later ↦
-                  (let n = k - reply - suc (S j) in
-                  let here : reply + (suc (S j) + (k - reply - suc (S j))) ≡ k = omega arith in
-                  let g = (answering.answers laws.clocks laws.frame (b.setups j) (is.book j p.heard.listener.0) (lv j) frame sends.content y sends.stuffs gone p.heard.quantum place.0 place.1 quiet own
-                  (k - reply - suc (S j)) (omega arith)).going.does in
-                  record {
-                    passed = gone;
-                    stretch = Done;
-                    drive = Dominant;
-                    does = subst (λ i. Does laws.clocks (b.setups j) (is.book j p.heard.listener.0) (lv j) gone i Done Dominant) here g;
-                    quiet = λ w. absurd (elim w [ inl a ↦ omega arith | inr a ↦ omega arith ]);
-                    loud = λ above below. refl;
-                    count = 10;
-                    gone = inl (ap (rest.node j p.heard.listener.0).waits.passed (sym ten), ten_then);
-                  })
-              | inr early ↦
-                  (let g = (answering.before laws.clocks laws.frame (b.setups j) (is.book j p.heard.listener.0) (lv j) frame sends.content y sends.stuffs gone p.heard.quantum place.0 place.1 quiet own
-                  (k - reply) (omega arith) early).does in
-                  record {
-                    passed = gone;
-                    stretch = planned.Heard laws b is meets t rest frame y from m sends j p.heard (suc last);
-                    drive = Dominant;
-                    does = subst (λ i. Does laws.clocks (b.setups j) (is.book j p.heard.listener.0) (lv j) gone i (planned.Heard laws b is meets t rest frame y from m sends j p.heard (suc last)) Dominant) place_is g;
-                    quiet = λ w. absurd (elim w [ inl a ↦ omega arith | inr a ↦ omega arith ]);
-                    loud = λ above below. refl;
-                    count = 10;
-                    gone = inl (ap (rest.node j p.heard.listener.0).waits.passed (sym ten), ten_then);
-                  })
-            ]
-
-        after_it : reply + B j < k → Doing k
-        after_it over = let ten_then = counted_then (omega arith) in elim (cases_lt (reply + S j + B j) k) [
+        after_it : p.nat.heard.quantum < k → sample < k → Doing k
+        after_it past over = elim (cases_lt (sample + B j) k) [
           | inl idle ↦
               (let r = rests_from k idle in
               record {
@@ -491,20 +746,44 @@ module _ (laws : Laws) (stay : StayLaws) (b : SenderBus) (is : IsBus b) (meets :
                 count = r.count;
                 gone = inr refl;
               })
-          | inr delimiter ↦
-              (let d =
-              settling.delimiting laws.clocks (b.setups j) (is.book j p.heard.listener.0) (lv j) gone (reply + S j) 0 Done Dominant
-              (received_quiet laws.frame frame sends.content y sends.stuffs) after
-              (received_first laws.frame frame sends.content y sends.stuffs (reply + S j + (lengths_of b j).ps2) (S j) (B j) gone)
-              (received_passed laws.frame frame sends.content y sends.stuffs (reply + S j + (lengths_of b j).ps2) (S j) (B j) gone 0) slot_going slot_dominant k (omega arith) delimiter in
-              record {
-                passed = gone;
-                stretch = Done;
-                drive = Recessive;
-                does = d;
-                quiet = λ w. refl;
-                loud = λ above below. absurd (omega arith);
-                count = 10;
-                gone = inl (ap (rest.node j p.heard.listener.0).waits.passed (sym ten), ten_then);
-              })
+          | inr delimiter ↦ elim (cases_lt (sample + (lengths_of b j).ps2) k) [
+            | inl delimiting ↦
+                (let d =
+                settling.delimiting laws.clocks (b.setups j) (is.book j p.nat.heard.listener.0) (lv j) gone sample outcome.longer Done outcome.drive
+                (received_quiet laws.frame frame sends.content y sends.stuffs) after
+                (received_first laws.frame frame sends.content y sends.stuffs (sample + (lengths_of b j).ps2) (S j) (B j) gone)
+                (received_passed laws.frame frame sends.content y sends.stuffs (sample + (lengths_of b j).ps2) (S j) (B j) gone 0) outcome.going outcome.slot k delimiting delimiter in
+                record {
+                  passed = gone;
+                  stretch = Done;
+                  drive = Recessive;
+                  does = d;
+                  quiet = λ w. refl;
+                  loud = λ above below. absurd (omega arith);
+                  count = 10;
+                  gone = inl (ap (rest.node j p.nat.heard.listener.0).waits.passed (sym ten), counted_then past);
+                })
+            | inr in_slot ↦
+                (let d =
+                settling.between laws.clocks (b.setups j) (is.book j p.nat.heard.listener.0) (lv j) gone sample outcome.longer Done outcome.drive
+                (received_quiet laws.frame frame sends.content y sends.stuffs) after
+                (received_first laws.frame frame sends.content y sends.stuffs (sample + (lengths_of b j).ps2) (S j) (B j) gone)
+                (received_passed laws.frame frame sends.content y sends.stuffs (sample + (lengths_of b j).ps2) (S j) (B j) gone 0) outcome.going outcome.slot k over in_slot in
+                record {
+                  passed = gone;
+                  stretch = Done;
+                  drive = outcome.drive;
+                  does = d;
+                  quiet = λ w. elim w [
+                    | inl few ↦ outcome.after_quiet (omega arith)
+                    | inr many ↦ absurd (omega arith)
+                  ];
+                  loud = λ above below. elim outcome.kind [
+                    | inl replied ↦ outcome.after_loud replied
+                    | inr none ↦ absurd (omega arith)
+                  ];
+                  count = 10;
+                  gone = inl (ap (rest.node j p.nat.heard.listener.0).waits.passed (sym ten), counted_then past);
+                })
+          ]
         ]

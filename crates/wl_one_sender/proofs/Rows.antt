@@ -7,7 +7,7 @@ use Rattle.wl_level.specs.declared.Level.TheVariants.{Dominant}
 use Rattle.wl_frame.specs.Grammar.{content_of}
 use Rattle.wl_one_sender.specs.OneSender.{SenderBus}
 use Rattle.wl_one_sender.specs.Through.{due_quantum}
-use Rattle.wl_one_sender.specs.Tolerances.{FitAll, Tolerance}
+use Rattle.wl_one_sender.specs.Tolerances.{FitClocks, Tolerance}
 use Rattle.wl_phase.specs.Clocks.{steady_timing}
 use Rattle.wl_phase.specs.InStep.{Sender, Listener, AreNear}
 use Rattle.wl_phase.specs.Answer.{IsInTime, ComesAfterBegin, ComesAfterOwn, ComesAfterSample, EndsBeforeSample, EndsInTime}
@@ -103,28 +103,25 @@ abbrev crystals : Tolerance
 crystals = record { units = 10; shortest = λ i. 995; longest = λ i. 1005 }
 
 -- 292 ticks from each node to each, and back to itself: a quantum of 1005 units, two ticks and 1000 units of drift are within 2920; 5840 and 1100 within 7 quanta of 995
-all_fit : FitAll crystals (cable_of 292)
+all_fit : FitClocks crystals (cable_of 292)
 all_fit = record {
-  clocks = record {
-    slow = λ j p. omega arith;
-    fast = λ j p. omega arith;
-    sample = λ j p. omega arith;
-    jump = λ j p. omega arith;
-    loops = λ j p. omega arith;
-    after_sample = λ j p. omega arith;
-    apart = λ i j p q apart. omega arith;
-    ends_there = λ j p. omega arith;
-    ends = λ i j p q apart. omega arith;
-  };
-  slots = record { begins_there = λ j p. omega arith; begins = λ i j p q apart. omega arith };
+  slow = λ j p. omega arith;
+  fast = λ j p. omega arith;
+  sample = λ j p. omega arith;
+  jump = λ j p. omega arith;
+  loops = λ j p. omega arith;
+  after_sample = λ j p. omega arith;
+  apart = λ i j p q apart. omega arith;
+  ends_there = λ j p. omega arith;
+  ends = λ i j p q apart. omega arith;
+  lasts = λ i j p q apart. omega arith;
+  jumps = λ i j p q apart. omega arith;
+  moved = λ i j w p q apart there not_i not_j. omega arith;
 }
 
--- with 202 ticks, 2020 units, an acknowledgement may be early, and with 294 one may end late
-one_early : FitAll crystals (cable_of 202) → ⊥
-one_early fit = let h = fit.slots.begins 1 2 (omega arith, λ e. omega (arith, e)) (omega arith, λ e. omega (arith, e)) (λ e. omega (arith, e)) in omega arith
-
-one_late : FitAll crystals (cable_of 294) → ⊥
-one_late fit = let h = fit.clocks.ends_there 1 (omega arith, λ e. omega (arith, e)) in omega arith
+-- with 294 one may end late
+one_late : FitClocks crystals (cable_of 294) → ⊥
+one_late fit = let h = fit.ends_there 1 (omega arith, λ e. omega (arith, e)) in omega arith
 
 -- two frames of 3 and 4 bits, in bits of 10 quanta: 18 bits after the first 8, and 19 after quantum 500
 abbrev lists : ℕ → List Level

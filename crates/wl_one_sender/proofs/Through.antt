@@ -3,7 +3,7 @@ use Rattle.std.proofs.Common.{◌≡◌, ◌≢◌, ◌∙◌, ◌⊎◌, inl, i
 use Rattle.std.specs.Prelude.{◌==◌}
 use Rattle.std.proofs.lemmas.Bool.{cases_lt, cases_eq, le-leb, lt-leb, ne_eqb}
 use Rattle.std.proofs.Math.Bridge.{le_prop}
-use Rattle.std.proofs.Math.Nat.{mul-le-mul_right, le_of_mul-le-mul_left}
+use Rattle.std.proofs.Math.Nat.{mul-le-mul_right}
 use Rattle.std.proofs.lemmas.List.{get_or_past}
 use Rattle.wl_level.specs.declared.Level.{Level}
 use Rattle.wl_level.specs.declared.Level.TheVariants.{Dominant, Recessive}
@@ -18,27 +18,29 @@ use Rattle.wl_machine.specs.Stretch.{Stretch}
 use Rattle.wl_machine.specs.Judged.{awaits_start, drive_of}
 use Rattle.wl_node.specs.declared.setup.Passed.{Passed}
 use Rattle.wl_node.specs.declared.setup.Queued.{Queued}
+use Rattle.wl_node.specs.History.{history_of}
 use Rattle.wl_phase.specs.Clocks.{Finds, steady_tick}
 use Rattle.wl_phase.specs.Ways.{ByTheBook}
 use Rattle.wl_phase.specs.InStep.{Sender, samples_from}
-use Rattle.wl_phase.specs.Answer.{HearsAnswer, SamplesNext, answer_begin, own_sample}
+use Rattle.wl_phase.specs.Answer.{HearsAnswer, IsAnswered, SamplesNext, answer_begin, moved_sample, own_sample}
 use Rattle.wl_plan.specs.Line.{Line}
 use Rattle.wl_plan.specs.Simulation.{level, seen}
 use Rattle.wl_one_sender.specs.Levels.{levels_before}
 use Rattle.wl_one_sender.specs.Expected.{IsExpected, levels_found}
 use Rattle.wl_one_sender.specs.OneSender.{SenderBus, IsBus, IsListener, IsInStepWithAll, lengths_of, listener_of}
-use Rattle.wl_one_sender.specs.Through.{StaysInSlots}
+use Rattle.wl_one_sender.specs.Through.{EndsInSlots}
 use Rattle.wl_one_sender.proofs.Alone.{sent, sent_before, sent_after}
 use Rattle.wl_one_sender.proofs.Expecting.{LastQuantum, driven_is, last_quantum, level_first, level_then, levels_same, seen_is}
 use Rattle.wl_one_sender.proofs.Frames as frames
-use Rattle.wl_one_sender.proofs.Leasts.{least, least_each, least_is}
-use Rattle.wl_one_sender.proofs.Nodes.{IsGoing, Does, beat_at, clock_at, node, sees_at, seen_are, sample_before}
+use Rattle.wl_one_sender.proofs.Nodes.{IsGoing, Does, beat_at, clock_at, does_same, node, sees_at, seen_are, sample_before}
 use Rattle.wl_one_sender.proofs.Passing.{IsNext, IsPassed, one_passed}
 use Rattle.wl_one_sender.proofs.Planned as planned
 use Rattle.wl_one_sender.proofs.Planned.{Laws, IsHeard}
 use Rattle.wl_one_sender.proofs.Receiving.{sampled_place}
 use Rattle.wl_one_sender.proofs.Replies as replies
-use Rattle.wl_one_sender.proofs.Replies.{StayLaws, lasts, lasts_not_yet, lasts_no_more, lasts_now}
+use Rattle.wl_one_sender.proofs.Choosing as choosing
+use Rattle.wl_one_sender.proofs.Choosing.{StayLaws}
+use Rattle.wl_one_sender.proofs.Replies.{lasts, lasts_not_yet, lasts_no_more, lasts_now}
 use Rattle.wl_one_sender.proofs.Resting as resting
 use Rattle.wl_one_sender.proofs.Resting.{Rests, RestsAt, SendsNext}
 use Rattle.wl_one_sender.proofs.Settling as settling
@@ -48,7 +50,7 @@ use Rattle.wl_one_sender.proofs.Speaking as speaking
 use Rattle.wl_one_sender.proofs.Speaking.{HearsOwn, comes_back}
 use Rattle.wl_one_sender.proofs.Tails.{after_sending, kept, receiving_enough, received_passed, sent_first, sent_passed, sent_quiet}
 
-module _ (laws : Laws) (stay : StayLaws) (b : SenderBus) (is : IsBus b) (meets : IsInStepWithAll b) (slots : StaysInSlots b) (t : ℕ) (rest : Rests laws.clocks b is t)
+module _ (laws : Laws) (stay : StayLaws) (b : SenderBus) (is : IsBus b) (meets : IsInStepWithAll b) (slots : EndsInSlots b) (t : ℕ) (rest : Rests laws.clocks b is t)
     (frame : Content) (y : List Level) (from m : ℕ) (sends : SendsNext laws.clocks b is t rest frame y from m) where
   abbrev l : Line
   l = b.line
@@ -95,6 +97,12 @@ module _ (laws : Laws) (stay : StayLaws) (b : SenderBus) (is : IsBus b) (meets :
   abbrev end : ℕ → ℕ
   end = replies.end laws stay b is meets slots t rest frame y from m sends
 
+  abbrev natural : ℕ → ℕ
+  natural = choosing.natural laws stay b is meets slots t rest frame y from m sends
+
+  abbrev natural_end : ℕ → ℕ
+  natural_end = choosing.natural_end laws stay b is meets slots t rest frame y from m sends
+
   abbrev pub IsPlanned : ℕ → Type 0
   IsPlanned = replies.IsPlanned laws stay b is meets slots t rest frame y from m sends
 
@@ -138,13 +146,27 @@ module _ (laws : Laws) (stay : StayLaws) (b : SenderBus) (is : IsBus b) (meets :
   abbrev pub reply : (j : ℕ) → IsPlanned j → ℕ
   reply = replies.reply laws stay b is meets slots t rest frame y from m sends
 
-  abbrev pub after : (j : ℕ) → (p : IsPlanned j) → Waits (reply j p + S j + (lengths_of b j).ps2) (S j) (B j)
+  abbrev pub sample : (j : ℕ) → IsPlanned j → ℕ
+  sample = replies.sample laws stay b is meets slots t rest frame y from m sends
+
+  abbrev pub after : (j : ℕ) → (p : IsPlanned j) → Waits (sample j p + (lengths_of b j).ps2) (S j) (B j)
   after = replies.after laws stay b is meets slots t rest frame y from m sends
 
-  abbrev over_by : (j : ℕ) (p : IsPlanned j) (k : ℕ) → reply j p + S j + B j ≤ k → AllOver j (tick j k)
+  abbrev over_by : (j : ℕ) (p : IsPlanned j) (k : ℕ) → sample j p + B j ≤ k → AllOver j (tick j k)
   over_by = replies.over_by laws stay b is meets slots t rest frame y from m sends
 
-  -- the sender: no acknowledgement comes to it before its slot has begun
+  -- it samples its own slot no later than two bits before that of its delimiter would be without an early edge
+  sample_high : (j : ℕ) → (p : IsPlanned j) → sample j p ≤ p.nat.heard.quantum + B j
+  sample_high j p = (replies.quanta_are laws stay b is meets slots t rest frame y from m sends j p.nat p.choice).sample_high
+
+  rises : (i k : ℕ) → i < l.nodes → tick i k < tick i (suc k)
+  rises i k inside =
+      let next = is.causal.clocks i k inside in
+      let e = is.ticks i k inside in
+      let g = is.ticks i (suc k) inside in
+      omega arith
+
+  -- the sender
   abbrev book_a : ByTheBook (lengths_of b a)
   book_a = is.book a is.sender
 
@@ -157,14 +179,9 @@ module _ (laws : Laws) (stay : StayLaws) (b : SenderBus) (is : IsBus b) (meets :
   abbrev DoesOwn : (passed : List Passed) (k : ℕ) (u : Stretch) (drive : Level) → Type 0
   DoesOwn = Does laws.clocks (b.setups a) (is.book a is.sender) (lv a)
 
-  none_own : (k : ℕ) → k ≤ base (suc last) → Unanswered a (tick a k)
-  none_own k few i q =
-      let rise = up a is.sender k (base (suc last)) few in
-      let here = q.begin_is in
-      let after =
-      stay.begins_there s (listener_of b i) (planned.seen_by laws b is meets t rest frame y from m sends i q.heard.listener) q.heard.found (l.delay i a) last q.heard.quantum (is.steady a is.sender) (is.steady i q.heard.listener.0)
-      (slots.begins_there i q.heard.listener) q.heard.sampled in
-      omega arith
+  -- as it would be without acknowledgements
+  abbrev alone : ℕ → Level
+  alone = planned.levels laws b is meets t rest frame y from m sends a
 
   loop : (n : ℕ) → begins n + l.delay a a ≤ tick a (base n + S a)
   loop = speaking.loop laws.clocks laws.frame b is meets t rest frame y from m sends
@@ -172,78 +189,56 @@ module _ (laws : Laws) (stay : StayLaws) (b : SenderBus) (is : IsBus b) (meets :
   start_before_own : (rest.node a is.sender).start ≤ from
   start_before_own = speaking.start_before laws.clocks laws.frame b is meets t rest frame y from m sends
 
-  own_hears : HearsOwn laws.clocks laws.frame b is meets t rest frame y from m sends (lv a)
-  own_hears = record {
-    first = replies.first laws stay b is meets slots t rest frame y from m sends a is.sender;
-    early = λ k late soon.
-        (let come = loop 0 in
-        let few = (is.book a is.sender).lengths.ps2_low in
-        let bit : 0 * B a ≤ suc last * B a = mul-le-mul_right (B a) (omega arith) in
-        let one : suc last * B a ≡ last * B a + B a = omega arith in
-        let less : k < base 0 + S a = elim (cases_lt k (base 0 + S a)) [
-          | inl less ↦ less
-          | inr more ↦ (let rise = up a is.sender (base 0 + S a) k more in absurd (omega arith))
-        ] in
-        as_planned a k is.sender (none_own k (omega arith)) ∙ planned.finds_early laws b is meets t rest frame y from m sends a is.sender k late soon);
-    one = λ k n late soon h low high. as_planned a k is.sender (none_own k soon) ∙ planned.finds_one laws b is meets t rest frame y from m sends a is.sender k n late h low high;
-  }
+  abbrev pub delimiter : ℕ
+  delimiter = own_sample s (lengths_of b a) last
 
-  -- the acknowledgement that reaches it first
-  reach : ℕ → ℕ
-  reach i = begin i + l.delay i a
-
-  comes_by : (j : ℕ) → (p : IsPlanned j) → begin j + l.delay j a ≤ tick a slot_sample
-  comes_by j p = let e = p.begin_is in let f = (planned.answered laws b is meets t rest frame y from m sends j p.heard).before in omega arith
-
-  pub record IsFirst (i : ℕ) : Type 0 where
-    pub plan : IsPlanned i
-    pub first : (j : ℕ) → IsPlanned j → begin i + l.delay i a ≤ begin j + l.delay j a
+  -- the acknowledgement that comes to it first
+  abbrev pub IsFirst : ℕ → Type 0
+  IsFirst = choosing.IsFirst laws stay b is meets slots t rest frame y from m sends
 
   pub the_first : (i : ℕ) × IsFirst i
-  the_first =
-      let other = is.other in
-      let p = plan_of other.0 other.1 in
-      let by = comes_by other.0 p in
-      let low = least_each (suc (tick a slot_sample)) (λ i. begin i + l.delay i a) l.nodes other.0 other.1.0 in
-      elim (least_is (suc (tick a slot_sample)) (λ i. begin i + l.delay i a) l.nodes) [
-        | inl e ↦ absurd (omega arith)
-        | inr r ↦ (r.0, first_by r.0 r.1 r.2)
-      ]
-    where
-      first_by : (i : ℕ) → i < l.nodes → least (suc (tick a slot_sample)) (λ i. begin i + l.delay i a) l.nodes ≡ begin i + l.delay i a → IsFirst i
-      first_by i inside e = elim (cases_eq i a) [
-        | inl here ↦
-            (let other = is.other in
-            let p = plan_of other.0 other.1 in
-            let by = comes_by other.0 p in
-            let low = least_each (suc (tick a slot_sample)) (λ i. begin i + l.delay i a) l.nodes other.0 other.1.0 in
-            let same : begin i ≡ begin a = ap begin here in
-            let late = replies.begin_sender laws stay b is meets slots t rest frame y from m sends in
-            absurd (omega arith))
-        | inr apart ↦ record {
-          plan = plan_of i (inside, apart);
-          first = λ j q. (let low = least_each (suc (tick a slot_sample)) (λ i. begin i + l.delay i a) l.nodes j q.heard.listener.0 in omega arith);
-        }
-      ]
+  the_first = choosing.the_first laws stay b is meets slots t rest frame y from m sends
 
   module _ (i : ℕ) (f : IsFirst i) where
-    abbrev heard : Heard i
-    heard = f.plan.heard
+    abbrev nat : choosing.IsNatural laws stay b is meets slots t rest frame y from m sends i
+    nat = choosing.natural_of laws stay b is meets slots t rest frame y from m sends i f.listener
+
+    abbrev plan : IsPlanned i
+    plan = plan_of i f.listener
 
     abbrev edge : ℕ
-    edge = answer_begin (listener_of b i) (l.delay i a) f.plan.heard.quantum
+    edge = answer_begin (listener_of b i) (l.delay i a) nat.heard.quantum
 
     abbrev seen_own : ℕ → Seen
     seen_own = sees_at laws.clocks (b.setups a) (is.book a is.sender) (lv a)
 
-    abbrev delimiter : ℕ
-    delimiter = own_sample s (lengths_of b a) last
+    edge_is : edge ≡ natural i + l.delay i a
+    edge_is = let e = nat.natural_is in omega arith
 
-    edge_is : edge ≡ begin i + l.delay i a
-    edge_is = let e = f.plan.begin_is in omega arith
+    it_begins : begin i ≡ natural i
+    it_begins = let h = replies.stays_by laws stay b is meets slots t rest frame y from m sends i f.stays plan.nat plan.choice in plan.begin_is ∙ sym h.0
+
+    it_ends : end i ≡ natural_end i
+    it_ends = let h = replies.stays_by laws stay b is meets slots t rest frame y from m sends i f.stays plan.nat plan.choice in plan.end_is ∙ sym h.1
 
     none_before_edge : (k : ℕ) → tick a k < edge → Unanswered a (tick a k)
-    none_before_edge k soon j q = let e = edge_is in let first_one = f.first j q in omega arith
+    none_before_edge k soon =
+        let e = edge_is in
+        replies.none_from laws stay b is meets slots t rest frame y from m sends a (tick a k) is.sender (λ j p. (let first_one = f.first j p in omega arith))
+
+    -- it comes after the sample of the CRC delimiter, and by that of the slot
+    answered : IsAnswered s (lengths_of b a) (listener_of b i) (l.delay i a) last nat.heard.quantum
+    answered = planned.answered laws b is meets t rest frame y from m sends i nat.heard
+
+    lists_before : (k : ℕ) → ((q : ℕ) → q < k → tick a q < edge) → levels_before alone k ≡ levels_before (lv a) k
+    lists_before k soon = levels_same alone (lv a) k (λ q less. sym (as_planned a q is.sender (none_before_edge q (soon q less))))
+
+    lists_delimited : (k : ℕ) → k ≤ suc delimiter → levels_before alone k ≡ levels_before (lv a) k
+    lists_delimited k few =
+        lists_before k (λ q less.
+        (let after = answered.after in
+        let rise = up a is.sender q delimiter (omega arith) in
+        omega arith))
 
     quiet_own : (k : ℕ) → delimiter < k → tick a k < edge → lv a k ≡ Recessive
     quiet_own k low soon =
@@ -258,59 +253,87 @@ module _ (laws : Laws) (stay : StayLaws) (b : SenderBus) (is : IsBus b) (meets :
     -- where it is when it finds that
     waits : (k : ℕ) → Finds (b.clocks a) k edge → DoesOwn sent_frames k (Frame (suc last)) Recessive
     waits k finds =
-        let here = next_slot in
+        let after = answered.after in
+        let before = answered.before in
         let seen_it = finds.seen in
-        let e = edge_is in
-        let none = none_own (base (suc last)) (omega arith) i f.plan in
-        let low_ps2 = (is.book a is.sender).lengths.ps2_low in
-        let by = comes_by i f.plan in
-        let low : base (suc last) < k = elim (cases_lt (base (suc last)) k) [
+        let low : delimiter < k = elim (cases_lt delimiter k) [
           | inl less ↦ less
-          | inr more ↦ (let rise = up a is.sender k (base (suc last)) more in absurd (omega arith))
+          | inr more ↦ (let rise = up a is.sender k delimiter more in absurd (omega arith))
         ] in
         let high : k ≤ slot_sample = elim (cases_lt slot_sample k) [
           | inl less ↦ (let unseen = finds.unseen slot_sample less in absurd (omega arith))
           | inr more ↦ more
         ] in
-        speaking.delimited laws.clocks laws.frame b is meets t rest frame y from m sends (lv a) own_hears (k - base (suc last)) (omega arith)
-        (λ p less. quiet_own (base (suc last) + p) (omega arith) (finds.unseen (base (suc last) + p) (omega arith))) k (omega arith) (omega arith)
+        does_same laws.clocks (b.setups a) (is.book a is.sender) alone (lv a) k (lists_before k (λ q less. finds.unseen q less)) (Frame (suc last)) Recessive
+        (planned.delimited laws b is meets t rest frame y from m sends k low high)
 
     drive_none : drive_of (Frame (suc last)) ≡ Recessive
     drive_none = frames.sender_drives laws.frame frame sends.content y sends.stuffs (suc last) (omega arith) ∙ get_or_past y (suc last) Recessive (omega arith)
 
-    hears : HearsAnswer s (lengths_of b a) (listener_of b i) (l.delay i a) last f.plan.heard.quantum seen_own
+    hears : HearsAnswer s (lengths_of b a) (listener_of b i) (l.delay i a) last nat.heard.quantum seen_own
     hears = record {
-      clock = ap (clock_after (lengths_of b a)) (sym (seen_are laws.clocks (b.setups a) (is.book a is.sender) (lv a) (suc delimiter))) ∙ speaking.delimited_clock laws.clocks laws.frame b is meets t rest frame y from m sends (lv a) own_hears;
+      clock =
+          ap (clock_after (lengths_of b a)) (sym (seen_are laws.clocks (b.setups a) (is.book a is.sender) (lv a) (suc delimiter)))
+          ∙ ap (λ ls. clock_after (lengths_of b a) (history_of (b.setups a) ls).seen) (sym (lists_delimited (suc delimiter) (omega arith)))
+          ∙ speaking.delimited_clock laws.clocks laws.frame b is meets t rest frame y from m sends alone (planned.own laws b is meets t rest frame y from m sends);
       silent = quiet_own;
-      there = λ k low soon. (let e = f.plan.begin_is in let g = f.plan.end_is in answered_then a k is.sender i f.plan (omega arith) (omega arith));
+      there = λ k low soon. (let e = nat.natural_is in let g = nat.natural_end_is in let x = it_begins in let z = it_ends in answered_then a k is.sender i plan (omega arith) (omega arith));
       awaits = λ k finds. ap awaits_start (waits k finds).stretch
           ∙ ap (λ n. n == 0) (frames.own_length laws.frame frame sends.content y sends.stuffs (suc last) (omega arith)) ∙ ne_eqb (suc last) 0 (λ e. omega arith);
       driving = λ k finds. ap is_dominant (waits k finds).drives;
     }
 
     pub record SlotSample : Type 0 where
+      pub found : ℕ
+      pub finds : Finds (b.clocks a) found edge
+      pub later : delimiter < found
+      pub inside : found ≤ slot_sample
       pub quantum : ℕ
-      pub low : slot_sample ≤ quantum
+      pub quantum_is : quantum ≡ moved_sample (lengths_of b a) delimiter found
+      pub near : slot_sample ≤ quantum + (lengths_of b a).sjw
       pub high : quantum ≤ slot_sample + (lengths_of b a).sjw
       pub next : SamplesNext (lengths_of b a) seen_own delimiter quantum Dominant
 
     pub slot_sampled_at : SlotSample
     slot_sampled_at =
         let r =
-        stay.sampled s (lengths_of b a) (listener_of b i) (planned.seen_by laws b is meets t rest frame y from m sends i f.plan.heard.listener) seen_own f.plan.heard.found (l.delay i a) last f.plan.heard.quantum
-        (is.steady a is.sender) (is.steady i f.plan.heard.listener.0) (is.book a is.sender) (is.book i f.plan.heard.listener.0) refl (meets.near i f.plan.heard.listener)
-        (meets.answers i f.plan.heard.listener) (slots.begins_there i f.plan.heard.listener) f.plan.heard.sampled hears in
-        record { quantum = r.0; low = r.1; high = r.2; next = r.3 }
+        stay.sampled s (lengths_of b a) (listener_of b i) (planned.seen_by laws b is meets t rest frame y from m sends i nat.heard.listener) seen_own nat.heard.found (l.delay i a) last nat.heard.quantum
+        (is.steady a is.sender) (is.steady i nat.heard.listener.0) (is.book a is.sender) (is.book i nat.heard.listener.0) refl (meets.near i nat.heard.listener)
+        (meets.answers i nat.heard.listener) nat.heard.sampled hears in
+        let next : slot_sample ≡ delimiter + B a = (let e : suc last * B a ≡ last * B a + B a = omega arith in omega arith) in
+        let less = r.2 in
+        let more = r.3 in
+        record {
+          found = r.0;
+          finds = r.1;
+          later = r.2;
+          inside = r.3;
+          quantum = moved_sample (lengths_of b a) delimiter r.0;
+          quantum_is = refl;
+          near = omega arith;
+          high = omega arith;
+          next = r.4;
+        }
 
     module _ (at_slot : SlotSample) where
       abbrev pub q : ℕ
       q = at_slot.quantum
 
+      -- it samples that after that of the CRC delimiter
+      pub q_late : delimiter < q
+      q_late =
+          let jump = (is.book a is.sender).lengths.sjw_high in
+          let many = (is.book a is.sender).lengths.low in
+          let near = at_slot.near in
+          let here = next_slot in
+          omega arith
+
       start_delimited : DoesOwn sent_frames (suc delimiter) (Frame (suc last)) Recessive
       start_delimited =
           let here = next_slot in
-          let few = (is.book a is.sender).lengths.ps2_low in
-          speaking.delimited laws.clocks laws.frame b is meets t rest frame y from m sends (lv a) own_hears 0 (omega arith) (λ p less. absurd (omega arith)) (suc delimiter) (omega arith) (omega arith)
+          let many = (is.book a is.sender).lengths.low in
+          does_same laws.clocks (b.setups a) (is.book a is.sender) alone (lv a) (suc delimiter) (lists_delimited (suc delimiter) (omega arith)) (Frame (suc last)) Recessive
+          (planned.delimited laws b is meets t rest frame y from m sends (suc delimiter) (omega arith) (omega arith))
 
       still_own : (k : ℕ) → delimiter < k → k ≤ q → DoesOwn sent_frames k (Frame (suc last)) Recessive
       still_own k low high =
@@ -341,30 +364,69 @@ module _ (laws : Laws) (stay : StayLaws) (b : SenderBus) (is : IsBus b) (meets :
       abbrev pub after_own : Waits (q + (lengths_of b a).ps2) (S a) (B a)
       after_own = after_sending laws.frame frame sends.content y sends.stuffs (q + (lengths_of b a).ps2) (S a) (B a) sent_frames
 
-      -- all is over by its sample of the ACK delimiter
+      -- all is over by its sample of the ACK delimiter, wherever the first acknowledgement put that
+      pub natural_over : (j : ℕ) → (p : IsPlanned j) → natural_end j + l.delay j a ≤ tick a (q + B a)
+      natural_over j p =
+          let here = p.nat.natural_end_is in
+          let later = at_slot.later in
+          let quantum_is = at_slot.quantum_is in
+          let next : slot_sample ≡ delimiter + B a = (let e : suc last * B a ≡ last * B a + B a = omega arith in omega arith) in
+          let prop = (is.book a is.sender).lengths.prop_low in
+          elim (cases_lt (delimiter + (lengths_of b a).ps2) at_slot.found) [
+            | inl in_slot ↦
+                (let inside = at_slot.inside in
+                let two : own_sample s (lengths_of b a) (suc (suc last)) ≡ slot_sample + B a = (let g : suc (suc last) * B a ≡ suc last * B a + B a = omega arith in omega arith) in
+                let low : slot_sample ≤ q = omega arith in
+                let rise = up a is.sender (own_sample s (lengths_of b a) (suc (suc last))) (q + B a) (omega arith) in
+                let by =
+                stay.ends_there s (lengths_of b a) (listener_of b j) (planned.seen_by laws b is meets t rest frame y from m sends j p.nat.heard.listener) p.nat.heard.found (l.delay j a) last p.nat.heard.quantum
+                (is.steady a is.sender) (is.steady j p.nat.heard.listener.0) (is.book a is.sender) (is.book j p.nat.heard.listener.0) refl (meets.near j p.nat.heard.listener)
+                (meets.answers j p.nat.heard.listener) (slots.ends_there j p.nat.heard.listener) p.nat.heard.sampled in
+                omega arith)
+            | inr early ↦
+                (let low : at_slot.found + (S a - 1) ≤ q = omega arith in
+                let rise = up a is.sender (at_slot.found + (S a - 1) + B a) (q + B a) (omega arith) in
+                elim (cases_eq i j) [
+                  | inl it ↦
+                      (let same : natural_end i ≡ natural_end j = ap natural_end it in
+                      let d : l.delay i a ≡ l.delay j a = ap (λ n. l.delay n a) it in
+                      let e = nat.natural_end_is in
+                      let g = ap (λ n. steady_tick (b.clocks a) (n + B a)) quantum_is in
+                      let by =
+                      stay.moved_there s (lengths_of b a) (listener_of b i) (planned.seen_by laws b is meets t rest frame y from m sends i nat.heard.listener) nat.heard.found (l.delay i a) last nat.heard.quantum at_slot.found
+                      (is.steady a is.sender) (is.steady i nat.heard.listener.0) (is.book a is.sender) (is.book i nat.heard.listener.0) refl (meets.near i nat.heard.listener)
+                      (meets.answers i nat.heard.listener) (slots.ends_there i nat.heard.listener) nat.heard.sampled at_slot.finds at_slot.inside in
+                      omega arith)
+                  | inr third ↦
+                      (let by =
+                      stay.others s (listener_of b i) (listener_of b j) (b.clocks a) (lengths_of b a) (planned.seen_by laws b is meets t rest frame y from m sends i nat.heard.listener)
+                      (planned.seen_by laws b is meets t rest frame y from m sends j p.nat.heard.listener) nat.heard.found p.nat.heard.found (l.delay i a) (l.delay j a) last nat.heard.quantum p.nat.heard.quantum at_slot.found
+                      (is.steady a is.sender) (is.steady i nat.heard.listener.0) (is.steady j p.nat.heard.listener.0) (is.steady a is.sender)
+                      (slots.moved i j a nat.heard.listener p.nat.heard.listener third is.sender (λ e. nat.heard.listener.1 (sym e)) (λ e. p.nat.heard.listener.1 (sym e)))
+                      nat.heard.sampled p.nat.heard.sampled at_slot.finds.seen in
+                      omega arith)
+                ])
+          ]
+
       pub over_own : (k : ℕ) → q + B a ≤ k → AllOver a (tick a k)
       over_own k late = record {
         bits =
             (let come = loop last in
-            let low = at_slot.low in
-            let here = next_slot in
+            let low = q_late in
             let rise = up a is.sender (base last + S a) k (omega arith) in
             omega arith);
         answers = λ j p.
             (let e = p.end_is in
-            let low = at_slot.low in
-            let two : own_sample s (lengths_of b a) (suc (suc last)) ≡ slot_sample + B a = (let g : suc (suc last) * B a ≡ suc last * B a + B a = omega arith in omega arith) in
-            let rise = up a is.sender (own_sample s (lengths_of b a) (suc (suc last))) k (omega arith) in
-            let by =
-            stay.ends_there s (lengths_of b a) (listener_of b j) (planned.seen_by laws b is meets t rest frame y from m sends j p.heard.listener) p.heard.found (l.delay j a) last p.heard.quantum (is.steady a is.sender) (is.steady j p.heard.listener.0)
-            (is.book a is.sender) (is.book j p.heard.listener.0) refl (meets.near j p.heard.listener) (meets.answers j p.heard.listener) (slots.ends_there j p.heard.listener) p.heard.sampled in
+            let ends = replies.ends_by laws stay b is meets slots t rest frame y from m sends j p.nat p.choice in
+            let by = natural_over j p in
+            let rise = up a is.sender (q + B a) k late in
             omega arith);
       }
 
       silent_own : (k : ℕ) → q + B a ≤ k → lv a k ≡ Recessive
       silent_own k late =
           let e = start_before_own in
-          let low = at_slot.low in
+          let low = q_late in
           silent_then a k is.sender (omega arith) (over_own k late)
 
       settled_own : IsSilentAt laws.clocks (b.setups a) (is.book a is.sender) (lv a) (q + (lengths_of b a).ps2) after_own (suc (q + B a))
@@ -388,12 +450,12 @@ module _ (laws : Laws) (stay : StayLaws) (b : SenderBus) (is : IsBus b) (meets :
         pub stretch : Stretch
         pub drive : Level
         pub does : DoesOwn passed k stretch drive
-        pub quiet : base (suc last) < k → drive ≡ Recessive
+        pub quiet : delimiter < k → drive ≡ Recessive
         pub count : ℕ
         pub gone : ((passed ≡ (rest.node a is.sender).waits.passed (min count 10)) × CountsTo (rest.node a is.sender).base (S a) (B a) k count)
             ⊎ ((passed ≡ after_own.passed (min count 10)) × CountsTo (q + (lengths_of b a).ps2) (S a) (B a) k count × (from < k))
 
-      in_frame : (k : ℕ) (u : Stretch) (v : Level) → from < k → (base (suc last) < k → v ≡ Recessive) → DoesOwn sent_frames k u v → DoingOwn k
+      in_frame : (k : ℕ) (u : Stretch) (v : Level) → from < k → (delimiter < k → v ≡ Recessive) → DoesOwn sent_frames k u v → DoingOwn k
       in_frame k u v past none d =
           let ten : min 10 10 ≡ 10 = omega arith in
           record {
@@ -414,24 +476,25 @@ module _ (laws : Laws) (stay : StayLaws) (b : SenderBus) (is : IsBus b) (meets :
       doing_own k late soon =
           let here = next_slot in
           let few = (is.book a is.sender).lengths.ps2_low in
-          let low = at_slot.low in
+          let low = q_late in
           elim (cases_lt from k) [
             | inr idle ↦
-                (let d = speaking.still laws.clocks laws.frame b is meets t rest frame y from m sends (lv a) own_hears k late idle in
-                let bits : 0 * B a ≤ suc last * B a = mul-le-mul_right (B a) (omega arith) in
+                (let bits : 0 * B a ≤ last * B a = mul-le-mul_right (B a) (omega arith) in
+                let d = speaking.still laws.clocks laws.frame b is meets t rest frame y from m sends alone (planned.own laws b is meets t rest frame y from m sends) k late idle in
                 record {
                   passed = (rest.node a is.sender).waits.passed (min d.0 10);
                   stretch = d.1;
                   drive = Recessive;
-                  does = d.2;
+                  does = does_same laws.clocks (b.setups a) (is.book a is.sender) alone (lv a) k (lists_delimited k (omega arith)) d.1 Recessive d.2;
                   quiet = λ w. refl;
                   count = d.0;
                   gone = inl (refl, d.3);
                 })
-            | inl speaking_now ↦ elim (cases_lt (base (suc last)) k) [
+            | inl speaking_now ↦ elim (cases_lt delimiter k) [
               | inr bits ↦
-                  (let d = speaking.speaks laws.clocks laws.frame b is meets t rest frame y from m sends (lv a) own_hears k speaking_now bits in
-                  in_frame k (Frame d.0) d.1 speaking_now (λ w. absurd (omega arith)) d.2)
+                  (let d = speaking.speaks laws.clocks laws.frame b is meets t rest frame y from m sends alone (planned.own laws b is meets t rest frame y from m sends) k speaking_now (omega arith) in
+                  in_frame k (Frame d.0) d.1 speaking_now (λ w. absurd (omega arith))
+                  (does_same laws.clocks (b.setups a) (is.book a is.sender) alone (lv a) k (lists_delimited k (omega arith)) (Frame d.0) d.1 d.2))
               | inl slot ↦ elim (cases_lt q k) [
                 | inr before_it ↦ in_frame k (Frame (suc last)) Recessive speaking_now (λ w. refl) (still_own k (omega arith) before_it)
                 | inl past ↦ elim (cases_lt (q + B a) k) [
@@ -468,36 +531,41 @@ module _ (laws : Laws) (stay : StayLaws) (b : SenderBus) (is : IsBus b) (meets :
 
       drives_own : (k u : ℕ) → (rest.node a is.sender).start ≤ suc k → suc k ≤ q + 11 * B a → t ≤ u → tick a k ≤ u → u < tick a (suc k)
           → drove a u ≡ is_dominant (node laws.clocks (b.setups a) (is.book a is.sender) (lv a) (suc k)).drive
-      drives_own k u late soon from_then low high = elim (cases_lt k (base (suc last))) [
-        | inl bits ↦
-            drove_sender u from_then
-            ∙ speaking.drives_bits laws.clocks laws.frame b is meets t rest frame y from m sends (lv a) own_hears 0 (omega arith) (λ p less. absurd (omega arith)) k u late (omega arith) low high
-        | inr over ↦
-            (let d = doing_own (suc k) late soon in
-            let rise = up a is.sender (base (suc last)) k over in
-            let mono = begins_later last (suc last) (omega arith) in
-            drove_sender u from_then ∙ sent_after y begins begins_later u (omega arith) ∙ sym (ap is_dominant (d.does.drives ∙ d.quiet (omega arith))))
-      ]
+      drives_own k u late soon from_then low high =
+          let here = next_slot in
+          let few = (is.book a is.sender).lengths.ps2_low in
+          drove_sender u from_then
+          ∙ elim (cases_lt k delimiter) [
+            | inl bits ↦
+                (let rise = up a is.sender (suc k) slot_sample (omega arith) in
+                sym (planned.sender_sends laws b is meets t rest frame y from m sends u from_then)
+                ∙ planned.sender_drives laws b is meets t rest frame y from m sends (tick a slot_sample) (omega arith) k u from_then (omega arith) low high
+                ∙ ap (λ ls. is_dominant (history_of (b.setups a) ls).drive) (lists_delimited (suc k) (omega arith)))
+            | inr over ↦
+                (let d = doing_own (suc k) late soon in
+                let rise = up a is.sender (base last) k (omega arith) in
+                sent_after y begins begins_later u (omega arith) ∙ sym (ap is_dominant (d.does.drives ∙ d.quiet (omega arith))))
+          ]
 
-      drives_other : (j : ℕ) → (p : IsPlanned j) → (k u : ℕ) → (rest.node j p.heard.listener.0).start ≤ suc k → t ≤ u → tick j k ≤ u → u < tick j (suc k)
-          → drove j u ≡ is_dominant (node laws.clocks (b.setups j) (is.book j p.heard.listener.0) (lv j) (suc k)).drive
+      drives_other : (j : ℕ) → (p : IsPlanned j) → (k u : ℕ) → (rest.node j p.nat.heard.listener.0).start ≤ suc k → t ≤ u → tick j k ≤ u → u < tick j (suc k)
+          → drove j u ≡ is_dominant (node laws.clocks (b.setups j) (is.book j p.nat.heard.listener.0) (lv j) (suc k)).drive
       drives_other j p k u late from_then low high =
           let d = replies.doing laws stay b is meets slots t rest frame y from m sends j p (suc k) late in
           let e = p.begin_is in
           let g = p.end_is in
-          let inside = p.heard.listener.0 in
-          drove_other j u p.heard.listener.1 from_then
+          let inside = p.nat.heard.listener.0 in
+          drove_other j u p.nat.heard.listener.1 from_then
           ∙ elim (cases_lt k (reply j p)) [
             | inl early ↦
-                (let rise = up j p.heard.listener.0 (suc k) (reply j p) early in
+                (let rise = up j p.nat.heard.listener.0 (suc k) (reply j p) early in
                 lasts_not_yet (begin j) (end j) u (omega arith) ∙ sym (ap is_dominant (d.does.drives ∙ d.quiet (inl early))))
-            | inr past ↦ elim (cases_lt k (reply j p + B j)) [
+            | inr past ↦ elim (cases_lt k (sample j p + (lengths_of b j).ps2)) [
               | inl in_it ↦
-                  (let rise = up j p.heard.listener.0 (reply j p) k past in
-                  let fall = up j p.heard.listener.0 (suc k) (reply j p + B j) in_it in
+                  (let rise = up j p.nat.heard.listener.0 (reply j p) k past in
+                  let fall = up j p.nat.heard.listener.0 (suc k) (sample j p + (lengths_of b j).ps2) in_it in
                   lasts_now (begin j) (end j) u (omega arith) (omega arith) ∙ sym (ap is_dominant (d.does.drives ∙ d.loud (omega arith) in_it)))
               | inr over ↦
-                  (let rise = up j p.heard.listener.0 (reply j p + B j) k over in
+                  (let rise = up j p.nat.heard.listener.0 (sample j p + (lengths_of b j).ps2) k over in
                   lasts_no_more (begin j) (end j) u (omega arith) ∙ sym (ap is_dominant (d.does.drives ∙ d.quiet (inr (omega arith)))))
             ]
           ]
@@ -580,8 +648,8 @@ module _ (laws : Laws) (stay : StayLaws) (b : SenderBus) (is : IsBus b) (meets :
                   let p = plan_of i (inside, apart) in
                   let e = is.ticks i k inside in
                   let g = is.ticks i (suc k) inside in
-                  let start : (rest.node i p.heard.listener.0).start ≤ suc k = elim (cases_lt (suc k) (rest.node i p.heard.listener.0).start) [
-                    | inl less ↦ (let before = (rest.node i p.heard.listener.0).before (suc k) less in absurd (omega arith))
+                  let start : (rest.node i p.nat.heard.listener.0).start ≤ suc k = elim (cases_lt (suc k) (rest.node i p.nat.heard.listener.0).start) [
+                    | inl less ↦ (let before = (rest.node i p.nat.heard.listener.0).before (suc k) less in absurd (omega arith))
                     | inr more ↦ more
                   ] in
                   drives_other i p k u start late (omega arith) (omega arith) ∙ sym (is.drives i (levels_before (levels_found l drove i) (suc k)) inside)
@@ -592,67 +660,51 @@ module _ (laws : Laws) (stay : StayLaws) (b : SenderBus) (is : IsBus b) (meets :
       pub lists_then : (i k : ℕ) → i < l.nodes → ((n : ℕ) → n < k → l.instant i n < cut) → seen l i k ≡ levels_before (lv i) k
       lists_then i k inside before = seen_is laws.simulation l (λ i. cut) drove is.causal expected i k inside before
 
-      -- how near the nodes are to each other then
-      bits_own : slot_sample + 5 * B a ≡ base (last + 6) + S a
-      bits_own = let e : (last + 6) * B a ≡ suc last * B a + 5 * B a = omega arith in omega arith
+      -- How near the nodes are to each other then: so many bits of a listener, beside those of the sender from its sample of the slot.
+      bits_after : (j : ℕ) → (p : IsPlanned j) → (c : ℕ) → c ≤ 9 → tick j (p.nat.heard.quantum + (2 + c) * B j) ≤ tick a (q + B a + suc c * B a)
+      bits_after j p c few =
+          let by = natural_over j p in
+          let e = p.nat.natural_end_is in
+          let some = is.causal.delays j a p.nat.heard.listener.0 is.sender in
+          stay.later s (listener_of b j) (l.delay j a) p.nat.heard.quantum (q + B a) c (is.steady a is.sender) (is.steady j p.nat.heard.listener.0) (is.book j p.nat.heard.listener.0)
+          (meets.near j p.nat.heard.listener) some few (omega arith)
 
-      late_listener : (j : ℕ) → (p : IsPlanned j) → tick j (reply j p + S j + B j) < next_rest
+      late_listener : (j : ℕ) → (p : IsPlanned j) → tick j (sample j p + B j) < next_rest
       late_listener j p =
-          let inside = p.heard.listener.0 in
-          let behind =
-          stay.behind s (listener_of b j) (planned.seen_by laws b is meets t rest frame y from m sends j p.heard.listener) p.heard.found last p.heard.quantum (is.steady a is.sender) (is.steady j p.heard.listener.0) (is.book j p.heard.listener.0)
-          (meets.near j p.heard.listener) p.heard.sampled 2 (omega arith) in
-          let two : p.heard.quantum + 2 * B j ≡ reply j p + S j + B j = omega arith in
-          let here = ap (steady_tick (b.clocks j)) two in
-          let late = (meets.answers j p.heard.listener).late in
-          let some = (is.steady j p.heard.listener.0).divides in
-          let far : (b.clocks j).den * ((b.clocks a).den * l.delay a j) ≤ (b.clocks j).den * (S a * (b.clocks a).num) = omega arith in
-          let way : (b.clocks a).den * l.delay a j ≤ S a * (b.clocks a).num = le_of_mul-le-mul_left far some in
-          let come = comes_back (b.clocks a) (is.steady a is.sender) (base (last + 4)) (S a) (l.delay a j) way in
-          let low = at_slot.low in
-          let bits = bits_own in
-          let more : (last + 6) * B a ≡ (last + 4) * B a + 2 * B a = omega arith in
-          let place : base (last + 2 + 2) ≡ base (last + 4) = (let e : last + 2 + 2 ≡ last + 4 = omega arith in ap (λ n. from + n * B a) e) in
-          let place_tick = ap (steady_tick (b.clocks a)) place in
-          let rise = up a is.sender (base (last + 4) + S a) (q + 5 * B a) (omega arith) in
+          let high = sample_high j p in
+          let near = bits_after j p 0 (omega arith) in
+          let rise = up j p.nat.heard.listener.0 (sample j p + B j) (p.nat.heard.quantum + (2 + 0) * B j) (omega arith) in
+          let some = (is.book a is.sender).lengths.low in
+          let one : 1 * B a ≡ B a = omega arith in
+          let next = rises a (q + B a + 1 * B a) is.sender in
+          let more = up a is.sender (suc (q + B a + 1 * B a)) (q + 5 * B a) (omega arith) in
           omega arith
 
       -- the next start of frame comes to each listener after the second bit of its intermission
       spaced_next : (j : ℕ) → (p : IsPlanned j) → (k : ℕ) → 10 ≤ k
-          → tick j (reply j p + S j + (lengths_of b j).ps2 + 9 * B j + S j) < tick a (q + (lengths_of b a).ps2 + suc k * B a) + l.delay a j
+          → tick j (sample j p + (lengths_of b j).ps2 + 9 * B j + S j) < tick a (q + (lengths_of b a).ps2 + suc k * B a) + l.delay a j
       spaced_next j p k many =
-          let behind =
-          stay.behind s (listener_of b j) (planned.seen_by laws b is meets t rest frame y from m sends j p.heard.listener) p.heard.found last p.heard.quantum (is.steady a is.sender) (is.steady j p.heard.listener.0) (is.book j p.heard.listener.0)
-          (meets.near j p.heard.listener) p.heard.sampled 11 (omega arith) in
-          let eleven : p.heard.quantum + 11 * B j ≡ reply j p + S j + (lengths_of b j).ps2 + 9 * B j + S j = omega arith in
-          let here = ap (steady_tick (b.clocks j)) eleven in
-          let low = at_slot.low in
+          let high = sample_high j p in
+          let near = bits_after j p 9 (omega arith) in
+          let eleven : sample j p + (lengths_of b j).ps2 + 9 * B j + S j ≤ p.nat.heard.quantum + (2 + 9) * B j = omega arith in
+          let rise = up j p.nat.heard.listener.0 (sample j p + (lengths_of b j).ps2 + 9 * B j + S j) (p.nat.heard.quantum + (2 + 9) * B j) eleven in
           let bits : 11 * B a ≤ suc k * B a = mul-le-mul_right (B a) (omega arith) in
-          let more : (last + 11 + 2) * B a ≡ suc last * B a + 12 * B a = omega arith in
-          let rise = up a is.sender (base (last + 11 + 2)) (q + (lengths_of b a).ps2 + suc k * B a) (omega arith) in
+          let more = up a is.sender (q + B a + 10 * B a) (q + (lengths_of b a).ps2 + suc k * B a) (omega arith) in
+          let some = is.causal.delays a j is.sender p.nat.heard.listener.0 in
           omega arith
 
       -- and each receives the frame before the sender has sent it
-      pub received_before : (j : ℕ) → (p : IsPlanned j) → tick j (reply j p + S j + (lengths_of b j).ps2 + 6 * B j + S j) ≤ tick a (q + (lengths_of b a).ps2 + 7 * B a + S a)
+      pub received_before : (j : ℕ) → (p : IsPlanned j) → tick j (sample j p + (lengths_of b j).ps2 + 6 * B j + S j) ≤ tick a (q + (lengths_of b a).ps2 + 7 * B a + S a)
       received_before j p =
-          let before =
-          stay.samples_before s (lengths_of b a) (listener_of b j) (planned.seen_by laws b is meets t rest frame y from m sends j p.heard.listener) p.heard.found (l.delay j a) last p.heard.quantum (is.steady a is.sender) (is.steady j p.heard.listener.0)
-          (is.book a is.sender) (is.book j p.heard.listener.0) refl (meets.near j p.heard.listener) (meets.answers j p.heard.listener) (slots.ends_there j p.heard.listener) p.heard.sampled in
-          let eight : p.heard.quantum + 8 * B j ≡ reply j p + S j + (lengths_of b j).ps2 + 6 * B j + S j = omega arith in
-          let here = ap (steady_tick (b.clocks j)) eight in
-          let low = at_slot.low in
-          let bits : (last + 9) * B a ≡ suc last * B a + 8 * B a = omega arith in
-          let rise = up a is.sender (own_sample s (lengths_of b a) (last + 9)) (q + (lengths_of b a).ps2 + 7 * B a + S a) (omega arith) in
+          let high = sample_high j p in
+          let near = bits_after j p 6 (omega arith) in
+          let eight : sample j p + (lengths_of b j).ps2 + 6 * B j + S j ≤ p.nat.heard.quantum + (2 + 6) * B j = omega arith in
+          let rise = up j p.nat.heard.listener.0 (sample j p + (lengths_of b j).ps2 + 6 * B j + S j) (p.nat.heard.quantum + (2 + 6) * B j) eight in
+          let place : q + B a + 7 * B a ≡ q + (lengths_of b a).ps2 + 7 * B a + S a = omega arith in
+          let same = ap (steady_tick (b.clocks a)) place in
           omega arith
 
       module _ (in_time : next_rest ≤ l.stop) where
-        rises : (i k : ℕ) → i < l.nodes → tick i k < tick i (suc k)
-        rises i k inside =
-            let next = is.causal.clocks i k inside in
-            let e = is.ticks i k inside in
-            let g = is.ticks i (suc k) inside in
-            omega arith
-
         -- what has been found by then is so
         same_then : (i k : ℕ) → (inside : i < l.nodes) → ((n : ℕ) → n < k → tick i n < next_rest)
             → levels_before (lv i) k ≡ levels_before (resting.actual laws.clocks b is i) k
@@ -678,31 +730,31 @@ module _ (laws : Laws) (stay : StayLaws) (b : SenderBus) (is : IsBus b) (meets :
                   (same_then a (q + 5 * B a) is.sender before) (rests_own (q + 5 * B a) (omega arith) (omega arith));
             }
 
-        other_rests : (j : ℕ) → (p : IsPlanned j) → RestsAt laws.clocks b is next_rest j p.heard.listener.0
+        other_rests : (j : ℕ) → (p : IsPlanned j) → RestsAt laws.clocks b is next_rest j p.nat.heard.listener.0
         other_rests j p =
-            let inside = p.heard.listener.0 in
+            let inside = p.nat.heard.listener.0 in
             let late = late_listener j p in
             let zero_is = is.ticks j 0 inside in
-            let first_up = up j p.heard.listener.0 0 (reply j p + S j + B j) (omega arith) in
+            let first_up = up j p.nat.heard.listener.0 0 (sample j p + B j) (omega arith) in
             let r : LastQuantum l is.causal j (next_rest - 1) = last_quantum l is.causal j (next_rest - 1) inside (omega arith) in
             let begun = r.begun in
             let next = r.next in
             let begun_is = is.ticks j r.quantum inside in
             let next_is = is.ticks j (suc r.quantum) inside in
-            let before : (k : ℕ) → k < suc r.quantum → tick j k < next_rest = λ k less. (let rise = up j p.heard.listener.0 k r.quantum (omega arith) in omega arith) in
-            let past : suc (reply j p + S j + B j) ≤ suc r.quantum = elim (cases_lt (reply j p + S j + B j) (suc r.quantum)) [
+            let before : (k : ℕ) → k < suc r.quantum → tick j k < next_rest = λ k less. (let rise = up j p.nat.heard.listener.0 k r.quantum (omega arith) in omega arith) in
+            let past : suc (sample j p + B j) ≤ suc r.quantum = elim (cases_lt (sample j p + B j) (suc r.quantum)) [
               | inl less ↦ less
-              | inr more ↦ (let rise = up j p.heard.listener.0 (suc r.quantum) (reply j p + S j + B j) more in absurd (omega arith))
+              | inr more ↦ (let rise = up j p.nat.heard.listener.0 (suc r.quantum) (sample j p + B j) more in absurd (omega arith))
             ] in
             record {
               start = suc r.quantum;
               before = before;
               after = omega arith;
-              base = reply j p + S j + (lengths_of b j).ps2;
+              base = sample j p + (lengths_of b j).ps2;
               waits = after j p;
               state =
-                  silent_same laws.clocks (b.setups j) (is.book j p.heard.listener.0) (lv j) (resting.actual laws.clocks b is j) (reply j p + S j + (lengths_of b j).ps2) (after j p) (suc r.quantum)
-                  (same_then j (suc r.quantum) p.heard.listener.0 before) (replies.rests_from laws stay b is meets slots t rest frame y from m sends j p (suc r.quantum) past);
+                  silent_same laws.clocks (b.setups j) (is.book j p.nat.heard.listener.0) (lv j) (resting.actual laws.clocks b is j) (sample j p + (lengths_of b j).ps2) (after j p) (suc r.quantum)
+                  (same_then j (suc r.quantum) p.nat.heard.listener.0 before) (replies.rests_from laws stay b is meets slots t rest frame y from m sends j p (suc r.quantum) past);
             }
 
         -- all is over at each node then
@@ -713,7 +765,7 @@ module _ (laws : Laws) (stay : StayLaws) (b : SenderBus) (is : IsBus b) (meets :
           | inr apart ↦
               (let p = plan_of i (inside, apart) in
               let late = late_listener i p in
-              let o = over_by i p (reply i p + S i + B i) (omega arith) in
+              let o = over_by i p (sample i p + B i) (omega arith) in
               record {
                 bits = (let e = o.bits in omega arith);
                 answers = λ j r. (let e = o.answers j r in omega arith);
@@ -742,8 +794,8 @@ module _ (laws : Laws) (stay : StayLaws) (b : SenderBus) (is : IsBus b) (meets :
             next_late : t ≤ next_rest
             next_late =
                 let e = speaking.rest_before laws.clocks laws.frame b is meets t rest frame y from m sends in
-                let low = at_slot.low in
-                let rise = up a is.sender (base 0) (q + 5 * B a) (let bits : 0 * B a ≤ suc last * B a = mul-le-mul_right (B a) (omega arith) in omega arith) in
+                let low = q_late in
+                let rise = up a is.sender (base 0) (q + 5 * B a) (let bits : 0 * B a ≤ last * B a = mul-le-mul_right (B a) (omega arith) in omega arith) in
                 omega arith
 
         -- with one frame more
@@ -751,7 +803,7 @@ module _ (laws : Laws) (stay : StayLaws) (b : SenderBus) (is : IsBus b) (meets :
           pub rests : RestsAt laws.clocks b is next_rest v inside
           pub gone : (v ≢ a) → (p : IsPlanned v) × (rests.waits.passed ≡ (after v p).passed)
           pub own_gone : v ≡ a → rests.waits.passed ≡ after_own.passed
-          pub base_is : (v ≢ a) → (p : IsPlanned v) × (rests.base ≡ reply v p + S v + (lengths_of b v).ps2)
+          pub base_is : (v ≢ a) → (p : IsPlanned v) × (rests.base ≡ sample v p + (lengths_of b v).ps2)
           pub own_base : v ≡ a → rests.base ≡ q + (lengths_of b a).ps2
           pub own_start : v ≡ a → rests.start ≡ q + 5 * B a
           pub spaced : v ≢ a → (k : ℕ) → 10 ≤ k
@@ -769,25 +821,25 @@ module _ (laws : Laws) (stay : StayLaws) (b : SenderBus) (is : IsBus b) (meets :
           spaced = λ e. absurd (e refl);
         }
 
-        other_next : (j : ℕ) → (p : IsPlanned j) → NextNode j p.heard.listener.0
+        other_next : (j : ℕ) → (p : IsPlanned j) → NextNode j p.nat.heard.listener.0
         unfolding other_rests
         other_next j p = record {
           rests = other_rests j p;
           gone = λ e. (p, refl);
           base_is = λ e. (p, refl);
-          own_gone = λ e. absurd (p.heard.listener.1 e);
-          own_base = λ e. absurd (p.heard.listener.1 e);
-          own_start = λ e. absurd (p.heard.listener.1 e);
+          own_gone = λ e. absurd (p.nat.heard.listener.1 e);
+          own_base = λ e. absurd (p.nat.heard.listener.1 e);
+          own_start = λ e. absurd (p.nat.heard.listener.1 e);
           spaced = λ e k many.
               (let h = spaced_next j p k many in
-              let enough = receiving_enough laws.frame frame sends.content y sends.stuffs (reply j p + S j + (lengths_of b j).ps2) (S j) (B j) (planned.frames_of laws b is meets t rest frame y from m sends j p.heard.listener) in
-              subst (λ n. tick j (reply j p + S j + (lengths_of b j).ps2 + (n - 1) * B j + S j) < tick a (q + (lengths_of b a).ps2 + suc k * B a) + l.delay a j) (sym enough) h);
+              let enough = receiving_enough laws.frame frame sends.content y sends.stuffs (sample j p + (lengths_of b j).ps2) (S j) (B j) (planned.frames_of laws b is meets t rest frame y from m sends j p.nat.heard.listener) in
+              subst (λ n. tick j (sample j p + (lengths_of b j).ps2 + (n - 1) * B j + S j) < tick a (q + (lengths_of b a).ps2 + suc k * B a) + l.delay a j) (sym enough) h);
         }
 
         pub next_node : (v : ℕ) → (inside : v < l.nodes) → NextNode v inside
         next_node v inside = elim (cases_eq v a) [
           | inl here ↦ subst (λ n. (h : n < l.nodes) → NextNode n h) (sym here) (λ h. subst (NextNode a) (le_prop is.sender h) own_next) inside
-          | inr apart ↦ (let p = plan_of v (inside, apart) in subst (NextNode v) (le_prop p.heard.listener.0 inside) (other_next v p))
+          | inr apart ↦ (let p = plan_of v (inside, apart) in subst (NextNode v) (le_prop p.nat.heard.listener.0 inside) (other_next v p))
         ]
 
       -- the frames that have passed by then
@@ -815,15 +867,15 @@ module _ (laws : Laws) (stay : StayLaws) (b : SenderBus) (is : IsBus b) (meets :
           pub other_late : (c : ℕ) → 6 < c → IsPassed queue false (suc n) ((after j p).passed c)
           other_late c over =
               subst (IsPassed queue false (suc n))
-              (sym (received_passed laws.frame frame sends.content y sends.stuffs (reply j p + S j + (lengths_of b j).ps2) (S j) (B j) (planned.frames_of laws b is meets t rest frame y from m sends j p.heard.listener) c
-              ∙ ap (λ w. cond w (planned.frames_of laws b is meets t rest frame y from m sends j p.heard.listener) (planned.frames_of laws b is meets t rest frame y from m sends j p.heard.listener
-              ++ kept laws.frame frame sends.content y sends.stuffs (reply j p + S j + (lengths_of b j).ps2) (S j) (B j) (planned.frames_of laws b is meets t rest frame y from m sends j p.heard.listener) false 6)) (lt-leb c 6 over)))
-              (one_more false (reply j p + S j + (lengths_of b j).ps2 + 6 * B j + S j) (planned.frames_of laws b is meets t rest frame y from m sends j p.heard.listener) (received_so_far j p.heard.listener))
+              (sym (received_passed laws.frame frame sends.content y sends.stuffs (sample j p + (lengths_of b j).ps2) (S j) (B j) (planned.frames_of laws b is meets t rest frame y from m sends j p.nat.heard.listener) c
+              ∙ ap (λ w. cond w (planned.frames_of laws b is meets t rest frame y from m sends j p.nat.heard.listener) (planned.frames_of laws b is meets t rest frame y from m sends j p.nat.heard.listener
+              ++ kept laws.frame frame sends.content y sends.stuffs (sample j p + (lengths_of b j).ps2) (S j) (B j) (planned.frames_of laws b is meets t rest frame y from m sends j p.nat.heard.listener) false 6)) (lt-leb c 6 over)))
+              (one_more false (sample j p + (lengths_of b j).ps2 + 6 * B j + S j) (planned.frames_of laws b is meets t rest frame y from m sends j p.nat.heard.listener) (received_so_far j p.nat.heard.listener))
 
           pub other_early : (c : ℕ) → c ≤ 6 → IsPassed queue false n ((after j p).passed c)
           other_early c early =
               subst (IsPassed queue false n)
-              (sym (received_passed laws.frame frame sends.content y sends.stuffs (reply j p + S j + (lengths_of b j).ps2) (S j) (B j) (planned.frames_of laws b is meets t rest frame y from m sends j p.heard.listener) c
-              ∙ ap (λ w. cond w (planned.frames_of laws b is meets t rest frame y from m sends j p.heard.listener) (planned.frames_of laws b is meets t rest frame y from m sends j p.heard.listener
-              ++ kept laws.frame frame sends.content y sends.stuffs (reply j p + S j + (lengths_of b j).ps2) (S j) (B j) (planned.frames_of laws b is meets t rest frame y from m sends j p.heard.listener) false 6)) (le-leb c 6 early)))
-              (received_so_far j p.heard.listener)
+              (sym (received_passed laws.frame frame sends.content y sends.stuffs (sample j p + (lengths_of b j).ps2) (S j) (B j) (planned.frames_of laws b is meets t rest frame y from m sends j p.nat.heard.listener) c
+              ∙ ap (λ w. cond w (planned.frames_of laws b is meets t rest frame y from m sends j p.nat.heard.listener) (planned.frames_of laws b is meets t rest frame y from m sends j p.nat.heard.listener
+              ++ kept laws.frame frame sends.content y sends.stuffs (sample j p + (lengths_of b j).ps2) (S j) (B j) (planned.frames_of laws b is meets t rest frame y from m sends j p.nat.heard.listener) false 6)) (le-leb c 6 early)))
+              (received_so_far j p.nat.heard.listener)

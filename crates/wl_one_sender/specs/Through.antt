@@ -7,17 +7,18 @@ use Rattle.wl_frame.specs.Stuffing.{Stuffs}
 use Rattle.wl_frame.specs.Grammar.{Content, IsContent, bits_of}
 use Rattle.wl_node.specs.declared.setup.Queued.{Queued}
 use Rattle.wl_node.specs.History.{History, history_of, counters_of, error_count, is_sent}
-use Rattle.wl_phase.specs.Answer.{ComesAfterBegin, ComesAfterOwn, EndsBeforeSample, EndsInTime}
+use Rattle.wl_phase.specs.Answer.{EndsAfterMove, EndsBeforeSample, EndsInTime, FitsBit}
 use Rattle.wl_plan.specs.Simulation.{seen, AreInside}
 use Rattle.wl_one_sender.specs.OneSender.{SenderBus, IsListener, lengths_of, listener_of, sender_of}
 
--- The acknowledgement of a listener begins in the slot of the sender, and of each other listener, and not before it; and it is over at each by the sample of the ACK
--- delimiter. That it isn't early is more than a bus needs: an early one moves the nodes that it reaches.
-pub record StaysInSlots (b : SenderBus) : Type 0 where
-  pub begins_there : (j : ℕ) → IsListener b j → ComesAfterOwn (sender_of b) (listener_of b j) (b.line.delay j b.sender)
-  pub begins : (i j : ℕ) → IsListener b i → IsListener b j → i ≢ j → ComesAfterBegin (sender_of b) (listener_of b i) (listener_of b j) (b.line.delay i j)
+-- The acknowledgement of a listener is over at each node by that one's sample of the ACK delimiter. It may be early there, and then moves the node to which it comes first: it is
+-- over then, and those of all others, by the sample of the ACK delimiter that has moved with it.
+pub record EndsInSlots (b : SenderBus) : Type 0 where
   pub ends_there : (j : ℕ) → IsListener b j → EndsInTime (sender_of b) (lengths_of b b.sender) (listener_of b j) (b.line.delay j b.sender)
   pub ends : (i j : ℕ) → IsListener b i → IsListener b j → i ≢ j → EndsBeforeSample (sender_of b) (listener_of b i) (listener_of b j) (b.line.delay i j)
+  pub fits : (i j : ℕ) → IsListener b i → IsListener b j → i ≢ j → FitsBit (listener_of b i) (b.clocks j) (lengths_of b j)
+  pub moved : (i j w : ℕ) → IsListener b i → IsListener b j → i ≢ j → w < b.line.nodes → w ≢ i → w ≢ j
+      → EndsAfterMove (sender_of b) (listener_of b i) (listener_of b j) (b.clocks w) (lengths_of b w) (b.line.delay i w) (b.line.delay j w)
 
 -- the frames that the sender has
 abbrev pub sender_queue : SenderBus → List Queued

@@ -30,8 +30,8 @@ longer_bit t b i j = slowest_bit t b i - fastest_bit t b j
 abbrev pub way_over : Tolerance → SenderBus → (i j k : ℕ) → ℕ
 way_over t b i j k = (b.line.delay i j + b.line.delay j k) * t.units
 
--- The inequalities, of listeners i and j and the sender. No clock is named in them. First those of the margins: drift within the jump widths, and the way there and
--- back (Bosch CAN 2.0 part B, section 10).
+-- The inequalities, of listeners i and j, the sender, and any node w. No clock is named in them: drift within the jump widths, and the way there and back (Bosch CAN 2.0
+-- part B, section 10).
 pub record FitClocks (t : Tolerance) (b : SenderBus) : Type 0 where
   -- ten bits of either are within the jump width of the other, and its next bit comes after the sample
   pub slow : (j : ℕ) → IsListener b j → 10 * slowest_bit t b b.sender ≤ 10 * fastest_bit t b j + (lengths_of b j).sjw * t.shortest j
@@ -51,14 +51,9 @@ pub record FitClocks (t : Tolerance) (b : SenderBus) : Type 0 where
   pub ends : (i j : ℕ) → IsListener b i → IsListener b j → i ≢ j
       → t.longest j + t.units + 11 * longer_bit t b i j + way_over t b b.sender i j
       ≤ sample_at (lengths_of b j) * t.shortest j + b.line.delay b.sender j * t.units
-
--- and those by which it isn't early: it begins in the slot of each node
-pub record FitSlots (t : Tolerance) (b : SenderBus) : Type 0 where
-  pub begins_there : (j : ℕ) → IsListener b j
-      → t.longest j + 2 * t.units + 10 * longer_bit t b b.sender j ≤ way_over t b b.sender j b.sender
-  pub begins : (i j : ℕ) → IsListener b i → IsListener b j → i ≢ j
-      → t.longest i + 2 * t.units + 10 * longer_bit t b j i + b.line.delay b.sender j * t.units ≤ way_over t b b.sender i j
-
-pub record FitAll (t : Tolerance) (b : SenderBus) : Type 0 where
-  pub clocks : FitClocks t b
-  pub slots : FitSlots t b
+  -- One that comes before another node's slot has begun moves that node. It lasts until the sample that it moves, and all others are over by the one after that.
+  pub lasts : (i j : ℕ) → IsListener b i → IsListener b j → i ≢ j → 10 * longer_bit t b j i + t.units ≤ (lengths_of b j).ps2 * t.shortest j
+  pub jumps : (i j : ℕ) → IsListener b i → IsListener b j → i ≢ j → 10 * longer_bit t b j i ≤ (lengths_of b j).sjw * t.shortest j
+  pub moved : (i j w : ℕ) → IsListener b i → IsListener b j → i ≢ j → w < b.line.nodes → w ≢ i → w ≢ j
+      → 10 * longer_bit t b j i + longer_bit t b j w + way_over t b b.sender j w + t.longest i + 2 * t.units + t.longest w
+      ≤ way_over t b b.sender i w + sample_at (lengths_of b w) * t.shortest w

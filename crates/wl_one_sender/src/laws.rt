@@ -13,8 +13,8 @@ ghost use Rattle.wl_one_sender.specs.Expected.{IsExpected, levels_found};
 ghost use Rattle.wl_one_sender.specs.Levels.{levels_before};
 ghost use Rattle.wl_one_sender.specs.OneSender.{SenderBus, IsBus, IsInStepWithAll, SendsFirst, EndsAfterSlot, IsAcknowledged};
 ghost use Rattle.wl_one_sender.specs.Plans.{IsSteadyPlan, sender_bus_of};
-ghost use Rattle.wl_one_sender.specs.Through.{AreFrames, GetThrough, StaysInSlots};
-ghost use Rattle.wl_one_sender.specs.Tolerances.{FitAll, FitClocks, FitSlots, IsWithinTolerance, Tolerance};
+ghost use Rattle.wl_one_sender.specs.Through.{AreFrames, EndsInSlots, GetThrough};
+ghost use Rattle.wl_one_sender.specs.Tolerances.{FitClocks, IsWithinTolerance, Tolerance};
 ghost use Rattle.wl_one_sender.specs.Bounds.{IsBoundOf};
 ghost use Rattle.wl_one_sender.specs.Clean.{HasOneSender, IsOfFamily, bus_with, tolerance_of};
 ghost use Rattle.wl_bound.specs.Families.{Bus, Buses, bus_of};
@@ -75,7 +75,7 @@ pub fn a_plan_is_such_a_bus()
         → SendsFirst (sender_bus_of plan clocks sender frame first decides)
         → AreFrames (sender_bus_of plan clocks sender frame first decides) stuffed
         → IsInStepWithAll (sender_bus_of plan clocks sender frame first decides)
-        → StaysInSlots (sender_bus_of plan clocks sender frame first decides)
+        → EndsInSlots (sender_bus_of plan clocks sender frame first decides)
         → GetThrough (sender_bus_of plan clocks sender frame first decides) stuffed }
 {
     wl_plan::checked_is_sound();
@@ -84,11 +84,11 @@ pub fn a_plan_is_such_a_bus()
 }
 
 /// Law: on such a bus every frame gets through, from the power-up of all nodes on. No node ever finds an error, and all counters
-/// stay 0. Each frame is sent in time, and each listener has received it by then. It is asked that each acknowledgement
-/// stays in its slot.
+/// stay 0. Each frame is sent in time, and each listener has received it by then. An acknowledgement may be early, and is over
+/// in time.
 pub fn every_frame_gets_through()
     ensures { (b : SenderBus) (stuffed : ℕ → List Level) → IsBus b → SendsFirst b → AreFrames b stuffed → IsInStepWithAll b
-        → StaysInSlots b → GetThrough b stuffed }
+        → EndsInSlots b → GetThrough b stuffed }
 {
     wl_sync::clock_goes_on();
     wl_frame::laws::stuffing_goes_on_bit_by_bit();
@@ -98,7 +98,10 @@ pub fn every_frame_gets_through()
     wl_phase::laws::an_acknowledgement_comes_in_time();
     wl_phase::laws::an_acknowledgement_comes_after_each_sample();
     wl_phase::laws::the_sender_samples_the_acknowledgement();
+    wl_phase::laws::the_next_sample_is_dominant();
+    wl_phase::laws::an_acknowledgement_ends_in_time();
     wl_phase::laws::an_acknowledgement_stays_in_its_slot();
+    wl_phase::laws::an_early_acknowledgement_moves_a_node();
     wl_topology::driven_laws();
     wl_plan::simulation_laws();
 }
@@ -106,16 +109,15 @@ pub fn every_frame_gets_through()
 /// Law: the inequalities over tolerances are enough: wherever within its tolerance each clock lies, a bus meets what its clocks
 /// and delays have to. So all frames get through.
 pub fn tolerances_are_enough()
-    ensures in_step { (t : Tolerance) (b : SenderBus) → IsBus b → IsWithinTolerance t b → FitAll t b → IsInStepWithAll b }
-    ensures stays { (t : Tolerance) (b : SenderBus) → IsBus b → IsWithinTolerance t b → FitAll t b → StaysInSlots b }
+    ensures in_step { (t : Tolerance) (b : SenderBus) → IsBus b → IsWithinTolerance t b → FitClocks t b → IsInStepWithAll b }
+    ensures ends { (t : Tolerance) (b : SenderBus) → IsBus b → IsWithinTolerance t b → FitClocks t b → EndsInSlots b }
     ensures through { (t : Tolerance) (b : SenderBus) (stuffed : ℕ → List Level) → IsBus b → SendsFirst b → AreFrames b stuffed
-        → IsWithinTolerance t b → FitAll t b → GetThrough b stuffed }
+        → IsWithinTolerance t b → FitClocks t b → GetThrough b stuffed }
 {
     every_frame_gets_through();
 }
 
-/// Law: the condition for margins, of a bus on which this node alone sends, implies the inequalities on clocks, drift and the way
-/// there and back. It doesn't imply those on slots.
+/// Law: the condition for margins, of a bus on which this node alone sends, implies these inequalities.
 pub fn a_sound_bus_fits()
     ensures { (bus : Bus) (t : Tolerance) (b : SenderBus) → IsBus b → IsBoundOf bus t b → IsSound bus → FitClocks t b }
 {}
@@ -129,14 +131,13 @@ pub fn a_plan_is_bound()
     a_plan_is_such_a_bus();
 }
 
-/// Law: let the condition for margins hold for a family on which this node alone sends, and let no acknowledgement be early. Then on
-/// each of its plans on which this node alone has frames all frames get through.
+/// Law: let the condition for margins hold for a family on which this node alone sends. Then on each of its plans on which this
+/// node alone has frames all frames get through: no node ever finds an error, and each receives every frame in time.
 pub fn one_sender_is_clean()
     ensures { (f : Buses) (plan : Plan) (clocks : ℕ → Steady) (sender : ℕ) (one : HasOneSender plan sender)
         (stuffed : ℕ → List Level) → IsSteadyPlan plan clocks → IsOfFamily f plan clocks
         → AreFrames (bus_with plan clocks sender one stuffed) stuffed
-        → IsSound (bus_of f (alone sender)) → FitSlots (tolerance_of f) (bus_with plan clocks sender one stuffed)
-        → GetThrough (bus_with plan clocks sender one stuffed) stuffed }
+        → IsSound (bus_of f (alone sender)) → GetThrough (bus_with plan clocks sender one stuffed) stuffed }
 {
     a_plan_is_such_a_bus();
     tolerances_are_enough();

@@ -1,6 +1,4 @@
 use Rattle.wl_one_sender.specs.Clean.{decides_at}
-use Rattle.wl_one_sender.specs.OneSender.{IsBus}
-use Rattle.wl_one_sender.specs.Clean.{bus_with}
 use Rattle.wl_plan.specs.PlanLine.{setup_at}
 use Rattle.wl_one_sender.proofs.Cleaning.{is_bound}
 use Rattle.wl_one_sender.proofs.laws.a_plan_is_bound.Goals as goal

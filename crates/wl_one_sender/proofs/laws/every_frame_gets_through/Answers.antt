@@ -23,11 +23,13 @@ returns c = λ b stuffed is sends frames meets slots.
       answer = c.the_sender_samples_the_acknowledgement.ensures;
     })
     (record {
-      begins = c.an_acknowledgement_stays_in_its_slot.ensures.begins;
       ends = c.an_acknowledgement_stays_in_its_slot.ensures.ends;
-      begins_there = c.an_acknowledgement_stays_in_its_slot.ensures.begins_there;
       ends_there = c.an_acknowledgement_stays_in_its_slot.ensures.ends_there;
-      samples_before = c.an_acknowledgement_stays_in_its_slot.ensures.samples_before;
-      sampled = c.an_acknowledgement_stays_in_its_slot.ensures.sampled;
-      behind = c.an_acknowledgement_stays_in_its_slot.ensures.behind;
+      moved_there = c.an_acknowledgement_ends_in_time.ensures;
+      finds = c.an_early_acknowledgement_moves_a_node.ensures.finds;
+      over = c.an_early_acknowledgement_moves_a_node.ensures.over;
+      others = c.an_early_acknowledgement_moves_a_node.ensures.others;
+      later = c.an_early_acknowledgement_moves_a_node.ensures.later;
+      sampled = c.an_early_acknowledgement_moves_a_node.ensures.sampled;
+      next = c.the_next_sample_is_dominant.ensures;
     }) b stuffed is sends frames meets slots

@@ -7,12 +7,9 @@ use Rattle.wl_one_sender.proofs.Cleaning.{is_bound, sends, within}
 use Rattle.wl_one_sender.proofs.laws.one_sender_is_clean.Goals as goal
 
 pub returns : goal.returns
-returns c = λ f plan clocks sender one stuffed steady of frames sound slots.
+returns c = λ f plan clocks sender one stuffed steady of frames sound.
     let is : IsBus (bus_with plan clocks sender one stuffed) =
     c.a_plan_is_such_a_bus.ensures.bus plan clocks steady sender one.inside one.first.frame (stuffed 0) (decides_at (setup_at plan sender).segments one.first.ready) in
     c.tolerances_are_enough.ensures.through (tolerance_of f) (bus_with plan clocks sender one stuffed) stuffed is (sends f plan clocks sender one stuffed steady of is frames) frames
     (within f plan clocks sender one stuffed steady of is)
-    (record {
-      clocks = c.a_sound_bus_fits.ensures (bus_of f (alone sender)) (tolerance_of f) (bus_with plan clocks sender one stuffed) is (is_bound f plan clocks sender one stuffed steady of is) sound;
-      slots = slots;
-    })
+    (c.a_sound_bus_fits.ensures (bus_of f (alone sender)) (tolerance_of f) (bus_with plan clocks sender one stuffed) is (is_bound f plan clocks sender one stuffed steady of is) sound)

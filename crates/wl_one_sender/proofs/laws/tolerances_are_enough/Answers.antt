@@ -1,10 +1,10 @@
-use Rattle.wl_one_sender.proofs.Fitting.{in_step, stays}
+use Rattle.wl_one_sender.proofs.Fitting.{ends_in_slots, in_step}
 use Rattle.wl_one_sender.proofs.laws.tolerances_are_enough.Goals as goal
 
 pub returns : goal.returns
 returns c = record {
   in_step = λ t b is within fit. in_step t b is within fit;
-  stays = λ t b is within fit. stays t b is within fit;
+  ends = λ t b is within fit. ends_in_slots t b is within fit;
   through = λ t b stuffed is sends frames within fit.
-      c.every_frame_gets_through.ensures b stuffed is sends frames (in_step t b is within fit) (stays t b is within fit);
+      c.every_frame_gets_through.ensures b stuffed is sends frames (in_step t b is within fit) (ends_in_slots t b is within fit);
 }
