@@ -10,7 +10,7 @@ use Rattle.wl_one_sender.specs.Through.{due_quantum}
 use Rattle.wl_one_sender.specs.Tolerances.{FitClocks, Tolerance}
 use Rattle.wl_phase.specs.Clocks.{steady_timing}
 use Rattle.wl_phase.specs.InStep.{Sender, Listener, AreNear}
-use Rattle.wl_phase.specs.Answer.{IsInTime, ComesAfterBegin, ComesAfterOwn, ComesAfterSample, EndsBeforeSample, EndsInTime}
+use Rattle.wl_phase.specs.Answer.{IsInTime, ComesAfterSample, EndsAfterMove, EndsBeforeSample, EndsInTime, FitsBit}
 
 -- a bit of 1 + 3 + 3 + 3 quanta with its sample at place 7, and a jump width of 2
 abbrev l : Lengths
@@ -53,19 +53,16 @@ far = record { clock = record { offset = 0; num = 101; den = 1 }; lengths = l; d
 fast_too_early : ComesAfterSample s fast far 0 → ⊥
 fast_too_early h = omega arith
 
--- 99 + 2 + 100 ticks early are within 201 there and back, and not within 200
-fast_not_early : ComesAfterOwn s fast 101
-fast_not_early = omega arith
+-- a bit of 990 is there for 7 quanta of 101 and a tick, and over in 16
+fast_fits : FitsBit fast slow.clock l
+fast_fits = record { until = omega arith; far = omega arith; over = omega arith }
 
-fast_early : ComesAfterOwn s fast 100 → ⊥
-fast_early h = omega arith
+-- the sender follows the fast one: 99 + 2 ticks early, two bits of 1010, 180 of drift, 100 and 289 ticks are within a bit of 990, 100 ticks and 16 quanta of 100
+slow_over_then : EndsAfterMove s fast slow s.clock l 0 289
+slow_over_then = omega arith
 
--- 99 + 2 + 90 ticks early, and 1010 + 90 + 100 late, are within a bit of 990 and the detour of 401
-fast_in_slot : ComesAfterBegin s fast slow 301
-fast_in_slot = omega arith
-
-fast_before_slot : ComesAfterBegin s fast slow 300 → ⊥
-fast_before_slot h = omega arith
+slow_not_over_then : EndsAfterMove s fast slow s.clock l 0 290 → ⊥
+slow_not_over_then h = omega arith
 
 -- two bits of 1010, 90 late, the detour of 473, and 99 + 1 + 90 early, are within 27 quanta of 99 and the 100
 slow_over : EndsBeforeSample s slow fast 373

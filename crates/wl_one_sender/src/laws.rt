@@ -100,7 +100,7 @@ pub fn every_frame_gets_through()
     wl_phase::laws::the_sender_samples_the_acknowledgement();
     wl_phase::laws::the_next_sample_is_dominant();
     wl_phase::laws::an_acknowledgement_ends_in_time();
-    wl_phase::laws::an_acknowledgement_stays_in_its_slot();
+    wl_phase::laws::an_acknowledgement_is_over_everywhere();
     wl_phase::laws::an_early_acknowledgement_moves_a_node();
     wl_topology::driven_laws();
     wl_plan::simulation_laws();

@@ -251,37 +251,6 @@ module _ (s : Sender) (own : Lengths) (j : Listener) (seen : ℕ → Seen) (foun
       let way = way_is in
       omega arith)
 
-  -- so many bits later
-  bits_on : (c : ℕ) → own_instant s j ds dj (s.from + (d + c) * s.bit_quanta) ≡ place + c * A
-  bits_on zero =
-      let e : s.from + (d + 0) * s.bit_quanta ≡ s.from + d * s.bit_quanta = (let f : d + 0 ≡ d = omega arith in ap (λ n. s.from + n * s.bit_quanta) f) in
-      ap (own_instant s j ds dj) e ∙ omega arith
-  bits_on (suc c) =
-      let e : s.from + (d + suc c) * s.bit_quanta ≡ s.from + suc (d + c) * s.bit_quanta = (let f : d + suc c ≡ suc (d + c) = omega arith in ap (λ n. s.from + n * s.bit_quanta) f) in
-      let f : suc c * A ≡ c * A + A = omega arith in
-      ap (own_instant s j ds dj) e ∙ next_bit s j ds dj (d + c) ∙ ap (λ n. n + A) (bits_on c) ∙ omega arith
-
-  -- the listener's sample eight bits after this one, beside that of the sender a bit later
-  pub samples_before : EndsInTime s own j back → steady_tick j.clock (k + 8 * bit_quanta j.lengths) ≤ steady_tick s.clock (own_sample s own (d + 9))
-  samples_before ends =
-      let by =
-      reaches s j ds dj (k + 8 * bit_quanta j.lengths) 0 (own_sample s own (d + 9))
-      (let early = is.early in
-      let more = quantum_more s j ds dj k (8 * bit_quanta j.lengths) in
-      let eight : 8 * bit_quanta j.lengths * q ≡ 8 * (bit_quanta j.lengths * q) = omega arith in
-      let drift = few_of (is.since) (faster_parts s j) (let f = is.few in omega arith) in
-      let nine : is.since * faster_parts s j ≤ 9 * faster_parts s j = mul-le-mul_right (faster_parts s j) is.few in
-      let there_is = there s j ds dj d in
-      let bits = bits_on 9 in
-      let at = own_more s j ds dj (s.from + (d + 9) * s.bit_quanta) (sample_at own) in
-      let way = way_is in
-      let all = whole in
-      let near_it = near.sample in
-      let ten : 10 * bit_quanta j.lengths * q ≡ 10 * (bit_quanta j.lengths * q) = omega arith in
-      let e = ends in
-      omega arith) in
-      omega arith
-
   -- a bit after the quantum that finds it, and the way to a sample less a quantum
   ends_early : EndsInTime s own j back → (n : ℕ) → Finds s.clock n (answer_begin j back k) → answer_end j back k ≤ steady_tick s.clock (n + (sample_at own - 1) + bit_quanta own)
   ends_early ends n finds =

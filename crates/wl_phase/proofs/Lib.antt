@@ -15,6 +15,5 @@ mod Rows
 mod Runs
 mod Sharing
 mod Starting
-mod Stays
 mod Steps
 pub mod Callers

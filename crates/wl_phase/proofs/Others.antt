@@ -5,7 +5,7 @@ use Rattle.wl_segments.specs.Lengths.{sample_at, bit_quanta}
 use Rattle.wl_sync.specs.Edges.{Seen}
 use Rattle.wl_phase.specs.Clocks.{steady_tick, instant}
 use Rattle.wl_phase.specs.InStep.{Sender, Listener, SamplesBit, bit_parts, quantum_parts, tick_parts, bit_instant}
-use Rattle.wl_phase.specs.Answer.{ComesAfterBegin, ComesAfterSample, EndsBeforeSample, answer_begin, answer_end, longer_parts}
+use Rattle.wl_phase.specs.Answer.{ComesAfterSample, EndsBeforeSample, answer_begin, answer_end, longer_parts}
 use Rattle.wl_phase.proofs.Sharing.{drift_shared, same_since, tick_by, tick_from}
 
 module _ (s : Sender) (i j : Listener) (seen other_seen : ℕ → Seen) (found other_found between d k n : ℕ)
@@ -102,21 +102,6 @@ module _ (s : Sender) (i j : Listener) (seen other_seen : ℕ → Seen) (found o
       let right : j.clock.den * (bit_quanta i.lengths * quantum_parts s i + (i.delay + between) * tick_parts s i) ≡ P + M * i.delay + M * between = omega arith in
       let h = apart in
       let m : M * steady_tick j.clock n < M * (steady_tick i.clock (k + i.lengths.ps2) + between) = omega arith in
-      lt_of_mul-lt-mul_left M m
-
-  -- it comes after the slot of the other one has begun
-  pub after_begin : ComesAfterBegin s i j between → steady_tick j.clock (n + j.lengths.ps2) < answer_begin i between k
-  after_begin apart =
-      let high = second_by j.lengths.ps2 in
-      let low = first_from i.lengths.ps2 in
-      let drift = drift_shared first.since Q P first.few in
-      let begin = begin_parts in
-      let other_begin : i.clock.den * (sample_at j.lengths * quantum_parts s j) + i.clock.den * (j.lengths.ps2 * quantum_parts s j) ≡ Q = omega arith in
-      let left : j.clock.den * (quantum_parts s i + 2 * tick_parts s i) + 9 * longer_parts s j i + i.clock.den * (bit_quanta j.lengths * quantum_parts s j + j.delay * tick_parts s j)
-      ≡ j.clock.den * quantum_parts s i + 2 * M + 9 * (Q - P) + Q + M * j.delay = omega arith in
-      let right : j.clock.den * (bit_quanta i.lengths * quantum_parts s i + (i.delay + between) * tick_parts s i) ≡ P + M * i.delay + M * between = omega arith in
-      let h = apart in
-      let m : M * steady_tick j.clock (n + j.lengths.ps2) < M * (steady_tick i.clock (k + i.lengths.ps2) + between) = omega arith in
       lt_of_mul-lt-mul_left M m
 
   -- and it is over by the other one's sample of the ACK delimiter

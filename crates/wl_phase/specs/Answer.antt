@@ -104,23 +104,12 @@ ComesAfterSample s i j between =
     + i.clock.den * (sample_at j.lengths * quantum_parts s j + j.delay * tick_parts s j)
     ≤ j.clock.den * (bit_quanta i.lengths * quantum_parts s i + (i.delay + between) * tick_parts s i)
 
--- The acknowledgement of listener i comes at listener j after that one's own slot has begun.
-abbrev pub ComesAfterBegin : Sender → (i j : Listener) → (between : ℕ) → Type 0
-ComesAfterBegin s i j between =
-    j.clock.den * (quantum_parts s i + 2 * tick_parts s i) + 9 * longer_parts s j i
-    + i.clock.den * (bit_quanta j.lengths * quantum_parts s j + j.delay * tick_parts s j)
-    ≤ j.clock.den * (bit_quanta i.lengths * quantum_parts s i + (i.delay + between) * tick_parts s i)
-
--- And it is over there by j's sample of the ACK delimiter, though j begins its bit before the edge that it follows, and the bits of i may be longer.
+-- It is over there by j's sample of the ACK delimiter, though j begins its bit before the edge that it follows, and the bits of i may be longer.
 abbrev pub EndsBeforeSample : Sender → (i j : Listener) → (between : ℕ) → Type 0
 EndsBeforeSample s i j between =
     j.clock.den * (2 * bit_quanta i.lengths * quantum_parts s i + (i.delay + between) * tick_parts s i) + 9 * longer_parts s i j
     + i.clock.den * (quantum_parts s j + tick_parts s j)
     ≤ i.clock.den * ((sample_at j.lengths + 2 * bit_quanta j.lengths) * quantum_parts s j + j.delay * tick_parts s j)
-
--- The acknowledgement comes back to the sender after its slot has begun, though ten bits' drift makes it early.
-abbrev pub ComesAfterOwn : Sender → Listener → (back : ℕ) → Type 0
-ComesAfterOwn s j back = quantum_parts s j + 2 * tick_parts s j + 10 * slower_parts s j ≤ (j.delay + back) * tick_parts s j
 
 -- The acknowledgement of listener i moves a node of this clock and these segments, which is in its PHASE_SEG2: it is there until that one's next sample, wherever it puts that,
 -- and over by the one after it. In the parts of a tick that both clocks have.

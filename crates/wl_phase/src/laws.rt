@@ -3,13 +3,13 @@
 ghost use Rattle.std.specs.Prelude.{◌≡◌, ℕ, suc, ◌+◌, ◌-◌, ◌*◌, ◌/◌, ◌<◌, ◌≤◌, List, ◌++◌, length};
 ghost use Rattle.wl_level.specs.declared.Level.{Level};
 ghost use Rattle.wl_level.specs.declared.Level.TheVariants.{Dominant, Recessive};
-ghost use Rattle.wl_phase.specs.Answer.{ComesAfterBegin, ComesAfterOwn, ComesAfterSample, ComesInTime, EndsAfterMove, EndsBeforeSample, EndsInTime, FindsDominant, FindsEarly, FindsItsEnd, FitsBit, HearsAnswer, IsAnswered, SamplesNext, answer_begin, answer_end, moved_sample, own_sample};
+ghost use Rattle.wl_phase.specs.Answer.{ComesAfterSample, ComesInTime, EndsAfterMove, EndsBeforeSample, EndsInTime, FindsDominant, FindsEarly, FindsItsEnd, FitsBit, HearsAnswer, IsAnswered, SamplesNext, answer_begin, answer_end, moved_sample, own_sample};
 ghost use Rattle.wl_segments.specs.Lengths.{Lengths, bit_quanta, sample_at};
 ghost use Rattle.wl_sync.specs.Edges.{Seen};
 ghost use Rattle.wl_frame.specs.Laws.{up_to_ack};
 ghost use Rattle.wl_frame.specs.Stuffing.{Stuffs};
 ghost use Rattle.wl_phase.specs.Clocks.{Finds, Steady, IsSteady, instant, steady_tick};
-ghost use Rattle.wl_phase.specs.InStep.{ClocksAreNear, FindsTheFirst, HaveEdges, Listener, Listens, SamplesBit, Sender, SyncsHard, arrival};
+ghost use Rattle.wl_phase.specs.InStep.{ClocksAreNear, FindsTheFirst, HaveEdges, Listener, Listens, SamplesBit, Sender, SyncsHard};
 ghost use Rattle.wl_phase.specs.Ways.{ByTheBook, PhaseLaws, WayLaws};
 
 /// Law: quantum `k` of a clock with `num / den` ticks per quantum begins at its instant, rounded down to a tick. So any `n` quanta take
@@ -152,44 +152,18 @@ pub fn the_sender_samples_the_delimiter()
     the_sample_after_is_recessive();
 }
 
-/// Law: an acknowledgement stays in its slot. Let it come no earlier than the slot of the sender, and of each other listener,
-/// and let drift leave room for its end. Then it begins in the slot of each of them, and is over by that one's sample of the
-/// ACK delimiter. The sender samples it no earlier than by its own bits, and later by the jump width at most. For eleven
-/// bits more each listener is late by two bits at most. It samples the last but one bit of the end of frame before the sender
-/// samples the last one.
-pub fn an_acknowledgement_stays_in_its_slot()
-    ensures begins { (s : Sender) (i j : Listener) (seen other_seen : ℕ → Seen) (found other_found between d k n : ℕ)
-        → IsSteady s.clock → IsSteady i.clock → IsSteady j.clock → ComesAfterBegin s i j between
-        → SamplesBit s i seen found d k → SamplesBit s j other_seen other_found d n
-        → steady_tick j.clock (n + j.lengths.ps2) < answer_begin i between k }
+/// Law: an acknowledgement is over everywhere in time, if nothing has moved the nodes that it reaches: at each other listener by its
+/// sample of the ACK delimiter, and at the sender by that of its own bits.
+pub fn an_acknowledgement_is_over_everywhere()
     ensures ends { (s : Sender) (i j : Listener) (seen other_seen : ℕ → Seen) (found other_found between d k n : ℕ)
         → IsSteady s.clock → IsSteady i.clock → IsSteady j.clock → EndsBeforeSample s i j between
         → SamplesBit s i seen found d k → SamplesBit s j other_seen other_found d n
         → answer_end i between k ≤ steady_tick j.clock (n + 2 * bit_quanta j.lengths) }
-    ensures begins_there { (s : Sender) (j : Listener) (seen : ℕ → Seen) (found back d k : ℕ) → IsSteady s.clock
-        → IsSteady j.clock → ComesAfterOwn s j back → SamplesBit s j seen found d k
-        → steady_tick s.clock (s.from + suc d * s.bit_quanta) < answer_begin j back k }
     ensures ends_there { (s : Sender) (own : Lengths) (j : Listener) (seen : ℕ → Seen) (found back d k : ℕ) → IsSteady s.clock
         → IsSteady j.clock → ByTheBook own → ByTheBook j.lengths → s.bit_quanta ≡ bit_quanta own → ClocksAreNear s j
         → ComesInTime s own j back → EndsInTime s own j back → SamplesBit s j seen found d k
         → answer_end j back k ≤ steady_tick s.clock (own_sample s own (suc (suc d))) }
-    ensures samples_before { (s : Sender) (own : Lengths) (j : Listener) (seen : ℕ → Seen) (found back d k : ℕ)
-        → IsSteady s.clock → IsSteady j.clock → ByTheBook own → ByTheBook j.lengths → s.bit_quanta ≡ bit_quanta own
-        → ClocksAreNear s j → ComesInTime s own j back → EndsInTime s own j back → SamplesBit s j seen found d k
-        → steady_tick j.clock (k + 8 * bit_quanta j.lengths) ≤ steady_tick s.clock (own_sample s own (d + 9)) }
-    ensures sampled { (s : Sender) (own : Lengths) (j : Listener) (seen sender_seen : ℕ → Seen) (found back d k : ℕ)
-        → IsSteady s.clock → IsSteady j.clock → ByTheBook own → ByTheBook j.lengths → s.bit_quanta ≡ bit_quanta own
-        → ClocksAreNear s j → ComesInTime s own j back → ComesAfterOwn s j back → SamplesBit s j seen found d k
-        → HearsAnswer s own j back d k sender_seen
-        → (m : ℕ) × (own_sample s own (suc d) ≤ m) × (m ≤ own_sample s own (suc d) + own.sjw)
-        × SamplesNext own sender_seen (own_sample s own d) m Dominant }
-    ensures behind { (s : Sender) (j : Listener) (seen : ℕ → Seen) (found d k : ℕ) → IsSteady s.clock → IsSteady j.clock
-        → ByTheBook j.lengths → ClocksAreNear s j → SamplesBit s j seen found d k
-        → (c : ℕ) → c ≤ 11 → steady_tick j.clock (k + c * bit_quanta j.lengths) < arrival s j (d + c + 2) }
-{
-    an_acknowledgement_comes_in_time();
-    the_next_sample_is_dominant();
-}
+{}
 
 /// Law: an acknowledgement that is early moves a node that finds it in its PHASE_SEG2. It is there until the sample that it
 /// moves, and over by the one after it; so are those of all others. A listener's sample so many bits after the end of its own

@@ -23,8 +23,8 @@ returns c = λ b stuffed is sends frames meets slots.
       answer = c.the_sender_samples_the_acknowledgement.ensures;
     })
     (record {
-      ends = c.an_acknowledgement_stays_in_its_slot.ensures.ends;
-      ends_there = c.an_acknowledgement_stays_in_its_slot.ensures.ends_there;
+      ends = c.an_acknowledgement_is_over_everywhere.ensures.ends;
+      ends_there = c.an_acknowledgement_is_over_everywhere.ensures.ends_there;
       moved_there = c.an_acknowledgement_ends_in_time.ensures;
       finds = c.an_early_acknowledgement_moves_a_node.ensures.finds;
       over = c.an_early_acknowledgement_moves_a_node.ensures.over;
