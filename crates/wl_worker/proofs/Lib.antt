@@ -3,8 +3,10 @@ mod Fits
 mod Handing
 mod Named
 mod PassLists
+mod Promises
 mod Seen
 mod Shares
 mod Steps
 mod Told
 mod Took
+mod Waiting

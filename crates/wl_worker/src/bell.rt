@@ -11,10 +11,19 @@ pub const MOST_WORKERS: usize = 8;
 /// How often a waiting worker looks before it sleeps.
 const LOOKS: u32 = 100;
 
-/// How often a bell had rung when it was asked. Only a bell makes one, and says so of that moment.
+/// How often a bell had rung when it was asked, and for the worker itself since then. Only a bell makes one, and says so of that moment.
 #[derive(Clone, Copy, Drop)]
 pub struct Rings {
     count: u64,
+}
+
+impl Rings {
+    /// Returns the number with one ring more, which was for what the worker itself gave.
+    pub(crate) fn and_own(self) -> Rings {
+        Rings {
+            count: self.count.wrapping_add(1),
+        }
+    }
 }
 
 /// What workers wait at: how often each of them gave something, and which one stopped first. No record passes through it, and no promise
@@ -95,8 +104,8 @@ impl Bell {
         *self.stopped.lock(rt)
     }
 
-    /// Waits until the bell has rung again since `heard`, or some worker stopped. Returns the first one that stopped. It looks a hundred
-    /// times before it sleeps.
+    /// Waits until the bell has rung again since `heard` for another worker, or some worker stopped. Returns the first one that stopped. It
+    /// looks a hundred times before it sleeps.
     pub fn wait_past<R: Wait>(&self, rt: &R, heard: Rings) -> Option<u8> {
         for _ in 0..LOOKS {
             if self.has_rung(heard) {

@@ -41,8 +41,17 @@ impl Heard {
         Heard { rings: None }
     }
 
-    /// Waits until the bell has rung after the look, or some worker stopped; without a look it doesn't wait. Returns the first one that
-    /// stopped.
+    /// Returns the state after the worker itself gave something: it doesn't wait for the ring of that.
+    pub(crate) fn after_own(self) -> Heard
+        ensures { self.rings ≡ None → result.rings ≡ None }
+    {
+        Heard {
+            rings: self.rings.map(|rings| rings.and_own()),
+        }
+    }
+
+    /// Waits until the bell has rung for another worker after the look, or some worker stopped; without a look it doesn't wait. Returns the
+    /// first one that stopped.
     pub(crate) fn wait<R: Wait>(self, rt: &R, bell: &Bell) -> Option<u8> {
         match self.rings {
             Some(rings) => bell.wait_past(rt, rings),

@@ -23,7 +23,7 @@ pub struct HubLink<'h, R: Wait> {
     pass: Pass<PlanName>,
     bell: &'h Bell,
     worker: u8,
-    // How often the bell had rung when the last fetch began; nothing after a rewind.
+    // How often the bell had rung when the last fetch began, and for this worker since; nothing after a rewind.
     heard: Heard,
     // For each node, how many of its changes were handed over; none after a rewind.
     handed: Handed,
@@ -83,6 +83,7 @@ impl<'h, R: Wait> Link for HubLink<'h, R> {
         let _ = alloc;
         let given = give_words(self.hub, &mut self.pass, records);
         self.bell.give(self.rt, self.worker, given);
+        self.heard = self.heard.after_own();
         Ok(())
     }
 

@@ -21,7 +21,7 @@ pub use crew::simulate_over;
 pub use giving::Given;
 pub use hub_link::HubLink;
 pub use kinds::{LinkKind, simulate, simulate_by};
-pub use laws::nothing_is_taken;
+pub use laws::{blocked_workers_have_ended, nothing_is_taken};
 pub use link::{Fault, Gate, Link, LinkFault};
 pub use mail_link::{MailLink, mail_links};
 pub use over_hub::hub_links;

@@ -25,7 +25,7 @@ pub struct MailLink<'h, R: Wait> {
     plan: Arc<Plan>,
     bell: &'h Bell,
     worker: u8,
-    // How often the bell had rung when the last fetch began; nothing after a rewind.
+    // How often the bell had rung when the last fetch began, and for this worker since; nothing after a rewind.
     heard: Heard,
 }
 
@@ -95,6 +95,7 @@ impl<'h, R: Wait> Link for MailLink<'h, R> {
     fn give(&mut self, alloc: Global, records: &[Record]) -> Result<(), LinkFault> {
         let given = give_letter(self.rt, alloc, &mut self.post, &self.plan, records)?;
         self.bell.give(self.rt, self.worker, given);
+        self.heard = self.heard.after_own();
         Ok(())
     }
 

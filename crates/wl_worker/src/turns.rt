@@ -1,9 +1,10 @@
 //! One worker: its turns, from the first silences of its members to their end.
-ghost use Rattle.std.specs.Prelude.{◌≡◌, ◌≢◌, ◌↔◌, ℕ, true, length, IsTrue, IfOk, IfErr, OnOk};
+ghost use Rattle.std.specs.Prelude.{◌≡◌, ◌≢◌, ◌+◌, ◌<◌, false, IsTrue, IfOk, IfErr, IfSome, IfNone, OnOk};
 ghost use Rattle.wl_plan.specs.declared.plan.Plan.{Plan as GivenPlan};
-ghost use Rattle.wl_group.specs.GroupValue.{belongs, initial_group};
+ghost use Rattle.wl_group.specs.GroupValue.{belongs, may_run, initial_group};
 ghost use Rattle.wl_worker.specs.Handed.{AreTrueOfPlan};
 ghost use Rattle.wl_worker.specs.Finished.{MembersEnded, HasFinished};
+ghost use Rattle.wl_worker.specs.Promised.{IsLeastPromised, IsLeastOf, IsBlocked};
 ghost use Rattle.wl_worker.specs.Given.{first_silences_of, Gives, GaveFirst};
 
 use crate::link::{Fault, Gate, Link, LinkFault};
@@ -15,15 +16,15 @@ use wl_record_core::Record;
 /// A worker has no turn of this number: there it ends with its fault.
 const MOST_TURNS: u64 = 1 << 63;
 
-/// How often at most each member has its turn before the worker gives what was said, by measurement. With fewer a worker gives and fetches
+/// How many rows of quanta at most members run before the worker gives what was said, by measurement. With fewer a worker gives and fetches
 /// more often on lines with long delays, and with more nothing is gained. So others needn't wait until it has run all that it can.
-const MOST_ROUNDS: u32 = 32;
+const MOST_ROWS: u32 = 128;
 
 /// Runs a group to its end, with what comes by its link.
 ///
-/// The worker gives its members' first silences. Then in each turn it asks the gate, fetches, runs its members, and gives what they said,
-/// if anything. It waits if nothing came and nothing was said. It ends when all its members are at the end. If it fails, it lets the others
-/// know by `stop`.
+/// The worker gives its members' first silences. Then in each turn it asks the gate, fetches, runs its members, each time the one with the
+/// least promise, and gives what they said, if anything. It waits if that one may not run. It ends when all its members are at the end. If
+/// it fails, it lets the others know by `stop`.
 ///
 /// If the gate asks a restart of a turn, the group begins again before it: fresh nodes that know nothing, to which the link hands again
 /// what it handed, and which give their first silences again.
@@ -76,11 +77,11 @@ fn run<L: Link, G: Gate>(
         if gate.restart(worker, turn) {
             begin_anew(alloc, group, link).map_err(|fault| fault_of(fault, worker))?;
         }
-        let moved = step(alloc, group, link).map_err(|fault| fault_of(fault, worker))?;
-        if is_at_end(group) {
+        let waits = step(alloc, group, link).map_err(|fault| fault_of(fault, worker))?;
+        if least_promised(group).is_none() {
             return Ok(());
         }
-        if moved {
+        if !waits {
             continue;
         }
         if let Some(stopped) = link.wait() {
@@ -143,72 +144,93 @@ fn first_silences(alloc: Global, group: &Group) -> Result<Vec<Record>, AllocErro
     Ok(first)
 }
 
-/// Fetches, runs the members and gives what they said, if anything. Returns whether something came or was said.
+/// Fetches, runs the members and gives what they said, if anything. Returns whether the worker has to wait for others: the member with the
+/// least promise is blocked.
 fn step<L: Link>(alloc: Global, group: &mut Group, link: &mut L) -> Result<bool, LinkFault>
     requires { L.is_of link.old group.old.plan }
     ensures same { (p : GivenPlan) → L.is_of link.old p → L.is_of link.new p }
     ensures plan { group.new.plan ≡ group.old.plan }
     ensures members { belongs group.new ≡ belongs group.old }
+    ensures blocked { IfOk result (λ waits. IsTrue waits → IsBlocked group.new) }
 {
-    let came = come(alloc, group, link)?;
+    come(alloc, group, link)?;
     let said = say(alloc, group)?;
-    hand(alloc, group, link, said.as_slice())?;
-    Ok(came || !said.is_empty())
+    hand(alloc, group, link, said.records.as_slice())?;
+    Ok(said.is_blocked)
 }
 
-/// Fetches what others gave. Returns whether something came.
+/// Fetches what others gave.
 #[tactic(auto, using(crate::proofs::Steps::took_members))]
-fn come<L: Link>(alloc: Global, group: &mut Group, link: &mut L) -> Result<bool, LinkFault>
+fn come<L: Link>(alloc: Global, group: &mut Group, link: &mut L) -> Result<(), LinkFault>
     requires { L.is_of link.old group.old.plan }
     ensures same { (p : GivenPlan) → L.is_of link.old p → L.is_of link.new p }
     ensures plan { group.new.plan ≡ group.old.plan }
     ensures members { belongs group.new ≡ belongs group.old }
 {
-    link.fetch(alloc, group)
+    link.fetch(alloc, group)?;
+    Ok(())
 }
 
-/// Runs all members until none may run or each had its turn often enough, and returns what they said.
-fn say(alloc: Global, group: &mut Group) -> Result<Vec<Record>, AllocError>
-    ensures truth { IfOk result (λ said. AreTrueOfPlan group.old.plan said.items) }
+/// What the members of a group said in a turn, and whether the one with the least promise is blocked after it.
+#[derive(Drop)]
+struct Said {
+    records: Vec<Record>,
+    is_blocked: bool,
+}
+
+/// Runs members, each time the one with the least promise, until that one may not run or there were rows enough, and returns what they
+/// said.
+fn say(alloc: Global, group: &mut Group) -> Result<Said, AllocError>
+    ensures truth { IfOk result (λ said. AreTrueOfPlan group.old.plan said.records.items) }
+    ensures blocked { IfOk result (λ said. IsTrue said.is_blocked → IsBlocked group.new) }
     ensures plan { group.new.plan ≡ group.old.plan }
     ensures members { belongs group.new ≡ belongs group.old }
 {
-    let mut said = Vec::new(alloc);
-    for _ in 0..MOST_ROUNDS {
-        let before = said.len();
-        run_members(group, &mut said)?;
-        if said.len() == before {
-            break;
+    let mut records = Vec::new(alloc);
+    for _ in 0..MOST_ROWS {
+        if !run_least(group, &mut records)? {
+            return Ok(Said {
+                records,
+                is_blocked: true,
+            });
         }
     }
-    Ok(said)
+    Ok(Said {
+        records,
+        is_blocked: false,
+    })
 }
 
-/// Runs a row of quanta of each member that may run one, and puts what it says after the rest.
-fn run_members(group: &mut Group, said: &mut Vec<Record>) -> Result<(), AllocError>
+/// Runs a row of quanta of the member with the least promise, and puts what it says after the rest. False if it may not run, or if all
+/// members are at their ends.
+fn run_least(group: &mut Group, said: &mut Vec<Record>) -> Result<bool, AllocError>
     requires { AreTrueOfPlan group.old.plan said.old.items }
     ensures truth { AreTrueOfPlan group.old.plan said.new.items }
+    ensures blocked { IfOk result (λ ran. (ran ≡ false) → IsBlocked group.new) }
     ensures plan { group.new.plan ≡ group.old.plan }
     ensures members { belongs group.new ≡ belongs group.old }
 {
-    for i in 0..group.replica().nodes() {
-        run_member(group, i, said)?;
+    match least_promised(group) {
+        Some(i) => run_member(group, i, said),
+        None => Ok(false),
     }
-    Ok(())
 }
 
 /// Runs a row of quanta of a node, if it may run one, and puts what it says after the rest: its change, if there is one, and one promise.
+/// Returns whether it ran.
 #[tactic(auto, using(crate::proofs::Steps::appended_true, crate::proofs::Steps::gone_true))]
-fn run_member(group: &mut Group, i: u8, said: &mut Vec<Record>) -> Result<(), AllocError>
+fn run_member(group: &mut Group, i: u8, said: &mut Vec<Record>) -> Result<bool, AllocError>
     requires { AreTrueOfPlan group.old.plan said.old.items }
     ensures truth { AreTrueOfPlan group.old.plan said.new.items }
+    ensures stuck { IfOk result (λ ran. (ran ≡ false) → (may_run group.old i ≡ false) × (group.new ≡ group.old)) }
     ensures plan { group.new.plan ≡ group.old.plan }
     ensures members { belongs group.new ≡ belongs group.old }
 {
-    if let Some(emission) = group.go(i)? {
-        said.extend_from_slice(&emission)?;
-    }
-    Ok(())
+    let Some(emission) = group.go(i)? else {
+        return Ok(false);
+    };
+    said.extend_from_slice(&emission)?;
+    Ok(true)
 }
 
 /// Gives what members of the group said, if anything.
@@ -231,14 +253,35 @@ fn hand<L: Link>(
     link.give(alloc, said)
 }
 
-/// True if all members of a group are at the end.
-fn is_at_end(group: &Group) -> bool
-    ensures { IsTrue result ↔ MembersEnded group.now }
+/// Returns the first member with the least promise, of those that aren't at their ends; none if all are.
+#[tactic(auto, using(crate::proofs::Promises::least_of_all, crate::proofs::Promises::none_of_all))]
+fn least_promised(group: &Group) -> Option<u8>
+    ensures least { IfSome result (IsLeastPromised group.now) }
+    ensures ended { IfNone result (MembersEnded group.now) }
 {
+    wl_group::value_laws();
+    let mut least = None;
     for i in 0..group.replica().nodes() {
-        if group.has(i) && !group.has_ended(i) {
-            return false;
-        }
+        least = least_with(group, least, i);
     }
-    true
+    least
+}
+
+/// Returns the one of the nodes up to `i` with the least promise, by the one of those before it.
+#[tactic(auto, using(crate::proofs::Promises::left_out, crate::proofs::Promises::first_one))]
+fn least_with(group: &Group, least: Option<u8>, i: u8) -> Option<u8>
+    requires before { IsLeastOf group.now i least }
+    requires node { i < group.now.replica.nodes }
+    ensures { IsLeastOf group.now (i + 1) result }
+{
+    if !group.has(i) || group.has_ended(i) {
+        return least;
+    }
+    let Some(first) = least else {
+        return Some(i);
+    };
+    if group.replica().horizon(first) <= group.replica().horizon(i) {
+        return Some(first);
+    }
+    Some(i)
 }

@@ -5,4 +5,4 @@ use Rattle.wl_worker.proofs.turns.say.Given as goal
 
 abbrev pub invariant-loop : goal.invariant-loop
 invariant-loop l =
-    AreTrueOfPlan l.fn.group.plan l.said.items × (l.group.plan ≡ l.fn.group.plan) × (belongs l.group ≡ belongs l.fn.group)
+    AreTrueOfPlan l.fn.group.plan l.records.items × (l.group.plan ≡ l.fn.group.plan) × (belongs l.group ≡ belongs l.fn.group)
