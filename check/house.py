@@ -1,7 +1,7 @@
 #!/usr/bin/env python3
 """Looks for what makes the sources hard to read, and fails if it finds something that accepted.txt doesn't have with a reason.
 
-usage: house.py [--all] [repeats|wide|names|unused|long|english|comments|links|quotes]..     all of them if none is named; --all shows what is accepted, too
+usage: house.py [--all] [repeats|wide|names|unused|long|english|comments|links|quotes|edits]..     all of them if none is named; --all shows what is accepted, too
 
 repeats  lemma statements that stand more than once, up to the names of their variables (definitions and proofs are read, bodies not; a module's own
          name for a lemma of another one is none)
@@ -14,6 +14,7 @@ comments of the doc comments of src/: sentences of more than 30 words, words to 
          it ('Returns ..', 'True if ..') or with a verb
 links    links of pages that lead to no file or to no heading
 quotes   code that a page quotes from a file that it names just above, and that isn't there
+edits    wrong bodies whose old text isn't once in the file that they name
 
 Each search yields what accepted.txt may name, and the line that is printed. A line of accepted.txt is `KIND: WHAT`, or `KIND N: WHAT` if there may be N of
 them, below the line `reason: ..`. The status is 1 if something is found that isn't accepted; what is accepted and no longer found is only named.
@@ -265,6 +266,22 @@ def quotes():
                         yield path.relative_to(TOP), f"{path.relative_to(TOP)}: not in {last.resolve().relative_to(TOP)}: {part.splitlines()[0]}"
 
 
+def edits():
+    for edit in sorted([*TOP.glob("crates/*/must-fail/*.edit"), *TOP.glob("check/wrong-bodies/*/*.edit")]):
+        crate = edit.parent.name if edit.parent.name != "must-fail" else edit.parent.parent.name
+        file, texts = "", {}
+        for line in edit.read_text(encoding="utf-8").splitlines():
+            if line.startswith("file: "):
+                file = TOP / "crates" / crate / line[6:].strip()
+            elif line.startswith("old: "):
+                old = line[5:]
+            elif line.startswith("new:"):
+                if file not in texts: texts[file] = file.read_text(encoding="utf-8") if file.is_file() else ""
+                times = texts[file].count(old)
+                if times != 1: yield edit.relative_to(TOP), f"{edit.relative_to(TOP)}: its old text is there {times} times"
+                texts[file] = texts[file].replace(old, line[4:].removeprefix(" "))
+
+
 def accepted():
     """Returns how many of each kind and thing are accepted; each has a reason above it."""
     found, reason = Counter(), None
@@ -278,7 +295,7 @@ def accepted():
 
 
 def main():
-    every = {it.__name__: it for it in (repeats, wide, names, unused, long, english, comments, links, quotes)}
+    every = {it.__name__: it for it in (repeats, wide, names, unused, long, english, comments, links, quotes, edits)}
     words, left, bad = sys.argv[1:], accepted(), 0
     show = "--all" in words
     for kind in [it for it in words if it != "--all"] or every:
