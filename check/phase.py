@@ -1,7 +1,6 @@
 #!/usr/bin/env python3
 """A node by the rules of the book, beside the crate wl_phase: the definitions as a program of their own.
 
-    phase.py rows < FILE                answers the rows of crates/phase_rows/stdin
     phase.py search RUNS SEED [LEFT]    plays senders and listeners whose clocks are as far apart as they may be, or, with LEFT
                                         (slow, fast or sample), farther by that condition alone; says how many went wrong
     phase.py answer RUNS SEED [LEFT]    the same with an acknowledgement whose way there and back is as long or as short as it
@@ -42,14 +41,6 @@ def step(lengths, clock, level, awaits, drives):
     return (quanta + 1, longer, shorter, synced, level, sample), None, found
 
 
-def way(lengths, clock):
-    """The quanta before the next sample, if no edge comes."""
-    prop, ps1, ps2, _ = lengths
-    quanta, longer, shorter = clock[:3]
-    place = 1 + prop + ps1 + longer
-    return place - quanta if quanta <= place else place + ps2 - shorter - quanta + 1 + prop + ps1
-
-
 def conditions(sender, sender_rate, listener, rate):
     """By ten bits the sender is no slower than a jump, no faster, and its next bit comes after the sample."""
     bit = rate[1] * (1 + sum(sender[:3])) * sender_rate[0]
@@ -82,56 +73,6 @@ def listen(sender, sender_offset, sender_rate, begin, listener, offset, rate, de
         if count == len(bits):
             return count
     return None
-
-
-def levels(words):
-    """The bits of words such as `0101` and `1*11`."""
-    all_bits = []
-    for word in words:
-        bits, _, count = word.partition("*")
-        all_bits += [bit == "0" for bit in bits] * int(count or 1)
-    return all_bits
-
-
-def numbers(word, separator):
-    return tuple(int(n) for n in word.split(separator))
-
-
-def answer_way(words):
-    lengths, words = numbers(words[0], ","), words[1:]
-    awaits, drives = words[0] == "awaits", words[0] == "drives"
-    clock, out = at_first(lengths), []
-    for quantum, level in enumerate(levels(words[awaits or drives:])):
-        clock, sample, found = step(lengths, clock, level, awaits, drives)
-        if found == "hard":
-            out.append(f"{quantum}:hard({way(lengths, clock)})")
-        elif found is not None:
-            out.append(f"{quantum}:error({found},{way(lengths, clock)})")
-        if sample is not None:
-            out.append(f"{quantum}:sample({int(not sample)})")
-    return " ".join(out)
-
-
-def answer_listen(words):
-    first = words.index(":")
-    second = words.index(":", first + 1)
-    sender, sender_offset, sender_rate, begin = words[:first]
-    listener, offset, rate, delay = words[first + 1:second]
-    bits = levels(words[second + 1:])
-    sender, listener = numbers(sender, ","), numbers(listener, ",")
-    sender_rate, rate = numbers(sender_rate, "/"), numbers(rate, "/")
-    near = all(conditions(sender, sender_rate, listener, rate))
-    right = listen(sender, int(sender_offset), sender_rate, int(begin), listener, int(offset), rate, int(delay), bits)
-    return f"{'near' if near else 'not near'} {right} of {len(bits)}"
-
-
-def rows():
-    for line in sys.stdin.read().splitlines():
-        words = line.split()
-        if not words or line.startswith("#"):
-            print(line)
-        else:
-            print(f"{line} = {(answer_way if words[0] == 'way' else answer_listen)(words[1:])}")
 
 
 def random_lengths():
@@ -270,9 +211,7 @@ def search_answers(runs, left, samples):
 
 
 if __name__ == "__main__":
-    if sys.argv[1:] == ["rows"]:
-        rows()
-    elif len(sys.argv) in (4, 5) and sys.argv[1] in ("search", "answer", "end"):
+    if len(sys.argv) in (4, 5) and sys.argv[1] in ("search", "answer", "end"):
         random.seed(int(sys.argv[3]))
         runs, left = int(sys.argv[2]), sys.argv[4] if len(sys.argv) == 5 else None
         search(runs, left) if sys.argv[1] == "search" else search_answers(runs, left, [True] if sys.argv[1] == "answer" else [True, False])
