@@ -8,3 +8,4 @@ pub mod SearchLaws
 pub mod Searches
 pub mod Verdicts
 pub mod Senders
+pub mod Covered

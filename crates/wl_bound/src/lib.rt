@@ -1,11 +1,12 @@
 //! Whether a bus is sound, and with how much to spare: the condition, its evaluation, and the searches over it.
 //!
 //! Under the condition every power-up of a plan is free of errors, with any offsets and any deviation of its clocks within their tolerance.
-//! It is three inequalities for each pair of nodes, in exact integers, which take drift and cable together. That they suffice is shown by
-//! search, and not proved.
+//! It is three inequalities for each pair of nodes, in exact integers, which take drift and cable together. That they suffice is proved for one
+//! sender at a time (`wl_one_sender`), and shown by search for several.
 #![tactic(auto)]
 
 mod condition;
+mod covered;
 mod family;
 mod help;
 mod laws;
@@ -15,6 +16,7 @@ mod terms;
 mod verdict;
 
 pub use condition::{Failure, Inequality, Senders, Sides};
+pub use covered::is_covered;
 pub use family::{Change, Family, Member, only_listens};
 pub use laws::{condition_laws, search_laws};
 pub use oscillator::Oscillator;

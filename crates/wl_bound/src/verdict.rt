@@ -110,7 +110,7 @@ fn first_of_listeners(plan: &Plan) -> Option<Outside>
 }
 
 /// True if node `i` of a plan only listens.
-fn listens(plan: &Plan, i: u8) -> bool
+pub(crate) fn listens(plan: &Plan, i: u8) -> bool
     requires checked { IsChecked plan.now }
     requires two { 2 ≤ length plan.now.nodes }
     requires node { i < length plan.now.nodes }
@@ -165,7 +165,7 @@ fn first_unacknowledged(plan: &Plan) -> Option<u8>
 }
 
 /// Returns node `i` of a plan.
-fn setup(plan: &Plan, i: u8) -> &NodeSetup
+pub(crate) fn setup(plan: &Plan, i: u8) -> &NodeSetup
     requires { i < length plan.now.nodes }
     ensures { result.now ≡ setup_at plan.now i }
 {
@@ -293,7 +293,7 @@ fn first_shared(plan: &Plan) -> Option<Outside>
 }
 
 /// Returns the tick at which a node has counted the 11 bits for which it waits (Bosch CAN 2.0 part B, section 9).
-fn idle_at(node: &NodeSetup) -> u64
+pub(crate) fn idle_at(node: &NodeSetup) -> u64
     ensures value { result ≡ idle_at node.now }
     ensures soon { result < 2 ^ 40 }
 {
@@ -301,7 +301,7 @@ fn idle_at(node: &NodeSetup) -> u64
 }
 
 /// True if no frame of a node becomes ready before tick `t`.
-fn is_ready_from(node: &NodeSetup, t: u64) -> bool
+pub(crate) fn is_ready_from(node: &NodeSetup, t: u64) -> bool
     requires { t < 2 ^ 48 }
     ensures { result ≡ is_ready_from node.now node.now.queue t }
 {

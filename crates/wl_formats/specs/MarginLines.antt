@@ -7,7 +7,7 @@ abbrev pub margin_layout : Layout
 margin_layout = record {
   command = codes "margin";
   columns =
-      codes "verdict" ∷ codes "inequality" ∷ codes "name" ∷ codes "other_name" ∷ codes "taken_ns" ∷
+      codes "verdict" ∷ codes "law" ∷ codes "inequality" ∷ codes "name" ∷ codes "other_name" ∷ codes "taken_ns" ∷
       codes "taken_quanta" ∷ codes "available_ns" ∷ codes "available_quanta" ∷ codes "reason" ∷ codes "late_ns" ∷
       codes "late_quanta" ∷ codes "early_ns" ∷ codes "early_quanta" ∷ codes "drift_ns" ∷ codes "drift_quanta" ∷
       codes "one_sender_units" ∷ codes "any_senders_units" ∷ codes "one_sender_ppm" ∷ codes "any_senders_ppm" ∷
@@ -17,6 +17,17 @@ margin_layout = record {
         kind = codes "verdict";
         parts =
             field (codes "verdict") Phrase ∷ literal (codes ", shown by search, not proved") ∷ [];
+      } ∷
+      record {
+        kind = codes "verdict";
+        parts =
+            field (codes "verdict") Phrase ∷ literal (codes ", shown by search; for one sender at a time, proved: ") ∷
+            field (codes "law") Word ∷ [];
+      } ∷
+      record {
+        kind = codes "verdict";
+        parts =
+            field (codes "verdict") Phrase ∷ literal (codes ", proved: ") ∷ field (codes "law") Word ∷ [];
       } ∷
       record {
         kind = codes "verdict";

@@ -1,6 +1,7 @@
 -- The text of a bus's margin: whether it works, what is to spare, how much longer and wider it may be (this project's profile).
-use Rattle.std.specs.Prelude.{◌≡◌, ℕ, ◌==◌, List, [], ◌∷◌, ◌++◌, codes, length, if◌then◌else◌, Option, Some, None, option_map, option_and_then}
+use Rattle.std.specs.Prelude.{◌≡◌, ℕ, ◌==◌, ◌&&◌, not, Bool, true, false, List, [], ◌∷◌, ◌++◌, codes, length, if◌then◌else◌, Option, Some, None, option_map, option_and_then}
 use Rattle.std.specs.Fmt.{decimal}
+use Rattle.std.specs.Option.{is_some}
 use Rattle.wl_plan.specs.declared.plan.Plan.{Plan}
 use Rattle.wl_setup.specs.declared.bus.Bus.{Bus}
 use Rattle.wl_setup.specs.declared.bus.Deviation.{Deviation}
@@ -8,6 +9,7 @@ use Rattle.wl_setup.specs.Names.{name_of}
 use Rattle.wl_bound.specs.Families.{Buses, family_of, only_listens}
 use Rattle.wl_bound.specs.Oscillators.{Pace, oscillator_of}
 use Rattle.wl_bound.specs.Conditions.{first_failure_of, is_asked, plain, sides_in}
+use Rattle.wl_bound.specs.Covered.{is_covered}
 use Rattle.wl_bound.specs.Helps.{best_change}
 use Rattle.wl_bound.specs.declared.family.Change.{Change}
 use Rattle.wl_bound.specs.declared.family.Change.TheVariants.{WiderJump, NarrowerJump, LaterSample, EarlierSample}
@@ -78,6 +80,25 @@ spare_of tick f senders inequality i j =
     if is_asked (only_listens f.cable) inequality i j then spare_words (measure_of tick f i) (sides_in f plain senders inequality i j)
     else codes "none"
 
+-- What is said where the condition holds. That it suffices is proved for one sender at a time, on the plans that the law covers (`one_sender_is_clean` of
+-- wl_one_sender); for several senders it is shown by search.
+abbrev pub any_lead : Bool → List ℕ
+any_lead true = codes "holds for any senders, shown by search; for one sender at a time, proved: one_sender_is_clean\n"
+any_lead false = codes "holds for any senders, shown by search, not proved\n"
+
+abbrev pub one_lead : Bool → List ℕ
+one_lead true = codes "holds for one sender at a time, proved: one_sender_is_clean\n"
+one_lead false = codes "holds for one sender at a time, shown by search, not proved\n"
+
+-- each clock has one rate
+abbrev pub are_steady : List Deviation → Bool
+are_steady [] = true
+are_steady (d ∷ later) = length d.rates == 1 && are_steady later
+
+-- the law covers the plan, and the condition holds for one sender at a time
+abbrev pub is_proved : Bool → Plan → Buses → Bool
+is_proved steady plan f = steady && (is_covered plan && not (is_some (first_failure_of f plain One)))
+
 module _ (tick : ℕ) (f : Buses) (names : List (List ℕ)) where
   abbrev pub pair_line : Senders → ℕ → ℕ → List ℕ
   pair_line senders i j =
@@ -104,12 +125,11 @@ module _ (tick : ℕ) (f : Buses) (names : List (List ℕ)) where
   any_failure (Some failure) = failure_line (codes "any senders: ") failure
 
   -- the first lines, and what is to spare
-  abbrev pub verdict_words : Verdict → List ℕ
-  verdict_words ForAny = codes "holds for any senders, shown by search, not proved\n" ++ all_pairs Any
-  verdict_words ForOne =
-      codes "holds for one sender at a time, shown by search, not proved\n" ++ any_failure (first_failure_of f plain Any) ++ all_pairs One
-  verdict_words (DoesNotHold failure) = failure_line (codes "does not hold: ") failure ++ all_pairs One
-  verdict_words (NoBound cause) = outside_words names cause
+  abbrev pub verdict_words : Bool → Verdict → List ℕ
+  verdict_words proved ForAny = any_lead proved ++ all_pairs Any
+  verdict_words proved ForOne = one_lead proved ++ any_failure (first_failure_of f plain Any) ++ all_pairs One
+  verdict_words proved (DoesNotHold failure) = failure_line (codes "does not hold: ") failure ++ all_pairs One
+  verdict_words proved (NoBound cause) = outside_words names cause
 
 -- how far something may grow, for one sender at a time and for any
 abbrev pub figure_words : List ℕ → Option ℕ → List ℕ
@@ -165,15 +185,16 @@ abbrev pub IsTextAfter : Verdict → List ℕ → Buses → List ℕ → Type 0
 IsTextAfter (NoBound cause) said f text = text ≡ said
 IsTextAfter verdict said f text = (found : Found) × IsFound f found × (text ≡ said ++ found_words found)
 
-abbrev pub IsFamilyText : ℕ → Plan → List (List ℕ) → Buses → List ℕ → Type 0
-IsFamilyText tick plan names f text = IsTextAfter (verdict_of plan f) (verdict_words tick f names (verdict_of plan f)) f text
+abbrev pub IsFamilyText : ℕ → Bool → Plan → List (List ℕ) → Buses → List ℕ → Type 0
+IsFamilyText tick steady plan names f text =
+    IsTextAfter (verdict_of plan f) (verdict_words tick f names (is_proved steady plan f) (verdict_of plan f)) f text
 
 abbrev pub no_clock_words : List ℕ
 no_clock_words = codes "no bound is known: without its ppm a quantum takes less than a tick or more than 1,048,576\n"
 
 abbrev pub IsTextOfPaces : ℕ → Bus → Option (List Pace) → List ℕ → Type 0
 IsTextOfPaces tick bus None text = text ≡ no_clock_words
-IsTextOfPaces tick bus (Some paces) text = IsFamilyText tick bus.plan bus.names (family_of bus.plan paces) text
+IsTextOfPaces tick bus (Some paces) text = IsFamilyText tick (are_steady bus.deviations) bus.plan bus.names (family_of bus.plan paces) text
 
 -- the whole text, for ticks of so many picoseconds
 abbrev pub IsMarginText : ℕ → Bus → List ℕ → Type 0

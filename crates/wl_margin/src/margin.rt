@@ -7,13 +7,15 @@ ghost use Rattle.wl_bound.specs.Oscillators.{shortest_of};
 ghost use Rattle.wl_bound.specs.declared.condition.Senders.TheVariants.{Any};
 ghost use Rattle.wl_margin.specs.Sentences.{failure_words, measure_of, rest_words};
 ghost use Rattle.wl_margin.specs.Pieces.{each_below};
-ghost use Rattle.wl_margin.specs.Margins.{IsFamilyText, IsMarginText, all_pairs, any_failure, failure_line, lone_words, mute_words, outside_lead, outside_reason, outside_words, paces_of, pair_line, pair_words, pairs_of, shared_words, spare_of, unheard_words, verdict_words};
+ghost use Rattle.wl_margin.specs.Margins.{IsFamilyText, IsMarginText, all_pairs, any_failure, any_lead, are_steady, failure_line, is_proved, lone_words, mute_words, one_lead, outside_lead, outside_reason, outside_words, paces_of, pair_line, pair_words, pairs_of, shared_words, spare_of, unheard_words, verdict_words};
 
 use crate::found::{push_found, search};
 use crate::sentences::{Rest, Spare, push_failure};
 use crate::units::Units;
 use std::alloc::{AllocError, Global};
-use wl_bound::{Failure, Family, Inequality, Oscillator, Outside, Senders, Verdict, judge};
+use wl_bound::{
+    Failure, Family, Inequality, Oscillator, Outside, Senders, Verdict, is_covered, judge,
+};
 use wl_level::Listed;
 use wl_plan::Plan;
 use wl_setup::{Bus, Deviation, Names};
@@ -295,25 +297,66 @@ fn push_any_failure(
     }
 }
 
+/// Returns what is said of a bus that holds for any senders.
+fn any_lead(proved: bool) -> &'static str
+    ensures { result.now ≡ any_lead proved }
+{
+    if proved {
+        "holds for any senders, shown by search; for one sender at a time, proved: one_sender_is_clean\n"
+    } else {
+        "holds for any senders, shown by search, not proved\n"
+    }
+}
+
+/// Returns what is said of a bus that holds for one sender at a time.
+fn one_lead(proved: bool) -> &'static str
+    ensures { result.now ≡ one_lead proved }
+{
+    if proved {
+        "holds for one sender at a time, proved: one_sender_is_clean\n"
+    } else {
+        "holds for one sender at a time, shown by search, not proved\n"
+    }
+}
+
+/// True if each clock has one rate.
+fn are_steady(deviations: &[Deviation]) -> bool
+    ensures { result ≡ are_steady deviations.now }
+{
+    match deviations {
+        [] => true,
+        [first, later @ ..] => first.rates.len() == 1 && are_steady(later),
+    }
+}
+
+/// True if the law on one sender covers a plan of clocks of one rate each, and the condition holds for one sender at a time.
+fn is_proved(plan: &Plan, family: &Family, steady: bool) -> bool
+    requires { IsChecked plan.now }
+    ensures { result ≡ is_proved steady plan.now family.now }
+{
+    steady && is_covered(plan) && !family.first_failure(Senders::One).is_some()
+}
+
 /// Adds what a verdict says, and what is to spare.
 fn push_verdict(
     text: &mut String,
     family: &Family,
     names: &Names,
     tick: u64,
+    proved: bool,
     verdict: Verdict,
 ) -> Result<(), AllocError>
     requires { tick < 2 ^ 36 }
     ensures { OnOk result (string_bytes text.new ≡ string_bytes text.old
-        ++ verdict_words tick family.now names.now verdict) }
+        ++ verdict_words tick family.now names.now proved verdict) }
 {
     match verdict {
         Verdict::ForAny => {
-            text.push_str("holds for any senders, shown by search, not proved\n")?;
+            text.push_str(any_lead(proved))?;
             push_pairs(text, family, names, tick, Senders::Any)
         }
         Verdict::ForOne => {
-            text.push_str("holds for one sender at a time, shown by search, not proved\n")?;
+            text.push_str(one_lead(proved))?;
             push_any_failure(text, family, names, tick)?;
             push_pairs(text, family, names, tick, Senders::One)
         }
@@ -331,15 +374,17 @@ fn family_text(
     family: &Family,
     names: &Names,
     tick: u64,
+    steady: bool,
     plan: &Plan,
 ) -> Result<String, AllocError>
     requires tick { tick < 2 ^ 36 }
     requires checked { IsChecked plan.now }
-    ensures { IfOk result (λ text. IsFamilyText tick plan.now names.now family.now (string_bytes text)) }
+    ensures { IfOk result (λ text. IsFamilyText tick steady plan.now names.now family.now (string_bytes text)) }
 {
     let mut text = String::new(alloc);
     let verdict = judge(plan, family);
-    push_verdict(&mut text, family, names, tick, verdict)?;
+    let proved = is_proved(plan, family, steady);
+    push_verdict(&mut text, family, names, tick, proved, verdict)?;
     if let Verdict::NoBound(_) = verdict {
         return Ok(text);
     }
@@ -349,7 +394,8 @@ fn family_text(
 
 /// Returns the margin of a bus as text, for ticks of `tick` picoseconds, below 2^36.
 ///
-/// The first line says whether the condition for a sound bus holds: for any senders, for one sender at a time, or not. If it fails the line
+/// The first line says whether the condition for a sound bus holds: for any senders, for one sender at a time, or not. It says 'proved' where
+/// the law on one sender covers the plan (`one_sender_is_clean` of wl_one_sender). If it fails the line
 /// says which inequality fails, for which nodes and by how much. It may also say that no condition is known for the plan. Then follows what
 /// is to spare for each node and each other. Last come how much longer the cable and wider the tolerances may be, and which change by a
 /// quantum helps most. Refused out of memory alone.
@@ -362,7 +408,8 @@ pub fn margin_text(alloc: Global, tick: u64, bus: &Bus) -> Result<String, AllocE
     match oscillators(alloc, bus.deviations.as_slice())? {
         Some(oscillators) => {
             let family = Family::of_plan(alloc, &bus.plan, oscillators.as_slice())?;
-            family_text(alloc, &family, &bus.names, tick, &bus.plan)
+            let steady = are_steady(bus.deviations.as_slice());
+            family_text(alloc, &family, &bus.names, tick, steady, &bus.plan)
         }
         None => String::from_str(
             alloc,

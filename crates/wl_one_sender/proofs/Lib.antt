@@ -6,6 +6,7 @@ mod Bounded
 mod Calm
 mod Choosing
 mod Cleaning
+mod Covering
 mod Expecting
 mod Fitting
 mod Frames

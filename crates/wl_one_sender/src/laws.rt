@@ -1,12 +1,16 @@
 //! Laws of a line on which one node sends, each proved as the contract of a function that does nothing.
 
-ghost use Rattle.std.specs.Prelude.{◌≡◌, ◌≢◌, ℕ, ◌-◌, ◌<◌, ◌≤◌, ◌&&◌, nat_le, Bool, false, List, length};
+ghost use Rattle.std.specs.Prelude.{◌≡◌, ◌≢◌, ℕ, ◌-◌, ◌<◌, ◌≤◌, ◌&&◌, nat_le, Bool, true, false, List, [], ◌∷◌, length, None};
 ghost use Rattle.wl_level.specs.declared.Level.{Level};
 ghost use Rattle.wl_frame.specs.Grammar.{Content};
-ghost use Rattle.wl_phase.specs.Clocks.{Steady};
+ghost use Rattle.wl_phase.specs.Clocks.{Steady, steady_timing};
 ghost use Rattle.wl_topology.specs.Driven.{driven};
 ghost use Rattle.wl_plan.specs.declared.plan.Plan.{Plan};
+ghost use Rattle.wl_plan.specs.Checked.{IsChecked};
 ghost use Rattle.wl_plan.specs.Line.{Line};
+ghost use Rattle.wl_plan.specs.PlanLine.{setup_at};
+ghost use Rattle.wl_node.specs.declared.setup.Queued.{Queued};
+ghost use Rattle.wl_segments.specs.declared.SyncRules.TheVariants.{Book};
 ghost use Rattle.wl_plan.specs.Simulation.{level, seen};
 ghost use Rattle.wl_plan.specs.Sound.{IsCausal};
 ghost use Rattle.wl_one_sender.specs.Expected.{IsExpected, levels_found};
@@ -17,8 +21,10 @@ ghost use Rattle.wl_one_sender.specs.Through.{AreFrames, EndsInSlots, GetThrough
 ghost use Rattle.wl_one_sender.specs.Tolerances.{FitClocks, IsWithinTolerance, Tolerance};
 ghost use Rattle.wl_one_sender.specs.Bounds.{IsBoundOf};
 ghost use Rattle.wl_one_sender.specs.Clean.{HasOneSender, IsOfFamily, bus_with, tolerance_of};
-ghost use Rattle.wl_bound.specs.Families.{Bus, Buses, bus_of};
-ghost use Rattle.wl_bound.specs.Conditions.{IsSound};
+ghost use Rattle.wl_bound.specs.Families.{Bus, Buses, bus_of, member_at};
+ghost use Rattle.wl_bound.specs.Conditions.{IsSound, first_failure_of, plain};
+ghost use Rattle.wl_bound.specs.Covered.{is_covered};
+ghost use Rattle.wl_bound.specs.declared.condition.Senders.TheVariants.{One};
 ghost use Rattle.wl_bound.specs.Senders.{alone};
 
 /// Law: if one node alone has driven dominant, any node finds what that one drove a delay earlier.
@@ -142,4 +148,20 @@ pub fn one_sender_is_clean()
     a_plan_is_such_a_bus();
     tolerances_are_enough();
     a_sound_bus_fits();
+}
+
+/// Law: what `margin` tests before it says that this is proved is what the law on one sender asks. A plan that is covered, by the book
+/// and with one rate for each clock, has all it asks of a plan, if one node alone has frames. The condition for one sender at a time is
+/// that for each node with frames as the only sender.
+pub fn a_covered_plan_is_one_of_these()
+    ensures steady { (plan : Plan) (clocks : ℕ → Steady) → is_covered plan ≡ true → IsChecked plan
+        → ((i : ℕ) → i < length plan.nodes → (setup_at plan i).clock ≡ steady_timing (clocks i))
+        → ((i : ℕ) → i < length plan.nodes → (setup_at plan i).segments.sync ≡ Book) → IsSteadyPlan plan clocks }
+    ensures sender { (plan : Plan) (sender : ℕ) (first : Queued) (later : List Queued) → is_covered plan ≡ true
+        → sender < length plan.nodes → (setup_at plan sender).queue ≡ first ∷ later
+        → ((j : ℕ) → j < length plan.nodes → j ≢ sender → (setup_at plan j).queue ≡ []) → HasOneSender plan sender }
+    ensures sound { (f : Buses) (sender : ℕ) → (first_failure_of f plain One ≡ None) → sender < length f.members
+        → (member_at f sender).sends ≡ true → IsSound (bus_of f (alone sender)) }
+{
+    wl_bound::condition_laws();
 }

@@ -11,13 +11,19 @@ use crate::shape::{Shape, Table};
 static MARGIN: Table = Table {
     command: "margin",
     columns: &[
-        "verdict", "inequality", "name", "other_name", "taken_ns", "taken_quanta", "available_ns", "available_quanta", "reason",
+        "verdict", "law", "inequality", "name", "other_name", "taken_ns", "taken_quanta", "available_ns", "available_quanta", "reason",
         "late_ns", "late_quanta", "early_ns", "early_quanta", "drift_ns", "drift_quanta", "one_sender_units",
         "any_senders_units", "one_sender_ppm", "any_senders_ppm", "one_sender_change", "any_senders_change",
     ],
     shapes: &[
         Shape { kind: "verdict", pieces: &[
             Field("verdict", Phrase), Fixed(", shown by search, not proved"),
+        ] },
+        Shape { kind: "verdict", pieces: &[
+            Field("verdict", Phrase), Fixed(", shown by search; for one sender at a time, proved: "), Field("law", Word),
+        ] },
+        Shape { kind: "verdict", pieces: &[
+            Field("verdict", Phrase), Fixed(", proved: "), Field("law", Word),
         ] },
         Shape { kind: "verdict", pieces: &[
             Given("verdict", Word, "does not hold"), Given("inequality", Word, "drift_fits_jump"),
