@@ -6,14 +6,16 @@
                                       of the first frame; says in how many a listener samples another bit than was sent, a
                                       node finds an error, the sender samples no acknowledgement, or no listener its own
     one_sender.py through RUNS SEED [LEFT]
-                                      plays two to four frames on buses that keep each acknowledgement in its slot too or, with
-                                      LEFT, all but one condition (there, begins, ends or over); says in how many a node finds
-                                      an error or counts one, a frame is late or missed, or isn't received before it is sent
+                                      plays two to four frames on buses on which each acknowledgement is over in time too or,
+                                      with LEFT, all but one condition for that (ends, over, fits or moved); says in how many a
+                                      node finds an error or counts one, a frame is late or missed, or isn't received before it
+                                      is sent
 """
 
 import random
 import sys
 from bisect import bisect_right
+from fractions import Fraction
 from heapq import heapify, heapreplace
 
 import phase
@@ -90,15 +92,12 @@ def listener_near(sender, sender_rate, left):
             return lengths, (num, den)
 
 
-def apart(sender, sender_rate, one, other, delay_one, delay_other, between):
+def apart(one, other, delay_one, delay_other, between):
     """The acknowledgement of one listener comes after another's sample of the CRC delimiter."""
     (lengths, rate), (lengths2, rate2) = one, other
-    quantum, tick_one, quantum2, tick2 = sender_rate[1] * rate[0], sender_rate[1] * rate[1], sender_rate[1] * rate2[0], sender_rate[1] * rate2[1]
-    bit, bit2 = rate[1] * bit_of(sender) * sender_rate[0], rate2[1] * bit_of(sender) * sender_rate[0]
-    slower = max(0, bit - bit_of(lengths) * quantum)
-    faster = max(0, bit_of(lengths2) * quantum2 - bit2)
-    early = rate2[1] * (quantum + 2 * tick_one + 9 * slower) + rate[1] * (sample_of(lengths2) * quantum2 + 9 * faster + delay_other * tick2)
-    return early <= rate2[1] * (bit_of(lengths) * quantum + (delay_one + between) * tick_one)
+    quantum, quantum2 = Fraction(*rate), Fraction(*rate2)
+    bit, bit2 = bit_of(lengths) * quantum, bit_of(lengths2) * quantum2
+    return quantum + 2 + 9 * max(0, bit2 - bit) + sample_of(lengths2) * quantum2 + delay_other <= bit + delay_one + between
 
 
 def broken(nodes, delays):
@@ -113,34 +112,31 @@ def broken(nodes, delays):
         way = phase.way_conditions(sender, sender_rate, lengths, rate, delays[0][j] + delays[j][0])
         names |= {name for name, holds in zip(("slow", "fast", "sample", "late", "early", "jump"), near + way) if not holds}
         for i in range(1, len(nodes)):
-            if i != j and not apart(sender, sender_rate, nodes[i], nodes[j], delays[0][i], delays[0][j], delays[i][j]):
+            if i != j and not apart(nodes[i], nodes[j], delays[0][i], delays[0][j], delays[i][j]):
                 names.add("apart")
     return names
 
 
-def out_of_slot(nodes, delays):
-    """The names of the conditions by which an acknowledgement stays in its slot that don't hold, the sender first."""
-    (sender, (own_num, own_den)), names = nodes[0], set()
-    at = []
-    for lengths, (num, den) in nodes:
-        quantum, one_tick, bit = own_den * num, own_den * den, den * bit_of(sender) * own_num
-        whole = bit_of(lengths) * quantum
-        at.append((quantum, one_tick, whole, max(0, bit - whole), max(0, whole - bit), den, sample_of(lengths) * quantum))
-    for j in range(1, len(nodes)):
-        quantum, one_tick, whole, slower, faster, den, sample = at[j]
-        way = (delays[0][j] + delays[j][0]) * one_tick
-        if quantum + 2 * one_tick + 10 * slower > way:
-            names.add("there")
-        if way + 11 * faster > sample_of(sender) * den * own_num:
+def late_ends(nodes, delays):
+    """The names of the conditions by which each acknowledgement is over in time that don't hold, the sender first."""
+    names, others = set(), range(1, len(nodes))
+    quanta = [Fraction(*rate) for _, rate in nodes]
+    samples, bits = [sample_of(lengths) for lengths, _ in nodes], [bit_of(lengths) for lengths, _ in nodes]
+    long = [bits[i] * quanta[i] for i in range(len(nodes))]
+    for j in others:
+        if delays[0][j] + delays[j][0] + 11 * max(0, long[j] - long[0]) > samples[0] * quanta[0]:
             names.add("ends")
-        for i in range(1, len(nodes)):
+        for i in others:
             if i == j: continue
-            quantum2, tick2, whole2, slower2, faster2, den2, _ = at[i]
-            come = whole2 + (delays[0][i] + delays[i][j]) * tick2
-            if den * (quantum2 + 2 * tick2 + 9 * slower2) + den2 * (whole + 9 * faster + delays[0][j] * one_tick) > den * come:
-                names.add("begins")
-            if den * (whole2 + come + 9 * faster2) + den2 * (quantum + one_tick + 9 * slower) > den2 * (sample + 2 * whole + delays[0][j] * one_tick):
+            come, jump = delays[0][i] + delays[i][j], nodes[j][0][3] * quanta[j]
+            if 2 * long[i] + come + 9 * max(0, long[i] - long[j]) + quanta[j] + 1 > samples[j] * quanta[j] + 2 * long[j] + delays[0][j]:
                 names.add("over")
+            if samples[j] * quanta[j] + 1 > long[i] or long[j] > long[i] + jump or long[i] + 1 > (samples[j] - 1) * quanta[j] + long[j]:
+                names.add("fits")
+            for w in range(len(nodes)):
+                late = quanta[i] + 2 + 2 * long[j] + delays[0][j] + delays[j][w] + 9 * max(0, long[j] - long[i])
+                if w not in (i, j) and late > long[i] + delays[0][i] + delays[i][w] + (samples[w] - 1) * quanta[w] + long[w]:
+                    names.add("moved")
     return names
 
 
@@ -197,17 +193,17 @@ def begins(node, line):
 
 
 def slot_bus(left):
-    """The same, with each acknowledgement in its slot, or all but one condition for it."""
+    """The same, with each acknowledgement over in time, or all but one condition for it."""
     while True:
         nodes, delays = bus("")
-        if left in ("begins", "over") and len(nodes) < 3: continue
+        if left in ("over", "fits", "moved") and len(nodes) < 3: continue
         quantum = nodes[0][1][0] // nodes[0][1][1]
         for _ in range(20):
-            loop = max(1, random.choice([1, 2, 3]) * quantum)
+            loop = max(1, random.choice([0, 0, 1, 2, 3]) * quantum)
             long = random.choice([1, quantum, sample_of(nodes[0][0]) * quantum // 4, sample_of(nodes[0][0]) * quantum // 2])
             places = [(random.randint(0, max(1, long)), random.randint(0, loop), random.randint(1, max(1, loop))) for _ in nodes]
             delays = [[a[1] + abs(a[0] - b[0]) + b[2] for b in places] for a in places]
-            if not broken(nodes, delays) and out_of_slot(nodes, delays) == ({left} if left else set()):
+            if not broken(nodes, delays) and late_ends(nodes, delays) == ({left} if left else set()):
                 return nodes, delays
 
 

@@ -21,6 +21,7 @@ use Rattle.wl_one_sender.specs.OneSender.{SenderBus, IsBus, IsListener, IsInStep
 use Rattle.wl_one_sender.specs.Through.{AreFrames, GetThrough, EndsInSlots, queued_contents, history_at, sender_queue, ready_at, due_quantum}
 use Rattle.wl_one_sender.proofs.Calm as calm
 use Rattle.wl_one_sender.proofs.Expecting.{seen_by_quanta}
+use Rattle.wl_one_sender.proofs.Following as following
 use Rattle.wl_one_sender.proofs.Nodes.{Does}
 use Rattle.wl_one_sender.proofs.Leasts.{split}
 use Rattle.wl_one_sender.proofs.Passing.{IsNext, IsPassed, contents_long, next_is, none_passed, ready_late, ready_not}
@@ -366,12 +367,12 @@ module _ (laws : Laws) (stay : StayLaws) (b : SenderBus) (stuffed : ℕ → List
                   | inl over ↦ (
                     suc n,
                     of_node a true (suc n) d.passed ((through.after_own laws stay b is meets slots t ep.rest head (stuffed n) from m sends_next first.0 first.1 at_slot).passed (min d.count 10)) (eq-eqb a a refl) e.0
-                        (through.own_late laws stay b is meets slots t ep.rest head (stuffed n) from m sends_next first.0 first.1 at_slot (sender_queue b) n next ep.sent ep.received (min d.count 10) over),
+                        (following.own_late laws stay b is meets slots t ep.rest head (stuffed n) from m sends_next first.0 first.1 at_slot (sender_queue b) n next ep.sent ep.received (min d.count 10) over),
                   )
                   | inr early ↦ (
                     n,
                     of_node a true n d.passed ((through.after_own laws stay b is meets slots t ep.rest head (stuffed n) from m sends_next first.0 first.1 at_slot).passed (min d.count 10)) (eq-eqb a a refl) e.0
-                        (through.own_early laws stay b is meets slots t ep.rest head (stuffed n) from m sends_next first.0 first.1 at_slot (sender_queue b) n next ep.sent ep.received (min d.count 10) early),
+                        (following.own_early laws stay b is meets slots t ep.rest head (stuffed n) from m sends_next first.0 first.1 at_slot (sender_queue b) n next ep.sent ep.received (min d.count 10) early),
                   )
                 ]
               ])
@@ -391,12 +392,12 @@ module _ (laws : Laws) (stay : StayLaws) (b : SenderBus) (stuffed : ℕ → List
                   | inl over ↦ (
                     suc n,
                     of_node i false (suc n) d.passed ((through.after laws stay b is meets slots t ep.rest head (stuffed n) from m sends_next i w).passed (min d.count 10)) (ne_eqb i a w.nat.heard.listener.1) e
-                        (through.other_late laws stay b is meets slots t ep.rest head (stuffed n) from m sends_next first.0 first.1 at_slot (sender_queue b) n next ep.sent ep.received i w (min d.count 10) over),
+                        (following.other_late laws stay b is meets slots t ep.rest head (stuffed n) from m sends_next first.0 first.1 at_slot (sender_queue b) n next ep.sent ep.received i w (min d.count 10) over),
                   )
                   | inr early ↦ (
                     n,
                     of_node i false n d.passed ((through.after laws stay b is meets slots t ep.rest head (stuffed n) from m sends_next i w).passed (min d.count 10)) (ne_eqb i a w.nat.heard.listener.1) e
-                        (through.other_early laws stay b is meets slots t ep.rest head (stuffed n) from m sends_next first.0 first.1 at_slot (sender_queue b) n next ep.sent ep.received i w (min d.count 10) early),
+                        (following.other_early laws stay b is meets slots t ep.rest head (stuffed n) from m sends_next first.0 first.1 at_slot (sender_queue b) n next ep.sent ep.received i w (min d.count 10) early),
                   )
                 ]
               ])
@@ -445,7 +446,7 @@ module _ (laws : Laws) (stay : StayLaws) (b : SenderBus) (stuffed : ℕ → List
                   | inl over ↦ (let past = g.1.less 7 (omega arith) over in absurd (omega arith))
                   | inr fits ↦ fits
                 ] in
-                let p = (through.own_early laws stay b is meets slots t ep.rest head (stuffed n) from m sends_next first.0 first.1 at_slot (sender_queue b) n next ep.sent ep.received (min d.count 10) (omega arith)).long in
+                let p = (following.own_early laws stay b is meets slots t ep.rest head (stuffed n) from m sends_next first.0 first.1 at_slot (sender_queue b) n next ep.sent ep.received (min d.count 10) (omega arith)).long in
                 let f = ap length (e ∙ g.0) in
                 let past = g.2 in
                 let begun : 11 * B a ≤ suc m * B a = mul-le-mul_right (B a) (omega arith) in
@@ -463,11 +464,11 @@ module _ (laws : Laws) (stay : StayLaws) (b : SenderBus) (stuffed : ℕ → List
             | inl g ↦ other_by j (w.nat.heard.listener.0, p.1) k d.count (e ∙ g.0) g.1
             | inr g ↦ elim (cases_lt 6 (min d.count 10)) [
               | inl over ↦
-                  (let x = (through.other_late laws stay b is meets slots t ep.rest head (stuffed n) from m sends_next first.0 first.1 at_slot (sender_queue b) n next ep.sent ep.received j w (min d.count 10) over).long in
+                  (let x = (following.other_late laws stay b is meets slots t ep.rest head (stuffed n) from m sends_next first.0 first.1 at_slot (sender_queue b) n next ep.sent ep.received j w (min d.count 10) over).long in
                   let f = ap length (e ∙ g) in
                   record { late = λ z. omega arith; low = omega arith })
               | inr early ↦
-                  (let x = (through.other_early laws stay b is meets slots t ep.rest head (stuffed n) from m sends_next first.0 first.1 at_slot (sender_queue b) n next ep.sent ep.received j w (min d.count 10) early).long in
+                  (let x = (following.other_early laws stay b is meets slots t ep.rest head (stuffed n) from m sends_next first.0 first.1 at_slot (sender_queue b) n next ep.sent ep.received j w (min d.count 10) early).long in
                   let f = ap length (e ∙ g) in
                   record { late = λ z. omega arith; low = omega arith })
             ]
@@ -483,12 +484,12 @@ module _ (laws : Laws) (stay : StayLaws) (b : SenderBus) (stuffed : ℕ → List
           omega arith
 
       module _ (in_time : after_it ≤ l.stop) where
-        abbrev node : (v : ℕ) → (inside : v < l.nodes) → through.NextNode laws stay b is meets slots t ep.rest head (stuffed n) from m sends_next first.0 first.1 at_slot in_time v inside
-        node = through.next_node laws stay b is meets slots t ep.rest head (stuffed n) from m sends_next first.0 first.1 at_slot in_time
+        abbrev node : (v : ℕ) → (inside : v < l.nodes) → following.NextNode laws stay b is meets slots t ep.rest head (stuffed n) from m sends_next first.0 first.1 at_slot in_time v inside
+        node = following.next_node laws stay b is meets slots t ep.rest head (stuffed n) from m sends_next first.0 first.1 at_slot in_time
 
         next_rests : Rests laws.clocks b is after_it
         next_rests = record {
-          quiet = through.quiet_then laws stay b is meets slots t ep.rest head (stuffed n) from m sends_next first.0 first.1 at_slot in_time;
+          quiet = following.quiet_then laws stay b is meets slots t ep.rest head (stuffed n) from m sends_next first.0 first.1 at_slot in_time;
           node = λ v inside. (node v inside).rests;
           soon =
               (let base_is = (node a is.sender).own_base refl in
@@ -505,12 +506,12 @@ module _ (laws : Laws) (stay : StayLaws) (b : SenderBus) (stuffed : ℕ → List
                 | inl over ↦ (
                   suc n,
                   of_node v true (suc n) ((node v inside).rests.waits.passed c) ((through.after_own laws stay b is meets slots t ep.rest head (stuffed n) from m sends_next first.0 first.1 at_slot).passed c) (eq-eqb v a here) e
-                      (through.own_late laws stay b is meets slots t ep.rest head (stuffed n) from m sends_next first.0 first.1 at_slot (sender_queue b) n next ep.sent ep.received c over),
+                      (following.own_late laws stay b is meets slots t ep.rest head (stuffed n) from m sends_next first.0 first.1 at_slot (sender_queue b) n next ep.sent ep.received c over),
                 )
                 | inr early ↦ (
                   n,
                   of_node v true n ((node v inside).rests.waits.passed c) ((through.after_own laws stay b is meets slots t ep.rest head (stuffed n) from m sends_next first.0 first.1 at_slot).passed c) (eq-eqb v a here) e
-                      (through.own_early laws stay b is meets slots t ep.rest head (stuffed n) from m sends_next first.0 first.1 at_slot (sender_queue b) n next ep.sent ep.received c early),
+                      (following.own_early laws stay b is meets slots t ep.rest head (stuffed n) from m sends_next first.0 first.1 at_slot (sender_queue b) n next ep.sent ep.received c early),
                 )
               ])
           | inr apart ↦
@@ -520,12 +521,12 @@ module _ (laws : Laws) (stay : StayLaws) (b : SenderBus) (stuffed : ℕ → List
                 | inl over ↦ (
                   suc n,
                   of_node v false (suc n) ((node v inside).rests.waits.passed c) ((through.after laws stay b is meets slots t ep.rest head (stuffed n) from m sends_next v g.0).passed c) (ne_eqb v a apart) e
-                      (through.other_late laws stay b is meets slots t ep.rest head (stuffed n) from m sends_next first.0 first.1 at_slot (sender_queue b) n next ep.sent ep.received v g.0 c over),
+                      (following.other_late laws stay b is meets slots t ep.rest head (stuffed n) from m sends_next first.0 first.1 at_slot (sender_queue b) n next ep.sent ep.received v g.0 c over),
                 )
                 | inr early ↦ (
                   n,
                   of_node v false n ((node v inside).rests.waits.passed c) ((through.after laws stay b is meets slots t ep.rest head (stuffed n) from m sends_next v g.0).passed c) (ne_eqb v a apart) e
-                      (through.other_early laws stay b is meets slots t ep.rest head (stuffed n) from m sends_next first.0 first.1 at_slot (sender_queue b) n next ep.sent ep.received v g.0 c early),
+                      (following.other_early laws stay b is meets slots t ep.rest head (stuffed n) from m sends_next first.0 first.1 at_slot (sender_queue b) n next ep.sent ep.received v g.0 c early),
                 )
               ])
         ]
@@ -535,15 +536,15 @@ module _ (laws : Laws) (stay : StayLaws) (b : SenderBus) (stuffed : ℕ → List
           | inl here ↦
               (let e = ap (λ f. length (f c)) ((node v inside).own_gone here) in
               elim (cases_lt 7 c) [
-                | inl over ↦ (let h = (through.own_late laws stay b is meets slots t ep.rest head (stuffed n) from m sends_next first.0 first.1 at_slot (sender_queue b) n next ep.sent ep.received c over).long in omega arith)
-                | inr early ↦ (let h = (through.own_early laws stay b is meets slots t ep.rest head (stuffed n) from m sends_next first.0 first.1 at_slot (sender_queue b) n next ep.sent ep.received c early).long in omega arith)
+                | inl over ↦ (let h = (following.own_late laws stay b is meets slots t ep.rest head (stuffed n) from m sends_next first.0 first.1 at_slot (sender_queue b) n next ep.sent ep.received c over).long in omega arith)
+                | inr early ↦ (let h = (following.own_early laws stay b is meets slots t ep.rest head (stuffed n) from m sends_next first.0 first.1 at_slot (sender_queue b) n next ep.sent ep.received c early).long in omega arith)
               ])
           | inr apart ↦
               (let g = (node v inside).gone apart in
               let e = ap (λ f. length (f c)) g.1 in
               elim (cases_lt 6 c) [
-                | inl over ↦ (let h = (through.other_late laws stay b is meets slots t ep.rest head (stuffed n) from m sends_next first.0 first.1 at_slot (sender_queue b) n next ep.sent ep.received v g.0 c over).long in omega arith)
-                | inr early ↦ (let h = (through.other_early laws stay b is meets slots t ep.rest head (stuffed n) from m sends_next first.0 first.1 at_slot (sender_queue b) n next ep.sent ep.received v g.0 c early).long in omega arith)
+                | inl over ↦ (let h = (following.other_late laws stay b is meets slots t ep.rest head (stuffed n) from m sends_next first.0 first.1 at_slot (sender_queue b) n next ep.sent ep.received v g.0 c over).long in omega arith)
+                | inr early ↦ (let h = (following.other_early laws stay b is meets slots t ep.rest head (stuffed n) from m sends_next first.0 first.1 at_slot (sender_queue b) n next ep.sent ep.received v g.0 c early).long in omega arith)
               ])
         ]
 
@@ -554,11 +555,11 @@ module _ (laws : Laws) (stay : StayLaws) (b : SenderBus) (stuffed : ℕ → List
           kept = next_kept;
           sent =
               subst (IsPassed (sender_queue b) true (suc n)) (sym (ap (λ f. f 10) ((node a is.sender).own_gone refl)))
-              (through.own_late laws stay b is meets slots t ep.rest head (stuffed n) from m sends_next first.0 first.1 at_slot (sender_queue b) n next ep.sent ep.received 10 (omega arith));
+              (following.own_late laws stay b is meets slots t ep.rest head (stuffed n) from m sends_next first.0 first.1 at_slot (sender_queue b) n next ep.sent ep.received 10 (omega arith));
           received = λ j p.
               (let g = (node j p.0).gone p.1 in
               subst (IsPassed (sender_queue b) false (suc n)) (sym (ap (λ f. f 10) g.1))
-              (through.other_late laws stay b is meets slots t ep.rest head (stuffed n) from m sends_next first.0 first.1 at_slot (sender_queue b) n next ep.sent ep.received j g.0 10 (omega arith)));
+              (following.other_late laws stay b is meets slots t ep.rest head (stuffed n) from m sends_next first.0 first.1 at_slot (sender_queue b) n next ep.sent ep.received j g.0 10 (omega arith)));
           spaced = λ k h d j p.
               (let e = (node a is.sender).own_base refl in
               let s = (node j p.0).spaced p.1 k d.idle in
@@ -566,16 +567,16 @@ module _ (laws : Laws) (stay : StayLaws) (b : SenderBus) (stuffed : ℕ → List
           low = λ i inside c. next_low i inside c;
           early_own = λ c early.
               (let e = ap (λ f. f c) ((node a is.sender).own_gone refl) in
-              let p = (through.own_early laws stay b is meets slots t ep.rest head (stuffed n) from m sends_next first.0 first.1 at_slot (sender_queue b) n next ep.sent ep.received c early).long in
+              let p = (following.own_early laws stay b is meets slots t ep.rest head (stuffed n) from m sends_next first.0 first.1 at_slot (sender_queue b) n next ep.sent ep.received c early).long in
               let f = ap length e in
               omega arith);
           late_own = λ c late.
               (let e = ap (λ f. f c) ((node a is.sender).own_gone refl) in
-              ap length e ∙ (through.own_late laws stay b is meets slots t ep.rest head (stuffed n) from m sends_next first.0 first.1 at_slot (sender_queue b) n next ep.sent ep.received c late).long);
+              ap length e ∙ (following.own_late laws stay b is meets slots t ep.rest head (stuffed n) from m sends_next first.0 first.1 at_slot (sender_queue b) n next ep.sent ep.received c late).long);
           late_other = λ j p c late.
               (let g = (node j p.0).gone p.1 in
               let e = ap (λ f. length (f c)) g.1 in
-              let h = (through.other_late laws stay b is meets slots t ep.rest head (stuffed n) from m sends_next first.0 first.1 at_slot (sender_queue b) n next ep.sent ep.received j g.0 c late).long in
+              let h = (following.other_late laws stay b is meets slots t ep.rest head (stuffed n) from m sends_next first.0 first.1 at_slot (sender_queue b) n next ep.sent ep.received j g.0 c late).long in
               omega arith);
           order = λ some j p.
               (let e = (node a is.sender).own_base refl in

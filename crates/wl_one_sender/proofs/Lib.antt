@@ -9,6 +9,7 @@ mod Cleaning
 mod Covering
 mod Expecting
 mod Fitting
+mod Following
 mod Frames
 mod Gliding
 mod Leasts

@@ -1,13 +1,12 @@
--- The sender of one frame, from its acknowledgement to the next rest of the bus.
-use Rattle.std.proofs.Common.{◌≡◌, ◌≢◌, ◌∙◌, ◌⊎◌, inl, inr, refl, sym, ap, subst, ℕ, suc, ◌+◌, ◌-◌, ◌*◌, ◌<◌, ◌≤◌, List, [], ◌∷◌, ◌++◌, length, min, Bool, true, false, cond, arith}
+-- The sender of one frame, from its acknowledgement to the next rest of the bus: what all drive up to there.
+use Rattle.std.proofs.Common.{◌≡◌, ◌≢◌, ◌∙◌, ◌⊎◌, inl, inr, refl, sym, ap, subst, ℕ, suc, ◌+◌, ◌-◌, ◌*◌, ◌<◌, ◌≤◌, List, [], ◌∷◌, ◌++◌, length, min, Bool, false, arith}
 use Rattle.std.specs.Prelude.{◌==◌}
-use Rattle.std.proofs.lemmas.Bool.{cases_lt, cases_eq, le-leb, lt-leb, ne_eqb}
-use Rattle.std.proofs.Math.Bridge.{le_prop}
+use Rattle.std.proofs.lemmas.Bool.{cases_lt, cases_eq, ne_eqb}
 use Rattle.std.proofs.Math.Nat.{mul-le-mul_right}
 use Rattle.std.proofs.lemmas.List.{get_or_past}
 use Rattle.wl_level.specs.declared.Level.{Level}
 use Rattle.wl_level.specs.declared.Level.TheVariants.{Dominant, Recessive}
-use Rattle.wl_level.specs.Levels.{is_dominant, level_of}
+use Rattle.wl_level.specs.Levels.{is_dominant}
 use Rattle.wl_segments.specs.Lengths.{sample_at, bit_quanta}
 use Rattle.wl_sync.specs.declared.Beat.TheVariants.{Sample}
 use Rattle.wl_sync.specs.Edges.{Seen}
@@ -17,7 +16,6 @@ use Rattle.wl_frame.specs.Grammar.{Content}
 use Rattle.wl_machine.specs.Stretch.{Stretch}
 use Rattle.wl_machine.specs.Judged.{awaits_start, drive_of}
 use Rattle.wl_node.specs.declared.setup.Passed.{Passed}
-use Rattle.wl_node.specs.declared.setup.Queued.{Queued}
 use Rattle.wl_node.specs.History.{history_of}
 use Rattle.wl_phase.specs.Clocks.{Finds, steady_tick}
 use Rattle.wl_phase.specs.Ways.{ByTheBook}
@@ -30,10 +28,9 @@ use Rattle.wl_one_sender.specs.Expected.{IsExpected, levels_found}
 use Rattle.wl_one_sender.specs.OneSender.{SenderBus, IsBus, IsListener, IsInStepWithAll, lengths_of, listener_of}
 use Rattle.wl_one_sender.specs.Through.{EndsInSlots}
 use Rattle.wl_one_sender.proofs.Alone.{sent, sent_before, sent_after}
-use Rattle.wl_one_sender.proofs.Expecting.{LastQuantum, driven_is, last_quantum, level_first, level_then, levels_same, seen_is}
+use Rattle.wl_one_sender.proofs.Expecting.{driven_is, level_first, level_then, levels_same, seen_is}
 use Rattle.wl_one_sender.proofs.Frames as frames
 use Rattle.wl_one_sender.proofs.Nodes.{IsGoing, Does, beat_at, clock_at, does_same, node, sees_at, seen_are, sample_before}
-use Rattle.wl_one_sender.proofs.Passing.{IsNext, IsPassed, one_passed}
 use Rattle.wl_one_sender.proofs.Planned as planned
 use Rattle.wl_one_sender.proofs.Planned.{Laws, IsHeard}
 use Rattle.wl_one_sender.proofs.Receiving.{sampled_place}
@@ -44,11 +41,11 @@ use Rattle.wl_one_sender.proofs.Replies.{lasts, lasts_not_yet, lasts_no_more, la
 use Rattle.wl_one_sender.proofs.Resting as resting
 use Rattle.wl_one_sender.proofs.Resting.{Rests, RestsAt, SendsNext}
 use Rattle.wl_one_sender.proofs.Settling as settling
-use Rattle.wl_one_sender.proofs.Silence.{CountsTo, Waits, IsSilentAt, counts_to, silent_at, silent_same, ten_counted}
+use Rattle.wl_one_sender.proofs.Silence.{CountsTo, Waits, IsSilentAt, counts_to, silent_at, ten_counted}
 use Rattle.wl_one_sender.proofs.Slots.{slot_sampled, stays, none_before}
 use Rattle.wl_one_sender.proofs.Speaking as speaking
 use Rattle.wl_one_sender.proofs.Speaking.{HearsOwn, comes_back}
-use Rattle.wl_one_sender.proofs.Tails.{after_sending, kept, receiving_enough, received_passed, sent_first, sent_passed, sent_quiet}
+use Rattle.wl_one_sender.proofs.Tails.{after_sending, sent_first, sent_passed, sent_quiet}
 
 module _ (laws : Laws) (stay : StayLaws) (b : SenderBus) (is : IsBus b) (meets : IsInStepWithAll b) (slots : EndsInSlots b) (t : ℕ) (rest : Rests laws.clocks b is t)
     (frame : Content) (y : List Level) (from m : ℕ) (sends : SendsNext laws.clocks b is t rest frame y from m) where
@@ -159,7 +156,7 @@ module _ (laws : Laws) (stay : StayLaws) (b : SenderBus) (is : IsBus b) (meets :
   sample_high : (j : ℕ) → (p : IsPlanned j) → sample j p ≤ p.nat.heard.quantum + B j
   sample_high j p = (replies.quanta_are laws stay b is meets slots t rest frame y from m sends j p.nat p.choice).sample_high
 
-  rises : (i k : ℕ) → i < l.nodes → tick i k < tick i (suc k)
+  pub rises : (i k : ℕ) → i < l.nodes → tick i k < tick i (suc k)
   rises i k inside =
       let next = is.causal.clocks i k inside in
       let e = is.ticks i k inside in
@@ -669,7 +666,7 @@ module _ (laws : Laws) (stay : StayLaws) (b : SenderBus) (is : IsBus b) (meets :
           stay.later s (listener_of b j) (l.delay j a) p.nat.heard.quantum (q + B a) c (is.steady a is.sender) (is.steady j p.nat.heard.listener.0) (is.book j p.nat.heard.listener.0)
           (meets.near j p.nat.heard.listener) some few (omega arith)
 
-      late_listener : (j : ℕ) → (p : IsPlanned j) → tick j (sample j p + B j) < next_rest
+      pub late_listener : (j : ℕ) → (p : IsPlanned j) → tick j (sample j p + B j) < next_rest
       late_listener j p =
           let high = sample_high j p in
           let near = bits_after j p 0 (omega arith) in
@@ -681,7 +678,7 @@ module _ (laws : Laws) (stay : StayLaws) (b : SenderBus) (is : IsBus b) (meets :
           omega arith
 
       -- the next start of frame comes to each listener after the second bit of its intermission
-      spaced_next : (j : ℕ) → (p : IsPlanned j) → (k : ℕ) → 10 ≤ k
+      pub spaced_next : (j : ℕ) → (p : IsPlanned j) → (k : ℕ) → 10 ≤ k
           → tick j (sample j p + (lengths_of b j).ps2 + 9 * B j + S j) < tick a (q + (lengths_of b a).ps2 + suc k * B a) + l.delay a j
       spaced_next j p k many =
           let high = sample_high j p in
@@ -703,179 +700,3 @@ module _ (laws : Laws) (stay : StayLaws) (b : SenderBus) (is : IsBus b) (meets :
           let place : q + B a + 7 * B a ≡ q + (lengths_of b a).ps2 + 7 * B a + S a = omega arith in
           let same = ap (steady_tick (b.clocks a)) place in
           omega arith
-
-      module _ (in_time : next_rest ≤ l.stop) where
-        -- what has been found by then is so
-        same_then : (i k : ℕ) → (inside : i < l.nodes) → ((n : ℕ) → n < k → tick i n < next_rest)
-            → levels_before (lv i) k ≡ levels_before (resting.actual laws.clocks b is i) k
-        same_then i k inside before = levels_same (lv i) (resting.actual laws.clocks b is i) k (λ n less.
-            ap level_of (laws.simulation.found_same l drove (level l) i (l.instant i n) (λ j inside_j come.
-            (let e = is.ticks i n inside in
-            let soon = before n less in
-            sym (agree j (l.instant i n - l.delay j i) inside_j (omega arith))))))
-
-        own_rests : RestsAt laws.clocks b is next_rest a is.sender
-        own_rests =
-            let some = (is.book a is.sender).lengths.low in
-            let before : (k : ℕ) → k < q + 5 * B a → tick a k < next_rest =
-            λ k less. (let next = rises a k is.sender in let rise = up a is.sender (suc k) (q + 5 * B a) less in omega arith) in
-            record {
-              start = q + 5 * B a;
-              before = before;
-              after = omega arith;
-              base = q + (lengths_of b a).ps2;
-              waits = after_own;
-              state =
-                  silent_same laws.clocks (b.setups a) (is.book a is.sender) (lv a) (resting.actual laws.clocks b is a) (q + (lengths_of b a).ps2) after_own (q + 5 * B a)
-                  (same_then a (q + 5 * B a) is.sender before) (rests_own (q + 5 * B a) (omega arith) (omega arith));
-            }
-
-        other_rests : (j : ℕ) → (p : IsPlanned j) → RestsAt laws.clocks b is next_rest j p.nat.heard.listener.0
-        other_rests j p =
-            let inside = p.nat.heard.listener.0 in
-            let late = late_listener j p in
-            let zero_is = is.ticks j 0 inside in
-            let first_up = up j p.nat.heard.listener.0 0 (sample j p + B j) (omega arith) in
-            let r : LastQuantum l is.causal j (next_rest - 1) = last_quantum l is.causal j (next_rest - 1) inside (omega arith) in
-            let begun = r.begun in
-            let next = r.next in
-            let begun_is = is.ticks j r.quantum inside in
-            let next_is = is.ticks j (suc r.quantum) inside in
-            let before : (k : ℕ) → k < suc r.quantum → tick j k < next_rest = λ k less. (let rise = up j p.nat.heard.listener.0 k r.quantum (omega arith) in omega arith) in
-            let past : suc (sample j p + B j) ≤ suc r.quantum = elim (cases_lt (sample j p + B j) (suc r.quantum)) [
-              | inl less ↦ less
-              | inr more ↦ (let rise = up j p.nat.heard.listener.0 (suc r.quantum) (sample j p + B j) more in absurd (omega arith))
-            ] in
-            record {
-              start = suc r.quantum;
-              before = before;
-              after = omega arith;
-              base = sample j p + (lengths_of b j).ps2;
-              waits = after j p;
-              state =
-                  silent_same laws.clocks (b.setups j) (is.book j p.nat.heard.listener.0) (lv j) (resting.actual laws.clocks b is j) (sample j p + (lengths_of b j).ps2) (after j p) (suc r.quantum)
-                  (same_then j (suc r.quantum) p.nat.heard.listener.0 before) (replies.rests_from laws stay b is meets slots t rest frame y from m sends j p (suc r.quantum) past);
-            }
-
-        -- all is over at each node then
-        over_then : (i : ℕ) → i < l.nodes → AllOver i next_rest
-        over_then i inside = elim (cases_eq i a) [
-          | inl here ↦
-              subst (λ n. AllOver n next_rest) (sym here) (over_own (q + 5 * B a) (omega arith))
-          | inr apart ↦
-              (let p = plan_of i (inside, apart) in
-              let late = late_listener i p in
-              let o = over_by i p (sample i p + B i) (omega arith) in
-              record {
-                bits = (let e = o.bits in omega arith);
-                answers = λ j r. (let e = o.answers j r in omega arith);
-              })
-        ]
-
-        pub quiet_then : (i j u : ℕ) → i < l.nodes → j < l.nodes → u < next_rest → next_rest ≤ u + l.delay i j → level l i u ≡ false
-        quiet_then i j u ni nj early come =
-            let o = over_then j nj in
-            let later = next_late in
-            agree i u ni (omega arith)
-            ∙ elim (cases_lt u t) [
-              | inl old ↦ drove_old i u old ∙ rest.quiet i j u ni nj old (omega arith)
-              | inr late ↦ elim (cases_eq i a) [
-                | inl here ↦
-                    (let e = o.bits in
-                    let d : l.delay i j ≡ l.delay a j = ap (λ n. l.delay n j) here in
-                    subst (λ n. drove n u ≡ false) (sym here) (drove_sender u late ∙ sent_after y begins begins_later u (omega arith)))
-                | inr apart ↦
-                    (let p = plan_of i (ni, apart) in
-                    let e = o.answers i p in
-                    drove_other i u apart late ∙ lasts_no_more (begin i) (end i) u (omega arith))
-              ]
-            ]
-          where
-            next_late : t ≤ next_rest
-            next_late =
-                let e = speaking.rest_before laws.clocks laws.frame b is meets t rest frame y from m sends in
-                let low = q_late in
-                let rise = up a is.sender (base 0) (q + 5 * B a) (let bits : 0 * B a ≤ last * B a = mul-le-mul_right (B a) (omega arith) in omega arith) in
-                omega arith
-
-        -- with one frame more
-        pub record NextNode (v : ℕ) (inside : v < l.nodes) : Type 0 where
-          pub rests : RestsAt laws.clocks b is next_rest v inside
-          pub gone : (v ≢ a) → (p : IsPlanned v) × (rests.waits.passed ≡ (after v p).passed)
-          pub own_gone : v ≡ a → rests.waits.passed ≡ after_own.passed
-          pub base_is : (v ≢ a) → (p : IsPlanned v) × (rests.base ≡ sample v p + (lengths_of b v).ps2)
-          pub own_base : v ≡ a → rests.base ≡ q + (lengths_of b a).ps2
-          pub own_start : v ≡ a → rests.start ≡ q + 5 * B a
-          pub spaced : v ≢ a → (k : ℕ) → 10 ≤ k
-              → tick v (rests.base + (rests.waits.enough - 1) * B v + S v) < tick a (q + (lengths_of b a).ps2 + suc k * B a) + l.delay a v
-
-        own_next : NextNode a is.sender
-        unfolding own_rests
-        own_next = record {
-          rests = own_rests;
-          gone = λ e. absurd (e refl);
-          own_gone = λ e. refl;
-          base_is = λ e. absurd (e refl);
-          own_base = λ e. refl;
-          own_start = λ e. refl;
-          spaced = λ e. absurd (e refl);
-        }
-
-        other_next : (j : ℕ) → (p : IsPlanned j) → NextNode j p.nat.heard.listener.0
-        unfolding other_rests
-        other_next j p = record {
-          rests = other_rests j p;
-          gone = λ e. (p, refl);
-          base_is = λ e. (p, refl);
-          own_gone = λ e. absurd (p.nat.heard.listener.1 e);
-          own_base = λ e. absurd (p.nat.heard.listener.1 e);
-          own_start = λ e. absurd (p.nat.heard.listener.1 e);
-          spaced = λ e k many.
-              (let h = spaced_next j p k many in
-              let enough = receiving_enough laws.frame frame sends.content y sends.stuffs (sample j p + (lengths_of b j).ps2) (S j) (B j) (planned.frames_of laws b is meets t rest frame y from m sends j p.nat.heard.listener) in
-              subst (λ n. tick j (sample j p + (lengths_of b j).ps2 + (n - 1) * B j + S j) < tick a (q + (lengths_of b a).ps2 + suc k * B a) + l.delay a j) (sym enough) h);
-        }
-
-        pub next_node : (v : ℕ) → (inside : v < l.nodes) → NextNode v inside
-        next_node v inside = elim (cases_eq v a) [
-          | inl here ↦ subst (λ n. (h : n < l.nodes) → NextNode n h) (sym here) (λ h. subst (NextNode a) (le_prop is.sender h) own_next) inside
-          | inr apart ↦ (let p = plan_of v (inside, apart) in subst (NextNode v) (le_prop p.nat.heard.listener.0 inside) (other_next v p))
-        ]
-
-      -- the frames that have passed by then
-      module _ (queue : List Queued) (n : ℕ) (is_next : IsNext queue n frame) (sent_so_far : IsPassed queue true n sent_frames)
-          (received_so_far : (j : ℕ) → (p : IsListener b j) → IsPassed queue false n (planned.frames_of laws b is meets t rest frame y from m sends j p)) where
-        one_more : (sent : Bool) (quantum : ℕ) (gone : List Passed) → IsPassed queue sent n gone
-            → IsPassed queue sent (suc n) (gone ++ record { sent = sent; quantum = quantum; frame = frame } ∷ [])
-        one_more sent quantum gone was =
-            subst (λ c. IsPassed queue sent (suc n) (gone ++ record { sent = sent; quantum = quantum; frame = c } ∷ [])) is_next.frame
-            (one_passed queue is_next.more is_next.queued sent n quantum gone was is_next.left)
-
-        pub own_late : (c : ℕ) → 7 < c → IsPassed queue true (suc n) (after_own.passed c)
-        own_late c over =
-            subst (IsPassed queue true (suc n)) (sym (sent_passed laws.frame frame sends.content y sends.stuffs (q + (lengths_of b a).ps2) (S a) (B a) sent_frames c
-            ∙ ap (λ w. cond w sent_frames (sent_frames ++ kept laws.frame frame sends.content y sends.stuffs (q + (lengths_of b a).ps2) (S a) (B a) sent_frames true 7)) (lt-leb c 7 over)))
-            (one_more true (q + (lengths_of b a).ps2 + 7 * B a + S a) sent_frames sent_so_far)
-
-        pub own_early : (c : ℕ) → c ≤ 7 → IsPassed queue true n (after_own.passed c)
-        own_early c early =
-            subst (IsPassed queue true n) (sym (sent_passed laws.frame frame sends.content y sends.stuffs (q + (lengths_of b a).ps2) (S a) (B a) sent_frames c
-            ∙ ap (λ w. cond w sent_frames (sent_frames ++ kept laws.frame frame sends.content y sends.stuffs (q + (lengths_of b a).ps2) (S a) (B a) sent_frames true 7)) (le-leb c 7 early)))
-            sent_so_far
-
-        module _ (j : ℕ) (p : IsPlanned j) where
-          pub other_late : (c : ℕ) → 6 < c → IsPassed queue false (suc n) ((after j p).passed c)
-          other_late c over =
-              subst (IsPassed queue false (suc n))
-              (sym (received_passed laws.frame frame sends.content y sends.stuffs (sample j p + (lengths_of b j).ps2) (S j) (B j) (planned.frames_of laws b is meets t rest frame y from m sends j p.nat.heard.listener) c
-              ∙ ap (λ w. cond w (planned.frames_of laws b is meets t rest frame y from m sends j p.nat.heard.listener) (planned.frames_of laws b is meets t rest frame y from m sends j p.nat.heard.listener
-              ++ kept laws.frame frame sends.content y sends.stuffs (sample j p + (lengths_of b j).ps2) (S j) (B j) (planned.frames_of laws b is meets t rest frame y from m sends j p.nat.heard.listener) false 6)) (lt-leb c 6 over)))
-              (one_more false (sample j p + (lengths_of b j).ps2 + 6 * B j + S j) (planned.frames_of laws b is meets t rest frame y from m sends j p.nat.heard.listener) (received_so_far j p.nat.heard.listener))
-
-          pub other_early : (c : ℕ) → c ≤ 6 → IsPassed queue false n ((after j p).passed c)
-          other_early c early =
-              subst (IsPassed queue false n)
-              (sym (received_passed laws.frame frame sends.content y sends.stuffs (sample j p + (lengths_of b j).ps2) (S j) (B j) (planned.frames_of laws b is meets t rest frame y from m sends j p.nat.heard.listener) c
-              ∙ ap (λ w. cond w (planned.frames_of laws b is meets t rest frame y from m sends j p.nat.heard.listener) (planned.frames_of laws b is meets t rest frame y from m sends j p.nat.heard.listener
-              ++ kept laws.frame frame sends.content y sends.stuffs (sample j p + (lengths_of b j).ps2) (S j) (B j) (planned.frames_of laws b is meets t rest frame y from m sends j p.nat.heard.listener) false 6)) (le-leb c 6 early)))
-              (received_so_far j p.nat.heard.listener)
