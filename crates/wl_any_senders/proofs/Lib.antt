@@ -1,4 +1,5 @@
 mod Bounded
+mod Clocked
 mod Measures
 mod Nearing
 mod Passing

@@ -3,3 +3,4 @@ pub mod Starts
 pub mod OneBit
 pub mod Course
 pub mod Bounds
+pub mod Clocked

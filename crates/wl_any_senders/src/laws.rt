@@ -9,6 +9,7 @@ ghost use Rattle.wl_phase.specs.Ways.{ByTheBook, moved_to};
 ghost use Rattle.wl_bound.specs.Conditions.{IsSound};
 ghost use Rattle.wl_bound.specs.Families.{Bus};
 ghost use Rattle.wl_any_senders.specs.Bounds.{IsBusOf};
+ghost use Rattle.wl_any_senders.specs.Clocked.{PlaceLaws};
 ghost use Rattle.wl_any_senders.specs.Stations.{AreClose, AreStations, HaveRoom, Stations};
 ghost use Rattle.wl_any_senders.specs.Starts.{AreSenders, BeginBit, BeginFrame, Start};
 ghost use Rattle.wl_any_senders.specs.OneBit.{AreRight, OneBit};
@@ -66,3 +67,11 @@ pub fn a_bit_clock_follows_an_edge()
 pub fn a_sound_bus_has_room()
     ensures { (bus : Bus) (s : Stations) → IsBusOf bus s → IsSound bus → HaveRoom s }
 {}
+
+/// Law: a bit clock samples its next bit by the place 0 that a station's bit has in these laws: a bit later if no edge synchronises it, from a quantum before the one that
+/// finds the edge of a hard synchronisation, or where another edge moves it.
+pub fn a_bit_clock_samples_by_its_place()
+    ensures { PlaceLaws }
+{
+    wl_phase::laws::an_edge_moves_the_sample();
+}
