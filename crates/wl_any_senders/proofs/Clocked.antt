@@ -25,7 +25,7 @@ unsampled Plain h = refl
 
 module _ (ways : WayLaws) (l : Lengths) (book : ByTheBook l) (seen : ℕ → Seen) where
   -- the quanta before the next sample, at quantum k
-  way : ℕ → ℕ
+  pub way : ℕ → ℕ
   way k = sample_way l (seen_before seen k)
 
   no_samples : (from n : ℕ) → ((i : ℕ) → from ≤ i → i < from + n → (level : Level) → SamplesBy l seen i level → ⊥) → samples_from l seen from n ≡ []
@@ -35,7 +35,7 @@ module _ (ways : WayLaws) (l : Lengths) (book : ByTheBook l) (seen : ℕ → See
       ∙ unsampled (beat_of l (seen_before seen (from + n)) (seen (from + n))) (h (from + n) (omega arith) (omega arith))
 
   -- a quantum that nothing synchronises
-  down : (k : ℕ) → sync_of l (seen_before seen k) (seen k) ≡ None → 0 < way k → way (suc k) ≡ way k - 1
+  pub down : (k : ℕ) → sync_of l (seen_before seen k) (seen k) ≡ None → 0 < way k → way (suc k) ≡ way k - 1
   unfolding way
   down k none some =
       ways.way l (seen_before seen k) (seen k) book ∙ ap (way_after l (way k)) none ∙ ap (λ b. cond b (bit_quanta l - 1) (way k - 1)) (ne_eqb (way k) 0 (λ z. omega arith))
@@ -45,11 +45,11 @@ module _ (ways : WayLaws) (l : Lengths) (book : ByTheBook l) (seen : ℕ → See
   anew k none z =
       ways.way l (seen_before seen k) (seen k) book ∙ ap (way_after l (way k)) none ∙ ap (λ b. cond b (bit_quanta l - 1) (way k - 1)) (eq-eqb (way k) 0 z)
 
-  after_sample : (k : ℕ) (level : Level) → SamplesBy l seen k level → way (suc k) ≡ bit_quanta l - 1
+  pub after_sample : (k : ℕ) (level : Level) → SamplesBy l seen k level → way (suc k) ≡ bit_quanta l - 1
   unfolding way
   after_sample k level e = let o = ways.only l (seen_before seen k) (seen k) level book e in anew k o.0 o.1
 
-  unsampled_at : (k : ℕ) → 0 < way k → (level : Level) → SamplesBy l seen k level → ⊥
+  pub unsampled_at : (k : ℕ) → 0 < way k → (level : Level) → SamplesBy l seen k level → ⊥
   unfolding way
   unsampled_at k some level e = let o = (ways.only l (seen_before seen k) (seen k) level book e).1 in omega arith
 

@@ -1,4 +1,5 @@
 mod Bounded
+mod Calm
 mod Clocked
 mod Measures
 mod Nearing

@@ -1,6 +1,7 @@
 -- Where the bit clock of one station samples its next bit.
-use Rattle.std.specs.Prelude.{◌≡◌, ℕ, suc, ◌+◌, ◌-◌, ◌<◌, ◌≤◌, ℤ, Some, None}
+use Rattle.std.specs.Prelude.{◌≡◌, ℕ, suc, ◌+◌, ◌-◌, ◌<◌, ◌≤◌, ℤ, List, [], ◌∷◌, ◌++◌, Some, None}
 use Rattle.wl_level.specs.declared.Level.{Level}
+use Rattle.wl_level.specs.declared.Level.TheVariants.{Dominant, Recessive}
 use Rattle.wl_segments.specs.Lengths.{Lengths, sample_at, bit_quanta}
 use Rattle.wl_sync.specs.declared.Sync.TheVariants.{Error}
 use Rattle.wl_sync.specs.declared.Beat.TheVariants.{Sample}
@@ -30,3 +31,10 @@ pub record PlaceLaws : Type 0 where
       → place + sample_at l < found → found ≤ place + bit_quanta l + sample_at l → NoneSyncs l seen (place + sample_at l) (found - 1)
       → sync_of l (seen_before seen found) (seen found) ≡ Some (Error error) → new ≡ moved_to (found - 1) l.sjw (place + bit_quanta l)
       → NoneSyncs l seen found (new + sample_at l) → SamplesNext l seen (place + sample_at l) (new + sample_at l) (seen (new + sample_at l)).level
+
+-- When no edge counts: the line is recessive, it was dominant a quantum before, or a bit has been sampled dominant and the next one isn't sampled yet (Bosch CAN 2.0 part B, section 10,
+-- synchronization rules 2 and 4).
+pub record NoEdgeLaws : Type 0 where
+  pub recessive : (l : Lengths) (past : List Seen) (x : Seen) → ByTheBook l → x.level ≡ Recessive → sync_of l past x ≡ None
+  pub held : (l : Lengths) (past : List Seen) (y x : Seen) → ByTheBook l → y.level ≡ Dominant → sync_of l (past ++ y ∷ []) x ≡ None
+  pub sampled : (l : Lengths) (seen : ℕ → Seen) (k : ℕ) → ByTheBook l → SamplesBy l seen k Dominant → NoneSyncs l seen k (k + bit_quanta l)

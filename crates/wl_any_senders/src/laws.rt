@@ -9,7 +9,7 @@ ghost use Rattle.wl_phase.specs.Ways.{ByTheBook, moved_to};
 ghost use Rattle.wl_bound.specs.Conditions.{IsSound};
 ghost use Rattle.wl_bound.specs.Families.{Bus};
 ghost use Rattle.wl_any_senders.specs.Bounds.{IsBusOf};
-ghost use Rattle.wl_any_senders.specs.Clocked.{PlaceLaws};
+ghost use Rattle.wl_any_senders.specs.Clocked.{NoEdgeLaws, PlaceLaws};
 ghost use Rattle.wl_any_senders.specs.Stations.{AreClose, AreStations, HaveRoom, Stations};
 ghost use Rattle.wl_any_senders.specs.Starts.{AreSenders, BeginBit, BeginFrame, Start};
 ghost use Rattle.wl_any_senders.specs.OneBit.{AreRight, OneBit};
@@ -73,5 +73,13 @@ pub fn a_sound_bus_has_room()
 pub fn a_bit_clock_samples_by_its_place()
     ensures { PlaceLaws }
 {
+    wl_phase::laws::an_edge_moves_the_sample();
+}
+
+/// Law: when no edge synchronises a bit clock: on a recessive line, after a dominant quantum, and for a bit after a dominant sample.
+pub fn no_edge_counts_then()
+    ensures { NoEdgeLaws }
+{
+    wl_sync::clock_goes_on();
     wl_phase::laws::an_edge_moves_the_sample();
 }
