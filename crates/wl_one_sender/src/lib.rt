@@ -1,4 +1,4 @@
-//! A bus on which one node sends: what its nodes sample, from their power-up to the acknowledgement of the first frame.
+//! A bus on which one node sends: every frame gets through, from the power-up of all nodes on, if the condition for margins holds.
 //!
 //! One node has frames, and its clock and those of all others are near enough. Then each other node samples the bits that
 //! it sends, and it samples their acknowledgement (Bosch CAN 2.0 part B, section 3.2.1). All is by the rules of the book.
