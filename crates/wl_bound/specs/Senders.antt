@@ -5,5 +5,5 @@ use Rattle.wl_bound.specs.declared.family.Source.TheVariants.{Alone}
 use Rattle.wl_bound.specs.Conditions.{plain}
 
 -- the plan's own cable and tolerances, and this node alone sends
-abbrev pub alone : ℕ → Setting
-alone k = record plain { source = Alone k }
+abbrev pub lone_sender : ℕ → Setting
+lone_sender k = record plain { source = Alone k }

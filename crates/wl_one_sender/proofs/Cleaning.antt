@@ -19,7 +19,7 @@ use Rattle.wl_topology.specs.Limits.{never}
 use Rattle.wl_phase.proofs.Callers.{tick_up}
 use Rattle.wl_bound.specs.Conditions.{plain}
 use Rattle.wl_one_sender.proofs.PlanProofs.{loop_over}
-use Rattle.wl_bound.specs.Senders.{alone}
+use Rattle.wl_bound.specs.Senders.{lone_sender}
 use Rattle.wl_bound.specs.Families.{Buses, bus_of, delay_in, lengths_in, longest_in, no_member, only_listens, sends_in, shortest_in, units}
 use Rattle.wl_bound.specs.Verdicts.{idle_at, is_ready_from}
 use Rattle.wl_one_sender.specs.OneSender.{SenderBus, IsBus, IsListener, SendsFirst, lengths_of, sender_of, listener_of}
@@ -34,7 +34,7 @@ module _ (f : Buses) (plan : Plan) (clocks : ℕ → Steady) (sender : ℕ) (one
   abbrev b : SenderBus
   b = bus_with plan clocks sender one stuffed
 
-  lengths_are : (i : ℕ) → lengths_in f (alone sender) i ≡ (setup_at plan i).segments
+  lengths_are : (i : ℕ) → lengths_in f (lone_sender sender) i ≡ (setup_at plan i).segments
   unfolding lengths_in
   lengths_are i = elim (cases_lt i (length plan.nodes)) [
     | inl inside ↦ of.segments i inside
@@ -43,11 +43,11 @@ module _ (f : Buses) (plan : Plan) (clocks : ℕ → Steady) (sender : ℕ) (one
         ap (λ m. m.segments) (get_or_past f.members i no_member (omega arith)) ∙ sym (ap (λ s. s.segments) (get_or_past plan.nodes i no_setup past)))
   ]
 
-  shortest_are : (i : ℕ) → shortest_in f (alone sender) i ≡ shortest_in f plain i
+  shortest_are : (i : ℕ) → shortest_in f (lone_sender sender) i ≡ shortest_in f plain i
   unfolding shortest_in
   shortest_are i = refl
 
-  longest_are : (i : ℕ) → longest_in f (alone sender) i ≡ longest_in f plain i
+  longest_are : (i : ℕ) → longest_in f (lone_sender sender) i ≡ longest_in f plain i
   unfolding longest_in
   longest_are i = refl
 
@@ -61,21 +61,21 @@ module _ (f : Buses) (plan : Plan) (clocks : ℕ → Steady) (sender : ℕ) (one
   delay_is : (i j : ℕ) → i < length plan.nodes → delay_of plan.topology i j ≡ propagation_of plan.topology i j
   delay_is i j inside = ap (λ v. cond (v && not (i == j)) never (propagation_of plan.topology i j)) (one.answers i inside)
 
-  delays_are : (i j : ℕ) → i < length plan.nodes → delay_in f (alone sender) i j ≡ delay_of plan.topology i j * units plain
+  delays_are : (i j : ℕ) → i < length plan.nodes → delay_in f (lone_sender sender) i j ≡ delay_of plan.topology i j * units plain
   unfolding delay_in
   delays_are i j inside =
       let same = delay_is i j inside in
       let cable : propagation_of plan.topology i j ≡ propagation_of f.cable i j = ap (λ c. propagation_of c i j) of.cable in
       omega arith
 
-  sends_are : (i : ℕ) → sends_in f (alone sender) i ≡ (i == sender)
+  sends_are : (i : ℕ) → sends_in f (lone_sender sender) i ≡ (i == sender)
   unfolding sends_in
   sends_are i = elim (cases_eq i sender) [
     | inl here ↦ eq-eqb sender i (sym here) ∙ sym (eq-eqb i sender here)
     | inr apart ↦ ne_eqb sender i (λ e. apart (sym e)) ∙ sym (ne_eqb i sender apart)
   ]
 
-  pub is_bound : IsBoundOf (bus_of f (alone sender)) (tolerance_of f) b
+  pub is_bound : IsBoundOf (bus_of f (lone_sender sender)) (tolerance_of f) b
   is_bound = record {
     nodes = of.members;
     tick = refl;

@@ -25,7 +25,7 @@ ghost use Rattle.wl_bound.specs.Families.{Bus, Buses, bus_of, member_at};
 ghost use Rattle.wl_bound.specs.Conditions.{IsSound, first_failure_of, plain};
 ghost use Rattle.wl_bound.specs.Covered.{is_covered};
 ghost use Rattle.wl_bound.specs.declared.condition.Senders.TheVariants.{One};
-ghost use Rattle.wl_bound.specs.Senders.{alone};
+ghost use Rattle.wl_bound.specs.Senders.{lone_sender};
 
 /// Law: if one node alone has driven dominant, any node finds what that one drove a delay earlier.
 pub fn one_driver_is_found()
@@ -132,7 +132,7 @@ pub fn a_sound_bus_fits()
 pub fn a_plan_is_bound()
     ensures { (f : Buses) (plan : Plan) (clocks : ℕ → Steady) (sender : ℕ) (one : HasOneSender plan sender)
         (stuffed : ℕ → List Level) → IsSteadyPlan plan clocks → IsOfFamily f plan clocks
-        → IsBoundOf (bus_of f (alone sender)) (tolerance_of f) (bus_with plan clocks sender one stuffed) }
+        → IsBoundOf (bus_of f (lone_sender sender)) (tolerance_of f) (bus_with plan clocks sender one stuffed) }
 {
     a_plan_is_such_a_bus();
 }
@@ -143,7 +143,7 @@ pub fn one_sender_is_clean()
     ensures { (f : Buses) (plan : Plan) (clocks : ℕ → Steady) (sender : ℕ) (one : HasOneSender plan sender)
         (stuffed : ℕ → List Level) → IsSteadyPlan plan clocks → IsOfFamily f plan clocks
         → AreFrames (bus_with plan clocks sender one stuffed) stuffed
-        → IsSound (bus_of f (alone sender)) → GetThrough (bus_with plan clocks sender one stuffed) stuffed }
+        → IsSound (bus_of f (lone_sender sender)) → GetThrough (bus_with plan clocks sender one stuffed) stuffed }
 {
     a_plan_is_such_a_bus();
     tolerances_are_enough();
@@ -161,7 +161,7 @@ pub fn a_covered_plan_is_one_of_these()
         → sender < length plan.nodes → (setup_at plan sender).queue ≡ first ∷ later
         → ((j : ℕ) → j < length plan.nodes → j ≢ sender → (setup_at plan j).queue ≡ []) → HasOneSender plan sender }
     ensures sound { (f : Buses) (sender : ℕ) → (first_failure_of f plain One ≡ None) → sender < length f.members
-        → (member_at f sender).sends ≡ true → IsSound (bus_of f (alone sender)) }
+        → (member_at f sender).sends ≡ true → IsSound (bus_of f (lone_sender sender)) }
 {
     wl_bound::condition_laws();
 }

@@ -1,6 +1,6 @@
 use Rattle.wl_one_sender.specs.Clean.{bus_with, decides_at, tolerance_of}
 use Rattle.wl_one_sender.specs.OneSender.{IsBus}
-use Rattle.wl_bound.specs.Senders.{alone}
+use Rattle.wl_bound.specs.Senders.{lone_sender}
 use Rattle.wl_bound.specs.Families.{bus_of}
 use Rattle.wl_plan.specs.PlanLine.{setup_at}
 use Rattle.wl_one_sender.proofs.Cleaning.{is_bound, sends, within}
@@ -12,4 +12,4 @@ returns c = λ f plan clocks sender one stuffed steady of frames sound.
     c.a_plan_is_such_a_bus.ensures.bus plan clocks steady sender one.inside one.first.frame (stuffed 0) (decides_at (setup_at plan sender).segments one.first.ready) in
     c.tolerances_are_enough.ensures.through (tolerance_of f) (bus_with plan clocks sender one stuffed) stuffed is (sends f plan clocks sender one stuffed steady of is frames) frames
     (within f plan clocks sender one stuffed steady of is)
-    (c.a_sound_bus_fits.ensures (bus_of f (alone sender)) (tolerance_of f) (bus_with plan clocks sender one stuffed) is (is_bound f plan clocks sender one stuffed steady of is) sound)
+    (c.a_sound_bus_fits.ensures (bus_of f (lone_sender sender)) (tolerance_of f) (bus_with plan clocks sender one stuffed) is (is_bound f plan clocks sender one stuffed steady of is) sound)
