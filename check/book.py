@@ -2,8 +2,8 @@
 """The tables of docs/use/from-the-book.md: settings of the literature as plans, and what `margin`, `check` and `explain` say of them.
 
 usage: book.py PROGRAM       the tables
+       book.py PROGRAM say   of each row all that `margin` and `explain` write
        book.py plan ROW      the plan of a row, by its name
-       book.py say PROGRAM   of each row all that `margin` and `explain` write
 """
 import re
 import subprocess
@@ -92,9 +92,9 @@ def tables(program):
 def main():
     if sys.argv[1] == "plan":
         print(plan(ROWS[sys.argv[2]]), end="")
-    elif sys.argv[1] == "say":
+    elif sys.argv[2:] == ["say"]:
         for row in ROWS.values():
-            print(f"== {row[0]}\n{said(sys.argv[2], 'explain', row)}{said(sys.argv[2], 'margin', row)}", end="")
+            print(f"== {row[0]}\n{said(sys.argv[1], 'explain', row)}{said(sys.argv[1], 'margin', row)}", end="")
     else:
         tables(sys.argv[1])
 

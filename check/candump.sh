@@ -3,7 +3,7 @@
 # usage: check/candump.sh [PLAN..]      status 1 where a frame is read otherwise than the report says
 set -euo pipefail
 here=$(cd "$(dirname "$0")" && pwd)
-program=$here/../crates/wl_sim/out/wl_sim
+program=${WIRELINE_PROGRAM-$here/../crates/wl_sim/out/wl_sim}
 [ -x "$program" ] || { echo "no program at $program: build it with ./wireline build"; exit 1; }
 command -v log2long > /dev/null || { apt-get update -qq && apt-get install -y -qq --no-install-recommends can-utils; } > /dev/null
 exec python3 "$here/candump.py" "$program" "$here"/../examples/*.toml "$@"

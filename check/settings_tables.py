@@ -1,8 +1,8 @@
 #!/usr/bin/env python3
 """Makes the tables of docs/use/settings.md, by the built programs test_settings and, for sweeps, wl_sim.
 
-usage: settings_tables.py pairs ROWS PROGRAM            20 pairs of a clock and a bit rate: count, first row, sweeps at its longest cable
-       settings_tables.py can-calc ROWS [CAN_CALC]      beside can-calc-bit-timing of can-utils, for its controllers, clocks and bit rates
+usage: settings_tables.py ROWS pairs PROGRAM            20 pairs of a clock and a bit rate: count, first row, sweeps at its longest cable
+       settings_tables.py ROWS can-calc [CAN_CALC]      beside can-calc-bit-timing of can-utils, for its controllers, clocks and bit rates
 """
 import re
 import subprocess
@@ -101,8 +101,8 @@ def beside(rows_program, can_calc):
 
 
 def main():
-    if len(sys.argv) == 4 and sys.argv[1] == "pairs": pairs(*sys.argv[2:])
-    elif len(sys.argv) in (3, 4) and sys.argv[1] == "can-calc": beside(sys.argv[2], (sys.argv[3:] or ["can-calc-bit-timing"])[0])
+    if len(sys.argv) == 4 and sys.argv[2] == "pairs": pairs(sys.argv[1], sys.argv[3])
+    elif len(sys.argv) in (3, 4) and sys.argv[2] == "can-calc": beside(sys.argv[1], (sys.argv[3:] or ["can-calc-bit-timing"])[0])
     else: sys.exit(__doc__)
 
 

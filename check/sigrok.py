@@ -1,7 +1,7 @@
 #!/usr/bin/env python3
 """Frames as another decoder reads them: runs plans of random frames, and has sigrok's decoder `can` read the line.
 
-usage: sigrok.py PROGRAM [SEED [PLANS]]     needs sigrok-cli with its decoders; sigrok.sh installs it
+usage: sigrok.py PROGRAM [--count N] [--seed S]     10 plans of seed 1 by default; needs sigrok-cli with its decoders; sigrok.sh installs it
 
 The line is drawn from `records`, one sample a quantum, and each frame that the decoder finds is compared with the report: format, identifier,
 kind, data length code, bytes, CRC sequence, acknowledgement. Left out is what the decoder doesn't know: remote frames of a DLC above 0, and a DLC
@@ -15,6 +15,7 @@ import tempfile
 
 sys.dont_write_bytecode = True
 import plain
+from tally import options_of
 
 FRAMES, BITS = 30, 6_000
 QUANTUM, QUANTA_OF_A_BIT = 100, 10
@@ -79,8 +80,9 @@ def said_frames(annotations):
 
 
 def main():
-    program = sys.argv[1]
-    seed, plans = (int(word) for word in (sys.argv[2:] + ["1", "10"][len(sys.argv) - 2:])[:2])
+    program, *words = sys.argv[1:]
+    options = options_of(__doc__, words, {"count": "10", "seed": "1"})
+    seed, plans = int(options["seed"]), int(options["count"])
     base = extended = 0
     for number in range(plans):
         plan = random_plan(random.Random(f"{seed} {number}"))

@@ -11,12 +11,16 @@ def words_of(usage, whats):
     """Reads PROGRAM WHAT [--OPTION VALUE].., where each WHAT has its options with their values; PROGRAM, WHAT and the options."""
     words = sys.argv[1:]
     if len(words) < 2 or words[1] not in whats: sys.exit(sys.stderr.write(usage) and 2)
-    program, what, *words = words
-    options = dict(whats[what])
+    return words[0], words[1], options_of(usage, words[2:], whats[words[1]])
+
+
+def options_of(usage, words, values):
+    """Reads --OPTION VALUE..; the options with their values."""
+    options = dict(values)
     while words:
         if len(words) < 2 or words[0][:2] != "--" or words[0][2:] not in options: sys.exit(sys.stderr.write(usage) and 2)
         options[words[0][2:]], words = words[1], words[2:]
-    return program, what, options
+    return options
 
 
 def asked(program, *words, text=b""):
