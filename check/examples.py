@@ -13,7 +13,7 @@ sys.dont_write_bytecode = True
 import log
 import plain
 import random_plans
-import traffic
+import traffic  # gives plain.py that command
 from tally import asked
 
 PLANS = sorted((Path(__file__).resolve().parent.parent / "examples").glob("*.toml"))
