@@ -8,7 +8,7 @@ use wl_serial::{NodeOutcome, Outcome};
 /// Writes how much happened if the two are the same, and else what differs.
 pub fn tell(alloc: Global, one: &Outcome, other: &Outcome) -> Result<String> {
     let mut told = String::new(alloc);
-    if let Some((i, what)) = first_difference(one, other) {
+    if let Some((i, what)) = first_difference(alloc, one, other)? {
         write!(told, "differs: node {i}, {what}")?;
         return Ok(told);
     }
@@ -21,26 +21,39 @@ pub fn tell(alloc: Global, one: &Outcome, other: &Outcome) -> Result<String> {
 }
 
 /// Returns the first node at which the two differ, and in what.
-fn first_difference(one: &Outcome, other: &Outcome) -> Option<(usize, &'static str)> {
+fn first_difference(
+    alloc: Global,
+    one: &Outcome,
+    other: &Outcome,
+) -> Result<Option<(usize, &'static str)>> {
     if one.nodes.len() != other.nodes.len() || one.end != other.end {
-        return Some((0, "the number of nodes or the end"));
+        return Ok(Some((0, "the number of nodes or the end")));
     }
     let pairs = one.nodes.as_slice().iter().zip(other.nodes.as_slice());
     for (i, (a, b)) in pairs.enumerate() {
-        if let Some(what) = difference(a, b) {
-            return Some((i, what));
+        if let Some(what) = difference(alloc, a, b)? {
+            return Ok(Some((i, what)));
         }
     }
-    None
+    Ok(None)
 }
 
 /// Returns what differs at a node, if anything.
-fn difference(one: &NodeOutcome, other: &NodeOutcome) -> Option<&'static str> {
+fn difference(
+    alloc: Global,
+    one: &NodeOutcome,
+    other: &NodeOutcome,
+) -> Result<Option<&'static str>> {
+    if one.samples.list(alloc)?.as_slice() != other.samples.list(alloc)?.as_slice() {
+        return Ok(Some("samples"));
+    }
+    Ok(difference_beside(one, other))
+}
+
+/// Returns what differs at a node beside the samples, if anything.
+fn difference_beside(one: &NodeOutcome, other: &NodeOutcome) -> Option<&'static str> {
     if one.changes.as_slice() != other.changes.as_slice() {
         return Some("changes");
-    }
-    if one.samples.as_slice() != other.samples.as_slice() {
-        return Some("samples");
     }
     if one.frames.as_slice() != other.frames.as_slice() {
         return Some("frames");

@@ -69,7 +69,7 @@ impl Line {
             "modes" => self.modes = true,
             "readers" | "phases" | "frames" | "samples" | "quiet" => {
                 for node in &self.nodes {
-                    ask(node, word, out)?;
+                    ask(alloc, node, word, out)?;
                 }
             }
             _ => match word.strip_prefix("quiet>=") {
@@ -138,7 +138,7 @@ impl Line {
 }
 
 /// Returns what a node answers.
-fn ask(node: &Node, word: &str, out: &mut String) -> Told {
+fn ask(alloc: Global, node: &Node, word: &str, out: &mut String) -> Told {
     match word {
         "readers" => write_readers(node, out)?,
         "phases" => {
@@ -149,7 +149,7 @@ fn ask(node: &Node, word: &str, out: &mut String) -> Told {
         "frames" => write_frames(node, out)?,
         "quiet" => write!(out, "{}", node.quiet())?,
         _ => {
-            for (quantum, level) in node.samples() {
+            for (quantum, level) in node.samples(alloc)?.list(alloc)?.as_slice() {
                 write!(out, "{}@{quantum} ", bit(*level))?;
             }
         }
@@ -162,7 +162,7 @@ fn write_readers(node: &Node, out: &mut String) -> Told {
     write_counters(out, &node.counters())?;
     write!(out, "quanta {} drive {} ", node.quanta(), bit(node.drive()))?;
     write!(out, "errors {} hards {} ", node.errors(), node.hards())?;
-    let (samples, unsent) = (node.samples().len(), node.unsent());
+    let (samples, unsent) = (node.sample_count(), node.unsent());
     Ok(write!(out, "samples {samples} unsent {unsent} ")?)
 }
 

@@ -21,6 +21,7 @@ use Rattle.wl_node.specs.declared.setup.NodeSetup.{NodeSetup}
 use Rattle.wl_node.specs.declared.traffic.Traffic.{Traffic}
 use Rattle.wl_node.specs.History.{History, sampled_next, history_after_judgement, history_after_sample, switched_off, unsent_of, ready_head}
 use Rattle.wl_node.specs.Kept.{IsTraffic}
+use Rattle.wl_node.specs.Runs.{samples_by}
 use Rattle.wl_node.proofs.Sends.{count_append}
 
 pub none_mapped : {A B : Type 0} (f : A → B) (o : Option A) → is_some o ≡ false → option_map f o ≡ None
@@ -74,7 +75,7 @@ module _ (setup : NodeSetup) (h : History) (level : Level) (judged_is : judged (
   stretch_on = stretch_next h.inputs (Sample x) ∙ ap (λ (j : Judgement). or_next j.next (record { sort = s.sort; own = s.own ++ level ∷ [] })) judged_is
 
   pub keeps : (old new : Traffic) → IsTraffic setup old h → new.counters ≡ old.counters → new.pending ≡ old.pending → new.sent ≡ old.sent
-      → new.errors ≡ old.errors → new.frames ≡ old.frames → new.samples.items ≡ old.samples.items ++ (length h.seen, level) ∷ []
+      → new.errors ≡ old.errors → new.frames ≡ old.frames → samples_by new.samples.runs.items ≡ samples_by old.samples.runs.items ++ (length h.seen, level) ∷ []
       → drive_of (stretch_of h.inputs) ≡ drive_of (stretch_of (h.inputs ++ Sample x ∷ [])) → IsMachine new.machine (h.inputs ++ Sample x ∷ [])
       → IsTraffic setup new (history_after_sample setup h level)
   keeps old new kept counters pending sent errors frames samples drive reached = subst (IsTraffic setup new) (sym history_is) (record {
@@ -113,7 +114,7 @@ module _ (setup : NodeSetup) (h : History) (none : ready_head (unsent_of setup h
   x_is = λ i. record { level = Recessive; head = sym none i; mode = sample.mode }
 
   pub rests : (old new : Traffic) → IsTraffic setup old h → new.machine ≡ old.machine → new.counters ≡ old.counters → new.pending ≡ old.pending → new.sent ≡ old.sent
-      → new.errors ≡ old.errors → new.frames ≡ old.frames → new.samples.items ≡ old.samples.items ++ (length h.seen, Recessive) ∷ []
+      → new.errors ≡ old.errors → new.frames ≡ old.frames → samples_by new.samples.runs.items ≡ samples_by old.samples.runs.items ++ (length h.seen, Recessive) ∷ []
       → IsMachine old.machine (h.inputs ++ Sample (sample_of Recessive None sample.mode) ∷ [])
       → IsTraffic setup new (history_after_sample setup h Recessive)
   rests old new kept machine counters pending sent errors frames samples reached =

@@ -13,6 +13,7 @@ use Rattle.wl_node.specs.declared.progress.Progress.{Progress}
 use Rattle.wl_node.specs.History.{History, history_of, history_after, history_after_sample, ready_head, seen_next, unsent_of, sampled_next, by_beat, syncs_at}
 use Rattle.wl_node.specs.Kept.{IsTraffic, IsProgress, FitsHistory}
 use Rattle.wl_node.specs.Rest.{AlwaysRests, IsRest}
+use Rattle.wl_node.specs.Runs.{samples_by}
 use Rattle.wl_sync.specs.Skips.{IsRestingBit}
 use Rattle.wl_node.proofs.Turns.{history_next}
 use Rattle.wl_node.proofs.Skipped.{seen_more, same_history, IsIdleFor, history_skipped}
@@ -90,9 +91,9 @@ module _ (setup : NodeSetup) (levels : List Level) (kept : Progress) (old : IsPr
 
   module _ (traffic : Traffic) (machine : traffic.machine ≡ kept.traffic.machine) (counters : traffic.counters ≡ kept.traffic.counters) (pending : traffic.pending ≡ kept.traffic.pending)
       (sent : traffic.sent ≡ kept.traffic.sent) (errors : traffic.errors ≡ kept.traffic.errors) (frames : traffic.frames ≡ kept.traffic.frames)
-      (samples : traffic.samples.items ≡ kept.traffic.samples.items ++ (kept.quanta + n - 1, Recessive) ∷ []) where
-    now_samples : traffic.samples.items ≡ kept.traffic.samples.items ++ (length before.seen, Recessive) ∷ []
-    now_samples = samples ∙ ap (λ k. kept.traffic.samples.items ++ (k, Recessive) ∷ [])
+      (samples : samples_by traffic.samples.runs.items ≡ samples_by kept.traffic.samples.runs.items ++ (kept.quanta + n - 1, Recessive) ∷ []) where
+    now_samples : samples_by traffic.samples.runs.items ≡ samples_by kept.traffic.samples.runs.items ++ (length before.seen, Recessive) ∷ []
+    now_samples = samples ∙ ap (λ k. samples_by kept.traffic.samples.runs.items ++ (k, Recessive) ∷ [])
         (let b = rest.bit.bit in let q = old.place.quanta in let l = before_long in let e : kept.quanta + n - 1 ≡ length before.seen = omega arith in e)
 
     now_traffic : IsTraffic setup traffic (history_after_sample setup before Recessive)

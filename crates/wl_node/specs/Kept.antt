@@ -15,6 +15,7 @@ use Rattle.wl_node.specs.declared.syncs.Syncs.{Syncs}
 use Rattle.wl_node.specs.declared.traffic.Traffic.{Traffic}
 use Rattle.wl_node.specs.declared.progress.Progress.{Progress}
 use Rattle.wl_node.specs.History.{History, history_of, is_sent, unsent_of, error_count, phase_of, is_hard}
+use Rattle.wl_node.specs.Runs.{samples_by}
 
 -- the frame of the first one in a queue
 abbrev pub first_frame : List Queued → Option Content
@@ -33,7 +34,7 @@ pub record IsTraffic (setup : NodeSetup) (kept : Traffic) (h : History) : Type 0
   pub pending : kept.pending ≡ drive_of (stretch_of h.inputs)
   pub sent : kept.sent ≡ count_by is_sent h.frames
   pub errors : kept.errors ≡ error_count h
-  pub samples : kept.samples.items ≡ h.samples
+  pub samples : samples_by kept.samples.runs.items ≡ h.samples
   pub frames : kept.frames.items ≡ h.frames
   pub sends : (frame : Content) → head_of (stretch_of h.inputs).sort ≡ Some frame → first_frame (unsent_of setup h) ≡ Some frame
 
@@ -74,6 +75,6 @@ KeepsDrive setup level n kept =
 
 -- there is room for what one more quantum stores
 pub record IsRoomy (kept : Progress) : Type 0 where
-  pub samples : vec_len kept.traffic.samples < vec_capacity kept.traffic.samples
+  pub samples : vec_len kept.traffic.samples.runs < vec_capacity kept.traffic.samples.runs
   pub frames : vec_len kept.traffic.frames < vec_capacity kept.traffic.frames
   pub phases : vec_len kept.syncs.phases < vec_capacity kept.syncs.phases

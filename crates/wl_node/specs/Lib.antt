@@ -7,5 +7,6 @@ pub mod Marks
 pub mod Quiet
 pub mod Reached
 pub mod Rest
+pub mod Runs
 pub mod Same
 pub mod Stays

@@ -120,7 +120,8 @@ impl Node {
         requires some { 0 < quanta }
         requires none { ready_head (drop self.old.progress.traffic.sent self.old.setup.queue)
             (self.old.progress.quanta + quanta - 1) ≡ None }
-        requires room { vec_len self.old.progress.traffic.samples < vec_capacity self.old.progress.traffic.samples }
+        requires room { vec_len self.old.progress.traffic.samples.runs
+            < vec_capacity self.old.progress.traffic.samples.runs }
         requires short { quanta_of self.old + quanta ≤ most_run_quanta }
         ensures gone { HasGone Level.Recessive quanta self.old self.new }
         ensures stands { StandsFor self.old Level.Recessive quanta }

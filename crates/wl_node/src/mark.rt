@@ -21,10 +21,11 @@ pub struct Mark {
     pub(crate) pending: Level,
     pub(crate) sent: usize,
     pub(crate) errors: u64,
-    pub(crate) samples: usize,
+    pub(crate) samples: u64,
     pub(crate) frames: usize,
     ghost few_hards: { hards ≤ quanta },
     ghost few_errors: { errors ≤ quanta },
+    ghost few_samples: { samples ≤ quanta },
 }
 
 impl Node {
@@ -50,7 +51,7 @@ impl Node {
             pending: traffic.pending,
             sent: traffic.sent,
             errors: traffic.errors,
-            samples: traffic.samples.len(),
+            samples: traffic.samples.count,
             frames: traffic.frames.len(),
         }
     }
@@ -80,6 +81,7 @@ impl crate::progress::Progress {
         ensures quanta { self.new.quanta ≡ mark.now.quanta }
         ensures hards { self.new.syncs.hards ≡ mark.now.hards }
         ensures errors { self.new.traffic.errors ≡ mark.now.errors }
+        ensures samples { self.new.traffic.samples.count ≤ mark.now.samples }
     {
         self.clock = mark.clock;
         self.drive = mark.drive;

@@ -5,6 +5,7 @@ ghost use Rattle.wl_level.specs.declared.Level.{Level};
 ghost use Rattle.wl_node.specs.Kept.{IsProgress};
 
 use crate::progress::Progress;
+use crate::samples::Samples;
 use crate::setup::{NodeSetup, Passed};
 use std::alloc::{AllocError, Global};
 use wl_confine::Counters;
@@ -21,6 +22,7 @@ pub struct Node {
     pub(crate) progress: Progress,
     ghost few_hards: { progress.syncs.hards ≤ progress.quanta },
     ghost few_errors: { progress.traffic.errors ≤ progress.quanta },
+    ghost few_samples: { progress.traffic.samples.count ≤ progress.quanta },
     ghost reached: { ∥ ((levels : List Level) × IsProgress setup progress levels) ∥₁ },
 }
 
@@ -28,7 +30,7 @@ pub struct Node {
 #[derive(Drop)]
 pub struct NodeLists {
     /// Returns the samples, each with its quantum.
-    pub samples: Listed<(u64, Level)>,
+    pub samples: Samples,
     /// The frames that it sent and received, in the order in which they were completed.
     pub frames: Listed<Passed>,
     /// Returns the resynchronising edges: quantum and phase error, in quanta, error 0 too.
@@ -147,11 +149,18 @@ impl Node {
         self.progress.quanta
     }
 
-    /// Returns the samples, each with its quantum.
-    pub fn samples(&self) -> &[(u64, Level)]
-        ensures { Shows self.now (λ h. result.now ≡ h.samples) }
+    /// Returns the samples so far, each with its quantum. Refused only if memory runs out.
+    pub fn samples(&self, alloc: Global) -> Result<Samples, AllocError>
+        ensures { IfOk result (λ samples. Shows self.now (λ h. samples ≡ h.samples)) }
     {
-        &self.progress.traffic.samples
+        self.progress.traffic.samples.so_far(alloc)
+    }
+
+    /// Returns the number of samples.
+    pub fn sample_count(&self) -> u64
+        ensures { Shows self.now (λ h. result ≡ length h.samples) }
+    {
+        self.progress.traffic.samples.count
     }
 
     /// Returns the frames that the node sent and received, in the order in which they were completed.
@@ -206,7 +215,7 @@ impl Node {
         ensures phases { Shows self (λ h. result.phases ≡ phases_of h) }
     {
         NodeLists {
-            samples: Listed::from_vec(self.progress.traffic.samples),
+            samples: self.progress.traffic.samples.into_samples(),
             frames: Listed::from_vec(self.progress.traffic.frames),
             phases: Listed::from_vec(self.progress.syncs.phases),
         }

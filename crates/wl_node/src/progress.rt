@@ -8,6 +8,7 @@ ghost use Rattle.wl_node.specs.History.{History, by_beat};
 ghost use Rattle.wl_node.specs.Kept.{IsTraffic, IsRoomy, HasSeenNothing, IsSameProgress, HasProgressed, HasProgressedBy, KeepsDrive};
 ghost use Rattle.wl_node.specs.Limits.{most_run_quanta};
 
+use crate::samples::SampleRuns;
 use crate::setup::NodeSetup;
 use crate::syncs::Syncs;
 use crate::traffic::Traffic;
@@ -36,6 +37,7 @@ impl Progress {
     pub fn new(alloc: Global, segments: Segments) -> Result<Progress, AllocError>
         ensures place { IfOk result (HasSeenNothing segments) }
         ensures none { IfOk result (λ kept. (kept.syncs.hards ≡ 0) × (kept.traffic.errors ≡ 0)) }
+        ensures no_samples { IfOk result (λ kept. kept.traffic.samples.count ≡ 0) }
     {
         Ok(Progress {
             clock: BitClock::new(segments),
@@ -51,7 +53,7 @@ impl Progress {
                 pending: Level::Recessive,
                 sent: 0,
                 errors: 0,
-                samples: Vec::with_capacity(alloc, FIRST_ROOM)?,
+                samples: SampleRuns::new(alloc, segments.bit_quanta() as u8, FIRST_ROOM)?,
                 frames: Vec::with_capacity(alloc, FIRST_ROOM)?,
             },
         })
@@ -64,6 +66,7 @@ impl Progress {
         ensures quanta { self.new.quanta ≡ self.old.quanta }
         ensures hards { self.new.syncs.hards ≡ self.old.syncs.hards }
         ensures errors { self.new.traffic.errors ≡ self.old.traffic.errors }
+        ensures samples { self.new.traffic.samples.count ≡ self.old.traffic.samples.count }
     {
         self.syncs.prepare()?;
         self.traffic.prepare()
@@ -75,10 +78,12 @@ impl Progress {
         requires short { self.old.quanta < most_run_quanta }
         requires hards { self.old.syncs.hards ≤ self.old.quanta }
         requires errors { self.old.traffic.errors ≤ self.old.quanta }
+        requires samples { self.old.traffic.samples.count ≤ self.old.quanta }
         ensures place { HasProgressed setup.now level self.old self.new }
         ensures quanta { self.new.quanta ≡ self.old.quanta + 1 }
         ensures hards { self.new.syncs.hards ≤ self.old.syncs.hards + 1 }
         ensures errors { self.new.traffic.errors ≤ self.old.traffic.errors + 1 }
+        ensures samples { self.new.traffic.samples.count ≤ self.old.traffic.samples.count + 1 }
     {
         let idle = self.traffic.machine.idle();
         let awaits = self.traffic.machine.awaits_start();
@@ -108,6 +113,7 @@ impl Progress {
         ensures room { IsRoomy self.old → IsRoomy self.new }
         ensures hards { self.new.syncs.hards ≡ self.old.syncs.hards }
         ensures errors { self.new.traffic.errors ≡ self.old.traffic.errors }
+        ensures samples { self.new.traffic.samples.count ≡ self.old.traffic.samples.count }
     {
         let settled = self.drive.is(self.traffic.pending);
         let free = (self.clock.free_quanta(level, settled) as u64).min(most);
@@ -128,6 +134,7 @@ impl Progress {
         ensures quanta { self.new.quanta ≡ self.old.quanta + quanta }
         ensures hards { self.new.syncs.hards ≡ self.old.syncs.hards }
         ensures errors { self.new.traffic.errors ≡ self.old.traffic.errors }
+        ensures samples { self.new.traffic.samples.count ≡ self.old.traffic.samples.count }
     {
         self.clock.skip(level, quanta);
         self.quanta += quanta as u64;
@@ -143,14 +150,17 @@ fn obey(
     beat: Beat,
     level: Level,
 )
-    requires samples { vec_len traffic.old.samples < vec_capacity traffic.old.samples }
+    requires samples { vec_len traffic.old.samples.runs < vec_capacity traffic.old.samples.runs }
     requires frames { vec_len traffic.old.frames < vec_capacity traffic.old.frames }
+    requires early { quantum < most_run_quanta }
+    requires few { traffic.old.samples.count ≤ quantum }
     requires fits { traffic.old.errors < most_run_quanta }
     ensures drive { (h : History) → drive.old ≡ h.drive → IsTraffic setup.now traffic.old h
         → drive.new ≡ (by_beat setup.now h level beat).drive }
     ensures traffic { (h : History) → length h.seen ≡ quantum → IsTraffic setup.now traffic.old h
         → IsTraffic setup.now traffic.new (by_beat setup.now h level beat) }
     ensures errors { traffic.new.errors ≤ traffic.old.errors + 1 }
+    ensures count { traffic.new.samples.count ≤ traffic.old.samples.count + 1 }
 {
     match beat {
         Beat::Plain => {}

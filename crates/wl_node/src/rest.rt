@@ -30,7 +30,8 @@ impl Progress {
         requires rests { AlwaysRests self.old quanta }
         requires some { 0 < quanta }
         requires none { ready_head (drop self.old.traffic.sent setup.now.queue) (self.old.quanta + quanta - 1) ≡ None }
-        requires room { vec_len self.old.traffic.samples < vec_capacity self.old.traffic.samples }
+        requires room { vec_len self.old.traffic.samples.runs < vec_capacity self.old.traffic.samples.runs }
+        requires few { self.old.traffic.samples.count ≤ self.old.quanta }
         requires short { self.old.quanta + quanta ≤ most_run_quanta }
         ensures place { HasProgressedBy setup.now Level.Recessive quanta self.old self.new }
         ensures drive { KeepsDrive setup.now Level.Recessive (suc quanta) self.old }
@@ -39,18 +40,17 @@ impl Progress {
         ensures quanta { self.new.quanta ≡ self.old.quanta + quanta }
         ensures hards { self.new.syncs.hards ≡ self.old.syncs.hards }
         ensures errors { self.new.traffic.errors ≡ self.old.traffic.errors }
+        ensures count { self.new.traffic.samples.count ≡ self.old.traffic.samples.count + 1 }
     {
         self.quanta += quanta;
-        self.traffic
-            .samples
-            .push_reserved((self.quanta - 1, Level::Recessive));
+        self.traffic.samples.push(self.quanta - 1, Level::Recessive);
     }
 
     /// True only if there is room for one more sample.
     pub fn has_room(&self) -> bool
-        ensures { result ≡ true → vec_len self.now.traffic.samples < vec_capacity self.now.traffic.samples }
+        ensures { result ≡ true → vec_len self.now.traffic.samples.runs < vec_capacity self.now.traffic.samples.runs }
     {
-        self.traffic.samples.len() < self.traffic.samples.capacity()
+        self.traffic.samples.runs.len() < self.traffic.samples.runs.capacity()
     }
 
     /// Returns the quantum before which no frame is ready, as long as none is sent.

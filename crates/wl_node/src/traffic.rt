@@ -14,6 +14,7 @@ ghost use Rattle.wl_node.specs.History.{History, handed, ready_head, passed_fram
 ghost use Rattle.wl_node.specs.Kept.{IsTraffic, first_frame};
 ghost use Rattle.wl_node.specs.Limits.{most_run_quanta};
 
+use crate::samples::SampleRuns;
 use crate::setup::{NodeSetup, Passed, Queued};
 use std::alloc::AllocError;
 use wl_confine::{Counters, Happened, Mode};
@@ -32,7 +33,7 @@ pub struct Traffic {
     /// How many frames of the queue were sent.
     pub sent: usize,
     pub errors: u64,
-    pub samples: Vec<(u64, Level)>,
+    pub samples: SampleRuns,
     pub frames: Vec<Passed>,
 }
 
@@ -109,14 +110,13 @@ fn switch_off(machine: &mut Machine, pending: &mut Level, before: Mode, after: M
 impl Traffic {
     /// Makes room for one more sample and one more frame.
     pub fn prepare(&mut self) -> Result<(), AllocError>
-        ensures samples { OnOk result (vec_len self.new.samples < vec_capacity self.new.samples) }
+        ensures samples { OnOk result (vec_len self.new.samples.runs < vec_capacity self.new.samples.runs) }
         ensures frames { OnOk result (vec_len self.new.frames < vec_capacity self.new.frames) }
         ensures errors { self.new.errors ≡ self.old.errors }
+        ensures count { self.new.samples.count ≡ self.old.samples.count }
         ensures same { (setup : NodeSetup) (h : History) → IsTraffic setup self.old h → IsTraffic setup self.new h }
     {
-        if self.samples.len() == self.samples.capacity() {
-            self.samples.reserve(1)?;
-        }
+        self.samples.prepare()?;
         if self.frames.len() == self.frames.capacity() {
             self.frames.reserve(1)?;
         }
@@ -125,12 +125,15 @@ impl Traffic {
 
     /// Takes a sample at this quantum: it is stored, and goes to the machine and then to the counters.
     pub fn sample(&mut self, setup: &NodeSetup, quantum: u64, level: Level)
-        requires samples { vec_len self.old.samples < vec_capacity self.old.samples }
+        requires samples { vec_len self.old.samples.runs < vec_capacity self.old.samples.runs }
         requires frames { vec_len self.old.frames < vec_capacity self.old.frames }
+        requires early { quantum < most_run_quanta }
+        requires few { self.old.samples.count ≤ quantum }
         requires fits { self.old.errors < most_run_quanta }
         ensures traffic { (h : History) → length h.seen ≡ quantum → IsTraffic setup.now self.old h
             → IsTraffic setup.now self.new (history_after_sample setup.now h level) }
         ensures errors { self.new.errors ≤ self.old.errors + 1 }
+        ensures count { self.new.samples.count ≤ self.old.samples.count + 1 }
     {
         if !self.keep(quantum, level) {
             self.look(setup, quantum, level);
@@ -139,7 +142,9 @@ impl Traffic {
 
     /// Takes such a sample if it does nothing to a machine that receives; else returns false, and nothing changes.
     fn keep(&mut self, quantum: u64, level: Level) -> bool
-        requires { vec_len self.old.samples < vec_capacity self.old.samples }
+        requires samples { vec_len self.old.samples.runs < vec_capacity self.old.samples.runs }
+        requires early { quantum < most_run_quanta }
+        requires few { self.old.samples.count ≤ quantum }
         ensures kept { result ≡ true → (setup : NodeSetup) (h : History) → length h.seen ≡ quantum
             → IsTraffic setup self.old h → IsTraffic setup self.new (history_after_sample setup h level) }
         ensures same { result ≡ false → (setup : NodeSetup) (h : History)
@@ -147,26 +152,30 @@ impl Traffic {
         ensures samples { result ≡ false → self.new.samples ≡ self.old.samples }
         ensures frames { self.new.frames ≡ self.old.frames }
         ensures errors { self.new.errors ≡ self.old.errors }
+        ensures count { self.new.samples.count ≤ self.old.samples.count + 1 }
     {
         let keeps = self.machine.keep(level);
         if keeps {
-            self.samples.push_reserved((quantum, level));
+            self.samples.push(quantum, level);
         }
         keeps
     }
 
     /// Takes such a sample, also on a free bus.
     fn look(&mut self, setup: &NodeSetup, quantum: u64, level: Level)
-        requires samples { vec_len self.old.samples < vec_capacity self.old.samples }
+        requires samples { vec_len self.old.samples.runs < vec_capacity self.old.samples.runs }
         requires frames { vec_len self.old.frames < vec_capacity self.old.frames }
+        requires early { quantum < most_run_quanta }
+        requires few { self.old.samples.count ≤ quantum }
         requires fits { self.old.errors < most_run_quanta }
         ensures traffic { (h : History) → length h.seen ≡ quantum → IsTraffic setup.now self.old h
             → IsTraffic setup.now self.new (history_after_sample setup.now h level) }
         ensures errors { self.new.errors ≤ self.old.errors + 1 }
+        ensures count { self.new.samples.count ≤ self.old.samples.count + 1 }
     {
         let head = ready_head(setup.queue.as_slice(), self.sent, quantum);
         if head.is_none() && !level.is_dominant() && self.machine.is_free() {
-            self.samples.push_reserved((quantum, Level::Recessive));
+            self.samples.push(quantum, Level::Recessive);
             return;
         }
         self.judge(setup, quantum, level);
@@ -174,12 +183,15 @@ impl Traffic {
 
     /// Takes such a sample, whatever the machine is in.
     fn judge(&mut self, setup: &NodeSetup, quantum: u64, level: Level)
-        requires samples { vec_len self.old.samples < vec_capacity self.old.samples }
+        requires samples { vec_len self.old.samples.runs < vec_capacity self.old.samples.runs }
         requires frames { vec_len self.old.frames < vec_capacity self.old.frames }
+        requires early { quantum < most_run_quanta }
+        requires few { self.old.samples.count ≤ quantum }
         requires fits { self.old.errors < most_run_quanta }
         ensures traffic { (h : History) → length h.seen ≡ quantum → IsTraffic setup.now self.old h
             → IsTraffic setup.now self.new (history_after_sample setup.now h level) }
         ensures errors { self.new.errors ≤ self.old.errors + 1 }
+        ensures count { self.new.samples.count ≤ self.old.samples.count + 1 }
     {
         wl_machine::laws::a_sent_frame_is_the_head_that_began_its_stretch();
         let mode = self.counters.mode();
@@ -187,7 +199,7 @@ impl Traffic {
         let ready = ready_head(queue, self.sent, quantum);
         let head = handed(level, setup.segments.sync(), ready);
         let turn = self.machine.bit(level, head, mode);
-        self.samples.push_reserved((quantum, level));
+        self.samples.push(quantum, level);
         self.pending = turn.drive;
         pass(&mut self.frames, &mut self.sent, turn.done, queue, quantum);
         count(&mut self.errors, turn.happened);

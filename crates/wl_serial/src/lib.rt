@@ -18,7 +18,7 @@ mod turn;
 pub use disturbed::disturbed_at;
 pub use engine::run_serial;
 pub use laws::{outcome_is_recordable, outcome_node_by_node, records_are_true};
-pub use outcome::{Changes, Frames, NodeOutcome, NodeOutcomes, Outcome, Phases, Samples};
+pub use outcome::{Changes, Frames, NodeOutcome, NodeOutcomes, Outcome, Phases};
 pub use pulse::{Pulse, pulse_of};
 pub use records::records_of;
 pub use so_far::node_outcome;

@@ -1,14 +1,11 @@
 //! The outcome of a simulation.
 
 use wl_confine::Counters;
-use wl_level::{Level, Listed};
-use wl_node::Passed;
+use wl_level::Listed;
+use wl_node::{Passed, Samples};
 
 /// Ticks, in order. At the first one the drive becomes dominant.
 pub type Changes = Listed<u64>;
-
-/// Quanta of a node, each with the level that it sampled there.
-pub type Samples = Listed<(u64, Level)>;
 
 /// The frames that a node sent or received, in order.
 pub type Frames = Listed<Passed>;

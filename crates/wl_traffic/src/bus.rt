@@ -122,7 +122,8 @@ fn finding_of(alloc: Global, plan: &Plan, outcome: &Outcome, i: usize) -> Result
 {
     quanta_are_known();
     let (setup, node) = node_at(plan, outcome, i);
-    let spans = spans(alloc, setup, plan.end, node.samples.as_slice())?;
+    let samples = node.samples.list(alloc)?;
+    let spans = spans(alloc, setup, plan.end, samples.as_slice())?;
     Ok(found_in(&spans))
 }
 

@@ -101,7 +101,8 @@ pub(crate) fn entries(
     quanta_are_known();
     let (setup, node) = node_at(plan, outcome, i);
     let sent = sent_quanta(alloc, node.frames.as_slice())?;
-    let events = node_events(alloc, setup, node.samples.as_slice())?;
+    let samples = node.samples.list(alloc)?;
+    let events = node_events(alloc, setup, samples.as_slice())?;
     let attempts = attempts(alloc, &sent, &events)?;
     entries_by(alloc, setup.queue.as_slice(), &sent, &attempts)
 }

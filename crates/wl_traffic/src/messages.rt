@@ -171,7 +171,8 @@ fn push_message(
     ensures { OnOk result (GrowsBy text.old text.new (message_line tick plan.now names.now i frame.now mine.now)) }
 {
     let (setup, node) = node_at(plan, outcome, i);
-    let last = final_sample(node.samples.as_slice());
+    let samples = node.samples.list(alloc)?;
+    let last = final_sample(samples.as_slice());
     push_message_words(text, names, i, frame)?;
     push_counts(text, last, mine)?;
     push_waits(alloc, text, tick, &setup.clock, mine)

@@ -250,8 +250,8 @@ fn events_at_end(
 {
     let setups = plan.nodes.as_slice();
     let nodes = outcome.nodes.as_slice();
-    let samples = nodes[i].samples.as_slice();
-    let events = node_events(alloc, &setups[i], samples)?;
+    let samples = nodes[i].samples.list(alloc)?;
+    let events = node_events(alloc, &setups[i], samples.as_slice())?;
     Ok(events)
 }
 

@@ -27,7 +27,7 @@ returns c =
     let queue : c.as_slice-3.result.now ≡ (setup_at plan i).queue = c.as_slice-3.ensures ∙ ap (λ (s : NodeSetup). s.queue) setup in
     let sent : c.in_ok-sent.sent.items ≡ sent_quanta frames =
     c.in_ok-sent.ensures ∙ ap sent_quanta (c.as_slice.ensures ∙ ap (λ (n : NodeOutcome). n.frames) node) in
-    let samples : c.as_slice-2.result.now ≡ (history_at_end plan i).samples = c.as_slice-2.ensures ∙ ap (λ (n : NodeOutcome). n.samples) node in
+    let samples : c.as_slice-2.result.now ≡ (history_at_end plan i).samples = c.as_slice-2.ensures ∙ c.in_ok-samples.ensures ∙ ap (λ (n : NodeOutcome). n.samples) node in
     let events : c.in_ok-events.events.items ≡ events_at_end plan i =
     c.in_ok-events.ensures levels (samples ∙ ap (λ (s : NodeSetup). (history_of s levels).samples) (sym setup)) ∙ ap (λ (s : NodeSetup). events_of s levels) setup in
     let attempts : c.in_ok-attempts.attempts.items ≡ attempts_of (sent_quanta frames) (events_at_end plan i) =

@@ -13,7 +13,7 @@ use Rattle.wl_traffic.proofs.messages.push_message.Goals as goal
 pub returns : goal.returns
 returns c =
     let last : c.final_sample-last.result ≡ final_sample (node_outcome_of c.args.plan.now c.args.i).samples =
-    c.final_sample-last.ensures ∙ ap final_sample (c.as_slice.ensures ∙ ap (λ (n : NodeOutcome). n.samples) c.node_at.ensures.outcome) in
+    c.final_sample-last.ensures ∙ ap final_sample (c.as_slice.ensures ∙ c.in_ok-samples.ensures ∙ ap (λ (n : NodeOutcome). n.samples) c.node_at.ensures.outcome) in
     let clock : c.node_at.result.0.now.clock ≡ (setup_at c.args.plan.now c.args.i).clock = ap (λ (s : NodeSetup). s.clock) c.node_at.ensures.setup in
     grown_twice c.push_waits.result (string_bytes c.args.text.now) (string_bytes c.push_message_words.new.text) (string_bytes c.push_counts.new.text)
     (string_bytes c.push_waits.new.text) _ _ _ c.in_ok-push_message_words.ensures

@@ -27,8 +27,8 @@ returns c =
     let setup : c.index-setups-i.result ≡ setup_at plan i =
     c.index-setups-i.is ∙ ap (λ (xs : List NodeSetup). get_or xs i c.index-setups-i.result) c.as_slice-setups.ensures ∙ get_or_default plan.nodes i c.index-setups-i.result no_setup c.requires.node
     in
-    let samples : c.as_slice-samples.result.now ≡ (history_at_end plan i).samples =
-    c.as_slice-samples.ensures
+    let samples : c.as_slice.result.now ≡ (history_at_end plan i).samples =
+    c.as_slice.ensures ∙ c.in_ok-samples.ensures
     ∙ ap (λ (n : NodeOutcome). n.samples)
     (ap (λ (xs : List NodeOutcome). get_or xs i c.index-nodes-i.result) c.as_slice-nodes.ensures ∙ node_is plan c.args.outcome.now i c.index-nodes-i.result c.requires.outcome c.requires.node)
     in

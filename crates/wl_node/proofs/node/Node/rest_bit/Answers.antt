@@ -7,6 +7,7 @@ pub invariant_of-self : goal.invariant_of-self
 invariant_of-self c = record {
   few_hards = omega (arith, c.args.self.now.few_hards, c.rest_bit.ensures.hards, c.rest_bit.ensures.quanta);
   few_errors = omega (arith, c.args.self.now.few_errors, c.rest_bit.ensures.errors, c.rest_bit.ensures.quanta);
+  few_samples = omega (arith, c.args.self.now.few_samples, c.requires.some, c.rest_bit.ensures.count, c.rest_bit.ensures.quanta);
   reached = ∥∥₁_map c.args.self.now.reached (λ (levels, h). (levels ++ replicate c.args.quanta Recessive, c.rest_bit.ensures.place levels h));
 }
 

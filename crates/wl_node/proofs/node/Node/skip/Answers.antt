@@ -6,6 +6,7 @@ pub invariant_of-self : goal.invariant_of-self
 invariant_of-self c = record {
   few_hards = omega (arith, c.args.self.now.few_hards, c.pass.ensures.hards, c.pass.ensures.quanta);
   few_errors = omega (arith, c.args.self.now.few_errors, c.pass.ensures.errors, c.pass.ensures.quanta);
+  few_samples = omega (arith, c.args.self.now.few_samples, c.pass.ensures.samples, c.pass.ensures.quanta);
   reached = ∥∥₁_map c.args.self.now.reached (λ (levels, h). (levels ++ replicate c.pass.result c.args.level, c.pass.ensures.place c.args.self.now.setup levels h));
 }
 

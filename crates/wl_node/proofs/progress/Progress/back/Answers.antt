@@ -2,6 +2,7 @@
 use Rattle.std.proofs.Common.{◌∙◌, ◌++◌, take, length, ap}
 use Rattle.std.specs.List.{flat_map}
 use Rattle.wl_node.specs.History.{history_of, phase_of}
+use Rattle.wl_node.specs.Runs.{samples_by}
 use Rattle.wl_node.proofs.Growing.{front_of, grown, longer_phases}
 use Rattle.wl_node.proofs.progress.Progress.back.Goals as goal
 
@@ -31,8 +32,8 @@ returns-clause-place c setup levels more marked was =
           pending = at.pending;
           sent = at.sent;
           errors = at.errors;
-          samples = c.truncate-2.ensures.items
-              ∙ (ap (λ n. take n c.args.self.now.traffic.samples.items) at.samples
+          samples = c.truncate-2.ensures.samples
+              ∙ (ap (λ n. take n (samples_by c.args.self.now.traffic.samples.runs.items)) at.samples
               ∙ (ap (take (length h.samples)) kept.traffic.samples ∙ front_of h.samples g.samples on.samples));
           frames = c.truncate-3.ensures.items
               ∙ (ap (λ n. take n c.args.self.now.traffic.frames.items) at.frames

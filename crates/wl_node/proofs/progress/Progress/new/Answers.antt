@@ -18,8 +18,8 @@ returns-clause-place c setup e =
         pending = refl;
         sent = refl;
         errors = refl;
-        samples = c.in_ok-with_capacity-2.ensures.items;
-        frames = c.in_ok-with_capacity-3.ensures.items;
+        samples = c.in_ok-new.ensures.samples;
+        frames = c.in_ok-with_capacity-2.ensures.items;
         sends = λ frame h. cc;
       };
     } in

@@ -11,11 +11,11 @@ returns-clause-place c levels old =
       pending = c.args.self.now.traffic.pending;
       sent = c.args.self.now.traffic.sent;
       errors = c.args.self.now.traffic.errors;
-      samples = c.push_reserved.new.self;
+      samples = c.push.new.self;
       frames = c.args.self.now.traffic.frames;
     } in
     now_rested c.args.setup.now levels c.args.self.now old c.args.quanta (rests_here c.args.setup.now levels c.args.self.now c.args.quanta c.requires.rests old c.requires.none)
-    now refl refl refl refl refl refl c.push_reserved.ensures.items
+    now refl refl refl refl refl refl c.push.ensures.samples
 
 pub returns-clause-drive : goal.returns-clause-drive
 returns-clause-drive c m less levels old =

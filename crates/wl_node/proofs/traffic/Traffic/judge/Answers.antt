@@ -38,7 +38,7 @@ returns-clause-traffic c h n old =
       pending = c.switch_off.new.pending;
       sent = c.pass.new.sent;
       errors = c.count.new.errors;
-      samples = c.push_reserved.new.self;
+      samples = c.push.new.self;
       frames = c.pass.new.frames;
     } in
     let laws : HeadLaws = c.a_sent_frame_is_the_head_that_began_its_stretch.ensures in
@@ -60,7 +60,7 @@ returns-clause-traffic c h n old =
       pending = off.1;
       sent = kept.1 ∙ (ap (λ k. k + count_by is_sent (passed_frames c.args.quantum ended)) old.sent ∙ (ap (λ k. count_by is_sent h.frames + count_by is_sent (passed_frames k ended)) (sym n) ∙ sym (count_append is_sent h.frames (passed_frames (length h.seen) ended))));
       errors = c.count.ensures ∙ (ap (λ k. k + count_by is_error (c.bit-turn.result.happened ∷ [])) old.errors ∙ sym (count_append is_error h.happened (c.bit-turn.result.happened ∷ [])));
-      samples = c.push_reserved.ensures.items ∙ (ap (λ l. l ++ (c.args.quantum, c.args.level) ∷ []) old.samples ∙ ap (λ k. h.samples ++ (k, c.args.level) ∷ []) (sym n));
+      samples = c.push.ensures.samples ∙ (ap (λ l. l ++ (c.args.quantum, c.args.level) ∷ []) old.samples ∙ ap (λ k. h.samples ++ (k, c.args.level) ∷ []) (sym n));
       frames = kept.0 ∙ (ap (λ l. l ++ passed_frames c.args.quantum ended) old.frames ∙ ap (λ k. h.frames ++ passed_frames k ended) (sym n));
       sends = λ frame e. ap (λ k. first_frame (drop k setup.queue)) (count_append is_sent h.frames (passed_frames (length h.seen) ended)) ∙ sends_next laws h.inputs x setup.queue (count_by is_sent h.frames) (length h.seen) c.mode-after.result old.sends ready frame e;
     } in

@@ -2,6 +2,7 @@ use Rattle.std.proofs.Common.{◌∙◌, ◌++◌, ◌∷◌, [], ap, sym, refl}
 use Rattle.wl_machine.specs.Stretch.{Sampled}
 use Rattle.wl_node.specs.declared.traffic.Traffic.{Traffic}
 use Rattle.wl_node.specs.History.{sampled_next}
+use Rattle.wl_node.specs.Runs.{samples_by}
 use Rattle.wl_node.proofs.Rested.{keeps}
 use Rattle.wl_node.proofs.traffic.Traffic.keep.Goals as goal
 
@@ -13,12 +14,12 @@ returns-then-keeps-clause-kept c e setup h n old =
       pending = c.args.self.now.pending;
       sent = c.args.self.now.sent;
       errors = c.args.self.now.errors;
-      samples = c.push_reserved.new.self;
+      samples = c.push.new.self;
       frames = c.args.self.now.frames;
     } in
     let x : Sampled = sampled_next setup h c.args.level in
     keeps setup h c.args.level (c.keep-keeps.ensures.judged c.if-keeps.true h.inputs old.machine x.head x.mode) c.args.self.now now old refl refl refl refl refl
-    (c.push_reserved.ensures.items ∙ ap (λ k. c.args.self.now.samples.items ++ (k, c.args.level) ∷ []) (sym n))
+    (c.push.ensures.samples ∙ ap (λ k. samples_by c.args.self.now.samples.runs.items ++ (k, c.args.level) ∷ []) (sym n))
     (c.keep-keeps.ensures.before c.if-keeps.true h.inputs old.machine ∙ sym (c.keep-keeps.ensures.after c.if-keeps.true h.inputs old.machine x.head x.mode))
     (c.keep-keeps.ensures.machine c.if-keeps.true h.inputs old.machine x.head x.mode)
 

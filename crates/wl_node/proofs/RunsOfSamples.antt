@@ -1,0 +1,78 @@
+-- Samples by runs: one more, one run more, and the first ones.
+use Rattle.std.proofs.Common.{◌≡◌, ◌∙◌, ℕ, zero, suc, ◌+◌, ◌*◌, ◌≤◌, ◌<◌, inl, inr, List, [], ◌∷◌, ◌++◌, length, take, get_or, refl, sym, ap, arith, add-one, length-append}
+use Rattle.std.proofs.Math.Seq.{take-append-add, take-suc}
+use Rattle.std.proofs.lemmas.Bool.{cases_lt}
+use Rattle.std.proofs.lemmas.List.{flat_map_more, take-append-le, take_all}
+use Rattle.wl_level.specs.declared.Level.{Level}
+use Rattle.wl_node.specs.declared.samples.Run.{Run}
+use Rattle.wl_node.specs.Runs.{samples_from, run_samples, samples_by}
+
+pub none_by : samples_by [] ≡ []
+unfolding samples_by
+none_by = refl
+
+pub none_of : (runs : List Run) → length runs ≡ 0 → length (samples_by runs) ≡ 0
+none_of [] e = ap length none_by
+none_of (run ∷ runs) e = absurd (omega arith)
+
+-- one run more
+pub more_by : (runs : List Run) (run : Run) → samples_by (runs ++ run ∷ []) ≡ samples_by runs ++ run_samples run
+unfolding samples_by
+more_by runs run = sym (flat_map_more run_samples [] runs run)
+
+pub take_by : (runs : List Run) (i : ℕ) (d : Run) → i < length runs → samples_by (take (i + 1) runs) ≡ samples_by (take i runs) ++ run_samples (get_or runs i d)
+take_by runs i d less = ap (λ n. samples_by (take n runs)) (add-one i) ∙ ap samples_by (take-suc runs i d less) ∙ more_by (take i runs) (get_or runs i d)
+
+pub run_is : (run : Run) → run_samples run ≡ samples_from run.from run.step run.level run.count
+unfolding run_samples
+run_is run = refl
+
+module _ (from step : ℕ) (level : Level) where
+  pub from_none : samples_from from step level 0 ≡ []
+  unfolding samples_from
+  from_none = refl
+
+  from_suc : (n : ℕ) → samples_from from step level (suc n) ≡ samples_from from step level n ++ (from + n * step, level) ∷ []
+  unfolding samples_from
+  from_suc n = refl
+
+  pub from_more : (n : ℕ) → samples_from from step level (n + 1) ≡ samples_from from step level n ++ (from + n * step, level) ∷ []
+  from_more n = ap (samples_from from step level) (add-one n) ∙ from_suc n
+
+  pub from_one : samples_from from step level 1 ≡ (from, level) ∷ []
+  from_one = from_suc 0 ∙ ap (λ xs. xs ++ (from + 0 * step, level) ∷ []) from_none ∙ ap (λ q. (q, level) ∷ []) (let e : from + 0 * step ≡ from = omega arith in e)
+
+  pub length_from : (n : ℕ) → length (samples_from from step level n) ≡ n
+  length_from zero = ap length from_none
+  length_from (suc n) =
+      ap length (from_suc n) ∙ length-append (samples_from from step level n) ((from + n * step, level) ∷ []) ∙ ap (λ k. k + 1) (length_from n) ∙ add-one n
+
+  pub take_from : (m n : ℕ) → m ≤ n → take m (samples_from from step level n) ≡ samples_from from step level m
+  take_from m zero few = (let e : m ≡ 0 = omega arith in ap (λ k. take k (samples_from from step level 0)) e ∙ (sym from_none ∙ ap (samples_from from step level) (sym e)))
+  take_from m (suc n) few = elim (cases_lt m (suc n)) [
+    | inl less ↦
+      (let l : m ≤ length (samples_from from step level n) = omega (arith, length_from n) in
+        ap (take m) (from_suc n) ∙ take-append-le m (samples_from from step level n) ((from + n * step, level) ∷ []) l ∙ take_from m n (omega arith))
+    | inr more ↦
+      (let e : m ≡ suc n = omega arith in
+        let l : length (samples_from from step level (suc n)) ≤ m = omega (arith, length_from (suc n)) in
+        take_all m (samples_from from step level (suc n)) l ∙ ap (samples_from from step level) (sym e))
+  ]
+
+module _ (runs : List Run) (run : Run) where
+  pub length_more : length (samples_by (runs ++ run ∷ [])) ≡ length (samples_by runs) + run.count
+  length_more =
+      ap length (more_by runs run) ∙ length-append (samples_by runs) (run_samples run)
+      ∙ ap (λ xs. length (samples_by runs) + length xs) (run_is run) ∙ ap (λ n. length (samples_by runs) + n) (length_from run.from run.step run.level run.count)
+
+  -- no sample of the last run
+  pub first_by : (most : ℕ) → most ≤ length (samples_by runs) → take most (samples_by (runs ++ run ∷ [])) ≡ take most (samples_by runs)
+  first_by most few = ap (take most) (more_by runs run) ∙ take-append-le most (samples_by runs) (run_samples run) few
+
+  -- so many of them
+  pub some_by : (most n : ℕ) (other : Run) → most ≡ length (samples_by runs) + n → n ≤ run.count → other.from ≡ run.from → other.step ≡ run.step → other.level ≡ run.level → other.count ≡ n
+      → samples_by (runs ++ other ∷ []) ≡ take most (samples_by (runs ++ run ∷ []))
+  some_by most n other e few from step level count =
+      more_by runs other
+      ∙ ap (λ xs. samples_by runs ++ xs) (run_is other ∙ (λ i. samples_from (from i) (step i) (level i) (count i)) ∙ sym (take_from run.from run.step run.level n run.count few) ∙ ap (take n) (sym (run_is run)))
+      ∙ sym (ap (λ k. take k (samples_by (runs ++ run ∷ []))) e ∙ ap (take (length (samples_by runs) + n)) (more_by runs run) ∙ take-append-add (samples_by runs) (run_samples run) n)

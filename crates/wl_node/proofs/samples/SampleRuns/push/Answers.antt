@@ -1,0 +1,9 @@
+use Rattle.std.proofs.Common.{◌∙◌, ◌+◌, ap, sym, length, length-append, ◌∷◌, []}
+use Rattle.wl_node.specs.Runs.{samples_by}
+use Rattle.wl_node.proofs.samples.SampleRuns.push.Goals as goal
+
+pub invariant_of-self : goal.invariant_of-self
+invariant_of-self c = record {
+  counted = ap (λ n. n + 1) c.args.self.now.counted
+      ∙ sym (ap length c.add.ensures ∙ length-append (samples_by c.args.self.now.runs.items) ((c.args.quantum, c.args.level) ∷ []));
+}

@@ -1,0 +1,215 @@
+//! Samples, kept by runs: samples of one level that are a bit apart. A line at rest is one run, and so are equal bits of a frame.
+
+ghost use Rattle.std.specs.Prelude.{◌≡◌, ◌*◌, ◌+◌, ◌<◌, ◌≤◌, ◌++◌, ℕ, [], ◌∷◌, true, length, take, min, IfOk, OnOk, vec_len, vec_capacity};
+ghost use Rattle.wl_node.specs.Limits.{most_run_quanta};
+ghost use Rattle.wl_node.specs.Runs.{run_samples, samples_by};
+
+use std::alloc::{AllocError, Global};
+use std::marker::Model;
+use wl_level::{Level, Listed};
+
+/// Samples of one level: the first at quantum `from`, and each other one `step` quanta later.
+#[derive(Clone, Copy, Debug)]
+pub(crate) struct Run {
+    pub(crate) from: u32,
+    pub(crate) count: u16,
+    pub(crate) step: u8,
+    pub(crate) level: Level,
+}
+
+/// The samples of a node, each with its quantum. Contracts see them as their list.
+#[derive(Debug, Drop)]
+pub struct Samples {
+    runs: Vec<Run>,
+    count: u64,
+}
+
+impl Model for Samples {
+    ghost use Rattle.std.specs.Prelude.{◌≡◌, List, ℕ, length};
+    ghost use Rattle.wl_level.specs.declared.Level.{Level};
+    ghost use Rattle.wl_node.specs.Runs.{samples_by};
+
+    ghost Value = { List (ℕ × Level) };
+
+    ghost view = { λ s. samples_by s.runs.items };
+
+    ghost invariant = { λ s. s.count ≡ length (samples_by s.runs.items) };
+}
+
+impl Samples {
+    /// Returns the number of samples.
+    pub fn len(&self) -> usize
+        ensures { result ≡ length self.now }
+    {
+        self.count as usize
+    }
+
+    /// Returns the samples one by one. Refused only when out of memory.
+    pub fn list(&self, alloc: Global) -> Result<Listed<(u64, Level)>, AllocError>
+        ensures { IfOk result (λ list. list ≡ self.now) }
+    {
+        Ok(Listed::from_vec(unrolled(alloc, &self.runs)?))
+    }
+}
+
+/// Returns the samples of these runs one by one.
+fn unrolled(alloc: Global, runs: &[Run]) -> Result<Vec<(u64, Level)>, AllocError>
+    ensures { IfOk result (λ list. list.items ≡ samples_by runs.now) }
+{
+    let mut list = Vec::new(alloc);
+    for k in 0..runs.len() {
+        unroll(&mut list, runs[k])?;
+    }
+    Ok(list)
+}
+
+/// Adds the samples of a run.
+fn unroll(list: &mut Vec<(u64, Level)>, run: Run) -> Result<(), AllocError>
+    ensures { OnOk result (list.new.items ≡ list.old.items ++ run_samples run) }
+{
+    for k in 0..run.count as u64 {
+        let quantum = run.from as u64 + k * run.step as u64;
+        list.push((quantum, run.level))?;
+    }
+    Ok(())
+}
+
+/// The samples of a node that goes on, with the quanta of a bit that nothing moves.
+#[derive(Drop)]
+pub(crate) struct SampleRuns {
+    pub(crate) step: u8,
+    pub(crate) runs: Vec<Run>,
+    pub(crate) count: u64,
+    ghost counted: { count ≡ length (samples_by runs.items) },
+}
+
+impl SampleRuns {
+    /// Returns no samples of a node whose bits have this many quanta, with room for some runs.
+    pub(crate) fn new(alloc: Global, step: u8, room: usize) -> Result<SampleRuns, AllocError>
+        ensures samples { IfOk result (λ kept. samples_by kept.runs.items ≡ []) }
+        ensures none { IfOk result (λ kept. kept.count ≡ 0) }
+    {
+        Ok(SampleRuns {
+            step,
+            runs: Vec::with_capacity(alloc, room)?,
+            count: 0,
+        })
+    }
+
+    /// Makes room for one more sample.
+    pub(crate) fn prepare(&mut self) -> Result<(), AllocError>
+        ensures room { OnOk result (vec_len self.new.runs < vec_capacity self.new.runs) }
+        ensures samples { samples_by self.new.runs.items ≡ samples_by self.old.runs.items }
+        ensures count { self.new.count ≡ self.old.count }
+    {
+        if self.runs.len() == self.runs.capacity() {
+            self.runs.reserve(1)?;
+        }
+        Ok(())
+    }
+
+    /// Adds a sample.
+    pub(crate) fn push(&mut self, quantum: u64, level: Level)
+        requires room { vec_len self.old.runs < vec_capacity self.old.runs }
+        requires early { quantum < most_run_quanta }
+        requires few { self.old.count ≤ quantum }
+        ensures samples { samples_by self.new.runs.items ≡ samples_by self.old.runs.items ++ (quantum, level) ∷ [] }
+        ensures count { self.new.count ≡ self.old.count + 1 }
+    {
+        add(&mut self.runs, quantum, self.step, level);
+        self.count += 1;
+    }
+
+    /// Keeps this many samples, the first ones.
+    pub(crate) fn truncate(&mut self, most: u64)
+        ensures samples { samples_by self.new.runs.items ≡ take most (samples_by self.old.runs.items) }
+        ensures count { self.new.count ≤ most }
+    {
+        if self.count <= most {
+            return;
+        }
+        cut(&mut self.runs, self.count, most);
+        self.count = most;
+    }
+
+    /// Returns the samples, and leaves nothing.
+    pub(crate) fn into_samples(self) -> Samples
+        ensures { result ≡ samples_by self.runs.items }
+    {
+        Samples {
+            runs: self.runs,
+            count: self.count,
+        }
+    }
+
+    /// Returns the samples so far. Refused only when out of memory.
+    pub(crate) fn so_far(&self, alloc: Global) -> Result<Samples, AllocError>
+        ensures { IfOk result (λ samples. samples ≡ samples_by self.now.runs.items) }
+    {
+        Ok(Samples {
+            runs: Vec::from_slice(alloc, &self.runs)?,
+            count: self.count,
+        })
+    }
+}
+
+impl Run {
+    /// True only if such a sample is one more of this run.
+    fn goes_on(&self, quantum: u64, level: Level) -> bool
+        ensures level { result ≡ true → self.now.level ≡ level }
+        ensures quantum { result ≡ true → quantum ≡ self.now.from + self.now.count * self.now.step }
+        ensures few { result ≡ true → self.now.count < 65535 }
+    {
+        self.level.is(level)
+            && self.count < u16::MAX
+            && self.from as u64 + self.count as u64 * self.step as u64 == quantum
+    }
+}
+
+/// Adds a sample to the last run, or begins another run.
+fn add(runs: &mut Vec<Run>, quantum: u64, step: u8, level: Level)
+    requires room { vec_len runs.old < vec_capacity runs.old }
+    requires early { quantum < most_run_quanta }
+    ensures { samples_by runs.new.items ≡ samples_by runs.old.items ++ (quantum, level) ∷ [] }
+{
+    let one = Run {
+        from: quantum as u32,
+        count: 1,
+        step,
+        level,
+    };
+    let Some(last) = runs.pop() else {
+        runs.push_reserved(one);
+        return;
+    };
+    if last.goes_on(quantum, level) {
+        runs.push_reserved(Run {
+            count: last.count + 1,
+            ..last
+        });
+        return;
+    }
+    runs.push_reserved(last);
+    runs.push_reserved(one);
+}
+
+/// Keeps this many samples of `count`, the first ones.
+fn cut(runs: &mut Vec<Run>, count: u64, most: u64)
+    requires counted { count ≡ length (samples_by runs.old.items) }
+    ensures { samples_by runs.new.items ≡ take most (samples_by runs.old.items) }
+{
+    let mut left = count;
+    while most < left {
+        let Some(last) = runs.pop() else {
+            return;
+        };
+        if left - most < last.count as u64 {
+            runs.push_reserved(Run {
+                count: last.count - (left - most) as u16,
+                ..last
+            });
+            return;
+        }
+        left -= last.count as u64;
+    }
+}
