@@ -14,7 +14,7 @@ abbrev drive_by : NodeSetup → List Level → Level
 drive_by setup levels = (history_of setup levels).drive
 
 -- so many of a level, and so many more
-joined : (levels : List Level) (level : Level) (a b : ℕ) → (levels ++ replicate a level) ++ replicate b level ≡ levels ++ replicate (a + b) level
+pub joined : (levels : List Level) (level : Level) (a b : ℕ) → (levels ++ replicate a level) ++ replicate b level ≡ levels ++ replicate (a + b) level
 joined levels level a b = append_assoc levels (replicate a level) (replicate b level) ∙ ap (λ more. levels ++ more) (replicate-append-replicate a b level)
 
 pub stands_first : (node : Node) (level : Level) → StandsFor node level 0

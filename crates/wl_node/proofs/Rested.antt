@@ -1,6 +1,6 @@
 -- Samples that are stored, and of which nothing else comes: those that a receiver keeps up to the end of what is stuffed, and a recessive one of a free bus, with no frame ready.
 use Rattle.std.proofs.Common.{◌≡◌, ◌∙◌, [], ◌∷◌, ◌++◌, length, Option, None, Some, true, false, refl, sym, ap, subst, append-nil, add-zero}
-use Rattle.std.specs.Prelude.{is_some}
+use Rattle.std.specs.Prelude.{count_by, is_some}
 use Rattle.std.specs.Option.{option_map}
 use Rattle.std.proofs.lemmas.List.Sums.{fold-append}
 use Rattle.wl_level.specs.declared.Level.{Level}
@@ -19,8 +19,9 @@ use Rattle.wl_machine.specs.States.{sample_of}
 use Rattle.wl_machine.proofs.Callers.{free_sort, stretch_next}
 use Rattle.wl_node.specs.declared.setup.NodeSetup.{NodeSetup}
 use Rattle.wl_node.specs.declared.traffic.Traffic.{Traffic}
-use Rattle.wl_node.specs.History.{History, sampled_next, history_after_judgement, history_after_sample, switched_off, unsent_of, ready_head}
-use Rattle.wl_node.specs.Kept.{IsTraffic}
+use Rattle.wl_frame.specs.Grammar.{Content}
+use Rattle.wl_node.specs.History.{History, error_count, is_sent, sampled_next, history_after_judgement, history_after_sample, switched_off, unsent_of, ready_head}
+use Rattle.wl_node.specs.Kept.{IsTraffic, first_frame}
 use Rattle.wl_node.specs.Runs.{samples_by}
 use Rattle.wl_node.proofs.Sends.{count_append}
 
@@ -32,6 +33,39 @@ never_off : (m : Mode) → switched_off m m ≡ []
 never_off Active = refl
 never_off Passive = refl
 never_off Off = refl
+
+-- what is kept of the samples and of what came of them, but for the samples themselves
+pub record IsApart (setup : NodeSetup) (kept : Traffic) (h : History) : Type 0 where
+  pub machine : IsMachine kept.machine h.inputs
+  pub counters : kept.counters ≡ counts_of h.happened
+  pub pending : kept.pending ≡ drive_of (stretch_of h.inputs)
+  pub sent : kept.sent ≡ count_by is_sent h.frames
+  pub errors : kept.errors ≡ error_count h
+  pub frames : kept.frames.items ≡ h.frames
+  pub sends : (frame : Content) → head_of (stretch_of h.inputs).sort ≡ Some frame → first_frame (unsent_of setup h) ≡ Some frame
+
+pub apart : (setup : NodeSetup) (kept : Traffic) (h : History) → IsTraffic setup kept h → IsApart setup kept h
+apart setup kept h is = record {
+  machine = is.machine;
+  counters = is.counters;
+  pending = is.pending;
+  sent = is.sent;
+  errors = is.errors;
+  frames = is.frames;
+  sends = is.sends;
+}
+
+pub whole : (setup : NodeSetup) (kept : Traffic) (h : History) → IsApart setup kept h → samples_by kept.samples.runs.items ≡ h.samples → IsTraffic setup kept h
+whole setup kept h is samples = record {
+  machine = is.machine;
+  counters = is.counters;
+  pending = is.pending;
+  sent = is.sent;
+  errors = is.errors;
+  samples = samples;
+  frames = is.frames;
+  sends = is.sends;
+}
 
 -- the history after such a sample
 abbrev pub rested : History → Sampled → History
@@ -74,20 +108,27 @@ module _ (setup : NodeSetup) (h : History) (level : Level) (judged_is : judged (
   pub stretch_on : stretch_of (h.inputs ++ Sample x ∷ []) ≡ record { sort = s.sort; own = s.own ++ level ∷ [] }
   stretch_on = stretch_next h.inputs (Sample x) ∙ ap (λ (j : Judgement). or_next j.next (record { sort = s.sort; own = s.own ++ level ∷ [] })) judged_is
 
-  pub keeps : (old new : Traffic) → IsTraffic setup old h → new.counters ≡ old.counters → new.pending ≡ old.pending → new.sent ≡ old.sent
-      → new.errors ≡ old.errors → new.frames ≡ old.frames → samples_by new.samples.runs.items ≡ samples_by old.samples.runs.items ++ (length h.seen, level) ∷ []
-      → drive_of (stretch_of h.inputs) ≡ drive_of (stretch_of (h.inputs ++ Sample x ∷ [])) → IsMachine new.machine (h.inputs ++ Sample x ∷ [])
-      → IsTraffic setup new (history_after_sample setup h level)
-  keeps old new kept counters pending sent errors frames samples drive reached = subst (IsTraffic setup new) (sym history_is) (record {
+  keeps_apart : (old new : Traffic) → IsApart setup old h → new.counters ≡ old.counters → new.pending ≡ old.pending → new.sent ≡ old.sent
+      → new.errors ≡ old.errors → new.frames ≡ old.frames → drive_of (stretch_of h.inputs) ≡ drive_of (stretch_of (h.inputs ++ Sample x ∷ []))
+      → IsMachine new.machine (h.inputs ++ Sample x ∷ []) → IsApart setup new (history_after_sample setup h level)
+  keeps_apart old new kept counters pending sent errors frames drive reached = subst (IsApart setup new) (sym history_is) (record {
     machine = reached;
     counters = counters ∙ kept.counters ∙ sym counts_same;
     pending = pending ∙ kept.pending ∙ drive;
     sent = sent ∙ kept.sent;
     errors = errors ∙ kept.errors ∙ sym (count_append is_error h.happened (Nothing ∷ []) ∙ add-zero _);
-    samples = samples ∙ ap (λ l. l ++ (length h.seen, level) ∷ []) kept.samples;
     frames = ap (λ f. f.items) frames ∙ kept.frames;
     sends = λ frame e. kept.sends frame (sym (ap (λ (r : Stretch). head_of r.sort) stretch_on) ∙ e);
   })
+
+  pub keeps : (old new : Traffic) → IsTraffic setup old h → new.counters ≡ old.counters → new.pending ≡ old.pending → new.sent ≡ old.sent
+      → new.errors ≡ old.errors → new.frames ≡ old.frames → samples_by new.samples.runs.items ≡ samples_by old.samples.runs.items ++ (length h.seen, level) ∷ []
+      → drive_of (stretch_of h.inputs) ≡ drive_of (stretch_of (h.inputs ++ Sample x ∷ [])) → IsMachine new.machine (h.inputs ++ Sample x ∷ [])
+      → IsTraffic setup new (history_after_sample setup h level)
+  keeps old new kept counters pending sent errors frames samples drive reached =
+      whole setup new (history_after_sample setup h level)
+      (keeps_apart old new (apart setup old h kept) counters pending sent errors frames drive reached)
+      (samples ∙ ap (λ l. l ++ (length h.seen, level) ∷ []) kept.samples)
 
 module _ (setup : NodeSetup) (h : History) (none : ready_head (unsent_of setup h) (length h.seen) ≡ None) (free : is_free_sort (stretch_of h.inputs).sort ≡ true) where
   abbrev sample : Sampled
@@ -120,3 +161,9 @@ module _ (setup : NodeSetup) (h : History) (none : ready_head (unsent_of setup h
   rests old new kept machine counters pending sent errors frames samples reached =
       keeps setup h Recessive judged_is old new kept counters pending sent errors frames samples drive_stays
       (subst (λ m. IsMachine m (h.inputs ++ Sample sample ∷ [])) (sym machine) (subst (λ y. IsMachine old.machine (h.inputs ++ Sample y ∷ [])) x_is reached))
+
+  pub rests_apart : (kept : Traffic) → IsApart setup kept h → IsMachine kept.machine (h.inputs ++ Sample (sample_of Recessive None sample.mode) ∷ [])
+      → IsApart setup kept (history_after_sample setup h Recessive)
+  rests_apart kept is reached =
+      keeps_apart setup h Recessive judged_is kept kept is refl refl refl refl refl drive_stays
+      (subst (λ y. IsMachine kept.machine (h.inputs ++ Sample y ∷ [])) x_is reached)

@@ -1,5 +1,5 @@
--- A bit of recessive quanta on a free bus, in which no frame is ready: of all of them only the sample is kept.
-use Rattle.std.proofs.Common.{◌≡◌, ◌∙◌, ℕ, suc, ◌+◌, ◌-◌, ◌<◌, inl, inr, List, [], ◌∷◌, ◌++◌, drop, length, None, replicate, refl, sym, ap, subst, arith, append-nil, length-append}
+-- Bits of recessive quanta on a free bus, in which no frame is ready: of all their quanta only the samples are kept.
+use Rattle.std.proofs.Common.{◌≡◌, ◌∙◌, ℕ, zero, suc, ◌+◌, ◌-◌, ◌*◌, ◌<◌, ◌≤◌, inl, inr, List, [], ◌∷◌, ◌++◌, drop, length, None, replicate, refl, sym, ap, subst, arith, append-nil, append_assoc, length-append}
 use Rattle.std.proofs.lemmas.Bool.{cases_lt}
 use Rattle.std.proofs.lemmas.List.{length-replicate}
 use Rattle.wl_level.specs.declared.Level.{Level}
@@ -7,35 +7,49 @@ use Rattle.wl_level.specs.declared.Level.TheVariants.{Recessive}
 use Rattle.wl_level.proofs.Callers.{snoc}
 use Rattle.wl_sync.specs.declared.Beat.{Beat}
 use Rattle.wl_sync.specs.Bits.{Seen, sync_of}
+use Rattle.wl_sync.specs.Running.{clock_after}
+use Rattle.wl_sync.specs.Skips.{IsRestingBit}
+use Rattle.wl_machine.specs.Reached.{IsMachine}
 use Rattle.wl_node.specs.declared.setup.NodeSetup.{NodeSetup}
 use Rattle.wl_node.specs.declared.traffic.Traffic.{Traffic}
 use Rattle.wl_node.specs.declared.progress.Progress.{Progress}
 use Rattle.wl_node.specs.History.{History, history_of, history_after, history_after_sample, ready_head, seen_next, unsent_of, sampled_next, by_beat, syncs_at}
-use Rattle.wl_node.specs.Kept.{IsTraffic, IsProgress, FitsHistory}
+use Rattle.wl_node.specs.Kept.{AreSyncs, IsProgress, FitsHistory}
 use Rattle.wl_node.specs.Rest.{AlwaysRests, IsRest}
-use Rattle.wl_node.specs.Runs.{samples_by}
-use Rattle.wl_sync.specs.Skips.{IsRestingBit}
-use Rattle.wl_node.proofs.Turns.{history_next}
+use Rattle.wl_node.specs.Runs.{samples_by, samples_from}
+use Rattle.wl_node.proofs.Gone.{joined}
+use Rattle.wl_node.proofs.Rested.{IsApart, apart, rests_apart}
+use Rattle.wl_node.proofs.RunsOfSamples.{from_none, from_suc}
 use Rattle.wl_node.proofs.Skipped.{seen_more, same_history, IsIdleFor, history_skipped}
-use Rattle.wl_node.proofs.Rested.{rests}
+use Rattle.wl_node.proofs.Turns.{history_next}
+
+-- a node is where its history puts it, but for its samples and quanta
+pub record IsBeside (setup : NodeSetup) (kept : Progress) (h : History) : Type 0 where
+  pub clock : kept.clock ≡ clock_after setup.segments h.seen
+  pub drive : kept.drive ≡ h.drive
+  pub syncs : AreSyncs kept.syncs h.syncs
+  pub apart : IsApart setup kept.traffic h
+
+pub beside : (setup : NodeSetup) (kept : Progress) (h : History) → FitsHistory setup kept h → IsBeside setup kept h
+beside setup kept h is = record { clock = is.clock; drive = is.drive; syncs = is.syncs; apart = apart setup kept.traffic h is.traffic }
 
 -- where no frame is ready at the sample
-pub rests_here : (setup : NodeSetup) (levels : List Level) (kept : Progress) (n : ℕ) → AlwaysRests kept n → IsProgress setup kept levels
-    → ready_head (drop kept.traffic.sent setup.queue) (kept.quanta + n - 1) ≡ None → IsRest setup kept (history_of setup levels) n
-rests_here setup levels kept n rests old none =
-    let h : History = history_of setup levels in
-    let bit : IsRestingBit setup.segments h.seen (seen_next h Recessive) n = rests.bit setup.segments h.seen old.place.clock (seen_next h Recessive) refl in
-    let unsent : drop kept.traffic.sent setup.queue ≡ unsent_of setup h = ap (λ k. drop k setup.queue) old.place.traffic.sent in
-    let last : kept.quanta + n - 1 ≡ length h.seen + bit.last = (let b = bit.bit in let q = old.place.quanta in omega arith) in
+pub rests_here : (setup : NodeSetup) (h : History) (kept : Progress) (n : ℕ) → AlwaysRests kept n → IsBeside setup kept h
+    → ready_head (drop kept.traffic.sent setup.queue) (length h.seen + n - 1) ≡ None → IsRest setup kept h n
+rests_here setup h kept n rests is none =
+    let bit : IsRestingBit setup.segments h.seen (seen_next h Recessive) n = rests.bit setup.segments h.seen is.clock (seen_next h Recessive) refl in
+    let unsent : drop kept.traffic.sent setup.queue ≡ unsent_of setup h = ap (λ k. drop k setup.queue) is.apart.sent in
+    let last : length h.seen + n - 1 ≡ length h.seen + bit.last = (let b = bit.bit in omega arith) in
     record {
-      free = rests.free h.inputs old.place.traffic.machine;
-      settled = sym old.place.drive ∙ rests.settled ∙ old.place.traffic.pending;
+      free = rests.free h.inputs is.apart.machine;
+      settled = sym is.drive ∙ rests.settled ∙ is.apart.pending;
       bit = bit;
       none = ap (λ u. ready_head u (length h.seen + bit.last)) (sym unsent) ∙ ap (ready_head (drop kept.traffic.sent setup.queue)) (sym last) ∙ none;
       stays = rests.stays;
     }
 
-module _ (setup : NodeSetup) (levels : List Level) (kept : Progress) (old : IsProgress setup kept levels) (n : ℕ) (rest : IsRest setup kept (history_of setup levels) n) where
+-- one bit
+module _ (setup : NodeSetup) (levels : List Level) (kept : Progress) (n : ℕ) (is : IsBeside setup kept (history_of setup levels)) (rest : IsRest setup kept (history_of setup levels) n) where
   abbrev h : History
   h = history_of setup levels
 
@@ -77,54 +91,130 @@ module _ (setup : NodeSetup) (levels : List Level) (kept : Progress) (old : IsPr
   after_long : length (h.seen ++ replicate n x) ≡ length h.seen + n
   after_long = length-append h.seen (replicate n x) ∙ ap (λ k. length h.seen + k) (length-replicate n x)
 
-  was : IsTraffic setup kept.traffic before
+  was : IsApart setup kept.traffic before
   was = record {
-    machine = old.place.traffic.machine;
-    counters = old.place.traffic.counters;
-    pending = old.place.traffic.pending;
-    sent = old.place.traffic.sent;
-    errors = old.place.traffic.errors;
-    samples = old.place.traffic.samples;
-    frames = old.place.traffic.frames;
-    sends = old.place.traffic.sends;
+    machine = is.apart.machine;
+    counters = is.apart.counters;
+    pending = is.apart.pending;
+    sent = is.apart.sent;
+    errors = is.apart.errors;
+    frames = is.apart.frames;
+    sends = is.apart.sends;
   }
 
-  module _ (traffic : Traffic) (machine : traffic.machine ≡ kept.traffic.machine) (counters : traffic.counters ≡ kept.traffic.counters) (pending : traffic.pending ≡ kept.traffic.pending)
-      (sent : traffic.sent ≡ kept.traffic.sent) (errors : traffic.errors ≡ kept.traffic.errors) (frames : traffic.frames ≡ kept.traffic.frames)
-      (samples : samples_by traffic.samples.runs.items ≡ samples_by kept.traffic.samples.runs.items ++ (kept.quanta + n - 1, Recessive) ∷ []) where
-    now_samples : samples_by traffic.samples.runs.items ≡ samples_by kept.traffic.samples.runs.items ++ (length before.seen, Recessive) ∷ []
-    now_samples = samples ∙ ap (λ k. samples_by kept.traffic.samples.runs.items ++ (k, Recessive) ∷ [])
-        (let b = rest.bit.bit in let q = old.place.quanta in let l = before_long in let e : kept.quanta + n - 1 ≡ length before.seen = omega arith in e)
+  now : IsApart setup kept.traffic (history_after_sample setup before Recessive)
+  now =
+      rests_apart setup before (ap (ready_head (unsent_of setup h)) before_long ∙ rest.none) rest.free kept.traffic was
+      (rest.stays h.inputs (sampled_next setup before Recessive).mode is.apart.machine)
 
-    now_traffic : IsTraffic setup traffic (history_after_sample setup before Recessive)
-    now_traffic =
-        rests setup before (ap (ready_head (unsent_of setup h)) before_long ∙ rest.none) rest.free kept.traffic traffic was machine counters pending sent errors frames now_samples
-        (rest.stays h.inputs (sampled_next setup before Recessive).mode old.place.traffic.machine)
+  bit_beside : IsBeside setup kept (history_of setup (levels ++ replicate n Recessive))
+  bit_beside = subst (IsBeside setup kept) (sym after_is) (record {
+    clock = is.clock ∙ sym rest.bit.clock;
+    drive = is.drive;
+    syncs = is.syncs;
+    apart = record {
+      machine = now.machine;
+      counters = now.counters;
+      pending = now.pending;
+      sent = now.sent;
+      errors = now.errors;
+      frames = now.frames;
+      sends = now.sends;
+    };
+  })
 
-    pub now_rested : IsProgress setup (record { clock = kept.clock; drive = kept.drive; quanta = kept.quanta + n; syncs = kept.syncs; traffic = traffic }) (levels ++ replicate n Recessive)
-    now_rested = record {
-      counted = ap (λ (k : History). length k.seen) after_is ∙ after_long ∙ ap (λ k. k + n) old.counted
-          ∙ sym (length-append levels (replicate n Recessive) ∙ ap (λ k. length levels + k) (length-replicate n Recessive));
-      place = subst (FitsHistory setup (record { clock = kept.clock; drive = kept.drive; quanta = kept.quanta + n; syncs = kept.syncs; traffic = traffic })) (sym after_is) (record {
-        clock = old.place.clock ∙ sym rest.bit.clock;
-        drive = old.place.drive;
-        quanta = ap (λ k. k + n) old.place.quanta ∙ sym after_long;
-        syncs = old.place.syncs;
-        traffic = record {
-          machine = now_traffic.machine;
-          counters = now_traffic.counters;
-          pending = now_traffic.pending;
-          sent = now_traffic.sent;
-          errors = now_traffic.errors;
-          samples = now_traffic.samples;
-          frames = now_traffic.frames;
-          sends = now_traffic.sends;
-        };
-      });
-    }
+  bit_long : length (history_of setup (levels ++ replicate n Recessive)).seen ≡ length h.seen + n
+  bit_long = ap (λ (k : History). length k.seen) after_is ∙ after_long
 
-  pub rested_drive : (m : ℕ) → m < suc n → (history_of setup (levels ++ replicate m Recessive)).drive ≡ (history_of setup levels).drive
-  rested_drive m h = elim (cases_lt m n) [
+  bit_samples : (history_of setup (levels ++ replicate n Recessive)).samples ≡ h.samples ++ (length h.seen + n - 1, Recessive) ∷ []
+  bit_samples = ap (λ (k : History). k.samples) after_is
+      ∙ ap (λ k. h.samples ++ (k, Recessive) ∷ []) (let b = rest.bit.bit in let l = before_long in let e : length before.seen ≡ length h.seen + n - 1 = omega arith in e)
+
+  bit_drive : (m : ℕ) → m < suc n → (history_of setup (levels ++ replicate m Recessive)).drive ≡ (history_of setup levels).drive
+  bit_drive m h = elim (cases_lt m n) [
     | inl less ↦ ap (λ (g : History). g.drive) (history_skipped setup levels Recessive last m (let b = rest.bit.bit in omega arith) idle)
     | inr more ↦ (let e : m ≡ n = omega arith in ap (λ k. (history_of setup (levels ++ replicate k Recessive)).drive) e ∙ ap (λ (g : History). g.drive) after_is)
   ]
+
+-- bit after bit, as long as no frame is ready
+module _ (setup : NodeSetup) (kept : Progress) (n : ℕ) (some : 0 < n) (rests : AlwaysRests kept n) (levels : List Level) (old : IsProgress setup kept levels) where
+  abbrev at : ℕ → List Level
+  at k = levels ++ replicate (k * n) Recessive
+
+  abbrev NoneBefore : ℕ → Type 0
+  NoneBefore k = (quantum : ℕ) → quantum < kept.quanta + k * n → ready_head (drop kept.traffic.sent setup.queue) quantum ≡ None
+
+  record AreRested (k : ℕ) : Type 0 where
+    beside : IsBeside setup kept (history_of setup (at k))
+    long : length (history_of setup (at k)).seen ≡ kept.quanta + k * n
+    samples : (history_of setup (at k)).samples ≡ samples_by kept.traffic.samples.runs.items ++ samples_from (kept.quanta + n - 1) n Recessive k
+
+  first : at 0 ≡ levels
+  first = (let e : 0 * n ≡ 0 = omega arith in ap (λ k. levels ++ replicate k Recessive) e ∙ append-nil levels)
+
+  next : (k : ℕ) → at (suc k) ≡ at k ++ replicate n Recessive
+  next k = (let e : suc k * n ≡ k * n + n = omega arith in ap (λ m. levels ++ replicate m Recessive) e ∙ sym (joined levels Recessive (k * n) n))
+
+  here : (k : ℕ) → NoneBefore (suc k) → AreRested k → IsRest setup kept (history_of setup (at k)) n
+  here k none is = rests_here setup (history_of setup (at k)) kept n rests is.beside (none (length (history_of setup (at k)).seen + n - 1) (let l = is.long in omega arith))
+
+  are_rested : (k : ℕ) → NoneBefore k → AreRested k
+  are_rested zero none = record {
+    beside = subst (λ ls. IsBeside setup kept (history_of setup ls)) (sym first) (beside setup kept (history_of setup levels) old.place);
+    long = ap (λ ls. length (history_of setup ls).seen) first ∙ sym old.place.quanta ∙ (let e : kept.quanta ≡ kept.quanta + 0 * n = omega arith in e);
+    samples = ap (λ ls. (history_of setup ls).samples) first ∙ sym old.place.traffic.samples
+        ∙ sym (ap (λ xs. samples_by kept.traffic.samples.runs.items ++ xs) (from_none (kept.quanta + n - 1) n Recessive) ∙ append-nil (samples_by kept.traffic.samples.runs.items));
+  }
+  are_rested (suc k) none =
+      let is : AreRested k = are_rested k (λ quantum less. none quantum (omega arith)) in
+      let rest : IsRest setup kept (history_of setup (at k)) n = here k none is in
+      let last : length (history_of setup (at k)).seen + n - 1 ≡ kept.quanta + n - 1 + k * n = (let l = is.long in omega arith) in
+      record {
+        beside = subst (λ ls. IsBeside setup kept (history_of setup ls)) (sym (next k)) (bit_beside setup (at k) kept n is.beside rest);
+        long = ap (λ ls. length (history_of setup ls).seen) (next k) ∙ bit_long setup (at k) kept n is.beside rest ∙ (let l = is.long in omega arith);
+        samples = ap (λ ls. (history_of setup ls).samples) (next k) ∙ bit_samples setup (at k) kept n is.beside rest
+            ∙ (λ i. is.samples i ++ (last i, Recessive) ∷ [])
+            ∙ append_assoc (samples_by kept.traffic.samples.runs.items) (samples_from (kept.quanta + n - 1) n Recessive k) ((kept.quanta + n - 1 + k * n, Recessive) ∷ [])
+            ∙ ap (λ xs. samples_by kept.traffic.samples.runs.items ++ xs) (sym (from_suc (kept.quanta + n - 1) n Recessive k));
+      }
+
+  pub rested_drive : (k : ℕ) → NoneBefore k → (m : ℕ) → m ≤ k * n → (history_of setup (levels ++ replicate m Recessive)).drive ≡ (history_of setup levels).drive
+  rested_drive zero none m few = (let e : m ≡ 0 * n = omega arith in ap (λ j. (history_of setup (levels ++ replicate j Recessive)).drive) e ∙ ap (λ ls. (history_of setup ls).drive) first)
+  rested_drive (suc k) none m few = elim (cases_lt m (suc (k * n))) [
+    | inl less ↦ rested_drive k (λ quantum l. none quantum (omega arith)) m (omega arith)
+    | inr more ↦
+        (let is : AreRested k = are_rested k (λ quantum l. none quantum (omega arith)) in
+        let e : m ≡ k * n + (m - k * n) = omega arith in
+        ap (λ j. (history_of setup (levels ++ replicate j Recessive)).drive) e
+        ∙ ap (λ ls. (history_of setup ls).drive) (sym (joined levels Recessive (k * n) (m - k * n)))
+        ∙ bit_drive setup (at k) kept n is.beside (here k none is) (m - k * n) (omega arith)
+        ∙ rested_drive k (λ quantum l. none quantum (omega arith)) (k * n) (omega arith))
+  ]
+
+  module _ (k : ℕ) (none : NoneBefore k) (traffic : Traffic) (machine : traffic.machine ≡ kept.traffic.machine) (counters : traffic.counters ≡ kept.traffic.counters)
+      (pending : traffic.pending ≡ kept.traffic.pending) (sent : traffic.sent ≡ kept.traffic.sent) (errors : traffic.errors ≡ kept.traffic.errors) (frames : traffic.frames ≡ kept.traffic.frames)
+      (samples : samples_by traffic.samples.runs.items ≡ samples_by kept.traffic.samples.runs.items ++ samples_from (kept.quanta + n - 1) n Recessive k) where
+    pub now_rested : IsProgress setup (record { clock = kept.clock; drive = kept.drive; quanta = kept.quanta + k * n; syncs = kept.syncs; traffic = traffic }) (at k)
+    now_rested =
+        let is : AreRested k = are_rested k none in
+        let a : IsApart setup kept.traffic (history_of setup (at k)) = is.beside.apart in
+        record {
+          counted = is.long ∙ ap (λ q. q + k * n) (old.place.quanta ∙ old.counted)
+              ∙ sym (length-append levels (replicate (k * n) Recessive) ∙ ap (λ m. length levels + m) (length-replicate (k * n) Recessive));
+          place = record {
+            clock = is.beside.clock;
+            drive = is.beside.drive;
+            quanta = sym is.long;
+            syncs = is.beside.syncs;
+            traffic = record {
+              machine = subst (λ m. IsMachine m (history_of setup (at k)).inputs) (sym machine) a.machine;
+              counters = counters ∙ a.counters;
+              pending = pending ∙ a.pending;
+              sent = sent ∙ a.sent;
+              errors = errors ∙ a.errors;
+              samples = samples ∙ sym is.samples;
+              frames = ap (λ f. f.items) frames ∙ a.frames;
+              sends = a.sends;
+            };
+          };
+        }

@@ -32,7 +32,7 @@ module _ (from step : ℕ) (level : Level) where
   unfolding samples_from
   from_none = refl
 
-  from_suc : (n : ℕ) → samples_from from step level (suc n) ≡ samples_from from step level n ++ (from + n * step, level) ∷ []
+  pub from_suc : (n : ℕ) → samples_from from step level (suc n) ≡ samples_from from step level n ++ (from + n * step, level) ∷ []
   unfolding samples_from
   from_suc n = refl
 
@@ -51,10 +51,10 @@ module _ (from step : ℕ) (level : Level) where
   take_from m zero few = (let e : m ≡ 0 = omega arith in ap (λ k. take k (samples_from from step level 0)) e ∙ (sym from_none ∙ ap (samples_from from step level) (sym e)))
   take_from m (suc n) few = elim (cases_lt m (suc n)) [
     | inl less ↦
-      (let l : m ≤ length (samples_from from step level n) = omega (arith, length_from n) in
+        (let l : m ≤ length (samples_from from step level n) = omega (arith, length_from n) in
         ap (take m) (from_suc n) ∙ take-append-le m (samples_from from step level n) ((from + n * step, level) ∷ []) l ∙ take_from m n (omega arith))
     | inr more ↦
-      (let e : m ≡ suc n = omega arith in
+        (let e : m ≡ suc n = omega arith in
         let l : length (samples_from from step level (suc n)) ≤ m = omega (arith, length_from (suc n)) in
         take_all m (samples_from from step level (suc n)) l ∙ ap (samples_from from step level) (sym e))
   ]

@@ -5,7 +5,7 @@ use std::alloc::AllocError;
 use wl_level::Level;
 
 impl Node {
-    ghost use Rattle.std.specs.Prelude.{◌≡◌, ◌+◌, ◌-◌, ◌<◌, ◌≤◌, OnErr, IfOk, None, drop, vec_len, vec_capacity};
+    ghost use Rattle.std.specs.Prelude.{◌≡◌, ℕ, ◌+◌, ◌*◌, ◌<◌, ◌≤◌, OnErr, IfOk, None, drop, vec_len, vec_capacity};
     ghost use Rattle.wl_node.specs.History.{ready_head};
     ghost use Rattle.wl_node.specs.Rest.{AlwaysRests};
     ghost use Rattle.wl_node.specs.Limits.{most_run_quanta};
@@ -93,8 +93,8 @@ impl Node {
         }
     }
 
-    /// Skips bits of `bit` quanta each, at most `most` quanta in all.
-    fn rest_bits(&mut self, quanta: u64, most: u64) -> u64
+    /// Skips bits of this many quanta each, at most `most` quanta in all.
+    fn rest_bits(&mut self, quanta: u8, most: u64) -> u64
         requires rests { AlwaysRests self.old.progress quanta }
         requires some { 0 < quanta }
         requires short { quanta_of self.old + most ≤ most_run_quanta }
@@ -103,32 +103,28 @@ impl Node {
         ensures few { result ≤ most }
     {
         let ready = self.progress.ready_from(&self.setup);
-        let mut done = 0;
-        while quanta <= most - done
-            && self.progress.quanta + quanta <= ready
-            && self.progress.has_room()
-        {
-            self.rest_bit(quanta);
-            done += quanta;
+        let left = ready.saturating_sub(self.progress.quanta).min(most);
+        let bits = (left / quanta as u64).min(u16::MAX as u64) as u16;
+        if bits == 0 || !self.progress.has_room() {
+            return 0;
         }
-        done
+        self.rest_run(quanta, bits);
+        bits as u64 * quanta as u64
     }
 
-    /// Skips one such bit.
-    fn rest_bit(&mut self, quanta: u64)
+    /// Skips this many such bits. None of them reaches the quantum at which a frame is ready.
+    fn rest_run(&mut self, quanta: u8, bits: u16)
         requires rests { AlwaysRests self.old.progress quanta }
         requires some { 0 < quanta }
-        requires none { ready_head (drop self.old.progress.traffic.sent self.old.setup.queue)
-            (self.old.progress.quanta + quanta - 1) ≡ None }
+        requires none { (quantum : ℕ) → quantum < self.old.progress.quanta + bits * quanta
+            → ready_head (drop self.old.progress.traffic.sent self.old.setup.queue) quantum ≡ None }
         requires room { vec_len self.old.progress.traffic.samples.runs
             < vec_capacity self.old.progress.traffic.samples.runs }
-        requires short { quanta_of self.old + quanta ≤ most_run_quanta }
-        ensures gone { HasGone Level.Recessive quanta self.old self.new }
-        ensures stands { StandsFor self.old Level.Recessive quanta }
-        ensures rests { AlwaysRests self.new.progress quanta }
-        ensures sent { self.new.progress.traffic.sent ≡ self.old.progress.traffic.sent }
-        ensures setup { self.new.setup ≡ self.old.setup }
+        requires many { 0 < bits }
+        requires short { quanta_of self.old + bits * quanta ≤ most_run_quanta }
+        ensures gone { HasGone Level.Recessive (bits * quanta) self.old self.new }
+        ensures stands { StandsFor self.old Level.Recessive (bits * quanta) }
     {
-        self.progress.rest_bit(&self.setup, quanta);
+        self.progress.rest_bits(&self.setup, quanta, bits);
     }
 }

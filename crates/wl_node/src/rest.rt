@@ -1,6 +1,6 @@
-//! Bits of a recessive line on a free bus, each at once.
+//! Bits of a recessive line on a free bus, all at once.
 
-ghost use Rattle.std.specs.Prelude.{◌≡◌, ℕ, suc, ◌+◌, ◌-◌, ◌<◌, ◌≤◌, true, drop, None, Some, vec_len, vec_capacity};
+ghost use Rattle.std.specs.Prelude.{◌≡◌, ℕ, suc, ◌+◌, ◌*◌, ◌<◌, ◌≤◌, true, drop, None, Some, vec_len, vec_capacity};
 ghost use Rattle.wl_level.specs.declared.Level.{Level};
 ghost use Rattle.wl_node.specs.History.{ready_head};
 ghost use Rattle.wl_node.specs.Kept.{HasProgressedBy, KeepsDrive};
@@ -14,36 +14,38 @@ use wl_level::Level;
 impl Progress {
     /// Returns the quanta of a bit, if that number of recessive ones leaves all but the samples as it is, as long as no frame is ready. So
     /// it is on a free bus, right after the sample of a bit that nothing moved.
-    pub fn rests(&self) -> Option<u64>
+    pub fn rests(&self) -> Option<u8>
         ensures rests { (n : ℕ) → result ≡ Some n → AlwaysRests self.now n }
         ensures some { (n : ℕ) → result ≡ Some n → 0 < n }
     {
         if !self.traffic.machine.is_free() || !self.drive.is(self.traffic.pending) {
             return None;
         }
-        let quanta = self.clock.resting_bit()?;
-        Some(quanta as u64)
+        self.clock.resting_bit()
     }
 
-    /// Runs such a bit, in which no frame is ready, and for whose sample there is room.
-    pub fn rest_bit(&mut self, setup: &NodeSetup, quanta: u64)
+    /// Runs this many such bits at once. In none of them a frame is ready, and there is room for a run of samples.
+    pub fn rest_bits(&mut self, setup: &NodeSetup, quanta: u8, bits: u16)
         requires rests { AlwaysRests self.old quanta }
         requires some { 0 < quanta }
-        requires none { ready_head (drop self.old.traffic.sent setup.now.queue) (self.old.quanta + quanta - 1) ≡ None }
+        requires none { (quantum : ℕ) → quantum < self.old.quanta + bits * quanta
+            → ready_head (drop self.old.traffic.sent setup.now.queue) quantum ≡ None }
         requires room { vec_len self.old.traffic.samples.runs < vec_capacity self.old.traffic.samples.runs }
         requires few { self.old.traffic.samples.count ≤ self.old.quanta }
-        requires short { self.old.quanta + quanta ≤ most_run_quanta }
-        ensures place { HasProgressedBy setup.now Level.Recessive quanta self.old self.new }
-        ensures drive { KeepsDrive setup.now Level.Recessive (suc quanta) self.old }
-        ensures rests { AlwaysRests self.new quanta }
-        ensures sent { self.new.traffic.sent ≡ self.old.traffic.sent }
-        ensures quanta { self.new.quanta ≡ self.old.quanta + quanta }
+        requires many { 0 < bits }
+        requires short { self.old.quanta + bits * quanta ≤ most_run_quanta }
+        ensures place { HasProgressedBy setup.now Level.Recessive (bits * quanta) self.old self.new }
+        ensures drive { KeepsDrive setup.now Level.Recessive (suc (bits * quanta)) self.old }
+        ensures quanta { self.new.quanta ≡ self.old.quanta + bits * quanta }
         ensures hards { self.new.syncs.hards ≡ self.old.syncs.hards }
         ensures errors { self.new.traffic.errors ≡ self.old.traffic.errors }
-        ensures count { self.new.traffic.samples.count ≡ self.old.traffic.samples.count + 1 }
+        ensures samples { self.new.traffic.samples.count ≡ self.old.traffic.samples.count + bits }
     {
-        self.quanta += quanta;
-        self.traffic.samples.push(self.quanta - 1, Level::Recessive);
+        let from = self.quanta + quanta as u64 - 1;
+        self.traffic
+            .samples
+            .push_run(from, quanta, Level::Recessive, bits);
+        self.quanta += bits as u64 * quanta as u64;
     }
 
     /// True only if there is room for one more sample.

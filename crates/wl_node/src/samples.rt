@@ -2,7 +2,7 @@
 
 ghost use Rattle.std.specs.Prelude.{◌≡◌, ◌*◌, ◌+◌, ◌<◌, ◌≤◌, ◌++◌, ℕ, [], ◌∷◌, true, length, take, min, IfOk, OnOk, vec_len, vec_capacity};
 ghost use Rattle.wl_node.specs.Limits.{most_run_quanta};
-ghost use Rattle.wl_node.specs.Runs.{run_samples, samples_by};
+ghost use Rattle.wl_node.specs.Runs.{run_samples, samples_by, samples_from};
 
 use std::alloc::{AllocError, Global};
 use std::marker::Model;
@@ -118,6 +118,24 @@ impl SampleRuns {
     {
         add(&mut self.runs, quantum, self.step, level);
         self.count += 1;
+    }
+
+    /// Adds a run of this many samples: the first at quantum `from`, and each other one `step` quanta later.
+    pub(crate) fn push_run(&mut self, from: u64, step: u8, level: Level, bits: u16)
+        requires room { vec_len self.old.runs < vec_capacity self.old.runs }
+        requires early { from < most_run_quanta }
+        requires few { self.old.count ≤ from }
+        ensures samples { samples_by self.new.runs.items
+            ≡ samples_by self.old.runs.items ++ samples_from from step level bits }
+        ensures count { self.new.count ≡ self.old.count + bits }
+    {
+        self.runs.push_reserved(Run {
+            from: from as u32,
+            count: bits,
+            step,
+            level,
+        });
+        self.count += bits as u64;
     }
 
     /// Keeps this many samples, the first ones.

@@ -1,7 +1,7 @@
 use Rattle.std.proofs.Common.{◌≡◌, ◌∙◌, ◌++◌, ◌∷◌, [], ◌+◌, ◌*◌, ap, sym, append-nil, append_assoc}
 use Rattle.std.specs.Option.{option_to_list}
 use Rattle.wl_node.specs.declared.samples.Run.{Run}
-use Rattle.wl_node.specs.Runs.{run_samples, samples_by, samples_from}
+use Rattle.wl_node.specs.Runs.{samples_by, samples_from}
 use Rattle.wl_node.proofs.RunsOfSamples.{from_more, from_one, more_by, run_is}
 use Rattle.wl_node.proofs.samples.add.Goals as goal
 
