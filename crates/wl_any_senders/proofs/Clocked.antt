@@ -12,7 +12,7 @@ use Rattle.wl_sync.specs.Bits.{beat_of, sync_of}
 use Rattle.wl_phase.specs.Ways.{ByTheBook, WayLaws, moved_to, sample_way, way_after}
 use Rattle.wl_phase.specs.Answer.{SamplesNext}
 use Rattle.wl_phase.specs.InStep.{SyncsHard, sampled_by, samples_from, seen_before}
-use Rattle.wl_any_senders.specs.Clocked.{NoneSyncs, PlaceLaws, SamplesBy}
+use Rattle.wl_any_senders.specs.Clocked.{NoneSyncs, BitPlaceLaws, SamplesBy}
 
 -- the place 0 that an edge moves, as the sample that it moves
 pub shifted : (due f at jump : ℕ) → jump ≤ due → 1 ≤ at → 1 ≤ f → f ≤ due + at → f + moved_to (at - 1) jump (due + at - f) ≡ moved_to (f - 1) jump due + at
@@ -175,8 +175,8 @@ module _ (ways : WayLaws) (l : Lengths) (book : ByTheBook l) (seen : ℕ → See
           first = no_samples start (new + sample_at l - start) (λ i low high. none_of i low (omega arith));
         }
 
-pub place_laws : WayLaws → PlaceLaws
-place_laws ways = record {
+pub bit_place_laws : WayLaws → BitPlaceLaws
+bit_place_laws ways = record {
   alone = λ l seen place level book sampled none. no_edge ways l book seen place level sampled none;
   hard = λ l seen place book hard none. hard_edge ways l book seen place hard none;
   soft = λ l seen place found new level error book sampled after inside none soft moved calm.

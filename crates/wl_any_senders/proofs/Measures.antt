@@ -5,7 +5,7 @@ use Rattle.std.proofs.Math.Nat.{mul-le-mul_left, lt_of_mul-lt-mul_left}
 use Rattle.wl_phase.specs.Clocks.{steady_tick, instant}
 use Rattle.wl_phase.proofs.Callers.{floor_low, floor_high, tick_up}
 use Rattle.wl_segments.specs.Lengths.{bit_quanta}
-use Rattle.wl_any_senders.specs.Stations.{Stations, AreStations, BeginsBefore, bit_drift, shared_tick, shared_quantum, shared_instant}
+use Rattle.wl_any_senders.specs.Stations.{Stations, AreStations, ReachesBy, bit_drift, shared_tick, shared_quantum, shared_instant}
 
 module _ (s : Stations) (are : AreStations s) (i k : ℕ) (inside : i < s.count) (there : k < s.count) where
   abbrev T : ℕ
@@ -16,8 +16,8 @@ module _ (s : Stations) (are : AreStations s) (i k : ℕ) (inside : i < s.count)
 
   pub some_tick : 0 < T
   some_tick =
-      let a = (are.steady i inside).divides in
-      let b = (are.steady k there).divides in
+      let a = (are.line.steady i inside).divides in
+      let b = (are.line.steady k there).divides in
       let m : (s.clocks i).den * 1 ≤ (s.clocks i).den * (s.clocks k).den = mul-le-mul_left (s.clocks i).den (let h : 1 ≤ (s.clocks k).den = omega arith in h) in
       omega arith
 
@@ -29,9 +29,9 @@ module _ (s : Stations) (are : AreStations s) (i k : ℕ) (inside : i < s.count)
 
   pub instant_high : (n : ℕ) → shared_instant s i k n < T * steady_tick (s.clocks i) n + T
   instant_high n =
-      let high = floor_high (s.clocks i) n (are.steady i inside).divides in
+      let high = floor_high (s.clocks i) n (are.line.steady i inside).divides in
       let m : (s.clocks k).den * suc (instant (s.clocks i) n) ≤ (s.clocks k).den * ((s.clocks i).den * steady_tick (s.clocks i) n + (s.clocks i).den) = mul-le-mul_left (s.clocks k).den high in
-      let d = (are.steady k there).divides in
+      let d = (are.line.steady k there).divides in
       omega arith
 
   pub instant_more : (n m : ℕ) → shared_instant s i k (n + m) ≡ shared_instant s i k n + m * shared_quantum s i k
@@ -101,11 +101,11 @@ module _ (s : Stations) (are : AreStations s) (i k : ℕ) (inside : i < s.count)
 
 -- later quanta begin no earlier
 pub tick_next : (s : Stations) (are : AreStations s) (i : ℕ) → i < s.count → (n m : ℕ) → n ≤ m → steady_tick (s.clocks i) n ≤ steady_tick (s.clocks i) m
-tick_next s are i inside n m h = tick_up (s.clocks i) (are.steady i inside).divides n m h
+tick_next s are i inside n m h = tick_up (s.clocks i) (are.line.steady i inside).divides n m h
 
 -- a bit later
-pub drifted : (s : Stations) (since i k n p : ℕ) → BeginsBefore s since i k n p
-    → BeginsBefore s (suc since) i k (n + bit_quanta (s.lengths i)) (p + bit_quanta (s.lengths k))
+pub drifted : (s : Stations) (since i k n p : ℕ) → ReachesBy s since i k n p
+    → ReachesBy s (suc since) i k (n + bit_quanta (s.lengths i)) (p + bit_quanta (s.lengths k))
 drifted s since i k n p h =
     let own : shared_instant s i k (n + bit_quanta (s.lengths i)) ≡ shared_instant s i k n + bit_quanta (s.lengths i) * shared_quantum s i k = omega arith in
     let other : shared_instant s k i (p + bit_quanta (s.lengths k)) ≡ shared_instant s k i p + bit_quanta (s.lengths k) * shared_quantum s k i = omega arith in

@@ -6,7 +6,7 @@ use Rattle.wl_topology.specs.Driven.{DrivenLaws}
 use Rattle.wl_topology.proofs.Callers.{any_from}
 use Rattle.wl_phase.specs.Clocks.{steady_tick}
 use Rattle.wl_phase.specs.Ways.{moved_to}
-use Rattle.wl_any_senders.specs.Stations.{Stations, AreStations, AreClose, HaveRoom, BeginsBefore}
+use Rattle.wl_any_senders.specs.Stations.{Stations, AreStations, AreClose, HaveRoom, ReachesBy}
 use Rattle.wl_any_senders.specs.Starts.{Start, Drives, BeginsAlone, FollowsHard, FollowsSoft, AreSenders, reaches_at}
 use Rattle.wl_any_senders.specs.OneBit.{OneBit, AreRight, IsRight, sampled_at}
 use Rattle.wl_any_senders.specs.Course.{IsCourse, IsSampled, RightUpTo, begins_with_edge, bus_bit, since_edge, still_sends}
@@ -26,8 +26,8 @@ fewer s sends less since place h close i k inside there other some = close i k i
 -- the same places
 same_places : (s : Stations) (sends : ℕ → Bool) (since : ℕ) (place new : ℕ → ℕ) → ((i : ℕ) → i < s.count → new i ≡ place i) → AreClose s sends since place → AreClose s sends since new
 same_places s sends since place new h close i k inside there other some =
-    subst (λ n. BeginsBefore s since i k n (new k)) (sym (h i inside))
-    (subst (λ p. BeginsBefore s since i k (place i) p) (sym (h k there)) (close i k inside there other some))
+    subst (λ n. ReachesBy s since i k n (new k)) (sym (h i inside))
+    (subst (λ p. ReachesBy s since i k (place i) p) (sym (h k there)) (close i k inside there other some))
 
 -- the sample isn't moved back before the one a bit earlier
 moves_up : (aim jump n old bit : ℕ) → n ≡ old + bit → jump ≤ bit → old ≤ moved_to aim jump n
@@ -79,6 +79,10 @@ module _ (s : Stations) (are : AreStations s) (room : HaveRoom s) (bits : ℕ �
     | inl drives ↦ (let g = sends_on n k e drives in cc)
     | inr recessive ↦ recessive
   ]
+
+  allowed_at : (n k : ℕ) → k < s.count → sends n k ≡ true → s.may_send k ≡ true
+  allowed_at zero k there e = is.allowed k there e
+  allowed_at (suc n) k there e = allowed_at n k there (sent_before n k e)
 
   -- a station that is on the bus
   on_bus : (n k : ℕ) → k < s.count → (bits n).drives k ≡ true → bus_bit s bits n ≡ true
@@ -135,7 +139,7 @@ module _ (s : Stations) (are : AreStations s) (room : HaveRoom s) (bits : ℕ �
         | inr over ↦
             (let after = is.after n k less there in
             let up = tick_next s are k there ((bits n).place k + sample_at (s.lengths k)) ((bits (suc n)).from k) (omega arith) in
-            let way = are.later k i there inside in
+            let way = are.line.later k i there inside in
             let end = is.over n i k less inside there in
             is.lost n k (sample n i - s.delay k i) less there (up_to n r k there (right (omega arith))) sender gone over (omega arith))
       ]
@@ -154,6 +158,7 @@ module _ (s : Stations) (are : AreStations s) (room : HaveRoom s) (bits : ℕ �
   one n less r = record {
     close = r.close;
     few = is.few n less;
+    allowed = λ k there e. allowed_at (suc n) k there e;
     senders = λ k there e. sends_on n k (is.senders n k (omega arith) there (r.right k there) e) e;
     begun = λ k there e. begun_at n k less there r.right;
     after = λ k there. is.after n k less there;
@@ -169,7 +174,8 @@ module _ (s : Stations) (are : AreStations s) (room : HaveRoom s) (bits : ℕ �
   -- the start of frame
   first : 0 < length → Reached 0
   first some = record {
-    close = fewer s (λ i. true) (sends 1) 0 (bits 0).place (λ k there e. refl) (λ i k inside there other any. frame_close s are (bits 0) is.begin i k inside there other);
+    close =
+        fewer s s.may_send (sends 1) 0 (bits 0).place (λ k there e. is.allowed k there (sent_before 0 k e)) (frame_close s are (bits 0) is.allowed is.begin);
     right = λ i inside m less. absurd (omega arith);
     held = λ i k inside there sender recessive. cc;
     lost = λ i k inside there began none. cc;
@@ -203,14 +209,17 @@ module _ (s : Stations) (are : AreStations s) (room : HaveRoom s) (bits : ℕ �
         subst (λ m. AreClose s (sends (suc n)) m (bits (suc n)).place) (sym (since_more e))
         (same_places s (sends (suc n)) (suc (since n)) (bits (suc n)).due (bits (suc n)).place (λ i inside. (is.plain n i less inside right e).0) close_due)
 
+    sent_next : (k : ℕ) → k < s.count → (bits (suc n)).drives k ≡ true → sends (suc n) k ≡ true
+    sent_next k there e = is.senders (suc n) k (omega arith) there (right k there) e
+
     senders_next : AreSenders s (sends (suc n)) (bits (suc n))
-    senders_next k there e = is.senders (suc n) k (omega arith) there (right k there) e
+    senders_next k there e = sent_next k there e
 
     close_edge : begins_with_edge s bits (suc n) ≡ true → AreClose s (sends (suc (suc n))) (since (suc n)) (bits (suc n)).place
     close_edge e =
         subst (λ m. AreClose s (sends (suc (suc n))) m (bits (suc n)).place) (sym (since_next e))
         (fewer s (bits (suc n)).drives (sends (suc (suc n))) 0 (bits (suc n)).place (λ k there f. sent_as (suc n) k (and_parts (not (bus_bit s bits n)) (bus_bit s bits (suc n)) e).1 f)
-        (bit_close s are room (sends (suc n)) (suc (since n)) few_due (bits (suc n)) close_due senders_next (is.edge n less right e)))
+        (bit_close s are room (sends (suc n)) (suc (since n)) few_due (bits (suc n)) close_due senders_next (λ k there f. allowed_at (suc n) k there (sent_next k there f)) (is.edge n less right e)))
 
     close_next : AreClose s (sends (suc (suc n))) (since (suc n)) (bits (suc n)).place
     close_next = elim (cases_Bool (begins_with_edge s bits (suc n))) [
@@ -222,7 +231,7 @@ module _ (s : Stations) (are : AreStations s) (room : HaveRoom s) (bits : ℕ �
     place_up : (i : ℕ) → i < s.count → BeginsAlone s (bits (suc n)) i ⊎ FollowsSoft s (bits (suc n)) i → (bits n).place i ≤ (bits (suc n)).place i
     place_up i inside (inl itself) = let e = itself.place in let f = is.due n i inside in omega arith
     place_up i inside (inr soft) =
-        let l = (are.book i inside).lengths in
+        let l = (are.line.book i inside).lengths in
         let long = l.low in
         let jump = l.sjw_high in
         let up = moves_up (soft.found - 1) (s.lengths i).sjw ((bits (suc n)).due i) ((bits n).place i) (bit_quanta (s.lengths i)) (is.due n i inside) (omega arith) in
@@ -266,7 +275,7 @@ module _ (s : Stations) (are : AreStations s) (room : HaveRoom s) (bits : ℕ �
         → IsHeld (suc n) i k (steady_tick (s.clocks k) ((bits (suc (suc n))).from k))
     held_plain i k inside there sender recessive plain = record {
       begin = steady_tick (s.clocks k) ((bits (suc n)).from k);
-      before = is_there s are room (sends (suc n)) (since (suc n)) (is.few (suc n) less) (bits (suc n)) (close_plain plain) i k inside there sender (is.plain n k less there right plain).1;
+      before = is_there s are room (sends (suc n)) (since (suc n)) (is.few (suc n) less) (bits (suc n)) (λ k there e. allowed_at (suc n) k there e) (close_plain plain) i k inside there sender (is.plain n k less there right plain).1;
       recessive = λ t from before. is.drives (suc n) k t less there (right k there) sender from before ∙ recessive;
     }
 

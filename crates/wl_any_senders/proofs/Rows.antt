@@ -4,7 +4,8 @@ use Rattle.wl_segments.specs.declared.SyncRules.TheVariants.{Book}
 use Rattle.wl_segments.specs.Lengths.{Lengths}
 use Rattle.wl_clock.specs.Timing.{tick_of}
 use Rattle.wl_phase.specs.Clocks.{Steady}
-use Rattle.wl_any_senders.specs.Stations.{Stations, shared_tick, shared_quantum, shared_instant, bit_drift, own_look}
+use Rattle.wl_any_senders.specs.Stations.{Stations, shared_tick, shared_quantum, shared_instant, bit_drift}
+use Rattle.wl_any_senders.specs.Bounds.{bus_way, following_way}
 use Rattle.wl_any_senders.specs.Starts.{Start, reaches_at}
 
 -- a bit of 1 + 3 + 3 + 3 quanta with its sample at place 7
@@ -24,7 +25,7 @@ delay_of (suc i) zero = 9
 delay_of (suc i) (suc k) = 4
 
 abbrev s : Stations
-s = record { count = 2; clocks = clock_of; lengths = λ i. l; delay = delay_of }
+s = record { count = 2; clocks = clock_of; lengths = λ i. l; delay = delay_of; may_send = λ i. true; way = λ k i. 36 }
 
 -- in half ticks
 tick : shared_tick s 0 1 ≡ 2
@@ -46,12 +47,12 @@ slower = refl
 faster : bit_drift s 0 1 ≡ 0
 faster = refl
 
--- a quantum of 10 ticks and one more, less a loop of 4
-look : own_look s 0 1 ≡ 14
-look = refl
+-- there and back takes 18 ticks; over an edge of its own, a quantum and a tick
+back_and_forth : bus_way s 0 1 ≡ 36
+back_and_forth = refl
 
-other_look : own_look s 1 0 ≡ 15
-other_look = refl
+straight : following_way s 0 1 1 ≡ 22
+straight = refl
 
 -- station 0 begins its bit with quantum 20, and station 1 follows that edge: at tick 209 it lies between its quanta 19 and 20
 abbrev places : ℕ → ℕ

@@ -7,8 +7,8 @@ use Rattle.wl_topology.specs.Driven.{DrivenLaws, driven, any_below}
 use Rattle.wl_topology.proofs.Callers.{any_from, any_one}
 use Rattle.wl_phase.specs.Clocks.{steady_tick, instant}
 use Rattle.wl_phase.proofs.Callers.{floor_low, floor_high}
-use Rattle.wl_any_senders.specs.Stations.{Stations, AreStations, AreClose, HaveRoom, shared_tick, shared_quantum, shared_instant, bit_drift}
-use Rattle.wl_any_senders.specs.Starts.{Start, reaches_at}
+use Rattle.wl_any_senders.specs.Stations.{Stations, AreStations, AreClose, HaveRoom, shared_quantum, shared_instant, bit_drift}
+use Rattle.wl_any_senders.specs.Starts.{Start, AreAllowed, reaches_at}
 use Rattle.wl_any_senders.specs.OneBit.{OneBit, AreRight, IsRight, sampled_at}
 use Rattle.wl_any_senders.proofs.Measures.{same_tick, instant_more, reaches_by, ticks_before, tick_next}
 
@@ -16,25 +16,23 @@ use Rattle.wl_any_senders.proofs.Measures.{same_tick, instant_more, reaches_by, 
 none_below : (n : ℕ) (test : ℕ → Bool) → any_below n test ≡ false → (k : ℕ) → k < n → test k ≡ false
 none_below n test e k less = false_from_ne_true (test k) (λ passes. (let some = any_from n k test less passes in cc))
 
-module _ (s : Stations) (are : AreStations s) (room : HaveRoom s) (sends : ℕ → Bool) (since : ℕ) (few : since ≤ 9) (b : Start) (close : AreClose s sends since b.place) where
+module _ (s : Stations) (are : AreStations s) (room : HaveRoom s) (sends : ℕ → Bool) (since : ℕ) (few : since ≤ 9) (b : Start) (allowed : AreAllowed s sends) (close : AreClose s sends since b.place) where
   -- a bit that a sender begins with its place 0 is there at the sample of each other station, and at its own
   there_other : (i k : ℕ) → i < s.count → k < s.count → i ≢ k → sends k ≡ true → b.from k ≡ b.place k → reaches_at s b k i ≤ sampled_at s b i
   there_other i k inside there other sender from =
       let near = close k i there inside (λ e. other (sym e)) (inl sender) in
-      let fits = room.is_there i k inside there other in
+      let fits = room.is_there i k inside there other (allowed k there sender) in
       let drift : since * bit_drift s k i ≤ 10 * bit_drift s k i = mul-le-mul_right (bit_drift s k i) (let f : since ≤ 10 = omega arith in f) in
       let same = same_tick s are i k inside there in
       let all = instant_more s are i k inside there (b.place i) (sample_at (s.lengths i)) in
-      let e : s.delay i k * shared_tick s k i ≡ s.delay i k * shared_tick s i k = ap (λ t. s.delay i k * t) same in
       let f : shared_instant s k i (b.from k) ≡ shared_instant s k i (b.place k) = ap (shared_instant s k i) from in
-      let way : (s.delay i k + s.delay k i) * shared_tick s i k ≡ s.delay i k * shared_tick s i k + s.delay k i * shared_tick s i k = omega arith in
       reaches_by s are i k inside there (b.from k) (b.place i + sample_at (s.lengths i)) (s.delay k i) (omega arith)
 
-  there_own : (i : ℕ) → i < s.count → b.from i ≡ b.place i → reaches_at s b i i ≤ sampled_at s b i
-  there_own i inside from =
-      let fits = room.loops i inside in
+  there_own : (i : ℕ) → i < s.count → sends i ≡ true → b.from i ≡ b.place i → reaches_at s b i i ≤ sampled_at s b i
+  there_own i inside sender from =
+      let fits = room.loops i inside (allowed i inside sender) in
       let low = floor_low (s.clocks i) (b.place i) in
-      let high = floor_high (s.clocks i) (b.place i + sample_at (s.lengths i)) (are.steady i inside).divides in
+      let high = floor_high (s.clocks i) (b.place i + sample_at (s.lengths i)) (are.line.steady i inside).divides in
       let all : instant (s.clocks i) (b.place i + sample_at (s.lengths i)) ≡ instant (s.clocks i) (b.place i) + sample_at (s.lengths i) * (s.clocks i).num = omega arith in
       let m : (s.clocks i).den * (steady_tick (s.clocks i) (b.place i) + s.delay i i) < (s.clocks i).den * suc (sampled_at s b i) = omega arith in
       let less = lt_of_mul-lt-mul_left (s.clocks i).den m in
@@ -43,7 +41,7 @@ module _ (s : Stations) (are : AreStations s) (room : HaveRoom s) (sends : ℕ �
 
   pub is_there : (i k : ℕ) → i < s.count → k < s.count → sends k ≡ true → b.from k ≡ b.place k → reaches_at s b k i ≤ sampled_at s b i
   is_there i k inside there sender from = elim (cases_eq k i) [
-    | inl own ↦ subst (λ n. reaches_at s b n i ≤ sampled_at s b i) (sym own) (there_own i inside (subst (λ n. b.from n ≡ b.place n) own from))
+    | inl own ↦ subst (λ n. reaches_at s b n i ≤ sampled_at s b i) (sym own) (there_own i inside (subst (λ n. sends n ≡ true) own sender) (subst (λ n. b.from n ≡ b.place n) own from))
     | inr other ↦ there_other i k inside there (λ e. other (sym e)) sender from
   ]
 
@@ -55,7 +53,7 @@ module _ (s : Stations) (are : AreStations s) (room : HaveRoom s) (sends : ℕ �
     | inl from ↦ (k, there, dominant, from)
     | inr moved ↦
         (let found = moved.2 dominant in
-        let way = are.later moved.0 k moved.1.inside there in
+        let way = are.line.later moved.0 k moved.1.inside there in
         origin n moved.0 moved.1.inside moved.1.dominant (omega arith))
   ]
 
@@ -66,7 +64,7 @@ module _ (s : Stations) (are : AreStations s) (room : HaveRoom s) (sends : ℕ �
   next_alone : (i k : ℕ) → i < s.count → k < s.count → i ≢ k → sends k ≡ true → c.from k ≡ b.place k + bit_quanta (s.lengths k) → sampled_at s b i < reaches_at s c k i
   next_alone i k inside there other sender from =
       let near = one.close i k inside there other (inr sender) in
-      let fits = room.not_early i k inside there other in
+      let fits = room.not_early i k inside there other (one.allowed k there sender) in
       let drift : suc since * bit_drift s i k ≤ 10 * bit_drift s i k = mul-le-mul_right (bit_drift s i k) (let f = one.few in let g : suc since ≤ 10 = omega arith in g) in
       let more : suc since * bit_drift s i k ≡ since * bit_drift s i k + bit_drift s i k = omega arith in
       let own = instant_more s are i k inside there (b.place i) (sample_at (s.lengths i)) in
@@ -84,15 +82,15 @@ module _ (s : Stations) (are : AreStations s) (room : HaveRoom s) (sends : ℕ �
       → ((w : ℕ) → w < s.count → sends w ≡ true → steady_tick (s.clocks w) (c.from w) < n → sampled_at s b i < reaches_at s c w i) → sampled_at s b i < reaches_at s c k i
   next_by n i k inside there right sender other here less again =
       let own = own_later k there in
-      let way = are.later k i there inside in
+      let way = are.line.later k i there inside in
       elim (one.next k there sender (right k there (omega arith))) [
         | inl from ↦ next_alone i k inside there (λ e. other (sym e)) sender from
         | inr moved ↦
             (let third = moved.1.inside in
             let found = moved.2 in
-            let over = are.later moved.0 k third there in
-            let loop = are.later k k there there in
-            let detour = are.detours moved.0 k i third there inside in
+            let over = are.line.later moved.0 k third there in
+            let loop = are.line.later k k there there in
+            let detour = are.line.detours moved.0 k i third there inside in
             let theirs = own_later moved.0 third in
             let still = one.still moved.0 third (right moved.0 third (omega arith)) moved.1.dominant in
             let before = again moved.0 third still (omega arith) in
@@ -104,7 +102,7 @@ module _ (s : Stations) (are : AreStations s) (room : HaveRoom s) (sends : ℕ �
   next_later (suc n) i k inside there right sender less = elim (cases_eq k i) [
     | inl own ↦
         subst (λ w. sampled_at s b i < reaches_at s c w i) (sym own)
-        (let later = own_later i inside in let loop = are.later i i inside inside in let g : sampled_at s b i < reaches_at s c i i = omega arith in g)
+        (let later = own_later i inside in let loop = are.line.later i i inside inside in let g : sampled_at s b i < reaches_at s c i i = omega arith in g)
     | inr other ↦ elim (cases_lt (sampled_at s b i) (reaches_at s c k i)) [
       | inl later ↦ later
       | inr here ↦ next_by n i k inside there right sender other here less (λ w third still before. next_later n i w inside third right still before)
@@ -114,7 +112,7 @@ module _ (s : Stations) (are : AreStations s) (room : HaveRoom s) (sends : ℕ �
   -- what a sender drives in the bit is what is found at the sample, a delay later
   driven_then : (i k : ℕ) → i < s.count → k < s.count → RightBefore i → sends k ≡ true → b.from k ≡ b.place k → (s.delay k i ≤ sampled_at s b i) × (drove k (sampled_at s b i - s.delay k i) ≡ b.drives k)
   driven_then i k inside there right sender from =
-      let here = is_there s are room sends since one.few b one.close i k inside there sender from in
+      let here = is_there s are room sends since one.few b one.allowed one.close i k inside there sender from in
       let later = next_later (suc (steady_tick (s.clocks k) (c.from k))) i k inside there right sender (omega arith) in
       (omega arith, one.drives k (sampled_at s b i - s.delay k i) there sender (omega arith) (omega arith))
 

@@ -3,11 +3,11 @@ use Rattle.std.proofs.Common.{◌≡◌, ◌≢◌, ◌∙◌, ◌⊎◌, inl, i
 use Rattle.std.proofs.lemmas.Bool.{cases_eq}
 use Rattle.std.proofs.Math.Nat.{mul-le-mul_left}
 use Rattle.wl_phase.specs.Clocks.{steady_tick}
-use Rattle.wl_any_senders.specs.Stations.{Stations, AreStations, BeginsBefore, shared_tick, shared_quantum, shared_instant}
-use Rattle.wl_any_senders.specs.Starts.{Start, Drives, BeginsAlone, FollowsHard, BeginFrame, reaches_at}
+use Rattle.wl_any_senders.specs.Stations.{Stations, AreStations, AreClose, ReachesBy, IsPair, shared_tick, shared_quantum, shared_instant}
+use Rattle.wl_any_senders.specs.Starts.{Start, Drives, AreAllowed, BeginsAlone, FollowsHard, BeginFrame, reaches_at}
 use Rattle.wl_any_senders.proofs.Measures.{same_tick, instant_low, instant_high, instant_more, ticks_by, exact_before, tick_next}
 
-module _ (s : Stations) (are : AreStations s) (b : Start) where
+module _ (s : Stations) (are : AreStations s) (b : Start) (allowed : AreAllowed s b.drives) where
   -- the bit of k reaches i after that one's own has begun, in exact instants
   abbrev pub IsAhead : (i k : ℕ) → Type 0
   IsAhead i k = shared_instant s i k (b.place i) < shared_instant s k i (b.from k) + s.delay k i * shared_tick s i k
@@ -22,59 +22,58 @@ module _ (s : Stations) (are : AreStations s) (b : Start) where
   abbrev pub IsFrom : ℕ → Type 0
   IsFrom i = b.drives i ≡ true → b.place i ≤ b.from i
 
-  -- the way over station w is no shorter than that over station k, whose own loop is left out
-  over : (i k w : ℕ) → i < s.count → k < s.count → w < s.count → steady_tick (s.clocks i) (b.place i) ≤ reaches_at s b w i
-      → reaches_at s b w k ≤ steady_tick (s.clocks k) (suc (b.place k)) → BeginsBefore s 0 i k (b.place i) (b.place k)
-  over i k w inside there third ahead found =
-      let detour = are.detours w k i third there inside in
-      let ticks : steady_tick (s.clocks i) (b.place i) + s.delay k k ≤ steady_tick (s.clocks k) (suc (b.place k)) + s.delay k i = omega arith in
+  -- where k follows the edge of a third station
+  over : (i k w : ℕ) → i < s.count → k < s.count → IsPair s i k → Drives s b i w → w ≢ k → steady_tick (s.clocks i) (b.place i) ≤ reaches_at s b w i
+      → reaches_at s b w k ≤ steady_tick (s.clocks k) (suc (b.place k)) → ReachesBy s 0 i k (b.place i) (b.place k)
+  over i k w inside there pair drives apart ahead found =
+      let way = are.ways.over i k w inside there drives.inside pair drives.other apart (allowed w drives.inside drives.dominant) in
+      let ticks : steady_tick (s.clocks i) (b.place i) + s.delay w k ≤ steady_tick (s.clocks k) (suc (b.place k)) + s.delay w i = omega arith in
       let high = instant_high s are i k inside there (b.place i) in
       let low = instant_low s are k i there inside (suc (b.place k)) in
       let one = instant_more s are k i there inside (b.place k) 1 in
       let place : b.place k + 1 ≡ suc (b.place k) = omega arith in
       let next : shared_instant s k i (suc (b.place k)) ≡ shared_instant s k i (b.place k) + 1 * shared_quantum s k i = ap (shared_instant s k i) (sym place) ∙ one in
       let same = same_tick s are i k inside there in
-      let m : shared_tick s i k * (steady_tick (s.clocks i) (b.place i) + s.delay k k) ≤ shared_tick s i k * (steady_tick (s.clocks k) (suc (b.place k)) + s.delay k i) = mul-le-mul_left (shared_tick s i k) ticks in
+      let m : shared_tick s i k * (steady_tick (s.clocks i) (b.place i) + s.delay w k) ≤ shared_tick s i k * (steady_tick (s.clocks k) (suc (b.place k)) + s.delay w i) = mul-le-mul_left (shared_tick s i k) ticks in
       let e : shared_tick s k i * steady_tick (s.clocks k) (suc (b.place k)) ≡ shared_tick s i k * steady_tick (s.clocks k) (suc (b.place k)) = ap (λ t. t * steady_tick (s.clocks k) (suc (b.place k))) same in
-      let f : s.delay k k * shared_tick s k i ≡ s.delay k k * shared_tick s i k = ap (λ t. s.delay k k * t) same in
       omega arith
 
-  -- where the edge is the station's own
-  back : (i k : ℕ) → i < s.count → k < s.count → b.place i ≤ b.from i
-      → reaches_at s b i k ≤ steady_tick (s.clocks k) (suc (b.place k)) → BeginsBefore s 0 i k (b.place i) (b.place k)
-  back i k inside there late found =
-      let detour = are.detours k i k there inside there in
+  -- where it follows that of i
+  back : (i k : ℕ) → i < s.count → k < s.count → IsPair s i k → b.drives i ≡ true → b.place i ≤ b.from i
+      → reaches_at s b i k ≤ steady_tick (s.clocks k) (suc (b.place k)) → ReachesBy s 0 i k (b.place i) (b.place k)
+  back i k inside there pair dominant late found =
+      let way = are.ways.straight i k inside there pair (allowed i inside dominant) in
       let up = tick_next s are i inside (b.place i) (b.from i) late in
-      let loop = are.later i i inside inside in
-      let ticks : steady_tick (s.clocks i) (b.place i) + s.delay k k ≤ steady_tick (s.clocks k) (suc (b.place k)) + s.delay k i = omega arith in
+      let ticks : steady_tick (s.clocks i) (b.place i) + s.delay i k ≤ steady_tick (s.clocks k) (suc (b.place k)) = omega arith in
       let high = instant_high s are i k inside there (b.place i) in
       let low = instant_low s are k i there inside (suc (b.place k)) in
       let one = instant_more s are k i there inside (b.place k) 1 in
       let place : b.place k + 1 ≡ suc (b.place k) = omega arith in
       let next : shared_instant s k i (suc (b.place k)) ≡ shared_instant s k i (b.place k) + 1 * shared_quantum s k i = ap (shared_instant s k i) (sym place) ∙ one in
       let same = same_tick s are i k inside there in
-      let m : shared_tick s i k * (steady_tick (s.clocks i) (b.place i) + s.delay k k) ≤ shared_tick s i k * (steady_tick (s.clocks k) (suc (b.place k)) + s.delay k i) = mul-le-mul_left (shared_tick s i k) ticks in
+      let m : shared_tick s i k * (steady_tick (s.clocks i) (b.place i) + s.delay i k) ≤ shared_tick s i k * steady_tick (s.clocks k) (suc (b.place k)) = mul-le-mul_left (shared_tick s i k) ticks in
       let e : shared_tick s k i * steady_tick (s.clocks k) (suc (b.place k)) ≡ shared_tick s i k * steady_tick (s.clocks k) (suc (b.place k)) = ap (λ t. t * steady_tick (s.clocks k) (suc (b.place k))) same in
-      let f : s.delay k k * shared_tick s k i ≡ s.delay k k * shared_tick s i k = ap (λ t. s.delay k k * t) same in
       omega arith
 
   -- of a station that follows an edge
-  pub followed : (i k : ℕ) → i < s.count → k < s.count → ((w : ℕ) → Drives s b i w → IsAhead i w) → IsFrom i → Follows k
-      → BeginsBefore s 0 i k (b.place i) (b.place k)
-  followed i k inside there ahead late follows = elim (cases_eq follows.by i) [
+  pub followed : (i k : ℕ) → i < s.count → k < s.count → IsPair s i k → ((w : ℕ) → Drives s b i w → IsAhead i w) → IsFrom i → Follows k
+      → ReachesBy s 0 i k (b.place i) (b.place k)
+  followed i k inside there pair ahead late follows = elim (cases_eq follows.by i) [
     | inl own ↦
         (let found : reaches_at s b i k ≤ steady_tick (s.clocks k) (suc (b.place k)) = subst (λ w. reaches_at s b w k ≤ steady_tick (s.clocks k) (suc (b.place k))) own follows.found in
-        back i k inside there (late (ap b.drives (sym own) ∙ follows.drives.dominant)) found)
+        (let dominant = ap b.drives (sym own) ∙ follows.drives.dominant in back i k inside there pair dominant (late dominant) found))
     | inr other ↦
         (let third = follows.drives.inside in
         let by = ticks_by s are i follows.by inside third (b.place i) (b.from follows.by) (s.delay follows.by i)
         (ahead follows.by (record { inside = third; other = other; dominant = follows.drives.dominant })) in
-        over i k follows.by inside there third by follows.found)
+        over i k follows.by inside there pair (record { inside = third; other = other; dominant = follows.drives.dominant }) follows.drives.other by follows.found)
   ]
 
   -- and of one that begins by itself
-  pub alone : (i k : ℕ) → i < s.count → k < s.count → IsAhead i k → b.from k ≡ b.place k → BeginsBefore s 0 i k (b.place i) (b.place k)
-  alone i k inside there ahead from =
+  pub alone : (i k : ℕ) → i < s.count → k < s.count → i ≢ k → b.drives k ≡ true → IsAhead i k → b.from k ≡ b.place k → ReachesBy s 0 i k (b.place i) (b.place k)
+  alone i k inside there other dominant ahead from =
+      let may = allowed k there dominant in
+      let way = are.ways.there_and_back i k inside there (other, inr may) may in
       let e : shared_instant s k i (b.from k) ≡ shared_instant s k i (b.place k) = ap (shared_instant s k i) from in
       omega arith
 
@@ -90,14 +89,14 @@ module _ (s : Stations) (are : AreStations s) (b : Start) where
   hard_from i (inl itself) = let e = itself.from in omega arith
   hard_from i (inr hard) = let e = hard.from in let p = hard.place in omega arith
 
-  hard_pair : (i k : ℕ) → i < s.count → k < s.count → i ≢ k → BeginFrame s b → BeginsAlone s b k ⊎ FollowsHard s b k → BeginsBefore s 0 i k (b.place i) (b.place k)
-  hard_pair i k inside there other begin (inl itself) =
-      alone i k inside there
+  hard_pair : (i k : ℕ) → i < s.count → k < s.count → IsPair s i k → BeginFrame s b → BeginsAlone s b k ⊎ FollowsHard s b k → ReachesBy s 0 i k (b.place i) (b.place k)
+  hard_pair i k inside there pair begin (inl itself) =
+      alone i k inside there pair.0 itself.dominant
       (exact_before s are i k inside there (b.place i) (b.from k) (s.delay k i)
-      (hard_ahead i k inside (record { inside = there; other = λ e. other (sym e); dominant = itself.dominant }) (begin i inside)))
+      (hard_ahead i k inside (record { inside = there; other = λ e. pair.0 (sym e); dominant = itself.dominant }) (begin i inside)))
       itself.from
-  hard_pair i k inside there other begin (inr hard) =
-      followed i k inside there
+  hard_pair i k inside there pair begin (inr hard) =
+      followed i k inside there pair
       (λ w drives. exact_before s are i w inside drives.inside (b.place i) (b.from w) (s.delay w i) (hard_ahead i w inside drives (begin i inside)))
       (λ dominant. hard_from i (begin i inside))
       (record {
@@ -108,5 +107,5 @@ module _ (s : Stations) (are : AreStations s) (b : Start) where
             omega arith);
       })
 
-  pub frame_close : BeginFrame s b → (i k : ℕ) → i < s.count → k < s.count → i ≢ k → BeginsBefore s 0 i k (b.place i) (b.place k)
-  frame_close begin i k inside there other = hard_pair i k inside there other begin (begin k there)
+  pub frame_close : BeginFrame s b → AreClose s s.may_send 0 b.place
+  frame_close begin i k inside there other some = hard_pair i k inside there (other, some) begin (begin k there)

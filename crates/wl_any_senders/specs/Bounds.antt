@@ -1,9 +1,20 @@
 -- Stations as one of the buses of the condition for margins.
-use Rattle.std.specs.Prelude.{◌≡◌, ℕ, ◌+◌, ◌*◌, ◌<◌, ◌≤◌, true, false}
+use Rattle.std.specs.Prelude.{◌≡◌, ℕ, ◌+◌, ◌-◌, ◌*◌, ◌<◌, ◌≤◌, ◌==◌, true, false, if◌then◌else◌}
 use Rattle.wl_bound.specs.Families.{Bus}
-use Rattle.wl_any_senders.specs.Stations.{Stations}
+use Rattle.wl_bound.specs.Terms.{greatest}
+use Rattle.wl_any_senders.specs.Stations.{Stations, shared_quantum, shared_tick}
 
--- The nodes and delays of the bus are these, in its units, and each clock lies within its tolerance. Each node sends, none only listens, and the loop of each takes a quantum and a tick.
+-- how long after its own the bit of station i reaches station k at most, if k follows the edge of station a, which may be i
+abbrev pub following_way : Stations → (k i a : ℕ) → ℕ
+following_way s k i a =
+    if a == i then shared_quantum s k i + shared_tick s i k
+    else (s.delay a i + s.delay i k) * shared_tick s i k + shared_quantum s k i + shared_tick s i k - s.delay a k * shared_tick s i k
+
+-- there and back if k may send, and else over whoever may
+abbrev pub bus_way : Stations → (k i : ℕ) → ℕ
+bus_way s k i = if s.may_send k then (s.delay k i + s.delay i k) * shared_tick s i k else greatest s.count s.may_send (following_way s k i)
+
+-- The nodes and delays of the bus are these, in its units, and each clock lies within its tolerance. None that may send only listens, and the loop of each of them takes a quantum and a tick.
 pub record IsBusOf (bus : Bus) (s : Stations) : Type 0 where
   pub nodes : bus.nodes ≡ s.count
   pub some : 0 < bus.tick
@@ -11,6 +22,7 @@ pub record IsBusOf (bus : Bus) (s : Stations) : Type 0 where
   pub fastest : (i : ℕ) → i < s.count → bus.shortest i * (s.clocks i).den ≤ bus.tick * (s.clocks i).num
   pub lengths : (i : ℕ) → bus.lengths i ≡ s.lengths i
   pub delays : (i j : ℕ) → i < s.count → j < s.count → bus.delay i j ≡ s.delay i j * bus.tick
-  pub sends : (i : ℕ) → i < s.count → bus.sends i ≡ true
-  pub answers : (i : ℕ) → i < s.count → bus.listens i ≡ false
-  pub loops : (i : ℕ) → i < s.count → bus.longest i + bus.tick ≤ bus.delay i i
+  pub ways : (i k : ℕ) → i < s.count → k < s.count → s.way k i ≡ bus_way s k i
+  pub sends : (i : ℕ) → i < s.count → bus.sends i ≡ s.may_send i
+  pub answers : (i : ℕ) → i < s.count → s.may_send i ≡ true → bus.listens i ≡ false
+  pub loops : (i : ℕ) → i < s.count → s.may_send i ≡ true → bus.longest i + bus.tick ≤ bus.delay i i

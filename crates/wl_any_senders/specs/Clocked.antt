@@ -21,7 +21,7 @@ SamplesBy l seen k level = beat_of l (seen_before seen k) (seen k) ≡ Sample le
 
 -- Where the next sample comes, for a bit whose place 0 is at a quantum `place`: a bit later if no edge moves it; by the place 0 that a hard synchronisation gives, one quantum before
 -- the one that finds the edge; or by the one to which another edge moves it, by the jump width at most (Bosch CAN 2.0 part B, section 10).
-pub record PlaceLaws : Type 0 where
+pub record BitPlaceLaws : Type 0 where
   pub alone : (l : Lengths) (seen : ℕ → Seen) (place : ℕ) (level : Level) → ByTheBook l → SamplesBy l seen (place + sample_at l) level
       → NoneSyncs l seen (place + sample_at l) (place + bit_quanta l + sample_at l)
       → SamplesNext l seen (place + sample_at l) (place + bit_quanta l + sample_at l) (seen (place + bit_quanta l + sample_at l)).level

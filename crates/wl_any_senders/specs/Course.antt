@@ -4,7 +4,7 @@ use Rattle.wl_segments.specs.Lengths.{sample_at, bit_quanta}
 use Rattle.wl_topology.specs.Driven.{any_below}
 use Rattle.wl_phase.specs.Clocks.{steady_tick}
 use Rattle.wl_any_senders.specs.Stations.{Stations, AreClose}
-use Rattle.wl_any_senders.specs.Starts.{Start, BeginBit, BeginFrame}
+use Rattle.wl_any_senders.specs.Starts.{Start, AreAllowed, BeginBit, BeginFrame}
 use Rattle.wl_any_senders.specs.OneBit.{AreRight, FollowsOne, IsRight, sampled_at}
 
 -- what is on the bus in bit n: dominant if some station drives the bit dominant (Bosch CAN 2.0 part A, section 2, bus values)
@@ -37,6 +37,7 @@ pub record IsCourse (s : Stations) (bits : ℕ → Start) (drove : ℕ → ℕ �
   pub few : (n : ℕ) → n < length → since_edge s bits n ≤ 9
   -- how the bits begin: the start of frame, a bit with an edge, another one
   pub begin : BeginFrame s (bits 0)
+  pub allowed : AreAllowed s (bits 0).drives
   pub due : (n i : ℕ) → i < s.count → (bits (suc n)).due i ≡ (bits n).place i + bit_quanta (s.lengths i)
   pub edge : (n : ℕ) → suc n < length → ((i : ℕ) → i < s.count → RightUpTo s bits drove (suc n) i) → begins_with_edge s bits (suc n) ≡ true → BeginBit s (bits (suc n))
   pub plain : (n i : ℕ) → suc n < length → i < s.count → ((i : ℕ) → i < s.count → RightUpTo s bits drove (suc n) i) → begins_with_edge s bits (suc n) ≡ false

@@ -4,7 +4,7 @@ use Rattle.wl_segments.specs.Lengths.{sample_at, bit_quanta}
 use Rattle.wl_topology.specs.Driven.{driven, any_below}
 use Rattle.wl_phase.specs.Clocks.{steady_tick}
 use Rattle.wl_any_senders.specs.Stations.{Stations, AreClose}
-use Rattle.wl_any_senders.specs.Starts.{Start, Drives, AreSenders, reaches_at}
+use Rattle.wl_any_senders.specs.Starts.{Start, Drives, AreAllowed, AreSenders, reaches_at}
 
 -- the tick at which station i samples a bit
 abbrev pub sampled_at : Stations → Start → ℕ → ℕ
@@ -22,6 +22,7 @@ FollowsOne s b k = (w : ℕ) × Drives s b k w × (reaches_at s b w k ≤ steady
 pub record OneBit (s : Stations) (sends : ℕ → Bool) (since : ℕ) (b c : Start) (drove : ℕ → ℕ → Bool) : Type 0 where
   pub close : AreClose s sends since b.place
   pub few : since ≤ 9
+  pub allowed : AreAllowed s sends
   pub senders : AreSenders s sends b
   -- a sender's bit begins with its place 0, or the edge of another one moved it; a dominant one is driven no earlier than that edge
   pub begun : (k : ℕ) → k < s.count → sends k ≡ true

@@ -67,3 +67,7 @@ BeginBit s b = (i : ℕ) → i < s.count → BeginsAlone s b i ⊎ FollowsSoft s
 -- who drives it dominant is one of the senders
 abbrev pub AreSenders : Stations → (sends : ℕ → Bool) → Start → Type 0
 AreSenders s sends b = (k : ℕ) → k < s.count → b.drives k ≡ true → sends k ≡ true
+
+-- and one of those that may send
+abbrev pub AreAllowed : Stations → (sends : ℕ → Bool) → Type 0
+AreAllowed s sends = (k : ℕ) → k < s.count → sends k ≡ true → s.may_send k ≡ true

@@ -4,19 +4,15 @@ use Rattle.wl_segments.specs.Lengths.{Lengths, sample_at, bit_quanta}
 use Rattle.wl_phase.specs.Clocks.{Steady, IsSteady, instant}
 use Rattle.wl_phase.specs.Ways.{ByTheBook}
 
--- Stations by number: their clocks, their segments, and the delay from one to another in ticks. That from a station to itself is the delay of its own loop.
+-- Stations by number: their clocks, their segments, and the delay from one to another in ticks. That from a station to itself is the delay of its own loop. Which of them may send, and
+-- how long after the bit of station k has begun that of station i may reach it: `way k i`, in the parts of a tick that their clocks share.
 pub record Stations : Type 0 where
   pub count : ℕ
   pub clocks : ℕ → Steady
   pub lengths : ℕ → Lengths
   pub delay : ℕ → ℕ → ℕ
-
--- They synchronise by the rules of the book, delays take a tick or more, and no way over a third station's loop is shorter (this project's profile).
-pub record AreStations (s : Stations) : Type 0 where
-  pub steady : (i : ℕ) → i < s.count → IsSteady (s.clocks i)
-  pub book : (i : ℕ) → i < s.count → ByTheBook (s.lengths i)
-  pub later : (i k : ℕ) → i < s.count → k < s.count → 0 < s.delay i k
-  pub detours : (i j k : ℕ) → i < s.count → j < s.count → k < s.count → s.delay i k + s.delay j j ≤ s.delay i j + s.delay j k
+  pub may_send : ℕ → Bool
+  pub way : ℕ → ℕ → ℕ
 
 -- What takes time at two stations i and k is measured in the parts of a tick that both clocks have: the product of their denominators makes one. A tick, a quantum of i
 -- and the instant at which quantum n of i begins:
@@ -33,30 +29,48 @@ shared_instant s i k n = (s.clocks k).den * instant (s.clocks i) n
 abbrev pub bit_drift : Stations → (i k : ℕ) → ℕ
 bit_drift s i k = bit_quanta (s.lengths i) * shared_quantum s i k - bit_quanta (s.lengths k) * shared_quantum s k i
 
--- By how much station i may begin a bit ahead of the edge that it follows, since it looks at the line once a quantum: not at all if its own loop takes a quantum and a tick.
-abbrev pub own_look : Stations → (i k : ℕ) → ℕ
-own_look s i k = shared_quantum s i k + shared_tick s i k - s.delay i i * shared_tick s i k
-
--- The bit that station i begins by its quantum n begins before station k's, by its quantum p, has reached it; but for k's look, and for what so many bits since the last edge
+-- The bit that station i begins by its quantum n reaches station k no later than by the way after that one's bit begins, by its quantum p, but for what so many bits since the last edge
 -- drift apart.
-abbrev pub BeginsBefore : Stations → (since i k n p : ℕ) → Type 0
-BeginsBefore s since i k n p = shared_instant s i k n < shared_instant s k i p + s.delay k i * shared_tick s i k + own_look s k i + since * bit_drift s i k
+abbrev pub ReachesBy : Stations → (since i k n p : ℕ) → Type 0
+ReachesBy s since i k n p = shared_instant s i k n + s.delay i k * shared_tick s i k < shared_instant s k i p + s.way k i + since * bit_drift s i k
 
--- It is so with each two stations if one of them sends, whichever begins: the bit of k is late at i by the way there and back at most, and early by k's look at most. Place 0
--- of the bit of each is at the quantum `place`.
+-- It is so with each two stations if one of them sends, both ways. Place 0 of the bit of each is at the quantum `place`.
 abbrev pub AreClose : Stations → (sends : ℕ → Bool) → (since : ℕ) → (place : ℕ → ℕ) → Type 0
 AreClose s sends since place = (i k : ℕ) → i < s.count → k < s.count → i ≢ k → (sends i ≡ true) ⊎ (sends k ≡ true)
-    → BeginsBefore s since i k (place i) (place k)
+    → ReachesBy s since i k (place i) (place k)
 
--- The inequalities of the condition, for two stations and ten bits' drift.
+-- one of two stations may send
+abbrev pub IsPair : Stations → (i k : ℕ) → Type 0
+IsPair s i k = (i ≢ k) × ((s.may_send i ≡ true) ⊎ (s.may_send k ≡ true))
+
+-- A way is as long as one edge takes that makes both stations begin. If k begins by itself, its bit reaches i, and that of i comes back. Else k looks at the line once a quantum, and follows the
+-- edge of a third station, or that of i.
+pub record HaveWays (s : Stations) : Type 0 where
+  pub there_and_back : (i k : ℕ) → i < s.count → k < s.count → IsPair s i k → s.may_send k ≡ true → (s.delay k i + s.delay i k) * shared_tick s i k ≤ s.way k i
+  pub over : (i k a : ℕ) → i < s.count → k < s.count → a < s.count → IsPair s i k → a ≢ i → a ≢ k → s.may_send a ≡ true
+      → (s.delay a i + s.delay i k) * shared_tick s i k + shared_quantum s k i + shared_tick s i k ≤ s.way k i + s.delay a k * shared_tick s i k
+  pub straight : (i k : ℕ) → i < s.count → k < s.count → IsPair s i k → s.may_send i ≡ true → shared_quantum s k i + shared_tick s i k ≤ s.way k i
+
+-- They synchronise by the rules of the book, delays take a tick or more, and no way over a third station's loop is shorter (this project's profile).
+pub record AreOnALine (s : Stations) : Type 0 where
+  pub steady : (i : ℕ) → i < s.count → IsSteady (s.clocks i)
+  pub book : (i : ℕ) → i < s.count → ByTheBook (s.lengths i)
+  pub later : (i k : ℕ) → i < s.count → k < s.count → 0 < s.delay i k
+  pub detours : (i j k : ℕ) → i < s.count → j < s.count → k < s.count → s.delay i k + s.delay j j ≤ s.delay i j + s.delay j k
+
+pub record AreStations (s : Stations) : Type 0 where
+  pub line : AreOnALine s
+  pub ways : HaveWays s
+
+-- The inequalities of the condition, of a station i, a station k that may send, and ten bits' drift.
 pub record HaveRoom (s : Stations) : Type 0 where
   -- an edge puts right what has gathered since the one before (Bosch CAN 2.0 part B, section 10: the resynchronisation jump width)
-  pub early_fits : (i k : ℕ) → i < s.count → k < s.count → i ≢ k → own_look s k i + 10 * bit_drift s i k ≤ (s.lengths i).sjw * shared_quantum s i k
-  pub late_fits : (i k : ℕ) → i < s.count → k < s.count → i ≢ k → 10 * bit_drift s k i ≤ (s.lengths i).sjw * shared_quantum s i k
-  -- a bit is there at each sample, though the sampler is early by the way there and back (Bosch CAN 2.0 part B, section 10: PROP_SEG)
-  pub is_there : (i k : ℕ) → i < s.count → k < s.count → i ≢ k
-      → (s.delay i k + s.delay k i) * shared_tick s i k + own_look s i k + 10 * bit_drift s k i ≤ sample_at (s.lengths i) * shared_quantum s i k
-  pub loops : (i : ℕ) → i < s.count → (s.clocks i).den * s.delay i i ≤ sample_at (s.lengths i) * (s.clocks i).num
+  pub early_fits : (i k : ℕ) → i < s.count → k < s.count → i ≢ k → s.may_send k ≡ true
+      → s.way k i + 10 * bit_drift s i k ≤ (s.delay k i + s.delay i k) * shared_tick s i k + (s.lengths i).sjw * shared_quantum s i k
+  pub late_fits : (i k : ℕ) → i < s.count → k < s.count → i ≢ k → s.may_send k ≡ true → 10 * bit_drift s k i ≤ (s.lengths i).sjw * shared_quantum s i k
+  -- a bit is there at each sample, as late as it may be (Bosch CAN 2.0 part B, section 10: PROP_SEG)
+  pub is_there : (i k : ℕ) → i < s.count → k < s.count → i ≢ k → s.may_send k ≡ true → s.way i k + 10 * bit_drift s k i ≤ sample_at (s.lengths i) * shared_quantum s i k
+  pub loops : (i : ℕ) → i < s.count → s.may_send i ≡ true → (s.clocks i).den * s.delay i i ≤ sample_at (s.lengths i) * (s.clocks i).num
   -- and the next one isn't there yet
-  pub not_early : (i k : ℕ) → i < s.count → k < s.count → i ≢ k
-      → own_look s k i + 10 * bit_drift s i k + shared_tick s i k ≤ (s.lengths i).ps2 * shared_quantum s i k
+  pub not_early : (i k : ℕ) → i < s.count → k < s.count → i ≢ k → s.may_send k ≡ true
+      → s.way k i + 10 * bit_drift s i k + shared_tick s i k ≤ (s.delay k i + s.delay i k) * shared_tick s i k + (s.lengths i).ps2 * shared_quantum s i k

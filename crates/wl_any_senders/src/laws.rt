@@ -9,34 +9,35 @@ ghost use Rattle.wl_phase.specs.Ways.{ByTheBook, moved_to};
 ghost use Rattle.wl_bound.specs.Conditions.{IsSound};
 ghost use Rattle.wl_bound.specs.Families.{Bus};
 ghost use Rattle.wl_any_senders.specs.Bounds.{IsBusOf};
-ghost use Rattle.wl_any_senders.specs.Clocked.{NoEdgeLaws, PlaceLaws};
-ghost use Rattle.wl_any_senders.specs.Stations.{AreClose, AreStations, HaveRoom, Stations};
-ghost use Rattle.wl_any_senders.specs.Starts.{AreSenders, BeginBit, BeginFrame, Start};
+ghost use Rattle.wl_any_senders.specs.Clocked.{NoEdgeLaws, BitPlaceLaws};
+ghost use Rattle.wl_any_senders.specs.Stations.{AreClose, AreOnALine, AreStations, HaveRoom, HaveWays, Stations};
+ghost use Rattle.wl_any_senders.specs.Starts.{AreAllowed, AreSenders, BeginBit, BeginFrame, Start};
 ghost use Rattle.wl_any_senders.specs.OneBit.{AreRight, OneBit};
 ghost use Rattle.wl_any_senders.specs.Course.{IsCourse, IsSampled};
 
-/// Law: stations that begin a frame begin it close together. A station begins by itself if no edge has reached it. Each other one
-/// follows the first edge that it finds. Then the bit of each reaches each other before that one's own is more than the way there
-/// and back ahead of it. It is early by no more than the look of a station that follows.
+/// Law: stations that begin a frame begin it close together: the start of frame of each reaches each other one by its way after that
+/// one's own has begun, if one of the two may send. A station begins by itself if no edge has reached it. Each other one follows the
+/// first edge that it finds.
 pub fn a_frame_begins_close_together()
-    ensures { (s : Stations) (b : Start) → AreStations s → BeginFrame s b → AreClose s (λ i. true) 0 b.place }
+    ensures { (s : Stations) (b : Start) → AreStations s → AreAllowed s b.drives → BeginFrame s b
+        → AreClose s s.may_send 0 b.place }
 {}
 
-/// Law: in each bit without an edge they drift apart by one bit's drift.
+/// Law: in a bit without an edge any two stations drift apart by one bit's drift at most.
 pub fn a_bit_without_an_edge_adds_its_drift()
     ensures { (s : Stations) (sends : ℕ → Bool) (since : ℕ) (place : ℕ → ℕ) → AreClose s sends since place
         → AreClose s sends (suc since) (λ i. place i + bit_quanta (s.lengths i)) }
 {}
 
-/// Law: an edge brings them close together again, if ten bits' drift and the look fit the jump width of each. So it is with those that drive
-/// the bit dominant; whoever sends recessive loses the arbitration by it, and stays close to each of them.
+/// Law: an edge brings them close together again, if there is room. So it is with those that drive the bit dominant. Whoever sends
+/// recessive loses the arbitration by it, and stays close to each of them.
 pub fn an_edge_brings_them_close_again()
     ensures { (s : Stations) (sends : ℕ → Bool) (since : ℕ) (b : Start) → AreStations s → HaveRoom s → since ≤ 10
-        → AreClose s sends since b.due → AreSenders s sends b → BeginBit s b → AreClose s b.drives 0 b.place }
+        → AreClose s sends since b.due → AreSenders s sends b → AreAllowed s b.drives
+        → BeginBit s b → AreClose s b.drives 0 b.place }
 {}
 
-/// Law: each station samples what all drive: dominant if one sender drives the bit dominant, else recessive. The conditions are those of the margins: the way there and
-/// back, the look and ten bits' drift are within the way to the sample, and the look, the drift and a tick within PHASE_SEG2.
+/// Law: each station samples what all drive, if there is room: dominant if one sender drives the bit dominant, else recessive.
 pub fn all_sample_what_is_driven()
     ensures { (s : Stations) (sends : ℕ → Bool) (since : ℕ) (b c : Start) (drove : ℕ → ℕ → Bool) → AreStations s → HaveRoom s
         → OneBit s sends since b c drove → AreRight s b drove }
@@ -44,8 +45,8 @@ pub fn all_sample_what_is_driven()
     wl_topology::driven_laws();
 }
 
-/// Law: so all stations sample the bits of a frame as they are on the bus, one after another, whoever sends them, from the start of frame on. Whoever has sent each as it
-/// is on the bus still sends; each other one has lost, and all go on close to those that still send.
+/// Law: so all stations sample the bits of a frame as they are on the bus, one after another, whoever sends them, from the start of
+/// frame on. Whoever has sent each bit as it is on the bus still sends. Each other one has lost, and stays close to those that send.
 pub fn all_sample_the_same_bits()
     ensures { (s : Stations) (bits : ℕ → Start) (drove : ℕ → ℕ → Bool) (length : ℕ) (until : ℕ → ℕ) → AreStations s → HaveRoom s
         → IsCourse s bits drove length until → (n : ℕ) → n < length → IsSampled s bits drove n }
@@ -53,8 +54,9 @@ pub fn all_sample_the_same_bits()
     wl_topology::driven_laws();
 }
 
-/// Law: a bit clock moves place 0 of a bit as [`an_edge_brings_them_close_again`] has it. Let a node have sampled a recessive bit by its place 0, and find an edge
-/// before its next sample while it drives recessive. Then it samples that bit next, dominant, by the place 0 to which the edge has moved it.
+/// Law: a bit clock moves place 0 of a bit as [`an_edge_brings_them_close_again`] has it. Let a node have sampled a recessive bit, and
+/// find an edge before its next sample while it drives recessive. Then it samples dominant next, counted from the place 0 to which
+/// the edge has moved that bit.
 pub fn a_bit_clock_follows_an_edge()
     ensures { (l : Lengths) (seen : ℕ → Seen) (place found : ℕ) → ByTheBook l → FindsDominant l seen (place + sample_at l) found
         → SamplesNext l seen (place + sample_at l) (moved_to (found - 1) l.sjw (place + bit_quanta l) + sample_at l) Dominant }
@@ -62,16 +64,17 @@ pub fn a_bit_clock_follows_an_edge()
     wl_phase::laws::the_next_sample_is_dominant();
 }
 
-/// Law: a bus that meets the condition for margins has room for any senders, wherever within its tolerance each clock lies. All its nodes send, and the loop of each takes
-/// a quantum and a tick.
+/// Law: a bus that meets the condition for margins has room for any senders, wherever within its tolerance each clock lies. The loop of
+/// each node that may send takes a quantum and a tick. The ways are there and back, or over the edges that a receiver follows.
 pub fn a_sound_bus_has_room()
-    ensures { (bus : Bus) (s : Stations) → IsBusOf bus s → IsSound bus → HaveRoom s }
+    ensures ways { (bus : Bus) (s : Stations) → AreOnALine s → IsBusOf bus s → HaveWays s }
+    ensures room { (bus : Bus) (s : Stations) → AreOnALine s → IsBusOf bus s → IsSound bus → HaveRoom s }
 {}
 
-/// Law: a bit clock samples its next bit by the place 0 that a station's bit has in these laws: a bit later if no edge synchronises it, from a quantum before the one that
-/// finds the edge of a hard synchronisation, or where another edge moves it.
+/// Law: a bit clock samples its next bit by the place 0 that a station's bit has in these laws: a bit later if no edge synchronises it,
+/// from a quantum before the one that finds the edge of a hard synchronisation, or where another edge moves it.
 pub fn a_bit_clock_samples_by_its_place()
-    ensures { PlaceLaws }
+    ensures { BitPlaceLaws }
 {
     wl_phase::laws::an_edge_moves_the_sample();
 }
