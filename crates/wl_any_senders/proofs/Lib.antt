@@ -7,3 +7,4 @@ mod Passing
 mod Rows
 mod Sampled
 mod Starting
+mod Planned

@@ -4,3 +4,4 @@ pub mod OneBit
 pub mod Course
 pub mod Bounds
 pub mod Clocked
+pub mod Plans

@@ -8,8 +8,10 @@ ghost use Rattle.wl_phase.specs.Answer.{FindsDominant, SamplesNext};
 ghost use Rattle.wl_phase.specs.Ways.{ByTheBook, moved_to};
 ghost use Rattle.wl_bound.specs.Conditions.{IsSound};
 ghost use Rattle.wl_bound.specs.Families.{Bus};
+ghost use Rattle.wl_plan.specs.declared.plan.Plan.{Plan};
 ghost use Rattle.wl_any_senders.specs.Bounds.{IsBusOf};
 ghost use Rattle.wl_any_senders.specs.Clocked.{NoEdgeLaws, BitPlaceLaws};
+ghost use Rattle.wl_any_senders.specs.Plans.{IsPlanOf};
 ghost use Rattle.wl_any_senders.specs.Stations.{AreClose, AreOnALine, AreStations, HaveRoom, HaveWays, Stations};
 ghost use Rattle.wl_any_senders.specs.Starts.{AreAllowed, AreSenders, BeginBit, BeginFrame, Start};
 ghost use Rattle.wl_any_senders.specs.OneBit.{AreRight, OneBit};
@@ -69,6 +71,11 @@ pub fn a_bit_clock_follows_an_edge()
 pub fn a_sound_bus_has_room()
     ensures ways { (bus : Bus) (s : Stations) → AreOnALine s → IsBusOf bus s → HaveWays s }
     ensures room { (bus : Bus) (s : Stations) → AreOnALine s → IsBusOf bus s → IsSound bus → HaveRoom s }
+{}
+
+/// Law: the nodes of each checked plan of one rate a clock, by the rules of the book, are such stations, if none only listens.
+pub fn a_plan_is_on_a_line()
+    ensures { (plan : Plan) (s : Stations) → IsPlanOf plan s → AreOnALine s }
 {}
 
 /// Law: a bit clock samples its next bit by the place 0 that a station's bit has in these laws: a bit later if no edge synchronises it,
