@@ -33,10 +33,6 @@ same_places s sends since place new h close i k inside there other some =
 moves_up : (aim jump n old bit : ℕ) → n ≡ old + bit → jump ≤ bit → old ≤ moved_to aim jump n
 moves_up aim jump n old bit e h = omega arith
 
-both_false : (a b : Bool) → a ≡ true → (a && b) ≡ false → b ≡ false
-both_false true b e f = f
-both_false false b e f = cc
-
 module _ (s : Stations) (are : AreStations s) (room : HaveRoom s) (bits : ℕ → Start) (drove : ℕ → ℕ → Bool) (length : ℕ) (until : ℕ → ℕ)
     (is : IsCourse s bits drove length until) (laws : DrivenLaws) where
   abbrev sends : ℕ → ℕ → Bool
