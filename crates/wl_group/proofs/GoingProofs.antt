@@ -31,6 +31,7 @@ use Rattle.wl_group.specs.Running as runs_of
 use Rattle.wl_group.specs.ValueLaws.{ValueLaws}
 use Rattle.wl_group.specs.GroupValue.{GroupValue, IsGroupValue, Matches, quanta_at, belongs, member_after, member_at, members_now, may_run, reads_at, emission_at, run_on}
 use Rattle.wl_group.specs.Going.{told_by, at_quantum, gone_on, AdvancesTo, HasGoneOn, HasRunSome}
+use Rattle.wl_group.specs.Through.{spoken}
 use Rattle.wl_group.proofs.CellProofs.{one_longer}
 use Rattle.wl_group.proofs.GroupProofs.{place_keeps}
 use Rattle.wl_group.proofs.RunProofs.{some_there, set_own, set_there}
@@ -73,20 +74,7 @@ module _ (sims : SimulationLaws) (l : Line) (s : IsSound l) (i : ℕ) (b : i < l
       let changed = sym (count_on n f inside stood) in
       λ d. record { saw = saw d; changed = changed d }
 
--- ---- the list of quanta
-
-left_up : (xs : List (Option ℕ)) (i k m : ℕ) → slice_index_or xs i None ≡ Some k → k ≤ m → quanta_to_come (slice_set xs i (Some m)) ≤ quanta_to_come xs
-left_up [] i k m h b = omega arith
-left_up (None ∷ xs) zero k m h b = absurd cc
-left_up (Some n ∷ xs) zero k m h b = (let e : n ≡ k = cc in omega arith)
-left_up (None ∷ xs) (suc i) k m h b = left_up xs i k m h b
-left_up (Some n ∷ xs) (suc i) k m h b = (let e = left_up xs i k m h b in omega arith)
-
 -- ---- a group with a member at a later quantum
-
--- what node i says at quantum k in the simulation
-abbrev spoken : Line → ℕ → ℕ → List Record
-spoken l i k = emission l i (member_after l i k) (level_of (found l (level l) i (l.instant i k)))
 
 pub here_at : (g : GroupValue) (i k m : ℕ) → quanta_at g i ≡ Some k → quanta_at (at_quantum g i m) i ≡ Some m
 here_at g i k m ran = get_or-set_same g.ran i (Some m) None (some_there g.ran i k ran)
@@ -133,7 +121,7 @@ module _ (laws : ValueLaws) (groups : GroupLaws) (sims : SimulationLaws) (sound 
       | inr new ↦ subst (λ m. (line_of g.plan).instant i m < g.plan.end) (let e : k + (j - k) ≡ j = omega arith in e) (early (j - k) (omega arith))
     ]
 
-    own_before : IsMember (line_of g.plan) i (member_after (line_of g.plan) i k) (slots_of g.replica)
+    pub own_before : IsMember (line_of g.plan) i (member_after (line_of g.plan) i k) (slots_of g.replica)
     own_before = subst (λ m. IsMember (line_of g.plan) i m (slots_of g.replica)) (ap (member_at (line_of g.plan) i) ran) (v.holds.each i node (ap is_some ran))
 
     -- node i is a member there
@@ -184,12 +172,13 @@ next_of_some i old new said h =
 -- ---- one by one
 
 -- the group after n quanta of node i one by one, and what it said at each
-record OneByOne (g : GroupValue) (i k n : ℕ) : Type 0 where
-  h : GroupValue
-  rs : List Record
-  steps : Ran g rs h
-  quanta : h.ran ≡ slice_set g.ran i (Some (k + n))
-  last : (m : ℕ) → n ≡ suc m → (r : Record) → Contains (spoken (line_of g.plan) i (k + m)) r → Contains rs r
+pub record OneByOne (g : GroupValue) (i k n : ℕ) : Type 0 where
+  pub h : GroupValue
+  pub rs : List Record
+  pub steps : Ran g rs h
+  pub quanta : h.ran ≡ slice_set g.ran i (Some (k + n))
+  pub last_true : (m : ℕ) → n ≡ suc m → AreTrueOf (length g.plan.nodes) (table_of g.plan) (spoken (line_of g.plan) i (k + m))
+  pub last : (m : ℕ) → n ≡ suc m → (r : Record) → Contains (spoken (line_of g.plan) i (k + m)) r → Contains rs r
 
 module _ (laws : ValueLaws) (groups : GroupLaws) (tables : TableLaws) (joins : SlotsLaws) (knows : KnownLaws) (sims : SimulationLaws) (states : SlotsOfStates) (sound : CheckedIsSound) (i : ℕ) where
   -- what is known at a place stays known
@@ -202,13 +191,14 @@ module _ (laws : ValueLaws) (groups : GroupLaws) (tables : TableLaws) (joins : S
       (subst (IsBelow (slots_of g.replica)) (sym (states.both g.replica (state_of g.replica.nodes (emission_at g i)))) (joins.above_first (slots_of g.replica) (slots_of (state_of g.replica.nodes (emission_at g i)))))
       t h
 
-  one_by_one : (n : ℕ) (g : GroupValue) (k : ℕ) → IsGroupValue g → quanta_at g i ≡ Some k → ((j : ℕ) → j < n → (line_of g.plan).instant i (k + j) < g.plan.end)
+  pub one_by_one : (n : ℕ) (g : GroupValue) (k : ℕ) → IsGroupValue g → quanta_at g i ≡ Some k → ((j : ℕ) → j < n → (line_of g.plan).instant i (k + j) < g.plan.end)
       → ((j : ℕ) → j < n → (line_of g.plan).instant i (k + j) < place_horizon (length g.plan.nodes) (line_of g.plan).delay (slots_of g.replica) i) → OneByOne g i k n
   one_by_one zero g k v ran early known = record {
     h = g;
     rs = [];
     steps = runs_of.none;
     quanta = sym (set_own g.ran i (k + 0) (ran ∙ ap (λ m. Some m) (omega arith)));
+    last_true = λ m e. absurd (omega arith);
     last = λ m e. absurd (omega arith);
   }
   one_by_one (suc n) g k v ran early known =
@@ -225,6 +215,11 @@ module _ (laws : ValueLaws) (groups : GroupLaws) (tables : TableLaws) (joins : S
         rs = emission_at g i ++ next.rs;
         steps = runs_of.more i k ran may next.steps;
         quanta = next.quanta ∙ (set_there g.ran i (Some (suc k)) (Some (suc k + n)) ∙ ap (λ m. slice_set g.ran i (Some m)) (sym (on n)));
+        last_true = λ m is. elim (cases_eq n 0) [
+          | inl none ↦ subst (λ q. AreTrueOf (length g.plan.nodes) (table_of g.plan) (spoken l i q)) (let f : k ≡ k + m = omega arith in f)
+              (subst (AreTrueOf (length g.plan.nodes) (table_of g.plan)) (spoken_is laws groups sims sound g v i k ran may) (laws.emits_true g v i may))
+          | inr some ↦ subst (λ q. AreTrueOf (length g.plan.nodes) (table_of g.plan) (spoken l i q)) (let f : suc k + (n - 1) ≡ k + m = omega arith in f) (next.last_true (n - 1) (omega arith))
+        ];
         last = λ m is r c. elim (cases_eq n 0) [
           | inl none ↦ Contains-append_left (emission_at g i) next.rs r
               (subst (λ es. Contains es r) (sym (spoken_is laws groups sims sound g v i k ran may)) (subst (λ q. Contains (spoken l i q) r) (let f : k + m ≡ k = omega arith in f) c))
@@ -232,106 +227,3 @@ module _ (laws : ValueLaws) (groups : GroupLaws) (tables : TableLaws) (joins : S
               (next.last (n - 1) (omega arith) r (subst (λ q. Contains (spoken l i q) r) (let f : k + m ≡ suc k + (n - 1) = omega arith in f) c))
         ];
       }
-
-  -- ---- what was run in a row, as the group's calls say it
-
-  module _ (most : ℕ) (old new : GroupValue) (said : List Record) (v : IsGroupValue old) (h : HasRunSome i most old new said) where
-    l : Line
-    l = line_of old.plan
-
-    at : GroupValue
-    at = at_quantum old i (h.k + h.n)
-
-    there : quanta_at (at_quantum old i (h.k + h.n)) i ≡ Some (h.k + h.n)
-    there = here_at old i h.k (h.k + h.n) h.may.ran
-
-    may : may_run (at_quantum old i (h.k + h.n)) i ≡ true
-    may = may_at laws groups sims sound (at_quantum old i (h.k + h.n)) h.may.value i (h.k + h.n) there (h.may.early h.n (omega arith)) (h.may.known h.n (omega arith))
-
-    said_spoken : said ≡ spoken (line_of old.plan) i (h.k + h.n)
-    said_spoken = h.last.emits ∙ spoken_is laws groups sims sound (at_quantum old i (h.k + h.n)) h.may.value i (h.k + h.n) there may
-
-    here : Level
-    here = level_of (found (line_of old.plan) (level (line_of old.plan)) i ((line_of old.plan).instant i (h.k + h.n)))
-
-    saw_after : seen (line_of old.plan) i (h.k + h.n) ++ here ∷ [] ≡ seen (line_of old.plan) i (h.k + suc h.n)
-    unfolding seen here
-    saw_after = ap (seen (line_of old.plan) i) (let e : suc (h.k + h.n) ≡ h.k + suc h.n = omega arith in e)
-
-    -- the member after its last quantum, by the machine and by the simulation
-    after_is : member_after_quantum (line_of old.plan) i (member_after (line_of old.plan) i (h.k + h.n)) here ≡ member_after (line_of old.plan) i (h.k + suc h.n)
-    unfolding here
-    after_is =
-        let lin = line_of old.plan in
-        let g = at_quantum old i (h.k + h.n) in
-        let c = and_parts (belongs g i) (can_run lin i (members_now g i) (slots_of g.replica)) may in
-        let long : length (seen lin i (h.k + h.n)) ≡ h.k + h.n = sims.length_seen lin i (h.k + h.n) in
-        let b = node laws groups sims sound old v i h.k h.may.ran in
-        let m_is : members_now g i ≡ member_after lin i (h.k + h.n) = ap (member_at lin i) there in
-        let read : reads_at g i ≡ here =
-        groups.read_is_found lin (sound old.plan v.checked) (slots_of g.replica) h.may.value.holds.truth i (members_now g i) b c.1
-        ∙ (ap (λ m. level_of (found lin (level lin) i (next_tick lin i m))) m_is ∙ ap (λ q. level_of (found lin (level lin) i (lin.instant i q))) long) in
-        let ran_on : quanta_at (run_on i (h.k + h.n) g) i ≡ Some (suc (h.k + h.n)) = get_or-set_same g.ran i (Some (suc (h.k + h.n))) None (some_there g.ran i (h.k + h.n) there) in
-        sym (ap (λ m. member_after_quantum lin i m (reads_at g i)) m_is ∙ ap (member_after_quantum lin i (member_after lin i (h.k + h.n))) read)
-        ∙ (laws.steps_to g h.may.value i (h.k + h.n) there may
-        ∙ (ap (member_at lin i) ran_on ∙ ap (member_after lin i) (let e : suc (h.k + h.n) ≡ h.k + suc h.n = omega arith in e)))
-
-    said_is : said ≡ told_by old i h.k (suc h.n)
-    unfolding here
-    said_is =
-        let lin = line_of old.plan in
-        let m = member_after lin i (h.k + h.n) in
-        let new_m = member_after lin i (h.k + suc h.n) in
-        let long : length (seen lin i (h.k + h.n)) ≡ h.k + suc h.n - 1 = sims.length_seen lin i (h.k + h.n) ∙ omega arith in
-        let turn : turns lin i m here ≡ differs (lin.drives i new_m.saw) (lin.drives i (member_after lin i h.k).saw) =
-        ap (λ xs. differs (lin.drives i xs) (lin.drives i m.saw)) saw_after ∙ ap (differs (lin.drives i new_m.saw)) h.may.stood in
-        said_spoken
-        ∙ (ap (λ b. (if b then Edge i m.changed (next_tick lin i m) ∷ [] else []) ++ Silence i (member_after_quantum lin i m here).changed (reach lin i (member_after_quantum lin i m here).saw) ∷ []) turn
-        ∙ (ap (λ x. (if differs (lin.drives i new_m.saw) (lin.drives i (member_after lin i h.k).saw) then Edge i x (next_tick lin i m) ∷ [] else [])
-        ++ Silence i (member_after_quantum lin i m here).changed (reach lin i (member_after_quantum lin i m here).saw) ∷ []) h.may.changed
-        ∙ (ap (λ q. (if differs (lin.drives i new_m.saw) (lin.drives i (member_after lin i h.k).saw) then Edge i (member_after lin i h.k).changed (lin.instant i q) ∷ [] else [])
-        ++ Silence i (member_after_quantum lin i m here).changed (reach lin i (member_after_quantum lin i m here).saw) ∷ []) long
-        ∙ ap (λ (x : Member). (if differs (lin.drives i new_m.saw) (lin.drives i (member_after lin i h.k).saw) then Edge i (member_after lin i h.k).changed (lin.instant i (h.k + suc h.n - 1)) ∷ [] else [])
-        ++ Silence i x.changed (reach lin i x.saw) ∷ []) after_is)))
-
-    quanta_new : slice_set (slice_set old.ran i (Some (h.k + h.n))) i (Some (suc (h.k + h.n))) ≡ slice_set old.ran i (Some (h.k + suc h.n))
-    quanta_new = set_there old.ran i (Some (h.k + h.n)) (Some (suc (h.k + h.n))) ∙ ap (λ m. slice_set old.ran i (Some m)) (omega arith)
-
-    new_is : new ≡ gone_on old i (h.k + suc h.n) said
-    new_is =
-        let e = sym h.last.emits in
-        h.last.runs (h.k + h.n) there
-        ∙ (λ d. record { plan = old.plan; ran = quanta_new d; replica = state_with_records old.replica (e d); emitted = old.emitted ++ e d })
-
-    advances : (p : Party) → Matches p old → AdvancesTo old new said p
-    advances p match =
-        let one = one_by_one (suc h.n) old h.k v h.may.ran (λ j b. h.may.early j (omega arith)) (λ j b. h.may.known j (omega arith)) in
-        let run = laws.all_run_as old one.h one.rs v p match one.steps in
-        let on = laws.all_run old one.h one.rs v one.steps in
-        let ran : new.ran ≡ one.h.ran = ap (λ (g : GroupValue). g.ran) new_is ∙ sym one.quanta in
-        let plan : new.plan ≡ one.h.plan = ap (λ (g : GroupValue). g.plan) new_is ∙ sym on.plan in
-        record {
-          q = run.0;
-          emitted = one.rs;
-          steps = run.1;
-          members = λ j b. run.2.members j (ap (λ xs. is_some (slice_index_or xs j None)) (sym ran) ∙ b)
-              ∙ (ap (λ x. member_at (line_of x) j (slice_index_or one.h.ran j None)) (sym plan)
-              ∙ ap (λ xs. member_at (line_of new.plan) j (slice_index_or xs j None)) (sym ran));
-          some = λ r c. one.last h.n refl r (subst (λ rs. Contains rs r) said_spoken c);
-        }
-
-    fewer : quanta_left new < quanta_left old
-    fewer = (let a = h.last.fewer in let b = left_up old.ran i h.k (h.k + h.n) h.may.ran (omega arith) in omega arith)
-
-    pub gone_of_some : HasGoneOn i old new said
-    gone_of_some = record {
-      k = h.k;
-      n = suc h.n;
-      some = omega arith;
-      ran = h.may.ran;
-      said_is = said_is;
-      new_is = new_is;
-      advances = advances;
-      said_true = subst (AreTrueOf (length old.plan.nodes) (table_of old.plan)) (sym h.last.emits) (laws.emits_true (at_quantum old i (h.k + h.n)) h.may.value i may);
-      fewer = fewer;
-    }

@@ -84,7 +84,7 @@ module _ (tables : TableLaws) (joins : SlotsLaws) (knows : KnownLaws) (sims : Si
   taking_holds l s belongs rs p v t = subst (IsGroup l belongs p.members) (sym (joins.of_two_lists rs p.taken)) (group_joins l belongs p.members (slots p) (slots_of_records rs) v t)
 
   -- no more changes lie below a tick than there are
-  count_most : (l : Line) → IsSound l → (i u : ℕ) → i < l.nodes → count_below u (changes l i) ≤ most_edges
+  pub count_most : (l : Line) → IsSound l → (i u : ℕ) → i < l.nodes → count_below u (changes l i) ≤ most_edges
   count_most l s i u b = (let f = s.few_changes i b in elim (cases_lt u l.stop) [
     | inl early ↦ (let a = tables.count_less u l.stop (changes l i) (omega arith) in let e = sims.all_at_end l i l.stop s.causal b (omega arith) in omega arith)
     | inr late ↦ (let e = sims.all_at_end l i u s.causal b late in omega arith)

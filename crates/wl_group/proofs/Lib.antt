@@ -10,5 +10,8 @@ mod Rows
 mod ValueProofs
 mod RunProofs
 mod RowProofs
+mod ThroughProofs
+mod GoneProofs
+mod OverProofs
 mod WayProofs
 mod AllProofs

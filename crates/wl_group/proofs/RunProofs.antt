@@ -128,10 +128,10 @@ module _ (laws : ValueLaws) (sound : CheckedIsSound) (plan : Plan) (cells : List
 
     -- a list of cells in which it has another state
     module _ (new : Cell) where
-      ran_new : ran_of (set cells i (Some new)) ≡ set (ran_of cells) i (Some (quanta_of new.node))
+      pub ran_new : ran_of (set cells i (Some new)) ≡ set (ran_of cells) i (Some (quanta_of new.node))
       ran_new = ran_set cells i (Some new)
 
-      cells_new : IsCell plan i new → AreCells plan (set cells i (Some new))
+      pub cells_new : IsCell plan i new → AreCells plan (set cells i (Some new))
       cells_new own_new j c e = elim (cases_eq j i) [
         | inl same ↦
             let f : new ≡ c = some_is new c (sym (get_or-set_same cells i (Some new) None (some_there cells i cell is)) ∙ (ap (λ n. get_or (set cells i (Some new)) n None) (sym same) ∙ e)) in

@@ -12,5 +12,6 @@ pub mod Party
 pub mod Running
 pub mod Said
 pub mod Stored
+pub mod Through
 pub mod ValueLaws
 pub mod Ways

@@ -11,6 +11,7 @@ ghost use Rattle.wl_group.specs.Member.{Member};
 ghost use Rattle.wl_group.specs.Running.{HasGone, HasNotGone, MaySay};
 ghost use Rattle.wl_group.specs.declared.advance.TheConstants.{MOST_EMITTED};
 
+use crate::ahead::{MOST_AHEAD, run_over};
 use crate::answer::{Advance, Emission};
 use crate::cell::Cell;
 use crate::group::Group;
@@ -53,9 +54,9 @@ impl Group {
     /// Runs quanta of a node in a row, if it may run one. Returns the change of its drive, if there is one, and one promise in the place of
     /// each quantum's; none if the node may not run, and then nothing changed. Any number may be asked.
     ///
-    /// It goes on up to the first quantum that changes the drive, or that is not below its last promise. It stays below the end and below
-    /// what is known of the line at its place, and stops if the line there changes. So it may run fewer quanta than it could. Refused out
-    /// of memory, the group is as it was.
+    /// It goes on up to the first quantum that changes the drive. It stays below the end and below what is known of the line at its place
+    /// before, and goes through a few stretches of the line. So it may run fewer quanta than it could. Refused out of memory, the group is as
+    /// it was.
     pub fn go(&mut self, node: u8) -> Result<Option<Emission>, AllocError>
         ensures none { IfOk result (λ gone. IfNone gone ((may_run self.old node ≡ false) × (self.new ≡ self.old))) }
         ensures gone { IfOk result (λ gone. IfSome gone (λ said. HasGoneOn node self.old self.new said.items)) }
@@ -77,8 +78,43 @@ impl Group {
         let Some(known) = self.known_for(node) else {
             return Ok(None);
         };
-        let said = self.run_some(node, known, ALL_QUANTA)?;
+        let said = self.run_row(node, known)?;
         Ok(Some(said))
+    }
+
+    /// Runs quanta of a member in a row, as far as the line at its place is known: one at least, none after one that changes its drive. It
+    /// takes what the member says after them. Refused out of memory, the group is as it was.
+    fn run_row(&mut self, i: u8, known: u64) -> Result<Emission, AllocError>
+        requires may { may_run self.old i ≡ true }
+        requires known { IsKnownAt self.old i known }
+        ensures gone { IfOk result (λ said. HasGoneOn i self.old self.new said.items) }
+        ensures err { OnErr result (self.new ≡ self.old) }
+    {
+        value_laws();
+        group_laws();
+        wl_record_core::table_laws();
+        wl_replica::slots_laws();
+        wl_replica::known_laws();
+        wl_replica::slots_of_states();
+        wl_plan::simulation_laws();
+        wl_plan::checked_is_sound();
+        let end = known.min(self.plan.end);
+        let ahead = self.look_ahead(i, end, self.far[i as usize]);
+        let Some(cell) = &mut self.cells[i as usize] else {
+            unreachable!()
+        };
+        let said = run_over(
+            self.alloc,
+            &self.plan,
+            cell,
+            i,
+            &ahead,
+            end,
+            &mut self.replica,
+            &mut self.emitted,
+        )?;
+        self.far[i as usize] = far_after(self.far[i as usize], said.len());
+        Ok(said)
     }
 
     /// Returns the tick below which the line is known at a node's place, if the node may run its next quantum. Any number may be asked.
@@ -263,11 +299,19 @@ impl Group {
     }
 }
 
+/// Returns how many stretches of the line a member looks for next: more after a row without a change, of which one record is said, and few
+/// else.
+fn far_after(far: u8, said: usize) -> u8 {
+    if said > 1 {
+        return far / 2;
+    }
+    far.saturating_mul(2)
+        .saturating_add(1)
+        .min(MOST_AHEAD as u8)
+}
+
 /// The most records that one advance emits.
 const MOST_EMITTED: usize = 2;
-
-/// No fewer quanta than a node runs.
-const ALL_QUANTA: u64 = u64::MAX;
 
 /// Runs quanta of a member in a row, each with this level: one at least, `most` at most, none after one that changes its drive. The replica
 /// takes what it says after them, and it is appended to what was emitted.
@@ -312,7 +356,7 @@ fn run_cell(
 
 /// Moves what a replica knows into one that has room in these slots. Refused when out of memory, the
 /// replica is as it was.
-fn prepare(
+pub(crate) fn prepare(
     alloc: Global,
     replica: &mut Replica,
     slots: [Slot; PREPARED_SLOTS],
@@ -332,7 +376,7 @@ fn prepare(
 }
 
 /// Makes room for what one advance emits. Refused when out of memory.
-fn make_room(emitted: &mut Vec<Record>) -> Result<(), AllocError>
+pub(crate) fn make_room(emitted: &mut Vec<Record>) -> Result<(), AllocError>
     ensures same { emitted.new.items ≡ emitted.old.items }
     ensures room { OnOk result (vec_len emitted.new + MOST_EMITTED ≤ vec_capacity emitted.new) }
 {
@@ -343,7 +387,7 @@ fn make_room(emitted: &mut Vec<Record>) -> Result<(), AllocError>
 }
 
 /// Appends records for which there is room.
-fn append(emitted: &mut Vec<Record>, more: &[Record])
+pub(crate) fn append(emitted: &mut Vec<Record>, more: &[Record])
     requires { vec_len emitted.old + length more.now ≤ vec_capacity emitted.old }
     ensures { emitted.new.items ≡ emitted.old.items ++ more.now }
 {

@@ -27,6 +27,8 @@ pub struct Group {
     pub(crate) emitted: Vec<Record>,
     // For each node the number of one that it waited for last: a guess, which decides nothing.
     pub(crate) awaited: [u8; MOST_NODES],
+    // For each node how many stretches of the line it looks for ahead: a guess, which decides nothing.
+    pub(crate) far: [u8; MOST_NODES],
     pub(crate) come: Come,
     pub(crate) heard: Heard,
     pub(crate) shaken: Heard,
@@ -85,6 +87,7 @@ impl Group {
             replica,
             emitted: Vec::new(alloc),
             awaited: [0; MOST_NODES],
+            far: [1; MOST_NODES],
             come: [0; MOST_NODES],
             heard: nothing_heard(),
             shaken: nothing_heard(),

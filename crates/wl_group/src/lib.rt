@@ -2,6 +2,7 @@
 #![tactic(auto)]
 
 mod advance;
+mod ahead;
 mod answer;
 mod begin;
 mod cell;

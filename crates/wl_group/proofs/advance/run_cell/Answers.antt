@@ -14,20 +14,9 @@ use Rattle.wl_plan.specs.Line.{Line, reach}
 use Rattle.wl_plan.specs.PlanLine.{line_of}
 use Rattle.wl_group.specs.Member.{Member, next_tick, turns, member_after_quantum, emission}
 use Rattle.wl_group.specs.Running.{passed, slots_ahead}
+use Rattle.wl_group.proofs.ThroughProofs.{said_ahead}
 use Rattle.wl_group.proofs.advance.run_cell.Goals as goal
 use Rattle.wl_group.proofs.advance.run_cell.Goals.{In-Ok}
-
--- a record of node i's slots after n changes
-abbrev IsAhead : ℕ → ℕ → Record → Type 0
-IsAhead i n r = Contains (slots_ahead i n) (slot_of r)
-
-with_turn : (i n t u : ℕ) (b : Bool) → AllByRecursion (IsAhead i n) ((if b then Edge i n t ∷ [] else []) ++ Silence i (if b then suc n else n) u ∷ [])
-with_turn i n t u true = ((0, omega arith, refl), ((2, omega arith, ap (SilenceAt i) (let one : n + 1 ≡ suc n = omega arith in one)), tt))
-with_turn i n t u false = ((1, omega arith, refl), tt)
-
-said_ahead : (l : Line) (i : ℕ) (m : Member) (level : Level) → All (IsAhead i m.changed) (emission l i m level)
-said_ahead l i m level =
-    All-from_recursion (IsAhead i m.changed) (emission l i m level) (with_turn i m.changed (next_tick l i m) (reach l i (member_after_quantum l i m level).saw) (turns l i m level))
 
 -- what was said, where the member stood up to the last quantum
 said_by : (c : In-Ok) → c.in-Ok.said.items ≡ emission (line_of c.requires.says.0) c.args.i (passed c.requires.says.1.0 c.args.level c.in-Ok.ensures.gone.n) c.args.level

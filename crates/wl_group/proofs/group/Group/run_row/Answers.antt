@@ -1,0 +1,164 @@
+-- A row of quanta of a member: what it says fits the replica, and the group went on by it.
+use Rattle.std.proofs.Common.{◌≡◌, ℕ, ◌<◌, ◌≤◌, List, length, get_or, Option, Some, None, true, sym, ◌∙◌, ap, subst, arith}
+use Rattle.std.specs.Prelude.{min}
+use Rattle.std.proofs.lemmas.Bool.{and_parts}
+use Rattle.wl_record_core.specs.declared.record.Record.{Record}
+use Rattle.wl_replica.specs.State.{State, slots_of}
+use Rattle.wl_replica.specs.Known.{place_horizon}
+use Rattle.wl_plan.specs.declared.plan.Plan.{Plan}
+use Rattle.wl_plan.specs.PlanLine.{line_of}
+use Rattle.wl_plan.specs.Checked.{CheckedIsSound}
+use Rattle.wl_group.specs.declared.cell.Cell.{Cell}
+use Rattle.wl_group.specs.Member.{can_run, next_tick}
+use Rattle.wl_group.specs.ValueLaws.{ValueLaws}
+use Rattle.wl_group.specs.GroupValue.{GroupValue, belongs, members_now, may_run}
+use Rattle.wl_group.specs.Kept.{group_value, IsKept}
+use Rattle.wl_group.specs.Through.{AreAhead}
+use Rattle.wl_group.proofs.Callers.{on_err}
+use Rattle.wl_group.proofs.RunProofs.{cell_read, in_cells, few_changed, value_stays, kept_stays}
+use Rattle.wl_group.proofs.OverProofs.{next_kept, inside_kept, may_say_over, kept_over, has_gone_over, due_before}
+use Rattle.wl_group.proofs.group.Group.run_row.Goals as goal
+
+-- the member's cell, where one was found
+found : (laws : ValueLaws) (sound : CheckedIsSound) (plan : Plan) (cells : List (Option Cell)) (replica : State) (emitted : List Record) (kept : IsKept plan cells replica emitted)
+    (now : GroupValue) (view : ◌≡◌ {A = GroupValue} (group_value plan cells replica emitted) now) (i : ℕ) → may_run now i ≡ true
+    → (o : Option Cell) (cell : Cell) → o ≡ get_or cells i o → o ≡ Some cell → get_or cells i None ≡ Some cell
+found laws sound plan cells replica emitted kept now view i may o cell r is =
+    let parts = and_parts (belongs now i) (can_run (line_of now.plan) i (members_now now i) (slots_of now.replica)) may in
+    cell_read cells i o cell (in_cells laws sound plan cells replica emitted kept now view i parts.0) r is
+
+pub run_over-requires-clause-cell : goal.run_over-requires-clause-cell
+run_over-requires-clause-cell c =
+    let now = c.args.self.now in
+    let i = c.args.i in
+    let g = c.self-2.inside in
+    let view = c.self-2.view_is ∙ c.look_ahead-ahead.ensures.same in
+    let kept = c.self-2.invariant.kept in
+    let is = found c.value_laws.ensures c.checked_is_sound.ensures g.plan g.cells.items g.replica g.emitted.items kept now view i c.requires.may c.index_mut.result.now c.in-Some.cell c.index_mut.ensures.value c.in-Some.is in
+    kept.placed i c.in-Some.cell is
+
+pub run_over-requires-clause-ahead : goal.run_over-requires-clause-ahead
+run_over-requires-clause-ahead c =
+    let now = c.args.self.now in
+    let i = c.args.i in
+    let g = c.self-2.inside in
+    let view = c.self-2.view_is ∙ c.look_ahead-ahead.ensures.same in
+    let kept = c.self-2.invariant.kept in
+    let is = found c.value_laws.ensures c.checked_is_sound.ensures g.plan g.cells.items g.replica g.emitted.items kept now view i c.requires.may c.index_mut.result.now c.in-Some.cell c.index_mut.ensures.value c.in-Some.is in
+    let t = next_tick (line_of now.plan) i (members_now now i) in
+    let ss = c.look_ahead-ahead.result.stretches in
+    let n = c.look_ahead-ahead.result.count in
+    subst (λ x. AreAhead (line_of g.plan) i x ss n) (sym (next_kept c.value_laws.ensures c.simulation_laws.ensures c.checked_is_sound.ensures g.plan g.cells.items g.replica g.emitted.items kept now view i c.in-Some.cell is))
+    (subst (λ (x : GroupValue). AreAhead (line_of x.plan) i t ss n) (sym view) c.look_ahead-ahead.ensures.ahead)
+
+pub run_over-requires-clause-inside : goal.run_over-requires-clause-inside
+run_over-requires-clause-inside c =
+    let now = c.args.self.now in
+    let i = c.args.i in
+    let g = c.self-2.inside in
+    let view = c.self-2.view_is ∙ c.look_ahead-ahead.ensures.same in
+    let kept = c.self-2.invariant.kept in
+    let is = found c.value_laws.ensures c.checked_is_sound.ensures g.plan g.cells.items g.replica g.emitted.items kept now view i c.requires.may c.index_mut.result.now c.in-Some.cell c.index_mut.ensures.value c.in-Some.is in
+    inside_kept c.value_laws.ensures c.simulation_laws.ensures c.checked_is_sound.ensures g.plan g.cells.items g.replica g.emitted.items kept now view i c.in-Some.cell is
+
+pub run_over-requires-clause-due : goal.run_over-requires-clause-due
+run_over-requires-clause-due c =
+    let now = c.args.self.now in
+    let i = c.args.i in
+    let g = c.self-2.inside in
+    let view = c.self-2.view_is ∙ c.look_ahead-ahead.ensures.same in
+    let kept = c.self-2.invariant.kept in
+    let is = found c.value_laws.ensures c.checked_is_sound.ensures g.plan g.cells.items g.replica g.emitted.items kept now view i c.requires.may c.index_mut.result.now c.in-Some.cell c.index_mut.ensures.value c.in-Some.is in
+    let e : c.min-end.result ≡ min c.args.known now.plan.end = c.min-end.ensures ∙ ap (λ (x : GroupValue). min c.args.known x.plan.end) c.self.view_is in
+    let d = due_before now i c.args.known c.min-end.result c.requires.may c.requires.known e in
+    subst (λ x. x < c.min-end.result) (sym (next_kept c.value_laws.ensures c.simulation_laws.ensures c.checked_is_sound.ensures g.plan g.cells.items g.replica g.emitted.items kept now view i c.in-Some.cell is)) d.0
+
+pub run_over-requires-clause-says : goal.run_over-requires-clause-says
+run_over-requires-clause-says c =
+    let now = c.args.self.now in
+    let i = c.args.i in
+    let g = c.self-2.inside in
+    let view = c.self-2.view_is ∙ c.look_ahead-ahead.ensures.same in
+    let kept = c.self-2.invariant.kept in
+    let is = found c.value_laws.ensures c.checked_is_sound.ensures g.plan g.cells.items g.replica g.emitted.items kept now view i c.requires.may c.index_mut.result.now c.in-Some.cell c.index_mut.ensures.value c.in-Some.is in
+    let e : c.min-end.result ≡ min c.args.known now.plan.end = c.min-end.ensures ∙ ap (λ (x : GroupValue). min c.args.known x.plan.end) c.self.view_is in
+    let d = due_before now i c.args.known c.min-end.result c.requires.may c.requires.known e in
+    let stop = subst (λ (x : GroupValue). c.min-end.result ≤ x.plan.end) (sym view) d.2 in
+    let far = subst (λ (x : GroupValue). c.min-end.result ≤ place_horizon (length x.plan.nodes) (line_of x.plan).delay (slots_of x.replica) i) (sym view) d.1 in
+    may_say_over c.value_laws.ensures c.group_laws.ensures c.table_laws.ensures c.slots_laws.ensures c.known_laws.ensures c.simulation_laws.ensures c.slots_of_states.ensures c.checked_is_sound.ensures
+    g.plan g.cells.items g.replica g.emitted.items kept now view i c.in-Some.cell is c.min-end.result stop far
+
+pub run_over-requires-clause-changed : goal.run_over-requires-clause-changed
+run_over-requires-clause-changed c =
+    let now = c.args.self.now in
+    let i = c.args.i in
+    let g = c.self-2.inside in
+    let view = c.self-2.view_is ∙ c.look_ahead-ahead.ensures.same in
+    let kept = c.self-2.invariant.kept in
+    let is = found c.value_laws.ensures c.checked_is_sound.ensures g.plan g.cells.items g.replica g.emitted.items kept now view i c.requires.may c.index_mut.result.now c.in-Some.cell c.index_mut.ensures.value c.in-Some.is in
+    few_changed c.value_laws.ensures c.checked_is_sound.ensures g.plan g.cells.items g.replica g.emitted.items kept now view i c.in-Some.cell is
+
+pub invariant_of-self : goal.invariant_of-self
+invariant_of-self c =
+    let now = c.args.self.now in
+    let i = c.args.i in
+    let g = c.self-2.inside in
+    let view = c.self-2.view_is ∙ c.look_ahead-ahead.ensures.same in
+    let kept = c.self-2.invariant.kept in
+    let is = found c.value_laws.ensures c.checked_is_sound.ensures g.plan g.cells.items g.replica g.emitted.items kept now view i c.requires.may c.index_mut.result.now c.in-Some.cell c.index_mut.ensures.value c.in-Some.is in
+    record {
+      kept = kept_stays c.value_laws.ensures c.checked_is_sound.ensures g.plan g.cells.items g.replica g.emitted.items kept now view i c.in-Some.cell is c.run_over.new.cell c.in_err-said.ensures.stays c.run_over.new.replica c.run_over.new.emitted.items
+          c.in_err-said.ensures.not_taken c.in_err-said.ensures.not_emitted;
+      stretches = c.self-2.invariant.stretches;
+      shaken = c.self-2.invariant.shaken;
+      drives = c.self-2.invariant.drives;
+    }
+
+pub returns-in_err-said-clause-err : goal.returns-in_err-said-clause-err
+returns-in_err-said-clause-err c =
+    let now = c.args.self.now in
+    let i = c.args.i in
+    let g = c.self-2.inside in
+    let view = c.self-2.view_is ∙ c.look_ahead-ahead.ensures.same in
+    let kept = c.self-2.invariant.kept in
+    let is = found c.value_laws.ensures c.checked_is_sound.ensures g.plan g.cells.items g.replica g.emitted.items kept now view i c.requires.may c.index_mut.result.now c.in-Some.cell c.index_mut.ensures.value c.in-Some.is in
+    on_err c.from_residual.result
+    (value_stays c.value_laws.ensures c.checked_is_sound.ensures g.plan g.cells.items g.replica g.emitted.items kept now view i c.in-Some.cell is c.run_over.new.cell c.in_err-said.ensures.stays c.run_over.new.replica c.run_over.new.emitted.items
+    c.in_err-said.ensures.not_taken c.in_err-said.ensures.not_emitted ∙ view)
+
+pub invariant_of-self-2 : goal.invariant_of-self-2
+invariant_of-self-2 c =
+    let now = c.args.self.now in
+    let i = c.args.i in
+    let g = c.self-2.inside in
+    let view = c.self-2.view_is ∙ c.look_ahead-ahead.ensures.same in
+    let kept = c.self-2.invariant.kept in
+    let is = found c.value_laws.ensures c.checked_is_sound.ensures g.plan g.cells.items g.replica g.emitted.items kept now view i c.requires.may c.index_mut.result.now c.in-Some.cell c.index_mut.ensures.value c.in-Some.is in
+    let e : c.min-end.result ≡ min c.args.known now.plan.end = c.min-end.ensures ∙ ap (λ (x : GroupValue). min c.args.known x.plan.end) c.self.view_is in
+    let d = due_before now i c.args.known c.min-end.result c.requires.may c.requires.known e in
+    let stop = subst (λ (x : GroupValue). c.min-end.result ≤ x.plan.end) (sym view) d.2 in
+    let far = subst (λ (x : GroupValue). c.min-end.result ≤ place_horizon (length x.plan.nodes) (line_of x.plan).delay (slots_of x.replica) i) (sym view) d.1 in
+    record {
+      kept = kept_over c.value_laws.ensures c.group_laws.ensures c.table_laws.ensures c.slots_laws.ensures c.known_laws.ensures c.simulation_laws.ensures c.slots_of_states.ensures c.checked_is_sound.ensures
+          g.plan g.cells.items g.replica g.emitted.items kept now view i c.in-Some.cell is c.min-end.result stop far c.run_over.new.cell c.in_ok-said.said.items c.in_ok-said.ensures.gone
+          c.run_over.new.replica c.run_over.new.emitted.items c.in_ok-said.ensures.taken c.in_ok-said.ensures.emitted;
+      stretches = c.self-2.invariant.stretches;
+      shaken = c.self-2.invariant.shaken;
+      drives = c.self-2.invariant.drives;
+    }
+
+pub returns-clause-gone : goal.returns-clause-gone
+returns-clause-gone c =
+    let now = c.args.self.now in
+    let i = c.args.i in
+    let g = c.self-2.inside in
+    let view = c.self-2.view_is ∙ c.look_ahead-ahead.ensures.same in
+    let kept = c.self-2.invariant.kept in
+    let is = found c.value_laws.ensures c.checked_is_sound.ensures g.plan g.cells.items g.replica g.emitted.items kept now view i c.requires.may c.index_mut.result.now c.in-Some.cell c.index_mut.ensures.value c.in-Some.is in
+    let e : c.min-end.result ≡ min c.args.known now.plan.end = c.min-end.ensures ∙ ap (λ (x : GroupValue). min c.args.known x.plan.end) c.self.view_is in
+    let d = due_before now i c.args.known c.min-end.result c.requires.may c.requires.known e in
+    let stop = subst (λ (x : GroupValue). c.min-end.result ≤ x.plan.end) (sym view) d.2 in
+    let far = subst (λ (x : GroupValue). c.min-end.result ≤ place_horizon (length x.plan.nodes) (line_of x.plan).delay (slots_of x.replica) i) (sym view) d.1 in
+    has_gone_over c.value_laws.ensures c.group_laws.ensures c.table_laws.ensures c.slots_laws.ensures c.known_laws.ensures c.simulation_laws.ensures c.slots_of_states.ensures c.checked_is_sound.ensures
+    g.plan g.cells.items g.replica g.emitted.items kept now view i c.in-Some.cell is c.min-end.result stop far c.run_over.new.cell c.in_ok-said.said.items c.in_ok-said.ensures.gone
+    c.run_over.new.replica c.run_over.new.emitted.items c.in_ok-said.ensures.taken c.in_ok-said.ensures.emitted

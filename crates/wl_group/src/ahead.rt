@@ -1,0 +1,235 @@
+//! The line ahead of a member: stretches that it finds, one after another, and its quanta in all of them.
+ghost use Rattle.std.specs.Prelude.{◌≡◌, ℕ, ◌<◌, ◌≤◌, ◌-◌, ◌^◌, ◌++◌, true, length, IfOk, OnErr};
+ghost use Rattle.wl_record_core.specs.Limits.{most_edges};
+ghost use Rattle.wl_replica.specs.State.{slots_of, state_with_records};
+ghost use Rattle.wl_replica.specs.Known.{place_horizon};
+ghost use Rattle.wl_node.specs.Reached.{quanta_of};
+ghost use Rattle.wl_plan.specs.PlanLine.{line_of};
+ghost use Rattle.wl_plan.specs.Simulation.{AreInside};
+ghost use Rattle.wl_plan.specs.Checked.{IsChecked};
+ghost use Rattle.wl_group.specs.Heard.{IsStretch};
+ghost use Rattle.wl_group.specs.Kept.{IsCell};
+ghost use Rattle.wl_group.specs.Running.{HasNotGone};
+ghost use Rattle.wl_group.specs.Through.{AreAhead, HasGoneOver, MaySayOver};
+
+use crate::advance::{append, make_room, prepare};
+use crate::answer::Emission;
+use crate::cell::Cell;
+use crate::group::Group;
+use crate::heard::{Stretch, shaken_around, stretch_around};
+use crate::laws::{group_laws, value_laws};
+use std::alloc::{AllocError, Global};
+use wl_plan::Plan;
+use wl_record_core::Record;
+use wl_replica::Replica;
+
+/// How many stretches of the line a member finds ahead at most.
+pub(crate) const MOST_AHEAD: usize = 8;
+
+/// Stretches of the line at a member's place, one after another, and how many there are.
+#[derive(Drop)]
+pub(crate) struct Ahead {
+    pub(crate) stretches: [Stretch; MOST_AHEAD],
+    pub(crate) count: usize,
+}
+
+impl Group {
+    ghost use Rattle.wl_group.specs.GroupValue.{belongs, members_now};
+    ghost use Rattle.wl_group.specs.Member.{next_tick};
+
+    /// Returns the stretches of the line at a member's place, one after another from its next quantum on, up to a tick up to which it is
+    /// known there: the first one, and up to so many more.
+    pub(crate) fn look_ahead(&mut self, i: u8, end: u64, more: u8) -> Ahead
+        requires member { belongs self.old i ≡ true }
+        requires early { end < 2 ^ 64 - 1 }
+        requires due { next_tick (line_of self.old.plan) i (members_now self.old i) < end }
+        requires known { let l = line_of self.old.plan in end ≤ place_horizon l.nodes l.delay (slots_of self.old.replica) i }
+        ensures same { self.new ≡ self.old }
+        ensures some { 0 < result.count }
+        ensures ahead { AreAhead (line_of self.old.plan) i (next_tick (line_of self.old.plan) i (members_now self.old i)) result.stretches result.count }
+    {
+        value_laws();
+        let tick = self.due(i);
+        let mut ahead = Ahead {
+            stretches: [self.find(i, tick); MOST_AHEAD],
+            count: 1,
+        };
+        for _ in 0..more {
+            self.look_on(i, end, &mut ahead);
+        }
+        ahead
+    }
+
+    /// Finds one stretch more, if there is room for it and the last one is over before a tick up to which the line is known.
+    fn look_on(&mut self, i: u8, end: u64, ahead: &mut Ahead)
+        requires member { belongs self.old i ≡ true }
+        requires early { end < 2 ^ 64 - 1 }
+        requires known { let l = line_of self.old.plan in end ≤ place_horizon l.nodes l.delay (slots_of self.old.replica) i }
+        requires some { 0 < ahead.old.count }
+        requires few { ahead.old.count ≤ length ahead.old.stretches }
+        ensures same { self.new ≡ self.old }
+        ensures some { 0 < ahead.new.count }
+        ensures few { ahead.new.count ≤ length ahead.new.stretches }
+        ensures ahead { (t : ℕ) → AreAhead (line_of self.old.plan) i t ahead.old.stretches ahead.old.count
+            → AreAhead (line_of self.old.plan) i t ahead.new.stretches ahead.new.count }
+    {
+        if ahead.count >= MOST_AHEAD {
+            return;
+        }
+        let tick = ahead.stretches[ahead.count - 1].until;
+        if tick >= end {
+            return;
+        }
+        let stretch = self.find(i, tick);
+        ahead.stretches[ahead.count] = stretch;
+        ahead.count += 1;
+    }
+
+    /// Returns the stretch of the line at a member's place that has this tick, at which it is known there.
+    fn find(&mut self, i: u8, tick: u64) -> Stretch
+        requires member { belongs self.old i ≡ true }
+        requires early { tick < 2 ^ 64 - 1 }
+        requires known { let l = line_of self.old.plan in tick < place_horizon l.nodes l.delay (slots_of self.old.replica) i }
+        ensures same { self.new ≡ self.old }
+        ensures from { result.from ≤ tick }
+        ensures until { tick < result.until }
+        ensures found { IsStretch (line_of self.old.plan) i result }
+    {
+        value_laws();
+        wl_plan::checked_is_sound();
+        let ways = *self.ways(i);
+        let shaken = shaken_around(&self.plan, self.shaken[i as usize], i, tick);
+        self.shaken[i as usize] = shaken;
+        let stretch = stretch_around(
+            &self.plan,
+            &self.replica,
+            &mut self.come,
+            &mut self.drives,
+            &ways,
+            self.heard[i as usize],
+            shaken,
+            i,
+            tick,
+        );
+        self.heard[i as usize] = stretch;
+        stretch
+    }
+}
+
+/// Runs quanta of a member in a row, through stretches of the line and before a tick: one at least, and none after one that changes its
+/// drive. The replica takes what it says after them, and it is appended to what was emitted. All growth comes first. Refused when out of
+/// memory, all is as it was.
+pub(crate) fn run_over(
+    alloc: Global,
+    plan: &Plan,
+    cell: &mut Cell,
+    i: u8,
+    ahead: &Ahead,
+    end: u64,
+    replica: &mut Replica,
+    emitted: &mut Vec<Record>,
+) -> Result<Emission, AllocError>
+    requires checked { IsChecked plan.now }
+    requires node { i < length plan.now.nodes }
+    requires cell { IsCell plan.now i cell.old }
+    requires some { 0 < ahead.now.count }
+    requires ahead { AreAhead (line_of plan.now) i cell.old.next ahead.now.stretches ahead.now.count }
+    requires inside { AreInside (line_of plan.now) i (quanta_of cell.old.node) }
+    requires due { cell.old.next < end }
+    requires stop { end ≤ plan.now.end }
+    requires says { MaySayOver plan.now i end cell.old replica.old.nodes }
+    requires changed { cell.old.changed ≤ most_edges }
+    ensures gone { IfOk result (λ said. HasGoneOver plan.now i end cell.old cell.new said.items) }
+    ensures taken { IfOk result (λ said. replica.new ≡ state_with_records replica.old said.items) }
+    ensures emitted { IfOk result (λ said. emitted.new.items ≡ emitted.old.items ++ said.items) }
+    ensures stays { OnErr result (HasNotGone cell.old cell.new) }
+    ensures not_taken { OnErr result (replica.new ≡ replica.old) }
+    ensures not_emitted { OnErr result (emitted.new.items ≡ emitted.old.items) }
+{
+    wl_replica::joining_is_a_join();
+    make_room(emitted)?;
+    let prepared = prepare(alloc, replica, cell.next_slots(i))?;
+    match cell.go_over(plan, i, ahead, end) {
+        Ok(said) => {
+            *replica = prepared.take_all(&said);
+            append(emitted, &said);
+            Ok(said)
+        }
+        Err(_) => {
+            *replica = prepared.take_all(&[]);
+            Err(AllocError)
+        }
+    }
+}
+
+impl Cell {
+    /// Runs quanta of node `i` in a row, through stretches of the line and before a tick: one at least, and none after one that changes its
+    /// drive. Returns what it says of all of them. Refused if memory runs out before the first, and the member is where it was.
+    fn go_over(
+        &mut self,
+        plan: &Plan,
+        i: u8,
+        ahead: &Ahead,
+        end: u64,
+    ) -> Result<Emission, AllocError>
+        requires checked { IsChecked plan.now }
+        requires node { i < length plan.now.nodes }
+        requires cell { IsCell plan.now i self.old }
+        requires some { 0 < ahead.now.count }
+        requires ahead { AreAhead (line_of plan.now) i self.old.next ahead.now.stretches ahead.now.count }
+        requires inside { AreInside (line_of plan.now) i (quanta_of self.old.node) }
+        requires due { self.old.next < end }
+        requires stop { end ≤ plan.now.end }
+        ensures gone { IfOk result (λ said. HasGoneOver plan.now i end self.old self.new said.items) }
+        ensures err { OnErr result (HasNotGone self.old self.new) }
+    {
+        wl_plan::checked_is_sound();
+        wl_plan::simulation_laws();
+        let mut said = self.go_in(plan, i, ahead.stretches[0], end)?;
+        for m in 1..ahead.count {
+            let reached = ahead.stretches[m - 1].until;
+            if said.len() > 1 || self.next < reached || self.next >= end {
+                return Ok(said);
+            }
+            let stretch = ahead.stretches[m];
+            if self.next < stretch.until {
+                match self.go_in(plan, i, stretch, end) {
+                    Ok(more) => said = more,
+                    Err(_) => return Ok(said),
+                }
+            }
+        }
+        Ok(said)
+    }
+
+    /// Runs quanta of node `i` in a row in one stretch of the line and before a tick: one at least, and none after one that changes its
+    /// drive. Returns what it says of all of them. Refused if memory runs out before the first, and the member is where it was.
+    fn go_in(
+        &mut self,
+        plan: &Plan,
+        i: u8,
+        stretch: Stretch,
+        end: u64,
+    ) -> Result<Emission, AllocError>
+        requires checked { IsChecked plan.now }
+        requires node { i < length plan.now.nodes }
+        requires cell { IsCell plan.now i self.old }
+        requires stretch { IsStretch (line_of plan.now) i stretch }
+        requires from { stretch.from ≤ self.old.next }
+        requires until { self.old.next < stretch.until }
+        requires due { self.old.next < end }
+        requires stop { end ≤ plan.now.end }
+        ensures gone { IfOk result (λ said. HasGoneOver plan.now i end self.old self.new said.items) }
+        ensures err { OnErr result (HasNotGone self.old self.new) }
+    {
+        wl_plan::checked_is_sound();
+        wl_plan::simulation_laws();
+        let ran = self.node.quanta();
+        let last = self
+            .node
+            .setup()
+            .clock
+            .first_not_before(stretch.until.min(end));
+        self.go(i, stretch.level, last - ran)
+    }
+}
