@@ -33,6 +33,7 @@ class Bus:
         for rates, tolerance in clocks:
             self.low.append(self.parts * min(num * (T - tolerance - wider) // den for num, den in rates))
             self.high.append(self.parts * max(-(num * -(T + tolerance + wider) // den) for num, den in rates))
+        self.turns = [self.tick * (len(rates) - 1) for rates, _ in clocks]
         ps1, ps2, sjw = changes
         own = [node.segments for node in plan.nodes]
         self.bit = [1 + s.prop + s.ps1 + ps1 + s.ps2 + ps2 for s in own]
@@ -58,6 +59,9 @@ class Bus:
     def others(self, *left_out):
         return [k for k in range(self.n) if k not in left_out]
 
+    def ahead(self, j):
+        return sum(self.turns[w] for w in self.others(j))
+
     def way_of(self, i, j):
         d, trips = self.delay, [0]
         for k in self.others(j):
@@ -68,7 +72,7 @@ class Bus:
 
     def most_early(self, i):
         if len(self.sends) < 2: return 0
-        return max([0] + [self.way(i, a) + 10 * self.drift(a, i) for a in self.others(i) if a in self.sends])
+        return max([0] + [self.way(i, a) + 10 * self.drift(a, i) + self.ahead(a) for a in self.others(i) if a in self.sends])
 
     def edges_of(self, i):
         ahead = self.early[i] - self.low[i]
@@ -83,15 +87,16 @@ class Bus:
 
     def tour(self, i, j):
         d = self.delay
-        return max([0] + [max(0, self.way(i, a) + 10 * self.drift(a, i) + d(a, j) + d(j, i) - d(a, i)) for a in self.others(i, j) if a in self.sends])
+        return max([0] + [max(0, self.way(i, a) + 10 * self.drift(a, i) + self.ahead(a) + d(a, j) + d(j, i) - d(a, i))
+                          for a in self.others(i, j) if a in self.sends])
 
     def left(self, kind, i, j):
         if kind == DRIFT: return 10 * self.drift(i, j)
-        if kind == LATE and i == j: return self.delay(i, i)
+        if kind == LATE and i == j: return self.delay(i, i) + self.turns[i]
         if kind == LATE:
             way = self.way(i, j)
-            return way + min(self.apart(i, j), max(0, self.tour(i, j) - way)) + 11 * max(self.drift(j, w) for w in self.others(j))
-        return self.look[j] + 10 * self.drift(i, j) + min(self.apart(j, i), max(0, self.early[j] - self.delay(j, j))) + self.tick
+            return way + min(self.apart(i, j), max(0, self.tour(i, j) - way)) + 11 * max(self.drift(j, w) for w in self.others(j)) + self.ahead(j)
+        return self.look[j] + 10 * self.drift(i, j) + min(self.apart(j, i), max(0, self.early[j] - self.delay(j, j))) + self.tick + self.ahead(i)
 
     def is_asked(self, kind, i, j):
         """Whether nodes i and j are asked: of one node only whether its own bit is back, of what a listener drives nothing, of two listeners nothing."""

@@ -15,7 +15,7 @@ use Rattle.wl_bound.specs.declared.family.Setting.{Setting}
 use Rattle.wl_bound.specs.declared.search.Growth.{Growth}
 use Rattle.wl_bound.specs.declared.search.Growth.TheVariants.{Longer, Wider}
 use Rattle.wl_bound.specs.Oscillators.{Pace, longest_of, shortest_of}
-use Rattle.wl_bound.specs.Families.{Buses, bus_of, delay_in, lengths_in, longest_in, member_at, sends_in, shortest_in, way_between}
+use Rattle.wl_bound.specs.Families.{Buses, bus_of, delay_in, lengths_in, longest_in, member_at, sends_in, shortest_in, turns_in, way_between}
 use Rattle.wl_bound.specs.Conditions.{IsSound}
 use Rattle.wl_bound.specs.Searches.{IsBorder, IsBorderOf, IsGreatestOf, grown_by, holds_grown}
 use Rattle.wl_bound.proofs.Harder.{IsHarder, ceil_le, sound_le}
@@ -79,7 +79,7 @@ detour l s t a b c u v w h near =
 
 longer_harder : (f : Buses) (o : Source) (long per n m : ℕ) → n ≤ m
     → IsHarder (bus_of f (record (grown_by (Longer long per) n) { source = o })) (bus_of f (record (grown_by (Longer long per) m) { source = o }))
-unfolding shortest_in longest_in delay_in lengths_in sends_in
+unfolding shortest_in longest_in delay_in lengths_in sends_in turns_in
 longer_harder f o long per n m h =
     let more : n * per ≤ m * per = mul-le-mul_right per h in
     record {
@@ -88,6 +88,7 @@ longer_harder f o long per n m h =
       lengths = λ i. refl;
       sends = λ i. refl;
       listens = λ i. refl;
+      turns = λ i. refl;
       shorter = λ i. omega arith;
       longer = λ i. omega arith;
       own = λ i. ap (λ w. 1000000 * (long * propagation_of f.cable i i + n * per * w)) (no_way f.cable i)
@@ -109,13 +110,14 @@ longer_harder f o long per n m h =
 
 wider_harder : (f : Buses) (o : Source) (n m : ℕ) → n ≤ m
     → IsHarder (bus_of f (record (grown_by Wider n) { source = o })) (bus_of f (record (grown_by Wider m) { source = o }))
-unfolding shortest_in longest_in delay_in lengths_in sends_in
+unfolding shortest_in longest_in delay_in lengths_in sends_in turns_in
 wider_harder f o n m h = record {
   nodes = refl;
   tick = refl;
   lengths = λ i. refl;
   sends = λ i. refl;
   listens = λ i. refl;
+  turns = λ i. refl;
   shorter = λ i. mul-le-mul_left 1 (shortest_le (member_at f i).oscillator n m h);
   longer = λ i. mul-le-mul_left 1 (longest_le (member_at f i).oscillator n m h);
   own = λ i. refl;

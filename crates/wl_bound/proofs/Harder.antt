@@ -1,5 +1,5 @@
 -- A bus that is no easier in any respect: if the condition holds for it, it holds for the other.
-use Rattle.std.proofs.Common.{◌≡◌, ℕ, zero, suc, ◌+◌, ◌-◌, ◌*◌, ◌<◌, ◌≤◌, ◌==◌, ◌&&◌, ◌||◌, ◌∙◌, ◌⊎◌, nat_lt, nat_le, not, min, max, Bool, true, false, cond, inl, inr, refl, ap, subst, sym, arith}
+use Rattle.std.proofs.Common.{◌≡◌, ℕ, zero, suc, ◌+◌, ◌-◌, ◌*◌, ◌<◌, ◌≤◌, ◌==◌, ◌&&◌, ◌||◌, ◌∙◌, ◌⊎◌, nat_lt, nat_le, not, min, max, Bool, true, false, cond, inl, inr, refl, ap, ap₂, subst, sym, arith}
 use Rattle.std.specs.Int.{div_ceil}
 use Rattle.std.proofs.lemmas.Bool.{cases_lt, le-leb, lt-leb}
 use Rattle.std.proofs.lemmas.Grind.{div_ceil_times}
@@ -10,16 +10,17 @@ use Rattle.wl_topology.specs.Driven.{any_below}
 use Rattle.wl_bound.specs.declared.condition.Inequality.{Inequality}
 use Rattle.wl_bound.specs.declared.condition.Inequality.TheVariants.{DriftFitsJump, BitIsThereAtSample, NoBitTooEarly}
 use Rattle.wl_bound.specs.Families.{Bus}
-use Rattle.wl_bound.specs.Terms.{apart, chase, drift, early, edges, greatest, is_third, jump, late, look, lost, sends_but, sends_third, several, strays, tour, trip, way}
+use Rattle.wl_bound.specs.Terms.{ahead, apart, chase, drift, early, edges, greatest, is_third, jump, late, look, lost, sends_but, sends_third, several, strays, sum_of, tour, trip, way}
 use Rattle.wl_bound.specs.Conditions.{IsSound, is_asked, left_of, right_of}
 
--- c is no easier than b: the same nodes, segments, senders and listeners, quanta that may be shorter and longer, the same own loops, longer delays and detours
+-- c is no easier than b: the same nodes, segments, senders, listeners and changes of rates, quanta that may be shorter and longer, the same own loops, longer delays and detours
 pub record IsHarder (b c : Bus) : Type 0 where
   pub nodes : b.nodes ≡ c.nodes
   pub tick : b.tick ≡ c.tick
   pub lengths : (i : ℕ) → b.lengths i ≡ c.lengths i
   pub sends : (i : ℕ) → b.sends i ≡ c.sends i
   pub listens : (i : ℕ) → b.listens i ≡ c.listens i
+  pub turns : (i : ℕ) → b.turns i ≡ c.turns i
   pub shorter : (i : ℕ) → c.shortest i ≤ b.shortest i
   pub longer : (i : ℕ) → b.longest i ≤ c.longest i
   pub own : (i : ℕ) → b.delay i i ≡ c.delay i i
@@ -43,6 +44,10 @@ greatest_le (suc n) t u f g e h =
 count_same : (n : ℕ) (t u : ℕ → Bool) → ((k : ℕ) → t k ≡ u k) → count_places t n ≡ count_places u n
 count_same zero t u e = refl
 count_same (suc n) t u e = (let rest = count_same n t u e in let here = e n in cc)
+
+sum_same : (n : ℕ) (t : ℕ → Bool) (f g : ℕ → ℕ) → ((k : ℕ) → f k ≡ g k) → sum_of n t f ≡ sum_of n t g
+sum_same zero t f g e = refl
+sum_same (suc n) t f g e = ap₂ (λ x y. x + cond (t n) y 0) (sum_same n t f g e) (e n)
 
 any_same : (n : ℕ) (t u : ℕ → Bool) → ((k : ℕ) → t k ≡ u k) → any_below n t ≡ any_below n u
 any_same zero t u e = refl
@@ -118,8 +123,13 @@ way_le b c h i j =
     let second = over b c h (is_third i j) (is_third i j) (look b) (look c) (λ k. refl) (look_le b c h) in
     omega arith
 
-late_sender_le : (b c : Bus) → IsHarder b c → (i a : ℕ) → way b i a + 10 * drift b a i ≤ way c i a + 10 * drift c a i
-late_sender_le b c h i a = (let w = way_le b c h i a in let d = drift_le b c h a i in omega arith)
+ahead_same : (b c : Bus) → IsHarder b c → (j : ℕ) → ahead b j ≡ ahead c j
+unfolding ahead
+ahead_same b c h j =
+    sum_same b.nodes (λ w. not (w == j)) b.turns c.turns h.turns ∙ ap (λ n. sum_of n (λ w. not (w == j)) c.turns) h.nodes
+
+late_sender_le : (b c : Bus) → IsHarder b c → (i a : ℕ) → way b i a + 10 * drift b a i + ahead b a ≤ way c i a + 10 * drift c a i + ahead c a
+late_sender_le b c h i a = (let w = way_le b c h i a in let d = drift_le b c h a i in let l = ahead_same b c h a in omega arith)
 
 several_same : (b c : Bus) → IsHarder b c → several b ≡ several c
 unfolding several
@@ -130,7 +140,7 @@ early_le : (b c : Bus) → IsHarder b c → (i : ℕ) → early b i ≤ early c 
 unfolding early
 early_le b c h i =
     pick_le (several b) (several c) _ _ (several_same b c h)
-    (over b c h (sends_but b i) (sends_but c i) (λ a. way b i a + 10 * drift b a i) (λ a. way c i a + 10 * drift c a i)
+    (over b c h (sends_but b i) (sends_but c i) (λ a. way b i a + 10 * drift b a i + ahead b a) (λ a. way c i a + 10 * drift c a i + ahead c a)
     (sends_but_same b c h i) (late_sender_le b c h i))
 
 lost_le : (b c : Bus) → IsHarder b c → (i : ℕ) → lost b i ≤ lost c i
@@ -208,12 +218,13 @@ unfolding left_of
 left_le b c h DriftFitsJump i j = (let d = drift_le b c h i j in omega arith)
 left_le b c h BitIsThereAtSample i j = pick (i == j)
   where
-    pick : (v : Bool) → cond v (b.delay i i) (late b i j + 11 * strays b j) ≤ cond v (c.delay i i) (late c i j + 11 * strays c j)
-    pick true = h.delays i i
-    pick false = (let l = late_le b c h i j in let s = strays_le b c h j in omega arith)
+    pick : (v : Bool)
+        → cond v (b.delay i i + b.turns i) (late b i j + 11 * strays b j + ahead b j) ≤ cond v (c.delay i i + c.turns i) (late c i j + 11 * strays c j + ahead c j)
+    pick true = (let d = h.delays i i in let n = h.turns i in omega arith)
+    pick false = (let l = late_le b c h i j in let s = strays_le b c h j in let n = ahead_same b c h j in omega arith)
 left_le b c h NoBitTooEarly i j =
     (let l = look_le b c h j in let d = drift_le b c h i j in let a = apart_le b c h j i in let y = early_le b c h j in let o = h.own j in
-    let t = h.tick in omega arith)
+    let t = h.tick in let n = ahead_same b c h i in omega arith)
 
 pub right_le : (b c : Bus) → IsHarder b c → (e : Inequality) (i j : ℕ) → right_of c e i j ≤ right_of b e i j
 unfolding right_of

@@ -12,13 +12,13 @@ use Rattle.wl_bound.specs.declared.condition.Senders.TheVariants.{Any, One}
 use Rattle.wl_bound.specs.declared.family.Setting.{Setting}
 use Rattle.wl_bound.specs.declared.family.Source.TheVariants.{Together, Alone}
 use Rattle.wl_bound.specs.Families.{Buses, Bus, bus_of, member_at, only_listens}
-use Rattle.wl_bound.specs.Terms.{greatest, drift, jump, look, early, apart, late, strays}
+use Rattle.wl_bound.specs.Terms.{greatest, ahead, drift, jump, look, early, apart, late, strays}
 
--- What takes time. Ten bits of drift: stuffing gives an edge every ten bits at least (Bosch CAN 2.0 part B, section 10).
+-- What takes time. What a node loses at changes of its rate makes it early, and never late. Ten bits of drift: stuffing gives an edge every ten bits at least (Bosch CAN 2.0 part B, section 10).
 unfoldable pub left_of : Bus → Inequality → ℕ → ℕ → ℕ
 left_of b DriftFitsJump i j = 10 * drift b i j
-left_of b BitIsThereAtSample i j = if i == j then b.delay i i else late b i j + 11 * strays b j
-left_of b NoBitTooEarly i j = look b j + 10 * drift b i j + min (apart b j i) (early b j - b.delay j j) + b.tick
+left_of b BitIsThereAtSample i j = if i == j then b.delay i i + b.turns i else late b i j + 11 * strays b j + ahead b j
+left_of b NoBitTooEarly i j = look b j + 10 * drift b i j + min (apart b j i) (early b j - b.delay j j) + b.tick + ahead b i
 
 -- the time that there is: a jump of either node; the quanta up to the sample; PHASE_SEG2 (Bosch CAN 2.0 part B, section 10)
 unfoldable pub right_of : Bus → Inequality → ℕ → ℕ → ℕ

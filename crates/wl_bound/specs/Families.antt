@@ -30,6 +30,7 @@ no_member = record {
     fastest = record { from = 0; num = 1; den = 1 };
     slowest = record { from = 0; num = 1; den = 1 };
     tolerance = 0;
+    turns = 0;
   };
   segments = no_setup.segments;
   sends = false;
@@ -56,6 +57,7 @@ pub record Bus : Type 0 where
   pub tick : ℕ
   pub shortest : ℕ → ℕ
   pub longest : ℕ → ℕ
+  pub turns : ℕ → ℕ
   pub lengths : ℕ → Lengths
   pub sends : ℕ → Bool
   pub delay : ℕ → ℕ → ℕ
@@ -83,6 +85,10 @@ shortest_in f s i = s.length * shortest_of (member_at f i).oscillator s.wider
 
 unfoldable pub longest_in : Buses → Setting → ℕ → ℕ
 longest_in f s i = s.length * longest_of (member_at f i).oscillator s.wider
+
+-- At each change of its rate a clock loses what rounding left over, less than a tick (this project's profile): so much earlier its quanta can begin.
+unfoldable pub turns_in : Buses → Setting → ℕ → ℕ
+turns_in f s i = units s * (member_at f i).oscillator.turns
 
 -- On a cable of `length` ticks that becomes longer by `longer` ticks each way along it becomes longer by the same factor.
 unfoldable pub delay_in : Buses → Setting → ℕ → ℕ → ℕ
@@ -116,6 +122,7 @@ bus_of f s = record {
   tick = units s;
   shortest = shortest_in f s;
   longest = longest_in f s;
+  turns = turns_in f s;
   lengths = lengths_in f s;
   sends = sends_in f s;
   delay = delay_in f s;

@@ -1,5 +1,5 @@
 -- The shortest and the longest quantum of an oscillator within its tolerance.
-use Rattle.std.specs.Prelude.{ℕ, ◌+◌, ◌-◌, ◌*◌, ◌/◌, ◌≤◌, ◌||◌, not, nat_lt, Bool, List, [], ◌∷◌, Option, Some, None, if◌then◌else◌}
+use Rattle.std.specs.Prelude.{ℕ, ◌+◌, ◌-◌, ◌*◌, ◌/◌, ◌≤◌, ◌||◌, not, nat_lt, Bool, List, [], ◌∷◌, length, Option, Some, None, if◌then◌else◌}
 use Rattle.std.specs.Int.{div_ceil}
 use Rattle.std.specs.Result.{is_ok}
 use Rattle.wl_clock.specs.declared.Rate.{Rate}
@@ -9,11 +9,13 @@ use Rattle.wl_clock.specs.Timing.{IsRate, timing_of_rates}
 abbrev pub greatest_tolerance : ℕ
 greatest_tolerance = 100000
 
--- the fastest and the slowest nominal rate of an oscillator, and by how many parts per million it may deviate from them either way
+-- The fastest and the slowest nominal rate of an oscillator, by how many parts per million it may deviate from them either way, and how often its rate
+-- changes.
 pub record Pace : Type 0 where
   pub fastest : Rate
   pub slowest : Rate
   pub tolerance : ℕ
+  pub turns : ℕ
 
 -- what holds of every oscillator
 pub record IsPace (p : Pace) : Type 0 where
@@ -37,7 +39,8 @@ slowest_of r (next ∷ later) = slowest_of (if is_faster r next then next else r
 -- the oscillator of the rates of a clock and of a tolerance, if the rates make a clock and the tolerance is small
 abbrev pub pace_of : List Rate → ℕ → Option Pace
 pace_of [] tolerance = None
-pace_of (r ∷ later) tolerance = Some (record { fastest = fastest_of r later; slowest = slowest_of r later; tolerance = tolerance })
+pace_of (r ∷ later) tolerance =
+    Some (record { fastest = fastest_of r later; slowest = slowest_of r later; tolerance = tolerance; turns = length later })
 
 abbrev pub oscillator_of : List Rate → ℕ → Option Pace
 oscillator_of rates tolerance =

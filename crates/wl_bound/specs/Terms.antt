@@ -12,6 +12,11 @@ abbrev pub greatest : ℕ → (ℕ → Bool) → (ℕ → ℕ) → ℕ
 greatest zero test f = 0
 greatest (suc n) test f = max (greatest n test f) (if test n then f n else 0)
 
+-- the sum of the numbers below n that pass a test, by f
+abbrev pub sum_of : ℕ → (ℕ → Bool) → (ℕ → ℕ) → ℕ
+sum_of zero test f = 0
+sum_of (suc n) test f = sum_of n test f + (if test n then f n else 0)
+
 -- a sender but for one node, and but for two
 abbrev pub sends_but : Bus → ℕ → ℕ → Bool
 sends_but b i k = b.sends k && not (k == i)
@@ -46,13 +51,17 @@ trip b i j k =
 unfoldable pub way : Bus → ℕ → ℕ → ℕ
 way b i j = greatest b.nodes (sends_but b j) (trip b i j) + greatest b.nodes (is_third i j) (look b)
 
+-- By how much the other nodes can get ahead of node j at the changes of their rates. An edge may put right no more than drift, so what is lost adds up.
+unfoldable pub ahead : Bus → ℕ → ℕ
+ahead b j = sum_of b.nodes (λ w. not (w == j)) b.turns
+
 -- two nodes at least send
 unfoldable pub several : Bus → Bool
 several b = nat_lt 1 (count_places b.sends b.nodes)
 
 -- how early node i can be for the bits of the sender that wins the arbitration
 unfoldable pub early : Bus → ℕ → ℕ
-early b i = if several b then greatest b.nodes (sends_but b i) (λ a. way b i a + 10 * drift b a i) else 0
+early b i = if several b then greatest b.nodes (sends_but b i) (λ a. way b i a + 10 * drift b a i + ahead b a) else 0
 
 -- what ten bits of drift from a sender take from a jump of node i
 unfoldable pub lost : Bus → ℕ → ℕ
@@ -75,7 +84,7 @@ apart b i j = chase b i j * (10 * drift b j i + ((b.lengths j).sjw * b.longest j
 
 -- how late it can be for i at most, since the edges of a third sender reach it too
 unfoldable pub tour : Bus → ℕ → ℕ → ℕ
-tour b i j = greatest b.nodes (sends_third b i j) (λ a. way b i a + 10 * drift b a i + b.delay a j + b.delay j i - b.delay a i)
+tour b i j = greatest b.nodes (sends_third b i j) (λ a. way b i a + 10 * drift b a i + ahead b a + b.delay a j + b.delay j i - b.delay a i)
 
 -- how late a bit of j can be at i, catching up counted
 unfoldable pub late : Bus → ℕ → ℕ → ℕ

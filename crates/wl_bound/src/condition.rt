@@ -128,16 +128,20 @@ impl Family {
             Inequality::DriftFitsJump => 10 * self.drift(setting, i, j),
             Inequality::BitIsThereAtSample => {
                 if i == j {
-                    return self.delay(setting, i, i);
+                    return self.delay(setting, i, i) + self.turns(setting, i);
                 }
-                self.late(setting, i, j) + 11 * self.strays(setting, j)
+                self.late(setting, i, j) + 11 * self.strays(setting, j) + self.ahead(setting, j)
             }
             Inequality::NoBitTooEarly => {
-                let ahead = self
+                let early = self
                     .early(setting, j)
                     .saturating_sub(self.delay(setting, j, j));
-                let gained = self.apart(setting, j, i).min(ahead);
-                self.look(setting, j) + 10 * self.drift(setting, i, j) + gained + self.tick(setting)
+                let gained = self.apart(setting, j, i).min(early);
+                self.look(setting, j)
+                    + 10 * self.drift(setting, i, j)
+                    + gained
+                    + self.tick(setting)
+                    + self.ahead(setting, i)
             }
         }
     }

@@ -1,7 +1,7 @@
 //! Families of buses: what of a plan the condition is about.
 ghost use Rattle.std.specs.Prelude.{◌≡◌, ◌≢◌, ◌^◌, ◌<◌, ◌≤◌, ◌++◌, length, IfOk, OnOk};
 ghost use Rattle.wl_plan.specs.Checked.{IsChecked};
-ghost use Rattle.wl_bound.specs.Families.{Buses, IsFamily, bus_of, changed, delay_in, family_of, lengths_in, longest_in, member_at, member_of, members_of, only_listens, sends_in, shortest_in, units, way_between};
+ghost use Rattle.wl_bound.specs.Families.{Buses, IsFamily, bus_of, changed, delay_in, family_of, lengths_in, longest_in, member_at, member_of, members_of, only_listens, sends_in, shortest_in, turns_in, units, way_between};
 
 use crate::oscillator::Oscillator;
 use std::alloc::{AllocError, Global};
@@ -204,6 +204,16 @@ impl Family {
         ensures most { result < 2 ^ 86 }
     {
         setting.length as u128 * self.member(i).oscillator.longest_by(setting.wider)
+    }
+
+    /// Returns what node `i` can lose at the changes of its rate, in units.
+    #[tactic(auto, unfolding(crate::specs::Families::turns_in))]
+    pub(crate) fn turns(&self, setting: Setting, i: u8) -> u128
+        requires { i < length self.now.members }
+        ensures value { result ≡ turns_in self.now setting i }
+        ensures most { result < 2 ^ 60 }
+    {
+        self.tick(setting) * self.member(i).oscillator.turns() as u128
     }
 
     /// Returns how many ticks a level takes along the cable from node `i` to node `j`, without the nodes' own.

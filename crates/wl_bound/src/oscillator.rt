@@ -1,8 +1,8 @@
 //! What an oscillator may do.
-ghost use Rattle.std.specs.Prelude.{◌≡◌, ◌^◌, ◌<◌, ◌≤◌, ◌∷◌, All, if◌then◌else◌};
+ghost use Rattle.std.specs.Prelude.{◌≡◌, ◌^◌, ◌<◌, ◌≤◌, ◌∷◌, length, All, if◌then◌else◌};
 ghost use Rattle.std.specs.Bool.{OnTrue};
 ghost use Rattle.std.specs.Result.{is_ok};
-ghost use Rattle.wl_clock.specs.Timing.{IsRate, timing_of_rates};
+ghost use Rattle.wl_clock.specs.Timing.{IsRate, most_rates, timing_of_rates};
 ghost use Rattle.wl_bound.specs.Oscillators.{Pace, IsPace, fastest_of, is_faster, longest_of, oscillator_of, shortest_of, slowest_of};
 
 use std::marker::Model;
@@ -19,16 +19,18 @@ pub struct Oscillator {
     fastest: Rate,
     slowest: Rate,
     tolerance: u32,
+    /// How often the rate changes.
+    turns: u8,
 }
 
 impl Model for Oscillator {
     ghost Value = { Pace };
 
-    ghost view = { λ o. record { fastest = o.fastest; slowest = o.slowest; tolerance = o.tolerance } };
+    ghost view = { λ o. record { fastest = o.fastest; slowest = o.slowest; tolerance = o.tolerance; turns = o.turns } };
 
-    ghost inverse = { λ p. record { fastest = p.fastest; slowest = p.slowest; tolerance = p.tolerance } };
+    ghost inverse = { λ p. record { fastest = p.fastest; slowest = p.slowest; tolerance = p.tolerance; turns = p.turns } };
 
-    ghost invariant = { λ o. IsPace (record { fastest = o.fastest; slowest = o.slowest; tolerance = o.tolerance }) };
+    ghost invariant = { λ o. IsPace (record { fastest = o.fastest; slowest = o.slowest; tolerance = o.tolerance; turns = o.turns }) };
 }
 
 impl Oscillator {
@@ -47,6 +49,7 @@ impl Oscillator {
                 fastest: fastest(*first, later),
                 slowest: slowest(*first, later),
                 tolerance,
+                turns: later.len() as u8,
             }),
         }
     }
@@ -73,6 +76,13 @@ impl Oscillator {
         self.tolerance
     }
 
+    /// Returns how often the rate changes.
+    pub(crate) fn turns(&self) -> u8
+        ensures { result ≡ self.now.turns }
+    {
+        self.turns
+    }
+
     /// Returns the shortest quantum with a tolerance wider by some ppm, in millionths of a tick, rounded down.
     pub(crate) fn shortest_by(&self, wider: u32) -> u128
         ensures value { result ≡ shortest_of self.now wider }
@@ -96,6 +106,7 @@ impl Oscillator {
 fn make_a_clock(rates: &[Rate]) -> bool
     ensures value { result ≡ is_ok (timing_of_rates 0 rates.now) }
     ensures rates { OnTrue result (All IsRate rates.now) }
+    ensures few { OnTrue result (length rates.now ≤ most_rates) }
 {
     match Clock::with_rates(0, rates) {
         Ok(clock) => {

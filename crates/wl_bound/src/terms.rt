@@ -3,7 +3,7 @@ ghost use Rattle.std.specs.Prelude.{◌≡◌, ◌+◌, ◌-◌, ◌*◌, ◌^�
 ghost use Rattle.wl_topology.specs.Driven.{any_below};
 ghost use Rattle.wl_level.specs.Places.{count_places};
 ghost use Rattle.wl_bound.specs.Families.{bus_of};
-ghost use Rattle.wl_bound.specs.Terms.{apart, chase, drift, early, edges, greatest, is_third, jump, late, look, lost, sends_but, sends_third, several, strays, tour, trip, way};
+ghost use Rattle.wl_bound.specs.Terms.{ahead, apart, chase, drift, early, edges, greatest, is_third, jump, late, look, lost, sends_but, sends_third, several, strays, sum_of, tour, trip, way};
 
 use crate::family::{Family, Setting};
 
@@ -113,6 +113,22 @@ impl Family {
         self.longest_trip(setting, i, j) + self.look_of_third(setting, i, j)
     }
 
+    /// Returns by how much the other nodes can get ahead of node `j` at the changes of their rates.
+    #[tactic(auto, unfolding(crate::specs::Terms::ahead))]
+    pub(crate) fn ahead(&self, setting: Setting, j: u8) -> u128
+        requires { j < length self.now.members }
+        ensures value { result ≡ ahead (bus_of self.now setting) j }
+        ensures most { result < 2 ^ 68 }
+    {
+        let mut sum = 0;
+        for w in 0..self.nodes() {
+            if w != j {
+                sum += self.turns(setting, w);
+            }
+        }
+        sum
+    }
+
     /// True if two nodes at least send.
     #[tactic(auto, unfolding(crate::specs::Terms::several))]
     fn several(&self, setting: Setting) -> bool
@@ -131,13 +147,14 @@ impl Family {
     fn latest_sender(&self, setting: Setting, i: u8) -> u128
         requires { i < length self.now.members }
         ensures value { result ≡ greatest (length self.now.members) (sends_but (bus_of self.now setting) i)
-            (λ a. way (bus_of self.now setting) i a + 10 * drift (bus_of self.now setting) a i) }
+            (λ a. way (bus_of self.now setting) i a + 10 * drift (bus_of self.now setting) a i + ahead (bus_of self.now setting) a) }
         ensures most { result < 2 ^ 95 }
     {
         let mut latest = 0;
         for a in 0..self.nodes() {
             if self.sends(setting, a) && a != i {
-                latest = latest.max(self.way(setting, i, a) + 10 * self.drift(setting, a, i));
+                let comes = self.way(setting, i, a) + 10 * self.drift(setting, a, i);
+                latest = latest.max(comes + self.ahead(setting, a));
             }
         }
         latest
@@ -240,10 +257,12 @@ impl Family {
         requires other { j < length self.now.members }
         requires sender { a < length self.now.members }
         ensures value { let b = bus_of self.now setting in
-            result ≡ way b i a + 10 * drift b a i + b.delay a j + b.delay j i - b.delay a i }
+            result ≡ way b i a + 10 * drift b a i + ahead b a + b.delay a j + b.delay j i - b.delay a i }
         ensures most { result < 2 ^ 96 }
     {
-        let comes = self.way(setting, i, a) + 10 * self.drift(setting, a, i);
+        let comes = self.way(setting, i, a)
+            + 10 * self.drift(setting, a, i)
+            + self.ahead(setting, a);
         let there = comes + self.delay(setting, a, j) + self.delay(setting, j, i);
         there.saturating_sub(self.delay(setting, a, i))
     }
