@@ -6,7 +6,7 @@ use Rattle.std.proofs.Math.Nat.{mul-le-mul_left, mul-le-mul_right}
 use Rattle.wl_segments.specs.Lengths.{sample_at, bit_quanta}
 use Rattle.wl_bound.specs.Families.{Bus}
 use Rattle.wl_bound.specs.Terms.{greatest, is_third, sends_but}
-use Rattle.wl_bound.specs.Terms.{drift, jump, late, look, strays, trip, way}
+use Rattle.wl_bound.specs.Terms.{ahead, drift, jump, late, look, strays, trip, way}
 use Rattle.wl_bound.specs.Conditions.{IsSound}
 use Rattle.wl_bound.specs.Conditions.{left_of, right_of}
 use Rattle.wl_one_sender.specs.OneSender.{SenderBus, IsBus, IsListener, lengths_of}
@@ -102,9 +102,9 @@ module _ (bus : Bus) (t : Tolerance) (b : SenderBus) (is : IsBus b) (of : IsBoun
   loop : (i : ℕ) → i < b.line.nodes → b.line.delay i i * t.units ≤ sample_at (lengths_of b i) * t.shortest i
   unfolding left_of right_of
   loop i ni =
-      let h : cond (i == i) (bus.delay i i) (late bus i i + 11 * strays bus i) ≤ sample_at (bus.lengths i) * bus.shortest i = sound.bit_is_there_at_sample i i (inside i ni) (inside i ni)
+      let h : cond (i == i) (bus.delay i i + bus.turns i) (late bus i i + 11 * strays bus i + ahead bus i) ≤ sample_at (bus.lengths i) * bus.shortest i = sound.bit_is_there_at_sample i i (inside i ni) (inside i ni)
       (or_not (i == i) (bus.listens i) (of.answers i ni)) in
-      let e = ap (λ c. cond c (bus.delay i i) (late bus i i + 11 * strays bus i)) (eq-eqb i i refl) in
+      let e = ap (λ c. cond c (bus.delay i i + bus.turns i) (late bus i i + 11 * strays bus i + ahead bus i)) (eq-eqb i i refl) in
       let d = of.delays i i ni ni in
       let x = sample_is i in
       omega arith
@@ -148,9 +148,9 @@ module _ (bus : Bus) (t : Tolerance) (b : SenderBus) (is : IsBus b) (of : IsBoun
   in_time : (w j : ℕ) → w < b.line.nodes → j < b.line.nodes → w ≢ j → late bus w j + 11 * strays bus j ≤ sample_at (lengths_of b w) * t.shortest w
   unfolding left_of right_of
   in_time w j nw nj apart =
-      let h : cond (w == j) (bus.delay w w) (late bus w j + 11 * strays bus j) ≤ sample_at (bus.lengths w) * bus.shortest w =
+      let h : cond (w == j) (bus.delay w w + bus.turns w) (late bus w j + 11 * strays bus j + ahead bus j) ≤ sample_at (bus.lengths w) * bus.shortest w =
       sound.bit_is_there_at_sample w j (inside w nw) (inside j nj) (or_not (w == j) (bus.listens j) (of.answers j nj)) in
-      let e = ap (λ c. cond c (bus.delay w w) (late bus w j + 11 * strays bus j)) (ne_eqb w j apart) in
+      let e = ap (λ c. cond c (bus.delay w w + bus.turns w) (late bus w j + 11 * strays bus j + ahead bus j)) (ne_eqb w j apart) in
       let z = sample_is w in
       omega arith
 
@@ -235,9 +235,9 @@ module _ (bus : Bus) (t : Tolerance) (b : SenderBus) (is : IsBus b) (of : IsBoun
   there : (j : ℕ) → IsListener b j → (b.line.delay a j + b.line.delay j a) * t.units + 11 * longer_bit t b j a ≤ sample_at (lengths_of b a) * t.shortest a
   unfolding left_of right_of
   there j p =
-      let h : cond (a == j) (bus.delay a a) (late bus a j + 11 * strays bus j) ≤ sample_at (bus.lengths a) * bus.shortest a =
+      let h : cond (a == j) (bus.delay a a + bus.turns a) (late bus a j + 11 * strays bus j + ahead bus j) ≤ sample_at (bus.lengths a) * bus.shortest a =
       sound.bit_is_there_at_sample a j (inside a is.sender) (inside j p.0) (or_not (a == j) (bus.listens j) (of.answers j p.0)) in
-      let e = ap (λ c. cond c (bus.delay a a) (late bus a j + 11 * strays bus j)) (ne_eqb a j (λ e. p.1 (sym e))) in
+      let e = ap (λ c. cond c (bus.delay a a + bus.turns a) (late bus a j + 11 * strays bus j + ahead bus j)) (ne_eqb a j (λ e. p.1 (sym e))) in
       let x = trip_there j in
       let w = way_there j p in
       let s = strays_there j p in
