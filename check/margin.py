@@ -85,13 +85,18 @@ class Bus:
         edges = min(self.edges[i], self.edges[j]) if third else 0
         return edges * (10 * self.drift(j, i) + max(0, self.sjw[j] * self.high[j] - self.jump[i]))
 
+    def pulled(self, i, j):
+        third = any(a in self.sends for a in self.others(i, j))
+        pull = self.look[j] if j in self.sends and third else 0
+        return max(0, pull - max(0, self.jump[i] - self.jump[j]))
+
     def tour(self, i, j):
         d = self.delay
         return max([0] + [max(0, self.way(i, a) + 10 * self.drift(a, i) + self.ahead(a) + d(a, j) + d(j, i) - d(a, i))
                           for a in self.others(i, j) if a in self.sends])
 
     def left(self, kind, i, j):
-        if kind == DRIFT: return 10 * self.drift(i, j)
+        if kind == DRIFT: return 10 * self.drift(i, j) + self.pulled(i, j)
         if kind == LATE and i == j: return self.delay(i, i) + self.turns[i]
         if kind == LATE:
             way = self.way(i, j)

@@ -1,5 +1,5 @@
 -- A bus that is no easier in any respect: if the condition holds for it, it holds for the other.
-use Rattle.std.proofs.Common.{◌≡◌, ℕ, zero, suc, ◌+◌, ◌-◌, ◌*◌, ◌<◌, ◌≤◌, ◌==◌, ◌&&◌, ◌||◌, ◌∙◌, ◌⊎◌, nat_lt, nat_le, not, min, max, Bool, true, false, cond, inl, inr, refl, ap, ap₂, subst, sym, arith}
+use Rattle.std.proofs.Common.{◌≡◌, ◌≢◌, ℕ, zero, suc, ◌+◌, ◌-◌, ◌*◌, ◌<◌, ◌≤◌, ◌==◌, ◌&&◌, ◌||◌, ◌∙◌, ◌⊎◌, nat_lt, nat_le, not, min, max, Bool, true, false, cond, inl, inr, refl, ap, ap₂, subst, sym, arith}
 use Rattle.std.specs.Int.{div_ceil}
 use Rattle.std.proofs.lemmas.Bool.{cases_lt, le-leb, lt-leb}
 use Rattle.std.proofs.lemmas.Grind.{div_ceil_times}
@@ -10,7 +10,7 @@ use Rattle.wl_topology.specs.Driven.{any_below}
 use Rattle.wl_bound.specs.declared.condition.Inequality.{Inequality}
 use Rattle.wl_bound.specs.declared.condition.Inequality.TheVariants.{DriftFitsJump, BitIsThereAtSample, NoBitTooEarly}
 use Rattle.wl_bound.specs.Families.{Bus}
-use Rattle.wl_bound.specs.Terms.{ahead, apart, chase, drift, early, edges, greatest, is_third, jump, late, look, lost, sends_but, sends_third, several, strays, sum_of, tour, trip, way}
+use Rattle.wl_bound.specs.Terms.{ahead, apart, chase, drift, early, edges, greatest, is_third, jump, late, look, lost, pull, pulled, sends_but, sends_third, several, strays, sum_of, tour, trip, way}
 use Rattle.wl_bound.specs.Conditions.{IsSound, is_asked, left_of, right_of}
 
 -- c is no easier than b: the same nodes, segments, senders, listeners and changes of rates, quanta that may be shorter and longer, the same own loops, longer delays and detours
@@ -213,16 +213,37 @@ strays_le : (b c : Bus) → IsHarder b c → (j : ℕ) → strays b j ≤ strays
 unfolding strays
 strays_le b c h j = over b c h (λ w. not (w == j)) (λ w. not (w == j)) (drift b j) (drift c j) (λ k. refl) (drift_le b c h j)
 
-pub left_le : (b c : Bus) → IsHarder b c → (e : Inequality) (i j : ℕ) → left_of b e i j ≤ left_of c e i j
+pull_le : (b c : Bus) → IsHarder b c → (i j : ℕ) → pull b i j ≤ pull c i j
+unfolding pull
+pull_le b c h i j =
+    let more = look_le b c h j in
+    pick_le (b.sends j && any_below b.nodes (sends_third b i j)) (c.sends j && any_below c.nodes (sends_third c i j)) _ _
+    (ap₂ (λ u v. u && v) (h.sends j) (third_same b c h i j)) more
+
+-- the jump that node i has beyond that of j may grow, but not the room of both
+drift_fits : (b c : Bus) → IsHarder b c → (i j : ℕ) → left_of c DriftFitsJump i j ≤ right_of c DriftFitsJump i j
+    → left_of b DriftFitsJump i j ≤ right_of b DriftFitsJump i j
+unfolding left_of right_of pulled
+drift_fits b c h i j fits =
+    let d = drift_le b c h i j in
+    let p = pull_le b c h i j in
+    let one = jump_le b c h i in
+    let other = jump_le b c h j in
+    both (drift b i j) (drift c i j) (pull b i j) (pull c i j) (jump b i) (jump c i) (jump b j) (jump c j) d p one other fits
+  where
+    both : (d e p q j k l m : ℕ) → d ≤ e → p ≤ q → k ≤ j → m ≤ l → 10 * e + (q - (k - m)) ≤ min k m → 10 * d + (p - (j - l)) ≤ min j l
+    both d e p q j k l m de pq kj ml fits = omega arith
+
+pub left_le : (b c : Bus) → IsHarder b c → (e : Inequality) (i j : ℕ) → e ≢ DriftFitsJump → left_of b e i j ≤ left_of c e i j
 unfolding left_of
-left_le b c h DriftFitsJump i j = (let d = drift_le b c h i j in omega arith)
-left_le b c h BitIsThereAtSample i j = pick (i == j)
+left_le b c h DriftFitsJump i j other = absurd (other refl)
+left_le b c h BitIsThereAtSample i j other = pick (i == j)
   where
     pick : (v : Bool)
         → cond v (b.delay i i + b.turns i) (late b i j + 11 * strays b j + ahead b j) ≤ cond v (c.delay i i + c.turns i) (late c i j + 11 * strays c j + ahead c j)
     pick true = (let d = h.delays i i in let n = h.turns i in omega arith)
     pick false = (let l = late_le b c h i j in let s = strays_le b c h j in let n = ahead_same b c h j in omega arith)
-left_le b c h NoBitTooEarly i j =
+left_le b c h NoBitTooEarly i j other =
     (let l = look_le b c h j in let d = drift_le b c h i j in let a = apart_le b c h j i in let y = early_le b c h j in let o = h.own j in
     let t = h.tick in let n = ahead_same b c h i in omega arith)
 
@@ -245,12 +266,12 @@ asked_same b c h NoBitTooEarly i j = ap (λ v. not (i == j) && not v) (h.listens
 pub sound_le : (b c : Bus) → IsHarder b c → IsSound c → IsSound b
 sound_le b c h s = record {
   drift_fits_jump = λ i j bi bj asked.
-      (let l = left_le b c h DriftFitsJump i j in let r = right_le b c h DriftFitsJump i j in let n = h.nodes in
-      let m = s.drift_fits_jump i j (omega arith) (omega arith) (sym (asked_same b c h DriftFitsJump i j) ∙ asked) in omega arith);
+      (let n = h.nodes in
+      drift_fits b c h i j (s.drift_fits_jump i j (omega arith) (omega arith) (sym (asked_same b c h DriftFitsJump i j) ∙ asked)));
   bit_is_there_at_sample = λ i j bi bj asked.
-      (let l = left_le b c h BitIsThereAtSample i j in let r = right_le b c h BitIsThereAtSample i j in let n = h.nodes in
+      (let l = left_le b c h BitIsThereAtSample i j (λ e. cc) in let r = right_le b c h BitIsThereAtSample i j in let n = h.nodes in
       let m = s.bit_is_there_at_sample i j (omega arith) (omega arith) (sym (asked_same b c h BitIsThereAtSample i j) ∙ asked) in omega arith);
   no_bit_too_early = λ i j bi bj asked.
-      (let l = left_le b c h NoBitTooEarly i j in let r = right_le b c h NoBitTooEarly i j in let n = h.nodes in
+      (let l = left_le b c h NoBitTooEarly i j (λ e. cc) in let r = right_le b c h NoBitTooEarly i j in let n = h.nodes in
       let m = s.no_bit_too_early i j (omega arith) (omega arith) (sym (asked_same b c h NoBitTooEarly i j) ∙ asked) in omega arith);
 }

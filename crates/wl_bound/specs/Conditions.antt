@@ -12,11 +12,11 @@ use Rattle.wl_bound.specs.declared.condition.Senders.TheVariants.{Any, One}
 use Rattle.wl_bound.specs.declared.family.Setting.{Setting}
 use Rattle.wl_bound.specs.declared.family.Source.TheVariants.{Together, Alone}
 use Rattle.wl_bound.specs.Families.{Buses, Bus, bus_of, member_at, only_listens}
-use Rattle.wl_bound.specs.Terms.{greatest, ahead, drift, jump, look, early, apart, late, strays}
+use Rattle.wl_bound.specs.Terms.{greatest, ahead, drift, jump, look, early, apart, late, pulled, strays}
 
 -- What takes time. What a node loses at changes of its rate makes it early, and never late. Ten bits of drift: stuffing gives an edge every ten bits at least (Bosch CAN 2.0 part B, section 10).
 unfoldable pub left_of : Bus → Inequality → ℕ → ℕ → ℕ
-left_of b DriftFitsJump i j = 10 * drift b i j
+left_of b DriftFitsJump i j = 10 * drift b i j + pulled b i j
 left_of b BitIsThereAtSample i j = if i == j then b.delay i i + b.turns i else late b i j + 11 * strays b j + ahead b j
 left_of b NoBitTooEarly i j = look b j + 10 * drift b i j + min (apart b j i) (early b j - b.delay j j) + b.tick + ahead b i
 
@@ -35,8 +35,9 @@ is_asked listens NoBitTooEarly i j = not (i == j) && not (listens j)
 
 -- The condition for one bus, for each pair that is asked.
 pub record IsSound (b : Bus) : Type 0 where
-  -- Ten bits of drift are within the jump width of both nodes. Else an edge doesn't put right what has gathered since the one before, and the nodes
-  -- drift apart over a frame (Bosch CAN 2.0 part B, section 10; Hartwich and Bassemir, The configuration of the CAN bit timing).
+  -- Ten bits of drift are within the jump width of both nodes; and within that of node i with what other senders pull node j forward. Else an edge
+  -- doesn't put right what has gathered since the one before, and the nodes drift apart over a frame (Bosch CAN 2.0 part B, section 10; Hartwich and
+  -- Bassemir, The configuration of the CAN bit timing; the pull is this project's).
   pub drift_fits_jump : (i j : ℕ) → i < b.nodes → j < b.nodes → is_asked b.listens DriftFitsJump i j ≡ true
       → left_of b DriftFitsJump i j ≤ right_of b DriftFitsJump i j
   -- There and back, the looks, and eleven bits of drift are within the way to the sample. Else a node samples before the other's bit has come: it

@@ -74,6 +74,14 @@ edges b i =
     else if nat_le (jump b i) (lost b i) then 14
     else min 14 (div_ceil (early b i - b.shortest i) (jump b i - lost b i))
 
+-- By how much two senders at least can pull the edges of sender j forward, each following the other ahead of its edge, while node i follows both.
+unfoldable pub pull : Bus → ℕ → ℕ → ℕ
+pull b i j = if b.sends j && any_below b.nodes (sends_third b i j) then look b j else 0
+
+-- that of it which the jump of node i doesn't put right beyond that of j
+unfoldable pub pulled : Bus → ℕ → ℕ → ℕ
+pulled b i j = pull b i j - (jump b i - jump b j)
+
 -- in how many of them nodes i and j both catch up with a third
 unfoldable pub chase : Bus → ℕ → ℕ → ℕ
 chase b i j = if any_below b.nodes (sends_third b i j) then min (edges b i) (edges b j) else 0

@@ -11,7 +11,8 @@ use crate::family::{Family, Setting, Source};
 /// One of the three inequalities that are asked of each pair of nodes, in this order.
 #[derive(Clone, Copy, Debug, PartialEq, Eq)]
 pub enum Inequality {
-    /// Ten bits of drift are within the jump width of both nodes. Else an edge doesn't put right what has gathered since the one before.
+    /// Ten bits of drift are within the jump width of both nodes, and with what other senders pull node j forward within that of node i. Else an
+    /// edge doesn't put right what has gathered since the one before.
     DriftFitsJump,
     /// There and back, the looks and eleven bits of drift are within the way to the sample. Else a node samples before the other's bit has come.
     BitIsThereAtSample,
@@ -125,7 +126,9 @@ impl Family {
         ensures most { result < 2 ^ 100 }
     {
         match inequality {
-            Inequality::DriftFitsJump => 10 * self.drift(setting, i, j),
+            Inequality::DriftFitsJump => {
+                10 * self.drift(setting, i, j) + self.pulled(setting, i, j)
+            }
             Inequality::BitIsThereAtSample => {
                 if i == j {
                     return self.delay(setting, i, i) + self.turns(setting, i);

@@ -3,7 +3,7 @@ ghost use Rattle.std.specs.Prelude.{◌≡◌, ◌+◌, ◌-◌, ◌*◌, ◌^�
 ghost use Rattle.wl_topology.specs.Driven.{any_below};
 ghost use Rattle.wl_level.specs.Places.{count_places};
 ghost use Rattle.wl_bound.specs.Families.{bus_of};
-ghost use Rattle.wl_bound.specs.Terms.{ahead, apart, chase, drift, early, edges, greatest, is_third, jump, late, look, lost, sends_but, sends_third, several, strays, sum_of, tour, trip, way};
+ghost use Rattle.wl_bound.specs.Terms.{ahead, apart, chase, drift, early, edges, greatest, is_third, jump, late, look, lost, pull, pulled, sends_but, sends_third, several, strays, sum_of, tour, trip, way};
 
 use crate::family::{Family, Setting};
 
@@ -221,6 +221,34 @@ impl Family {
             sends = sends || self.sends(setting, a) && a != i && a != j;
         }
         sends
+    }
+
+    /// Returns by how much two senders at least can pull the edges of node `j` forward while node `i` follows both.
+    #[tactic(auto, unfolding(crate::specs::Terms::pull))]
+    fn pull(&self, setting: Setting, i: u8, j: u8) -> u128
+        requires one { i < length self.now.members }
+        requires other { j < length self.now.members }
+        ensures value { result ≡ pull (bus_of self.now setting) i j }
+        ensures most { result < 2 ^ 87 }
+    {
+        let third = self.third_sends(setting, i, j);
+        if self.sends(setting, j) && third {
+            self.look(setting, j)
+        } else {
+            0
+        }
+    }
+
+    /// Returns what of it the jump of node `i` doesn't put right beyond that of node `j`.
+    #[tactic(auto, unfolding(crate::specs::Terms::pulled))]
+    pub(crate) fn pulled(&self, setting: Setting, i: u8, j: u8) -> u128
+        requires one { i < length self.now.members }
+        requires other { j < length self.now.members }
+        ensures value { result ≡ pulled (bus_of self.now setting) i j }
+        ensures most { result < 2 ^ 87 }
+    {
+        let more = self.jump(setting, i).saturating_sub(self.jump(setting, j));
+        self.pull(setting, i, j).saturating_sub(more)
     }
 
     /// Returns in how many edges nodes `i` and `j` both catch up with a third.
