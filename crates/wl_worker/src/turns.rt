@@ -16,9 +16,9 @@ use wl_record_core::Record;
 /// A worker has no turn of this number: there it ends with its fault.
 const MOST_TURNS: u64 = 1 << 63;
 
-/// How many rows of quanta at most members run before the worker gives what was said, by measurement. With fewer a worker gives and fetches
-/// more often on lines with long delays, and with more nothing is gained. So others needn't wait until it has run all that it can.
-const MOST_ROWS: u32 = 128;
+/// How many rows of quanta at most members run before the worker gives what was said. So others needn't wait until it has run all that it
+/// can. With fewer it would give and fetch more often.
+const MOST_ROWS: u32 = 32;
 
 /// Runs a group to its end, with what comes by its link.
 ///
