@@ -5,3 +5,4 @@ mod Working
 mod Viewing
 mod PageProofs
 mod TrafficProofs
+mod Explaining

@@ -1,11 +1,15 @@
 //! The explanation of a plan.
+ghost use Rattle.std.specs.Prelude.{◌≡◌, ℕ, List, Some};
+ghost use Rattle.toml.specs.View.{table_view};
+ghost use Rattle.wl_setup.specs.Reading.{document_of};
 ghost use Rattle.wl_engines.specs.Explained.{Explains, ExplainsText};
 
 use crate::fault::RunFault;
 use std::alloc::Global;
+use toml::Table;
 use wl_device::{Ended, Sink, Source, write_all};
-use wl_explain::{explain_fault, explain_plan, explain_size};
-use wl_setup::{SetupFault, bus_of_bytes, read_bytes};
+use wl_explain::{explain_fault, explain_plan, explain_size, explain_toml};
+use wl_setup::{NoDocument, SetupFault, bus_of_document, document_or_place, read_bytes};
 
 /// Reads a plan's text, tests whether the plan can be run, and writes what is doubtful of it and its bus, one a line, and then the figures.
 /// Of a plan that is refused it writes what is wrong and what to change, and returns the fault whether or not the writer took all of that.
@@ -31,23 +35,39 @@ pub fn explain_run<R: Source, W: Sink>(
     }
 }
 
-/// Writes the explanation of a plan's text that was read whole.
-fn explain_text<W: Sink>(alloc: Global, text: &[u8], writer: &mut W) -> Result<(), RunFault>
-    ensures { ExplainsText W.takes text.now writer.old writer.new result }
+/// Writes the explanation of a plan's document.
+fn explain_document<W: Sink>(alloc: Global, top: &Table, writer: &mut W) -> Result<(), RunFault>
+    ensures { (text : List ℕ) → document_of text ≡ Some (table_view top.now)
+        → ExplainsText W.takes text writer.old writer.new result }
 {
-    match bus_of_bytes(alloc, text) {
+    match bus_of_document(alloc, top) {
         Ok(bus) => {
             let said = explain_plan(alloc, &bus)?;
             write_all(said.as_bytes(), writer)?;
             Ok(())
         }
-        Err(fault) => {
-            if let SetupFault::Memory = fault {
+        Err(placed) => {
+            if let SetupFault::Memory = placed.fault {
                 return Err(RunFault::Memory);
             }
-            let said = explain_fault(alloc, text, &fault)?;
+            let said = explain_fault(alloc, top, placed.spot, &placed.fault)?;
             let _ = write_all(said.as_bytes(), writer);
-            Err(RunFault::Setup(fault))
+            Err(RunFault::Setup(placed.fault))
         }
+    }
+}
+
+/// Writes the explanation of a plan's text that was read whole.
+fn explain_text<W: Sink>(alloc: Global, text: &[u8], writer: &mut W) -> Result<(), RunFault>
+    ensures { ExplainsText W.takes text.now writer.old writer.new result }
+{
+    match document_or_place(alloc, text) {
+        Ok(top) => explain_document(alloc, &top, writer),
+        Err(NoDocument::At(place)) => {
+            let said = explain_toml(alloc, &text[..place])?;
+            let _ = write_all(said.as_bytes(), writer);
+            Err(RunFault::Setup(SetupFault::Toml))
+        }
+        Err(NoDocument::Memory) => Err(RunFault::Memory),
     }
 }

@@ -1,5 +1,5 @@
 -- The text on a plan that is refused: what is wrong, with its place, keys and values, and what to change (this project's profile).
-use Rattle.std.specs.Prelude.{◌≡◌, ◌≤◌, ◌==◌, ◌+◌, ◌||◌, nat_lt, nat_le, ℕ, ℤ, pos, negsuc, Bool, true, false, List, [], ◌∷◌, ◌++◌, codes, length, take, filter, if◌then◌else◌, Option, Some, None, unwrap_or, option_and_then}
+use Rattle.std.specs.Prelude.{◌≡◌, ◌≤◌, ◌==◌, ◌+◌, ◌||◌, nat_lt, nat_le, ℕ, ℤ, pos, negsuc, Bool, true, false, List, [], ◌∷◌, ◌++◌, codes, length, take, filter, if◌then◌else◌, Option, Some, None, option_and_then}
 use Rattle.std.specs.Fmt.{decimal, digits, signed_decimal}
 use Rattle.std.specs.List.{flat_map, list_any}
 use Rattle.std.specs.Str.{bytes_eq}
@@ -24,7 +24,8 @@ use Rattle.wl_setup.specs.Keys.{key_text}
 use Rattle.wl_setup.specs.Kinds.{list_of, value_at}
 use Rattle.wl_setup.specs.Reading.{document_of}
 use Rattle.wl_setup.specs.Shown.{shown}
-use Rattle.wl_setup.specs.Spots.{faulty_spot, table_at}
+use Rattle.wl_setup.specs.Document.{fault_spot}
+use Rattle.wl_setup.specs.Spots.{table_at}
 use Rattle.wl_explain.specs.Remedies.{cause, remedy}
 
 -- what a value is
@@ -127,39 +128,35 @@ plan_subject top (plan.Quanta i) = quanta_words top i
 plan_subject top (plan.Queue i) = subject_words top (Node i) (key.Frame ∷ [])
 plan_subject top (plan.Disturbance n) = subject_words top (Disturbance n) (key.X ∷ key.AtNode ∷ key.From ∷ key.To ∷ [])
 
--- the table in which the first fault of keys stands, and there a key that is missing, or one with its value
-abbrev pub fault_spot : Members → Spot
-fault_spot top = unwrap_or (faulty_spot top) Top
-
+-- a key that a table lacks, or one with its value
 abbrev pub lacking : List ℕ → List ℕ → List ℕ
 lacking place k = place ++ codes ", no " ++ k
 
-abbrev pub missing_words : Members → List ℕ → List ℕ
-missing_words top k = lacking (spot_words top (fault_spot top)) (shown k)
+abbrev pub missing_words : Members → Spot → List ℕ → List ℕ
+missing_words top spot k = lacking (spot_words top spot) (shown k)
 
-abbrev pub named_words : Members → List ℕ → List ℕ
-named_words top k =
-    spot_words top (fault_spot top) ++ key_words (shown k) (option_and_then (get_member k) (table_at (fault_spot top) top))
+abbrev pub named_words : Members → Spot → List ℕ → List ℕ
+named_words top spot k = spot_words top spot ++ key_words (shown k) (option_and_then (get_member k) (table_at spot top))
 
--- what a fault is about
-abbrev pub subject : Members → SetupFault → List ℕ
-subject top fault.Version = subject_words top Top (key.Version ∷ [])
-subject top (fault.Missing k) = missing_words top k
-subject top (fault.Kind k) = named_words top k
-subject top (fault.Unknown k) = named_words top k
-subject top (fault.NodeClock i f) = subject_words top (Node i) (keys_of_clock f)
-subject top (fault.NodeSegments i f) = subject_words top (Node i) (keys_of_segments f)
-subject top (fault.NodeFrame i n f) = subject_words top (Frame i n) (keys_of_frame f)
-subject top (fault.Topology f) = topology_subject top f
-subject top (fault.Plan f) = plan_subject top f
-subject top _ = codes "the plan"
+-- what a fault in a table is about; a fault of numbers names its tables itself
+abbrev pub subject : Members → Spot → SetupFault → List ℕ
+subject top spot fault.Version = subject_words top Top (key.Version ∷ [])
+subject top spot (fault.Missing k) = missing_words top spot k
+subject top spot (fault.Kind k) = named_words top spot k
+subject top spot (fault.Unknown k) = named_words top spot k
+subject top spot (fault.NodeClock i f) = subject_words top (Node i) (keys_of_clock f)
+subject top spot (fault.NodeSegments i f) = subject_words top (Node i) (keys_of_segments f)
+subject top spot (fault.NodeFrame i n f) = subject_words top (Frame i n) (keys_of_frame f)
+subject top spot (fault.Topology f) = topology_subject top f
+subject top spot (fault.Plan f) = plan_subject top f
+subject top spot _ = codes "the plan"
 
 -- the two lines
 abbrev pub lines : List ℕ → List ℕ → List ℕ → List ℕ
 lines about wrong change = codes "wrong: " ++ about ++ codes ": " ++ wrong ++ codes "\nchange: " ++ change ++ codes "\n"
 
-abbrev pub refusal_words : Members → SetupFault → List ℕ
-refusal_words top f = lines (subject top f) (cause f) (remedy f)
+abbrev pub refusal_words : Members → Spot → SetupFault → List ℕ
+refusal_words top spot f = lines (subject top spot f) (cause f) (remedy f)
 
 -- the line of a text's place, and its column in characters, both from 1
 abbrev pub is_newline : ℕ → Bool
@@ -195,7 +192,7 @@ size_words = lines (codes "the plan") (cause fault.Size) (remedy fault.Size)
 -- the text on a document's fault; where there is no document, the text names a place in it
 abbrev pub IsDocumentRefusal : Option Members → List ℕ → SetupFault → List ℕ → Type 0
 IsDocumentRefusal None text f said = (place : ℕ) × (place ≤ length text) × (said ≡ toml_words (take place text))
-IsDocumentRefusal (Some top) text f said = said ≡ refusal_words top f
+IsDocumentRefusal (Some top) text f said = said ≡ refusal_words top (fault_spot top) f
 
 -- the text on a refused plan's text, by its fault
 abbrev pub IsRefusal : List ℕ → SetupFault → List ℕ → Type 0

@@ -26,7 +26,8 @@ pub use doubts::{
 };
 pub use explanation::explain_plan;
 pub use laws::figures_of_the_run;
-pub use refusal::{column_number, explain_fault, explain_size, line_number};
+pub use refusal::{column_number, explain_fault, explain_size, explain_toml, line_number, subject};
+pub use remedies::{cause, remedy};
 use std::marker::Model;
 use wl_clock::Clock;
 use wl_plan::MOST_QUANTA;

@@ -5,7 +5,7 @@ ghost use Rattle.toml.specs.View.{array_view, view, table_view};
 ghost use Rattle.wl_setup.specs.Kinds.{list_of, value_at};
 ghost use Rattle.wl_setup.specs.Shown.{shown};
 ghost use Rattle.wl_setup.specs.Spots.{table_at};
-ghost use Rattle.wl_explain.specs.Refusals.{IsRefusal, begins_letter, beside_words, hexadecimal_words, keys_of_clock, column_behind, column_number, fault_spot, keys_of_frame, frame_called, lacking, rate_called, valued, is_newline, key_words, keys_words, line_number, lines, missing_words, name_words, named_words, node_called, two_nodes, place_words, plan_subject, quanta_words, refusal_words, keys_of_segments, size_words, spot_words, subject, subject_words, toml_words, topology_subject, value_words};
+ghost use Rattle.wl_explain.specs.Refusals.{begins_letter, beside_words, hexadecimal_words, keys_of_clock, column_behind, column_number, keys_of_frame, frame_called, lacking, rate_called, valued, is_newline, key_words, keys_words, line_number, lines, missing_words, name_words, named_words, node_called, two_nodes, place_words, plan_subject, quanta_words, refusal_words, keys_of_segments, size_words, spot_words, subject, subject_words, toml_words, topology_subject, value_words};
 
 use crate::remedies::{CORRECT, NO_TOML, SHORTEN, TOO_LONG, cause, remedy};
 use std::alloc::{AllocError, Global};
@@ -15,9 +15,7 @@ use wl_clock::ClockFault;
 use wl_frame::frame::FrameFault;
 use wl_plan::PlanFault;
 use wl_segments::SegmentsFault;
-use wl_setup::{
-    Key, NoDocument, SetupFault, Spot, Text, document_or_place, faulty_spot, table_at, value_named,
-};
+use wl_setup::{Key, SetupFault, Spot, Text, table_at, value_named};
 use wl_topology::TopologyFault;
 
 /// Returns what a value is.
@@ -297,13 +295,6 @@ fn plan_subject(alloc: Global, top: &Table, fault: PlanFault) -> Result<String, 
     }
 }
 
-/// Returns the table in which the first fault of keys is.
-fn fault_spot(top: &Table) -> Spot
-    ensures { result ≡ fault_spot (table_view top.now) }
-{
-    faulty_spot(top).unwrap_or(Spot::Top)
-}
-
 /// Adds a table and a key that it lacks.
 fn push_missing(text: &mut String, place: &str, key: &Text) -> Result<(), AllocError>
     ensures { OnOk result (string_bytes text.new ≡ string_bytes text.old ++ lacking place.now (shown key.now)) }
@@ -312,45 +303,50 @@ fn push_missing(text: &mut String, place: &str, key: &Text) -> Result<(), AllocE
 }
 
 /// Returns a table that lacks a key.
-fn missing_words(alloc: Global, top: &Table, key: &Text) -> Result<String, AllocError>
-    ensures { IfOk result (λ text. string_bytes text ≡ missing_words (table_view top.now) key.now) }
+fn missing_words(alloc: Global, top: &Table, spot: Spot, key: &Text) -> Result<String, AllocError>
+    ensures { IfOk result (λ text. string_bytes text ≡ missing_words (table_view top.now) spot key.now) }
 {
-    let place = spot_words(alloc, top, fault_spot(top))?;
+    let place = spot_words(alloc, top, spot)?;
     let mut text = String::new(alloc);
     push_missing(&mut text, place.as_str(), key)?;
     Ok(text)
 }
 
-/// Returns the value at a key of the table in which the first fault of keys is.
-fn value_of_fault<'a>(top: &'a Table, key: &Text) -> Option<&'a Value>
+/// Returns the value at a key of a table of the document.
+fn value_in<'a>(top: &'a Table, spot: Spot, key: &Text) -> Option<&'a Value>
     ensures { option_map (λ v. view v.now) result
-        ≡ option_and_then (get_member key.now) (table_at (fault_spot (table_view top.now)) (table_view top.now)) }
+        ≡ option_and_then (get_member key.now) (table_at spot (table_view top.now)) }
 {
-    match table_at(top, fault_spot(top)) {
+    match table_at(top, spot) {
         Some(table) => value_named(table, key.as_str()),
         None => None,
     }
 }
 
-/// Returns a key of that table with its value.
-fn named_words(alloc: Global, top: &Table, key: &Text) -> Result<String, AllocError>
-    ensures { IfOk result (λ text. string_bytes text ≡ named_words (table_view top.now) key.now) }
+/// Returns a table, and a key of it with its value.
+fn named_words(alloc: Global, top: &Table, spot: Spot, key: &Text) -> Result<String, AllocError>
+    ensures { IfOk result (λ text. string_bytes text ≡ named_words (table_view top.now) spot key.now) }
 {
-    let place = spot_words(alloc, top, fault_spot(top))?;
+    let place = spot_words(alloc, top, spot)?;
     let label = format!(in alloc; "{key}")?;
-    let said = key_words(alloc, label.as_str(), value_of_fault(top, key))?;
+    let said = key_words(alloc, label.as_str(), value_in(top, spot, key))?;
     format!(in alloc; "{place}{said}")
 }
 
-/// Returns what a fault is about.
-fn subject(alloc: Global, top: &Table, fault: &SetupFault) -> Result<String, AllocError>
-    ensures { IfOk result (λ text. string_bytes text ≡ subject (table_view top.now) fault.now) }
+/// Returns what a fault in a table of a document is about: the table with its number and, of a node, its name, and the keys with their values.
+pub fn subject(
+    alloc: Global,
+    top: &Table,
+    spot: Spot,
+    fault: &SetupFault,
+) -> Result<String, AllocError>
+    ensures { IfOk result (λ text. string_bytes text ≡ subject (table_view top.now) spot fault.now) }
 {
     match fault {
         SetupFault::Version => subject_words(alloc, top, Spot::Top, &[Key::Version]),
-        SetupFault::Missing(key) => missing_words(alloc, top, key),
-        SetupFault::Kind(key) => named_words(alloc, top, key),
-        SetupFault::Unknown(key) => named_words(alloc, top, key),
+        SetupFault::Missing(key) => missing_words(alloc, top, spot, key),
+        SetupFault::Kind(key) => named_words(alloc, top, spot, key),
+        SetupFault::Unknown(key) => named_words(alloc, top, spot, key),
         SetupFault::NodeClock(i, fault) => {
             subject_words(alloc, top, Spot::Node(*i), keys_of_clock(*fault))
         }
@@ -382,10 +378,17 @@ fn lines(alloc: Global, about: &str, wrong: &str, change: &str) -> Result<String
     Ok(text)
 }
 
-fn refusal_words(alloc: Global, top: &Table, fault: &SetupFault) -> Result<String, AllocError>
-    ensures { IfOk result (λ text. string_bytes text ≡ refusal_words (table_view top.now) fault.now) }
+/// Returns the text on a document that is refused by this fault, its first, in this table: two lines. The first one says what is wrong: what
+/// the fault is about, and what of that is refused. The second one says what to change. Refused out of memory alone.
+pub fn explain_fault(
+    alloc: Global,
+    top: &Table,
+    spot: Spot,
+    fault: &SetupFault,
+) -> Result<String, AllocError>
+    ensures { IfOk result (λ text. string_bytes text ≡ refusal_words (table_view top.now) spot fault.now) }
 {
-    let about = subject(alloc, top, fault)?;
+    let about = subject(alloc, top, spot, fault)?;
     lines(alloc, about.as_str(), cause(fault), remedy(fault))
 }
 
@@ -449,8 +452,8 @@ fn push_place(text: &mut String, line: u64, column: u64) -> Result<(), AllocErro
     write!(text, "line {line}, column {column}")
 }
 
-/// Returns the text on a text that isn't TOML; `before` are the bytes before the parser's position.
-fn toml_words(alloc: Global, before: &[u8]) -> Result<String, AllocError>
+/// Returns the text on a text that isn't TOML: the same two lines, with the line and the column, from 1, of the place after these bytes of it.
+pub fn explain_toml(alloc: Global, before: &[u8]) -> Result<String, AllocError>
     ensures { IfOk result (λ text. string_bytes text ≡ toml_words before.now) }
 {
     let line = line_number(before);
@@ -465,17 +468,4 @@ pub fn explain_size(alloc: Global) -> Result<String, AllocError>
     ensures { IfOk result (λ text. string_bytes text ≡ size_words) }
 {
     lines(alloc, "the plan", TOO_LONG, SHORTEN)
-}
-
-/// Returns the text on a plan's text that is refused by this fault, its first: two lines. The first one says what is wrong: the table with
-/// its number and, of a node, its name; the keys with their values; and what of them is refused. The second one says what to change. Of a
-/// text that is no TOML the first line has line and column, from 1, of a place where the parser stopped. Refused out of memory alone.
-pub fn explain_fault(alloc: Global, text: &[u8], fault: &SetupFault) -> Result<String, AllocError>
-    ensures { IfOk result (λ said. IsRefusal text.now fault.now (string_bytes said)) }
-{
-    match document_or_place(alloc, text) {
-        Ok(top) => refusal_words(alloc, &top, fault),
-        Err(NoDocument::At(place)) => toml_words(alloc, &text[..place]),
-        Err(NoDocument::Memory) => Err(AllocError),
-    }
 }

@@ -222,7 +222,7 @@ fn plan_remedy(fault: PlanFault) -> &'static str
 }
 
 /// Returns what is wrong at a fault.
-pub(crate) fn cause(fault: &SetupFault) -> &'static str
+pub fn cause(fault: &SetupFault) -> &'static str
     ensures { result.now ≡ cause fault.now }
 {
     match fault {
@@ -244,7 +244,7 @@ pub(crate) fn cause(fault: &SetupFault) -> &'static str
 }
 
 /// Returns what to change at a fault.
-pub(crate) fn remedy(fault: &SetupFault) -> &'static str
+pub fn remedy(fault: &SetupFault) -> &'static str
     ensures { result.now ≡ remedy fault.now }
 {
     match fault {

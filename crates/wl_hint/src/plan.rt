@@ -1,20 +1,20 @@
 //! Hints on plan texts.
-ghost use Rattle.std.specs.Prelude.{◌≤◌, IfOk, IfSome, length, None, Some, option_map};
+ghost use Rattle.std.specs.Prelude.{◌≤◌, IfOk, length, None, Some, option_map};
 ghost use Rattle.wl_hint.specs.Hints.{PointsInto};
 
 use crate::hint::{Hint, Place};
 use crate::place::place_of;
-use crate::remarks::{remark, repeated_name};
+use crate::remarks::remark;
 use crate::scan::{key_end, value_behind, value_end};
 use std::alloc::{AllocError, Global};
 use std::str;
 use toml::Table;
 use wl_clock::ClockFault;
-use wl_explain::explain_fault;
+use wl_explain::{cause, remedy, subject as about};
 use wl_frame::frame::FrameFault;
 use wl_plan::PlanFault;
 use wl_segments::SegmentsFault;
-use wl_setup::{SetupFault, Spot, Text, document_or_place, faulty_spot};
+use wl_setup::{NoDocument, SetupFault, Spot, Text, bus_of_document, document_or_place};
 use wl_topology::TopologyFault;
 
 /// The most bytes of a value that a hint shows.
@@ -82,18 +82,22 @@ fn subject(fault: &SetupFault) -> Option<(Spot, &'static str)> {
     }
 }
 
+/// Returns the table where the first fault of a document is; `None` if it has none.
+fn first_spot(alloc: Global, top: &Table) -> Result<Option<Spot>, AllocError> {
+    match bus_of_document(alloc, top) {
+        Ok(_) => Ok(None),
+        Err(placed) => match placed.fault {
+            SetupFault::Memory => Err(AllocError),
+            _ => Ok(Some(placed.spot)),
+        },
+    }
+}
+
 /// Returns the table that a fault is about.
-fn spot_in(top: &Table, fault: &SetupFault) -> Option<Spot> {
-    match fault {
-        SetupFault::Missing(_) | SetupFault::Kind(_) | SetupFault::Unknown(_) => faulty_spot(top),
-        SetupFault::SameName => match repeated_name(top) {
-            Some(i) => Some(Spot::Node(i)),
-            None => None,
-        },
-        other => match subject(other) {
-            Some((spot, _)) => Some(spot),
-            None => None,
-        },
+fn spot_in(alloc: Global, top: &Table, fault: &SetupFault) -> Result<Option<Spot>, AllocError> {
+    match subject(fault) {
+        Some((spot, _)) => Ok(Some(spot)),
+        None => first_spot(alloc, top),
     }
 }
 
@@ -127,102 +131,94 @@ fn written(alloc: Global, text: &[u8], at: usize) -> Result<String, AllocError> 
     }
 }
 
-/// Returns what an explanation says is wrong, and what to change.
-fn parts(said: &str) -> (&str, &str) {
-    let (wrong, change) = said.split_once("\nchange: ").unwrap_or((said, ""));
-    (
-        wrong.strip_prefix("wrong: ").unwrap_or(wrong),
-        change.trim_end_matches('\n'),
-    )
-}
-
 /// Returns the hint on a text that isn't at hand.
 fn without_text(alloc: Global, fault: &SetupFault) -> Result<Hint, AllocError>
     ensures { IfOk result (PointsInto None) }
 {
-    let said = explain_fault(alloc, b"", fault)?;
-    let (wrong, change) = parts(said.as_str());
-    let cause = match wrong.rsplit_once(": ") {
-        Some((_, cause)) => cause,
-        None => wrong,
-    };
-    let said = format!(in alloc; "{cause}. {change}")?;
+    let (cause, remedy) = (cause(fault), remedy(fault));
+    let said = format!(in alloc; "{cause}. {remedy}")?;
     Hint::anywhere(alloc, said.as_str())
 }
 
-/// The place of a fault in a text, and what is remarked of it.
-#[derive(Drop)]
-struct Found {
-    at: Option<usize>,
-    remark: String,
+/// Returns the hint on a text that is no TOML, where the parser stopped.
+fn no_document(alloc: Global, text: &[u8], at: usize) -> Result<Hint, AllocError>
+    requires { at ≤ length text.now }
+    ensures { IfOk result (PointsInto (Some text.now)) }
+{
+    let (cause, remedy) = (cause(&SetupFault::Toml), remedy(&SetupFault::Toml));
+    let said = format!(in alloc; ": {cause}. {remedy}")?;
+    Ok(Hint {
+        place: Some(Place::of(text, at)),
+        said: Text::new(alloc, said.as_str())?,
+    })
 }
 
-/// Returns the place of a fault in a document, and what is remarked of it.
-fn found_in(
+/// Returns what is said of a fault in this table of a document, after what is written at its place.
+fn said_of(
+    alloc: Global,
+    top: &Table,
+    spot: Spot,
+    fault: &SetupFault,
+    written: &str,
+) -> Result<Text, AllocError> {
+    let about = about(alloc, top, spot, fault)?;
+    let remark = remark(alloc, top, spot, fault)?;
+    let (cause, remedy) = (cause(fault), remedy(fault));
+    let said = format!(in alloc; "{written}{about}: {cause}{remark}. {remedy}")?;
+    Text::new(alloc, said.as_str())
+}
+
+/// Returns the hint on a fault in this table of a document.
+fn in_table(
+    alloc: Global,
+    text: &[u8],
+    top: &Table,
+    spot: Spot,
+    fault: &SetupFault,
+) -> Result<Hint, AllocError>
+    ensures { IfOk result (PointsInto (Some text.now)) }
+{
+    match place_of(text, spot, key_in(fault).as_bytes()) {
+        Some(at) => {
+            let written = written(alloc, text, at)?;
+            Ok(Hint {
+                place: Some(Place::of(text, at)),
+                said: said_of(alloc, top, spot, fault, written.as_str())?,
+            })
+        }
+        None => Ok(Hint {
+            place: None,
+            said: said_of(alloc, top, spot, fault, "")?,
+        }),
+    }
+}
+
+/// Returns the hint on a document.
+fn in_document(
     alloc: Global,
     text: &[u8],
     top: &Table,
     fault: &SetupFault,
-) -> Result<Found, AllocError>
-    ensures { IfOk result (λ found. IfSome found.at (λ at. at ≤ length text.now)) }
+) -> Result<Hint, AllocError>
+    ensures { IfOk result (PointsInto (Some text.now)) }
 {
-    match spot_in(top, fault) {
-        Some(spot) => Ok(Found {
-            at: place_of(text, spot, key_in(fault).as_bytes()),
-            remark: remark(alloc, top, spot, fault)?,
-        }),
-        None => Ok(Found {
-            at: None,
-            remark: String::new(alloc),
+    match spot_in(alloc, top, fault)? {
+        Some(spot) => in_table(alloc, text, top, spot, fault),
+        None => Ok(Hint {
+            place: None,
+            said: said_of(alloc, top, Spot::Top, fault, "")?,
         }),
     }
-}
-
-/// Returns the same of a text, which may be no TOML.
-fn found_of(alloc: Global, text: &[u8], fault: &SetupFault) -> Result<Found, AllocError>
-    ensures { IfOk result (λ found. IfSome found.at (λ at. at ≤ length text.now)) }
-{
-    match document_or_place(alloc, text) {
-        Ok(top) => found_in(alloc, text, &top, fault),
-        Err(_) => Ok(Found {
-            at: None,
-            remark: String::new(alloc),
-        }),
-    }
-}
-
-/// Returns the hint on a text, with what is written in front of what is wrong.
-fn hint_at(
-    alloc: Global,
-    text: &[u8],
-    fault: &SetupFault,
-    found: &Found,
-    written: &str,
-) -> Result<Text, AllocError> {
-    let said = explain_fault(alloc, text, fault)?;
-    let (wrong, change) = parts(said.as_str());
-    let remark = found.remark.as_str();
-    let said = format!(in alloc; "{written}{wrong}{remark}. {change}")?;
-    Text::new(alloc, said.as_str())
 }
 
 /// Returns the hint on a text.
 fn with_text(alloc: Global, text: &[u8], fault: &SetupFault) -> Result<Hint, AllocError>
     ensures { IfOk result (PointsInto (Some text.now)) }
 {
-    let found = found_of(alloc, text, fault)?;
-    match found.at {
-        Some(at) => {
-            let written = written(alloc, text, at)?;
-            Ok(Hint {
-                place: Some(Place::of(text, at)),
-                said: hint_at(alloc, text, fault, &found, written.as_str())?,
-            })
-        }
-        None => Ok(Hint {
-            place: None,
-            said: hint_at(alloc, text, fault, &found, "")?,
-        }),
+    match document_or_place(alloc, text) {
+        Ok(top) => in_document(alloc, text, &top, fault),
+        Err(NoDocument::At(at)) => no_document(alloc, text, at),
+        Err(NoDocument::Memory) => Err(AllocError),
     }
 }
 

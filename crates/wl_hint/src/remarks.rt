@@ -16,35 +16,6 @@ const KNOWN: [&str; 33] = [
     "tolerance", "every", "count", "listen",
 ];
 
-/// The most nodes among which a repeated name is looked for.
-const MOST_NAMED: u64 = 1_000;
-
-/// Returns the name of node `i`.
-fn name_of(top: &Table, i: u64) -> Option<&str> {
-    value_named(table_at(top, Spot::Node(i))?, "name")?.as_str()
-}
-
-/// True if an earlier node has the name of node `i`.
-fn is_repeated(top: &Table, i: u64) -> bool {
-    let name = name_of(top, i);
-    for j in 0..i {
-        if name.is_some() && name_of(top, j) == name {
-            return true;
-        }
-    }
-    false
-}
-
-/// Returns the first node with the name of an earlier one.
-pub(crate) fn repeated_name(top: &Table) -> Option<u64> {
-    for i in 0..MOST_NAMED {
-        if is_repeated(top, i) {
-            return Some(i);
-        }
-    }
-    None
-}
-
 /// Returns the first key of a table that no table of a plan has, which may be a misspelt one.
 fn strange_key(table: &Table) -> Option<&str> {
     for key in table.keys() {

@@ -1,6 +1,6 @@
 -- Which faults a document can have.
-use Rattle.std.proofs.Common.{◌≡◌, ℕ, true, List, [], ◌∷◌, map, Option, None, Some, option_map, Err, refl, inl, inr}
-use Rattle.std.specs.List.{AllByRecursion}
+use Rattle.std.proofs.Common.{◌≡◌, ℕ, true, List, [], ◌∷◌, map, Option, None, Some, IfSome, option_map, Err, refl, inl, inr}
+use Rattle.std.specs.List.{AllByRecursion, enumerate_from}
 use Rattle.std.proofs.lemmas.Bool.{cases_Bool}
 use Rattle.toml.specs.Data.{Data, Members}
 use Rattle.wl_setup.specs.declared.keys.Key.{Key}
@@ -10,28 +10,49 @@ use Rattle.wl_setup.specs.declared.fault.SetupFault.TheVariants.{Unknown, Versio
 use Rattle.wl_setup.specs.declared.plan_text.PlanText.{PlanText}
 use Rattle.wl_setup.specs.Keys.{kind_of, TableKeys, top_keys}
 use Rattle.wl_setup.specs.Kinds.{has_kind, value_at, number_at, tables_at}
-use Rattle.wl_setup.specs.Faults.{first_some, kind_fault, required_fault_of, required_fault, optional_fault_of, optional_fault, unknown_fault, table_fault, node_keys, rate_keys, frame_keys, disturbance_keys, frame_fault, disturbance_fault, rate_fault, is_known_version, version_fault, node_fault}
-use Rattle.wl_setup.specs.Names.{has_repeat, names_of, same_name_fault}
+use Rattle.wl_setup.specs.Faults.{first_some, kind_fault, required_fault_of, required_fault, optional_fault_of, optional_fault, unknown_fault, table_fault, node_keys, rate_keys, frame_keys, disturbance_keys, is_known_version, version_fault}
+use Rattle.wl_setup.specs.Names.{first_repeat, has_repeat, names_of, same_name_fault}
+use Rattle.wl_setup.specs.declared.spot.PlacedFault.{PlacedFault}
+use Rattle.wl_setup.specs.declared.spot.Spot.{Spot}
+use Rattle.wl_setup.specs.declared.spot.Spot.TheVariants.{Top, Node, Rate, Frame, Disturbance}
+use Rattle.wl_setup.specs.Spots.{fault_at, rate_fault_at, frame_fault_at, disturbance_fault_at, first_in, node_fault_at}
 use Rattle.wl_setup.specs.Texts.{plan_of}
-use Rattle.wl_setup.specs.Document.{document_fault, is_document_fault, unless, OnlyDocumentFaults}
+use Rattle.wl_setup.specs.Document.{document_fault, first_fault, is_document_fault, unless, OnlyDocumentFaults}
 use Rattle.wl_setup.specs.Reading.{document_answer}
 use Rattle.std.specs.Prelude.{if◌then◌else◌}
 
--- a fault that a document can have, if any
+-- a fault that a document can have, if any, and one with its place
 abbrev pub IsOfDocument : Option SetupFault → Type 0
-IsOfDocument None = Unit {0}
-IsOfDocument (Some fault) = is_document_fault fault ≡ true
+IsOfDocument o = IfSome o (λ f. is_document_fault f ≡ true)
 
-first_some_of : (os : List (Option SetupFault)) → AllByRecursion IsOfDocument os → IsOfDocument (first_some os)
-first_some_of [] all = tt
-first_some_of (None ∷ os) all = first_some_of os all.1
-first_some_of (Some fault ∷ os) all = all.0
+abbrev pub IsPlaced : Option PlacedFault → Type 0
+IsPlaced o = IfSome o (λ f. is_document_fault f.fault ≡ true)
 
-each_of : {A : Type 0} (f : A → Option SetupFault) → ((x : A) → IsOfDocument (f x)) → (xs : List A) → IsOfDocument (first_some (map f xs))
-each_of {A} f each xs = first_some_of (map f xs) (all xs) where
-  all : (ys : List A) → AllByRecursion IsOfDocument (map f ys)
-  all [] = tt
-  all (y ∷ ys) = (each y, all ys)
+module _ {B : Type 0} (P : B → Type 0) where
+  first_some_of : (os : List (Option B)) → AllByRecursion (λ o. IfSome o P) os → IfSome (first_some os) P
+  first_some_of [] all = tt
+  first_some_of (None ∷ os) all = first_some_of os all.1
+  first_some_of (Some x ∷ os) all = all.0
+
+  each_of : {A : Type 0} (f : A → Option B) → ((x : A) → IfSome (f x) P) → (xs : List A) → IfSome (first_some (map f xs)) P
+  each_of {A} f each xs = first_some_of (map f xs) (all xs) where
+    all : (ys : List A) → AllByRecursion (λ o. IfSome o P) (map f ys)
+    all [] = tt
+    all (y ∷ ys) = (each y, all ys)
+
+abbrev has : SetupFault → Type 0
+has f = is_document_fault f ≡ true
+
+abbrev placed_has : PlacedFault → Type 0
+placed_has f = is_document_fault f.fault ≡ true
+
+placed_of : (at : Spot) (o : Option SetupFault) → IsOfDocument o → IsPlaced (fault_at at o)
+placed_of at None own = tt
+placed_of at (Some f) own = own
+
+unplaced_of : (o : Option PlacedFault) → IsPlaced o → IsOfDocument (option_map (λ f. f.fault) o)
+unplaced_of None own = tt
+unplaced_of (Some f) own = own
 
 kind_of_document : (k : Key) (d : Data) → IsOfDocument (kind_fault k d)
 kind_of_document k d =
@@ -53,14 +74,17 @@ unknown_of_document None = tt
 unknown_of_document (Some text) = refl
 
 table_of_document : (keys : TableKeys) (table : Members) → IsOfDocument (table_fault keys table)
-table_of_document keys table = first_some_of (
+table_of_document keys table = first_some_of has (
     first_some (map (required_fault table) keys.required) ∷ first_some (map (optional_fault table) keys.optional) ∷ unknown_fault keys table ∷ []
-    ) (each_of (required_fault table) (λ k. required_of_document k (value_at k table)) keys.required, (each_of (optional_fault table) (λ k. optional_of_document k (value_at k table)) keys.optional, (unknown_of_document _, tt)))
+    ) (each_of has (required_fault table) (λ k. required_of_document k (value_at k table)) keys.required, (each_of has (optional_fault table) (λ k. optional_of_document k (value_at k table)) keys.optional, (unknown_of_document _, tt)))
 
-node_of_document : (version : ℕ) (node : Members) → IsOfDocument (node_fault version node)
-node_of_document version node = first_some_of (
-    table_fault (node_keys version node) node ∷ first_some (map rate_fault (tables_at key.Rates node)) ∷ first_some (map (frame_fault version) (tables_at key.Frame node)) ∷ []
-    ) (table_of_document (node_keys version node) node, (each_of rate_fault (λ r. table_of_document (rate_keys r) r) (tables_at key.Rates node), (each_of (frame_fault version) (λ f. table_of_document (frame_keys version f) f) (tables_at key.Frame node), tt)))
+in_document : (fault : ℕ → Members → Option PlacedFault) → ((n : ℕ) (table : Members) → IsPlaced (fault n table)) → (tables : List Members) → IsPlaced (first_in fault tables)
+in_document fault own tables = each_of placed_has (λ r. fault r.0 r.1) (λ r. own r.0 r.1) (enumerate_from 0 tables)
+
+node_of_document : (version i : ℕ) (node : Members) → IsPlaced (node_fault_at version i node)
+node_of_document version i node = first_some_of placed_has (
+    fault_at (Node i) (table_fault (node_keys version node) node) ∷ first_in (rate_fault_at i) (tables_at key.Rates node) ∷ first_in (frame_fault_at version i) (tables_at key.Frame node) ∷ []
+    ) (placed_of (Node i) _ (table_of_document (node_keys version node) node), (in_document (rate_fault_at i) (λ n r. placed_of (Rate i n) _ (table_of_document (rate_keys r) r)) (tables_at key.Rates node), (in_document (frame_fault_at version i) (λ n f. placed_of (Frame i n) _ (table_of_document (frame_keys version f) f)) (tables_at key.Frame node), tt)))
 
 known_of_document : (version : ℕ) → IsOfDocument (if is_known_version version then None else Some Version)
 known_of_document version =
@@ -70,7 +94,7 @@ known_of_document version =
     ]
 
 version_of_document : (top : Members) → IsOfDocument (version_fault top)
-version_of_document top = first_some_of (
+version_of_document top = first_some_of has (
     required_fault top key.Version ∷ (if is_known_version (number_at key.Version top) then None else Some Version) ∷ []
     ) (required_of_document key.Version (value_at key.Version top), (known_of_document (number_at key.Version top), tt))
 
@@ -81,14 +105,19 @@ names_of_document plan =
       | inr other ↦ rw other tt
     ]
 
+first_of_document : (top : Members) → IsPlaced (first_fault top)
+first_of_document top =
+    let version = number_at key.Version top in
+    first_some_of placed_has (
+    fault_at Top (version_fault top)
+    ∷ fault_at Top (table_fault top_keys top)
+    ∷ first_in (node_fault_at version) (tables_at key.Node top)
+    ∷ first_in (disturbance_fault_at version) (tables_at key.Disturbance top)
+    ∷ fault_at (Node (first_repeat [] (names_of (plan_of top)))) (same_name_fault (plan_of top)) ∷ []
+    ) (placed_of Top _ (version_of_document top), (placed_of Top _ (table_of_document top_keys top), (in_document (node_fault_at version) (node_of_document version) (tables_at key.Node top), (in_document (disturbance_fault_at version) (λ n d. placed_of (Disturbance n) _ (table_of_document (disturbance_keys version d) d)) (tables_at key.Disturbance top), (placed_of _ _ (names_of_document (plan_of top)), tt)))))
+
 document_of_document : (top : Members) → IsOfDocument (document_fault top)
-document_of_document top = first_some_of (
-    version_fault top
-    ∷ table_fault top_keys top
-    ∷ first_some (map (node_fault (number_at key.Version top)) (tables_at key.Node top))
-    ∷ first_some (map (disturbance_fault (number_at key.Version top)) (tables_at key.Disturbance top))
-    ∷ same_name_fault (plan_of top) ∷ []
-    ) (version_of_document top, (table_of_document top_keys top, (each_of (node_fault (number_at key.Version top)) (node_of_document (number_at key.Version top)) (tables_at key.Node top), (each_of (disturbance_fault (number_at key.Version top)) (λ d. table_of_document (disturbance_keys (number_at key.Version top) d) d) (tables_at key.Disturbance top), (names_of_document (plan_of top), tt)))))
+document_of_document top = unplaced_of (first_fault top) (first_of_document top)
 
 -- the fault of a document is one that documents have
 pub only_document_faults : OnlyDocumentFaults

@@ -9,7 +9,6 @@ mod PlanLemmas
 mod BusLemmas
 mod CheckLemmas
 mod FaultLemmas
-mod SpotLemmas
 mod ReadyLemmas
 mod Repeats
 mod Named

@@ -1,12 +1,12 @@
 -- Names that are put into a set one after another, beside the test for a repeat in the whole list.
-use Rattle.std.proofs.Common.{◌≡◌, ℕ, Bool, true, false, ◌||◌, List, [], ◌∷◌, ◌++◌, map, String, Global, string_bytes, refl, ap, ◌∙◌, sym, ◌+◌, ◌<◌, length, get_or, drop, not, if◌then◌else◌, append_assoc}
+use Rattle.std.proofs.Common.{◌≡◌, ℕ, Bool, true, false, ◌||◌, List, [], ◌∷◌, ◌++◌, map, String, Global, string_bytes, refl, ap, ◌∙◌, sym, ◌+◌, ◌<◌, length, get_or, drop, not, if◌then◌else◌, append_assoc, length-append, suc, arith}
 use Rattle.std.specs.List.{list_any, IsDistinct, AllByRecursion}
 use Rattle.std.specs.Str.{bytes_eq}
 use Rattle.std.specs.String.{string_eq}
 use Rattle.std.proofs.lemmas.List.Folds.{list_any-append}
 use Rattle.std.proofs.lemmas.Cmp.{nat_list_eq_equiv}
 use Rattle.std.proofs.lemmas.Bool.{not-true}
-use Rattle.wl_setup.specs.Names.{has_repeat}
+use Rattle.wl_setup.specs.Names.{first_repeat, has_repeat}
 use Rattle.wl_setup.specs.declared.plan_text.NodeText.{NodeText}
 use Rattle.wl_setup.proofs.Loops.{drop-at}
 
@@ -68,9 +68,17 @@ unfolding IsDistinct
 distinct_no_repeat [] distinct = refl
 distinct_no_repeat (k ∷ ks) distinct = rw (not_among k ks distinct.0) (distinct_no_repeat ks distinct.1)
 
+-- the first repeat, after a new name
+repeat-new : (before : List (List ℕ)) (text : List ℕ) (rest : List (List ℕ)) → list_any (bytes_eq text) before ≡ false
+    → length (before ++ text ∷ []) + first_repeat (before ++ text ∷ []) rest ≡ length before + first_repeat before (text ∷ rest)
+repeat-new before text rest new =
+    let grown : length (before ++ text ∷ []) ≡ length before + 1 = length-append before (text ∷ []) in rw new (omega (arith, grown))
+
 -- the set holds the names of some first nodes, and these are left
 abbrev pub IsPart : List (List ℕ) → List NodeText → List (List ℕ) → Type 0
-IsPart before left all = (before ++ map (λ node. node.name) left ≡ all) × (repeats_left before (map (λ node. node.name) left) ≡ has_repeat all)
+IsPart before left all =
+    (before ++ map (λ node. node.name) left ≡ all) × (repeats_left before (map (λ node. node.name) left) ≡ has_repeat all)
+    × (length before + first_repeat before (map (λ node. node.name) left) ≡ first_repeat [] all)
 
 -- one more node whose name is new
 pub one_more : (nodes : List NodeText) (i : ℕ) (node : NodeText) (before new all : List (List ℕ)) (text : List ℕ) (added : Bool)
@@ -81,4 +89,4 @@ one_more nodes i node before new all text added within is named flag yes_added c
     let now_is : new ≡ before ++ text ∷ [] = changed ∙ rw yes_added in
     let absent : list_any (bytes_eq text) before ≡ false = not-true (list_any (bytes_eq text) before) (sym flag ∙ yes_added) in
     let before_that = rw (next, ← named) at part in
-    rw now_is (append_assoc before (text ∷ []) _ ∙ before_that.0, repeats_left-new before text _ absent ∙ before_that.1)
+    rw now_is (append_assoc before (text ∷ []) _ ∙ before_that.0, repeats_left-new before text _ absent ∙ before_that.1, repeat-new before text _ absent ∙ before_that.2)

@@ -1,9 +1,9 @@
 -- What the tables of a text of the usual form say.
-use Rattle.std.proofs.Common.{◌<◌, length, IfSome, subst, ◌≡◌, ℕ, Bool, true, false, not, ◌==◌, if◌then◌else◌, List, [], ◌∷◌, ◌++◌, map, filter, codes, Option, Some, None, is_some, unwrap_or, option_map, option_and_then, inl, inr, refl, sym, ap, ◌∙◌}
+use Rattle.std.proofs.Common.{◌<◌, ◌+◌, length, IfSome, subst, ◌≡◌, ℕ, Bool, true, false, not, ◌==◌, if◌then◌else◌, List, [], ◌∷◌, ◌++◌, map, filter, codes, Option, Some, None, is_some, unwrap_or, option_map, option_and_then, inl, inr, refl, sym, ap, ◌∙◌}
 use Rattle.std.proofs.lemmas.Bool.{and_parts, cases_Bool, false≢true}
 use Rattle.std.proofs.lemmas.Option.{none-some}
 use Rattle.std.proofs.lemmas.List.{map-append}
-use Rattle.std.specs.List.{AllByRecursion, filter_map, list_all}
+use Rattle.std.specs.List.{AllByRecursion, enumerate_from, filter_map, list_all}
 use Rattle.toml.specs.Data.{Data, array, table, Members, no_members, member, as_table, same_key}
 use Rattle.toml.specs.Tables.{Nodes, close, Document}
 use Rattle.toml.specs.Parse.{lines, parse_document}
@@ -29,10 +29,14 @@ use Rattle.wl_setup.specs.declared.plan_text.DisturbanceText.{DisturbanceText}
 use Rattle.wl_setup.specs.Limits.{first_version}
 use Rattle.wl_setup.specs.Keys.{key_text, table_keys, TableKeys, top_keys, required_by_rate, required_by_ppm, node_optional}
 use Rattle.wl_setup.specs.Kinds.{has_kind, value_at, number_at, tables_at, elements_of}
-use Rattle.wl_setup.specs.Faults.{first_some, required_fault_of, optional_fault_of, required_fault, optional_fault, keys_in, least, is_known, unknown_fault, table_fault, node_keys, frame_fault, disturbance_fault, rate_fault, rates_fault, is_known_version, version_fault, node_fault}
+use Rattle.wl_setup.specs.Faults.{first_some, required_fault_of, optional_fault_of, required_fault, optional_fault, keys_in, least, is_known, unknown_fault, table_fault, node_keys, frame_fault, disturbance_fault, is_known_version, version_fault}
 use Rattle.wl_setup.specs.Texts.{frame_of, disturbance_of, node_text_of, plan_of}
-use Rattle.wl_setup.specs.Names.{same_name_fault}
-use Rattle.wl_setup.specs.Document.{document_fault}
+use Rattle.wl_setup.specs.Names.{first_repeat, names_of, same_name_fault}
+use Rattle.wl_setup.specs.declared.spot.PlacedFault.{PlacedFault}
+use Rattle.wl_setup.specs.declared.spot.Spot.{Spot}
+use Rattle.wl_setup.specs.declared.spot.Spot.TheVariants as spot
+use Rattle.wl_setup.specs.Spots.{fault_at, rate_fault_at, frame_fault_at, disturbance_fault_at, first_in, node_fault_at}
+use Rattle.wl_setup.specs.Document.{document_fault, first_fault}
 use Rattle.wl_setup.specs.Quick.{pair_value, required_pairs, optional_pairs, has_only, HasKeys, first_frame_keys, first_disturbance_keys, frame_of_pairs, disturbance_of_pairs, pair_keys, node_of_pairs, members, AreTables, IsGood, node_of_group, IsNodeText, AreNodes, IsTopRow, plan_of_pairs, Says, number_said}
 use Rattle.wl_setup.proofs.ValueLemmas.{list_of-items_of}
 
@@ -158,10 +162,15 @@ node_kind : (n : Nodes) (ns : List Nodes) → required_fault_of key.Node (tables
 node_kind n ns = rw (tables_kind n ns) refl
 
 -- tables without fault
-none_in : {A : Type 0} (f : Members → Option SetupFault) (g : A → Nodes) (P : A → Type 0) → ((x : A) → P x → f (close (g x)) ≡ None) → (xs : List A) → AllByRecursion P xs
-    → first_some (map f (map close (map g xs))) ≡ None
-none_in f g P ok [] all = refl
-none_in f g P ok (x ∷ xs) all = pass (f (close (g x))) _ (ok x all.0) ∙ none_in f g P ok xs all.1
+none_in : {A : Type 0} (f : ℕ → Members → Option PlacedFault) (g : A → Nodes) (P : A → Type 0) → ((n : ℕ) (x : A) → P x → f n (close (g x)) ≡ None) → (n : ℕ) (xs : List A) → AllByRecursion P xs
+    → first_some (map (λ r. f r.0 r.1) (enumerate_from n (map close (map g xs)))) ≡ None
+none_in f g P ok n [] all = refl
+none_in f g P ok n (x ∷ xs) all = pass (f n (close (g x))) _ (ok n x all.0) ∙ none_in f g P ok (n + 1) xs all.1
+
+-- a fault without its place
+unplaced : (at : Spot) (o : Option SetupFault) → option_map (λ f. f.fault) (fault_at at o) ≡ o
+unplaced at None = refl
+unplaced at (Some f) = refl
 
 -- the keys of a node of the first version, by whether `quantum` is there
 abbrev keys_by : Bool → TableKeys
@@ -185,12 +194,12 @@ module _ (ps : Pairs) (rows : List Pairs) (h : IsTable ps) (no_frame : pair_valu
   frames_at : tables_at key.Frame M ≡ map close inner
   frames_at = ap tables_in frame_value ∙ tables_in_value inner
 
-  rates_none : rates_fault M ≡ None
-  rates_none = ap (λ o. first_some (map rate_fault (tables_in o))) (at_node key.Rates refl ∙ no_rates)
+  rates_none : (i : ℕ) → first_in (rate_fault_at i) (tables_at key.Rates M) ≡ None
+  rates_none i = ap (λ o. first_in (rate_fault_at i) (tables_in o)) (at_node key.Rates refl ∙ no_rates)
 
-  frames_none : first_some (map (frame_fault first_version) (tables_at key.Frame M)) ≡ None
-  frames_none = ap (λ ts. first_some (map (frame_fault first_version) ts)) frames_at
-      ∙ none_in (frame_fault first_version) nodes_of (λ r. IsTable r × (frame_fault first_version (members r) ≡ None)) (λ r p. p.1) rows all
+  frames_none : (i : ℕ) → first_in (frame_fault_at first_version i) (tables_at key.Frame M) ≡ None
+  frames_none i = ap (first_in (frame_fault_at first_version i)) frames_at
+      ∙ none_in (frame_fault_at first_version i) nodes_of (λ r. IsTable r × (frame_fault first_version (members r) ≡ None)) (λ n r p. ap (fault_at (spot.Frame i n)) p.1) 0 rows all
 
   optional_node : optional_pairs (key.Frame ∷ key.Tolerance ∷ []) ps ≡ None → first_some (map (optional_fault M) (key.Frame ∷ key.Tolerance ∷ [])) ≡ None
   optional_node none =
@@ -216,9 +225,10 @@ module _ (ps : Pairs) (rows : List Pairs) (h : IsTable ps) (no_frame : pair_valu
   keys_same : node_keys first_version M ≡ pair_keys ps
   keys_same = ap (λ o. keys_by (is_some o)) (at_node key.Quantum refl)
 
-  node_none : HasKeys (pair_keys ps) ps → node_fault first_version M ≡ None
-  node_none fit =
-      pass _ _ (ap (λ ks. table_fault ks M) keys_same ∙ table_by (is_some (pair_value ps key.Quantum)) fit) ∙ pass _ _ rates_none ∙ pass _ _ frames_none
+  node_none : HasKeys (pair_keys ps) ps → (i : ℕ) → node_fault_at first_version i M ≡ None
+  node_none fit i =
+      pass _ _ (ap (λ ks. fault_at (spot.Node i) (table_fault ks M)) keys_same ∙ ap (fault_at (spot.Node i)) (table_by (is_some (pair_value ps key.Quantum)) fit))
+      ∙ pass _ _ (rates_none i) ∙ pass _ _ (frames_none i)
 
   no_listen : HasKeys (pair_keys ps) ps → value_at key.Listen M ≡ None
   no_listen fit = at_node key.Listen refl ∙ no_value (pair_keys ps) (codes "listen") ps (strange (is_some (pair_value ps key.Quantum))) fit.2 where
@@ -362,19 +372,25 @@ module _ (ps : Pairs) (first_group : Group) (others : List Group) (rows : List P
       table_none top_keys P required_top optional_top (unknown_none top_keys P (keys_of_tables (is_known top_keys) (codes "disturbance") (map nodes_of rows) base refl
       (keys_of_tables (is_known top_keys) (codes "node") (map group_nodes groups) (nodes_of ps) refl (keys_of_table (is_known top_keys) ps h top.5))))
 
-  nodes_none : first_some (map (node_fault (number_at key.Version P)) (tables_at key.Node P)) ≡ None
+  nodes_none : first_in (node_fault_at (number_at key.Version P)) (tables_at key.Node P) ≡ None
   nodes_none =
-      ap (λ v. first_some (map (node_fault v) (tables_at key.Node P))) version_is ∙ ap (λ ts. first_some (map (node_fault first_version) ts)) nodes_at
-      ∙ none_in (node_fault first_version) group_nodes IsGood (λ g p. p.1) groups good
+      ap (λ v. first_in (node_fault_at v) (tables_at key.Node P)) version_is ∙ ap (first_in (node_fault_at first_version)) nodes_at
+      ∙ none_in (node_fault_at first_version) group_nodes IsGood (λ n g p. p.1 n) 0 groups good
 
-  rows_none : first_some (map (disturbance_fault (number_at key.Version P)) (tables_at key.Disturbance P)) ≡ None
+  rows_none : first_in (disturbance_fault_at (number_at key.Version P)) (tables_at key.Disturbance P) ≡ None
   rows_none =
-      ap (λ v. first_some (map (disturbance_fault v) (tables_at key.Disturbance P))) version_is
-      ∙ ap (λ ts. first_some (map (disturbance_fault first_version) ts)) rows_at
-      ∙ none_in (disturbance_fault first_version) nodes_of (λ r. IsTable r × (disturbance_fault first_version (members r) ≡ None)) (λ r p. p.1) rows all
+      ap (λ v. first_in (disturbance_fault_at v) (tables_at key.Disturbance P)) version_is ∙ ap (first_in (disturbance_fault_at first_version)) rows_at
+      ∙ none_in (disturbance_fault_at first_version) nodes_of (λ r. IsTable r × (disturbance_fault first_version (members r) ≡ None)) (λ n r p. ap (fault_at (spot.Disturbance n)) p.1) 0 rows all
+
+  abbrev at_repeat : Spot
+  at_repeat = spot.Node (first_repeat [] (names_of (plan_of P)))
+
+  first_same : first_fault P ≡ fault_at at_repeat (same_name_fault (plan_of P))
+  first_same =
+      pass _ _ (ap (fault_at spot.Top) version_none) ∙ pass _ _ (ap (fault_at spot.Top) table_top) ∙ pass _ _ nodes_none ∙ pass _ _ rows_none ∙ only _
 
   fault_same : document_fault P ≡ same_name_fault (plan_of P)
-  fault_same = pass _ _ version_none ∙ pass _ _ table_top ∙ pass _ _ nodes_none ∙ pass _ _ rows_none ∙ only _
+  fault_same = ap (option_map (λ f. f.fault)) first_same ∙ unplaced at_repeat (same_name_fault (plan_of P))
 
   says : (text : List ℕ) (nodes : List NodeText) (made : List DisturbanceText) (plan : PlanText) → parse_document text ≡ Some P → nodes ≡ map node_of_group groups
       → made ≡ map (λ r. disturbance_of (members r)) rows → plan ≡ plan_of_pairs ps nodes made → Says (parse_document text) plan

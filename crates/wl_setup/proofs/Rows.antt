@@ -3,7 +3,8 @@ use Rattle.std.proofs.Common.{◌≡◌, ℕ, List, [], ◌∷◌, map, true, fa
 use Rattle.std.specs.Prelude.{codes}
 use Rattle.std.specs.List.{range_with_len}
 use Rattle.std.specs.Result.{result_err}
-use Rattle.toml.specs.Data.{Members, no_members, member, integer, string, boolean, array, no_items}
+use Rattle.toml.specs.Data.{Data, Members, no_members, member, integer, string, boolean, array, table, no_items}
+use Rattle.toml.specs.View.{items_of}
 use Rattle.wl_clock.specs.Timing.{Timing, tick_of}
 use Rattle.wl_frame.specs.Grammar.{Content}
 use Rattle.wl_frame.specs.declared.frame.FrameFault.TheVariants.{Id, Dlc, ExtendedId}
@@ -25,7 +26,11 @@ use Rattle.wl_setup.specs.declared.plan_text.DisturbanceText.{DisturbanceText}
 use Rattle.wl_setup.specs.declared.plan_text.ClockText.TheVariants.{Rate}
 use Rattle.wl_segments.specs.declared.SyncRules.TheVariants.{After}
 use Rattle.wl_setup.specs.Limits.{most_bytes, largest_number, largest_small, largest_ppm, largest_tolerance, largest_byte, longest_name, first_version, version_of_rates, version_of_traffic, few_queued}
-use Rattle.wl_setup.specs.Faults.{frame_fault, disturbance_fault, node_fault}
+use Rattle.wl_setup.specs.declared.spot.Spot.TheVariants as spot
+use Rattle.wl_setup.specs.Faults.{frame_fault, disturbance_fault}
+use Rattle.wl_setup.specs.Names.{first_repeat}
+use Rattle.wl_setup.specs.Spots.{node_fault_at, placed}
+use Rattle.wl_setup.specs.Document.{fault_spot, first_fault}
 use Rattle.wl_setup.specs.Texts.{frame_of, disturbance_of, node_text_of}
 use Rattle.wl_setup.specs.Plans.{plan_of_text, queued_of, instances_of, queue_in, queue_of, place_of, disturbance_in}
 
@@ -233,24 +238,59 @@ fraction = numbers ((codes "num", 100) ∷ (codes "den", 1) ∷ []) no_members
 abbrev no_rates : Members
 no_rates = member (codes "rates") (array no_items) no_members
 
-node-listen : node_fault 3 (listener fraction) ≡ None
+node-listen : node_fault_at 3 0 (listener fraction) ≡ None
 unfolding largest_number largest_small
 node-listen = refl
 
-node-listen_by_rates : node_fault 3 (listener no_rates) ≡ None
+node-listen_by_rates : node_fault_at 3 0 (listener no_rates) ≡ None
 unfolding largest_number largest_small
 node-listen_by_rates = refl
 
 node-says : (node_text_of 3 (listener fraction)).listens ≡ true
 node-says = refl
 
-node-listen_1 : node_fault 1 (listener fraction) ≡ Some (fault.Unknown (codes "listen"))
+node-listen_1 : node_fault_at 1 4 (listener fraction) ≡ Some (placed (spot.Node 4) (fault.Unknown (codes "listen")))
 unfolding largest_number largest_small
 node-listen_1 = refl
 
-node-listen_2 : node_fault 2 (listener no_rates) ≡ Some (fault.Unknown (codes "listen"))
+node-listen_2 : node_fault_at 2 4 (listener no_rates) ≡ Some (placed (spot.Node 4) (fault.Unknown (codes "listen")))
 unfolding largest_number largest_small
 node-listen_2 = refl
+
+-- the first fault and its place: of the second node, of a rate and a frame, of the second of two nodes of one name
+abbrev plan_with : List Data → Members
+plan_with nodes = numbers ((codes "version", 3) ∷ (codes "end", 9) ∷ (codes "per", 1) ∷ []) (member (codes "node") (array (items_of nodes)) no_members)
+
+abbrev node_alone : Members → Data
+node_alone clock = table (listener clock)
+
+abbrev fraction_with : List Members → Members
+fraction_with frames = numbers ((codes "num", 100) ∷ (codes "den", 1) ∷ []) (member (codes "frame") (array (items_of (map table frames))) no_members)
+
+first-second_node : first_fault (plan_with (node_alone fraction ∷ table no_members ∷ [])) ≡ Some (placed (spot.Node 1) (fault.Missing (codes "name")))
+unfolding largest_number largest_small
+first-second_node = refl
+
+first-frame : first_fault (plan_with (node_alone (fraction_with (frame_with [] ∷ frame_with ((codes "every", 0) ∷ []) ∷ [])) ∷ []))
+    ≡ Some (placed (spot.Frame 0 1) (fault.Kind (codes "every")))
+unfolding largest_number largest_small
+first-frame = refl
+
+first-rate : first_fault (plan_with (node_alone (member (codes "rates") (array (items_of (table no_members ∷ []))) no_members) ∷ []))
+    ≡ Some (placed (spot.Rate 0 0) (fault.Missing (codes "from")))
+unfolding largest_number largest_small
+first-rate = refl
+
+first-name : first_fault (plan_with (node_alone fraction ∷ node_alone fraction ∷ [])) ≡ Some (placed (spot.Node 1) fault.SameName)
+unfolding largest_number largest_small
+first-name = refl
+
+first-top : fault_spot (numbers ((codes "version", 4) ∷ []) no_members) ≡ spot.Top
+unfolding largest_number
+first-top = refl
+
+repeat-third : first_repeat [] (codes "a" ∷ codes "b" ∷ codes "a" ∷ codes "b" ∷ []) ≡ 2
+repeat-third = refl
 
 place-listens : place_of (record (node_text (codes "a") 7 1 []) { listens = true }) ≡ record { x = 7; out_delay = 0; in_delay = 1; listens = true }
 place-listens = refl

@@ -1,14 +1,57 @@
--- What is made of an array's tables one by one.
-use Rattle.std.proofs.Common.{◌≡◌, ℕ, List, ◌++◌, map, drop, Option}
+-- What is made of an array's tables one by one, and the first fault of a document whose top table has none.
+use Rattle.std.proofs.Common.{◌≡◌, ◌≢◌, ℕ, List, [], ◌∷◌, ◌++◌, map, drop, length, Option, Some, None, Result, Err, refl, sym, ap, subst}
+use Rattle.std.proofs.lemmas.Option.{none-some}
+use Rattle.std.specs.List.{enumerate_from}
 use Rattle.toml.specs.Data.{Members}
 use Rattle.toml.specs.View.{view}
 use Rattle.toml.specs.declared.value.Value.{Value}
-use Rattle.wl_setup.specs.declared.fault.SetupFault.{SetupFault}
-use Rattle.wl_setup.specs.Faults.{first_some}
-use Rattle.wl_setup.specs.Document.{tables_in}
+use Rattle.wl_setup.specs.declared.keys.Key.TheVariants as key
+use Rattle.wl_setup.specs.declared.fault.SetupFault.TheVariants.{Memory}
+use Rattle.wl_setup.specs.declared.spot.PlacedFault.{PlacedFault}
+use Rattle.wl_setup.specs.declared.spot.Spot.TheVariants.{Top, Node}
+use Rattle.wl_setup.specs.Keys.{top_keys}
+use Rattle.wl_setup.specs.Kinds.{number_at, tables_at}
+use Rattle.wl_setup.specs.Faults.{first_some, table_fault, version_fault}
+use Rattle.wl_setup.specs.Names.{first_repeat, names_of, same_name_fault}
+use Rattle.wl_setup.specs.Texts.{plan_of}
+use Rattle.wl_setup.specs.Spots.{disturbance_fault_at, fault_at, first_in, node_fault_at}
+use Rattle.wl_setup.specs.Document.{AnswersAt, first_fault, tables_in}
 
 -- the first fault is among the tables from this place on, and what is made of them follows on what was made
-abbrev pub AreMade : {T : Type 0} → (Members → Option SetupFault) → (Members → T) → List T → ℕ → List Value → Type 0
+abbrev pub AreMade : {T : Type 0} → (ℕ → Members → Option PlacedFault) → (Members → T) → List T → ℕ → List Value → Type 0
 AreMade fault make made place values =
-    (first_some (map fault (tables_in (map view (drop place values)))) ≡ first_some (map fault (tables_in (map view values))))
+    (first_some (map (λ r. fault r.0 r.1) (enumerate_from (length made) (tables_in (map view (drop place values))))) ≡ first_in fault (tables_in (map view values)))
     × (made ++ map make (tables_in (map view (drop place values))) ≡ map make (tables_in (map view values)))
+
+-- an answer that refuses
+pub refused_so : {T : Type 0} (o : Option PlacedFault) (value : T) (f : PlacedFault) (answer : Result T PlacedFault) → (f.fault ≢ Memory → o ≡ Some f) → answer ≡ Err f → AnswersAt o value answer
+refused_so o value f answer is refused = subst (λ a. AnswersAt o value a) (sym refused) is
+
+next : {A : Type 0} (o : Option A) (os : List (Option A)) (x : Option A) → o ≡ None → first_some os ≡ x → first_some (o ∷ os) ≡ x
+next None os x none is = is
+next (Some y) os x none is = absurd (none-some y (sym none))
+
+here : {A : Type 0} (o : Option A) (os : List (Option A)) (x : A) → o ≡ Some x → first_some (o ∷ os) ≡ Some x
+here o os x is = rw is refl
+
+-- where the top table has no fault, the first one is that of the nodes, of the disturbances or of the names
+module _ (top : Members) (version : version_fault top ≡ None) (own : table_fault top_keys top ≡ None) where
+  abbrev nodes : Option PlacedFault
+  nodes = first_in (node_fault_at (number_at key.Version top)) (tables_at key.Node top)
+
+  abbrev disturbances : Option PlacedFault
+  disturbances = first_in (disturbance_fault_at (number_at key.Version top)) (tables_at key.Disturbance top)
+
+  inside : (os : List (Option PlacedFault)) (x : Option PlacedFault) → first_some os ≡ x
+      → first_some (fault_at Top (version_fault top) ∷ fault_at Top (table_fault top_keys top) ∷ os) ≡ x
+  inside os x is = next _ _ x (ap (fault_at Top) version) (next _ _ x (ap (fault_at Top) own) is)
+
+  pub of_nodes : (f : PlacedFault) → nodes ≡ Some f → first_fault top ≡ Some f
+  of_nodes f is = inside _ (Some f) (here _ _ f is)
+
+  pub of_disturbances : (f : PlacedFault) → nodes ≡ None → disturbances ≡ Some f → first_fault top ≡ Some f
+  of_disturbances f none is = inside _ (Some f) (next _ _ (Some f) none (here _ _ f is))
+
+  pub of_names : (f : PlacedFault) → nodes ≡ None → disturbances ≡ None
+      → fault_at (Node (first_repeat [] (names_of (plan_of top)))) (same_name_fault (plan_of top)) ≡ Some f → first_fault top ≡ Some f
+  of_names f none quiet is = inside _ (Some f) (next _ _ (Some f) none (next _ _ (Some f) quiet (here _ _ f is)))

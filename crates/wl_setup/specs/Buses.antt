@@ -1,11 +1,15 @@
 -- Which bus, or which fault, belongs to a plan's text (this project's profile).
-use Rattle.std.specs.Prelude.{◌≡◌, ℕ, pos, List, map, length, Option, Some, None, unwrap_or, Result, Ok, Err}
+use Rattle.std.specs.Prelude.{◌≡◌, ◌≢◌, ℕ, pos, List, map, length, Option, Some, None, unwrap_or, Result, Ok, Err, MatchResult}
 use Rattle.std.specs.List.{enumerate_from}
+use Rattle.toml.specs.Data.{Members}
 use Rattle.wl_device.specs.Devices.{Answer}
 use Rattle.wl_plan.specs.declared.plan.Plan.{Plan}
 use Rattle.wl_setup.specs.declared.bus.Bus.{Bus}
 use Rattle.wl_setup.specs.declared.bus.Deviation.{Deviation}
 use Rattle.wl_setup.specs.declared.fault.SetupFault.{SetupFault}
+use Rattle.wl_setup.specs.declared.fault.SetupFault.TheVariants.{Memory}
+use Rattle.wl_setup.specs.declared.spot.PlacedFault.{PlacedFault}
+use Rattle.wl_setup.specs.Document.{fault_spot, plan_text_of}
 use Rattle.wl_setup.specs.declared.plan_text.PlanText.{PlanText}
 use Rattle.wl_setup.specs.declared.plan_text.NodeText.{NodeText}
 use Rattle.wl_setup.specs.declared.plan_text.RateText.{RateText}
@@ -56,3 +60,10 @@ BusesAreOfPlans = (text : PlanText) → IsOfPlan (plan_of_text text) (bus_of_tex
 -- the reader gave, in one reading, a text that has this answer: the text's own first fault, or else its bus's
 abbrev pub GivesBus : {S : Type 0} → (S → Answer → S → Type 0) → S → Result Bus SetupFault → S → Type 0
 GivesBus gives s answer t = (read : Result PlanText SetupFault) × ReadsPlan gives s read t × (answer ≡ after read bus_of_text)
+
+-- the bus of a document, or its first fault and its place
+abbrev pub IsBusOf : Members → Result Bus PlacedFault → Type 0
+IsBusOf top answer =
+    MatchResult answer
+    (λ bus. after (plan_text_of top) bus_of_text ≡ Ok bus)
+    (λ e. e.fault ≢ Memory → (after (plan_text_of top) bus_of_text ≡ Err e.fault) × (e.spot ≡ fault_spot top))

@@ -1,6 +1,6 @@
 -- Which plan text or first fault belongs to a document (this project's profile).
-use Rattle.std.specs.Prelude.{◌≡◌, ◌≢◌, ℕ, Bool, true, false, List, [], ◌∷◌, map, Option, Some, None, Result, Ok, Err, MatchResult}
-use Rattle.std.specs.List.{filter_map}
+use Rattle.std.specs.Prelude.{◌≡◌, ◌≢◌, ℕ, Bool, true, false, List, [], ◌∷◌, map, Option, Some, None, option_map, unwrap_or, Result, Ok, Err, MatchResult}
+use Rattle.std.specs.List.{enumerate_from, filter_map}
 use Rattle.toml.specs.Data.{Data, Members, as_table}
 use Rattle.wl_setup.specs.declared.keys.Key.TheVariants as key
 use Rattle.wl_setup.specs.declared.fault.SetupFault.{SetupFault}
@@ -9,18 +9,30 @@ use Rattle.wl_setup.specs.declared.plan_text.PlanText.{PlanText}
 use Rattle.wl_setup.specs.Keys.{top_keys}
 use Rattle.wl_setup.specs.Kinds.{number_at, tables_at}
 use Rattle.wl_setup.specs.Texts.{plan_of}
-use Rattle.wl_setup.specs.Faults.{first_some, version_fault, table_fault, node_fault, disturbance_fault}
-use Rattle.wl_setup.specs.Names.{names_of, same_name_fault}
+use Rattle.wl_setup.specs.declared.spot.PlacedFault.{PlacedFault}
+use Rattle.wl_setup.specs.declared.spot.Spot.{Spot}
+use Rattle.wl_setup.specs.declared.spot.Spot.TheVariants.{Top, Node}
+use Rattle.wl_setup.specs.Faults.{first_some, version_fault, table_fault}
+use Rattle.wl_setup.specs.Spots.{fault_at, first_in, node_fault_at, disturbance_fault_at}
+use Rattle.wl_setup.specs.Names.{first_repeat, names_of, same_name_fault}
 
--- the first fault: of the version, the top table, each node followed by its rates and its frames, the disturbances, the names
-abbrev pub document_fault : Members → Option SetupFault
-document_fault top =
+-- the first fault and its place: of the version, the top table, each node followed by its rates and its frames, the disturbances, the names
+abbrev pub first_fault : Members → Option PlacedFault
+first_fault top =
     first_some (
-    version_fault top
-    ∷ table_fault top_keys top
-    ∷ first_some (map (node_fault (number_at key.Version top)) (tables_at key.Node top))
-    ∷ first_some (map (disturbance_fault (number_at key.Version top)) (tables_at key.Disturbance top))
-    ∷ same_name_fault (plan_of top) ∷ [])
+    fault_at Top (version_fault top)
+    ∷ fault_at Top (table_fault top_keys top)
+    ∷ first_in (node_fault_at (number_at key.Version top)) (tables_at key.Node top)
+    ∷ first_in (disturbance_fault_at (number_at key.Version top)) (tables_at key.Disturbance top)
+    ∷ fault_at (Node (first_repeat [] (names_of (plan_of top)))) (same_name_fault (plan_of top)) ∷ [])
+
+-- the first fault without its place
+abbrev pub document_fault : Members → Option SetupFault
+document_fault top = option_map (λ f. f.fault) (first_fault top)
+
+-- the table of the first fault; where there is none, the top table
+abbrev pub fault_spot : Members → Spot
+fault_spot top = unwrap_or (option_map (λ f. f.spot) (first_fault top)) Top
 
 -- a value, unless there is a fault
 abbrev pub unless : {T : Type 0} → Option SetupFault → T → Result T SetupFault
@@ -43,17 +55,17 @@ Answers fault value answer = MatchResult answer (λ v. (fault ≡ None) × (v �
 abbrev pub Passes : Option SetupFault → Result (Unit {0}) SetupFault → Type 0
 Passes fault answer = Answers fault tt answer
 
--- the answer to one table
-abbrev pub AnswersTable : {T : Type 0} → (Members → Option SetupFault) → (Members → T) → Members → Result T SetupFault → Type 0
-AnswersTable fault make table answer = Answers (fault table) (make table) answer
+-- the same of a fault with its place
+abbrev pub AnswersAt : {T : Type 0} → Option PlacedFault → T → Result T PlacedFault → Type 0
+AnswersAt fault value answer = MatchResult answer (λ v. (fault ≡ None) × (v ≡ value)) (λ e. e.fault ≢ Memory → fault ≡ Some e)
 
 -- the tables in an array: what is no table is passed over
 abbrev pub tables_in : List Data → List Members
 tables_in values = filter_map as_table values
 
 -- an answer is what is made of each table in an array, or the first fault of one
-abbrev pub AnswersEach : {T : Type 0} → (Members → Option SetupFault) → (Members → T) → List Data → Result (List T) SetupFault → Type 0
-AnswersEach fault make values answer = Answers (first_some (map fault (tables_in values))) (map make (tables_in values)) answer
+abbrev pub AnswersEach : {T : Type 0} → (ℕ → Members → Option PlacedFault) → (Members → T) → List Data → Result (List T) PlacedFault → Type 0
+AnswersEach fault make values answer = AnswersAt (first_in fault (tables_in values)) (map make (tables_in values)) answer
 
 -- the faults that a document can have
 abbrev pub is_document_fault : SetupFault → Bool

@@ -10,7 +10,7 @@ use Rattle.wl_setup.specs.declared.keys.Key.TheVariants as key
 use Rattle.wl_setup.specs.declared.fault.SetupFault.{SetupFault}
 use Rattle.wl_setup.specs.declared.fault.SetupFault.TheVariants.{Version, Missing, Kind, Unknown}
 use Rattle.wl_setup.specs.Keys.{key_text, kind_of, TableKeys, required_by_rate, required_by_ppm, required_by_rates, node_optional, rate_keys_by_fraction, rate_keys_by_ppm, frame_required, frame_optional, disturbance_required}
-use Rattle.wl_setup.specs.Kinds.{has_kind, value_at, number_at, tables_at}
+use Rattle.wl_setup.specs.Kinds.{has_kind, value_at, number_at}
 use Rattle.wl_setup.specs.Limits.{first_version, version_of_rates, version_of_traffic}
 
 -- the first of those that are there
@@ -121,10 +121,6 @@ rate_keys table = if is_some (value_at key.Quantum table) then rate_keys_by_ppm 
 abbrev pub rate_fault : Members → Option SetupFault
 rate_fault table = table_fault (rate_keys table) table
 
--- the first fault of a node's rates
-abbrev pub rates_fault : Members → Option SetupFault
-rates_fault node = first_some (map rate_fault (tables_at key.Rates node))
-
 -- whether a version is known
 abbrev pub is_known_version : ℕ → Bool
 is_known_version version = (version == first_version) || (version == version_of_rates) || (version == version_of_traffic)
@@ -133,11 +129,3 @@ is_known_version version = (version == first_version) || (version == version_of_
 abbrev pub version_fault : Members → Option SetupFault
 version_fault top =
     first_some (required_fault top key.Version ∷ (if is_known_version (number_at key.Version top) then None else Some Version) ∷ [])
-
--- of a node: its own table, then its rates, which the first version doesn't know, then its frames
-abbrev pub node_fault : ℕ → Members → Option SetupFault
-node_fault version node =
-    first_some (
-    table_fault (node_keys version node) node
-    ∷ rates_fault node
-    ∷ first_some (map (frame_fault version) (tables_at key.Frame node)) ∷ [])

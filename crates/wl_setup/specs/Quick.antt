@@ -23,9 +23,10 @@ use Rattle.wl_setup.specs.declared.plan_text.ClockText.TheVariants.{Rate, Ppm}
 use Rattle.wl_setup.specs.Limits.{largest_number, largest_small, largest_tolerance, first_version}
 use Rattle.wl_setup.specs.Keys.{key_text, TableKeys, table_keys, top_keys, required_by_rate, required_by_ppm, node_optional, frame_required, frame_optional, disturbance_required}
 use Rattle.wl_setup.specs.Kinds.{number_in, byte_in, sync_in, elements_of}
-use Rattle.wl_setup.specs.Faults.{first_some, required_fault_of, optional_fault_of, is_known, node_fault}
+use Rattle.wl_setup.specs.Faults.{first_some, required_fault_of, optional_fault_of, is_known}
 use Rattle.wl_setup.specs.Texts.{node_text_of}
 use Rattle.wl_setup.specs.Names.{same_name_fault}
+use Rattle.wl_setup.specs.Spots.{node_fault_at}
 use Rattle.wl_setup.specs.Document.{document_fault}
 use Rattle.wl_setup.specs.Texts.{plan_of}
 
@@ -149,9 +150,9 @@ AreTables fault make text which made rest =
     (rows : List Pairs) × Goes text (lines_of_each (table_lines (key_of_header which)) rows) rest
     × AllByRecursion (λ ps. IsTable ps × (fault (members ps) ≡ None)) rows × (made ≡ map (λ ps. make (members ps)) rows)
 
--- a node without fault
+-- a node without fault, whatever its number
 abbrev pub IsGood : Group → Type 0
-IsGood g = IsNodeTable g × (node_fault first_version (close (group_nodes g)) ≡ None)
+IsGood g = IsNodeTable g × ((i : ℕ) → node_fault_at first_version i (close (group_nodes g)) ≡ None)
 
 abbrev pub node_of_group : Group → NodeText
 node_of_group g = node_text_of first_version (close (group_nodes g))

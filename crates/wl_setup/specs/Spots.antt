@@ -1,49 +1,53 @@
--- Where in a document its first fault stands, and what stands there (this project's profile).
-use Rattle.std.specs.Prelude.{ℕ, Bool, if◌then◌else◌, [], ◌∷◌, Option, Some, None, is_some, option_map, option_and_then, slice_get}
-use Rattle.std.specs.List.{position}
-use Rattle.toml.specs.Data.{Data, Members, as_table}
+-- The faults of a document's tables, each with the table where it is, and the table at a spot (this project's profile).
+use Rattle.std.specs.Prelude.{ℕ, List, [], ◌∷◌, map, Option, Some, None, option_map, option_and_then, slice_get, Result, Ok, Err}
+use Rattle.std.specs.List.{enumerate_from}
+use Rattle.toml.specs.Data.{Members, as_table}
 use Rattle.wl_setup.specs.declared.keys.Key.{Key}
 use Rattle.wl_setup.specs.declared.keys.Key.TheVariants as key
 use Rattle.wl_setup.specs.declared.fault.SetupFault.{SetupFault}
+use Rattle.wl_setup.specs.declared.spot.PlacedFault.{PlacedFault}
 use Rattle.wl_setup.specs.declared.spot.Spot.{Spot}
 use Rattle.wl_setup.specs.declared.spot.Spot.TheVariants.{Top, Node, Rate, Frame, Disturbance}
-use Rattle.wl_setup.specs.Keys.{TableKeys, top_keys}
-use Rattle.wl_setup.specs.Kinds.{elements_at, number_at}
-use Rattle.wl_setup.specs.Faults.{first_some, table_fault, node_keys, rate_fault, frame_fault, disturbance_fault, node_fault}
+use Rattle.wl_setup.specs.Kinds.{elements_at, tables_at}
+use Rattle.wl_setup.specs.Faults.{first_some, table_fault, node_keys, rate_fault, frame_fault, disturbance_fault}
 
--- whether a table has a fault of its own, and whether a value is a table of which there is a fault
-abbrev pub has_fault : TableKeys → Members → Bool
-has_fault keys table = is_some (table_fault keys table)
+-- a fault of the table at a spot
+abbrev pub placed : Spot → SetupFault → PlacedFault
+placed spot fault = record { spot = spot; fault = fault }
 
-abbrev pub is_faulty : (Members → Option SetupFault) → Data → Bool
-is_faulty fault d = is_some (option_and_then fault (as_table d))
+abbrev pub fault_at : Spot → Option SetupFault → Option PlacedFault
+fault_at spot fault = option_map (placed spot) fault
 
--- the number of the first such value in the array at a key
-abbrev pub first_faulty : (Members → Option SetupFault) → Key → Members → Option ℕ
-first_faulty fault k table = position (is_faulty fault) (elements_at k table)
+-- the answer of a test of the table at a spot
+abbrev pub answer_at : {T : Type 0} → Spot → Result T SetupFault → Result T PlacedFault
+answer_at spot (Ok value) = Ok value
+answer_at spot (Err fault) = Err (placed spot fault)
 
--- in node i: its own table, then its rates, then its frames
-abbrev pub spot_in_node : ℕ → ℕ → Members → Option Spot
-spot_in_node version i node =
+-- of rate n and of frame n of node i, and of disturbance n
+abbrev pub rate_fault_at : ℕ → ℕ → Members → Option PlacedFault
+rate_fault_at i n table = fault_at (Rate i n) (rate_fault table)
+
+abbrev pub frame_fault_at : ℕ → ℕ → ℕ → Members → Option PlacedFault
+frame_fault_at version i n table = fault_at (Frame i n) (frame_fault version table)
+
+abbrev pub disturbance_fault_at : ℕ → ℕ → Members → Option PlacedFault
+disturbance_fault_at version n table = fault_at (Disturbance n) (disturbance_fault version table)
+
+-- the first fault of some tables, by their numbers
+abbrev pub first_in : (ℕ → Members → Option PlacedFault) → List Members → Option PlacedFault
+first_in fault tables = first_some (map (λ r. fault r.0 r.1) (enumerate_from 0 tables))
+
+-- of node i: its own table, then its rates, which the first version doesn't know, then its frames
+abbrev pub node_fault_at : ℕ → ℕ → Members → Option PlacedFault
+node_fault_at version i node =
     first_some (
-    (if has_fault (node_keys version node) node then Some (Node i) else None)
-    ∷ option_map (Rate i) (first_faulty rate_fault key.Rates node)
-    ∷ option_map (Frame i) (first_faulty (frame_fault version) key.Frame node) ∷ [])
+    fault_at (Node i) (table_fault (node_keys version node) node)
+    ∷ first_in (rate_fault_at i) (tables_at key.Rates node)
+    ∷ first_in (frame_fault_at version i) (tables_at key.Frame node) ∷ [])
 
 -- the table with this number in the array at a key
 abbrev pub row_at : Key → ℕ → Members → Option Members
 row_at k n table = option_and_then as_table (slice_get (elements_at k table) n)
-
-abbrev pub spot_of_node : ℕ → Members → ℕ → Option Spot
-spot_of_node version top i = option_and_then (spot_in_node version i) (row_at key.Node i top)
-
--- in a document: the top table, then the nodes, then the disturbances
-abbrev pub faulty_spot : Members → Option Spot
-faulty_spot top =
-    first_some (
-    (if has_fault top_keys top then Some Top else None)
-    ∷ option_and_then (spot_of_node (number_at key.Version top) top) (first_faulty (node_fault (number_at key.Version top)) key.Node top)
-    ∷ option_map Disturbance (first_faulty (disturbance_fault (number_at key.Version top)) key.Disturbance top) ∷ [])
 
 -- the table at a spot
 abbrev pub table_at : Spot → Members → Option Members

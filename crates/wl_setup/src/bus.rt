@@ -1,18 +1,22 @@
 //! Buses: plans with what the clocks of their nodes may do.
 ghost use Rattle.std.specs.Prelude.{◌≡◌, ◌≢◌, Err, IfOk, length, map};
 ghost use Rattle.std.specs.List.{enumerate_from};
+ghost use Rattle.toml.specs.View.{table_view};
 ghost use Rattle.wl_plan.specs.Checked.{IsChecked};
 ghost use Rattle.wl_setup.specs.Names.{names_of};
 ghost use Rattle.wl_setup.specs.Plans.{after, each, rate_in, IsAnswer};
-ghost use Rattle.wl_setup.specs.Buses.{nominal, nominal_clock, rate_texts, deviation_of, bus_of_text, GivesBus};
+ghost use Rattle.wl_setup.specs.Buses.{nominal, nominal_clock, rate_texts, deviation_of, bus_of_text, GivesBus, IsBusOf};
 ghost use Rattle.wl_setup.specs.Reading.{text_answer};
 
+use crate::document::plan_text;
 use crate::fault::SetupFault;
 use crate::names::Names;
 use crate::plan::rates;
 use crate::plan_text::{ClockText, NodeText, PlanText, RateText};
 use crate::read::{parse, read_named};
+use crate::spot::{PlacedFault, Spot};
 use std::alloc::{AllocError, Global};
+use toml::Table;
 use wl_clock::Rate;
 use wl_device::Source;
 use wl_level::Listed;
@@ -138,4 +142,22 @@ pub fn bus_of_bytes(alloc: Global, text: &[u8]) -> Result<Bus, SetupFault>
 {
     let (text, names) = parse(alloc, text)?;
     text.bus(alloc, names)
+}
+
+/// Returns the bus of a document; or its first fault, as `bus_of_bytes` returns it of a text with this document, with its place: the table
+/// where the document's first fault is, or the top table for a fault of the plan that it describes.
+pub fn bus_of_document(alloc: Global, top: &Table) -> Result<Bus, PlacedFault>
+    ensures answer { IsBusOf (table_view top.now) result }
+    ensures checked { IfOk result (λ bus. IsChecked bus.plan) }
+    ensures deviations { IfOk result (λ bus. length bus.deviations ≡ length bus.plan.nodes) }
+    ensures names { IfOk result (λ bus. length bus.names ≡ length bus.plan.nodes) }
+{
+    let (text, names) = plan_text(alloc, top)?;
+    match text.bus(alloc, names) {
+        Ok(bus) => Ok(bus),
+        Err(fault) => Err(PlacedFault {
+            spot: Spot::Top,
+            fault,
+        }),
+    }
 }

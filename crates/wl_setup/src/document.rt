@@ -1,15 +1,19 @@
 //! The plan text of a parsed document.
 ghost use Rattle.std.specs.Prelude.{◌≡◌, map};
 ghost use Rattle.toml.specs.View.{view, table_view};
-ghost use Rattle.wl_setup.specs.Faults.{frame_fault, disturbance_fault, rate_fault, rates_fault, node_fault, version_fault};
+ghost use Rattle.wl_setup.specs.declared.keys.Key.TheVariants as key;
+ghost use Rattle.wl_setup.specs.Kinds.{tables_at};
+ghost use Rattle.wl_setup.specs.Faults.{version_fault};
+ghost use Rattle.wl_setup.specs.Spots.{disturbance_fault_at, first_in, frame_fault_at, node_fault_at, rate_fault_at};
 ghost use Rattle.wl_setup.specs.Texts.{frame_of, disturbance_of, clock_of, rate_of, rates_of, node_text_of};
-ghost use Rattle.wl_setup.specs.Document.{Answers, AnswersTable, AnswersEach, Passes, document_fault, named_text_of};
+ghost use Rattle.wl_setup.specs.Document.{AnswersAt, AnswersEach, Passes, first_fault, named_text_of};
 
 use crate::fault::SetupFault;
 use crate::keys::{self, Key};
 use crate::limits::{FIRST_VERSION, VERSION_OF_RATES, VERSION_OF_TRAFFIC};
 use crate::names::Names;
 use crate::plan_text::{ClockText, DisturbanceText, FrameText, NodeText, PlanText, RateText};
+use crate::spot::{PlacedFault, Spot};
 use crate::tables::{check_required, check_table};
 use crate::values::{
     bytes_at, elements_at, name_at, number_at, positive_at, ppm_at, small_at, some_name_at,
@@ -33,38 +37,58 @@ fn check_version(alloc: Global, top: &Table) -> Result<(), SetupFault>
 trait Row: Drop {
     ghost use Rattle.std.specs.Prelude.{ℕ, Option};
     ghost use Rattle.toml.specs.Data.{Members};
-    ghost use Rattle.wl_setup.specs.declared.fault.SetupFault.{SetupFault};
+    ghost use Rattle.wl_setup.specs.declared.spot.PlacedFault.{PlacedFault};
 
-    /// The first fault of such a table, by the version of the text.
-    ghost fault: { ℕ → Members → Option SetupFault };
+    /// The first fault of such a table, by the version of the text, the number of its node if it is in one, and its own.
+    ghost fault: { ℕ → ℕ → ℕ → Members → Option PlacedFault };
 
     /// What such a table says.
     ghost make: { ℕ → Members → Self };
 
-    fn read(alloc: Global, version: u64, table: &Table) -> Result<Self, SetupFault>
-        ensures { AnswersTable (Self.fault version) (Self.make version) (table_view table.now) result };
+    fn read(
+        alloc: Global,
+        version: u64,
+        node: u64,
+        number: u64,
+        table: &Table,
+    ) -> Result<Self, PlacedFault>
+        ensures { AnswersAt (Self.fault version node number (table_view table.now))
+            (Self.make version (table_view table.now)) result };
 }
 
-/// Returns the tables in an array. What is no table is passed over.
-fn rows<T: Row>(alloc: Global, version: u64, values: &[Value]) -> Result<Listed<T>, SetupFault>
-    ensures { AnswersEach (T.fault version) (T.make version) (map view values.now) result }
+/// Returns the tables in an array, which is in this node if it is in one. What is no table is passed over.
+fn rows<T: Row>(
+    alloc: Global,
+    version: u64,
+    node: u64,
+    values: &[Value],
+) -> Result<Listed<T>, PlacedFault>
+    ensures { AnswersEach (T.fault version node) (T.make version) (map view values.now) result }
 {
     let mut rows = Listed::new(alloc);
     for value in values {
         if let Some(table) = value.as_table() {
-            rows.push(T::read(alloc, version, table)?)?;
+            let number = rows.len() as u64;
+            rows.push(T::read(alloc, version, node, number, table)?)?;
         }
     }
     Ok(rows)
 }
 
 impl Row for FrameText {
-    ghost fault = { frame_fault };
+    ghost fault = { frame_fault_at };
 
     ghost make = { λ _. frame_of };
 
-    fn read(alloc: Global, version: u64, table: &Table) -> Result<FrameText, SetupFault> {
-        check_table(alloc, table, keys::frame_keys(version, table))?;
+    fn read(
+        alloc: Global,
+        version: u64,
+        node: u64,
+        number: u64,
+        table: &Table,
+    ) -> Result<FrameText, PlacedFault> {
+        let keys = keys::frame_keys(version, table);
+        Spot::Frame(node, number).placed(check_table(alloc, table, keys))?;
         Ok(FrameText {
             id: small_at(table, Key::Id),
             dlc: small_at(table, Key::Dlc),
@@ -79,12 +103,19 @@ impl Row for FrameText {
 }
 
 impl Row for DisturbanceText {
-    ghost fault = { disturbance_fault };
+    ghost fault = { λ version _. disturbance_fault_at version };
 
     ghost make = { λ _. disturbance_of };
 
-    fn read(alloc: Global, version: u64, table: &Table) -> Result<DisturbanceText, SetupFault> {
-        check_table(alloc, table, keys::disturbance_keys(version, table))?;
+    fn read(
+        alloc: Global,
+        version: u64,
+        _node: u64,
+        number: u64,
+        table: &Table,
+    ) -> Result<DisturbanceText, PlacedFault> {
+        let keys = keys::disturbance_keys(version, table);
+        Spot::Disturbance(number).placed(check_table(alloc, table, keys))?;
         Ok(DisturbanceText {
             node: some_name_at(alloc, table, Key::AtNode)?,
             x: small_at(table, Key::X),
@@ -112,12 +143,19 @@ fn clock(table: &Table) -> ClockText
 }
 
 impl Row for RateText {
-    ghost fault = { λ _. rate_fault };
+    ghost fault = { λ _. rate_fault_at };
 
     ghost make = { λ _. rate_of };
 
-    fn read(alloc: Global, _version: u64, table: &Table) -> Result<RateText, SetupFault> {
-        check_table(alloc, table, keys::rate_keys(table))?;
+    fn read(
+        alloc: Global,
+        _version: u64,
+        node: u64,
+        number: u64,
+        table: &Table,
+    ) -> Result<RateText, PlacedFault> {
+        let keys = keys::rate_keys(table);
+        Spot::Rate(node, number).placed(check_table(alloc, table, keys))?;
         Ok(RateText {
             from: number_at(table, Key::From),
             clock: clock(table),
@@ -126,10 +164,16 @@ impl Row for RateText {
 }
 
 /// Returns the rates of a node whose table has the keys that it should have.
-fn rates(alloc: Global, version: u64, table: &Table) -> Result<Listed<RateText>, SetupFault>
-    ensures { AnswersTable rates_fault (rates_of version) (table_view table.now) result }
+fn rates(
+    alloc: Global,
+    version: u64,
+    node: u64,
+    table: &Table,
+) -> Result<Listed<RateText>, PlacedFault>
+    ensures { AnswersAt (first_in (rate_fault_at node) (tables_at key.Rates (table_view table.now)))
+        (rates_of version (table_view table.now)) result }
 {
-    let written = rows(alloc, version, elements_at(table, Key::Rates))?;
+    let written = rows(alloc, version, node, elements_at(table, Key::Rates))?;
     if keys::has_rates(version, table) {
         return Ok(written);
     }
@@ -142,14 +186,21 @@ fn rates(alloc: Global, version: u64, table: &Table) -> Result<Listed<RateText>,
 }
 
 impl Row for NodeText {
-    ghost fault = { node_fault };
+    ghost fault = { λ version _. node_fault_at version };
 
     ghost make = { node_text_of };
 
-    fn read(alloc: Global, version: u64, table: &Table) -> Result<NodeText, SetupFault> {
-        check_table(alloc, table, keys::node_keys(version, table))?;
-        let rates = rates(alloc, version, table)?;
-        let frame = rows(alloc, version, elements_at(table, Key::Frame))?;
+    fn read(
+        alloc: Global,
+        version: u64,
+        _node: u64,
+        number: u64,
+        table: &Table,
+    ) -> Result<NodeText, PlacedFault> {
+        let keys = keys::node_keys(version, table);
+        Spot::Node(number).placed(check_table(alloc, table, keys))?;
+        let rates = rates(alloc, version, number, table)?;
+        let frame = rows(alloc, version, number, elements_at(table, Key::Frame))?;
         Ok(NodeText {
             name: name_at(alloc, table, Key::Name)?,
             offset: number_at(table, Key::Offset),
@@ -168,21 +219,21 @@ impl Row for NodeText {
     }
 }
 
-/// Returns the plan text of a document's top table, and the names of its nodes.
-pub(crate) fn plan_text(alloc: Global, top: &Table) -> Result<(PlanText, Names), SetupFault>
-    ensures { Answers (document_fault (table_view top.now)) (named_text_of (table_view top.now)) result }
+/// Returns the plan text of a document's top table, and the names of its nodes; or the first fault, with the table where it is.
+pub(crate) fn plan_text(alloc: Global, top: &Table) -> Result<(PlanText, Names), PlacedFault>
+    ensures { AnswersAt (first_fault (table_view top.now)) (named_text_of (table_view top.now)) result }
 {
-    check_version(alloc, top)?;
-    check_table(alloc, top, keys::top_keys())?;
+    Spot::Top.placed(check_version(alloc, top))?;
+    Spot::Top.placed(check_table(alloc, top, keys::top_keys()))?;
     let version = number_at(top, Key::Version);
     let plan = PlanText {
         version,
         end: number_at(top, Key::End),
         per: number_at(top, Key::Per),
-        node: rows(alloc, version, elements_at(top, Key::Node))?,
-        disturbance: rows(alloc, version, elements_at(top, Key::Disturbance))?,
+        node: rows(alloc, version, 0, elements_at(top, Key::Node))?,
+        disturbance: rows(alloc, version, 0, elements_at(top, Key::Disturbance))?,
         sync: sync_choice_at(top, Key::Sync),
     };
-    let names = plan.names(alloc)?;
+    let names = plan.placed_names(alloc)?;
     Ok((plan, names))
 }

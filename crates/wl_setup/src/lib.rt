@@ -19,7 +19,7 @@ mod text;
 mod traffic;
 mod values;
 
-pub use bus::{Bus, Deviation, bus_of_bytes, read_bus};
+pub use bus::{Bus, Deviation, bus_of_bytes, bus_of_document, read_bus};
 pub use check::check_plan;
 pub use fault::SetupFault;
 pub use keys::Key;
@@ -28,6 +28,6 @@ pub use names::Names;
 pub use plan::{plan_of_bytes, read_plan};
 pub use plan_text::{ClockText, DisturbanceText, FrameText, NodeText, PlanText, RateText};
 pub use read::{NoDocument, document_or_place, read_bytes, read_text};
-pub use spot::{Spot, faulty_spot, table_at};
+pub use spot::{PlacedFault, Spot, table_at};
 pub use text::Text;
 pub use values::value_named;

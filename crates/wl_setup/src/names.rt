@@ -2,11 +2,14 @@
 ghost use Rattle.std.specs.Prelude.{◌≡◌, ◌<◌, ◌↔◌, [], ◌∷◌, ◌++◌, not, false, if◌then◌else◌, length, IsSome, IfOk, OnErr, option_map, slice_get};
 ghost use Rattle.std.specs.List.{list_any};
 ghost use Rattle.std.specs.Str.{bytes_eq};
-ghost use Rattle.wl_setup.specs.Names.{has_repeat, name_of, names_of, same_name_fault};
-ghost use Rattle.wl_setup.specs.Document.{Answers};
+ghost use Rattle.wl_setup.specs.declared.spot.Spot.TheVariants.{Node};
+ghost use Rattle.wl_setup.specs.Names.{first_repeat, has_repeat, name_of, names_of, same_name_fault};
+ghost use Rattle.wl_setup.specs.Spots.{fault_at};
+ghost use Rattle.wl_setup.specs.Document.{Answers, AnswersAt};
 
 use crate::fault::SetupFault;
 use crate::plan_text::PlanText;
+use crate::spot::{PlacedFault, Spot};
 use indexmap::IndexSet;
 use std::alloc::{AllocError, Global};
 use std::marker::Model;
@@ -76,10 +79,24 @@ impl PlanText {
     pub fn names(&self, alloc: Global) -> Result<Names, SetupFault>
         ensures { Answers (same_name_fault self.now) (names_of self.now) result }
     {
+        match self.placed_names(alloc) {
+            Ok(names) => Ok(names),
+            Err(placed) => Err(placed.fault),
+        }
+    }
+
+    /// Returns the names of the nodes, or `SameName` at the first node that has the name of an earlier one.
+    pub(crate) fn placed_names(&self, alloc: Global) -> Result<Names, PlacedFault>
+        ensures { AnswersAt (fault_at (Node (first_repeat [] (names_of self.now))) (same_name_fault self.now))
+            (names_of self.now) result }
+    {
         let mut names = Names::new(alloc);
         for node in self.node.as_slice() {
             if !names.add(node.name.as_str())? {
-                return Err(SetupFault::SameName);
+                return Err(PlacedFault {
+                    spot: Spot::Node(names.len() as u64),
+                    fault: SetupFault::SameName,
+                });
             }
         }
         Ok(names)

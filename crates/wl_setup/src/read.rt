@@ -78,7 +78,10 @@ pub(crate) fn parse(alloc: Global, text: &[u8]) -> Result<(PlanText, Names), Set
         }
         None => {
             let top = document(alloc, text)?;
-            plan_text(alloc, &top)
+            match plan_text(alloc, &top) {
+                Ok(read) => Ok(read),
+                Err(placed) => Err(placed.fault),
+            }
         }
     }
 }

@@ -1,7 +1,7 @@
 use Rattle.std.proofs.Common.{drop}
 use Rattle.wl_setup.specs.Names.{names_of}
 use Rattle.wl_setup.proofs.NameLemmas.{IsPart}
-use Rattle.wl_setup.proofs.plan_text.PlanText.names.Given as goal
+use Rattle.wl_setup.proofs.plan_text.PlanText.placed_names.Given as goal
 
 -- the names that are left follow on those in the set, and a repeat shows once they are put there
 abbrev pub invariant-loop-node : goal.invariant-loop-node

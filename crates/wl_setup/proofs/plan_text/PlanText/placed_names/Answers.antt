@@ -1,10 +1,10 @@
-use Rattle.std.proofs.Common.{refl}
+use Rattle.std.proofs.Common.{refl, arith}
 use Rattle.wl_setup.specs.Names.{names_of}
 use Rattle.wl_setup.proofs.NameLemmas.{one_more, repeats_left-none}
-use Rattle.wl_setup.proofs.plan_text.PlanText.names.Goals as goal
+use Rattle.wl_setup.proofs.plan_text.PlanText.placed_names.Goals as goal
 
 pub loop-node-init : goal.loop-node-init
-loop-node-init c = rw (c.as_slice-node-items.ensures, c.new-names.ensures) (refl, repeats_left-none (names_of c.args.self.now))
+loop-node-init c = rw (c.as_slice-node-items.ensures, c.new-names.ensures) (refl, repeats_left-none (names_of c.args.self.now), omega arith)
 
 pub loop-node-preserved : goal.loop-node-preserved
 loop-node-preserved c =

@@ -1,0 +1,24 @@
+-- The answer of a text by its document, and what is said of one that is refused.
+use Rattle.std.proofs.Common.{◌≡◌, ◌≤◌, ◌∙◌, ℕ, List, Option, Some, None, Result, Err, ap, length, refl, subst, sym, take}
+use Rattle.toml.specs.Data.{Members}
+use Rattle.wl_setup.specs.declared.bus.Bus.{Bus}
+use Rattle.wl_setup.specs.declared.fault.SetupFault.{SetupFault}
+use Rattle.wl_setup.specs.declared.fault.SetupFault.TheVariants.{Toml}
+use Rattle.wl_setup.specs.Buses.{bus_of_text}
+use Rattle.wl_setup.specs.Document.{fault_spot, plan_text_of}
+use Rattle.wl_setup.specs.Plans.{after}
+use Rattle.wl_setup.specs.Reading.{document_answer, document_of}
+use Rattle.wl_explain.specs.Refusals.{IsDocumentRefusal, IsRefusal, refusal_words, toml_words}
+use Rattle.wl_engines.specs.Explained.{bus_answer}
+
+pub answer_of : (text : List ℕ) (top : Members) (r : Result Bus SetupFault) → document_of text ≡ Some top → after (plan_text_of top) bus_of_text ≡ r → bus_answer text ≡ r
+answer_of text top r is answer = ap (λ o. after (document_answer o) bus_of_text) is ∙ answer
+
+pub refusal_of : (text : List ℕ) (top : Members) (fault : SetupFault) (said : List ℕ) → document_of text ≡ Some top → said ≡ refusal_words top (fault_spot top) fault → IsRefusal text fault said
+refusal_of text top fault said is same = subst (λ o. IsDocumentRefusal o text fault said) (sym is) same
+
+pub no_answer : (text : List ℕ) → document_of text ≡ None → bus_answer text ≡ Err Toml
+no_answer text none = ap (λ o. after (document_answer o) bus_of_text) none
+
+pub no_toml : (text : List ℕ) (place : ℕ) (said : List ℕ) → document_of text ≡ None → place ≤ length text → said ≡ toml_words (take place text) → IsRefusal text Toml said
+no_toml text place said none within same = subst (λ o. IsDocumentRefusal o text Toml said) (sym none) (place, within, same)
