@@ -8,6 +8,9 @@ use Rattle.wl_segments.specs.Lengths.{Lengths}
 use Rattle.wl_explain.specs.Words.{clocks_line, trip_line, jump_line, late_line, early_line, room_words, cable_words, margin_words, timing_words}
 use Rattle.wl_margin.specs.Pieces.{thousandths, hundredths}
 use Rattle.wl_explain.proofs.DoubtRows.{node}
+use Rattle.wl_clock.specs.declared.ClockFault.TheVariants as clock
+use Rattle.wl_setup.specs.declared.fault.SetupFault.TheVariants as fault
+use Rattle.wl_explain.specs.Remedies.{cause, remedy}
 
 short : Lengths
 short = record { prop = 3; ps1 = 4; ps2 = 2; sjw = 3; sync = After }
@@ -73,3 +76,13 @@ cable = refl
 
 no_cable : cable_words None ≡ codes ", cable none\n"
 no_cable = refl
+
+-- words of faults, by a name and by a key
+zero_den : cause (fault.NodeClock 0 clock.ZeroDen) ≡ codes "den is 0"
+zero_den = refl
+
+unknown_x : remedy (fault.Unknown (codes "x")) ≡ codes "Remove the key; a disturbance has `x` or `node`, but not both."
+unknown_x = refl
+
+unknown_other : remedy (fault.Unknown (codes "colour")) ≡ codes "Remove the key, or correct its spelling."
+unknown_other = refl

@@ -7,7 +7,7 @@ ghost use Rattle.wl_setup.specs.Shown.{shown};
 ghost use Rattle.wl_setup.specs.Spots.{table_at};
 ghost use Rattle.wl_explain.specs.Refusals.{begins_letter, beside_words, hexadecimal_words, keys_of_clock, column_behind, column_number, keys_of_frame, frame_called, lacking, rate_called, valued, is_newline, key_words, keys_words, line_number, lines, missing_words, name_words, named_words, node_called, two_nodes, place_words, plan_subject, quanta_words, refusal_words, keys_of_segments, size_words, spot_words, subject, subject_words, toml_words, topology_subject, value_words};
 
-use crate::remedies::{CORRECT, NO_TOML, SHORTEN, TOO_LONG, cause, remedy};
+use crate::remedies::{cause, remedy};
 use std::alloc::{AllocError, Global};
 use toml::value::Array;
 use toml::{Table, Value};
@@ -460,12 +460,14 @@ pub fn explain_toml(alloc: Global, before: &[u8]) -> Result<String, AllocError>
     let column = column_number(before);
     let mut about = String::new(alloc);
     push_place(&mut about, line, column)?;
-    lines(alloc, about.as_str(), NO_TOML, CORRECT)
+    let fault = SetupFault::Toml;
+    lines(alloc, about.as_str(), cause(&fault), remedy(&fault))
 }
 
 /// Returns the text on a plan that is too long.
 pub fn explain_size(alloc: Global) -> Result<String, AllocError>
     ensures { IfOk result (λ text. string_bytes text ≡ size_words) }
 {
-    lines(alloc, "the plan", TOO_LONG, SHORTEN)
+    let fault = SetupFault::Size;
+    lines(alloc, "the plan", cause(&fault), remedy(&fault))
 }
