@@ -34,12 +34,20 @@ def constants(text):
 
 def remedies():
     """Returns what to change at each fault, as the sources have it."""
-    text, found = source("wl_explain/src/remedies.rt"), {}
+    text = source("wl_explain/src/remedies.rt")
     named = constants(text)
-    for kind, body in re.findall(r"^(?:pub\(crate\) )?fn (?:(\w+)_)?remedy\(.*?^\{\n(.*?)^\}", text, re.M | re.S):
-        for key, variant, words, name in re.findall(rf'^ +(?:"(\w+)"|(?:\w+::)?(\w+)(?:\([^)]*\))?) =>\s*(?:{TEXT}|([A-Z_]+)),$', body, re.M):
-            fault = WITHIN[kind] % (key or ("key" if variant == "_" else VALUES.get(variant, variant)))
-            found[fault] = named[name] if name else words.replace('\\"', '"')
+    tables = {
+        name: {key: words.replace('\\"', '"') for key, words in re.findall(rf'^    \("(\w+)", {TEXT}\),$', rows, re.M)}
+        for name, rows in re.findall(r"^const (\w+): \[\(&str, &str\); \d+\] = \[\n(.*?)^\];", text, re.M | re.S)
+    }
+    found = {}
+    for kind in ("missing", "kind", "unknown"):
+        for key, words in tables[kind.upper()].items() | {("key", named[kind.upper() + "_OTHER"])}:
+            found[WITHIN[kind] % key] = words
+    for kind, body in re.findall(r"^fn (\w+)_name\(.*?^\{\n(.*?)^\}", text, re.M | re.S):
+        for variant, name in re.findall(r'^ +\w+::(\w+)(?:\([^)]*\))? => "(\w+)",$', body, re.M):
+            fault = WITHIN["" if kind == "fault" else kind] % VALUES.get(variant, variant)
+            if name in tables["CHANGES"]: found[fault] = tables["CHANGES"][name]
     records = re.findall(rf'TextFault::(\w+)(\(\w+\))? =>.*?{TEXT}', source("wl_hint/src/records.rt"), re.S)
     found |= {f"{name}(n)" if value else name: re.sub(r"^(\{place\}|line \{n\}\. )", "", words) for name, value, words in records}
     named = constants(source("wl_hint/src/table.rt"))
