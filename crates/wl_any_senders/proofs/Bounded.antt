@@ -5,7 +5,7 @@ use Rattle.std.proofs.lemmas.Bool.{cases_eq, cases_Bool, and_from, and_left, and
 use Rattle.std.proofs.Math.Nat.{mul-le-mul_left, mul-le-mul_right, le_of_mul-le-mul_left}
 use Rattle.wl_segments.specs.Lengths.{sample_at, bit_quanta}
 use Rattle.wl_bound.specs.Families.{Bus}
-use Rattle.wl_bound.specs.Terms.{greatest, sends_but, drift, jump, late, look, strays, trip, way}
+use Rattle.wl_bound.specs.Terms.{greatest, sends_but, ahead, drift, jump, late, look, pulled, strays, trip, way}
 use Rattle.wl_bound.specs.Conditions.{IsSound, left_of, right_of}
 use Rattle.wl_bound.proofs.Greatest.{bounded, bounds_each}
 use Rattle.wl_any_senders.specs.Bounds.{IsBusOf, following_way}
@@ -122,8 +122,10 @@ module _ (bus : Bus) (s : Stations) (line : AreOnALine s) (of : IsBusOf bus s) (
   drifts : (i k : ℕ) → i < s.count → k < s.count → i ≢ k → (bus.listens i && bus.listens k) ≡ false → 10 * drift bus i k ≤ min (jump bus i) (jump bus k)
   unfolding left_of right_of
   drifts i k ni nk apart some =
+      let h : 10 * drift bus i k + pulled bus i k ≤ min (jump bus i) (jump bus k) =
       sound.drift_fits_jump i k (inside bus s line of i ni) (inside bus s line of k nk)
-      (and_from (not (i == k)) (not (bus.listens i && bus.listens k)) (ap not (ne_eqb i k apart)) (ap not some))
+      (and_from (not (i == k)) (not (bus.listens i && bus.listens k)) (ap not (ne_eqb i k apart)) (ap not some)) in
+      omega arith
 
   early_fits : (i k : ℕ) → i < s.count → k < s.count → i ≢ k → s.may_send k ≡ true
       → s.way k i + 10 * bit_drift s i k ≤ (s.delay k i + s.delay i k) * shared_tick s i k + (s.lengths i).sjw * shared_quantum s i k
@@ -194,9 +196,9 @@ module _ (bus : Bus) (s : Stations) (line : AreOnALine s) (of : IsBusOf bus s) (
   late_there : (i k : ℕ) → i < s.count → k < s.count → i ≢ k → s.may_send k ≡ true → late bus i k + 11 * strays bus k ≤ sample_at (s.lengths i) * bus.shortest i
   unfolding left_of right_of
   late_there i k ni nk apart may =
-      let h : cond (i == k) (bus.delay i i) (late bus i k + 11 * strays bus k) ≤ sample_at (bus.lengths i) * bus.shortest i =
+      let h : cond (i == k) (bus.delay i i + bus.turns i) (late bus i k + 11 * strays bus k + ahead bus k) ≤ sample_at (bus.lengths i) * bus.shortest i =
       sound.bit_is_there_at_sample i k (inside bus s line of i ni) (inside bus s line of k nk) (or_not (i == k) (bus.listens k) (of.answers k nk may)) in
-      let e = ap (λ c. cond c (bus.delay i i) (late bus i k + 11 * strays bus k)) (ne_eqb i k apart) in
+      let e = ap (λ c. cond c (bus.delay i i + bus.turns i) (late bus i k + 11 * strays bus k + ahead bus k)) (ne_eqb i k apart) in
       let p : sample_at (bus.lengths i) * bus.shortest i ≡ sample_at (s.lengths i) * bus.shortest i = ap (λ l. sample_at l * bus.shortest i) (of.lengths i) in
       omega arith
 
@@ -277,9 +279,9 @@ module _ (bus : Bus) (s : Stations) (line : AreOnALine s) (of : IsBusOf bus s) (
   loop : (i : ℕ) → i < s.count → s.may_send i ≡ true → (s.clocks i).den * s.delay i i ≤ sample_at (s.lengths i) * (s.clocks i).num
   unfolding left_of right_of
   loop i ni may =
-      let h : cond (i == i) (bus.delay i i) (late bus i i + 11 * strays bus i) ≤ sample_at (bus.lengths i) * bus.shortest i =
+      let h : cond (i == i) (bus.delay i i + bus.turns i) (late bus i i + 11 * strays bus i + ahead bus i) ≤ sample_at (bus.lengths i) * bus.shortest i =
       sound.bit_is_there_at_sample i i (inside bus s line of i ni) (inside bus s line of i ni) (or_not (i == i) (bus.listens i) (of.answers i ni may)) in
-      let e = ap (λ c. cond c (bus.delay i i) (late bus i i + 11 * strays bus i)) (eq-eqb i i refl) in
+      let e = ap (λ c. cond c (bus.delay i i + bus.turns i) (late bus i i + 11 * strays bus i + ahead bus i)) (eq-eqb i i refl) in
       let d = of.delays i i ni ni in
       let p : sample_at (bus.lengths i) * bus.shortest i ≡ sample_at (s.lengths i) * bus.shortest i = ap (λ l. sample_at l * bus.shortest i) (of.lengths i) in
       let m : (s.clocks i).den * (s.delay i i * bus.tick) ≤ (s.clocks i).den * (sample_at (s.lengths i) * bus.shortest i) = mul-le-mul_left (s.clocks i).den (omega arith) in

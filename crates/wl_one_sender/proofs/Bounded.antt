@@ -6,7 +6,7 @@ use Rattle.std.proofs.Math.Nat.{mul-le-mul_left, mul-le-mul_right}
 use Rattle.wl_segments.specs.Lengths.{sample_at, bit_quanta}
 use Rattle.wl_bound.specs.Families.{Bus}
 use Rattle.wl_bound.specs.Terms.{greatest, is_third, sends_but}
-use Rattle.wl_bound.specs.Terms.{ahead, drift, jump, late, look, strays, trip, way}
+use Rattle.wl_bound.specs.Terms.{ahead, drift, jump, late, look, pulled, strays, trip, way}
 use Rattle.wl_bound.specs.Conditions.{IsSound}
 use Rattle.wl_bound.specs.Conditions.{left_of, right_of}
 use Rattle.wl_one_sender.specs.OneSender.{SenderBus, IsBus, IsListener, lengths_of}
@@ -50,7 +50,7 @@ module _ (bus : Bus) (t : Tolerance) (b : SenderBus) (is : IsBus b) (of : IsBoun
       → (10 * longer_bit t b i j ≤ (lengths_of b i).sjw * t.shortest i) × (10 * longer_bit t b i j ≤ (lengths_of b j).sjw * t.shortest j)
   unfolding left_of right_of
   drifts i j ni nj apart =
-      let h : 10 * drift bus i j ≤ min (jump bus i) (jump bus j) = sound.drift_fits_jump i j (inside i ni) (inside j nj)
+      let h : 10 * drift bus i j + pulled bus i j ≤ min (jump bus i) (jump bus j) = sound.drift_fits_jump i j (inside i ni) (inside j nj)
       (and_from (not (i == j)) (not (bus.listens i && bus.listens j)) (ap not (ne_eqb i j apart)) (ap not (and_left (bus.listens i) (bus.listens j) (of.answers i ni)))) in
       let d = drift_is i j in
       let x = jump_is i in
