@@ -61,10 +61,11 @@ def edges_of(records, nodes):
 
 
 def cable_at(plan, changes, j):
-    """The intervals in which the cable is dominant at node j, by a sum of what comes and goes."""
+    """The intervals in which the cable is dominant at node j, by a sum of what comes and goes; a listener reaches itself alone."""
     to = plan["node"][j]
     turns = []
     for node, ticks in zip(plan["node"], changes):
+        if node.get("listen") and node is not to: continue
         delay = node["out"] + abs(node["x"] - to["x"]) * plan["per"] + to["in"]
         turns += [(tick + delay, 1 if n % 2 == 0 else -1) for n, tick in enumerate(ticks)]
     return turns
@@ -74,7 +75,8 @@ def disturbed_at(plan, j):
     """The intervals in which a disturbance is at node j."""
     to, turns = plan["node"][j], []
     for d in plan.get("disturbance", []):
-        delay = abs(d["x"] - to["x"]) * plan["per"] + to["in"]
+        if d.get("node", to["name"]) != to["name"]: continue
+        delay = to["in"] + (0 if "node" in d else abs(d["x"] - to["x"]) * plan["per"])
         turns += [(d["from"] + delay, 1), (d["to"] + delay, -1)]
     return turns
 
