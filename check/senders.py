@@ -5,7 +5,7 @@
                                           (early_fits, late_fits, is_there, loops or not_early), on buses that break that inequality alone. Says how
                                           many frames were played, bits sampled and starts compared, and how many were refused
 
-A station is a bit clock of bench/phase.py and a list of bits to send, or none. It begins its start of frame at the first bit that begins
+A station is a bit clock of check/phase.py and a list of bits to send, or none. It begins its start of frame at the first bit that begins
 once it is ready, or with the first edge. It sends on as long as it samples what it sends.
 
 The claim. Each station samples each bit as it is on the bus. Each bit begins at each station by itself, or by the first edge, as
