@@ -66,10 +66,13 @@ class Bus:
             self.way(i, a) + 10 * self.drift + self.delay(a, j) + self.delay(j, i), self.delay(a, i)))
         return way + min(self.apart(i, j), down(tour, way))
 
+    def pull(self, i, j):
+        return self.look if j in self.senders and any(map(self.sends_but(i, j), self.nodes)) else 0
+
     def holds(self):
         return all(
             self.delay(i, i) <= self.sample * self.short if i == j else
-            10 * self.drift <= self.jump
+            10 * self.drift + self.pull(i, j) <= self.jump
             and self.late(i, j) + 11 * self.drift <= self.sample * self.short
             and self.look + 10 * self.drift + min(self.apart(j, i), down(self.early(j), self.delay(j, j))) + TICK <= self.ps2 * self.short
             for i in self.nodes for j in self.nodes)
