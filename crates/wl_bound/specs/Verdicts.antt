@@ -39,7 +39,7 @@ has_same_field a b = (a.id == b.id) && (beq a.extended b.extended && beq a.remot
 abbrev pub share_field : NodeSetup → NodeSetup → Bool
 share_field one other = list_any (λ a. list_any (λ b. has_same_field a.frame b.frame) other.queue) one.queue
 
--- the tick at which a node has counted the 11 bits that it waits for (Bosch CAN 2.0 part B, section 9)
+-- the tick at which a node has counted the 11 bits that it waits for (Bosch CAN 2.0 part B, section 2, wake-up)
 abbrev pub idle_at : NodeSetup → ℕ
 idle_at node = tick_of node.clock (11 * bit_quanta node.segments)
 

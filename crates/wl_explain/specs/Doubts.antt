@@ -52,7 +52,7 @@ frame_bits c = (if c.extended then 67 else 47) + 8 * length c.bytes
 abbrev pub queue_bits : NodeSetup → ℕ
 queue_bits s = sum_by (λ w. frame_bits w.frame) s.queue
 
--- the tick at which a node has counted the 11 bits that it waits for (Bosch CAN 2.0 part B, section 9)
+-- the tick at which a node has counted the 11 bits that it waits for (Bosch CAN 2.0 part B, section 2, wake-up)
 abbrev pub idle_at : NodeSetup → ℕ
 idle_at s = tick_of s.clock (11 * bit_quanta s.segments)
 

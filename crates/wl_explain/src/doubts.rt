@@ -126,7 +126,7 @@ fn least_quanta(segments: &Segments, bits: u128) -> u128
     bits * (1 + segments.least_way()) as u128
 }
 
-/// Returns the tick at which a node has counted the 11 bits that it waits for (Bosch CAN 2.0 part B, section 9).
+/// Returns the tick at which a node has counted the 11 bits that it waits for (Bosch CAN 2.0 part B, section 2, wake-up).
 fn idle_at(node: &NodeSetup) -> u64
     ensures value { result ≡ idle_at node.now }
     ensures soon { result < 2 ^ 40 }

@@ -27,7 +27,7 @@ pub record IsOfFamily (f : Buses) (plan : Plan) (clocks : ℕ → Steady) : Type
   pub fastest : (i : ℕ) → i < length plan.nodes → shortest_in f plain i * (clocks i).den ≤ units plain * (clocks i).num
 
 -- This node has frames, and no other. None only listens (ISO 11898-1, bus monitoring). Each other node is idle when the first frame becomes ready (Bosch CAN 2.0
--- part B, section 9).
+-- part B, section 2, wake-up).
 pub record HasOneSender (plan : Plan) (sender : ℕ) : Type 0 where
   pub inside : sender < length plan.nodes
   pub first : Queued
