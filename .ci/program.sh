@@ -70,6 +70,14 @@ python3 -B check/traffic.py text 100ps < examples/burst.toml > "$room/traffic"
 runs "traffic of a plan with errors" examples/burst.toml 1 "$room/traffic" "$room/none" traffic --strict --tick 100ps
 runs "traffic of that plan, not strict" examples/burst.toml 0 "$room/traffic" "$room/none" traffic --tick 100ps
 
+# A plan beyond each inequality of the condition for margins, and beyond nothing else, has errors.
+for plan in check/margins/*.toml; do
+  python3 -B check/margin.py < "$plan" > "$room/beyond"
+  runs "margin of $plan" "$plan" 0 "$room/beyond" "$room/none" margin
+  is "it is beyond the condition: $plan" [ -z "$(grep '^holds for any' "$room/beyond")" ]
+  is "it has errors: $plan" [ "$("$program" run < "$plan" | tail -n 1 | cut -d ' ' -f 1-2)" = "verdict faulty" ]
+done
+
 # Full queues: each of two nodes sends 64 frames and receives the other's 64, more than in any example.
 python3 -Bc 'import sys; sys.path.insert(0, "bench"); import worst; print(worst.plan(nodes=2, quanta=200_000))' > "$room/full.toml"
 python3 check/plain.py run < "$room/full.toml" > "$room/full"
