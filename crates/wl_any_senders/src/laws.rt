@@ -41,8 +41,8 @@ pub fn an_edge_brings_them_close_again()
 
 /// Law: each station samples what all drive, if there is room: dominant if one sender drives the bit dominant, else recessive.
 pub fn all_sample_what_is_driven()
-    ensures { (s : Stations) (sends : ℕ → Bool) (since : ℕ) (b c : Start) (drove : ℕ → ℕ → Bool) → AreStations s → HaveRoom s
-        → OneBit s sends since b c drove → AreRight s b drove }
+    ensures { (s : Stations) (sends : ℕ → Bool) (since : ℕ) (b c : Start) (drove : ℕ → ℕ → Bool)
+        → AreStations s → HaveRoom s → OneBit s sends since b c drove → AreRight s b drove }
 {
     wl_topology::driven_laws();
 }
@@ -50,8 +50,8 @@ pub fn all_sample_what_is_driven()
 /// Law: so all stations sample the bits of a frame as they are on the bus, one after another, whoever sends them, from the start of
 /// frame on. Whoever has sent each bit as it is on the bus still sends. Each other one has lost, and stays close to those that send.
 pub fn all_sample_the_same_bits()
-    ensures { (s : Stations) (bits : ℕ → Start) (drove : ℕ → ℕ → Bool) (length : ℕ) (until : ℕ → ℕ) → AreStations s → HaveRoom s
-        → IsCourse s bits drove length until → (n : ℕ) → n < length → IsSampled s bits drove n }
+    ensures { (s : Stations) (bits : ℕ → Start) (drove : ℕ → ℕ → Bool) (length : ℕ) (until : ℕ → ℕ)
+        → AreStations s → HaveRoom s → IsCourse s bits drove length until → (n : ℕ) → n < length → IsSampled s bits drove n }
 {
     wl_topology::driven_laws();
 }
@@ -60,7 +60,8 @@ pub fn all_sample_the_same_bits()
 /// find an edge before its next sample while it drives recessive. Then it samples dominant next, counted from the place 0 to which
 /// the edge has moved that bit.
 pub fn a_bit_clock_follows_an_edge()
-    ensures { (l : Lengths) (seen : ℕ → Seen) (place found : ℕ) → ByTheBook l → FindsDominant l seen (place + sample_at l) found
+    ensures { (l : Lengths) (seen : ℕ → Seen) (place found : ℕ) → ByTheBook l
+        → FindsDominant l seen (place + sample_at l) found
         → SamplesNext l seen (place + sample_at l) (moved_to (found - 1) l.sjw (place + bit_quanta l) + sample_at l) Dominant }
 {
     wl_phase::laws::the_next_sample_is_dominant();

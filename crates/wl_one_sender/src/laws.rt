@@ -93,8 +93,8 @@ pub fn a_plan_is_such_a_bus()
 /// stay 0. Each frame is sent in time, and each listener has received it by then. An acknowledgement may be early, and is over
 /// in time.
 pub fn every_frame_gets_through()
-    ensures { (b : SenderBus) (stuffed : ℕ → List Level) → IsBus b → SendsFirst b → AreFrames b stuffed → IsInStepWithAll b
-        → EndsInSlots b → GetThrough b stuffed }
+    ensures { (b : SenderBus) (stuffed : ℕ → List Level) → IsBus b → SendsFirst b → AreFrames b stuffed
+        → IsInStepWithAll b → EndsInSlots b → GetThrough b stuffed }
 {
     wl_sync::clock_goes_on();
     wl_frame::laws::stuffing_goes_on_bit_by_bit();
@@ -115,10 +115,11 @@ pub fn every_frame_gets_through()
 /// Law: the inequalities over tolerances are enough: wherever within its tolerance each clock lies, a bus meets what its clocks
 /// and delays have to. So all frames get through.
 pub fn tolerances_are_enough()
-    ensures in_step { (t : Tolerance) (b : SenderBus) → IsBus b → IsWithinTolerance t b → FitClocks t b → IsInStepWithAll b }
+    ensures in_step { (t : Tolerance) (b : SenderBus) → IsBus b → IsWithinTolerance t b → FitClocks t b
+        → IsInStepWithAll b }
     ensures ends { (t : Tolerance) (b : SenderBus) → IsBus b → IsWithinTolerance t b → FitClocks t b → EndsInSlots b }
-    ensures through { (t : Tolerance) (b : SenderBus) (stuffed : ℕ → List Level) → IsBus b → SendsFirst b → AreFrames b stuffed
-        → IsWithinTolerance t b → FitClocks t b → GetThrough b stuffed }
+    ensures through { (t : Tolerance) (b : SenderBus) (stuffed : ℕ → List Level) → IsBus b → SendsFirst b
+        → AreFrames b stuffed → IsWithinTolerance t b → FitClocks t b → GetThrough b stuffed }
 {
     every_frame_gets_through();
 }
