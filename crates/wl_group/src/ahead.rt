@@ -43,10 +43,12 @@ impl Group {
         requires member { belongs self.old i ≡ true }
         requires early { end < 2 ^ 64 - 1 }
         requires due { next_tick (line_of self.old.plan) i (members_now self.old i) < end }
-        requires known { let l = line_of self.old.plan in end ≤ place_horizon l.nodes l.delay (slots_of self.old.replica) i }
+        requires known { let l = line_of self.old.plan in
+            end ≤ place_horizon l.nodes l.delay (slots_of self.old.replica) i }
         ensures same { self.new ≡ self.old }
         ensures some { 0 < result.count }
-        ensures ahead { AreAhead (line_of self.old.plan) i (next_tick (line_of self.old.plan) i (members_now self.old i)) result.stretches result.count }
+        ensures ahead { let l = line_of self.old.plan in
+            AreAhead l i (next_tick l i (members_now self.old i)) result.stretches result.count }
     {
         value_laws();
         let tick = self.due(i);
@@ -64,7 +66,8 @@ impl Group {
     fn look_on(&mut self, i: u8, end: u64, ahead: &mut Ahead)
         requires member { belongs self.old i ≡ true }
         requires early { end < 2 ^ 64 - 1 }
-        requires known { let l = line_of self.old.plan in end ≤ place_horizon l.nodes l.delay (slots_of self.old.replica) i }
+        requires known { let l = line_of self.old.plan in
+            end ≤ place_horizon l.nodes l.delay (slots_of self.old.replica) i }
         requires some { 0 < ahead.old.count }
         requires few { ahead.old.count ≤ length ahead.old.stretches }
         ensures same { self.new ≡ self.old }
@@ -89,7 +92,8 @@ impl Group {
     fn find(&mut self, i: u8, tick: u64) -> Stretch
         requires member { belongs self.old i ≡ true }
         requires early { tick < 2 ^ 64 - 1 }
-        requires known { let l = line_of self.old.plan in tick < place_horizon l.nodes l.delay (slots_of self.old.replica) i }
+        requires known { let l = line_of self.old.plan in
+            tick < place_horizon l.nodes l.delay (slots_of self.old.replica) i }
         ensures same { self.new ≡ self.old }
         ensures from { result.from ≤ tick }
         ensures until { tick < result.until }

@@ -159,8 +159,8 @@ pub fn an_acknowledgement_is_over_everywhere()
         → IsSteady s.clock → IsSteady i.clock → IsSteady j.clock → EndsBeforeSample s i j between
         → SamplesBit s i seen found d k → SamplesBit s j other_seen other_found d n
         → answer_end i between k ≤ steady_tick j.clock (n + 2 * bit_quanta j.lengths) }
-    ensures ends_there { (s : Sender) (own : Lengths) (j : Listener) (seen : ℕ → Seen) (found back d k : ℕ) → IsSteady s.clock
-        → IsSteady j.clock → ByTheBook own → ByTheBook j.lengths → s.bit_quanta ≡ bit_quanta own → ClocksAreNear s j
+    ensures ends_there { (s : Sender) (own : Lengths) (j : Listener) (seen : ℕ → Seen) (found back d k : ℕ)
+        → IsSteady s.clock → IsSteady j.clock → ByTheBook own → ByTheBook j.lengths → s.bit_quanta ≡ bit_quanta own → ClocksAreNear s j
         → ComesInTime s own j back → EndsInTime s own j back → SamplesBit s j seen found d k
         → answer_end j back k ≤ steady_tick s.clock (own_sample s own (suc (suc d))) }
 {}
