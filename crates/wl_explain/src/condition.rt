@@ -32,7 +32,8 @@ fn push_fail(
 ) -> Result<(), AllocError>
     requires one { i < length family.now.members }
     requires other { j < length family.now.members }
-    ensures { OnOk result (string_bytes text.new ≡ string_bytes text.old ++ fail_line family.now names.now inequality i j) }
+    ensures { OnOk result (string_bytes text.new ≡ string_bytes text.old
+        ++ fail_line family.now names.now inequality i j) }
 {
     match family.pair_failure(Senders::One, inequality, i, j) {
         Some(failure) => { push_failure_line(text, family, names, NANOSECOND, "doubt: ", failure) }
@@ -52,7 +53,8 @@ fn push_several(
     names: &Names,
     failure: Option<Failure>,
 ) -> Result<(), AllocError>
-    ensures { OnOk result (string_bytes text.new ≡ string_bytes text.old ++ told_failure family.now names.now None failure) }
+    ensures { OnOk result (string_bytes text.new ≡ string_bytes text.old
+        ++ told_failure family.now names.now None failure) }
 {
     match failure {
         Some(failure) => push_failure_line(
@@ -147,7 +149,8 @@ fn push_pair_lines(
     requires nodes { length family.now.members ≡ length plan.now.nodes }
     requires one { i < length plan.now.nodes }
     requires other { j < length plan.now.nodes }
-    ensures { OnOk result (string_bytes text.new ≡ string_bytes text.old ++ pair_lines family.now plan.now names.now i j) }
+    ensures { OnOk result (string_bytes text.new ≡ string_bytes text.old
+        ++ pair_lines family.now plan.now names.now i j) }
 {
     if are_unlike(plan.end, setup(plan, i), setup(plan, j)) {
         push_unlike_line(text, plan, names, i, j)

@@ -74,7 +74,8 @@ fn push_shape(
     shape: &Shape,
     line: &[u8],
 ) -> Result<(), AllocError>
-    ensures { OnOk result (text.new.items ≡ text.old.items ++ form_bytes format (layout_of table.now) is_first (form_of shape.now) line.now) }
+    ensures { OnOk result (text.new.items ≡ text.old.items
+        ++ form_bytes format (layout_of table.now) is_first (form_of shape.now) line.now) }
 {
     match format {
         Format::Json => {
@@ -94,8 +95,10 @@ fn push_line(
     line: &[u8],
 ) -> Result<(), FormatFault>
     ensures fits { OnOk result (is_some (form_for (layout_of table.now).forms line.now) ≡ true) }
-    ensures text { OnOk result (text.new.items ≡ text.old.items ++ line_bytes format (layout_of table.now) is_first line.now) }
-    ensures fault { IfErr result (λ fault. fault ≢ FormatFault.Memory → is_some (form_for (layout_of table.now).forms line.now) ≡ false) }
+    ensures text { OnOk result (text.new.items ≡ text.old.items
+        ++ line_bytes format (layout_of table.now) is_first line.now) }
+    ensures fault { IfErr result (λ fault. fault ≢ FormatFault.Memory
+        → is_some (form_for (layout_of table.now).forms line.now) ≡ false) }
 {
     match shape_for(table.shapes, line) {
         Some(shape) => {
@@ -114,8 +117,10 @@ fn push_lines(
     lines: &[u8],
 ) -> Result<(), FormatFault>
     ensures fits { OnOk result (all_fit (layout_of table.now) (lines_of lines.now) ≡ true) }
-    ensures text { OnOk result (text.new.items ≡ text.old.items ++ lines_bytes format (layout_of table.now) true (lines_of lines.now)) }
-    ensures fault { IfErr result (λ fault. fault ≢ FormatFault.Memory → all_fit (layout_of table.now) (lines_of lines.now) ≡ false) }
+    ensures text { OnOk result (text.new.items ≡ text.old.items
+        ++ lines_bytes format (layout_of table.now) true (lines_of lines.now)) }
+    ensures fault { IfErr result (λ fault. fault ≢ FormatFault.Memory
+        → all_fit (layout_of table.now) (lines_of lines.now) ≡ false) }
 {
     let mut rest = lines;
     let mut is_first = true;

@@ -81,7 +81,8 @@ impl fmt::Display for Spare {
 impl Spare {
     /// Returns what is to spare between the sides of an inequality, which are in millionths of a tick.
     pub(crate) fn between(units: Units, sides: Sides) -> Spare
-        ensures { signed_words result.is_below result.amount.picoseconds result.amount.quanta ≡ spare_words units sides }
+        ensures { signed_words result.is_below result.amount.picoseconds result.amount.quanta
+            ≡ spare_words units sides }
     {
         if sides.left <= sides.right {
             Spare {
