@@ -89,9 +89,10 @@ fn run(
     ensures ended { OnOk result (NoneBefore plan.now.end running.new) }
 {
     let mut refused = 0;
+    let mut asked = 0;
     while let Some(j) = next_before(plan, running, known) {
         let led = refused <= running[j].next && is_led(running, j);
-        if let Some(t) = step(alloc, plan, running, ears, known, j, led)? {
+        if let Some(t) = step(alloc, plan, running, ears, known, j, led, &mut asked)? {
             refused = t;
         }
     }
@@ -108,6 +109,7 @@ fn step(
     known: &mut Ticks,
     j: usize,
     led: bool,
+    asked: &mut u64,
 ) -> Result<Option<u64>, AllocError>
     requires checked { IsChecked plan.now }
     requires running { AreRunning plan.now running.old }
@@ -122,12 +124,12 @@ fn step(
     ensures fewer { OnOk result (ticks_left plan.now.end running.new < ticks_left plan.now.end running.old) }
 {
     if !led {
-        plain(plan, running, ears, known, j)?;
+        plain(plan, running, ears, known, j, asked)?;
         return Ok(None);
     }
     let failed = guess(alloc, plan, running, ears, known, j)?;
     if failed.is_some() {
-        plain(plan, running, ears, known, j)?;
+        plain(plan, running, ears, known, j, asked)?;
     }
     Ok(failed)
 }
@@ -139,6 +141,7 @@ fn plain(
     ears: &mut [Ear],
     known: &mut Ticks,
     j: usize,
+    asked: &mut u64,
 ) -> Result<(), AllocError>
     requires checked { IsChecked plan.now }
     requires running { AreRunning plan.now running.old }
@@ -152,7 +155,7 @@ fn plain(
     ensures known { OnOk result (AreKnown plan.now.end running.new known.new) }
     ensures fewer { OnOk result (ticks_left plan.now.end running.new < ticks_left plan.now.end running.old) }
 {
-    rest(plan, running, ears, known, j);
+    rest(plan, running, ears, known, j, asked);
     turn(plan, running, ears, known, j)
 }
 

@@ -9,8 +9,16 @@ use crate::ear::Ear;
 use crate::running_node::{Running, Ticks};
 use wl_plan::Plan;
 
-/// Lifts the ticks below which the drives are known, if the line is at rest. Node `j` goes next.
-pub(crate) fn rest(plan: &Plan, running: &mut [Running], ears: &[Ear], known: &mut Ticks, j: usize)
+/// Lifts the ticks below which the drives are known, if the line is at rest. Node `j` goes next. `asked` is the tick at which all nodes were
+/// last asked. If node `j` isn't known further they are not asked again. It decides nothing but speed.
+pub(crate) fn rest(
+    plan: &Plan,
+    running: &mut [Running],
+    ears: &[Ear],
+    known: &mut Ticks,
+    j: usize,
+    asked: &mut u64,
+)
     requires checked { IsChecked plan.now }
     requires running { AreRunning plan.now running.old }
     requires ears { AreEars plan.now ears.now }
@@ -21,15 +29,20 @@ pub(crate) fn rest(plan: &Plan, running: &mut [Running], ears: &[Ear], known: &m
     ensures known { AreKnown plan.now.end running.new known.new }
     ensures lifted { AreLifted plan.now running.old running.new }
 {
-    let until = rests_until(plan, running, ears, j);
-    if running[j].known < until {
+    let at = running[j].known;
+    if at == *asked {
+        return;
+    }
+    let until = rests_until(plan, running, ears, j, asked);
+    if at < until {
         lift(plan, running, known, until);
     }
 }
 
 /// Returns the tick below which no node changes its drive: the earliest at which a dominant level could arrive anywhere, or a node that has
-/// seen only recessive could drive dominant. It is 0 if that is no later than the tick below which the drive of node `j` is known.
-fn rests_until(plan: &Plan, running: &[Running], ears: &[Ear], j: usize) -> u64
+/// seen only recessive could drive dominant. It is 0 if that is no later than the tick below which the drive of node `j` is known. `asked`
+/// becomes that tick if all nodes are asked.
+fn rests_until(plan: &Plan, running: &[Running], ears: &[Ear], j: usize, asked: &mut u64) -> u64
     requires checked { IsChecked plan.now }
     requires running { AreRunning plan.now running.now }
     requires ears { AreEars plan.now ears.now }
@@ -46,6 +59,7 @@ fn rests_until(plan: &Plan, running: &[Running], ears: &[Ear], j: usize) -> u64
     if ears[j].silent_until(running, j) <= known || running[j].stands_until(plan, j) <= known {
         return 0;
     }
+    *asked = known;
     let silent = all_silent_until(plan, running, ears);
     if silent <= known {
         return 0;
