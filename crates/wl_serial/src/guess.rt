@@ -3,6 +3,7 @@
 //! (`a_consistent_guess_holds` of `wl_plan`). Else all go back to where they were.
 ghost use Rattle.std.specs.Prelude.{◌≡◌, ◌≢◌, ℕ, ◌<◌, ◌≤◌, true, IfOk, OnOk, MatchOption, List, length, slice_index_or};
 ghost use Rattle.wl_plan.specs.Checked.{IsChecked};
+ghost use Rattle.wl_serial.specs.declared.ear.Ear.{Ear as GivenEar};
 ghost use Rattle.wl_serial.specs.declared.running_node.Running.{Running as GivenRunning};
 ghost use Rattle.wl_serial.specs.Guess.{AreAsFar, AreBack, AreBefore, AreLater, HaveListened, HavePassed, RanAlone};
 ghost use Rattle.wl_serial.specs.Heard.{AreEars, AreHeard};
@@ -67,6 +68,7 @@ pub(crate) fn guess(
     lead(plan, running, ears, j)?;
     let until = running[j].next.min(plan.end);
     if follow(plan, running, ears, j, until)? {
+        promise_all(plan, running);
         *known = all_known(plan, running);
         return Ok(None);
     }
@@ -170,6 +172,19 @@ fn listen(
         }
     }
     Ok(true)
+}
+
+/// Notes of each node up to which tick its drive is known, whatever it sees.
+fn promise_all(plan: &Plan, running: &mut [Running])
+    requires checked { IsChecked plan.now }
+    requires running { AreRunning plan.now running.old }
+    ensures running { AreRunning plan.now running.new }
+    ensures heard { (ears : List GivenEar) → AreHeard plan.now running.old ears → AreHeard plan.now running.new ears }
+    ensures left { ticks_left plan.now.end running.new ≤ ticks_left plan.now.end running.old }
+{
+    for i in 0..running.len() {
+        running[i].promise(plan, i);
+    }
 }
 
 /// Puts all nodes back to where they were. Refused only when out of memory.
