@@ -10,3 +10,4 @@ mod Syncing
 mod Starting
 pub mod Callers
 mod Passing
+mod Kept

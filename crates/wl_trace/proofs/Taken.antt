@@ -1,11 +1,13 @@
 -- The stretch of a frame, one sample later.
-use Rattle.std.proofs.Common.{◌≡◌, ◌∙◌, refl, ap, sym, ℕ, suc, ◌≤◌, ◌&&◌, not, Bool, true, false, cond, List, [], ◌∷◌, ◌++◌, length, Option, None, arith}
+use Rattle.std.proofs.Common.{◌≡◌, ◌∙◌, refl, ap, sym, ℕ, suc, ◌<◌, ◌≤◌, nat_le, nat_lt, ◌&&◌, not, Bool, true, false, cond, List, [], ◌∷◌, ◌++◌, length, Option, None, arith}
+use Rattle.std.proofs.lemmas.Bool.{le-ltb}
 use Rattle.wl_level.specs.declared.Level.{Level}
 use Rattle.wl_level.specs.Levels.{is_dominant, opposite}
 use Rattle.wl_level.specs.Places.{at, before, or_at, first_place}
 use Rattle.wl_level.proofs.Callers.{at_new, first_cong}
 use Rattle.wl_frame.specs.Stuffing.{is_stuff, destuffed_bits}
-use Rattle.wl_frame.specs.Grammar.{Content, bits_of, is_whole, is_arbitration}
+use Rattle.wl_frame.specs.Header.{is_extended}
+use Rattle.wl_frame.specs.Grammar.{Content, bits_of, is_whole, is_arbitration, layout_by}
 use Rattle.wl_frame.proofs.Callers.{stuff_old, kept_old, length_more, destuffed_more}
 use Rattle.wl_machine.specs.declared.state.Role.{Role}
 use Rattle.wl_machine.specs.declared.state.Role.TheVariants.{Tx, Rx}
@@ -16,6 +18,20 @@ use Rattle.wl_machine.specs.Judged.{judged, or_next, role_by, role_of}
 use Rattle.wl_machine.specs.Roles.{RoleLaws, loses}
 use Rattle.wl_trace.specs.Events.{is_transmitter}
 use Rattle.wl_trace.specs.Running.{way_of}
+
+never : (b : Bool) → (b && false) ≡ false
+never true = refl
+never false = refl
+
+nowhere : (a b c : Bool) → (a && false && b && c) ≡ false
+nowhere true b c = refl
+nowhere false b c = refl
+
+-- a place behind the longest arbitration is in none
+by_format : (extended : Bool) (bits : List Level) (k : ℕ) → 32 < k
+    → (nat_le (layout_by extended bits).start k && nat_lt k (layout_by extended bits).arbitration) ≡ false
+by_format true bits k far = ap (λ b. nat_le 1 k && b) (le-ltb k 33 (omega arith)) ∙ never (nat_le 1 k)
+by_format false bits k far = ap (λ b. nat_le 1 k && b) (le-ltb k 13 (omega arith)) ∙ never (nat_le 1 k)
 
 module _ (head : Content) (own bits : List Level) (x : Level) (kept : bits ≡ destuffed_bits own (length own)) where
   -- what the arbitration asks, by whether a stuff bit is due
@@ -31,6 +47,14 @@ module _ (head : Content) (own bits : List Level) (x : Level) (kept : bits ≡ d
 
   pub not_lost : is_stuff own (length own) ≡ true → is_lost head (own ++ x ∷ []) (length own) ≡ false
   not_lost due = asked ∙ ap (λ s. asks s bits (before (own ++ x ∷ []) (length own)) x) due
+
+  pub past_arbitration : 32 < length bits → is_lost head (own ++ x ∷ []) (length own) ≡ false
+  past_arbitration far =
+      let last : Level = before (own ++ x ∷ []) (length own) in
+      let sent : Bool = not (is_dominant (cond (is_stuff own (length own)) (opposite last) (at (bits_of head) (length bits)))) in
+      asked
+      ∙ ap (λ (b : Bool). not (is_stuff own (length own)) && b && sent && is_dominant x) (by_format (is_extended (bits_of head)) (bits_of head) (length bits) far)
+      ∙ nowhere (not (is_stuff own (length own))) sent (is_dominant x)
 
   pub lost_is : is_stuff own (length own) ≡ false
       → is_lost head (own ++ x ∷ []) (length own) ≡ (is_arbitration (bits_of head) (length bits) && not (is_dominant (at (bits_of head) (length bits))) && is_dominant x)

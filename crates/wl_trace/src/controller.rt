@@ -1,11 +1,13 @@
 //! The machine of a node, its error counters and its queue, sample by sample.
-ghost use Rattle.std.specs.Prelude.{◌≡◌, ℕ, [], ◌∷◌, count_by, if◌then◌else◌, ◌+◌, ◌<◌, ◌≤◌, ◌^◌, ◌-◌, ◌++◌, List};
+ghost use Rattle.std.specs.Prelude.{◌≡◌, ℕ, true, false, [], ◌∷◌, count_by, if◌then◌else◌, ◌+◌, ◌<◌, ◌≤◌, ◌^◌, ◌-◌, ◌++◌, List};
 ghost use Rattle.std.specs.Option.{option_copied};
-ghost use Rattle.wl_machine.specs.Stretch.{Ended, Input};
+ghost use Rattle.wl_confine.specs.declared.Happened.{Happened};
+ghost use Rattle.wl_machine.specs.declared.state.Role.{Role};
+ghost use Rattle.wl_machine.specs.Stretch.{Ended, Input, continues};
 ghost use Rattle.wl_machine.specs.Stretch.Input.{SwitchedOff};
 ghost use Rattle.wl_machine.specs.Doing.{doing_of};
 ghost use Rattle.wl_machine.specs.States.{done_of};
-ghost use Rattle.wl_machine.specs.Judged.{drive_of, stretch_of};
+ghost use Rattle.wl_machine.specs.Judged.{drive_of, role_of, stretch_of};
 ghost use Rattle.wl_machine.specs.Reached.{IsMachine};
 ghost use Rattle.wl_node.specs.declared.setup.NodeSetup.{NodeSetup};
 ghost use Rattle.wl_node.specs.History.{is_sent, passed_frames, switched_off};
@@ -94,6 +96,20 @@ impl Controller {
         let head = head_at(setup, self.sent, quantum, level);
         let _ = self.sample(level, head);
         self.machine.doing()
+    }
+
+    /// Takes a sample of this level if nothing comes of it but that the machine has it; else returns false, and nothing changes.
+    pub(crate) fn keep(&mut self, level: Level) -> bool
+        ensures past { result ≡ true → (setup : NodeSetup) (p : SampledPast) (quantum : ℕ)
+            → IsController self.old p → IsController self.new (past_after setup p (quantum, level)) }
+        ensures judged { result ≡ true → (setup : NodeSetup) (p : SampledPast) (quantum : ℕ)
+            → IsController self.old p → judged_then setup p quantum level ≡ continues Happened.Nothing }
+        ensures receives { result ≡ true → (p : SampledPast) → IsController self.old p
+            → role_of (stretch_of p.inputs) ≡ Role.Rx }
+        ensures same { result ≡ false → (p : SampledPast) → IsController self.old p → IsController self.new p }
+        ensures sent { self.new.sent ≡ self.old.sent }
+    {
+        self.machine.keep(level)
     }
 
     /// Takes a sample of this level, with this frame to be sent next, and returns what it did.

@@ -1,8 +1,9 @@
 //! A node's machine and counters, run again over its samples.
-ghost use Rattle.std.specs.Prelude.{◌≡◌, ◌+◌, ◌<◌, ◌≤◌, ◌^◌, ◌-◌, ◌++◌, OnOk, IfOk, List};
+ghost use Rattle.std.specs.Prelude.{◌≡◌, ℕ, true, false, [], ◌+◌, ◌<◌, ◌≤◌, ◌^◌, ◌-◌, ◌++◌, OnOk, IfOk, List};
 ghost use Rattle.wl_level.specs.declared.Level.{Level};
 ghost use Rattle.wl_machine.specs.Stretch.{Input};
 ghost use Rattle.wl_machine.specs.Judged.{stretch_of};
+ghost use Rattle.wl_node.specs.declared.setup.NodeSetup.{NodeSetup};
 ghost use Rattle.wl_node.specs.History.{history_of, switched_off};
 ghost use Rattle.wl_trace.specs.Events.{events_of};
 ghost use Rattle.wl_trace.specs.Running.{KeepsStretch};
@@ -39,6 +40,42 @@ impl Replay {
 
     /// Takes the sample at which `notes` is, of this level.
     pub(crate) fn sample(
+        &mut self,
+        setup: &NodeSetup,
+        level: Level,
+        notes: &mut Notes,
+    ) -> Result<(), AllocError>
+        requires { self.old.controller.sent < 2 ^ 64 - 1 }
+        ensures past { (p : SampledPast) → IsReplay self.old p
+            → OnOk result (IsReplay self.new (past_after setup.now p (notes.old.quantum, level))) }
+        ensures notes { (p : SampledPast) → IsReplay self.old p
+            → OnOk result (Adds notes.old notes.new (then_events setup.now p notes.old.quantum level)) }
+        ensures sent { self.new.controller.sent ≤ self.old.controller.sent + 1 }
+    {
+        if self.keep(level)? {
+            return Ok(());
+        }
+        self.judge(setup, level, notes)
+    }
+
+    /// Takes a sample of this level if nothing comes of it but that the running stretch has it: nothing is noted then. Returns whether it did.
+    fn keep(&mut self, level: Level) -> Result<bool, AllocError>
+        ensures past { IfOk result (λ kept. kept ≡ true → (setup : NodeSetup) (p : SampledPast) (quantum : ℕ)
+            → IsReplay self.old p → IsReplay self.new (past_after setup p (quantum, level))) }
+        ensures none { IfOk result (λ kept. kept ≡ true → (setup : NodeSetup) (p : SampledPast) (quantum : ℕ)
+            → IsReplay self.old p → then_events setup p quantum level ≡ []) }
+        ensures same { IfOk result (λ kept. kept ≡ false → (p : SampledPast) → IsReplay self.old p → IsReplay self.new p) }
+        ensures sent { self.new.controller.sent ≡ self.old.controller.sent }
+    {
+        if !self.controller.keep(level) {
+            return Ok(false);
+        }
+        self.stretch.take(level)?;
+        Ok(true)
+    }
+
+    /// Takes such a sample, whatever comes of it.
+    fn judge(
         &mut self,
         setup: &NodeSetup,
         level: Level,

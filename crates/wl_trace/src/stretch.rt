@@ -49,6 +49,9 @@ const SUSPENSION_BITS: usize = 8;
 /// The last bit of the end of frame, by its place after all that is stuffed.
 const LAST: usize = 9;
 
+/// The last place at which the sender of any frame may lose the arbitration: an extended frame's RTR bit.
+const LAST_ARBITRATION: usize = 32;
+
 /// What a stretch is. `sends`: of a transmitter.
 #[derive(Clone, Copy)]
 pub(crate) enum StretchKind {
@@ -416,7 +419,22 @@ fn still_sends(sends: bool, lost: bool) -> bool
 }
 
 /// True if the sender of a frame loses the arbitration with a sample of this level, after these samples; `bits` of them are no stuff bits.
+/// The frame's own bits are asked for only if they decide.
 fn is_lost(frame: &Frame, own: &[Level], bits: &[Level], level: Level) -> bool
+    ensures { bits.now ≡ destuffed_bits own.now (length own.now)
+        → result ≡ is_lost frame.now (own.now ++ level ∷ []) (length own.now) }
+{
+    if !level.is_dominant() {
+        return false;
+    }
+    if bits.len() > LAST_ARBITRATION {
+        return false;
+    }
+    is_lost_to(frame, own, bits, level)
+}
+
+/// The same, from the frame's own bits.
+fn is_lost_to(frame: &Frame, own: &[Level], bits: &[Level], level: Level) -> bool
     ensures { bits.now ≡ destuffed_bits own.now (length own.now)
         → result ≡ is_lost frame.now (own.now ++ level ∷ []) (length own.now) }
 {
@@ -603,7 +621,7 @@ impl RunningStretch {
     }
 
     /// Goes on with this sample, in the same stretch.
-    fn take(&mut self, level: Level) -> Result<(), AllocError>
+    pub(crate) fn take(&mut self, level: Level) -> Result<(), AllocError>
         ensures { (s : Stretch) (x : Sampled) → KeepsStretch self.old s → x.level ≡ level → (judged s x).next ≡ None
             → OnOk result (KeepsStretch self.new (stretch_after s (Sample x))) }
     {

@@ -17,7 +17,7 @@ use Rattle.wl_trace.specs.Events.{judged_events}
 use Rattle.wl_trace.specs.Notes.{Adds}
 use Rattle.wl_trace.specs.Replay.{IsController, SampledPast, head_at, head_then, past_after, sampled_then}
 use Rattle.wl_trace.specs.Running.{ComesNext, KeepsStretch}
-use Rattle.wl_trace.proofs.replay.Replay.sample.Goals as goal
+use Rattle.wl_trace.proofs.replay.Replay.judge.Goals as goal
 
 -- the frame that is handed in is the one that the past says
 ready : (setup : NodeSetup) (p : SampledPast) (sent quantum : ℕ) (level : Level) (head : Option Content) → sent ≡ count_by is_sent p.frames
