@@ -11,3 +11,4 @@ mod Starting
 pub mod Callers
 mod Passing
 mod Kept
+mod RunOver

@@ -1,5 +1,5 @@
 -- What is kept of a node that runs again over the levels that it saw.
-use Rattle.std.specs.Prelude.{◌≡◌, ◌≤◌, ℕ, suc, List, length}
+use Rattle.std.specs.Prelude.{◌≡◌, ◌≤◌, ℕ, suc, List, ◌++◌, length, replicate}
 use Rattle.wl_level.specs.declared.Level.{Level}
 use Rattle.wl_sync.specs.declared.Beat.{Beat}
 use Rattle.wl_sync.specs.declared.Beat.TheVariants as beats
@@ -7,9 +7,11 @@ use Rattle.wl_sync.specs.Running.{clock_after}
 use Rattle.wl_node.specs.declared.setup.NodeSetup.{NodeSetup}
 use Rattle.wl_node.specs.History.{History, history_of}
 use Rattle.wl_trace.specs.declared.rerun.Rerun.{Rerun}
+use Rattle.wl_trace.specs.declared.event.Noted.{Noted}
 use Rattle.wl_trace.specs.Replay.{IsController, past_of}
 use Rattle.wl_trace.specs.Shown.{mark}
 use Rattle.wl_trace.specs.Starts.{starts_of}
+use Rattle.wl_trace.specs.Synced.{syncs_of}
 
 -- how many bits have begun, with a quantum of this beat
 abbrev pub starts_with : Beat → ℕ → ℕ
@@ -31,3 +33,9 @@ pub record IsRerun (setup : NodeSetup) (levels : List Level) (kept : Rerun) : Ty
   pub run : RunsTo kept (history_of setup levels) (length (starts_of setup levels))
   pub few : kept.controller.sent ≤ length levels
   pub fewer : kept.bits ≤ length levels
+
+-- From one node to another so many quanta of this level have run, of which the first has this number, and how their edges synchronised it was added to a list.
+pub record RunsOver (setup : NodeSetup) (quantum n : ℕ) (level : Level) (old new : Rerun) (before after : List Noted) : Type 0 where
+  pub run : (levels : List Level) → length levels ≡ quantum → IsRerun setup levels old → IsRerun setup (levels ++ replicate n level) new
+  pub syncs : (levels : List Level) → length levels ≡ quantum → IsRerun setup levels old → before ≡ syncs_of setup levels
+      → after ≡ syncs_of setup (levels ++ replicate n level)

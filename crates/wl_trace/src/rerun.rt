@@ -1,16 +1,17 @@
-//! A node that runs again over the levels that it saw, quantum by quantum and without memory.
-ghost use Rattle.std.specs.Prelude.{◌≡◌, ℕ, ◌+◌, ◌-◌, ◌<◌, ◌≤◌, ◌^◌, ◌++◌, [], ◌∷◌, List, length, min, option_map, replicate};
+//! A node that runs again over the levels that it saw, quantum by quantum.
+ghost use Rattle.std.specs.Prelude.{◌≡◌, ℕ, ◌+◌, ◌-◌, ◌<◌, ◌≤◌, ◌^◌, ◌++◌, [], ◌∷◌, List, OnOk, IfOk, length, min, option_map, replicate};
 ghost use Rattle.wl_level.specs.declared.Level.{Level};
 ghost use Rattle.wl_node.specs.declared.setup.NodeSetup.{NodeSetup};
 ghost use Rattle.wl_node.specs.History.{History, by_beat, history_of};
 ghost use Rattle.wl_trace.specs.Events.{noted};
-ghost use Rattle.wl_trace.specs.Rerun.{RunsTo, IsRerun, starts_with};
+ghost use Rattle.wl_trace.specs.Rerun.{RunsOver, RunsTo, IsRerun, starts_with};
 ghost use Rattle.wl_trace.specs.Shown.{plain_quanta, shown_of};
-ghost use Rattle.wl_trace.specs.Synced.{sync_event, sync_next, syncs_of};
+ghost use Rattle.wl_trace.specs.Synced.{sync_event, sync_next, syncs_of, with_next};
 
 use crate::controller::{Controller, head_at};
 use crate::event::{Event, Noted};
 use crate::shown::{NodeState, Shown};
+use std::alloc::AllocError;
 use wl_level::Level;
 use wl_node::NodeSetup;
 use wl_segments::Segments;
@@ -52,6 +53,33 @@ fn noted_sync(quantum: u64, bit: u64, sync: Option<Sync>) -> Option<Noted>
             event: sync_event(sync),
         }),
         None => None,
+    }
+}
+
+/// Adds an event at this quantum.
+fn push_noted(
+    events: &mut Vec<Noted>,
+    quantum: u64,
+    bit: u64,
+    event: Event,
+) -> Result<(), AllocError>
+    ensures { OnOk result (events.new.items ≡ events.old.items ++ noted quantum bit event ∷ []) }
+{
+    events.push(Noted {
+        quantum,
+        bit,
+        event,
+    })?;
+    Ok(())
+}
+
+/// Adds a synchronisation, if there is one.
+fn push_sync(syncs: &mut Vec<Noted>, sync: Option<Noted>) -> Result<(), AllocError>
+    ensures { OnOk result (syncs.new.items ≡ with_next syncs.old.items sync) }
+{
+    match sync {
+        Some(one) => push_noted(syncs, one.quantum, one.bit, one.event),
+        None => Ok(()),
     }
 }
 
@@ -143,6 +171,7 @@ impl Rerun {
             → (m : ℕ) → m ≤ result → shown_of setup (levels ++ replicate m level) ≡ shown_of setup levels }
         ensures syncs { (setup : NodeSetup) (levels : List Level) → IsRerun setup levels self.old
             → syncs_of setup (levels ++ replicate result level) ≡ syncs_of setup levels }
+        ensures few { result ≤ most }
     {
         let free = self.clock.free_quanta(level, false);
         let quanta = most.min(free as u64);
@@ -150,5 +179,51 @@ impl Rerun {
             self.clock.skip(level, quanta as u8);
         }
         quanta
+    }
+
+    /// Runs this many quanta of this level, of which the first has this number, and adds how edges synchronise it to `syncs`; `setup` is what
+    /// it was made of. Refused only if memory runs out.
+    pub fn go(
+        &mut self,
+        setup: &NodeSetup,
+        quantum: u64,
+        level: Level,
+        most: u64,
+        syncs: &mut Vec<Noted>,
+    ) -> Result<(), AllocError>
+        requires few { quantum + most < 2 ^ 64 }
+        ensures { OnOk result (RunsOver setup.now quantum most level self.old self.new syncs.old.items syncs.new.items) }
+    {
+        let mut done = 0;
+        while done < most {
+            done += self.leap(setup, quantum + done, level, most - done, syncs)?;
+        }
+        Ok(())
+    }
+
+    /// Goes over the quanta of this level that neither sample nor begin a bit, and runs one more: at least one quantum, and at most `most`.
+    /// Returns how many.
+    fn leap(
+        &mut self,
+        setup: &NodeSetup,
+        quantum: u64,
+        level: Level,
+        most: u64,
+        syncs: &mut Vec<Noted>,
+    ) -> Result<u64, AllocError>
+        requires some { 0 < most }
+        requires few { quantum + most < 2 ^ 64 }
+        ensures ran { IfOk result (λ n.
+            RunsOver setup.now quantum n level self.old self.new syncs.old.items syncs.new.items) }
+        ensures some { IfOk result (λ n. 0 < n) }
+        ensures few { IfOk result (λ n. n ≤ most) }
+    {
+        let passed = self.pass(level, most);
+        if passed == most {
+            return Ok(passed);
+        }
+        let sync = self.quantum(setup, quantum + passed, level);
+        push_sync(syncs, sync)?;
+        Ok(passed + 1)
     }
 }
