@@ -25,7 +25,7 @@ sampled_dominant r x e =
     let g : ((is_dominant x.level && not (is_dominant r.level)) && not (is_dominant r.sample)) ≡ false = and_right _ _ (ap (λ v. not (is_dominant v)) e) in
     rw g refl
 
-keeps : (b : Beat) (last : Level) → ((level : Level) → b ≡ Sample level → ⊥) → sample_after b last ≡ last
+pub keeps : (b : Beat) (last : Level) → ((level : Level) → b ≡ Sample level → ⊥) → sample_after b last ≡ last
 keeps (Sample level) last h = absurd (h level refl)
 keeps Start last h = refl
 keeps Plain last h = refl

@@ -9,6 +9,8 @@ use Rattle.wl_sync.specs.declared.Beat.{Beat}
 use Rattle.wl_sync.specs.declared.Beat.TheVariants.{Plain, Sample, Start}
 use Rattle.wl_sync.specs.Edges.{Seen}
 use Rattle.wl_sync.specs.Bits.{beat_of, sync_of}
+use Rattle.wl_sync.specs.Running.{clock_after}
+use Rattle.wl_sync.specs.Skips.{quanta_before_sample}
 use Rattle.wl_phase.specs.Ways.{ByTheBook, WayLaws, moved_to, sample_way, way_after}
 use Rattle.wl_phase.specs.Answer.{SamplesNext}
 use Rattle.wl_phase.specs.InStep.{SyncsHard, sampled_by, samples_from, seen_before}
@@ -27,6 +29,11 @@ module _ (ways : WayLaws) (l : Lengths) (book : ByTheBook l) (seen : ℕ → See
   -- the quanta before the next sample, at quantum k
   pub way : ℕ → ℕ
   way k = sample_way l (seen_before seen k)
+
+  -- by what the clock keeps
+  pub way_is : (k : ℕ) → way k ≡ quanta_before_sample (clock_after l (seen_before seen k))
+  unfolding way
+  way_is k = refl
 
   no_samples : (from n : ℕ) → ((i : ℕ) → from ≤ i → i < from + n → (level : Level) → SamplesBy l seen i level → ⊥) → samples_from l seen from n ≡ []
   no_samples from zero h = refl
@@ -54,7 +61,7 @@ module _ (ways : WayLaws) (l : Lengths) (book : ByTheBook l) (seen : ℕ → See
   unsampled_at k some level e = let o = (ways.only l (seen_before seen k) (seen k) level book e).1 in omega arith
 
   -- so many quanta later
-  later : (k n : ℕ) → ((i : ℕ) → k ≤ i → i < k + n → sync_of l (seen_before seen i) (seen i) ≡ None) → n ≤ way k → way (k + n) ≡ way k - n
+  pub later : (k n : ℕ) → ((i : ℕ) → k ≤ i → i < k + n → sync_of l (seen_before seen i) (seen i) ≡ None) → n ≤ way k → way (k + n) ≡ way k - n
   later k zero none few = (let e : k + 0 ≡ k = omega arith in ap way e) ∙ omega arith
   later k (suc n) none few =
       let before = later k n (λ i low high. none i low (omega arith)) (omega arith) in
@@ -63,7 +70,7 @@ module _ (ways : WayLaws) (l : Lengths) (book : ByTheBook l) (seen : ℕ → See
       ap way e ∙ one ∙ omega arith
 
   -- none of those before the way's end is a sample, and that one is
-  none_before : (k m : ℕ) → k + way k ≡ m → ((i : ℕ) → k ≤ i → i ≤ m → sync_of l (seen_before seen i) (seen i) ≡ None)
+  pub none_before : (k m : ℕ) → k + way k ≡ m → ((i : ℕ) → k ≤ i → i ≤ m → sync_of l (seen_before seen i) (seen i) ≡ None)
       → (i : ℕ) → k ≤ i → i < m → (level : Level) → SamplesBy l seen i level → ⊥
   none_before k m e none i low high =
       let place : k + (i - k) ≡ i = omega arith in
@@ -92,13 +99,20 @@ module _ (ways : WayLaws) (l : Lengths) (book : ByTheBook l) (seen : ℕ → See
         first = no_samples (suc (place + sample_at l)) (way (suc (place + sample_at l))) (λ i low high. none_before (suc (place + sample_at l)) (place + bit_quanta l + sample_at l) e syncs i low (omega arith));
       }
 
+  pub hard_way : (place : ℕ) → SyncsHard l seen (suc place) → way (suc (suc place)) ≡ sample_at l - 2
+  unfolding way
+  hard_way place hard = ways.way l (seen_before seen (suc place)) (seen (suc place)) book ∙ ap (way_after l (way (suc place))) hard
+
+  pub error_way : (k : ℕ) (error : ℤ) → sync_of l (seen_before seen k) (seen k) ≡ Some (Error error) → way (suc k) ≡ moved_to (sample_at l - 1) l.sjw (way k) - 1
+  unfolding way
+  error_way k error soft = ways.way l (seen_before seen k) (seen k) book ∙ ap (way_after l (way k)) soft
+
   pub hard_edge : (place : ℕ) → SyncsHard l seen (suc place) → NoneSyncs l seen (suc place) (place + sample_at l)
       → SamplesNext l seen (suc place) (place + sample_at l) (seen (place + sample_at l)).level
-  unfolding way
   hard_edge place hard none =
       let a = book.lengths.prop_low in
       let b = book.lengths.ps1_low in
-      let begin : way (suc (suc place)) ≡ sample_at l - 2 = ways.way l (seen_before seen (suc place)) (seen (suc place)) book ∙ ap (way_after l (way (suc place))) hard in
+      let begin = hard_way place hard in
       let e : suc (suc place) + way (suc (suc place)) ≡ place + sample_at l = omega arith in
       let syncs = λ (i : ℕ) (low : suc (suc place) ≤ i) (high : i ≤ place + sample_at l). none i (omega arith) high in
       record {
@@ -116,7 +130,7 @@ module _ (ways : WayLaws) (l : Lengths) (book : ByTheBook l) (seen : ℕ → See
     abbrev start : ℕ
     start = suc (place + sample_at l)
 
-    way_there : way found ≡ place + bit_quanta l + sample_at l - found
+    pub way_there : way found ≡ place + bit_quanta l + sample_at l - found
     way_there =
         let begin = after_sample (place + sample_at l) level sampled in
         let long = book.lengths.low in
@@ -124,12 +138,12 @@ module _ (ways : WayLaws) (l : Lengths) (book : ByTheBook l) (seen : ℕ → See
         let there = later start (found - start) (λ i low high. none i (omega arith) (omega arith)) (omega arith) in
         ap way (sym e) ∙ there ∙ omega arith
 
-    way_moved : way (suc found) ≡ moved_to (sample_at l - 1) l.sjw (place + bit_quanta l + sample_at l - found) - 1
+    pub way_moved : way (suc found) ≡ moved_to (sample_at l - 1) l.sjw (place + bit_quanta l + sample_at l - found) - 1
     unfolding way
     way_moved =
         ways.way l (seen_before seen found) (seen found) book ∙ ap (way_after l (way found)) soft ∙ ap (λ n. moved_to (sample_at l - 1) l.sjw n - 1) way_there
 
-    sample_there : suc found + way (suc found) ≡ new + sample_at l
+    pub sample_there : suc found + way (suc found) ≡ new + sample_at l
     sample_there =
         let long = book.lengths.low in
         let jump = book.lengths.sjw_high in
@@ -153,10 +167,10 @@ module _ (ways : WayLaws) (l : Lengths) (book : ByTheBook l) (seen : ℕ → See
     at_edge : (level : Level) → SamplesBy l seen found level → ⊥
     at_edge level e = let o = (ways.only l (seen_before seen found) (seen found) level book e).0 in cc
 
-    syncs : (i : ℕ) → suc found ≤ i → i ≤ new + sample_at l → sync_of l (seen_before seen i) (seen i) ≡ None
+    pub syncs : (i : ℕ) → suc found ≤ i → i ≤ new + sample_at l → sync_of l (seen_before seen i) (seen i) ≡ None
     syncs i low high = calm i (omega arith) high
 
-    none_of : (i : ℕ) → start ≤ i → i < new + sample_at l → (level : Level) → SamplesBy l seen i level → ⊥
+    pub none_of : (i : ℕ) → start ≤ i → i < new + sample_at l → (level : Level) → SamplesBy l seen i level → ⊥
     none_of i low high level e = elim (cases_lt i found) [
       | inl below ↦ before_edge i low below level e
       | inr from ↦ elim (cases_lt found i) [

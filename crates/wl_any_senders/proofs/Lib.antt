@@ -1,6 +1,9 @@
+mod Beginning
 mod Bounded
 mod Calm
 mod Clocked
+mod Counting
+mod Machines
 mod Measures
 mod Nearing
 mod Passing

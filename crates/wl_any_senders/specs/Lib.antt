@@ -5,3 +5,4 @@ pub mod Course
 pub mod Bounds
 pub mod Clocked
 pub mod Plans
+pub mod Machines

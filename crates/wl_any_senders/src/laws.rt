@@ -1,7 +1,11 @@
 //! Laws of several senders, each proved as the contract of a function that does nothing.
 
-ghost use Rattle.std.specs.Prelude.{◌+◌, ◌-◌, ◌<◌, ◌≤◌, ℕ, suc, true, Bool};
+ghost use Rattle.std.specs.Prelude.{◌≡◌, ◌+◌, ◌-◌, ◌<◌, ◌≤◌, ℕ, suc, true, Bool, List, Some, None};
 ghost use Rattle.wl_level.specs.declared.Level.TheVariants.{Dominant};
+ghost use Rattle.wl_frame.specs.Grammar.{Content};
+ghost use Rattle.wl_machine.specs.Frames.{stuffed_end};
+ghost use Rattle.wl_machine.specs.Stretch.{Input};
+ghost use Rattle.wl_wire.specs.InStep.{AreSoundFrames};
 ghost use Rattle.wl_segments.specs.Lengths.{Lengths, bit_quanta, sample_at};
 ghost use Rattle.wl_sync.specs.Edges.{Seen};
 ghost use Rattle.wl_phase.specs.Answer.{FindsDominant, SamplesNext};
@@ -10,12 +14,13 @@ ghost use Rattle.wl_bound.specs.Conditions.{IsSound};
 ghost use Rattle.wl_bound.specs.Families.{Bus};
 ghost use Rattle.wl_plan.specs.declared.plan.Plan.{Plan};
 ghost use Rattle.wl_any_senders.specs.Bounds.{IsBusOf};
-ghost use Rattle.wl_any_senders.specs.Clocked.{NoEdgeLaws, BitPlaceLaws};
+ghost use Rattle.wl_any_senders.specs.Clocked.{NoEdgeLaws, BitPlaceLaws, BitStartLaws, EdgeLaws};
 ghost use Rattle.wl_any_senders.specs.Plans.{IsPlanOf};
 ghost use Rattle.wl_any_senders.specs.Stations.{AreClose, AreOnALine, AreStations, HaveRoom, HaveWays, Stations};
 ghost use Rattle.wl_any_senders.specs.Starts.{AreAllowed, AreSenders, BeginBit, BeginFrame, Start};
 ghost use Rattle.wl_any_senders.specs.OneBit.{AreRight, OneBit};
 ghost use Rattle.wl_any_senders.specs.Course.{IsCourse, IsSampled};
+ghost use Rattle.wl_any_senders.specs.Machines.{AllRight, AreMachines, SomeBegins, GoesByMachines, HasWon, bus_levels};
 
 /// Law: stations that begin a frame begin it close together: the start of frame of each reaches each other one by its way after that
 /// one's own has begun, if one of the two may send. A station begins by itself if no edge has reached it. Each other one follows the
@@ -93,4 +98,52 @@ pub fn no_edge_counts_then()
 {
     wl_sync::clock_goes_on();
     wl_phase::laws::an_edge_moves_the_sample();
+}
+
+/// Law: a bit clock begins the bit that it samples next where these laws have it. That is with its place 0, if no edge moves it or the
+/// edge is late, and with the quantum that finds the edge of a hard synchronisation. By an early edge it is with the later of the two.
+pub fn a_bit_clock_begins_by_its_place()
+    ensures { BitStartLaws }
+{
+    wl_sync::clock_goes_on();
+    wl_phase::laws::an_edge_moves_the_sample();
+}
+
+/// Law: when an edge counts at a station, and what bit it makes: by what the station finds and drives after its sample of the bit before.
+/// None counts after a dominant sample. One that comes by the quantum with which a bit is due moves the bit, also at a station that drives
+/// it dominant. A later one moves it only at a station that drives recessive.
+pub fn a_station_begins_its_bits()
+    ensures { EdgeLaws }
+{
+    wl_sync::clock_goes_on();
+    wl_phase::laws::an_edge_moves_the_sample();
+}
+
+/// Law: machines that have sampled the bits of a frame as they are on the bus drive as a course asks, up to the end of the stuffed part.
+/// Whoever drives dominant still sends, and an edge comes every ten bits. Their frames differ in format, identifier or RTR bit.
+pub fn machines_drive_as_a_course_asks()
+    ensures { (s : Stations) (bits : ℕ → Start) (drove : ℕ → ℕ → Bool) (frames : ℕ → List Content)
+        (past : ℕ → ℕ → List Input) (length : ℕ) → AreSoundFrames s.count frames → AreMachines s bits drove frames past length → SomeBegins s bits
+        → (n : ℕ) → n < length → AllRight s bits drove n → stuffed_end (bus_levels s bits n) ≡ None
+        → GoesByMachines s bits drove frames past n }
+{
+    wl_wire::laws::machines_stay_in_step();
+    wl_wire::laws::the_least_field_wins();
+    wl_machine::laws::a_transmitter_sends_its_head_stuffed();
+    wl_frame::laws::a_front_of_no_stuffing_ends_six_equal_bits();
+    wl_frame::laws::ten_bits_have_an_edge();
+}
+
+/// Law: of such machines one alone still sends at the end of the stuffed part, whose frame is what was on the bus. It has the least
+/// arbitration field of all frames that began with it.
+pub fn one_frame_is_left()
+    ensures { (s : Stations) (bits : ℕ → Start) (drove : ℕ → ℕ → Bool) (frames : ℕ → List Content)
+        (past : ℕ → ℕ → List Input) (length : ℕ) → AreSoundFrames s.count frames → AreMachines s bits drove frames past length → SomeBegins s bits
+        → (n : ℕ) → n ≤ length → AllRight s bits drove n → stuffed_end (bus_levels s bits n) ≡ Some n → HasWon s bits frames n }
+{
+    wl_wire::laws::machines_stay_in_step();
+    wl_wire::laws::the_least_field_wins();
+    wl_machine::laws::a_transmitter_sends_its_head_stuffed();
+    wl_frame::laws::a_front_of_no_stuffing_ends_six_equal_bits();
+    wl_frame::laws::ten_bits_have_an_edge();
 }

@@ -12,3 +12,4 @@ mod Passages
 mod FramePassages
 mod Lengths
 mod Run
+pub mod Callers

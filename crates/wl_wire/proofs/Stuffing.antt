@@ -113,11 +113,11 @@ no_loss false true Dominant = refl
 no_loss false true Recessive = refl
 no_loss false false b = refl
 
-end_there : (t : Bool) (n : ℕ) → or_all (or_at None t n) n ≡ n
+pub end_there : (t : Bool) (n : ℕ) → or_all (or_at None t n) n ≡ n
 end_there true n = refl
 end_there false n = refl
 
-end_is : (t : Bool) (n m : ℕ) → or_at None t n ≡ Some m → n ≡ m
+pub end_is : (t : Bool) (n m : ℕ) → or_at None t n ≡ Some m → n ≡ m
 end_is true n m e = cc
 end_is false n m e = cc
 
