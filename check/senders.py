@@ -4,12 +4,17 @@
     senders.py search RUNS SEED [LEFT]    plays 2 to 5 stations on buses that keep the condition, half of them at its border; or, with LEFT
                                           (early_fits, late_fits, is_there, loops or not_early), on buses that break that inequality alone. Says how
                                           many frames were played, bits sampled and starts compared, and how many were refused
+    senders.py answer RUNS SEED [LEFT]    the same up to the end of the frame, with its acknowledgement, on buses that have room for one; LEFT is one
+                                          of these, or chase, which counts one edge less in which a station catches up
 
 A station is a bit clock of check/phase.py and a list of bits to send, or none. It begins its start of frame at the first bit that begins
 once it is ready, or with the first edge. It sends on as long as it samples what it sends.
 
 The claim. Each station samples each bit as it is on the bus. Each bit begins at each station by itself, or by the first edge, as
 specs/Starts.antt has it. Any two stations are close, as specs/Stations.antt has it, if one of them still sends.
+
+The claim of an acknowledgement. One sender is left, and all others drive the ACK slot dominant. It is sampled dominant by all, each bit before
+and after it recessive, and any two stations are as close as specs/Acknowledged.antt has it.
 """
 import random
 import sys
@@ -79,6 +84,43 @@ class Bus:
         nodes = range(self.count)
         self.delay = [[self.out[i] + abs(self.place[i] - self.place[k]) * times + self.into[k] for k in nodes] for i in nodes]
 
+    def any_way(self, k, i):
+        """How long after its own the bit of station i reaches station k at most, if both follow any edges, or k begins by itself."""
+        return self.delay[k][i] + self.delay[i][k] + max(0, quantum(self.clocks[k]) + 1 - self.delay[k][k])
+
+    def chase(self, k, winner):
+        """In how many edges station k catches up with the winner; None if it needn't ever."""
+        short = max(Fraction(0), quantum(self.clocks[winner]) - self.delay[winner][winner])
+        far = way(self, k, winner) + short - quantum(self.clocks[k])
+        gain = self.lengths[k][3] * quantum(self.clocks[k]) - 10 * drift(self, winner, k)
+        if gain <= 0: return 0 if far <= 0 else None
+        return max(0, -int(-far // gain) - 1)
+
+    def chased_way(self, chase, k, i):
+        """How long after its own the bit of station i reaches station k at most, if k catches up in so many edges."""
+        jumps = [self.lengths[w][3] * quantum(self.clocks[w]) for w in (i, k)]
+        return self.any_way(k, i) + chase[k] * (10 * drift(self, i, k) + max(Fraction(0), jumps[0] - jumps[1]))
+
+    def chases(self, winner):
+        return [0 if k == winner else self.chase(k, winner) for k in range(self.count)]
+
+    def answers_broken(self, winner):
+        """The inequalities of an acknowledgement that some pair breaks."""
+        found = set()
+        chase = self.chases(winner)
+        if None in chase: return {"catch"}
+        for i in range(self.count):
+            mine = quantum(self.clocks[i])
+            if self.delay[i][i] > sample_of(self.lengths[i]) * mine: found.add("loops")
+            for k in range(self.count):
+                if i == k: continue
+                early = self.chased_way(chase, k, i) + 10 * drift(self, i, k) - self.delay[i][k] - self.delay[k][i]
+                if early > self.lengths[i][3] * mine: found.add("early_fits")
+                if 10 * drift(self, k, i) > self.lengths[i][3] * mine: found.add("late_fits")
+                if self.chased_way(chase, i, k) + 10 * drift(self, k, i) > sample_of(self.lengths[i]) * mine: found.add("is_there")
+                if early + 1 > self.lengths[i][2] * mine: found.add("not_early")
+        return found
+
     def broken(self):
         """The inequalities that some pair breaks."""
         found = set()
@@ -96,24 +138,24 @@ class Bus:
         return found
 
 
-def draw(rng, left):
+def draw(rng, left, broken_of=lambda bus: bus.broken()):
     while True:
         bus = Bus(rng)
-        broken = bus.broken()
+        broken = broken_of(bus)
         if broken - {left}: continue
         if left is None or left == "is_there":
             low, times = 1, 1
-            while times < 4096 and not bus.broken() and max(map(max, bus.delay)) < 250 * quantum(bus.clocks[0]):
+            while times < 4096 and not broken_of(bus) and max(map(max, bus.delay)) < 250 * quantum(bus.clocks[0]):
                 low, times = times, times * 2
                 bus.stretch(times)
             high = times
             while high - low > 1:
                 middle = (low + high) // 2
                 bus.stretch(middle)
-                low, high = (low, middle) if bus.broken() else (middle, high)
+                low, high = (low, middle) if broken_of(bus) else (middle, high)
             if left is None: bus.stretch(low if rng.random() < 0.5 else 1)
             else: bus.stretch(high + rng.randint(0, high))
-            broken = bus.broken()
+            broken = broken_of(bus)
         if broken == ({left} if left else set()): return bus
 
 
@@ -128,9 +170,10 @@ def stuffed(rng):
 
 
 class Station:
-    def __init__(self, bus, i, ready, bits):
+    def __init__(self, bus, i, ready, bits, slot=None):
+        self.slot = slot
         self.clock, self.lengths, self.state = bus.clocks[i], bus.lengths[i], phase.at_first(bus.lengths[i])
-        self.k, self.ready, self.bits, self.sends = 0, ready, bits, False
+        self.k, self.ready, self.bits, self.sends, self.sent = 0, ready, bits, False, False
         self.samples, self.changes, self.drives = [], [], False
         self.place, self.start, self.begun = [], [], False
 
@@ -147,12 +190,13 @@ class Station:
         if starts and idle and not self.begun:
             decided = self.bits is not None and self.k >= self.ready
             if found == "hard" or decided:
-                self.begun, self.sends = True, decided
+                self.begun = True
+                self.sends = self.sent = decided
                 self.start.append(self.k)
                 if decided: self.drive(now, True)
         elif starts and not idle:
             self.start.append(self.k)
-            self.drive(now, self.sends and self.bit(len(self.samples)))
+            self.drive(now, not self.sends if len(self.samples) == self.slot else self.sends and self.bit(len(self.samples)))
         if sample is not None and self.begun:
             n = len(self.samples)
             self.samples.append(sample)
@@ -168,8 +212,8 @@ class Station:
             self.changes.append((now, level))
 
 
-def play(bus, stations):
-    while any(len(s.samples) < BITS + 1 for s in stations):
+def play(bus, stations, samples=BITS + 1):
+    while any(len(s.samples) < samples for s in stations):
         now = min(tick(s.clock, s.k) for s in stations)
         due = [i for i, s in enumerate(stations) if tick(s.clock, s.k) == now]
         levels = [any(now >= bus.delay[k][i] and s.drove(now - bus.delay[k][i]) for k, s in enumerate(stations)) for i in due]
@@ -217,6 +261,89 @@ def compare(bus, stations, counts):
     return None
 
 
+def starts_soft(bus, stations, drives, n, i):
+    """Whether station i begins its bit n by itself, or by the first edge that reaches it."""
+    due, place, start = stations[i].place[n - 1] + bit_of(bus.lengths[i]), stations[i].place[n], stations[i].start[n]
+    arrivals = [tick(bus.clocks[k], stations[k].start[n]) + bus.delay[k][i] for k in range(bus.count) if drives[k] and k != i]
+    if drives[i] and place == due == start and all(tick(bus.clocks[i], place) < a for a in arrivals): return True
+    if not arrivals: return False
+    found = finds(bus.clocks[i], min(arrivals))
+    return place == moved_to(found - 1, bus.lengths[i][3], due) and (not drives[i] or (found <= due and place <= start <= place + 1 and found <= start))
+
+
+def compare_answer(bus, stations, length, counts, winner, chase):
+    """What is refused: None, a word if the frame isn't one that is acknowledged, or what is wrong."""
+    nodes = range(bus.count)
+    sends, before, since, far = [s.sent for s in stations], False, 0, []
+    bits = []
+    for n in range(length):
+        drives = [sends[i] and stations[i].bits[n] for i in nodes]
+        bit = any(drives)
+        since = 0 if n == 0 or (bit and not before) else since + 1
+        if bit: sends = [sends[i] and drives[i] for i in nodes]
+        bits.append(bit)
+        far.append(since)
+        before = bit
+    if [k for k in nodes if sends[k]] != [winner] or since > 8 or max(far) > 9: return "skipped"
+    bits += [False, True] + [False] * 9
+    far += [since + 1] + list(range(10))
+    for n, bit in enumerate(bits):
+        for i in nodes:
+            counts["samples"] += 1
+            if stations[i].samples[n] != bit: return f"sample {n} of {i}"
+    for i in nodes:
+        for n in range(length, length + 11):
+            counts["starts"] += 1
+            old, due = stations[i].place[n - 1], stations[i].place[n - 1] + bit_of(bus.lengths[i])
+            if not old + sample_of(bus.lengths[i]) < stations[i].start[n]: return f"start {n} of {i} before its sample"
+            if n != length + 1 and not stations[i].place[n] == due == stations[i].start[n]: return f"place {n} of {i}"
+            if n == length + 1 and not starts_soft(bus, stations, [k != winner for k in nodes], n, i): return f"start {n} of {i}"
+        for k in nodes:
+            if i == k: continue
+            for n in range(length + 11):
+                gap = bus.chased_way(chase, k, i) + far[n] * drift(bus, i, k)
+                if not instant(bus.clocks[i], stations[i].place[n]) + bus.delay[i][k] < instant(bus.clocks[k], stations[k].place[n]) + gap: return f"{i} and {k} in bit {n}"
+            if not tick(bus.clocks[i], stations[i].place[length] + sample_of(bus.lengths[i])) < tick(bus.clocks[k], stations[k].start[length + 1]) + bus.delay[k][i]: return f"{k} early for {i}"
+    return None
+
+
+def answer(runs, seed, left):
+    random.seed(seed)
+    rng = random
+    counts = {"frames": 0, "samples": 0, "starts": 0, "refused": 0}
+    none = set() if left in (None, "chase") else {left}
+    while counts["frames"] < runs:
+        length = rng.choice([8, 12, 20, 40, 58])
+        bits = stuffed(rng)
+        winner = 0
+        bus = draw(rng, None if left == "chase" else left, lambda bus: bus.answers_broken(0) | (bus.broken() if bus.may[0] and left != "loops" else set()))
+        if not bus.may[0] or (left and left != "loops" and bus.broken()): continue
+        chase = bus.chases(0)
+        if left == "chase":
+            if not any(chase): continue
+            chase = [max(0, c - 1) for c in chase]
+        wanted = [i for i in range(bus.count) if bus.may[i] and (i == 0 or rng.random() < 0.9)]
+        around = rng.choice([1, 1, 3, 40])
+        first = rng.randrange(1, length)
+        stations = []
+        for i in range(bus.count):
+            sent = list(bits)
+            if i != 0:
+                at = rng.choice([n for n in range(first, length) if bits[n]] or [0])
+                sent[at] = at == 0
+            ready = 14 * bit_of(bus.lengths[i]) + rng.randint(0, around * bit_of(bus.lengths[i])) if i in wanted else 0
+            stations.append(Station(bus, i, ready, sent[:length] if i in wanted else None, length + 1))
+        try: play(bus, stations, length + 12)
+        except (AssertionError, IndexError) as fault: wrong = str(fault)
+        else: wrong = compare_answer(bus, stations, length, counts, winner, chase)
+        if wrong == "skipped": continue
+        counts["frames"] += 1
+        if wrong:
+            counts["refused"] += 1
+            if left is None: print(wrong, length, bits[:length], bus.lengths, bus.clocks, bus.delay, [(s.ready, s.bits is not None) for s in stations])
+    print(" ".join(f"{name} {count}" for name, count in counts.items()))
+
+
 def search(runs, seed, left):
     random.seed(seed)
     rng = random
@@ -248,5 +375,5 @@ def search(runs, seed, left):
 
 
 if __name__ == "__main__":
-    if len(sys.argv) < 4 or sys.argv[1] != "search": sys.exit(__doc__)
-    search(int(sys.argv[2]), int(sys.argv[3]), sys.argv[4] if len(sys.argv) > 4 else None)
+    if len(sys.argv) < 4 or sys.argv[1] not in ("search", "answer"): sys.exit(__doc__)
+    (search if sys.argv[1] == "search" else answer)(int(sys.argv[2]), int(sys.argv[3]), sys.argv[4] if len(sys.argv) > 4 else None)

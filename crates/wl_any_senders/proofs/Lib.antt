@@ -1,4 +1,6 @@
 mod Beginning
+mod AckWays
+mod Acks
 mod Bounded
 mod Calm
 mod Clocked

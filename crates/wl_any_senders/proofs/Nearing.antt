@@ -13,23 +13,23 @@ use Rattle.wl_any_senders.proofs.Starting.{IsAhead, followed, alone}
 stays_above : (aim jump n : ℕ) → aim < moved_to aim jump n → n ≡ moved_to aim jump n + jump
 stays_above aim jump n h = omega arith
 
-stays_below : (aim jump n : ℕ) → moved_to aim jump n < aim → moved_to aim jump n ≡ n + jump
+pub stays_below : (aim jump n : ℕ) → moved_to aim jump n < aim → moved_to aim jump n ≡ n + jump
 stays_below aim jump n h = omega arith
 
 moves_down : (aim jump n : ℕ) → aim ≤ n → moved_to aim jump n ≤ n
 moves_down aim jump n h = omega arith
 
-few_of : (m d : ℕ) → m ≤ 10 → m * d ≤ 10 * d
+pub few_of : (m d : ℕ) → m ≤ 10 → m * d ≤ 10 * d
 few_of m d h = mul-le-mul_right d h
 
 module _ (s : Stations) (are : AreStations s) (room : HaveRoom s) (sends : ℕ → Bool) (since : ℕ) (few : since ≤ 10) (b : Start)
     (close : AreClose s sends since b.due) (senders : AreSenders s sends b) (allowed : AreAllowed s b.drives) (begin : BeginBit s b) where
   -- a station that drives the bit does so from its place 0 on, or later, and its bit was due no earlier
-  from_by : (i : ℕ) → BeginsAlone s b i ⊎ FollowsSoft s b i → b.drives i ≡ true → b.place i ≤ b.from i
+  pub from_by : (i : ℕ) → BeginsAlone s b i ⊎ FollowsSoft s b i → b.drives i ≡ true → b.place i ≤ b.from i
   from_by i (inl itself) dominant = let e = itself.from in omega arith
   from_by i (inr soft) dominant = soft.from_low dominant
 
-  due_by : (i : ℕ) → BeginsAlone s b i ⊎ FollowsSoft s b i → b.drives i ≡ true → b.place i ≤ b.due i
+  pub due_by : (i : ℕ) → BeginsAlone s b i ⊎ FollowsSoft s b i → b.drives i ≡ true → b.place i ≤ b.due i
   due_by i (inl itself) dominant = let e = itself.place in omega arith
   due_by i (inr soft) dominant =
       let e = soft.place in
@@ -105,7 +105,7 @@ module _ (s : Stations) (are : AreStations s) (room : HaveRoom s) (sends : ℕ �
     | inr near ↦ near_ahead i k inside drives soft near
   ]
 
-  ahead_by : (i k : ℕ) → i < s.count → Drives s b i k → BeginsAlone s b i ⊎ FollowsSoft s b i → IsAhead s are b allowed i k
+  pub ahead_by : (i k : ℕ) → i < s.count → Drives s b i k → BeginsAlone s b i ⊎ FollowsSoft s b i → IsAhead s are b allowed i k
   ahead_by i k inside drives (inl itself) = alone_ahead i k inside drives itself
   ahead_by i k inside drives (inr soft) = soft_ahead i k inside drives soft
 

@@ -1,5 +1,5 @@
 -- The bits of a frame, one after another: all sample each as it is on the bus, and who still sends is close to all.
-use Rattle.std.proofs.Common.{◌≡◌, ◌∙◌, ◌⊎◌, inl, inr, refl, sym, ap, subst, ℕ, zero, suc, ◌+◌, ◌-◌, ◌<◌, ◌≤◌, ◌&&◌, ◌||◌, not, cond, Bool, true, false, arith}
+use Rattle.std.proofs.Common.{◌≡◌, ◌∙◌, ◌⊎◌, inl, inr, refl, sym, ap, subst, ℕ, zero, suc, ◌+◌, ◌-◌, ◌<◌, ◌≤◌, ◌||◌, not, cond, Bool, true, false, arith}
 use Rattle.std.proofs.lemmas.Bool.{cases_lt, cases_Bool, and_parts, and_from, or_cases, or_left}
 use Rattle.wl_segments.specs.Lengths.{bit_quanta, sample_at}
 use Rattle.wl_topology.specs.Driven.{DrivenLaws}
@@ -24,7 +24,7 @@ fewer s sends less since place h close i k inside there other some = close i k i
     either (inr theirs) = inr (h k there theirs)
 
 -- the same places
-same_places : (s : Stations) (sends : ℕ → Bool) (since : ℕ) (place new : ℕ → ℕ) → ((i : ℕ) → i < s.count → new i ≡ place i) → AreClose s sends since place → AreClose s sends since new
+pub same_places : (s : Stations) (sends : ℕ → Bool) (since : ℕ) (place new : ℕ → ℕ) → ((i : ℕ) → i < s.count → new i ≡ place i) → AreClose s sends since place → AreClose s sends since new
 same_places s sends since place new h close i k inside there other some =
     subst (λ n. ReachesBy s since i k n (new k)) (sym (h i inside))
     (subst (λ p. ReachesBy s since i k (place i) p) (sym (h k there)) (close i k inside there other some))
@@ -32,6 +32,13 @@ same_places s sends since place new h close i k inside there other some =
 -- the sample isn't moved back before the one a bit earlier
 moves_up : (aim jump n old bit : ℕ) → n ≡ old + bit → jump ≤ bit → old ≤ moved_to aim jump n
 moves_up aim jump n old bit e h = omega arith
+
+-- how a bit with an edge begins at a station
+pub begun_by : (s : Stations) (are : AreStations s) (b : Start) (k : ℕ) → k < s.count → BeginsAlone s b k ⊎ FollowsSoft s b k
+    → (b.from k ≡ b.place k) ⊎ ((w : ℕ) × Drives s b k w × (b.drives k ≡ true → reaches_at s b w k ≤ steady_tick (s.clocks k) (b.from k)))
+begun_by s are b k there (inl itself) = inl itself.from
+begun_by s are b k there (inr soft) =
+    inr (soft.by, soft.finds.by, (λ e. (let seen = soft.finds.finds.seen in let up = tick_next s are k there soft.found (b.from k) (soft.not_before e) in omega arith)))
 
 module _ (s : Stations) (are : AreStations s) (room : HaveRoom s) (bits : ℕ → Start) (drove : ℕ → ℕ → Bool) (length : ℕ) (until : ℕ → ℕ)
     (is : IsCourse s bits drove length until) (laws : DrivenLaws) where
@@ -58,10 +65,10 @@ module _ (s : Stations) (are : AreStations s) (room : HaveRoom s) (bits : ℕ �
     pub lost : (i k : ℕ) → i < s.count → k < s.count → (bits 0).drives k ≡ true → sends n k ≡ false → IsHeld n i k (until k)
 
   -- who sends still
-  sent_before : (n k : ℕ) → sends (suc n) k ≡ true → sends n k ≡ true
+  pub sent_before : (n k : ℕ) → sends (suc n) k ≡ true → sends n k ≡ true
   sent_before n k e = (and_parts (sends n k) ((bits n).drives k || not (bus_bit s bits n)) e).0
 
-  sent_as : (n k : ℕ) → bus_bit s bits n ≡ true → sends (suc n) k ≡ true → (bits n).drives k ≡ true
+  pub sent_as : (n k : ℕ) → bus_bit s bits n ≡ true → sends (suc n) k ≡ true → (bits n).drives k ≡ true
   sent_as n k bus e = elim (or_cases ((bits n).drives k) (not (bus_bit s bits n)) (and_parts (sends n k) ((bits n).drives k || not (bus_bit s bits n)) e).1) [
     | inl drives ↦ drives
     | inr recessive ↦ (let f : not (bus_bit s bits n) ≡ false = ap not bus in cc)
@@ -76,7 +83,7 @@ module _ (s : Stations) (are : AreStations s) (room : HaveRoom s) (bits : ℕ �
     | inr recessive ↦ recessive
   ]
 
-  allowed_at : (n k : ℕ) → k < s.count → sends n k ≡ true → s.may_send k ≡ true
+  pub allowed_at : (n k : ℕ) → k < s.count → sends n k ≡ true → s.may_send k ≡ true
   allowed_at zero k there e = is.allowed k there e
   allowed_at (suc n) k there e = allowed_at n k there (sent_before n k e)
 
@@ -102,17 +109,11 @@ module _ (s : Stations) (are : AreStations s) (room : HaveRoom s) (bits : ℕ �
             let f : steady_tick (s.clocks k) ((bits 0).from k) ≡ steady_tick (s.clocks k) hard.found = ap (steady_tick (s.clocks k)) hard.from in omega arith)),
       )
 
-  begun_by : (b : Start) (k : ℕ) → k < s.count → BeginsAlone s b k ⊎ FollowsSoft s b k
-      → (b.from k ≡ b.place k) ⊎ ((w : ℕ) × Drives s b k w × (b.drives k ≡ true → reaches_at s b w k ≤ steady_tick (s.clocks k) (b.from k)))
-  begun_by b k there (inl itself) = inl itself.from
-  begun_by b k there (inr soft) =
-      inr (soft.by, soft.finds.by, (λ e. (let seen = soft.finds.finds.seen in let up = tick_next s are k there soft.found (b.from k) (soft.not_before e) in omega arith)))
-
   begun_at : (n k : ℕ) → n < length → k < s.count → ((i : ℕ) → i < s.count → RightUpTo s bits drove n i)
       → ((bits n).from k ≡ (bits n).place k) ⊎ ((w : ℕ) × Drives s (bits n) k w × ((bits n).drives k ≡ true → reaches_at s (bits n) w k ≤ steady_tick (s.clocks k) ((bits n).from k)))
   begun_at zero k less there right = begun_first k (is.begin k there)
   begun_at (suc n) k less there right = elim (cases_Bool (begins_with_edge s bits (suc n))) [
-    | inl edge ↦ begun_by (bits (suc n)) k there (is.edge n less right edge k there)
+    | inl edge ↦ begun_by s are (bits (suc n)) k there (is.edge n less right edge k there)
     | inr plain ↦ inl (is.plain n k less there right plain).1
   ]
 
@@ -182,22 +183,22 @@ module _ (s : Stations) (are : AreStations s) (room : HaveRoom s) (bits : ℕ �
     sampled : AreRight s (bits n) drove
     sampled = right_at n (omega arith) r
 
-    right : (i : ℕ) → i < s.count → RightUpTo s bits drove (suc n) i
+    pub right : (i : ℕ) → i < s.count → RightUpTo s bits drove (suc n) i
     right i inside = up_to n r i inside (sampled i inside)
 
     -- places if no edge comes
-    close_due : AreClose s (sends (suc n)) (suc (since n)) (bits (suc n)).due
+    pub close_due : AreClose s (sends (suc n)) (suc (since n)) (bits (suc n)).due
     close_due =
         same_places s (sends (suc n)) (suc (since n)) (λ i. (bits n).place i + bit_quanta (s.lengths i)) (bits (suc n)).due (λ i inside. is.due n i inside)
         (λ i k inside there other some. drifted s (since n) i k ((bits n).place i) ((bits n).place k) (r.close i k inside there other some))
 
-    few_due : suc (since n) ≤ 10
+    pub few_due : suc (since n) ≤ 10
     few_due = let few = is.few n (omega arith) in omega arith
 
     since_next : begins_with_edge s bits (suc n) ≡ true → since (suc n) ≡ 0
     since_next e = ap (λ b. cond b 0 (suc (since n))) e
 
-    since_more : begins_with_edge s bits (suc n) ≡ false → since (suc n) ≡ suc (since n)
+    pub since_more : begins_with_edge s bits (suc n) ≡ false → since (suc n) ≡ suc (since n)
     since_more e = ap (λ b. cond b 0 (suc (since n))) e
 
     close_plain : begins_with_edge s bits (suc n) ≡ false → AreClose s (sends (suc n)) (since (suc n)) (bits (suc n)).place
@@ -205,10 +206,10 @@ module _ (s : Stations) (are : AreStations s) (room : HaveRoom s) (bits : ℕ �
         subst (λ m. AreClose s (sends (suc n)) m (bits (suc n)).place) (sym (since_more e))
         (same_places s (sends (suc n)) (suc (since n)) (bits (suc n)).due (bits (suc n)).place (λ i inside. (is.plain n i less inside right e).0) close_due)
 
-    sent_next : (k : ℕ) → k < s.count → (bits (suc n)).drives k ≡ true → sends (suc n) k ≡ true
+    pub sent_next : (k : ℕ) → k < s.count → (bits (suc n)).drives k ≡ true → sends (suc n) k ≡ true
     sent_next k there e = is.senders (suc n) k (omega arith) there (right k there) e
 
-    senders_next : AreSenders s (sends (suc n)) (bits (suc n))
+    pub senders_next : AreSenders s (sends (suc n)) (bits (suc n))
     senders_next k there e = sent_next k there e
 
     close_edge : begins_with_edge s bits (suc n) ≡ true → AreClose s (sends (suc (suc n))) (since (suc n)) (bits (suc n)).place
@@ -301,7 +302,7 @@ module _ (s : Stations) (are : AreStations s) (room : HaveRoom s) (bits : ℕ �
       ];
     }
 
-  reached : (n : ℕ) → n < length → Reached n
+  pub reached : (n : ℕ) → n < length → Reached n
   reached zero less = first less
   reached (suc n) less = next n less (reached n (omega arith))
 

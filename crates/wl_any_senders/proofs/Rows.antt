@@ -5,6 +5,7 @@ use Rattle.wl_segments.specs.Lengths.{Lengths}
 use Rattle.wl_clock.specs.Timing.{tick_of}
 use Rattle.wl_phase.specs.Clocks.{Steady}
 use Rattle.wl_any_senders.specs.Stations.{Stations, shared_tick, shared_quantum, shared_instant, bit_drift}
+use Rattle.wl_any_senders.specs.Acknowledged.{any_way, chased_way, jump_gap}
 use Rattle.wl_any_senders.specs.Bounds.{bus_way, following_way}
 use Rattle.wl_any_senders.specs.Starts.{Start, reaches_at}
 
@@ -76,3 +77,13 @@ own = refl
 
 their : shared_instant s 1 0 19 ≡ 413
 their = refl
+
+-- Between any two a look comes on top, of a quantum and a tick but for its own loop of 4 ticks. Two jumps of station 1 are a tick longer, and ten bits drift 50 ticks apart.
+any : any_way s 0 1 ≡ 50
+any = refl
+
+longer : jump_gap s 1 0 ≡ 2
+longer = refl
+
+in_two_edges : chased_way s (λ k. 2) 0 1 ≡ 254
+in_two_edges = refl

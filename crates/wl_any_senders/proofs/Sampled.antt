@@ -13,7 +13,7 @@ use Rattle.wl_any_senders.specs.OneBit.{OneBit, AreRight, IsRight, sampled_at}
 use Rattle.wl_any_senders.proofs.Measures.{same_tick, instant_more, reaches_by, ticks_before, tick_next}
 
 -- none passes where no number below n does
-none_below : (n : ℕ) (test : ℕ → Bool) → any_below n test ≡ false → (k : ℕ) → k < n → test k ≡ false
+pub none_below : (n : ℕ) (test : ℕ → Bool) → any_below n test ≡ false → (k : ℕ) → k < n → test k ≡ false
 none_below n test e k less = false_from_ne_true (test k) (λ passes. (let some = any_from n k test less passes in cc))
 
 module _ (s : Stations) (are : AreStations s) (room : HaveRoom s) (sends : ℕ → Bool) (since : ℕ) (few : since ≤ 9) (b : Start) (allowed : AreAllowed s sends) (close : AreClose s sends since b.place) where
@@ -74,7 +74,7 @@ module _ (s : Stations) (are : AreStations s) (room : HaveRoom s) (sends : ℕ �
       ticks_before s are i k inside there (b.place i + sample_at (s.lengths i)) (c.from k) (s.delay k i) (omega arith)
 
   -- whose samples come before that of i, those are right
-  abbrev RightBefore : ℕ → Type 0
+  abbrev pub RightBefore : ℕ → Type 0
   RightBefore i = (w : ℕ) → w < s.count → sampled_at s b w < sampled_at s b i → IsRight s b drove w
 
   -- from one whose edge it follows
@@ -97,7 +97,7 @@ module _ (s : Stations) (are : AreStations s) (room : HaveRoom s) (sends : ℕ �
             omega arith)
       ]
 
-  next_later : (n i k : ℕ) → i < s.count → k < s.count → RightBefore i → sends k ≡ true → steady_tick (s.clocks k) (c.from k) < n → sampled_at s b i < reaches_at s c k i
+  pub next_later : (n i k : ℕ) → i < s.count → k < s.count → RightBefore i → sends k ≡ true → steady_tick (s.clocks k) (c.from k) < n → sampled_at s b i < reaches_at s c k i
   next_later zero i k inside there right sender less = absurd (omega arith)
   next_later (suc n) i k inside there right sender less = elim (cases_eq k i) [
     | inl own ↦

@@ -6,3 +6,4 @@ pub mod Bounds
 pub mod Clocked
 pub mod Plans
 pub mod Machines
+pub mod Acknowledged

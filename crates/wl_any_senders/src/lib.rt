@@ -4,4 +4,5 @@
 //! synchronisation).
 #![tactic(auto)]
 
+pub mod ack;
 pub mod laws;
