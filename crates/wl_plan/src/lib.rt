@@ -2,6 +2,7 @@
 #![tactic(auto)]
 
 mod check;
+mod checked;
 mod grouping;
 mod guess;
 mod laws;
@@ -9,6 +10,7 @@ mod limits;
 mod plan;
 
 pub use check::PlanFault;
+pub use checked::CheckedPlan;
 pub use grouping::{Grouping, GroupingFault, MOST_GROUPS};
 pub use guess::a_consistent_guess_holds;
 pub use laws::{
