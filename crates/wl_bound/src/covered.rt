@@ -1,27 +1,24 @@
 //! Which plans the law on one sender covers.
 ghost use Rattle.std.specs.Prelude.{◌≡◌, ◌<◌, ◌≤◌, length};
-ghost use Rattle.wl_plan.specs.Checked.{IsChecked};
 ghost use Rattle.wl_bound.specs.Covered.{finds_one_busy, is_covered, is_uncovered};
 
-use crate::verdict::{idle_at, is_ready_from, listens, setup};
-use wl_plan::Plan;
+use crate::verdict::{idle_at, is_ready_from, listens};
+use wl_plan::CheckedPlan;
 
 /// True if some other node isn't idle yet when the first frame of node `i` becomes ready.
-fn finds_one_busy(plan: &Plan, i: u8) -> bool
-    requires checked { IsChecked plan.now }
+fn finds_one_busy(plan: &CheckedPlan, i: u8) -> bool
     requires node { i < length plan.now.nodes }
     ensures { result ≡ finds_one_busy plan.now i }
 {
     let mut finds = false;
-    for j in 0..plan.topology.nodes() {
-        finds = finds || j != i && !is_ready_from(setup(plan, i), idle_at(setup(plan, j)));
+    for j in 0..plan.nodes() {
+        finds = finds || j != i && !is_ready_from(plan.node(i), idle_at(plan.node(j)));
     }
     finds
 }
 
 /// True if the law says nothing of a plan for the sake of node `i`: that one only listens, or has a frame before all others are idle.
-fn is_uncovered(plan: &Plan, i: u8) -> bool
-    requires checked { IsChecked plan.now }
+fn is_uncovered(plan: &CheckedPlan, i: u8) -> bool
     requires two { 2 ≤ length plan.now.nodes }
     requires node { i < length plan.now.nodes }
     ensures { result ≡ is_uncovered plan.now i }
@@ -33,15 +30,14 @@ fn is_uncovered(plan: &Plan, i: u8) -> bool
 /// frame of each node becomes ready when all others are idle.
 ///
 /// The ticks are the plan's own, with its offsets.
-pub fn is_covered(plan: &Plan) -> bool
-    requires { IsChecked plan.now }
+pub fn is_covered(plan: &CheckedPlan) -> bool
     ensures { result ≡ is_covered plan.now }
 {
-    if plan.nodes.len() < 2 || plan.disturbances.len() > 0 {
+    if plan.nodes() < 2 || plan.disturbances.len() > 0 {
         return false;
     }
     let mut uncovered = false;
-    for i in 0..plan.topology.nodes() {
+    for i in 0..plan.nodes() {
         uncovered = uncovered || is_uncovered(plan, i);
     }
     !uncovered

@@ -1,6 +1,5 @@
 //! Families of buses: what of a plan the condition is about.
 ghost use Rattle.std.specs.Prelude.{◌≡◌, ◌≢◌, ◌^◌, ◌<◌, ◌≤◌, ◌++◌, length, IfOk, OnOk};
-ghost use Rattle.wl_plan.specs.Checked.{IsChecked};
 ghost use Rattle.wl_bound.specs.Families.{Buses, IsFamily, bus_of, changed, delay_in, family_of, lengths_in, longest_in, member_at, member_of, members_of, only_listens, sends_in, shortest_in, turns_in, units, way_between};
 
 use crate::oscillator::Oscillator;
@@ -8,7 +7,7 @@ use std::alloc::{AllocError, Global};
 use std::marker::Model;
 use wl_level::Listed;
 use wl_node::NodeSetup;
-use wl_plan::Plan;
+use wl_plan::CheckedPlan;
 use wl_segments::{Segments, SegmentsFault};
 use wl_topology::Topology;
 
@@ -99,10 +98,9 @@ impl Family {
     /// Returns the family of a plan and of the oscillators of its nodes. Refused only when out of memory.
     pub fn of_plan(
         alloc: Global,
-        plan: &Plan,
+        plan: &CheckedPlan,
         oscillators: &[Oscillator],
     ) -> Result<Family, AllocError>
-        requires checked { IsChecked plan.now }
         requires one_each { length oscillators.now ≡ length plan.now.nodes }
         ensures { IfOk result (λ family. family ≡ family_of plan.now oscillators.now) }
     {

@@ -3,8 +3,6 @@ ghost use Rattle.std.specs.Prelude.{◌≡◌, ◌<◌, ◌≤◌, ◌^◌, IsTr
 ghost use Rattle.std.specs.List.{list_any};
 ghost use Rattle.wl_level.specs.Places.{first_place};
 ghost use Rattle.wl_topology.specs.Driven.{any_below};
-ghost use Rattle.wl_plan.specs.Checked.{IsChecked};
-ghost use Rattle.wl_plan.specs.PlanLine.{setup_at};
 ghost use Rattle.wl_bound.specs.Families.{only_listens};
 ghost use Rattle.wl_bound.specs.Verdicts.{acknowledges, finds_nobody_idle, finds_one_idle, has_frames, has_same_field, idle_at, is_after, is_ready_from, is_unacknowledged, listener_sends, of_listeners, outside_of, pair_in, sends_something, share_field, shares, shares_with, verdict_of, without_book};
 
@@ -12,7 +10,7 @@ use crate::condition::{Failure, Senders};
 use crate::family::{Family, only_listens};
 use wl_frame::frame::Frame;
 use wl_node::NodeSetup;
-use wl_plan::Plan;
+use wl_plan::CheckedPlan;
 use wl_segments::SyncRules;
 
 /// Why the condition says nothing of a plan: the first that applies, in this order.
@@ -50,8 +48,7 @@ pub enum Verdict {
 }
 
 /// Returns what the condition says of a plan and its family (`Family::of_plan`).
-pub fn judge(plan: &Plan, family: &Family) -> Verdict
-    requires { IsChecked plan.now }
+pub fn judge(plan: &CheckedPlan, family: &Family) -> Verdict
     ensures { result ≡ verdict_of plan.now family.now }
 {
     if let Some(cause) = cause_outside(plan) {
@@ -69,11 +66,10 @@ pub fn judge(plan: &Plan, family: &Family) -> Verdict
 /// Returns why the condition says nothing of a plan, whatever its cable and its clocks; `None` if it does.
 ///
 /// The ticks at which nodes are idle and frames become ready are the plan's own, with its offsets.
-pub fn cause_outside(plan: &Plan) -> Option<Outside>
-    requires { IsChecked plan.now }
+pub fn cause_outside(plan: &CheckedPlan) -> Option<Outside>
     ensures { result ≡ outside_of plan.now }
 {
-    if plan.nodes.len() < 2 {
+    if plan.nodes() < 2 {
         return Some(Outside::FewNodes);
     }
     if !any_frames(plan) {
@@ -95,8 +91,7 @@ pub fn cause_outside(plan: &Plan) -> Option<Outside>
 }
 
 /// Returns what nodes that only listen spoil: frames of such a node, or frames that nobody acknowledges.
-fn first_of_listeners(plan: &Plan) -> Option<Outside>
-    requires checked { IsChecked plan.now }
+fn first_of_listeners(plan: &CheckedPlan) -> Option<Outside>
     requires two { 2 ≤ length plan.now.nodes }
     ensures { result ≡ of_listeners plan.now }
 {
@@ -110,8 +105,7 @@ fn first_of_listeners(plan: &Plan) -> Option<Outside>
 }
 
 /// True if node `i` of a plan only listens.
-pub(crate) fn listens(plan: &Plan, i: u8) -> bool
-    requires checked { IsChecked plan.now }
+pub(crate) fn listens(plan: &CheckedPlan, i: u8) -> bool
     requires two { 2 ≤ length plan.now.nodes }
     requires node { i < length plan.now.nodes }
     ensures { result ≡ only_listens plan.now.topology i }
@@ -121,14 +115,13 @@ pub(crate) fn listens(plan: &Plan, i: u8) -> bool
 }
 
 /// Returns the first node that only listens and at which frames wait.
-fn first_listener_that_sends(plan: &Plan) -> Option<u8>
-    requires checked { IsChecked plan.now }
+fn first_listener_that_sends(plan: &CheckedPlan) -> Option<u8>
     requires two { 2 ≤ length plan.now.nodes }
     ensures { result ≡ first_place (listener_sends plan.now) (length plan.now.nodes) }
 {
     let mut first = None;
-    for i in 0..plan.topology.nodes() {
-        if first.is_none() && listens(plan, i) && has_frames(setup(plan, i)) {
+    for i in 0..plan.nodes() {
+        if first.is_none() && listens(plan, i) && has_frames(plan.node(i)) {
             first = Some(i);
         }
     }
@@ -136,52 +129,39 @@ fn first_listener_that_sends(plan: &Plan) -> Option<u8>
 }
 
 /// True if some other node than `i` doesn't only listen.
-fn is_acknowledged(plan: &Plan, i: u8) -> bool
-    requires checked { IsChecked plan.now }
+fn is_acknowledged(plan: &CheckedPlan, i: u8) -> bool
     requires two { 2 ≤ length plan.now.nodes }
     requires node { i < length plan.now.nodes }
     ensures { result ≡ any_below (length plan.now.nodes) (acknowledges plan.now i) }
 {
     let mut is = false;
-    for j in 0..plan.topology.nodes() {
+    for j in 0..plan.nodes() {
         is = is || j != i && !listens(plan, j);
     }
     is
 }
 
 /// Returns the first node at which frames wait that nobody acknowledges.
-fn first_unacknowledged(plan: &Plan) -> Option<u8>
-    requires checked { IsChecked plan.now }
+fn first_unacknowledged(plan: &CheckedPlan) -> Option<u8>
     requires two { 2 ≤ length plan.now.nodes }
     ensures { result ≡ first_place (is_unacknowledged plan.now) (length plan.now.nodes) }
 {
     let mut first = None;
-    for i in 0..plan.topology.nodes() {
-        if first.is_none() && has_frames(setup(plan, i)) && !is_acknowledged(plan, i) {
+    for i in 0..plan.nodes() {
+        if first.is_none() && has_frames(plan.node(i)) && !is_acknowledged(plan, i) {
             first = Some(i);
         }
     }
     first
 }
 
-/// Returns node `i` of a plan.
-pub(crate) fn setup(plan: &Plan, i: u8) -> &NodeSetup
-    requires { i < length plan.now.nodes }
-    ensures { result.now ≡ setup_at plan.now i }
-{
-    let nodes = plan.nodes.as_slice();
-    let place = i as usize;
-    &nodes[place]
-}
-
 /// True if some frame waits at some node.
-fn any_frames(plan: &Plan) -> bool
-    requires { IsChecked plan.now }
+fn any_frames(plan: &CheckedPlan) -> bool
     ensures { result ≡ any_below (length plan.now.nodes) (sends_something plan.now) }
 {
     let mut any = false;
-    for i in 0..plan.topology.nodes() {
-        any = any || has_frames(setup(plan, i));
+    for i in 0..plan.nodes() {
+        any = any || has_frames(plan.node(i));
     }
     any
 }
@@ -194,13 +174,12 @@ fn has_frames(node: &NodeSetup) -> bool
 }
 
 /// Returns the first node whose rules of synchronisation aren't the book's.
-pub fn first_without_book(plan: &Plan) -> Option<u8>
-    requires { IsChecked plan.now }
+pub fn first_without_book(plan: &CheckedPlan) -> Option<u8>
     ensures { result ≡ first_place (without_book plan.now) (length plan.now.nodes) }
 {
     let mut first = None;
-    for i in 0..plan.topology.nodes() {
-        if first.is_none() && is_after(setup(plan, i)) {
+    for i in 0..plan.nodes() {
+        if first.is_none() && is_after(plan.node(i)) {
             first = Some(i);
         }
     }
@@ -248,14 +227,13 @@ fn has_field_of(other: &NodeSetup, frame: &Frame) -> bool
 }
 
 /// Returns the first node that shares an identifier with node `i`.
-fn first_sharing(plan: &Plan, i: u8) -> Option<u8>
-    requires checked { IsChecked plan.now }
+fn first_sharing(plan: &CheckedPlan, i: u8) -> Option<u8>
     requires node { i < length plan.now.nodes }
     ensures { result ≡ first_place (shares_with plan.now i) (length plan.now.nodes) }
 {
     let mut first = None;
-    for j in 0..plan.topology.nodes() {
-        if first.is_none() && i != j && share_field(setup(plan, i), setup(plan, j)) {
+    for j in 0..plan.nodes() {
+        if first.is_none() && i != j && share_field(plan.node(i), plan.node(j)) {
             first = Some(j);
         }
     }
@@ -263,13 +241,12 @@ fn first_sharing(plan: &Plan, i: u8) -> Option<u8>
 }
 
 /// Returns the first node that shares an identifier with some other.
-fn first_sharer(plan: &Plan) -> Option<u8>
-    requires { IsChecked plan.now }
+fn first_sharer(plan: &CheckedPlan) -> Option<u8>
     ensures first { result ≡ first_place (shares plan.now) (length plan.now.nodes) }
     ensures inside { IfSome result (λ i. i < length plan.now.nodes) }
 {
     let mut first = None;
-    for i in 0..plan.topology.nodes() {
+    for i in 0..plan.nodes() {
         if first.is_none() && first_sharing(plan, i).is_some() {
             first = Some(i);
         }
@@ -278,8 +255,7 @@ fn first_sharer(plan: &Plan) -> Option<u8>
 }
 
 /// Returns the first pair of nodes that share an identifier.
-fn first_shared(plan: &Plan) -> Option<Outside>
-    requires { IsChecked plan.now }
+fn first_shared(plan: &CheckedPlan) -> Option<Outside>
     ensures { result ≡ pair_in plan.now (first_place (shares plan.now) (length plan.now.nodes)) }
 {
     let i = match first_sharer(plan) {
@@ -313,30 +289,26 @@ pub(crate) fn is_ready_from(node: &NodeSetup, t: u64) -> bool
 }
 
 /// True if some other node that acknowledges is idle when the first frame of node `i` becomes ready.
-fn finds_one_idle(plan: &Plan, i: u8) -> bool
-    requires checked { IsChecked plan.now }
+fn finds_one_idle(plan: &CheckedPlan, i: u8) -> bool
     requires two { 2 ≤ length plan.now.nodes }
     requires node { i < length plan.now.nodes }
     ensures { result ≡ finds_one_idle plan.now i }
 {
     let mut finds = false;
-    for j in 0..plan.topology.nodes() {
+    for j in 0..plan.nodes() {
         finds = finds
-            || j != i
-                && !listens(plan, j)
-                && is_ready_from(setup(plan, i), idle_at(setup(plan, j)));
+            || j != i && !listens(plan, j) && is_ready_from(plan.node(i), idle_at(plan.node(j)));
     }
     finds
 }
 
 /// Returns the first node whose first frame may find nobody idle.
-fn first_unheard(plan: &Plan) -> Option<u8>
-    requires checked { IsChecked plan.now }
+fn first_unheard(plan: &CheckedPlan) -> Option<u8>
     requires two { 2 ≤ length plan.now.nodes }
     ensures { result ≡ first_place (finds_nobody_idle plan.now) (length plan.now.nodes) }
 {
     let mut first = None;
-    for i in 0..plan.topology.nodes() {
+    for i in 0..plan.nodes() {
         if first.is_none() && !finds_one_idle(plan, i) {
             first = Some(i);
         }
