@@ -36,9 +36,38 @@ impl Node {
         Ok(done)
     }
 
+    /// Runs quanta of this level: at least one, and at most `most`. Refused if memory runs out: fewer than `most` were run then, or none, and
+    /// the node drives what it drove.
+    fn leap(&mut self, level: Level, most: u64) -> Result<u64, AllocError>
+        requires some { 0 < most }
+        requires short { quanta_of self.old + most ≤ most_run_quanta }
+        ensures gone { IfOk result (λ n. HasGone level n self.old self.new) }
+        ensures some { IfOk result (λ n. 0 < n) }
+        ensures few { IfOk result (λ n. n ≤ most) }
+        ensures stopped { OnErr result (HasStopped level most self.old self.new) }
+    {
+        let heard = self.hear(level, most);
+        if 0 < heard {
+            return Ok(heard);
+        }
+        Ok(heard + self.step(level, most - heard)?)
+    }
+
+    /// Runs quanta of this level up to and including the next sample, if the node receives and that sample is only kept, or `most` if the
+    /// sample comes later; else none.
+    fn hear(&mut self, level: Level, most: u64) -> u64
+        requires some { 0 < most }
+        requires short { quanta_of self.old + most ≤ most_run_quanta }
+        ensures gone { HasGone level result self.old self.new }
+        ensures stands { StandsFor self.old level result }
+        ensures few { result ≤ most }
+    {
+        self.progress.hear(level, most)
+    }
+
     /// Skips the quanta of this level without effect, then runs one: at least one quantum, and at most `most`. Refused if memory runs out:
     /// fewer than `most` were run then, or none, and the node drives what it drove.
-    fn leap(&mut self, level: Level, most: u64) -> Result<u64, AllocError>
+    fn step(&mut self, level: Level, most: u64) -> Result<u64, AllocError>
         requires some { 0 < most }
         requires short { quanta_of self.old + most ≤ most_run_quanta }
         ensures gone { IfOk result (λ n. HasGone level n self.old self.new) }

@@ -3,6 +3,7 @@
 
 mod ahead;
 mod go;
+mod hear;
 mod laws;
 mod limits;
 mod mark;

@@ -124,7 +124,7 @@ impl Progress {
     }
 
     /// Skips this many of them at once.
-    fn skip(&mut self, level: Level, quanta: u8)
+    pub fn skip(&mut self, level: Level, quanta: u8)
         requires some { 0 < quanta }
         requires few { quanta ≤ free_quanta (same self.old.drive self.old.traffic.pending) self.old.clock level }
         requires short { self.old.quanta + quanta ≤ most_run_quanta }

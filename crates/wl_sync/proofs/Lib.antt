@@ -1,5 +1,6 @@
 mod Rows
 mod Rests
+mod Samples
 mod Skips
 mod Ways
 mod AsBefore

@@ -172,7 +172,7 @@ pub record AreFree (r : Running) (level : Level) (n : ℕ) : Type 0 where
   pub no_edge : finds_edge r level ≡ false
   pub apart : (r.quanta + n ≤ moved_place r) ⊎ ((moved_place r < r.quanta) × (r.quanta + n ≤ end_of r + sample_at r.lengths))
 
-same_twice : (level : Level) → (is_dominant level && not (is_dominant level)) ≡ false
+pub same_twice : (level : Level) → (is_dominant level && not (is_dominant level)) ≡ false
 same_twice level = go (is_dominant level)
   where
     go : (b : Bool) → (b && not b) ≡ false

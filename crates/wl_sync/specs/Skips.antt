@@ -56,3 +56,21 @@ pub record IsRestingBit (l : Lengths) (past : List Seen) (x : Seen) (n : ℕ) : 
   pub unmoved : IsUnmoved l past x n
   pub unsampled : IsUnsampled l past x last
   pub sampled : beat_of l (past ++ replicate last x) x ≡ Sample Recessive
+
+-- in so many quanta more and one, each as x, no edge synchronises, and the last alone is a sample
+pub record IsSampledAfter (l : Lengths) (past : List Seen) (x : Seen) (n : ℕ) : Type 0 where
+  pub unmoved : IsUnmoved l past x (suc n)
+  pub unsampled : IsUnsampled l past x n
+  pub sampled : beat_of l (past ++ replicate n x) x ≡ Sample x.level
+
+-- what is kept right after the sample of the running bit, and of the next one
+abbrev pub sampled_on : Running → Level → Running
+sampled_on r level = record { lengths = r.lengths; quanta = suc (moved_place r); longer = r.longer; shorter = r.shorter; synced = r.synced; level = level; sample = level }
+
+abbrev pub sampled_new : Running → Level → Running
+sampled_new r level = record { lengths = r.lengths; quanta = suc (sample_at r.lengths); longer = 0; shorter = 0; synced = false; level = level; sample = level }
+
+-- on a line that keeps this level, the next sample comes with no edge before it or at it
+pub record IsSampleAhead (r : Running) (level : Level) : Type 0 where
+  pub no_edge : finds_edge r level ≡ false
+  pub within : moved_place r < end_of r

@@ -90,7 +90,7 @@ impl BitClock {
     ghost use Rattle.wl_sync.specs.Edges.{Seen, seen_as, is_hard_edge, longer_by, looks, phase_error, restarts_at, shorter_by};
     ghost use Rattle.wl_sync.specs.Bits.{beat_of, sync_of, before_sample, bit_of};
     ghost use Rattle.wl_sync.specs.Running.{clock_after, Follows};
-    ghost use Rattle.wl_sync.specs.Skips.{finds_edge, free_quanta, steady_clock, IsPlain, IsRestingBit, IsUnmoved, IsUnsampled};
+    ghost use Rattle.wl_sync.specs.Skips.{finds_edge, free_quanta, moved_place, quanta_before_sample, sampled_new, sampled_on, steady_clock, IsPlain, IsRestingBit, IsSampleAhead, IsSampledAfter, IsUnmoved, IsUnsampled};
     ghost use Rattle.wl_sync.specs.Steps.{IsBitClock, beat_between, end_of, is_by_the_book, is_sampled, longer_with, passed_edge, running_counts, running_due, running_edge, running_moved, running_on, running_passed, samples};
 
     /// Returns the bit clock before the first quantum, on a line that was recessive. A bit begins with that quantum, or with the edge that
@@ -178,6 +178,66 @@ impl BitClock {
         } else {
             rest
         }
+    }
+
+    /// Returns how many quanta of this level come before the next that samples a bit: from 0 to 24. `None` if the first of them, or that
+    /// sample itself, finds an edge from recessive to dominant.
+    pub fn until_sample(&self, level: Level) -> Option<u8>
+        ensures ahead { (n : ℕ) → result ≡ Some n → IsSampleAhead self.now level }
+        ensures value { (n : ℕ) → result ≡ Some n → n ≡ quanta_before_sample self.now }
+    {
+        if !self.level.is_dominant() && level.is_dominant() {
+            return None;
+        }
+        let place = self.sample_at() + self.longer;
+        if place < self.quanta {
+            return Some(self.end_at() - self.quanta + self.sample_at());
+        }
+        if self.shorter == 0 {
+            Some(place - self.quanta)
+        } else {
+            None
+        }
+    }
+
+    /// Runs the quanta of this level that come before the next sample, as [`BitClock::until_sample`] counts them, and that sample, at once.
+    /// What the clock keeps is what it keeps after the same number of steps. No edge synchronises, and the last one alone is a sample.
+    pub fn sample(&mut self, level: Level)
+        requires { IsSampleAhead self.old level }
+        ensures clock { Follows self.old (λ l past. (x : Seen) → x.level ≡ level
+            → self.new ≡ clock_after l (past ++ replicate (suc (quanta_before_sample self.old)) x)) }
+        ensures sampled { Follows self.old (λ l past. (x : Seen) → x.level ≡ level
+            → IsSampledAfter l past x (quanta_before_sample self.old)) }
+    {
+        if self.sample_at() + self.longer < self.quanta {
+            self.sample_next(level);
+            return;
+        }
+        self.sample_this(level);
+    }
+
+    /// Goes to the sample of the running bit.
+    fn sample_this(&mut self, level: Level)
+        requires { moved_place self.old < end_of self.old }
+        ensures clock { self.new ≡ sampled_on self.old level }
+        ensures kept { IsBitClock self.old }
+    {
+        self.quanta = self.sample_at() + self.longer + 1;
+        self.level = level;
+        self.sample = level;
+    }
+
+    /// Goes to the sample of the next bit.
+    fn sample_next(&mut self, level: Level)
+        ensures clock { self.new ≡ sampled_new self.old level }
+        ensures kept { IsBitClock self.old }
+    {
+        self.quanta = self.sample_at() + 1;
+        self.longer = 0;
+        self.shorter = 0;
+        self.synced = false;
+        self.level = level;
+        self.sample = level;
     }
 
     /// Returns the quanta of a bit, if that number of recessive ones would leave what the clock keeps as it is: the last of them samples
@@ -563,6 +623,12 @@ mod tests {
         assert_eq!(rt; clock.before_sample(), Some(1));
         assert_eq!(rt; clock.resting_bit(), None);
         let _ = clock.step(Level::Recessive, false, false, false);
+        assert_eq!(rt; clock.resting_bit(), Some(10));
+        assert_eq!(rt; clock.until_sample(Level::Dominant), None);
+        assert_eq!(rt; clock.until_sample(Level::Recessive), Some(9));
+        if clock.until_sample(Level::Recessive).is_some() {
+            clock.sample(Level::Recessive);
+        }
         assert_eq!(rt; clock.resting_bit(), Some(10));
         the_sample_comes_near();
         Ok(())
