@@ -1,15 +1,18 @@
 -- From the condition for margins, in units, to the inequalities of stations, in the parts of a tick that two clocks share.
-use Rattle.std.proofs.Common.{◌≡◌, ◌≢◌, ◌∙◌, inl, inr, refl, sym, ap, ℕ, ◌+◌, ◌-◌, ◌*◌, ◌<◌, ◌≤◌, min, Bool, true, false, cond, not, ◌&&◌, ◌||◌, arith}
+use Rattle.std.proofs.Common.{◌≡◌, ◌≢◌, ◌∙◌, ◌⊎◌, inl, inr, refl, sym, ap, ℕ, ◌+◌, ◌-◌, ◌*◌, ◌<◌, ◌≤◌, max, min, Bool, true, false, cond, not, ◌&&◌, ◌||◌, arith}
 use Rattle.std.specs.Prelude.{◌==◌, nat_lt}
-use Rattle.std.proofs.lemmas.Bool.{cases_eq, cases_Bool, and_from, and_left, and_right, eq-eqb, ne_eqb}
+use Rattle.std.proofs.lemmas.Bool.{cases_eq, cases_lt, cases_Bool, and_from, and_left, and_parts, and_right, eq-eqb, ne_eqb}
 use Rattle.std.proofs.Math.Nat.{mul-le-mul_left, mul-le-mul_right, le_of_mul-le-mul_left}
 use Rattle.wl_segments.specs.Lengths.{sample_at, bit_quanta}
 use Rattle.wl_bound.specs.Families.{Bus}
-use Rattle.wl_bound.specs.Terms.{greatest, sends_but, ahead, drift, jump, late, look, pulled, strays, trip, way}
+use Rattle.wl_bound.specs.Terms.{greatest, sends_but, sends_third, ahead, drift, jump, late, look, pull, pulled, strays, trip, way}
 use Rattle.wl_bound.specs.Conditions.{IsSound, left_of, right_of}
 use Rattle.wl_bound.proofs.Greatest.{bounded, bounds_each}
-use Rattle.wl_any_senders.specs.Bounds.{IsBusOf, following_way}
+use Rattle.wl_topology.specs.Driven.{any_below}
+use Rattle.wl_any_senders.specs.Acknowledged.{any_way}
+use Rattle.wl_any_senders.specs.Bounds.{IsBusOf, IsLeftForTwo, following_way, other_sends}
 use Rattle.wl_any_senders.specs.Stations.{Stations, AreOnALine, HaveRoom, HaveWays, IsPair, shared_tick, shared_quantum, bit_drift}
+use Rattle.wl_any_senders.proofs.Sampled.{none_below}
 
 -- So many ticks, a time and ten times a difference fit, in other parts: a tick has u units, or m parts.
 fits : (u m w x y X Y c C g G : ℕ) → 0 < u → u * x ≤ m * X → m * Y ≤ u * y → m * c ≤ u * C → u * g ≤ m * G → w * u + G + 10 * (X - Y) ≤ c → w * m + g + 10 * (x - y) ≤ C
@@ -45,22 +48,40 @@ module _ (bus : Bus) (s : Stations) (line : AreOnALine s) (of : IsBusOf bus s) w
   quanta_there : (i k n : ℕ) → k < s.count → bus.tick * (n * shared_quantum s k i) ≤ shared_tick s i k * (n * bus.longest k)
   quanta_there i k n h = let high = quanta_high k i n h in omega arith
 
-  -- its own loop is long enough for the look
-  long_loop : (k i : ℕ) → k < s.count → s.may_send k ≡ true → shared_quantum s k i + shared_tick s i k ≤ s.delay k k * shared_tick s i k
-  long_loop k i h may =
-      let loop = of.loops k h may in
-      let d = of.delays k k h h in
-      let m : shared_tick s i k * (bus.longest k + bus.tick) ≤ shared_tick s i k * (s.delay k k * bus.tick) = mul-le-mul_left (shared_tick s i k) (omega arith) in
-      let high = quanta_there i k 1 h in
-      let all : bus.tick * (shared_quantum s k i + shared_tick s i k) ≤ bus.tick * (s.delay k k * shared_tick s i k) = omega arith in
-      le_of_mul-le-mul_left all of.some
+  -- the parts of a way
+  own_way : (i k : ℕ) → ℕ
+  own_way i k = cond (s.may_send k) ((s.delay k i + s.delay i k) * shared_tick s i k) 0
 
-  -- the way to a station that may send, and to one that only receives
-  way_sender : (i k : ℕ) → i < s.count → k < s.count → s.may_send k ≡ true → s.way k i ≡ (s.delay k i + s.delay i k) * shared_tick s i k
-  way_sender i k ni nk may = of.ways i k ni nk ∙ ap (λ b. cond b ((s.delay k i + s.delay i k) * shared_tick s i k) (greatest s.count s.may_send (following_way s k i))) may
+  over_way : (i k : ℕ) → ℕ
+  over_way i k = greatest s.count (other_sends s k) (following_way s k i)
 
-  way_other : (i k : ℕ) → i < s.count → k < s.count → s.may_send k ≡ false → s.way k i ≡ greatest s.count s.may_send (following_way s k i)
-  way_other i k ni nk may = of.ways i k ni nk ∙ ap (λ b. cond b ((s.delay k i + s.delay i k) * shared_tick s i k) (greatest s.count s.may_send (following_way s k i))) may
+  way_is : (i k : ℕ) → i < s.count → k < s.count → s.way k i ≡ max (own_way i k) (over_way i k)
+  unfolding own_way over_way
+  way_is i k ni nk = of.ways i k ni nk
+
+  own_is : (i k : ℕ) → s.may_send k ≡ true → own_way i k ≡ (s.delay k i + s.delay i k) * shared_tick s i k
+  unfolding own_way
+  own_is i k may = ap (λ b. cond b ((s.delay k i + s.delay i k) * shared_tick s i k) 0) may
+
+  own_none : (i k : ℕ) → s.may_send k ≡ false → own_way i k ≡ 0
+  unfolding own_way
+  own_none i k may = ap (λ b. cond b ((s.delay k i + s.delay i k) * shared_tick s i k) 0) may
+
+  other_is : (k a : ℕ) → s.may_send a ≡ true → a ≢ k → other_sends s k a ≡ true
+  other_is k a may apart = and_from (s.may_send a) (not (a == k)) may (ap not (ne_eqb a k apart))
+
+  other_by : (k a : ℕ) → other_sends s k a ≡ true → (s.may_send a ≡ true) × (a ≢ k)
+  other_by k a e =
+      let parts = and_parts (s.may_send a) (not (a == k)) e in
+      (parts.0, (λ same. (let f : not (a == k) ≡ false = ap not (eq-eqb a k same) in let g = parts.1 in cc)))
+
+  over_each : (i k a : ℕ) → a < s.count → s.may_send a ≡ true → a ≢ k → following_way s k i a ≤ over_way i k
+  unfolding over_way
+  over_each i k a na may apart = bounds_each s.count (other_sends s k) (following_way s k i) (greatest s.count (other_sends s k) (following_way s k i)) (omega arith) a na (other_is k a may apart)
+
+  over_by : (i k most : ℕ) → ((a : ℕ) → a < s.count → s.may_send a ≡ true → a ≢ k → following_way s k i a ≤ most) → over_way i k ≤ most
+  unfolding over_way
+  over_by i k most h = bounded s.count (other_sends s k) (following_way s k i) most (λ a na e. (let b = other_by k a e in h a na b.0 b.1))
 
   follows_other : (k i a : ℕ) → a ≢ i → following_way s k i a ≡ (s.delay a i + s.delay i k) * shared_tick s i k + shared_quantum s k i + shared_tick s i k - s.delay a k * shared_tick s i k
   follows_other k i a apart =
@@ -72,43 +93,86 @@ module _ (bus : Bus) (s : Stations) (line : AreOnALine s) (of : IsBusOf bus s) w
       ap (λ b. cond b (shared_quantum s k i + shared_tick s i k) ((s.delay i i + s.delay i k) * shared_tick s i k + shared_quantum s k i + shared_tick s i k - s.delay i k * shared_tick s i k))
       (eq-eqb i i refl)
 
-  each_way : (i k a : ℕ) → i < s.count → k < s.count → a < s.count → s.may_send k ≡ false → s.may_send a ≡ true → following_way s k i a ≤ s.way k i
-  each_way i k a ni nk na none may =
-      let e = way_other i k ni nk none in
-      let h = bounds_each s.count s.may_send (following_way s k i) (greatest s.count s.may_send (following_way s k i)) (omega arith) a na may in
-      omega arith
-
   over : (i k a : ℕ) → i < s.count → k < s.count → a < s.count → IsPair s i k → a ≢ i → a ≢ k → s.may_send a ≡ true
       → (s.delay a i + s.delay i k) * shared_tick s i k + shared_quantum s k i + shared_tick s i k ≤ s.way k i + s.delay a k * shared_tick s i k
-  over i k a ni nk na pair apart other may = elim (cases_Bool (s.may_send k)) [
-    | inl sender ↦
-        (let e = way_sender i k ni nk sender in
-        let loop = long_loop k i nk sender in
-        let detour = line.detours a k i na nk ni in
-        let m : shared_tick s i k * (s.delay a i + s.delay k k) ≤ shared_tick s i k * (s.delay a k + s.delay k i) = mul-le-mul_left (shared_tick s i k) detour in
-        omega arith)
-    | inr none ↦ (let h = each_way i k a ni nk na none may in let e = follows_other k i a apart in omega arith)
-  ]
+  over i k a ni nk na pair apart other may = (let w = way_is i k ni nk in let h = over_each i k a na may other in let e = follows_other k i a apart in omega arith)
 
   straight : (i k : ℕ) → i < s.count → k < s.count → IsPair s i k → s.may_send i ≡ true → shared_quantum s k i + shared_tick s i k ≤ s.way k i
-  straight i k ni nk pair may = elim (cases_Bool (s.may_send k)) [
-    | inl sender ↦
-        (let e = way_sender i k ni nk sender in
-        let loop = long_loop k i nk sender in
+  straight i k ni nk pair may = (let w = way_is i k ni nk in let h = over_each i k i ni may pair.0 in let e = follows_own k i in omega arith)
+
+  -- no way is longer than there and back and a look
+  follows_by : (i k a : ℕ) → i < s.count → k < s.count → a < s.count → following_way s k i a ≤ any_way s k i
+  follows_by i k a ni nk na = elim (cases_eq a i) [
+    | inl own ↦
+        (let e = follows_own k i in
+        let f : following_way s k i a ≡ following_way s k i i = ap (following_way s k i) own in
         let detour = line.detours k i k nk ni nk in
         let m : shared_tick s i k * (s.delay k k + s.delay i i) ≤ shared_tick s i k * (s.delay k i + s.delay i k) = mul-le-mul_left (shared_tick s i k) detour in
         omega arith)
-    | inr none ↦ (let h = each_way i k i ni nk ni none may in let e = follows_own k i in omega arith)
+    | inr apart ↦
+        (let e = follows_other k i a apart in
+        let detour = line.detours a k i na nk ni in
+        let m : shared_tick s i k * (s.delay a i + s.delay k k) ≤ shared_tick s i k * (s.delay a k + s.delay k i) = mul-le-mul_left (shared_tick s i k) detour in
+        omega arith)
   ]
+
+  way_by : (i k : ℕ) → i < s.count → k < s.count → s.may_send k ≡ true → s.way k i ≤ any_way s k i
+  way_by i k ni nk may =
+      let w = way_is i k ni nk in
+      let own = own_is i k may in
+      let h = over_by i k (any_way s k i) (λ a na sends apart. follows_by i k a ni nk na) in
+      omega arith
+
+  -- if no other one sends, it is there and back
+  way_alone : (i k : ℕ) → i < s.count → k < s.count → s.may_send k ≡ true → ((a : ℕ) → a < s.count → s.may_send a ≡ true → a ≡ k) → s.way k i ≡ (s.delay k i + s.delay i k) * shared_tick s i k
+  way_alone i k ni nk may none =
+      let w = way_is i k ni nk in
+      let own = own_is i k may in
+      let h = over_by i k 0 (λ a na sends apart. absurd (apart (none a na sends))) in
+      omega arith
+
+  -- if two alone send, it is that or a quantum and a tick
+  way_of_two : (i k : ℕ) → i < s.count → k < s.count → s.may_send k ≡ true → ((a : ℕ) → a < s.count → s.may_send a ≡ true → (a ≡ i) ⊎ (a ≡ k))
+      → s.way k i ≤ (s.delay k i + s.delay i k) * shared_tick s i k + (shared_quantum s k i + shared_tick s i k - (s.delay k i + s.delay i k) * shared_tick s i k)
+  way_of_two i k ni nk may two =
+      let w = way_is i k ni nk in
+      let own = own_is i k may in
+      let h = over_by i k (shared_quantum s k i + shared_tick s i k) (λ a na sends apart. (let e = ap (following_way s k i) (other_of (two a na sends) apart) in let f = follows_own k i in omega arith)) in
+      omega arith
+    where
+      other_of : {a : ℕ} → (a ≡ i) ⊎ (a ≡ k) → a ≢ k → a ≡ i
+      other_of (inl own) apart = own
+      other_of (inr theirs) apart = absurd (apart theirs)
+
+  -- a quantum and a tick beyond some ticks, in units and in parts
+  beyond : (i k w W : ℕ) → k < s.count → W ≡ w * bus.tick → bus.tick * (shared_quantum s k i + shared_tick s i k - w * shared_tick s i k) ≤ shared_tick s i k * (bus.longest k + bus.tick - W)
+  beyond i k w W nk same = elim (cases_lt (w * shared_tick s i k) (shared_quantum s k i + shared_tick s i k)) [
+    | inl more ↦
+        (let high = quanta_there i k 1 nk in
+        let part : w * shared_tick s i k + (shared_quantum s k i + shared_tick s i k - w * shared_tick s i k) ≡ shared_quantum s k i + shared_tick s i k = omega arith in
+        let units : bus.tick * (w * shared_tick s i k + (shared_quantum s k i + shared_tick s i k - w * shared_tick s i k)) ≡ bus.tick * (shared_quantum s k i + shared_tick s i k) = ap (λ n. bus.tick * n) part in
+        let loop : shared_tick s i k * W ≡ shared_tick s i k * (w * bus.tick) = ap (λ n. shared_tick s i k * n) same in
+        let m : shared_tick s i k * (bus.longest k + bus.tick) ≤ shared_tick s i k * (W + (bus.longest k + bus.tick - W)) = mul-le-mul_left (shared_tick s i k) (omega arith) in
+        omega arith)
+    | inr none ↦
+        (let e : shared_quantum s k i + shared_tick s i k - w * shared_tick s i k ≡ 0 = omega arith in
+        let f : bus.tick * (shared_quantum s k i + shared_tick s i k - w * shared_tick s i k) ≡ bus.tick * 0 = ap (λ n. bus.tick * n) e in
+        omega arith)
+  ]
+
+  look_high : (i k : ℕ) → i < s.count → k < s.count
+      → bus.tick * (shared_quantum s k i + shared_tick s i k - s.delay k k * shared_tick s i k) ≤ shared_tick s i k * look bus k
+  unfolding look
+  look_high i k ni nk = beyond i k (s.delay k k) (bus.delay k k) nk (of.delays k k nk nk)
 
   pub have_ways : HaveWays s
   have_ways = record {
-    there_and_back = λ i k ni nk pair may. (let e = way_sender i k ni nk may in omega arith);
+    there_and_back = λ i k ni nk pair may. (let w = way_is i k ni nk in let e = own_is i k may in omega arith);
     over = over;
     straight = straight;
   }
 
-module _ (bus : Bus) (s : Stations) (line : AreOnALine s) (of : IsBusOf bus s) (sound : IsSound bus) where
+module _ (bus : Bus) (s : Stations) (line : AreOnALine s) (of : IsBusOf bus s) (left : IsLeftForTwo bus s) (sound : IsSound bus) where
   drift_is : (i k : ℕ) → drift bus i k ≡ bit_quanta (s.lengths i) * bus.longest i - bit_quanta (s.lengths k) * bus.shortest k
   unfolding drift
   drift_is i k =
@@ -127,19 +191,96 @@ module _ (bus : Bus) (s : Stations) (line : AreOnALine s) (of : IsBusOf bus s) (
       (and_from (not (i == k)) (not (bus.listens i && bus.listens k)) (ap not (ne_eqb i k apart)) (ap not some)) in
       omega arith
 
-  early_fits : (i k : ℕ) → i < s.count → k < s.count → i ≢ k → s.may_send k ≡ true
+  -- with what others pull k forward
+  jumped : (i k : ℕ) → i < s.count → k < s.count → i ≢ k → s.may_send k ≡ true → 10 * drift bus i k + pull bus i k ≤ jump bus i
+  unfolding left_of right_of pulled
+  jumped i k ni nk apart may =
+      let h : 10 * drift bus i k + (pull bus i k - (jump bus i - jump bus k)) ≤ min (jump bus i) (jump bus k) =
+      sound.drift_fits_jump i k (inside bus s line of i ni) (inside bus s line of k nk)
+      (and_from (not (i == k)) (not (bus.listens i && bus.listens k)) (ap not (ne_eqb i k apart)) (ap not (and_right (bus.listens i) (bus.listens k) (of.answers k nk may)))) in
+      omega arith
+
+  pull_is : (i k : ℕ) → bus.sends k ≡ true → any_below bus.nodes (sends_third bus i k) ≡ true → pull bus i k ≡ look bus k
+  unfolding pull
+  pull_is i k sends some = ap (λ b. cond b (look bus k) 0) (and_from (bus.sends k) (any_below bus.nodes (sends_third bus i k)) sends some)
+
+  -- where a quantum and a tick counts beyond some ticks
+  early_look : (i k w W : ℕ) → i < s.count → k < s.count → W ≡ w * bus.tick
+      → s.way k i ≤ (s.delay k i + s.delay i k) * shared_tick s i k + (shared_quantum s k i + shared_tick s i k - w * shared_tick s i k)
+      → 10 * drift bus i k + (bus.longest k + bus.tick - W) ≤ jump bus i
       → s.way k i + 10 * bit_drift s i k ≤ (s.delay k i + s.delay i k) * shared_tick s i k + (s.lengths i).sjw * shared_quantum s i k
-  early_fits i k ni nk apart may =
+  early_look i k w W ni nk same way h =
+      let d = drift_is i k in
+      let j = jump_is i in
+      let f =
+      fits bus.tick (shared_tick s i k) 0 (bit_quanta (s.lengths i) * shared_quantum s i k) (bit_quanta (s.lengths k) * shared_quantum s k i)
+      (bit_quanta (s.lengths i) * bus.longest i) (bit_quanta (s.lengths k) * bus.shortest k) ((s.lengths i).sjw * bus.shortest i) ((s.lengths i).sjw * shared_quantum s i k)
+      (shared_quantum s k i + shared_tick s i k - w * shared_tick s i k) (bus.longest k + bus.tick - W)
+      of.some (quanta_high bus s line of i k (bit_quanta (s.lengths i)) ni) (quanta_back bus s line of i k (bit_quanta (s.lengths k)) nk) (quanta_low bus s line of i k (s.lengths i).sjw ni)
+      (beyond bus s line of i k w W nk same) (omega arith) in
+      omega arith
+
+  early_alone : (i k : ℕ) → i < s.count → k < s.count → i ≢ k → s.may_send k ≡ true → ((a : ℕ) → a < s.count → s.may_send a ≡ true → a ≡ k)
+      → s.way k i + 10 * bit_drift s i k ≤ (s.delay k i + s.delay i k) * shared_tick s i k + (s.lengths i).sjw * shared_quantum s i k
+  early_alone i k ni nk apart may none =
       let h = drifts i k ni nk apart (and_right (bus.listens i) (bus.listens k) (of.answers k nk may)) in
       let d = drift_is i k in
       let j = jump_is i in
-      let way = way_sender bus s line of i k ni nk may in
+      let way = way_alone bus s line of i k ni nk may none in
       let f =
       fits bus.tick (shared_tick s i k) 0 (bit_quanta (s.lengths i) * shared_quantum s i k) (bit_quanta (s.lengths k) * shared_quantum s k i)
       (bit_quanta (s.lengths i) * bus.longest i) (bit_quanta (s.lengths k) * bus.shortest k) ((s.lengths i).sjw * bus.shortest i) ((s.lengths i).sjw * shared_quantum s i k) 0 0
       of.some (quanta_high bus s line of i k (bit_quanta (s.lengths i)) ni) (quanta_back bus s line of i k (bit_quanta (s.lengths k)) nk) (quanta_low bus s line of i k (s.lengths i).sjw ni)
       (omega arith) (omega arith) in
       omega arith
+
+  -- one of the senders, if none is a third
+  one_of : (i k : ℕ) → any_below bus.nodes (sends_third bus i k) ≡ false → (a : ℕ) → a < s.count → s.may_send a ≡ true → (a ≡ i) ⊎ (a ≡ k)
+  one_of i k none a na may = elim (cases_eq a i) [
+    | inl own ↦ inl own
+    | inr apart ↦ elim (cases_eq a k) [
+      | inl theirs ↦ inr theirs
+      | inr other ↦
+          (let sends : sends_third bus i k a ≡ true =
+          and_from (bus.sends a && not (a == i)) (not (a == k)) (and_from (bus.sends a) (not (a == i)) (of.sends a na ∙ may) (ap not (ne_eqb a i apart))) (ap not (ne_eqb a k other)) in
+          let not_it = none_below bus.nodes (sends_third bus i k) none a (inside bus s line of a na) in
+          cc)
+    ]
+  ]
+
+  -- with a third one, if these two alone may send, and if k alone may
+  early_third : (i k : ℕ) → i < s.count → k < s.count → i ≢ k → s.may_send k ≡ true → any_below bus.nodes (sends_third bus i k) ≡ true
+      → s.way k i + 10 * bit_drift s i k ≤ (s.delay k i + s.delay i k) * shared_tick s i k + (s.lengths i).sjw * shared_quantum s i k
+  unfolding look
+  early_third i k ni nk apart may third =
+      let h = jumped i k ni nk apart may in
+      let e = pull_is i k (of.sends k nk ∙ may) third in
+      early_look i k (s.delay k k) (bus.delay k k) ni nk (of.delays k k nk nk) (way_by bus s line of i k ni nk may) (omega arith)
+
+  early_two : (i k : ℕ) → i < s.count → k < s.count → i ≢ k → s.may_send k ≡ true → s.may_send i ≡ true → any_below bus.nodes (sends_third bus i k) ≡ false
+      → s.way k i + 10 * bit_drift s i k ≤ (s.delay k i + s.delay i k) * shared_tick s i k + (s.lengths i).sjw * shared_quantum s i k
+  early_two i k ni nk apart may own none =
+      let one = of.delays k i nk ni in
+      let two = of.delays i k ni nk in
+      let sum : (s.delay k i + s.delay i k) * bus.tick ≡ s.delay k i * bus.tick + s.delay i k * bus.tick = omega arith in
+      early_look i k (s.delay k i + s.delay i k) (bus.delay k i + bus.delay i k) ni nk (omega arith)
+      (way_of_two bus s line of i k ni nk may (λ a na sends. one_of i k none a na sends)) (left i k ni nk apart own may (λ a na sends. one_of i k none a na sends))
+
+  only_k : (i k : ℕ) → s.may_send i ≡ false → any_below bus.nodes (sends_third bus i k) ≡ false → (a : ℕ) → a < s.count → s.may_send a ≡ true → a ≡ k
+  only_k i k listens none a na sends = elim (one_of i k none a na sends) [
+    | inl own ↦ (let e = ap s.may_send own in cc)
+    | inr theirs ↦ theirs
+  ]
+
+  early_fits : (i k : ℕ) → i < s.count → k < s.count → i ≢ k → s.may_send k ≡ true
+      → s.way k i + 10 * bit_drift s i k ≤ (s.delay k i + s.delay i k) * shared_tick s i k + (s.lengths i).sjw * shared_quantum s i k
+  early_fits i k ni nk apart may = elim (cases_Bool (any_below bus.nodes (sends_third bus i k))) [
+    | inl third ↦ early_third i k ni nk apart may third
+    | inr none ↦ elim (cases_Bool (s.may_send i)) [
+      | inl own ↦ early_two i k ni nk apart may own none
+      | inr listens ↦ early_alone i k ni nk apart may (λ a na sends. only_k i k listens none a na sends)
+    ]
+  ]
 
   late_fits : (i k : ℕ) → i < s.count → k < s.count → i ≢ k → s.may_send k ≡ true → 10 * bit_drift s k i ≤ (s.lengths i).sjw * shared_quantum s i k
   late_fits i k ni nk apart may =
@@ -160,12 +301,13 @@ module _ (bus : Bus) (s : Stations) (line : AreOnALine s) (of : IsBusOf bus s) (
       let h = sound.no_bit_too_early i k (inside bus s line of i ni) (inside bus s line of k nk) (and_from (not (i == k)) (not (bus.listens k)) (ap not (ne_eqb i k apart)) (ap not (of.answers k nk may))) in
       let d = drift_is i k in
       let p : (bus.lengths i).ps2 * bus.shortest i ≡ (s.lengths i).ps2 * bus.shortest i = ap (λ l. l.ps2 * bus.shortest i) (of.lengths i) in
-      let way = way_sender bus s line of i k ni nk may in
+      let way = way_by bus s line of i k ni nk may in
       let f =
       fits bus.tick (shared_tick s i k) 1 (bit_quanta (s.lengths i) * shared_quantum s i k) (bit_quanta (s.lengths k) * shared_quantum s k i)
-      (bit_quanta (s.lengths i) * bus.longest i) (bit_quanta (s.lengths k) * bus.shortest k) ((s.lengths i).ps2 * bus.shortest i) ((s.lengths i).ps2 * shared_quantum s i k) 0 0
+      (bit_quanta (s.lengths i) * bus.longest i) (bit_quanta (s.lengths k) * bus.shortest k) ((s.lengths i).ps2 * bus.shortest i) ((s.lengths i).ps2 * shared_quantum s i k)
+      (shared_quantum s k i + shared_tick s i k - s.delay k k * shared_tick s i k) (look bus k)
       of.some (quanta_high bus s line of i k (bit_quanta (s.lengths i)) ni) (quanta_back bus s line of i k (bit_quanta (s.lengths k)) nk) (quanta_low bus s line of i k (s.lengths i).ps2 ni)
-      (omega arith) (omega arith) in
+      (look_high bus s line of i k ni nk) (omega arith) in
       omega arith
 
   trip_own : (i k : ℕ) → bus.delay i k + bus.delay k i ≤ trip bus i k i
@@ -203,7 +345,7 @@ module _ (bus : Bus) (s : Stations) (line : AreOnALine s) (of : IsBusOf bus s) (
       omega arith
 
   there_sender : (i k : ℕ) → i < s.count → k < s.count → i ≢ k → s.may_send k ≡ true → s.may_send i ≡ true
-      → s.way i k + 10 * bit_drift s k i ≤ sample_at (s.lengths i) * shared_quantum s i k
+      → own_way bus s line of k i + 10 * bit_drift s k i ≤ sample_at (s.lengths i) * shared_quantum s i k
   there_sender i k ni nk apart may own =
       let h = late_there i k ni nk apart may in
       let x = trip_own i k in
@@ -213,7 +355,7 @@ module _ (bus : Bus) (s : Stations) (line : AreOnALine s) (of : IsBusOf bus s) (
       let one = of.delays i k ni nk in
       let two = of.delays k i nk ni in
       let sum : (s.delay i k + s.delay k i) * bus.tick ≡ s.delay i k * bus.tick + s.delay k i * bus.tick = omega arith in
-      let way = way_sender bus s line of k i nk ni own in
+      let way = own_is bus s line of k i own in
       let f =
       fits bus.tick (shared_tick s i k) (s.delay i k + s.delay k i) (bit_quanta (s.lengths k) * shared_quantum s k i) (bit_quanta (s.lengths i) * shared_quantum s i k)
       (bit_quanta (s.lengths k) * bus.longest k) (bit_quanta (s.lengths i) * bus.shortest i) (sample_at (s.lengths i) * bus.shortest i) (sample_at (s.lengths i) * shared_quantum s i k) 0 0
@@ -259,22 +401,26 @@ module _ (bus : Bus) (s : Stations) (line : AreOnALine s) (of : IsBusOf bus s) (
       let far : ((s.lengths i).sjw + 2) * shared_quantum s i k ≤ sample_at (s.lengths i) * shared_quantum s i k = mul-le-mul_right (shared_quantum s i k) (omega arith) in
       omega arith
 
-  there_each : (i k a : ℕ) → i < s.count → k < s.count → a < s.count → i ≢ k → s.may_send k ≡ true → s.may_send i ≡ false → s.may_send a ≡ true
+  there_each : (i k a : ℕ) → i < s.count → k < s.count → a < s.count → i ≢ k → s.may_send k ≡ true → s.may_send a ≡ true → a ≢ i
       → following_way s i k a ≤ sample_at (s.lengths i) * shared_quantum s i k - 10 * bit_drift s k i
-  there_each i k a ni nk na apart may none sender = elim (cases_eq a k) [
+  there_each i k a ni nk na apart may sender other = elim (cases_eq a k) [
     | inl own ↦ (let h = there_own i k ni nk apart may in let e : following_way s i k a ≡ following_way s i k k = ap (following_way s i k) own in omega arith)
-    | inr other ↦ (let h = there_over i k a ni nk na apart may sender (λ e. (let f = ap s.may_send e in cc)) other in omega arith)
+    | inr third ↦ (let h = there_over i k a ni nk na apart may sender other third in omega arith)
+  ]
+
+  there_back : (i k : ℕ) → i < s.count → k < s.count → i ≢ k → s.may_send k ≡ true → own_way bus s line of k i + 10 * bit_drift s k i ≤ sample_at (s.lengths i) * shared_quantum s i k
+  there_back i k ni nk apart may = elim (cases_Bool (s.may_send i)) [
+    | inl own ↦ there_sender i k ni nk apart may own
+    | inr none ↦ (let e = own_none bus s line of k i none in let small = there_own i k ni nk apart may in omega arith)
   ]
 
   there : (i k : ℕ) → i < s.count → k < s.count → i ≢ k → s.may_send k ≡ true → s.way i k + 10 * bit_drift s k i ≤ sample_at (s.lengths i) * shared_quantum s i k
-  there i k ni nk apart may = elim (cases_Bool (s.may_send i)) [
-    | inl own ↦ there_sender i k ni nk apart may own
-    | inr none ↦
-        (let e = way_other bus s line of k i nk ni none in
-        let h = bounded s.count s.may_send (following_way s i k) (sample_at (s.lengths i) * shared_quantum s i k - 10 * bit_drift s k i) (λ a na sender. there_each i k a ni nk na apart may none sender) in
-        let small = there_own i k ni nk apart may in
-        omega arith)
-  ]
+  there i k ni nk apart may =
+      let w = way_is bus s line of k i nk ni in
+      let back = there_back i k ni nk apart may in
+      let small = there_own i k ni nk apart may in
+      let h = over_by bus s line of k i (sample_at (s.lengths i) * shared_quantum s i k - 10 * bit_drift s k i) (λ a na sender other. there_each i k a ni nk na apart may sender other) in
+      omega arith
 
   loop : (i : ℕ) → i < s.count → s.may_send i ≡ true → (s.clocks i).den * s.delay i i ≤ sample_at (s.lengths i) * (s.clocks i).num
   unfolding left_of right_of

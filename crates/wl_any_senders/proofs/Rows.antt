@@ -55,6 +55,13 @@ back_and_forth = refl
 straight : following_way s 0 1 1 ≡ 22
 straight = refl
 
+-- on a short line a quantum and a tick takes longer
+abbrev near : Stations
+near = record s { delay = λ i k. 2 }
+
+looks : bus_way near 0 1 ≡ 22
+looks = refl
+
 -- station 0 begins its bit with quantum 20, and station 1 follows that edge: at tick 209 it lies between its quanta 19 and 20
 abbrev places : ℕ → ℕ
 places zero = 20

@@ -1,7 +1,7 @@
 -- Stations as one of the buses of the condition for margins.
-use Rattle.std.specs.Prelude.{◌≡◌, ℕ, ◌+◌, ◌-◌, ◌*◌, ◌<◌, ◌≤◌, ◌==◌, true, false, if◌then◌else◌}
+use Rattle.std.specs.Prelude.{◌≡◌, ◌≢◌, ◌⊎◌, ℕ, ◌+◌, ◌-◌, ◌*◌, ◌<◌, ◌≤◌, ◌==◌, ◌&&◌, not, max, Bool, true, false, if◌then◌else◌}
 use Rattle.wl_bound.specs.Families.{Bus}
-use Rattle.wl_bound.specs.Terms.{greatest}
+use Rattle.wl_bound.specs.Terms.{greatest, drift, jump}
 use Rattle.wl_any_senders.specs.Stations.{Stations, shared_quantum, shared_tick}
 
 -- how long after its own the bit of station i reaches station k at most, if k follows the edge of station a, which may be i
@@ -10,11 +10,15 @@ following_way s k i a =
     if a == i then shared_quantum s k i + shared_tick s i k
     else (s.delay a i + s.delay i k) * shared_tick s i k + shared_quantum s k i + shared_tick s i k - s.delay a k * shared_tick s i k
 
--- there and back if k may send, and else over whoever may
-abbrev pub bus_way : Stations → (k i : ℕ) → ℕ
-bus_way s k i = if s.may_send k then (s.delay k i + s.delay i k) * shared_tick s i k else greatest s.count s.may_send (following_way s k i)
+-- a station but for one that may send
+abbrev pub other_sends : Stations → (k a : ℕ) → Bool
+other_sends s k a = s.may_send a && not (a == k)
 
--- The nodes and delays of the bus are these, in its units, and each clock lies within its tolerance. None that may send only listens, and the loop of each of them takes a quantum and a tick.
+-- there and back if k may send, and over whoever else may
+abbrev pub bus_way : Stations → (k i : ℕ) → ℕ
+bus_way s k i = max (if s.may_send k then (s.delay k i + s.delay i k) * shared_tick s i k else 0) (greatest s.count (other_sends s k) (following_way s k i))
+
+-- The nodes and delays of the bus are these, in its units, and each clock lies within its tolerance. None that may send only listens.
 pub record IsBusOf (bus : Bus) (s : Stations) : Type 0 where
   pub nodes : bus.nodes ≡ s.count
   pub some : 0 < bus.tick
@@ -25,4 +29,8 @@ pub record IsBusOf (bus : Bus) (s : Stations) : Type 0 where
   pub ways : (i k : ℕ) → i < s.count → k < s.count → s.way k i ≡ bus_way s k i
   pub sends : (i : ℕ) → i < s.count → bus.sends i ≡ s.may_send i
   pub answers : (i : ℕ) → i < s.count → s.may_send i ≡ true → bus.listens i ≡ false
-  pub loops : (i : ℕ) → i < s.count → s.may_send i ≡ true → bus.longest i + bus.tick ≤ bus.delay i i
+
+-- Two stations alone may send: what the look of the one takes beyond there and back is left in a jump of the other. If three may, the condition for margins has that.
+abbrev pub IsLeftForTwo : Bus → Stations → Type 0
+IsLeftForTwo bus s = (i k : ℕ) → i < s.count → k < s.count → i ≢ k → s.may_send i ≡ true → s.may_send k ≡ true → ((a : ℕ) → a < s.count → s.may_send a ≡ true → (a ≡ i) ⊎ (a ≡ k))
+    → 10 * drift bus i k + (bus.longest k + bus.tick - (bus.delay k i + bus.delay i k)) ≤ jump bus i

@@ -13,7 +13,7 @@ ghost use Rattle.wl_phase.specs.Ways.{ByTheBook, moved_to};
 ghost use Rattle.wl_bound.specs.Conditions.{IsSound};
 ghost use Rattle.wl_bound.specs.Families.{Bus};
 ghost use Rattle.wl_plan.specs.declared.plan.Plan.{Plan};
-ghost use Rattle.wl_any_senders.specs.Bounds.{IsBusOf};
+ghost use Rattle.wl_any_senders.specs.Bounds.{IsBusOf, IsLeftForTwo};
 ghost use Rattle.wl_any_senders.specs.Clocked.{NoEdgeLaws, BitPlaceLaws, BitStartLaws, EdgeLaws};
 ghost use Rattle.wl_any_senders.specs.Plans.{IsPlanOf};
 ghost use Rattle.wl_any_senders.specs.Stations.{AreClose, AreOnALine, AreStations, HaveRoom, HaveWays, Stations};
@@ -72,11 +72,13 @@ pub fn a_bit_clock_follows_an_edge()
     wl_phase::laws::the_next_sample_is_dominant();
 }
 
-/// Law: a bus that meets the condition for margins has room for any senders, wherever within its tolerance each clock lies. The loop of
-/// each node that may send takes a quantum and a tick. The ways are there and back, or over the edges that a receiver follows.
+/// Law: a bus that meets the condition for margins has room for any senders, wherever within its tolerance each clock lies. If two nodes
+/// alone may send, what a look takes beyond there and back is left in a jump. The ways are there and back, or over the edges that a
+/// station follows.
 pub fn a_sound_bus_has_room()
     ensures ways { (bus : Bus) (s : Stations) → AreOnALine s → IsBusOf bus s → HaveWays s }
-    ensures room { (bus : Bus) (s : Stations) → AreOnALine s → IsBusOf bus s → IsSound bus → HaveRoom s }
+    ensures room { (bus : Bus) (s : Stations) → AreOnALine s → IsBusOf bus s → IsLeftForTwo bus s → IsSound bus
+        → HaveRoom s }
 {}
 
 /// Law: the nodes of each checked plan of one rate a clock, by the rules of the book, are such stations, if none only listens.
