@@ -2,7 +2,6 @@
 ghost use Rattle.std.specs.Prelude.{◌≡◌, ◌≢◌, Err, IfOk, length, map};
 ghost use Rattle.std.specs.List.{enumerate_from};
 ghost use Rattle.toml.specs.View.{table_view};
-ghost use Rattle.wl_plan.specs.Checked.{IsChecked};
 ghost use Rattle.wl_setup.specs.Names.{names_of};
 ghost use Rattle.wl_setup.specs.Plans.{after, each, rate_in, IsAnswer};
 ghost use Rattle.wl_setup.specs.Buses.{nominal, nominal_clock, rate_texts, deviation_of, bus_of_text, GivesBus, IsBusOf};
@@ -20,7 +19,7 @@ use toml::Table;
 use wl_clock::Rate;
 use wl_device::Source;
 use wl_level::Listed;
-use wl_plan::Plan;
+use wl_plan::CheckedPlan;
 
 /// From which rates the clock of a node deviates, and by how much at most.
 #[derive(Debug, Drop)]
@@ -35,7 +34,7 @@ pub struct Deviation {
 #[derive(Drop)]
 pub struct Bus {
     /// The plan.
-    pub plan: Plan,
+    pub plan: CheckedPlan,
     /// The names of the nodes, node i's at place i.
     pub names: Names,
     /// What the clocks of the nodes may do, node i's at place i.
@@ -107,7 +106,6 @@ impl PlanText {
     fn bus(&self, alloc: Global, names: Names) -> Result<Bus, SetupFault>
         requires { names ≡ names_of self.now }
         ensures answer { IsAnswer (bus_of_text self.now) result }
-        ensures checked { IfOk result (λ bus. IsChecked bus.plan) }
         ensures deviations { IfOk result (λ bus. length bus.deviations ≡ length bus.plan.nodes) }
         ensures names { IfOk result (λ bus. length bus.names ≡ length bus.plan.nodes) }
     {
@@ -125,7 +123,6 @@ impl PlanText {
 /// fault, which is that of `read_plan`.
 pub fn read_bus<R: Source>(alloc: Global, reader: &mut R) -> Result<Bus, SetupFault>
     ensures answer { result ≢ Err SetupFault.Memory → GivesBus R.gives reader.old result reader.new }
-    ensures checked { IfOk result (λ bus. IsChecked bus.plan) }
     ensures deviations { IfOk result (λ bus. length bus.deviations ≡ length bus.plan.nodes) }
     ensures names { IfOk result (λ bus. length bus.names ≡ length bus.plan.nodes) }
 {
@@ -136,7 +133,6 @@ pub fn read_bus<R: Source>(alloc: Global, reader: &mut R) -> Result<Bus, SetupFa
 /// Returns the bus of a text, or the text's first fault, as `read_bus` does of a text that was read.
 pub fn bus_of_bytes(alloc: Global, text: &[u8]) -> Result<Bus, SetupFault>
     ensures answer { IsAnswer (after (text_answer text.now) bus_of_text) result }
-    ensures checked { IfOk result (λ bus. IsChecked bus.plan) }
     ensures deviations { IfOk result (λ bus. length bus.deviations ≡ length bus.plan.nodes) }
     ensures names { IfOk result (λ bus. length bus.names ≡ length bus.plan.nodes) }
 {
@@ -148,7 +144,6 @@ pub fn bus_of_bytes(alloc: Global, text: &[u8]) -> Result<Bus, SetupFault>
 /// where the document's first fault is, or the top table for a fault of the plan that it describes.
 pub fn bus_of_document(alloc: Global, top: &Table) -> Result<Bus, PlacedFault>
     ensures answer { IsBusOf (table_view top.now) result }
-    ensures checked { IfOk result (λ bus. IsChecked bus.plan) }
     ensures deviations { IfOk result (λ bus. length bus.deviations ≡ length bus.plan.nodes) }
     ensures names { IfOk result (λ bus. length bus.names ≡ length bus.plan.nodes) }
 {

@@ -1,7 +1,6 @@
 //! What a check of a plan prints.
 ghost use Rattle.std.specs.Prelude.{◌≡◌, ◌<◌, ◌++◌, ◌∷◌, [], length, string_bytes, IfOk, IfErr};
 ghost use Rattle.std.specs.List.{enumerate_from};
-ghost use Rattle.wl_plan.specs.Checked.{IsChecked};
 ghost use Rattle.wl_setup.specs.Check.{node_words, pair_words, pair_line, pair_lines_of, pair_lines, IsNodeLine, AreNodeLines, IsPlanCheck};
 
 use crate::names::Names;

@@ -25,7 +25,7 @@ pub use fault::SetupFault;
 pub use keys::Key;
 pub use laws::{buses_of_plans, faults_of_texts};
 pub use names::Names;
-pub use plan::{plan_of_bytes, read_plan};
+pub use plan::{read_checked, read_plan};
 pub use plan_text::{ClockText, DisturbanceText, FrameText, NodeText, PlanText, RateText};
 pub use read::{NoDocument, document_or_place, read_bytes, read_text};
 pub use spot::{PlacedFault, Spot, table_at};

@@ -6,15 +6,14 @@ ghost use Rattle.wl_plan.specs.Limits.{latest_end, most_queued};
 ghost use Rattle.wl_topology.specs.Limits.{most_places};
 ghost use Rattle.wl_setup.specs.Faults.{has_traffic};
 ghost use Rattle.wl_setup.specs.Names.{names_of};
-ghost use Rattle.wl_setup.specs.Plans.{with_fault, each, rate_from, rate_in, clock_in, segments_of_node, queued_of, setup_of, queue_in, queued_in, place_of, cable_of, node_named, disturbance_in, plan_of_text, named_plan_of, after, GivesPlan, IsAnswer};
-ghost use Rattle.wl_setup.specs.Reading.{text_answer};
+ghost use Rattle.wl_setup.specs.Plans.{with_fault, each, rate_from, rate_in, clock_in, segments_of_node, queued_of, setup_of, queue_in, queued_in, place_of, cable_of, node_named, disturbance_in, plan_of_text, named_plan_of, GivesPlan, IsAnswer};
 
 use crate::fault::SetupFault;
 use crate::keys::has_traffic;
 use crate::limits::FEW_QUEUED;
 use crate::names::Names;
 use crate::plan_text::{ClockText, DisturbanceText, FrameText, NodeText, PlanText, RateText};
-use crate::read::{parse, read_named};
+use crate::read::read_named;
 use crate::traffic::in_order;
 use std::alloc::{AllocError, Global};
 use wl_clock::{Clock, ClockFault, Rate};
@@ -22,7 +21,7 @@ use wl_device::Source;
 use wl_frame::frame::Frame;
 use wl_level::Listed;
 use wl_node::{NodeSetup, Queue, Queued};
-use wl_plan::{Disturbance, Disturbances, LATEST_END, MOST_QUEUED, Nodes, Plan};
+use wl_plan::{CheckedPlan, Disturbance, Disturbances, LATEST_END, MOST_QUEUED, Nodes, Plan};
 use wl_segments::{Segments, SegmentsFault, SyncRules};
 use wl_topology::{Place, Topology};
 
@@ -243,9 +242,8 @@ fn disturbances(alloc: Global, plan: &PlanText) -> Result<Disturbances, AllocErr
 impl PlanText {
     /// Returns the plan that the keys make, which can be run; or the first fault: node by node `NodeClock`, `NodeSegments` and, frame by
     /// frame, `NodeFrame`; then `Topology`; then `Plan`. `Memory` may be returned at any point.
-    pub fn plan(&self, alloc: Global) -> Result<Plan, SetupFault>
+    pub fn plan(&self, alloc: Global) -> Result<CheckedPlan, SetupFault>
         ensures answer { IsAnswer (plan_of_text self.now) result }
-        ensures checked { IfOk result IsChecked }
     {
         let nodes = setups(alloc, self)?;
         let topology = self.topology(alloc)?;
@@ -255,17 +253,16 @@ impl PlanText {
             disturbances: disturbances(alloc, self)?,
             end: self.end,
         };
-        match plan.check_within(queued_in(self.version)) {
-            Ok(()) => Ok(plan),
+        match CheckedPlan::within(plan, queued_in(self.version)) {
+            Ok(checked) => Ok(checked),
             Err(fault) => Err(SetupFault::Plan(fault)),
         }
     }
 
     /// Returns the plan, and with it these names, which are those of its nodes.
-    fn named_plan(&self, alloc: Global, names: Names) -> Result<(Plan, Names), SetupFault>
+    fn named_plan(&self, alloc: Global, names: Names) -> Result<(CheckedPlan, Names), SetupFault>
         requires { names ≡ names_of self.now }
         ensures answer { IsAnswer (named_plan_of self.now) result }
-        ensures checked { IfOk result (λ r. IsChecked r.0) }
         ensures names { IfOk result (λ r. length r.1 ≡ length r.0.nodes) }
     {
         let plan = self.plan(alloc)?;
@@ -289,21 +286,25 @@ impl PlanText {
 /// Returns a plan that can be run and the names of its nodes, node i's at place i; or the text's first fault: what `read_text` refuses;
 /// then node by node the clock (`NodeClock`), the segments (`NodeSegments`) and the frames in order (`NodeFrame`); then `Topology`; then
 /// `Plan`. `Memory` may be returned at any point. Nothing is promised of what a reader has left after a fault.
-pub fn read_plan<R: Source>(alloc: Global, reader: &mut R) -> Result<(Plan, Names), SetupFault>
+pub fn read_checked<R: Source>(
+    alloc: Global,
+    reader: &mut R,
+) -> Result<(CheckedPlan, Names), SetupFault>
     ensures answer { result ≢ Err SetupFault.Memory → GivesPlan R.gives reader.old result reader.new }
-    ensures checked { IfOk result (λ r. IsChecked r.0) }
     ensures names { IfOk result (λ r. length r.1 ≡ length r.0.nodes) }
 {
     let (text, names) = read_named(alloc, reader)?;
     text.named_plan(alloc, names)
 }
 
-/// Returns the plan of a text and the names of its nodes, or the text's first fault, as `read_plan` returns them of a text that was read.
-pub fn plan_of_bytes(alloc: Global, text: &[u8]) -> Result<(Plan, Names), SetupFault>
-    ensures answer { IsAnswer (after (text_answer text.now) named_plan_of) result }
+/// Reads a plan's text as `read_checked` does, and returns the plan itself.
+pub fn read_plan<R: Source>(alloc: Global, reader: &mut R) -> Result<(Plan, Names), SetupFault>
+    ensures answer { result ≢ Err SetupFault.Memory → GivesPlan R.gives reader.old result reader.new }
     ensures checked { IfOk result (λ r. IsChecked r.0) }
     ensures names { IfOk result (λ r. length r.1 ≡ length r.0.nodes) }
 {
-    let (text, names) = parse(alloc, text)?;
-    text.named_plan(alloc, names)
+    match read_checked(alloc, reader) {
+        Ok((plan, names)) => Ok((plan.into_plan(), names)),
+        Err(fault) => Err(fault),
+    }
 }

@@ -2,7 +2,7 @@ use Rattle.std.proofs.Common.{Err, ap, ◌∙◌}
 use Rattle.std.proofs.lemmas.Result.{err_from_is_err_and}
 use Rattle.wl_setup.proofs.PlanLemmas.{planned, not_planned}
 use Rattle.wl_setup.specs.Plans.{named_plan_of}
-use Rattle.wl_setup.proofs.plan.read_plan.Goals as goal
+use Rattle.wl_setup.proofs.plan.read_checked.Goals as goal
 
 pub returns-in_err-text-clause-answer : goal.returns-in_err-text-clause-answer
 returns-in_err-text-clause-answer g c =
