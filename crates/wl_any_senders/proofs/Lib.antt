@@ -5,11 +5,14 @@ mod Bounded
 mod Calm
 mod Clocked
 mod Counting
+mod Expecting
+mod Ideal
 mod Machines
 mod Measures
 mod Nearing
 mod Passing
+mod Planned
 mod Rows
 mod Sampled
+mod Settling
 mod Starting
-mod Planned

@@ -142,7 +142,7 @@ end_old : (o : Option ℕ) (b : Bool) (n : ℕ) → or_at o b n ≡ None → o �
 end_old (Some k) b n e = cc
 end_old None b n e = refl
 
-none_before : (own : List Level) (x : Level) → stuffed_end (own ++ x ∷ []) ≡ None → stuffed_end own ≡ None
+pub none_before : (own : List Level) (x : Level) → stuffed_end (own ++ x ∷ []) ≡ None → stuffed_end own ≡ None
 none_before own x e = end_old (stuffed_end own) _ _ (sym (end_more own x) ∙ e)
 
 no_six : (head : Content) (own : List Level) (end : ℕ) → FoundSent head own end → (k : ℕ) → k < end → ends_six own k ≡ false

@@ -16,7 +16,7 @@ use Rattle.wl_any_senders.proofs.Nearing.{bit_close}
 use Rattle.wl_any_senders.proofs.Sampled.{all_right, is_there}
 
 -- fewer senders are close if more are
-fewer : (s : Stations) (sends less : ℕ → Bool) (since : ℕ) (place : ℕ → ℕ) → ((k : ℕ) → k < s.count → less k ≡ true → sends k ≡ true) → AreClose s sends since place → AreClose s less since place
+pub fewer : (s : Stations) (sends less : ℕ → Bool) (since : ℕ) (place : ℕ → ℕ) → ((k : ℕ) → k < s.count → less k ≡ true → sends k ≡ true) → AreClose s sends since place → AreClose s less since place
 fewer s sends less since place h close i k inside there other some = close i k inside there other (either some)
   where
     either : (less i ≡ true) ⊎ (less k ≡ true) → (sends i ≡ true) ⊎ (sends k ≡ true)

@@ -7,3 +7,4 @@ pub mod Clocked
 pub mod Plans
 pub mod Machines
 pub mod Acknowledged
+pub mod Expected

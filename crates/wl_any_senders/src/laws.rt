@@ -9,6 +9,7 @@ ghost use Rattle.wl_wire.specs.InStep.{AreSoundFrames};
 ghost use Rattle.wl_segments.specs.Lengths.{Lengths, bit_quanta, sample_at};
 ghost use Rattle.wl_sync.specs.Edges.{Seen};
 ghost use Rattle.wl_phase.specs.Answer.{FindsDominant, SamplesNext};
+ghost use Rattle.wl_phase.specs.Clocks.{steady_tick};
 ghost use Rattle.wl_phase.specs.Ways.{ByTheBook, moved_to};
 ghost use Rattle.wl_bound.specs.Conditions.{IsSound};
 ghost use Rattle.wl_bound.specs.Families.{Bus};
@@ -17,7 +18,8 @@ ghost use Rattle.wl_any_senders.specs.Bounds.{IsBusOf, IsLeftForTwo};
 ghost use Rattle.wl_any_senders.specs.Clocked.{NoEdgeLaws, BitPlaceLaws, BitStartLaws, EdgeLaws};
 ghost use Rattle.wl_any_senders.specs.Plans.{IsPlanOf};
 ghost use Rattle.wl_any_senders.specs.Stations.{AreClose, AreOnALine, AreStations, HaveRoom, HaveWays, Stations};
-ghost use Rattle.wl_any_senders.specs.Starts.{AreAllowed, AreSenders, BeginBit, BeginFrame, Start};
+ghost use Rattle.wl_any_senders.specs.Starts.{AreAllowed, AreSenders, BeginBit, BeginFrame, Drives, Start, reaches_at};
+ghost use Rattle.wl_any_senders.specs.Expected.{IsOutset, Outset, edge_start, expected_bits, expected_drove, expected_end};
 ghost use Rattle.wl_any_senders.specs.OneBit.{AreRight, OneBit};
 ghost use Rattle.wl_any_senders.specs.Course.{IsCourse, IsSampled};
 ghost use Rattle.wl_any_senders.specs.Machines.{AllRight, AreMachines, SomeBegins, GoesByMachines, HasWon, bus_levels};
@@ -142,6 +144,29 @@ pub fn one_frame_is_left()
     ensures { (s : Stations) (bits : ℕ → Start) (drove : ℕ → ℕ → Bool) (frames : ℕ → List Content)
         (past : ℕ → ℕ → List Input) (length : ℕ) → AreSoundFrames s.count frames → AreMachines s bits drove frames past length → SomeBegins s bits
         → (n : ℕ) → n ≤ length → AllRight s bits drove n → stuffed_end (bus_levels s bits n) ≡ Some n → HasWon s bits frames n }
+{
+    wl_wire::laws::machines_stay_in_step();
+    wl_wire::laws::the_least_field_wins();
+    wl_machine::laws::a_transmitter_sends_its_head_stuffed();
+    wl_frame::laws::a_front_of_no_stuffing_ends_six_equal_bits();
+    wl_frame::laws::ten_bits_have_an_edge();
+}
+
+/// Law: a bit with an edge begins in some way at all stations, whenever it is due to each: by itself, or by the first edge that reaches
+/// it. So it is if one station drives the bit dominant, and no edge reaches another one before that one's first quantum.
+pub fn a_bit_with_an_edge_begins()
+    ensures { (s : Stations) (drives : ℕ → Bool) (due : ℕ → ℕ) → AreStations s
+        → ((i k : ℕ) → i < s.count → Drives s (edge_start s drives due) i k
+        → steady_tick (s.clocks i) 0 < reaches_at s (edge_start s drives due) k i)
+        → (k : ℕ) → k < s.count → drives k ≡ true → BeginBit s (edge_start s drives due) }
+{}
+
+/// Law: what is expected of stations is a course, whatever frames they have: the bits that their machines drive, each when it begins by
+/// its edges, up to the end of the stuffed part. So they sample these bits as they are on the bus ([`all_sample_the_same_bits`]).
+pub fn what_is_expected_is_a_course()
+    ensures { (s : Stations) (o : Outset) (length : ℕ) → AreStations s → HaveRoom s → IsOutset s o
+        → ((n : ℕ) → n < length → stuffed_end (bus_levels s (expected_bits s o) n) ≡ None)
+        → IsCourse s (expected_bits s o) (expected_drove s o length) length (λ k. expected_end s o length) }
 {
     wl_wire::laws::machines_stay_in_step();
     wl_wire::laws::the_least_field_wins();
