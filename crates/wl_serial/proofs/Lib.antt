@@ -8,6 +8,7 @@ mod Guesses
 mod Hearing
 mod Kept
 mod Known
+mod Only
 mod Plain
 mod Resting
 mod Rows

@@ -131,3 +131,16 @@ stretched plan rs j until x r f b found few somewhere goes below known further l
   where
     found_here : (d : Running) (t : ℕ) → (get_or rs j x).next ≤ t → t < f.until → f.level ≡ sees plan rs d j t
     found_here d t after before = (found d).1 t (let e = ap (λ o. o.next) (get_or_default rs j x d b) in omega (arith, e, after)) before
+
+-- and so below a later tick
+pub stretched_less : (plan : Plan) (j a b : ℕ) (old new : List Running) → a ≤ b → HasStretched plan j a old new → HasStretched plan j b old new
+stretched_less plan j a b old new less ran = record {
+  r = ran.r;
+  is = ran.is;
+  somewhere = ran.somewhere;
+  goes = λ d delay disturbed k causal run is. ran.goes d delay disturbed k causal run (λ t after before early told. is t after (omega (arith, before, less)) early told);
+  below = λ q h. let g = ran.below q h in omega (arith, g, less);
+  known = ran.known;
+  further = ran.further;
+  later = ran.later;
+}

@@ -120,3 +120,14 @@ sees plan rs d j t = level_of (found (line_of plan) (tells rs d) j t)
 abbrev pub IsFound : Plan → ℕ → List Running → Found → Type 0
 IsFound plan j rs f =
     (d : Running) → ((slice_index_or rs j d).next < f.until) × ((t : ℕ) → (slice_index_or rs j d).next ≤ t → t < f.until → f.level ≡ sees plan rs d j t)
+
+-- From the next quantum of node i on and below tick t, its place finds what node j drove, by what all have told, and nothing else.
+abbrev pub HearsOnly : Plan → List Running → ℕ → ℕ → ℕ → Type 0
+HearsOnly plan rs j i t =
+    (d : Running) (u : ℕ) → (slice_index_or rs i d).next ≤ u → u < t
+    → found (line_of plan) (tells rs d) i u ≡ drove (slice_index_or rs j d).changes (delay_of plan.topology j i) u
+
+-- Of no node but node j a change comes before that tick, and all others are recessive up to their next changes.
+pub record IsAlone (n j t : ℕ) (s : Sources) : Type 0 where
+  pub nexts : (k : ℕ) → k ≢ j → k < most_places → t ≤ slice_index_or s.nexts k 0
+  pub drives : 0 < t → (k : ℕ) → k ≢ j → k < n → slice_index_or s.drives k false ≡ false

@@ -3,7 +3,7 @@ ghost use Rattle.std.specs.Prelude.{◌≡◌, ℕ, ◌+◌, ◌<◌, ◌≤◌,
 ghost use Rattle.wl_level.specs.Levels.{level_of};
 ghost use Rattle.wl_plan.specs.Checked.{IsChecked};
 ghost use Rattle.wl_plan.specs.declared.plan.Plan.{Plan as GivenPlan};
-ghost use Rattle.wl_serial.specs.Heard.{AreDelays, AreOthers, AreSooner, IsEar, AreEars, IsFound, IsHeard, AreHeard, HasChanged};
+ghost use Rattle.wl_serial.specs.Heard.{AreDelays, AreOthers, AreSooner, IsEar, AreEars, IsFound, IsHeard, AreHeard, HasChanged, HearsOnly};
 ghost use Rattle.wl_serial.specs.Rest.{IsSilent};
 ghost use Rattle.wl_serial.specs.Running.{AreRunning, AreSomewhere, AreKnown, KnowsOthers, RunsBelow, AllKnown};
 
@@ -106,6 +106,23 @@ impl Ear {
         self.heard.until.min(self.shaken.until)
     }
 
+    /// Returns the tick below which node `i` finds what node `j` drove, from its next quantum on, by the known changes; 0 if something else
+    /// may be there.
+    pub(crate) fn alone_until(&self, plan: &Plan, running: &[Running], j: usize, i: usize) -> u64
+        requires checked { IsChecked plan.now }
+        requires node { i < length plan.now.nodes }
+        requires leader { j < length plan.now.nodes }
+        requires all { length running.now ≡ length plan.now.nodes }
+        requires ear { IsEar plan.now i self.now }
+        requires heard { IsHeard plan.now running.now i self.now }
+        ensures { HearsOnly plan.now running.now j i result }
+    {
+        if self.shaken.dominant || running[i].next < self.shaken.from {
+            return 0;
+        }
+        self.sources.alone_until(j).min(self.shaken.until)
+    }
+
     /// Asks what arrives from the nodes, if the last answer doesn't say it for tick `t`, at which node `j` has its next quantum.
     fn hear_anew(&mut self, plan: &Plan, running: &[Running], j: usize, t: u64)
         requires checked { IsChecked plan.now }
@@ -189,7 +206,7 @@ pub(crate) fn tell(plan: &Plan, ears: &mut [Ear], i: usize, tick: u64)
 }
 
 /// Returns the level that nodes and disturbances make.
-fn level_by(driven: bool, disturbed: bool) -> Level
+pub(crate) fn level_by(driven: bool, disturbed: bool) -> Level
     ensures { result ≡ level_of (driven || disturbed) }
 {
     if driven || disturbed {

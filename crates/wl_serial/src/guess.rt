@@ -10,10 +10,11 @@ ghost use Rattle.wl_serial.specs.Heard.{AreEars, AreHeard};
 ghost use Rattle.wl_serial.specs.Running.{AreRunning, AreSomewhere, AreKnown, IsNext, RunsBelow, ticks_left};
 ghost use Rattle.wl_serial.specs.Stretch.{TellsTheSame};
 
+use crate::alone::Alone;
 use crate::ear::Ear;
 use crate::engine::all_known;
 use crate::running_node::{Before, Running, Ticks};
-use crate::turn::stretch;
+use crate::turn::{run_found, stretch};
 use std::alloc::{AllocError, Global};
 use wl_plan::Plan;
 
@@ -123,6 +124,7 @@ fn follow(
     until: u64,
 ) -> Result<bool, AllocError>
     requires checked { IsChecked plan.now }
+    requires leader { j < length plan.now.nodes }
     requires somewhere { AreSomewhere plan.now running.old }
     requires ears { AreEars plan.now ears.old }
     requires heard { AreHeard plan.now running.old ears.old }
@@ -135,23 +137,26 @@ fn follow(
 {
     wl_plan::simulation_laws();
     for i in 0..running.len() {
-        if i != j && !listen(plan, running, ears, i, until)? {
+        if i != j && !listen(plan, running, ears, j, i, until)? {
             return Ok(false);
         }
     }
     Ok(true)
 }
 
-/// Runs node `i` on up to a tick, beside all known changes, as long as it doesn't change its drive. True if it never did.
+/// Runs node `i` on up to a tick, beside all known changes, as long as it doesn't change its drive. True if it never did. As
+/// long as it hears node `j` alone, it goes from change to change of that one.
 fn listen(
     plan: &Plan,
     running: &mut [Running],
     ears: &mut [Ear],
+    j: usize,
     i: usize,
     until: u64,
 ) -> Result<bool, AllocError>
     requires checked { IsChecked plan.now }
     requires node { i < length plan.now.nodes }
+    requires leader { j < length plan.now.nodes }
     requires somewhere { AreSomewhere plan.now running.old }
     requires ears { AreEars plan.now ears.old }
     requires heard { AreHeard plan.now running.old ears.old }
@@ -166,8 +171,14 @@ fn listen(
     wl_plan::checked_is_sound();
     wl_plan::simulation_laws();
     wl_plan::a_consistent_guess_holds();
+    let mut alone = Alone {
+        node: j,
+        until: 0,
+        come: 0,
+    };
     while running[i].next < until {
-        if stretch(plan, running, ears, i, until)? {
+        let found = alone.find(plan, running, &mut ears[i], i, until);
+        if run_found(plan, running, ears, i, found)? {
             return Ok(false);
         }
     }

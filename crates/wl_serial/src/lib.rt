@@ -1,6 +1,7 @@
 //! The one-thread engine: the outcome of the tick-by-tick simulation of a plan, computed from quantum to quantum.
 #![tactic(auto)]
 
+mod alone;
 mod disturbed;
 mod ear;
 mod engine;

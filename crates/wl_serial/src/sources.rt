@@ -2,7 +2,8 @@
 ghost use Rattle.std.specs.Prelude.{◌≡◌, ◌≢◌, ℕ, ◌<◌, ◌≤◌, ◌^◌, false, length, slice_index_or};
 ghost use Rattle.wl_plan.specs.Checked.{IsChecked};
 ghost use Rattle.wl_record_core.specs.Truth.{IsIncreasing};
-ghost use Rattle.wl_serial.specs.Heard.{AreDelays, AreTallied, IsAhead, AreSooner, AreSources, IsPulseTold, drove};
+ghost use Rattle.wl_topology.specs.Limits.{most_places};
+ghost use Rattle.wl_serial.specs.Heard.{AreDelays, AreTallied, IsAhead, IsAlone, AreSooner, AreSources, IsPulseTold, drove};
 ghost use Rattle.wl_serial.specs.Running.{AreSomewhere};
 
 use crate::pulse::{Pulse, pulse_of};
@@ -129,6 +130,30 @@ impl Sources {
             until,
             dominant: 0 < self.driving,
         }
+    }
+
+    /// Returns the tick before which no change of another node than node `j` arrives, if all others are recessive; else 0.
+    pub(crate) fn alone_until(&self, j: usize) -> u64
+        requires { j < most_places }
+        ensures { (n : ℕ) → j < n → n ≤ most_places → AreTallied n self.now → IsAlone n j result self.now }
+    {
+        if usize::from(self.drives[j]) < self.driving {
+            return 0;
+        }
+        self.others_until(j)
+    }
+
+    /// Returns the tick before which no change of another node than node `j` arrives.
+    fn others_until(&self, j: usize) -> u64
+        ensures { (k : ℕ) → k ≢ j → k < most_places → result ≤ slice_index_or self.now.nexts k 0 }
+    {
+        let mut until = u64::MAX;
+        for k in 0..MOST_NODES {
+            if k != j {
+                until = until.min(self.nexts[k]);
+            }
+        }
+        until
     }
 
     /// Takes up the changes of node `i` that have arrived by tick `t`.

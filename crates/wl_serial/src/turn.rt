@@ -1,11 +1,11 @@
 //! A node's turn: all its quanta below its horizon.
 ghost use Rattle.std.specs.Prelude.{◌≡◌, ℕ, ◌<◌, ◌≤◌, false, IfOk, OnOk, length};
 ghost use Rattle.wl_plan.specs.Checked.{IsChecked};
-ghost use Rattle.wl_serial.specs.Heard.{AreEars, AreHeard};
+ghost use Rattle.wl_serial.specs.Heard.{AreEars, AreHeard, IsFound};
 ghost use Rattle.wl_serial.specs.Running.{AreRunning, AreSomewhere, AreKnown, KnowsOthers, IsNext, IsFewer, OnlyOne, RunsBelow, ticks_left};
 ghost use Rattle.wl_serial.specs.Stretch.{HasStretched, TellsTheSame};
 
-use crate::ear::{Ear, tell};
+use crate::ear::{Ear, Found, tell};
 use crate::running_node::{Running, Ticks};
 use std::alloc::AllocError;
 use wl_plan::Plan;
@@ -89,6 +89,31 @@ pub(crate) fn stretch(
     ensures same { IfOk result (λ changed. changed ≡ false → TellsTheSame j running.old running.new) }
 {
     let found = ears[j].hear(plan, running, j, until);
+    let changed = run_found(plan, running, ears, j, found)?;
+    Ok(changed)
+}
+
+/// Runs quanta of node `j` as long as what it finds stays so, up to the first that changes its drive. All places note its change. True if
+/// there was one.
+pub(crate) fn run_found(
+    plan: &Plan,
+    running: &mut [Running],
+    ears: &mut [Ear],
+    j: usize,
+    found: Found,
+) -> Result<bool, AllocError>
+    requires checked { IsChecked plan.now }
+    requires node { j < length plan.now.nodes }
+    requires somewhere { AreSomewhere plan.now running.old }
+    requires ears { AreEars plan.now ears.old }
+    requires heard { AreHeard plan.now running.old ears.old }
+    requires ends { found.until ≤ plan.now.end }
+    requires found { IsFound plan.now j running.old found }
+    ensures ears { OnOk result (AreEars plan.now ears.new) }
+    ensures heard { OnOk result (AreHeard plan.now running.new ears.new) }
+    ensures ran { OnOk result (HasStretched plan.now j found.until running.old running.new) }
+    ensures same { IfOk result (λ changed. changed ≡ false → TellsTheSame j running.old running.new) }
+{
     if let Some(tick) = running[j].go(plan, j, found.level, found.until)? {
         tell(plan, ears, j, tick);
         return Ok(true);

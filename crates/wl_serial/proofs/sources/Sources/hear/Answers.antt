@@ -1,5 +1,5 @@
 -- Of the node that is kept apart something else is kept, or all is as it was.
-use Rattle.std.proofs.Common.{◌≡◌, ◌∙◌, ◌<◌, ap, refl, sym, subst, get_or, length, nat_lt, arith}
+use Rattle.std.proofs.Common.{◌∙◌, ◌<◌, ap, refl, sym, subst, get_or, length, nat_lt, arith}
 use Rattle.std.proofs.lemmas.List.{get_or_default}
 use Rattle.wl_record_core.specs.Truth.{IsIncreasing}
 use Rattle.wl_topology.specs.Delays.{delay_of}
