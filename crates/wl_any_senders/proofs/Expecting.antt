@@ -66,29 +66,29 @@ module _ (steps : StayInStep) (errors : FindNoErrors) (winner : LeastWins) (stuf
   edge_are : (n : ℕ) → begins_with_edge s bits (suc n) ≡ (not (any_below s.count (wants s o n)) && any_below s.count (wants s o (suc n)))
   edge_are n = ap (λ b. not b && bus_bit s bits (suc n)) (bus_are n) ∙ ap (λ b. not (any_below s.count (wants s o n)) && b) (bus_are (suc n))
 
-  edge_is : (n : ℕ) → begins_with_edge s bits (suc n) ≡ true → bits (suc n) ≡ edge_start s (wants s o (suc n)) (dues n)
+  pub edge_is : (n : ℕ) → begins_with_edge s bits (suc n) ≡ true → bits (suc n) ≡ edge_start s (wants s o (suc n)) (dues n)
   edge_is n e = ap (λ b. next_start s b (wants s o (suc n)) (bits n)) (sym (edge_are n) ∙ e)
 
-  plain_is : (n : ℕ) → begins_with_edge s bits (suc n) ≡ false → bits (suc n) ≡ plain_start (wants s o (suc n)) (dues n)
+  pub plain_is : (n : ℕ) → begins_with_edge s bits (suc n) ≡ false → bits (suc n) ≡ plain_start (wants s o (suc n)) (dues n)
   plain_is n e = ap (λ b. next_start s b (wants s o (suc n)) (bits n)) (sym (edge_are n) ∙ e)
 
-  few_at : (n : ℕ) → GoesOn n → since n ≤ 9
+  pub few_at : (n : ℕ) → GoesOn n → since n ≤ 9
   few_at n on = few steps errors winner stuffed six ten s o is bits drives_are n on
 
   senders_at : (n k : ℕ) → GoesOn n → k < s.count → (bits (suc n)).drives k ≡ true → sends (suc n) k ≡ true
   senders_at n k on lt e = senders steps errors winner stuffed six ten s o is bits drives_are n k on lt e
 
-  sent_before : (n k : ℕ) → sends (suc n) k ≡ true → sends n k ≡ true
+  pub sent_before : (n k : ℕ) → sends (suc n) k ≡ true → sends n k ≡ true
   sent_before n k e = (and_parts (sends n k) ((bits n).drives k || not (bus_bit s bits n)) e).0
 
-  sent_at : (m n k : ℕ) → m ≤ n → sends n k ≡ true → sends m k ≡ true
+  pub sent_at : (m n k : ℕ) → m ≤ n → sends n k ≡ true → sends m k ≡ true
   sent_at m zero k less e = (let same : zero ≡ m = omega arith in subst (λ i. sends i k ≡ true) same e)
   sent_at m (suc n) k less e = elim (cases_lt n m) [
     | inl last ↦ (let same : suc n ≡ m = omega arith in subst (λ i. sends i k ≡ true) same e)
     | inr below ↦ sent_at m n k below (sent_before n k e)
   ]
 
-  may : (n k : ℕ) → k < s.count → sends n k ≡ true → s.may_send k ≡ true
+  pub may : (n k : ℕ) → k < s.count → sends n k ≡ true → s.may_send k ≡ true
   may n k lt e = is.allowed k lt (sent_at 0 n k (omega arith) e)
 
   -- from one bit to the next
@@ -238,7 +238,7 @@ module _ (steps : StayInStep) (errors : FindNoErrors) (winner : LeastWins) (stuf
 
   -- a bit is driven from before its sample on
   module _ (length : ℕ) (valid : (n : ℕ) → n < length → GoesOn n) where
-    place_low : (due : ℕ → ℕ) (i : ℕ) (c : Option ℕ) → due i ≤ place_found s due i c + (s.lengths i).sjw
+    pub place_low : (due : ℕ → ℕ) (i : ℕ) (c : Option ℕ) → due i ≤ place_found s due i c + (s.lengths i).sjw
     place_low due i None = omega arith
     place_low due i (Some q) = omega arith
 
@@ -255,14 +255,14 @@ module _ (steps : StayInStep) (errors : FindNoErrors) (winner : LeastWins) (stuf
     from_start i inside (inl itself) = let e = itself.from in omega arith
     from_start i inside (inr hard) = let e = hard.from in let p = hard.place in omega arith
 
-    from_sample : (n i : ℕ) → i < s.count → (bits n).from i ≤ (bits n).place i + sample_at (s.lengths i)
+    pub from_sample : (n i : ℕ) → i < s.count → (bits n).from i ≤ (bits n).place i + sample_at (s.lengths i)
     from_sample zero i inside = from_start i inside (is.begin i inside)
     from_sample (suc n) i inside = elim (cases_Bool (begins_with_edge s bits (suc n))) [
       | inl edge ↦ subst (λ b. b.from i ≤ b.place i + sample_at (s.lengths i)) (sym (edge_is n edge)) (from_edge n i inside)
       | inr plain ↦ subst (λ b. b.from i ≤ b.place i + sample_at (s.lengths i)) (sym (plain_is n plain)) (let h : dues n i ≤ dues n i + sample_at (s.lengths i) = omega arith in h)
     ]
 
-    after_there : (n k : ℕ) → n < length → k < s.count → (bits n).place k + sample_at (s.lengths k) < (bits (suc n)).from k
+    pub after_there : (n k : ℕ) → n < length → k < s.count → (bits n).place k + sample_at (s.lengths k) < (bits (suc n)).from k
     after_there n k less there = after_at n (valid n less) (close_at n (valid n less)) k there
 
     from_up : (n k : ℕ) → n < length → k < s.count → tick k ((bits n).from k) ≤ tick k ((bits (suc n)).from k)
@@ -271,7 +271,7 @@ module _ (steps : StayInStep) (errors : FindNoErrors) (winner : LeastWins) (stuf
         let two = after_there n k less there in
         tick_next s are k there ((bits n).from k) ((bits (suc n)).from k) (omega arith)
 
-    from_all : (m n k : ℕ) → m ≤ n → n ≤ length → k < s.count → tick k ((bits m).from k) ≤ tick k ((bits n).from k)
+    pub from_all : (m n k : ℕ) → m ≤ n → n ≤ length → k < s.count → tick k ((bits m).from k) ≤ tick k ((bits n).from k)
     from_all m zero k less inside there = (let e : zero ≡ m = omega arith in let f : tick k ((bits zero).from k) ≡ tick k ((bits m).from k) = ap (λ i. tick k ((bits i).from k)) e in omega arith)
     from_all m (suc n) k less inside there = elim (cases_lt n m) [
       | inl last ↦ (let e : suc n ≡ m = omega arith in let f : tick k ((bits (suc n)).from k) ≡ tick k ((bits m).from k) = ap (λ i. tick k ((bits i).from k)) e in omega arith)
@@ -291,7 +291,7 @@ module _ (steps : StayInStep) (errors : FindNoErrors) (winner : LeastWins) (stuf
         let r = and_parts (nat_le (tick k ((bits x.0).from k)) t) (nat_lt t (tick k ((bits (suc x.0)).from k))) p.1 in
         h x.0 x.1 p.0 (leb-true (tick k ((bits x.0).from k)) t r.0) (ltb-true t (tick k ((bits (suc x.0)).from k)) r.1)))
 
-    driven_at : (n k t : ℕ) → n < length → k < s.count → tick k ((bits n).from k) ≤ t → t < tick k ((bits (suc n)).from k) → drove k t ≡ wants s o n k
+    pub driven_at : (n k t : ℕ) → n < length → k < s.count → tick k ((bits n).from k) ≤ t → t < tick k ((bits (suc n)).from k) → drove k t ≡ wants s o n k
     driven_at n k t less there from_n to = elim (cases_Bool (wants s o n k)) [
       | inl dominant ↦
           any_from length n (test k t) less
@@ -309,7 +309,7 @@ module _ (steps : StayInStep) (errors : FindNoErrors) (winner : LeastWins) (stuf
     ]
 
     -- who doesn't send any more drives nothing
-    wants_sends : (n k : ℕ) → n ≤ length → k < s.count → wants s o n k ≡ true → sends n k ≡ true
+    pub wants_sends : (n k : ℕ) → n ≤ length → k < s.count → wants s o n k ≡ true → sends n k ≡ true
     wants_sends zero k less there dominant = drives_are 0 k ∙ dominant
     wants_sends (suc n) k less there dominant = senders_at n k (valid n (omega arith)) there (drives_are (suc n) k ∙ dominant)
 

@@ -14,5 +14,6 @@ mod Passing
 mod Planned
 mod Rows
 mod Sampled
+mod Seeing
 mod Settling
 mod Starting

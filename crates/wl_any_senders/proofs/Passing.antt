@@ -272,7 +272,7 @@ module _ (s : Stations) (are : AreStations s) (room : HaveRoom s) (bits : ℕ �
         → IsHeld (suc n) i k (steady_tick (s.clocks k) ((bits (suc (suc n))).from k))
     held_plain i k inside there sender recessive plain = record {
       begin = steady_tick (s.clocks k) ((bits (suc n)).from k);
-      before = is_there s are room (sends (suc n)) (since (suc n)) (is.few (suc n) less) (bits (suc n)) (λ k there e. allowed_at (suc n) k there e) (close_plain plain) i k inside there sender (is.plain n k less there right plain).1;
+      before = is_there s are room (sends (suc n)) (since (suc n)) (let f = is.few (suc n) less in omega arith) (bits (suc n)) (λ k there e. allowed_at (suc n) k there e) (close_plain plain) i k inside there sender (is.plain n k less there right plain).1;
       recessive = λ t from before. is.drives (suc n) k t less there (right k there) sender from before ∙ recessive;
     }
 
@@ -305,6 +305,9 @@ module _ (s : Stations) (are : AreStations s) (room : HaveRoom s) (bits : ℕ �
   pub reached : (n : ℕ) → n < length → Reached n
   reached zero less = first less
   reached (suc n) less = next n less (reached n (omega arith))
+
+  pub one_bit : (n : ℕ) → n < length → OneBit s (sends (suc n)) (since n) (bits n) (bits (suc n)) drove
+  one_bit n less = one n less (reached n less)
 
   pub sampled_bit : (n : ℕ) → n < length → IsSampled s bits drove n
   sampled_bit n less = let r = reached n less in record { right = right_at n less r; close = r.close }

@@ -16,13 +16,13 @@ use Rattle.wl_any_senders.proofs.Measures.{same_tick, instant_more, reaches_by, 
 pub none_below : (n : ℕ) (test : ℕ → Bool) → any_below n test ≡ false → (k : ℕ) → k < n → test k ≡ false
 none_below n test e k less = false_from_ne_true (test k) (λ passes. (let some = any_from n k test less passes in cc))
 
-module _ (s : Stations) (are : AreStations s) (room : HaveRoom s) (sends : ℕ → Bool) (since : ℕ) (few : since ≤ 9) (b : Start) (allowed : AreAllowed s sends) (close : AreClose s sends since b.place) where
+module _ (s : Stations) (are : AreStations s) (room : HaveRoom s) (sends : ℕ → Bool) (since : ℕ) (few : since ≤ 10) (b : Start) (allowed : AreAllowed s sends) (close : AreClose s sends since b.place) where
   -- a bit that a sender begins with its place 0 is there at the sample of each other station, and at its own
   there_other : (i k : ℕ) → i < s.count → k < s.count → i ≢ k → sends k ≡ true → b.from k ≡ b.place k → reaches_at s b k i ≤ sampled_at s b i
   there_other i k inside there other sender from =
       let near = close k i there inside (λ e. other (sym e)) (inl sender) in
       let fits = room.is_there i k inside there other (allowed k there sender) in
-      let drift : since * bit_drift s k i ≤ 10 * bit_drift s k i = mul-le-mul_right (bit_drift s k i) (let f : since ≤ 10 = omega arith in f) in
+      let drift : since * bit_drift s k i ≤ 10 * bit_drift s k i = mul-le-mul_right (bit_drift s k i) few in
       let same = same_tick s are i k inside there in
       let all = instant_more s are i k inside there (b.place i) (sample_at (s.lengths i)) in
       let f : shared_instant s k i (b.from k) ≡ shared_instant s k i (b.place k) = ap (shared_instant s k i) from in
@@ -112,7 +112,7 @@ module _ (s : Stations) (are : AreStations s) (room : HaveRoom s) (sends : ℕ �
   -- what a sender drives in the bit is what is found at the sample, a delay later
   driven_then : (i k : ℕ) → i < s.count → k < s.count → RightBefore i → sends k ≡ true → b.from k ≡ b.place k → (s.delay k i ≤ sampled_at s b i) × (drove k (sampled_at s b i - s.delay k i) ≡ b.drives k)
   driven_then i k inside there right sender from =
-      let here = is_there s are room sends since one.few b one.allowed one.close i k inside there sender from in
+      let here = is_there s are room sends since (let f = one.few in omega arith) b one.allowed one.close i k inside there sender from in
       let later = next_later (suc (steady_tick (s.clocks k) (c.from k))) i k inside there right sender (omega arith) in
       (omega arith, one.drives k (sampled_at s b i - s.delay k i) there sender (omega arith) (omega arith))
 

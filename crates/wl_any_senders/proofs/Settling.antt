@@ -1,10 +1,10 @@
 -- A bit with an edge: each station begins it by itself, or by the first edge that reaches it.
 use Rattle.std.proofs.Common.{◌≡◌, ◌≢◌, ◌∙◌, ◌⊎◌, inl, inr, refl, sym, ap, subst, ℕ, zero, suc, ◌+◌, ◌-◌, ◌*◌, ◌<◌, ◌≤◌, ◌&&◌, not, max, cond, Bool, true, false, Option, Some, None, arith}
 use Rattle.std.specs.Prelude.{◌==◌, nat_le}
-use Rattle.std.proofs.lemmas.Bool.{and_from, and_parts, cases_Bool, cases_eq, cases_lt, eq-eqb, eqb-true, le-leb, leb-true, lt-leb, ne_eqb, not-true}
+use Rattle.std.proofs.lemmas.Bool.{and_from, and_parts, cases_Bool, cases_eq, cases_lt, eq-eqb, eqb-true, false_from_ne_true, le-leb, leb-true, lt-leb, ne_eqb, not-true}
 use Rattle.std.proofs.Math.Nat.{lt_of_mul-lt-mul_left, mul-le-mul_left}
 use Rattle.wl_level.specs.Places.{IsFirstPlace, first_place}
-use Rattle.wl_level.proofs.Callers.{first_cong, first_found, first_is, first_none}
+use Rattle.wl_level.proofs.Callers.{first_cong, first_found, first_is, first_none, none_first}
 use Rattle.wl_topology.specs.Driven.{any_below}
 use Rattle.wl_topology.proofs.Callers.{any_from, any_one, any_same}
 use Rattle.wl_phase.specs.Clocks.{Steady, instant, steady_tick}
@@ -321,3 +321,22 @@ module _ (s : Stations) (are : AreStations s) (drives : ℕ → Bool) (due : ℕ
       let r = reached_from i q x.passes in
       let f = fixed i inside ∙ ap (from_found s due i) e in
       inr (q, r.0, r.1, r.2, omega arith))
+
+  -- by the first edge that it finds
+  reached_found : (i : ℕ) → (f : FollowsSoft s b i) → is_reached s drives from i f.found ≡ true
+  reached_found i f = reached_by i f.by f.found f.finds.by f.finds.finds.seen
+
+  unreached_before : (i : ℕ) → (f : FollowsSoft s b i) → (j : ℕ) → j < f.found → is_reached s drives from i j ≡ false
+  unreached_before i f j below =
+      false_from_ne_true (is_reached s drives from i j)
+      (λ e. (let x = reached_from i j e in let unseen = f.finds.finds.unseen j below in let first = f.finds.first x.0 x.1 in let reach = x.2 in absurd (omega arith)))
+
+  pub from_early : (i : ℕ) → i < s.count → (f : FollowsSoft s b i) → f.found ≤ due i → from i ≡ max f.found (moved_to (f.found - 1) (s.lengths i).sjw (due i))
+  from_early i inside f by_due =
+      fixed i inside
+      ∙ ap (from_found s due i)
+      (first_found (is_reached s drives from i) (suc (due i)) f.found (record { inside = omega arith; passes = reached_found i f; none_before = unreached_before i f }))
+
+  pub from_late : (i : ℕ) → i < s.count → (f : FollowsSoft s b i) → due i < f.found → from i ≡ due i
+  from_late i inside f later =
+      fixed i inside ∙ ap (from_found s due i) (none_first (is_reached s drives from i) (suc (due i)) (λ j below. unreached_before i f j (omega arith)))

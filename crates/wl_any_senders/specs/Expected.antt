@@ -3,18 +3,24 @@ use Rattle.std.specs.Prelude.{◌≡◌, ℕ, zero, suc, ◌+◌, ◌-◌, ◌<�
 use Rattle.wl_level.specs.declared.Level.{Level}
 use Rattle.wl_level.specs.Levels.{is_dominant, level_of}
 use Rattle.wl_level.specs.Places.{first_place}
-use Rattle.wl_segments.specs.Lengths.{bit_quanta}
-use Rattle.wl_topology.specs.Driven.{any_below}
+use Rattle.wl_segments.specs.Lengths.{bit_quanta, sample_at}
+use Rattle.wl_sync.specs.Edges.{Seen}
+use Rattle.wl_sync.specs.Running.{clock_after}
+use Rattle.wl_sync.specs.Skips.{steady_clock}
+use Rattle.wl_topology.specs.Driven.{any_below, driven}
 use Rattle.wl_frame.specs.Grammar.{Content}
 use Rattle.wl_machine.specs.Stretch.{Input}
 use Rattle.wl_machine.specs.Stretch.Input.{Sample}
 use Rattle.wl_machine.specs.Judged.{drive_of, stretch_of}
 use Rattle.wl_phase.specs.Clocks.{steady_tick}
+use Rattle.wl_phase.specs.InStep.{seen_before}
 use Rattle.wl_phase.specs.Ways.{moved_to}
 use Rattle.wl_wire.specs.Wire.{Event, Handed, idle_wire, sampled, wire_after}
 use Rattle.wl_wire.specs.InStep.{AreSoundFrames}
 use Rattle.wl_any_senders.specs.Stations.{Stations}
 use Rattle.wl_any_senders.specs.Starts.{AreAllowed, BeginFrame, Start}
+use Rattle.wl_any_senders.specs.Clocked.{SamplesBy}
+use Rattle.wl_any_senders.specs.Course.{bus_bit}
 use Rattle.wl_any_senders.specs.OneBit.{sampled_at}
 use Rattle.wl_any_senders.specs.Machines.{MayBegin}
 
@@ -116,3 +122,21 @@ pub record IsOutset (s : Stations) (o : Outset) : Type 0 where
 -- a tick after all samples of so many bits
 abbrev pub expected_end : Stations → Outset → (length : ℕ) → ℕ
 expected_end s o length = suc (most length (λ n. most s.count (λ i. sampled_at s (expected_bits s o n) i)))
+
+-- the quantum at which station i samples bit n
+abbrev pub expected_sample : Stations → Outset → (n i : ℕ) → ℕ
+expected_sample s o n i = (expected_bits s o n).place i + sample_at (s.lengths i)
+
+-- Between its samples of bit n and of the next one station i sees what is expected of so many bits: the levels that reach it if all drive so, and what it drives itself. It awaits no
+-- start of frame.
+pub record SeesExpected (s : Stations) (o : Outset) (length i : ℕ) (seen : ℕ → Seen) (n : ℕ) : Type 0 where
+  pub level : (q : ℕ) → expected_sample s o n i < q → q ≤ expected_sample s o (suc n) i
+      → (seen q).level ≡ level_of (driven s.count s.delay (expected_drove s o length) i (steady_tick (s.clocks i) q))
+  pub awaits : (q : ℕ) → expected_sample s o n i < q → q ≤ expected_sample s o (suc n) i → (seen q).awaits ≡ false
+  pub before : (q : ℕ) → expected_sample s o n i < q → q ≤ (expected_bits s o (suc n)).from i → (seen q).driving ≡ wants s o n i
+  pub after : (q : ℕ) → (expected_bits s o (suc n)).from i < q → q ≤ expected_sample s o (suc n) i → (seen q).driving ≡ wants s o (suc n) i
+
+-- Its bit clock has sampled bit n as it is on the bus. No edge has moved the bit if it is recessive.
+pub record HasSampled (s : Stations) (o : Outset) (i : ℕ) (seen : ℕ → Seen) (n : ℕ) : Type 0 where
+  pub sampled : SamplesBy (s.lengths i) seen (expected_sample s o n i) (level_of (bus_bit s (expected_bits s o) n))
+  pub steady : bus_bit s (expected_bits s o) n ≡ false → clock_after (s.lengths i) (seen_before seen (suc (expected_sample s o n i))) ≡ steady_clock (s.lengths i)

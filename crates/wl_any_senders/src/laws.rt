@@ -2,6 +2,7 @@
 
 ghost use Rattle.std.specs.Prelude.{◌≡◌, ◌+◌, ◌-◌, ◌<◌, ◌≤◌, ℕ, suc, true, Bool, List, Some, None};
 ghost use Rattle.wl_level.specs.declared.Level.TheVariants.{Dominant};
+ghost use Rattle.wl_level.specs.Levels.{level_of};
 ghost use Rattle.wl_frame.specs.Grammar.{Content};
 ghost use Rattle.wl_machine.specs.Frames.{stuffed_end};
 ghost use Rattle.wl_machine.specs.Stretch.{Input};
@@ -15,13 +16,13 @@ ghost use Rattle.wl_bound.specs.Conditions.{IsSound};
 ghost use Rattle.wl_bound.specs.Families.{Bus};
 ghost use Rattle.wl_plan.specs.declared.plan.Plan.{Plan};
 ghost use Rattle.wl_any_senders.specs.Bounds.{IsBusOf, IsLeftForTwo};
-ghost use Rattle.wl_any_senders.specs.Clocked.{NoEdgeLaws, BitPlaceLaws, BitStartLaws, EdgeLaws};
+ghost use Rattle.wl_any_senders.specs.Clocked.{BitIs, NoEdgeLaws, BitPlaceLaws, BitStartLaws, EdgeLaws};
 ghost use Rattle.wl_any_senders.specs.Plans.{IsPlanOf};
 ghost use Rattle.wl_any_senders.specs.Stations.{AreClose, AreOnALine, AreStations, HaveRoom, HaveWays, Stations};
 ghost use Rattle.wl_any_senders.specs.Starts.{AreAllowed, AreSenders, BeginBit, BeginFrame, Drives, Start, reaches_at};
-ghost use Rattle.wl_any_senders.specs.Expected.{IsOutset, Outset, edge_start, expected_bits, expected_drove, expected_end};
+ghost use Rattle.wl_any_senders.specs.Expected.{HasSampled, IsOutset, Outset, SeesExpected, edge_start, expected_bits, expected_drove, expected_end, expected_sample};
 ghost use Rattle.wl_any_senders.specs.OneBit.{AreRight, OneBit};
-ghost use Rattle.wl_any_senders.specs.Course.{IsCourse, IsSampled};
+ghost use Rattle.wl_any_senders.specs.Course.{IsCourse, IsSampled, bus_bit};
 ghost use Rattle.wl_any_senders.specs.Machines.{AllRight, AreMachines, SomeBegins, GoesByMachines, HasWon, bus_levels};
 
 /// Law: stations that begin a frame begin it close together: the start of frame of each reaches each other one by its way after that
@@ -168,6 +169,26 @@ pub fn what_is_expected_is_a_course()
         → ((n : ℕ) → n < length → stuffed_end (bus_levels s (expected_bits s o) n) ≡ None)
         → IsCourse s (expected_bits s o) (expected_drove s o length) length (λ k. expected_end s o length) }
 {
+    wl_wire::laws::machines_stay_in_step();
+    wl_wire::laws::the_least_field_wins();
+    wl_machine::laws::a_transmitter_sends_its_head_stuffed();
+    wl_frame::laws::a_front_of_no_stuffing_ends_six_equal_bits();
+    wl_frame::laws::ten_bits_have_an_edge();
+}
+
+/// Law: a bit clock that sees what is expected goes as is expected, from one bit to the next: it begins the bit where that is expected, and
+/// samples it as it is on the bus. What it sees are the levels that reach it if all drive as is expected, and that it drives so itself.
+pub fn bit_clocks_go_as_expected()
+    ensures { (s : Stations) (o : Outset) (length i : ℕ) (seen : ℕ → Seen) → AreStations s → HaveRoom s → IsOutset s o
+        → ((n : ℕ) → n < length → stuffed_end (bus_levels s (expected_bits s o) n) ≡ None)
+        → i < s.count → (n : ℕ) → suc n < length → SeesExpected s o length i seen n → HasSampled s o i seen n
+        → BitIs (s.lengths i) seen (expected_sample s o n i) ((expected_bits s o (suc n)).place i) ((expected_bits s o (suc n)).from i)
+        (level_of (bus_bit s (expected_bits s o) (suc n))) × HasSampled s o i seen (suc n) }
+{
+    wl_topology::driven_laws();
+    a_station_begins_its_bits();
+    wl_sync::clock_goes_on();
+    wl_phase::laws::an_edge_moves_the_sample();
     wl_wire::laws::machines_stay_in_step();
     wl_wire::laws::the_least_field_wins();
     wl_machine::laws::a_transmitter_sends_its_head_stuffed();
