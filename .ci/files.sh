@@ -29,6 +29,7 @@ said 'with a hint' 3 'fault: Read\nfile: none\nhint: Check that there is such a 
 said 'a folder to read' 3 'fault: Read\nfile: .\n' check .
 said 'a folder to write' 3 'fault: Write\nfile: .\n' check "$plan" -o .
 said 'a folder that is not there' 3 'fault: Write\nfile: none/out\n' check "$plan" -o none/out
+said 'the hint on it' 3 'fault: Write\nfile: none/out\nhint: Check that the file and its folder can be written and their disk has room.\n' check --hint "$plan" -o none/out
 said 'a full device' 3 'fault: Write\nfile: /dev/full\n' run "$plan" -o /dev/full
 said 'a device' 0 '' run "$plan" -o /dev/null
 is 'a device stays' [ -c /dev/null ]
@@ -44,6 +45,9 @@ cp "$plan" "$files/in" && (cd "$files" && "$program" run in -o /dev/stdin < in) 
 chmod 640 "$files/in" && cp "$plan" "$files/plan" && said 'rights' 0 '' run plan -o in && is 'the rights stay' [ "$(stat -c %a "$files/in")" = 640 ]
 mkfifo "$files/pipe" && (cat "$files/pipe" > "$files/through" & "$program" run "$plan" -o "$files/pipe"; wait) && holds 'a pipe' through "$report"
 (cat "$plan" > "$files/pipe" & "$program" run "$files/pipe" > "$files/through"; wait) && holds 'a pipe to read' through "$report"
+# A new file gets a name that is free: what a run that was killed has left stays
+echo left > "$files/.wireline-0.new" && said 'a new file beside one that was left' 0 '' run "$plan" -o out && holds 'a new file beside one that was left' out "$report"
+holds 'one that was left' .wireline-0.new <(echo left) && rm "$files/.wireline-0.new"
 # Names: a newline, an escape, a leading dash, 255 bytes, no UTF-8
 long=$(printf 'x%.0s' {1..255})
 for name in $'a\nb' $'\e[31mred' ./-x "$long" 'a b'; do
@@ -78,6 +82,8 @@ said 'progress of a short run' 0 '' run --progress "$plan"
 (sleep 2.5 && cat "$plan") | "$program" run --progress > "$room/out" 2> "$room/err"
 is 'progress' cmp -s "$room/err" <(printf 'progress: %s s\n' 1 2)
 is 'progress (standard output)' cmp -s "$room/out" "$report"
+(sleep 1.5 && cat "$plan") | "$program" run > "$room/out" 2> "$room/err"
+is 'no progress unless it is asked for' [ ! -s "$room/err" ]
 # Closed descriptors, each combination: the output is whole and has nothing else in it
 sed 's/^sjw = 3/sjw = 9/' "$plan" > "$files/bad"
 for closed in '<&-' '>&-' '2>&-' '<&- >&-' '<&- 2>&-' '>&- 2>&-' '<&- >&- 2>&-'; do
@@ -125,7 +131,7 @@ fi
 as_user=()
 [ "$(id -u)" != 0 ] || as_user=(setpriv --reuid=65534 --regid=65534 --clear-groups)
 if [ "$(id -u)" != 0 ] || command -v setpriv > /dev/null; then
-  mkdir "$files/rights" && cp "$plan" "$files/rights/plan" && cp "$files/old" "$files/rights/old" && cp "$program" "$files/rights/program"
+  mkdir -p "$files/rights/a/b" && cp "$plan" "$files/rights/plan" && cp "$files/old" "$files/rights/old" && cp "$program" "$files/rights/program"
   chmod 755 "$room" "$files" "$files/rights/program" && chmod 000 "$files/rights/plan" && chmod 444 "$files/rights/old"
   [ "$(id -u)" != 0 ] || chown -R 65534 "$files/rights"
   as_other() { # as_other NAME STDERR WORDS..: status 3
@@ -139,9 +145,21 @@ if [ "$(id -u)" != 0 ] || command -v setpriv > /dev/null; then
   as_other 'a file that may not be written' 'fault: Write\nfile: old\n' run plan -o old && holds 'no rights' rights/old <(echo old)
   chmod 555 "$files/rights"
   as_other 'a folder that may not be written' 'fault: Write\nfile: new\n' run plan -o new && is 'no file came' [ ! -e "$files/rights/new" ]
-  chmod 755 "$files/rights"
+  # The new file is made in the folder of the named one: no other need be writable
+  chmod 555 "$files/rights/a"
+  (cd "$files/rights" && "${as_user[@]}" ./program run plan -o a/b/new > /dev/null 2> "$room/err" < /dev/null)
+  is "a folder that may be written, in those that may not: $(head -c 200 "$room/err")" cmp -s "$files/rights/a/b/new" "$report"
+  chmod 755 "$files/rights" "$files/rights/a"
 fi
 clean 'at the end'
+
+# A disk that fails as the new file is synchronised: the old file stays, and nothing else is left.
+unsynchronised() {
+  local ended=0
+  echo old > "$files/old"
+  (cd "$files" && REFUSE=999999999 REFUSE_SYNC=1 LD_PRELOAD="$room/refuse.so" timeout 60 "$program" run "$plan" -o old > /dev/null 2> "$room/err") || ended=$?
+  [ "$ended" = 3 ] && cmp -s "$room/err" <(printf 'fault: Write\nfile: old\n') && cmp -s "$files/old" <(echo old) && [ -z "$(find "$files" -name '.wireline-*')" ]
+}
 
 # Each allocation refused in turn: the old file or the whole new one, and never another.
 refused_files() {

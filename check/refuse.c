@@ -1,7 +1,9 @@
 /* Refuses one allocation: the REFUSE-th call of malloc or realloc answers NULL. With REFUSE=0 none is refused,
-   and the number of calls is written to standard error at the end. Loaded by LD_PRELOAD; see refuse.sh. */
+   and the number of calls is written to standard error at the end. With REFUSE_SYNC no file is synchronised with its disk.
+   Loaded by LD_PRELOAD; see refuse.sh. */
 #define _GNU_SOURCE
 #include <dlfcn.h>
+#include <errno.h>
 #include <stdio.h>
 #include <stdlib.h>
 #include <sys/syscall.h>
@@ -27,6 +29,12 @@ void *malloc(size_t size) {
 void *realloc(void *old, size_t size) {
     find_next();
     return __atomic_add_fetch(&calls, 1, __ATOMIC_SEQ_CST) == refused ? NULL : next_realloc(old, size);
+}
+
+int fsync(int file) {
+    if (!getenv("REFUSE_SYNC")) return syscall(SYS_fsync, file);
+    errno = EIO;
+    return -1;
 }
 
 __attribute__((destructor)) static void tell(void) {
