@@ -78,10 +78,25 @@ for text in 'node = []' 'node = 5' 'version = 1' 'x = ['; do
 done
 sed 's/^quantum = 125/quantum = 62.5/;s/^prop = 8/prop = 8.5/' examples/clean_500k.toml > "$room/strange"
 refused 'a plan with fractions' "$room/strange" 1 'fault: Kind(quantum)\n'
-# Words that no plan takes, and words that this one doesn't take
+# Words that no plan takes, and words that this one doesn't take; the hint on these is what docs/use/commands.md says, of the word that is meant
+hinted() { # hinted FAULT WORDS..
+  local fault=$1 remedy number word=''
+  shift
+  remedy=$(grep -F "| \`${fault/[0-9],/n,}\` |" docs/use/commands.md | sed 's/ |$//;s/.* | //')
+  if [[ $fault = Range* ]]; then
+    number=${fault#Range(} number=${number%%,*}
+    word="--vary $(grep -oP -- '(?<=--vary )\S+' <<< "$*" | sed -n "$((number + 1))p"): "
+  fi
+  "$program" sweep --hint "$@" < examples/clean_500k.toml > /dev/null 2> "$room/err"
+  is "the hint on $*: $(tail -1 "$room/err")" [ -n "$remedy" -a "$(cat "$room/err")" = "fault: $fault
+hint: $word$remedy" ]
+}
 while IFS='|' read -r words said; do
   # shellcheck disable=SC2086
   refused "$words" examples/clean_500k.toml 2 "$said" $words
+  fault=${said#fault: }
+  # shellcheck disable=SC2086
+  [ "$said" = - ] || hinted "${fault%\\n}" $words
 done << 'WORDS'
 --vary x=5..1|fault: Range(0, Order)\n
 --vary sjw=1..4 --vary x=5..1|fault: Range(1, Order)\n
@@ -113,7 +128,6 @@ done << 'WORDS'
 --jobs 2|-
 --first f|-
 WORDS
-refused 'a hint on a word' examples/clean_500k.toml 2 'fault: Range(0, Order)\nhint: --vary x=5..1: Put the lesser value first.\n' --hint --vary x=5..1
 refused 'a hint on a plan' "$room/bad" 1 - --hint && is 'a hint on a plan has its place' grep -q '^hint: line [0-9]*, column 1, `sjw = 9`: node 0 engine' "$room/err"
 
 # Files and devices: the output changes only when it is whole, with status 0 or 1
@@ -158,5 +172,26 @@ is 'a cell of a map' cmp -s <(awk '/^cell / { n++; next } n == 5' "$room/map" | 
 "$program" sweep --workers 1 --runs 1500 --progress examples/sixteen_nodes.toml > "$room/out" 2> "$room/err"
 is "progress of a sweep: $(head -1 "$room/err")" [ -s "$room/err" -a -z "$(grep -vE '^progress: row 1 of 1, [0-9]+ of 1500 runs, [0-9]+ clean, [1-9][0-9]* s$' "$room/err")" ]
 is 'and its output' cmp -s "$room/out" "$room/without"
+# Of a bus that always fails, two rows of it: no run is clean, each row is named, and lines go on
+{ cat examples/sixteen_nodes.toml; printf '\n[[disturbance]]\nx = 0\nfrom = 200_000\nto = 220_000\n'; } > "$room/disturbed"
+"$program" sweep --workers 1 --runs 1500 --vary sjw=1..2:1 --progress "$room/disturbed" > "$room/out" 2> "$room/err"
+is "progress of a bus that fails: $(tail -1 "$room/err")" [ "$(grep -cE '^progress: row [12] of 2, [1-9][0-9]* of 1500 runs, 0 clean, [1-9][0-9]* s$' "$room/err")" = "$(wc -l < "$room/err")" ]
+is 'it goes on to the second row' [ "$(wc -l < "$room/err")" -gt 1 -a "$(tail -1 "$room/err" | cut -c1-19)" = 'progress: row 2 of ' ]
+"$program" sweep --workers 1 --runs 1500 --page examples/sixteen_nodes.toml > /dev/null 2> "$room/err"
+is "a map says nothing of its progress: $(head -1 "$room/err")" [ ! -s "$room/err" ]
+# As many threads as are asked for, and without the word several where there are processors
+threads() { # threads WORDS..: the most threads that a program had
+  local most=0 now
+  "$@" > /dev/null 2>&1 &
+  while now=$(sed -n 's/^Threads:[^0-9]*//p' "/proc/$!/status" 2> /dev/null) && [ -n "$now" ]; do [ "$now" -le "$most" ] || most=$now; sleep 0.01; done
+  echo "$most"
+}
+for words in '' --page; do
+  # shellcheck disable=SC2086
+  one=$(threads "$program" sweep --workers 1 --runs 500 $words examples/sixteen_nodes.toml) four=$(threads "$program" sweep --workers 4 --runs 500 $words examples/sixteen_nodes.toml)
+  # shellcheck disable=SC2086
+  all=$(threads "$program" sweep --runs 500 $words examples/sixteen_nodes.toml)
+  is "threads of a sweep $words: $one by one, $four by four, $all without the word" [ "$one" = 1 -a "$four" -ge 4 -a "$all" -ge "$(($(nproc) > 1 ? 2 : 1))" ]
+done
 "$program" sweep --progress < "$room/pair" > "$room/out" 2> "$room/err"
 is 'no progress of a short sweep' [ ! -s "$room/err" ] && is 'and its output' grep -qx 'clean in 75 of 80' "$room/out"
