@@ -6,7 +6,7 @@
 # - the explanation, the trace and the waveform of each of them as check/plain.py gives them, and the explanations of plans with every doubt, by the book and
 #   not, and of one whose clocks change their rates
 # - the log of one plan, as ticks of three lengths have it, and the waveform of one, as ticks of two have it
-# - two nodes with full queues, as check/plain.py reports them
+# - two nodes with full queues, as check/plain.py reports them, and their trace, a long one, in other formats; a bus that idles, in less than a second
 # - each row of .ci/refused.txt: the status, the one line on standard error, nothing on standard output but what explain says of it, and the hint
 # - files for input and output: what stands at the named place on each outcome; devices, rights, full disks, closed descriptors, odd names
 # - settings: lists and plans as check/settings.py has them, and what is refused (.ci/settings.sh)
@@ -17,7 +17,7 @@
 # - a run that doesn't end in 300 seconds, as one whose workers wait for each other for ever, has failed
 # - a reader and a writer that fail, and threads that can't be made: status 3
 # - as many workers as were asked for, and by the link that was asked for
-# - each allocation refused in turn, of some commands and amid the events of a world; worlds that restart
+# - each allocation refused in turn, of some commands and amid the events of a world; a disk that fails; worlds that restart
 set -uo pipefail
 cd "$(dirname "$0")/.."
 program=$(realpath "$1")
@@ -88,6 +88,16 @@ for word in candump vcd page margin traffic; do
   is "$word of full queues" [ $? = 0 -a -s "$room/$word" -a ! -s "$room/err" ]
 done
 is "lines of candump of full queues" [ "$(wc -l < "$room/candump")" = 128 ]
+# Other formats of a text of more than 64 KiB have a record for each line.
+"$program" trace < "$room/full.toml" > "$room/traced"
+is "the trace of full queues is long" [ "$(wc -c < "$room/traced")" -gt 100000 ]
+is "its CSV" [ "$("$program" trace --format csv < "$room/full.toml" | wc -l)" = $(($(wc -l < "$room/traced") + 1)) ]
+is "its JSON" [ "$("$program" trace --format json < "$room/full.toml" | python3 -c 'import json, sys; print(len(json.load(sys.stdin)["records"]))')" = "$(wc -l < "$room/traced")" ]
+
+# A bus that idles costs next to nothing: 800,000 quanta of each of three nodes.
+sed 's/^end = .*/end = 100_000_000/' examples/clean_500k.toml > "$room/idle.toml"
+used=$( (TIMEFORMAT='%U %S'; time "$program" run < "$room/idle.toml" > "$room/out" 2> "$room/err") 2>&1 | awk '{ print int(1000 * ($1 + $2)) }')
+is "an idle bus of 100,000,000 ticks takes $used ms" [ "$used" -lt 1000 -a ! -s "$room/err" -a "$(tail -1 "$room/out")" = 'verdict clean' ]
 
 # A page has what the other commands write, each text once, also of a plan whose remarks look like a page's own words.
 printf '# </pre><script>alert(1)</script> &amp; \r\n' | cat - examples/burst.toml > "$room/marked.toml"
@@ -308,8 +318,11 @@ limited() { (ulimit -v "$1" && shift && timeout 300 "$program" run "$@" < exampl
 limit=2000
 until limited "$limit" || [ "$limit" -gt 200000 ]; do limit=$((limit + 1000)); done
 ended=0
-limited "$((limit + 8000))" --workers 8 || ended=$?
+limited "$((limit + 8000))" --hint --workers 8 || ended=$?
 is "threads that can't be made (status $ended: $(head -c 200 "$room/err"))" grep -qxE 'fault: (Worker\([0-7]\)|Memory)' "$room/err"
+fault=$(sed -n 's/^fault: //p' "$room/err")
+remedy=$(grep -F "| \`${fault/[0-7]/n}\` |" docs/use/commands.md | sed 's/ |$//;s/.* | //')
+is "the hint on them: $(tail -1 "$room/err")" [ -n "$remedy" -a "$(sed -n 's/^hint: //p' "$room/err")" = "$remedy" ]
 is "threads that can't be made (status)" [ "$ended" = 3 -a ! -s "$room/out" ]
 # No clause says how many threads there are: eight workers don't fit into what is just enough for two.
 until limited "$limit" --workers 2 || [ "$limit" -gt 400000 ]; do limit=$((limit + 1000)); done
@@ -338,6 +351,7 @@ if command -v gcc > /dev/null; then
   is "merge, each allocation refused" check/refuse.sh "$program" merge examples/records.txt
   is "horizon, each allocation refused" check/refuse.sh "$program" horizon examples/records.txt
   is "run FILE -o FILE, each allocation refused" refused_files
+  is "run FILE -o FILE to a disk that fails: $(head -c 200 "$room/err")" unsynchronised
   is "run, each allocation refused" check/refuse.sh "$program" run examples/clean_500k.toml
   is "run --workers 2, each allocation refused" check/refuse.sh "$program" run examples/clean_500k.toml --workers 2
   is "traffic --format json, each allocation refused" check/refuse.sh "$program" traffic examples/clean_500k.toml --format json

@@ -34,3 +34,6 @@ refuses 'Kind(senders)' "Give it a value as docs/use/settings.md says." 's/"one"
 refuses 'Unknown(speed)' "Remove or rename the key; TOML puts a key into the table last begun." 's/^sjw/speed/'
 refuses NoController 'Add a `[[controller]]`.' '/^.*controller]]/,$d; s/^per/controller = []\nper/'
 refuses NoSetting "Leave out --plan: the list says which inequality refuses the best setting." 's/^cable = 10/cable = 100/' --plan
+{ cat examples/settings/narrow_1m.toml; yes '# a comment' | head -c 1048576; } > "$room/input"
+printf 'fault: Size\nhint: Pass a text of at most 1,048,576 bytes.\n' > "$room/fault"
+runs "settings --hint, Size" "$room/input" 1 "$room/none" "$room/fault" settings --hint
