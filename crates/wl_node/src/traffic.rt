@@ -123,24 +123,8 @@ impl Traffic {
         Ok(())
     }
 
-    /// Takes a sample at this quantum: it is stored, and goes to the machine and then to the counters.
-    pub fn sample(&mut self, setup: &NodeSetup, quantum: u64, level: Level)
-        requires samples { vec_len self.old.samples.runs < vec_capacity self.old.samples.runs }
-        requires frames { vec_len self.old.frames < vec_capacity self.old.frames }
-        requires early { quantum < most_run_quanta }
-        requires few { self.old.samples.count ≤ quantum }
-        requires fits { self.old.errors < most_run_quanta }
-        ensures traffic { (h : History) → length h.seen ≡ quantum → IsTraffic setup.now self.old h
-            → IsTraffic setup.now self.new (history_after_sample setup.now h level) }
-        ensures errors { self.new.errors ≤ self.old.errors + 1 }
-        ensures count { self.new.samples.count ≤ self.old.samples.count + 1 }
-    {
-        if !self.keep(quantum, level) {
-            self.look(setup, quantum, level);
-        }
-    }
-
-    /// Takes such a sample if it does nothing to a machine that receives; else returns false, and nothing changes.
+    /// Takes a sample at this quantum if the node receives and its machine only keeps it: it is stored, and nothing else comes of it. Else
+    /// returns false, and nothing changes.
     pub fn keep(&mut self, quantum: u64, level: Level) -> bool
         requires samples { vec_len self.old.samples.runs < vec_capacity self.old.samples.runs }
         requires early { quantum < most_run_quanta }
@@ -163,8 +147,8 @@ impl Traffic {
         keeps
     }
 
-    /// Takes such a sample, also on a free bus.
-    fn look(&mut self, setup: &NodeSetup, quantum: u64, level: Level)
+    /// Takes a sample at this quantum: it is stored, and goes to the machine and then to the counters.
+    pub fn sample(&mut self, setup: &NodeSetup, quantum: u64, level: Level)
         requires samples { vec_len self.old.samples.runs < vec_capacity self.old.samples.runs }
         requires frames { vec_len self.old.frames < vec_capacity self.old.frames }
         requires early { quantum < most_run_quanta }
