@@ -1,5 +1,6 @@
 -- A place at which one node alone is heard.
 use Rattle.std.proofs.Common.{◌≡◌, ℕ, zero, suc, ◌+◌, ◌-◌, ◌<◌, ◌≤◌, ◌≢◌, Bool, true, false, ◌||◌, inl, inr, List, length, get_or, refl, sym, ◌∙◌, ap, subst, arith}
+use Rattle.std.proofs.Math.Bool.{or-false}
 use Rattle.std.proofs.Math.ListN.{set}
 use Rattle.std.proofs.lemmas.Bool.{cases_eq}
 use Rattle.std.proofs.lemmas.List.{get_or-set_same, get_or-set_other}
@@ -46,10 +47,6 @@ nothing false few = refl
 pub alone_passes : (p : ℕ → Bool) (n j k : ℕ) → j < n → passing p n ≤ from_bool (p j) → k < n → k ≢ j → p k ≡ false
 alone_passes p n j k b few c other = nothing (p k) (let f = two_pass p n j k b c other in omega (arith, f, few))
 
-or_nothing : (b : Bool) → (b || false) ≡ b
-or_nothing true = refl
-or_nothing false = refl
-
 none_of : (f : ℕ → Bool) (n : ℕ) → ((k : ℕ) → k < n → f k ≡ false) → any_below n f ≡ false
 none_of f zero none = refl
 none_of f (suc n) none = ap (λ v. v || f n) (none_of f n (λ k b. none k (omega (arith, b)))) ∙ none n (omega arith)
@@ -60,7 +57,7 @@ one_of_all f (suc n) j b none = elim (cases_eq j n) [
   | inl last ↦ ap (λ v. v || f n) (none_of f n (λ k c. none k (omega (arith, c)) (omega (arith, c, last)))) ∙ ap f (sym last)
   | inr less ↦
       ap (λ v. any_below n f || v) (none n (omega arith) (λ same. less (sym same)))
-      ∙ (or_nothing (any_below n f) ∙ one_of_all f n j (omega (arith, b, less)) (λ k c other. none k (omega (arith, c)) other))
+      ∙ (or-false (any_below n f) ∙ one_of_all f n j (omega (arith, b, less)) (λ k c other. none k (omega (arith, c)) other))
 ]
 
 -- no other node is heard, and no disturbance
@@ -69,7 +66,7 @@ pub hears_only : (plan : Plan) (rs : List Running) (j i a t : ℕ) (ear : Ear) �
     → HearsOnly plan rs j i t
 hears_only plan rs j i a t ear b few alone less heard shaken calm begun ends d u after before =
     ap (λ v. v || disturbed plan i u) (one_of_all (λ k. drove (get_or rs k d).changes (delay_of plan.topology k i) u) (length plan.nodes) j b silent)
-    ∙ (ap (λ v. drove (get_or rs j d).changes (delay_of plan.topology j i) u || v) still ∙ or_nothing (drove (get_or rs j d).changes (delay_of plan.topology j i) u))
+    ∙ (ap (λ v. drove (get_or rs j d).changes (delay_of plan.topology j i) u || v) still ∙ or-false (drove (get_or rs j d).changes (delay_of plan.topology j i) u))
   where
     silent : (k : ℕ) → k < length plan.nodes → k ≢ j → drove (get_or rs k d).changes (delay_of plan.topology k i) u ≡ false
     silent k c other =
@@ -110,6 +107,6 @@ found_alone plan rs j i t p f only less until level below from pulse d = (
   below d,
   λ u after before.
       level
-      ∙ ap level_of (or_nothing p.dominant
+      ∙ ap level_of (or-false p.dominant
       ∙ (sym (pulse d u (let e = from d in omega (arith, e, after)) (omega (arith, before, until))) ∙ sym (only d u after (omega (arith, before, less))))),
 )

@@ -22,6 +22,7 @@ pub(crate) struct Alone {
 impl Alone {
     /// Returns what node `i` finds from its next quantum on, below a tick, by the changes that are known. While one node alone is heard
     /// there, no other one is asked.
+    #[inline(always)]
     pub(crate) fn find(
         &mut self,
         plan: &Plan,
@@ -57,6 +58,7 @@ impl Alone {
     }
 
     /// Returns what the node makes at node `i`, a delay later, from that one's next quantum on and below a tick.
+    #[inline(always)]
     fn hear(&mut self, plan: &Plan, running: &[Running], delay: u64, i: usize, until: u64) -> Found
         requires checked { IsChecked plan.now }
         requires node { i < length plan.now.nodes }

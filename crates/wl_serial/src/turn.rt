@@ -95,6 +95,7 @@ pub(crate) fn stretch(
 
 /// Runs quanta of node `j` as long as what it finds stays so, up to the first that changes its drive. All places note its change. True if
 /// there was one.
+#[inline(always)]
 pub(crate) fn run_found(
     plan: &Plan,
     running: &mut [Running],
