@@ -1,36 +1,32 @@
 -- Quanta in a row, while the line at the place stays and the drive too: where they take the node, and that the machine takes them one by one.
-use Rattle.std.proofs.Common.{◌≡◌, ℕ, zero, suc, ◌+◌, ◌-◌, ◌<◌, ◌≤◌, Bool, true, false, ◌&&◌, nat_lt, inl, inr, List, [], ◌∷◌, ◌++◌, length, replicate, refl, sym, ◌∙◌, ap, subst, arith, append-nil, Option, Some, None, is_some, if◌then◌else◌}
-use Rattle.std.specs.Prelude.{slice_set, slice_index_or, Contains}
+use Rattle.std.proofs.Common.{◌≡◌, ℕ, zero, suc, ◌+◌, ◌-◌, ◌<◌, ◌≤◌, Bool, true, false, ◌&&◌, nat_lt, inl, inr, List, [], ◌∷◌, ◌++◌, length, replicate, sym, ◌∙◌, ap, subst, arith, append-nil, Some, None, is_some}
+use Rattle.std.specs.Prelude.{slice_set, Contains}
 use Rattle.std.proofs.lemmas.Bool.{cases_lt, cases_eq, and_parts, and_from, lt-ltb}
 use Rattle.std.proofs.lemmas.List.{get_or-set_same, get_or-set_other}
 use Rattle.std.proofs.lemmas.List.Elements.{Contains-append_left, Contains-append_right}
-use Rattle.std.proofs.Math.ListN.{length-set}
 use Rattle.wl_level.specs.declared.Level.{Level}
 use Rattle.wl_level.specs.Levels.{level_of}
 use Rattle.wl_record_core.specs.declared.record.Record.{Record}
-use Rattle.wl_record_core.specs.declared.record.Record.TheVariants.{Edge, Silence}
 use Rattle.wl_record_core.specs.Truth.{count_below, AreTrueOf}
 use Rattle.wl_record_core.specs.TableLaws.{TableLaws}
-use Rattle.wl_replica.specs.State.{state_of, slots_of, state_with_records}
+use Rattle.wl_replica.specs.State.{state_of, slots_of}
 use Rattle.wl_replica.specs.Slots.{IsBelow}
 use Rattle.wl_replica.specs.SlotsOf.{SlotsOfStates}
-use Rattle.wl_replica.specs.Known.{horizon, place_horizon}
+use Rattle.wl_replica.specs.Known.{place_horizon}
 use Rattle.wl_replica.specs.KnownLaws.{SlotsLaws, KnownLaws}
-use Rattle.wl_plan.specs.Line.{Line, found, reach}
+use Rattle.wl_plan.specs.Line.{Line, found}
 use Rattle.wl_plan.specs.PlanLine.{line_of, table_of}
 use Rattle.wl_plan.specs.Simulation.{level, seen, differs, changes, AreInside}
 use Rattle.wl_plan.specs.SimulationLaws.{SimulationLaws}
 use Rattle.wl_plan.specs.Sound.{IsSound}
 use Rattle.wl_plan.specs.Checked.{CheckedIsSound}
-use Rattle.wl_group.specs.Member.{Member, next_tick, can_run, turns, member_after_quantum, emission}
-use Rattle.wl_group.specs.Party.{Party}
+use Rattle.wl_group.specs.Member.{next_tick, can_run, emission}
 use Rattle.wl_group.specs.Holds.{IsMember}
 use Rattle.wl_group.specs.GroupLaws.{GroupLaws}
-use Rattle.wl_group.specs.Running.{passed, Stood, HasRunNext, Ran, quanta_to_come, quanta_left}
+use Rattle.wl_group.specs.Running.{passed, Stood, Ran}
 use Rattle.wl_group.specs.Running as runs_of
 use Rattle.wl_group.specs.ValueLaws.{ValueLaws}
-use Rattle.wl_group.specs.GroupValue.{GroupValue, IsGroupValue, Matches, quanta_at, belongs, member_after, member_at, members_now, may_run, reads_at, emission_at, run_on}
-use Rattle.wl_group.specs.Going.{told_by, at_quantum, gone_on, AdvancesTo, HasGoneOn, HasRunSome}
+use Rattle.wl_group.specs.GroupValue.{GroupValue, IsGroupValue, quanta_at, belongs, member_after, member_at, members_now, may_run, emission_at, run_on}
 use Rattle.wl_group.specs.Through.{spoken}
 use Rattle.wl_group.proofs.CellProofs.{one_longer}
 use Rattle.wl_group.proofs.GroupProofs.{place_keeps}
@@ -75,6 +71,9 @@ module _ (sims : SimulationLaws) (l : Line) (s : IsSound l) (i : ℕ) (b : i < l
       λ d. record { saw = saw d; changed = changed d }
 
 -- ---- a group with a member at a later quantum
+
+abbrev pub at_quantum : GroupValue → ℕ → ℕ → GroupValue
+at_quantum g i k = record { plan = g.plan; ran = slice_set g.ran i (Some k); replica = g.replica; emitted = g.emitted }
 
 pub here_at : (g : GroupValue) (i k m : ℕ) → quanta_at g i ≡ Some k → quanta_at (at_quantum g i m) i ≡ Some m
 here_at g i k m ran = get_or-set_same g.ran i (Some m) None (some_there g.ran i k ran)
@@ -123,51 +122,6 @@ module _ (laws : ValueLaws) (groups : GroupLaws) (sims : SimulationLaws) (sound 
 
     pub own_before : IsMember (line_of g.plan) i (member_after (line_of g.plan) i k) (slots_of g.replica)
     own_before = subst (λ m. IsMember (line_of g.plan) i m (slots_of g.replica)) (ap (member_at (line_of g.plan) i) ran) (v.holds.each i node (ap is_some ran))
-
-    -- node i is a member there
-    member_on : (line_of g.plan).instant i (k + n) ≤ horizon (slots_of g.replica) i → IsMember (line_of g.plan) i (member_after (line_of g.plan) i (k + n)) (slots_of g.replica)
-    member_on promised =
-        let l = line_of g.plan in
-        let long : length (seen l i (k + n)) ≡ k + n = sims.length_seen l i (k + n) in
-        let short : length (seen l i k) ≡ k = sims.length_seen l i k in
-        record {
-          state = ap (seen l i) (sym long);
-          inside = λ j b. inside_all j (omega arith);
-          read = λ j b. elim (cases_lt j k) [
-            | inl before ↦ own_before.read j (omega arith)
-            | inr new ↦ subst (λ m. l.instant i m < place_horizon l.nodes l.delay (slots_of g.replica) i) (let e : k + (j - k) ≡ j = omega arith in e) (known (j - k) (omega arith))
-          ];
-          count = ap (λ m. count_below (l.instant i m) (changes l i)) (sym long);
-          known = subst (λ m. l.instant i m ≤ horizon (slots_of g.replica) i) (sym long) promised;
-        }
-
-    else_at : (j : ℕ) → (j ≡ i → ⊥) → quanta_at (at_quantum g i (k + n)) j ≡ quanta_at g j
-    else_at j o = get_or-set_other g.ran i j (Some (k + n)) None o
-
-    pub value_on : (line_of g.plan).instant i (k + n) ≤ horizon (slots_of g.replica) i → IsGroupValue (at_quantum g i (k + n))
-    value_on promised = record {
-      checked = v.checked;
-      one_each = length-set g.ran i (Some (k + n)) ∙ v.one_each;
-      of_all = v.of_all;
-      of_records = v.of_records;
-      holds = record {
-        truth = v.holds.truth;
-        each = λ j b o. elim (cases_eq j i) [
-          | inl same ↦ subst (λ x. IsMember (line_of g.plan) x (members_now (at_quantum g i (k + n)) x) (slots_of g.replica)) (sym same)
-              (subst (λ m. IsMember (line_of g.plan) i m (slots_of g.replica)) (sym (ap (member_at (line_of g.plan) i) (here_at g i k (k + n) ran))) (member_on promised))
-          | inr other ↦ subst (λ q. IsMember (line_of g.plan) j (member_at (line_of g.plan) j q) (slots_of g.replica)) (sym (else_at j other))
-              (v.holds.each j b (sym (ap is_some (else_at j other)) ∙ o))
-        ];
-      };
-      emitted_true = v.emitted_true;
-    }
-
--- the next quantum alone
-pub next_of_some : (i : ℕ) (old new : GroupValue) (said : List Record) → HasRunSome i 1 old new said → HasRunNext i old new said
-next_of_some i old new said h =
-    let none : h.n ≡ 0 = (let f = h.few in omega arith) in
-    let ran = set_own old.ran i (h.k + h.n) (h.may.ran ∙ ap (λ m. Some m) (omega arith)) in
-    subst (λ (g : GroupValue). HasRunNext i g new said) (λ d. record { plan = old.plan; ran = ran d; replica = old.replica; emitted = old.emitted }) h.last
 
 -- ---- one by one
 

@@ -1,8 +1,9 @@
 -- What a group keeps, where a member ran quanta in a row through stretches of the line.
-use Rattle.std.proofs.Common.{◌≡◌, ℕ, suc, ◌+◌, ◌<◌, ◌≤◌, ◌++◌, true, false, ◌&&◌, List, length, get_or, All, Option, Some, None, nat_lt, sym, ◌∙◌, ap, subst, arith}
+use Rattle.std.proofs.Common.{◌≡◌, ℕ, suc, ◌+◌, ◌<◌, ◌≤◌, ◌++◌, true, false, ◌&&◌, List, length, get_or, All, Option, Some, None, is_some, inl, inr, nat_lt, refl, sym, ◌∙◌, ap, subst, arith}
 use Rattle.std.specs.Prelude.{min}
 use Rattle.std.proofs.Math.ListN.{set}
-use Rattle.std.proofs.lemmas.Bool.{and_parts, ltb-true}
+use Rattle.std.proofs.lemmas.Bool.{cases_eq, and_parts, ltb-true}
+use Rattle.std.proofs.lemmas.List.{get_or-set_same}
 use Rattle.wl_record_core.specs.declared.record.Record.{Record}
 use Rattle.wl_record_core.specs.TableLaws.{TableLaws}
 use Rattle.wl_replica.specs.SlotsOf.{SlotsOfStates}
@@ -19,11 +20,14 @@ use Rattle.wl_group.specs.declared.cell.Cell.{Cell}
 use Rattle.wl_group.specs.Member.{next_tick, can_run}
 use Rattle.wl_group.specs.GroupLaws.{GroupLaws}
 use Rattle.wl_group.specs.ValueLaws.{ValueLaws}
-use Rattle.wl_group.specs.GroupValue.{GroupValue, IsGroupValue, quanta_at, belongs, member_at, members_now, may_run}
+use Rattle.wl_group.specs.GroupValue.{GroupValue, IsGroupValue, quanta_at, belongs, member_at, members_now, may_run, emission_at, run_on}
 use Rattle.wl_group.specs.Kept.{ran_of, group_value, IsKept}
-use Rattle.wl_group.specs.Going.{gone_on, HasGoneOn, IsKnownAt}
+use Rattle.wl_group.specs.Running.{HasRunNext}
+use Rattle.wl_group.specs.Going.{gone_on, HasGoneOn, IsKnownAt, IsKnownUpTo}
 use Rattle.wl_group.specs.Through.{spoken, HasGoneOver, MaySayOver}
-use Rattle.wl_group.proofs.RunProofs.{ran_is, ran_new, cells_new}
+use Rattle.wl_replica.proofs.Callers.{some_is}
+use Rattle.wl_group.proofs.RunProofs.{ran_is, in_plan, ran_new, cells_new, some_there, left_set}
+use Rattle.wl_group.proofs.GoingProofs.{spoken_is}
 use Rattle.wl_group.proofs.GoneProofs.{fits, value_gone, gone_over}
 
 -- the tick of its next quantum is what it keeps
@@ -89,8 +93,62 @@ module _ (laws : ValueLaws) (groups : GroupLaws) (tables : TableLaws) (joins : S
         (subst (λ (rs : List Record). HasGoneOn i g to rs) (sym gone.says)
         (gone_over laws groups tables joins knows sims states sound g kept.value i (quanta_of cell.node) ran gone.n early known gone.stays)))
 
+    -- in a row that ends with the next tick it ran one quantum, as the group runs its next one
+    module _ (may : may_run now i ≡ true) (one : end ≡ suc cell.next) where
+      alone : gone.n ≡ 0
+      alone = elim (cases_eq gone.n 0) [
+        | inl none ↦ none
+        | inr some ↦
+            let l = line_of plan in
+            let k = quanta_of cell.node in
+            let causal = (sound plan kept.value.checked).causal in
+            let b = in_plan laws sound plan cells replica emitted kept now view i cell is in
+            let first = causal.clocks i k b in
+            let later = sims.clock_later l i (suc k) (k + gone.n) causal b (omega arith) in
+            let last = gone.early gone.n (omega arith) in
+            let here = (kept.placed i cell is).next in
+            absurd (omega (arith, first, later, last, here, one))
+      ]
+
+      may_here : may_run (group_value plan cells replica emitted) i ≡ true
+      may_here = subst (λ (x : GroupValue). may_run x i ≡ true) (sym view) may
+
+      said_here : spoken (line_of plan) i (quanta_of cell.node + gone.n) ≡ emission_at (group_value plan cells replica emitted) i
+      said_here =
+          ap (spoken (line_of plan) i) (let e : quanta_of cell.node + gone.n ≡ quanta_of cell.node = omega (arith, alone) in e)
+          ∙ sym (spoken_is laws groups sims sound (group_value plan cells replica emitted) kept.value i (quanta_of cell.node) ran may_here)
+
+      value_next : ◌≡◌ {A = GroupValue} (group_value plan (set cells i (Some new)) replica_new emitted_new) (run_on i (quanta_of cell.node) (group_value plan cells replica emitted))
+      value_next =
+          let e : quanta_of cell.node + suc gone.n ≡ suc (quanta_of cell.node) = omega (arith, alone) in
+          value_is ∙ (λ d. gone_on (group_value plan cells replica emitted) i (e d) (said_here d))
+
+      ran_next : HasRunNext i (group_value plan cells replica emitted) (run_on i (quanta_of cell.node) (group_value plan cells replica emitted)) (emission_at (group_value plan cells replica emitted) i)
+      ran_next =
+          let g : GroupValue = group_value plan cells replica emitted in
+          let k = quanta_of cell.node in
+          let on = laws.runs g kept.value i k ran may_here in
+          let few = (laws.quanta_few (run_on i k g) on i (suc k) (get_or-set_same g.ran i (Some (suc k)) None (some_there g.ran i k ran))).1 in
+          record {
+            node = in_plan laws sound plan cells replica emitted kept now view i cell is;
+            emits = refl;
+            runs = λ m e. ap (λ q. run_on i q g) (some_is k m (sym ran ∙ e));
+            emitted = λ p h. laws.emits_as g p i h (ap is_some ran);
+            after = λ p h. laws.runs_as g kept.value p i k h ran may_here;
+            plan = refl;
+            members = laws.runs_with g i k ran;
+            fewer = left_set g.ran i k ran (omega (arith, few));
+          }
+
+      pub has_run_next : HasRunNext i now (group_value plan (set cells i (Some new)) replica_new emitted_new) said
+      has_run_next =
+          let g : GroupValue = group_value plan cells replica emitted in
+          subst (λ (x : GroupValue). HasRunNext i x (group_value plan (set cells i (Some new)) replica_new emitted_new) said) view
+          (subst (λ (x : GroupValue). HasRunNext i g x said) (sym value_next)
+          (subst (λ (rs : List Record). HasRunNext i g (run_on i (quanta_of cell.node) g) rs) (sym (gone.says ∙ said_here)) ran_next))
+
 -- a member that may run is due before the end, and before what is known at its place
-pub due_before : (g : GroupValue) (i known end : ℕ) → may_run g i ≡ true → IsKnownAt g i known → end ≡ min known g.plan.end
+pub due_before : (g : GroupValue) (i known end : ℕ) → may_run g i ≡ true → IsKnownUpTo g i known → end ≡ min known g.plan.end
     → (next_tick (line_of g.plan) i (members_now g i) < end) × (end ≤ place_horizon (length g.plan.nodes) (line_of g.plan).delay (slots_of g.replica) i) × (end ≤ g.plan.end)
 due_before g i known end may is e =
     let l = line_of g.plan in
@@ -98,5 +156,23 @@ due_before g i known end may is e =
     let far = place_horizon l.nodes l.delay (slots_of g.replica) i in
     let can = and_parts (nat_lt t l.stop) (nat_lt t far) (and_parts (belongs g i) (can_run l i (members_now g i) (slots_of g.replica)) may).1 in
     let early = ltb-true t l.stop can.0 in
-    let below = ltb-true t far can.1 in
-    (omega (arith, early, below, is, e), omega (arith, is, e), omega (arith, e))
+    let due = is.due in
+    let below = is.known in
+    (omega (arith, early, due, e), omega (arith, below, e), omega (arith, e))
+
+-- its next quantum is before the end, and before what is known at its place
+pub next_before : (g : GroupValue) (i : ℕ) → may_run g i ≡ true
+    → (next_tick (line_of g.plan) i (members_now g i) < g.plan.end) × (next_tick (line_of g.plan) i (members_now g i) < place_horizon (length g.plan.nodes) (line_of g.plan).delay (slots_of g.replica) i)
+next_before g i may =
+    let l = line_of g.plan in
+    let t = next_tick l i (members_now g i) in
+    let far = place_horizon l.nodes l.delay (slots_of g.replica) i in
+    let can = and_parts (nat_lt t l.stop) (nat_lt t far) (and_parts (belongs g i) (can_run l i (members_now g i) (slots_of g.replica)) may).1 in
+    (ltb-true t l.stop can.0, ltb-true t far can.1)
+
+-- so the place is known up to what is known there, and up to the tick after that of its next quantum
+pub up_to_known : (g : GroupValue) (i known : ℕ) → may_run g i ≡ true → IsKnownAt g i known → IsKnownUpTo g i known
+up_to_known g i known may is = let b = (next_before g i may).1 in record { due = omega (arith, b, is); known = omega (arith, is) }
+
+pub up_to_next : (g : GroupValue) (i tick : ℕ) → may_run g i ≡ true → tick ≡ suc (next_tick (line_of g.plan) i (members_now g i)) → IsKnownUpTo g i tick
+up_to_next g i tick may is = let b = (next_before g i may).1 in record { due = omega (arith, is); known = omega (arith, b, is) }

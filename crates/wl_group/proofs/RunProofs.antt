@@ -1,16 +1,15 @@
 -- One quantum of a member, from what a group keeps to what its contracts see.
-use Rattle.std.proofs.Common.{◌≡◌, ℕ, zero, suc, ◌+◌, ◌<◌, ◌≤◌, true, inl, inr, List, [], ◌∷◌, ◌++◌, length, get_or, All, Option, Some, None, is_some, refl, sym, ◌∙◌, ap, subst, arith, nat_lt}
+use Rattle.std.proofs.Common.{◌≡◌, ℕ, zero, suc, ◌<◌, ◌≤◌, true, inl, inr, List, [], ◌∷◌, length, get_or, All, Option, Some, None, refl, sym, ◌∙◌, ap, subst, arith, nat_lt}
 use Rattle.std.proofs.Math.ListN.{set}
 use Rattle.std.proofs.lemmas.Bool.{cases_lt, cases_eq}
 use Rattle.std.proofs.lemmas.List.{get_or_read, get_or_past, get_or-set_same, get_or-set_other}
 use Rattle.std.proofs.lemmas.List.Elements.{All-from_recursion, All-weaker}
 use Rattle.std.proofs.lemmas.List.Sums.{count_by-le-length}
-use Rattle.wl_level.specs.declared.Level.{Level}
 use Rattle.wl_record_core.specs.declared.record.Record.{Record}
 use Rattle.wl_record_core.specs.declared.record.Record.TheVariants.{Edge, Clash, Silence}
 use Rattle.wl_record_core.specs.Limits.{most_edges}
 use Rattle.wl_record_core.specs.Truth.{IsTrueOf, AreTrueOf}
-use Rattle.wl_replica.specs.State.{State, state_with_records, Fits}
+use Rattle.wl_replica.specs.State.{State, Fits}
 use Rattle.wl_node.specs.Reached.{quanta_of}
 use Rattle.wl_plan.specs.declared.plan.Plan.{Plan}
 use Rattle.wl_plan.specs.Limits.{most_quanta}
@@ -18,11 +17,9 @@ use Rattle.wl_plan.specs.PlanLine.{line_of, table_of}
 use Rattle.wl_plan.specs.Simulation.{AreInside}
 use Rattle.wl_plan.specs.Checked.{CheckedIsSound}
 use Rattle.wl_group.specs.declared.cell.Cell.{Cell}
-use Rattle.wl_group.specs.Member.{member_after_quantum, emission}
-use Rattle.wl_group.specs.GroupValue.{GroupValue, IsGroupValue, quanta_at, belongs, member_after, member_at, members_now, may_run, reads_at, emission_at, run_on}
+use Rattle.wl_group.specs.GroupValue.{GroupValue, IsGroupValue, quanta_at, belongs, member_after, member_at, members_now}
 use Rattle.wl_group.specs.Kept.{quanta_kept, ran_of, group_value, IsCell, AreCells, IsKept}
-use Rattle.wl_group.specs.Running.{IsCellOf, HasNotGone, quanta_to_come, quanta_left, HasRunNext}
-use Rattle.wl_group.specs.Going.{at_quantum, MayGo, HasRunSome}
+use Rattle.wl_group.specs.Running.{IsCellOf, HasNotGone, quanta_to_come}
 use Rattle.wl_group.specs.ValueLaws.{ValueLaws}
 use Rattle.wl_group.proofs.Callers.{is_there}
 use Rattle.wl_replica.proofs.Callers.{some_is}
@@ -63,7 +60,7 @@ set_there {A} (x ∷ xs) (suc i) a b = ap (λ ys. x ∷ ys) (set_there xs i a b)
 
 -- ---- how many quanta are left
 
-left_set : (xs : List (Option ℕ)) (i k : ℕ) → get_or xs i None ≡ Some k → k < most_quanta → quanta_to_come (set xs i (Some (suc k))) < quanta_to_come xs
+pub left_set : (xs : List (Option ℕ)) (i k : ℕ) → get_or xs i None ≡ Some k → k < most_quanta → quanta_to_come (set xs i (Some (suc k))) < quanta_to_come xs
 left_set [] i k h b = absurd cc
 left_set (None ∷ xs) zero k h b = absurd cc
 left_set (Some n ∷ xs) zero k h b = let e : n ≡ k = some_is n k h in omega arith
@@ -155,88 +152,3 @@ module _ (laws : ValueLaws) (sound : CheckedIsSound) (plan : Plan) (cells : List
               value = subst IsGroupValue (sym value_stays) kept.value;
               placed = cells_new (record { setup = at.setup; node = at.node; changed = at.changed; next = at.next; ways = at.ways });
             }
-
-      -- n quanta were run and one, as far as which the group may go
-      module _ (n : ℕ) (go : MayGo (group_value plan cells replica emitted) i (quanta_of cell.node) n) (may : may_run (at_quantum (group_value plan cells replica emitted) i (quanta_of cell.node + n)) i ≡ true)
-          (level : Level) (read : level ≡ reads_at (at_quantum (group_value plan cells replica emitted) i (quanta_of cell.node + n)) i) (said : List Record)
-          (says : said ≡ emission (line_of plan) i (member_after (line_of plan) i (quanta_of cell.node + n)) level)
-          (quanta : quanta_of new.node ≡ quanta_of cell.node + suc n)
-          (after : IsCellOf plan i (member_after_quantum (line_of plan) i (member_after (line_of plan) i (quanta_of cell.node + n)) level) new)
-          (replica_new : State) (emitted_new : List Record) (taken : replica_new ≡ state_with_records replica said) (appended : emitted_new ≡ emitted ++ said) where
-        -- the group before the last of them
-        from : GroupValue
-        from = at_quantum (group_value plan cells replica emitted) i (quanta_of cell.node + n)
-
-        ran_from : quanta_at (at_quantum (group_value plan cells replica emitted) i (quanta_of cell.node + n)) i ≡ Some (quanta_of cell.node + n)
-        ran_from = get_or-set_same (ran_of cells) i (Some (quanta_of cell.node + n)) None (some_there (ran_of cells) i (quanta_of cell.node) ran_is)
-
-        said_is : said ≡ emission_at (at_quantum (group_value plan cells replica emitted) i (quanta_of cell.node + n)) i
-        said_is =
-            says
-            ∙ (ap (emission (line_of plan) i (member_after (line_of plan) i (quanta_of cell.node + n))) read
-            ∙ ap (λ q. emission (line_of plan) i (member_at (line_of plan) i q) (reads_at (at_quantum (group_value plan cells replica emitted) i (quanta_of cell.node + n)) i)) (sym ran_from))
-
-        quanta_is : quanta_of new.node ≡ suc (quanta_of cell.node + n)
-        quanta_is = quanta ∙ omega arith
-
-        value_runs : ◌≡◌ {A = GroupValue} (group_value plan (set cells i (Some new)) replica_new emitted_new)
-            (run_on i (quanta_of cell.node + n) (at_quantum (group_value plan cells replica emitted) i (quanta_of cell.node + n)))
-        value_runs =
-            let ran : ran_of (set cells i (Some new)) ≡ set (set (ran_of cells) i (Some (quanta_of cell.node + n))) i (Some (suc (quanta_of cell.node + n))) =
-            ran_new ∙ (ap (λ k. set (ran_of cells) i (Some k)) quanta_is ∙ sym (set_there (ran_of cells) i (Some (quanta_of cell.node + n)) (Some (suc (quanta_of cell.node + n))))) in
-            let known : replica_new ≡ state_with_records replica (emission_at (at_quantum (group_value plan cells replica emitted) i (quanta_of cell.node + n)) i) = taken ∙ ap (state_with_records replica) said_is in
-            let more : emitted_new ≡ emitted ++ emission_at (at_quantum (group_value plan cells replica emitted) i (quanta_of cell.node + n)) i = appended ∙ ap (λ rs. emitted ++ rs) said_is in
-            λ d. record { plan = plan; ran = ran d; replica = known d; emitted = more d }
-
-        value_new : IsGroupValue (run_on i (quanta_of cell.node + n) (at_quantum (group_value plan cells replica emitted) i (quanta_of cell.node + n)))
-        value_new = laws.runs (at_quantum (group_value plan cells replica emitted) i (quanta_of cell.node + n)) go.value i (quanta_of cell.node + n) ran_from may
-
-        ran_on : quanta_at (run_on i (quanta_of cell.node + n) (at_quantum (group_value plan cells replica emitted) i (quanta_of cell.node + n))) i ≡ Some (suc (quanta_of cell.node + n))
-        ran_on =
-            get_or-set_same (set (ran_of cells) i (Some (quanta_of cell.node + n))) i (Some (suc (quanta_of cell.node + n))) None
-            (some_there (set (ran_of cells) i (Some (quanta_of cell.node + n))) i (quanta_of cell.node + n) ran_from)
-
-        new_is : member_after_quantum (line_of plan) i (member_after (line_of plan) i (quanta_of cell.node + n)) level ≡ member_after (line_of plan) i (quanta_of new.node)
-        new_is =
-            ap (member_after_quantum (line_of plan) i (member_after (line_of plan) i (quanta_of cell.node + n))) read
-            ∙ (ap (λ q. member_after_quantum (line_of plan) i (member_at (line_of plan) i q) (reads_at (at_quantum (group_value plan cells replica emitted) i (quanta_of cell.node + n)) i)) (sym ran_from)
-            ∙ (laws.steps_to (at_quantum (group_value plan cells replica emitted) i (quanta_of cell.node + n)) go.value i (quanta_of cell.node + n) ran_from may
-            ∙ (ap (member_at (line_of plan) i) ran_on ∙ ap (member_after (line_of plan) i) (sym quanta_is))))
-
-        cell_new : IsCell plan i new
-        cell_new =
-            let at : IsCellOf plan i (member_after (line_of plan) i (quanta_of new.node)) new = subst (λ m. IsCellOf plan i m new) new_is after in
-            record { setup = at.setup; node = at.node; changed = at.changed; next = at.next; ways = at.ways }
-
-        pub kept_runs : IsKept plan (set cells i (Some new)) replica_new emitted_new
-        kept_runs = record { value = subst IsGroupValue (sym value_runs) value_new; placed = cells_new cell_new }
-
-        fewer : quanta_left (run_on i (quanta_of cell.node + n) (at_quantum (group_value plan cells replica emitted) i (quanta_of cell.node + n)))
-            < quanta_left (at_quantum (group_value plan cells replica emitted) i (quanta_of cell.node + n))
-        fewer =
-            let q = (laws.quanta_few (run_on i (quanta_of cell.node + n) (at_quantum (group_value plan cells replica emitted) i (quanta_of cell.node + n))) value_new i (suc (quanta_of cell.node + n)) ran_on).1 in
-            left_set (set (ran_of cells) i (Some (quanta_of cell.node + n))) i (quanta_of cell.node + n) ran_from (omega arith)
-
-        ran_here : HasRunNext i (at_quantum (group_value plan cells replica emitted) i (quanta_of cell.node + n))
-            (run_on i (quanta_of cell.node + n) (at_quantum (group_value plan cells replica emitted) i (quanta_of cell.node + n))) said
-        ran_here = record {
-          node = in_plan;
-          emits = said_is;
-          runs = λ k e. ap (λ m. run_on i m (at_quantum (group_value plan cells replica emitted) i (quanta_of cell.node + n))) (some_is (quanta_of cell.node + n) k (sym ran_from ∙ e));
-          emitted = λ p h. said_is ∙ laws.emits_as (at_quantum (group_value plan cells replica emitted) i (quanta_of cell.node + n)) p i h (ap is_some ran_from);
-          after = λ p h. laws.runs_as (at_quantum (group_value plan cells replica emitted) i (quanta_of cell.node + n)) go.value p i (quanta_of cell.node + n) h ran_from may;
-          plan = refl;
-          members = laws.runs_with (at_quantum (group_value plan cells replica emitted) i (quanta_of cell.node + n)) i (quanta_of cell.node + n) ran_from;
-          fewer = fewer;
-        }
-
-        pub has_run : (most : ℕ) → n < most → HasRunSome i most now (group_value plan (set cells i (Some new)) replica_new emitted_new) said
-        has_run most few =
-            subst (λ (v : GroupValue). HasRunSome i most v (group_value plan (set cells i (Some new)) replica_new emitted_new) said) view
-            (record {
-              k = quanta_of cell.node;
-              n = n;
-              few = few;
-              may = go;
-              last = subst (λ (v : GroupValue). HasRunNext i (at_quantum (group_value plan cells replica emitted) i (quanta_of cell.node + n)) v said) (sym value_runs) ran_here;
-            })

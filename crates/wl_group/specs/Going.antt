@@ -5,14 +5,15 @@ use Rattle.wl_record_core.specs.declared.record.Record.{Record}
 use Rattle.wl_record_core.specs.declared.record.Record.TheVariants.{Edge, Silence}
 use Rattle.wl_record_core.specs.Truth.{AreTrueOf}
 use Rattle.wl_replica.specs.State.{slots_of, state_with_records}
-use Rattle.wl_replica.specs.Known.{place_horizon, horizon}
+use Rattle.wl_replica.specs.Known.{place_horizon}
 use Rattle.wl_plan.specs.Line.{reach}
 use Rattle.wl_plan.specs.PlanLine.{line_of, table_of}
 use Rattle.wl_plan.specs.Simulation.{differs}
 use Rattle.wl_group.specs.Party.{Party}
 use Rattle.wl_group.specs.Advanced.{Steps}
-use Rattle.wl_group.specs.Running.{HasRunNext, quanta_left}
-use Rattle.wl_group.specs.GroupValue.{GroupValue, IsGroupValue, Matches, quanta_at, belongs, member_after, members_now}
+use Rattle.wl_group.specs.Member.{next_tick}
+use Rattle.wl_group.specs.Running.{quanta_left}
+use Rattle.wl_group.specs.GroupValue.{GroupValue, Matches, quanta_at, belongs, member_after, members_now}
 
 -- what a group says after n quanta in a row of node i, which had run k: the change of its drive, which is at the last of them, and its promise then
 abbrev pub told_by : GroupValue → ℕ → ℕ → ℕ → List Record
@@ -23,11 +24,7 @@ told_by g i k n =
     (if differs (l.drives i new.saw) (l.drives i old.saw) then Edge i old.changed (l.instant i (k + n - 1)) ∷ [] else [])
     ++ Silence i new.changed (reach l i new.saw) ∷ []
 
--- the group with node i at so many quanta
-abbrev pub at_quantum : GroupValue → ℕ → ℕ → GroupValue
-at_quantum g i k = record { plan = g.plan; ran = slice_set g.ran i (Some k); replica = g.replica; emitted = g.emitted }
-
--- and after it has said this
+-- the group after it ran up to so many quanta of node i, and said this
 abbrev pub gone_on : GroupValue → ℕ → ℕ → List Record → GroupValue
 gone_on g i k said = record {
   plan = g.plan;
@@ -60,26 +57,7 @@ pub record HasGoneOn (i : ℕ) (old new : GroupValue) (said : List Record) : Typ
 abbrev pub IsKnownAt : GroupValue → ℕ → ℕ → Type 0
 IsKnownAt g i known = known ≡ place_horizon (length g.plan.nodes) (line_of g.plan).delay (slots_of g.replica) i
 
--- A tick is before another one, before the end, below what is known at node i's place, and not after what is promised of node i.
-pub record IsWithin (g : GroupValue) (i until tick : ℕ) : Type 0 where
-  pub before : tick < until
-  pub early : tick < g.plan.end
-  pub known : tick < place_horizon (length g.plan.nodes) (line_of g.plan).delay (slots_of g.replica) i
-  pub promised : tick ≤ horizon (slots_of g.replica) i
-
--- The quanta k to k + n of node i may run by what the group knows, and its drive stays up to the last of them.
-pub record MayGo (g : GroupValue) (i k n : ℕ) : Type 0 where
-  pub ran : quanta_at g i ≡ Some k
-  pub early : (j : ℕ) → j ≤ n → (line_of g.plan).instant i (k + j) < g.plan.end
-  pub known : (j : ℕ) → j ≤ n → (line_of g.plan).instant i (k + j) < place_horizon (length g.plan.nodes) (line_of g.plan).delay (slots_of g.replica) i
-  pub value : IsGroupValue (at_quantum g i (k + n))
-  pub stood : (line_of g.plan).drives i (member_after (line_of g.plan) i (k + n)).saw ≡ (line_of g.plan).drives i (member_after (line_of g.plan) i k).saw
-  pub changed : (member_after (line_of g.plan) i (k + n)).changed ≡ (member_after (line_of g.plan) i k).changed
-
--- It ran them, fewer than so many before the last, and the last one as the group runs a quantum.
-pub record HasRunSome (i most : ℕ) (old new : GroupValue) (said : List Record) : Type 0 where
-  pub k : ℕ
-  pub n : ℕ
-  pub few : n < most
-  pub may : MayGo old i k n
-  pub last : HasRunNext i (at_quantum old i (k + n)) new said
+-- a tick after that of its next quantum, and no later
+pub record IsKnownUpTo (g : GroupValue) (i tick : ℕ) : Type 0 where
+  pub due : next_tick (line_of g.plan) i (members_now g i) < tick
+  pub known : tick ≤ place_horizon (length g.plan.nodes) (line_of g.plan).delay (slots_of g.replica) i

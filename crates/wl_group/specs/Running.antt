@@ -52,11 +52,6 @@ pub record HasNotGone (old new : Cell) : Type 0 where
 abbrev pub slots_ahead : ℕ → ℕ → List Slot
 slots_ahead i changed = EdgeAt i changed ∷ SilenceAt i changed ∷ SilenceAt i (changed + 1) ∷ []
 
--- What a member says after so many quanta at most, at each of which it reads this level, fits.
-pub record MaySay (plan : Plan) (i : ℕ) (m : Member) (cell : Cell) (level : Level) (most nodes : ℕ) : Type 0 where
-  pub at : IsCellOf plan i m cell
-  pub fits : (n : ℕ) → n < most → Stood (line_of plan) i m level n → All (Fits nodes) (emission (line_of plan) i (passed m level n) level)
-
 -- how many quanta may still come
 abbrev pub quanta_to_come : List (Option ℕ) → ℕ
 quanta_to_come [] = 0

@@ -1,33 +1,25 @@
 //! The advances of a group: quanta of its members, one at a time, several in a row, or all that may run.
 
-ghost use Rattle.std.specs.Prelude.{◌≡◌, ℕ, ◌+◌, ◌<◌, ◌≤◌, ◌++◌, true, false, List, IfOk, IsOk, OnOk, OnErr, IfSome, IfNone, IsTrue, Some, length, vec_len, vec_capacity};
-ghost use Rattle.wl_record_core.specs.Limits.{most_edges};
-ghost use Rattle.wl_replica.specs.State.{state_with_records};
-ghost use Rattle.wl_node.specs.Reached.{quanta_of};
-ghost use Rattle.wl_plan.specs.Limits.{most_quanta};
-ghost use Rattle.wl_plan.specs.declared.plan.Plan.{Plan as GivenPlan};
+ghost use Rattle.std.specs.Prelude.{◌≡◌, ℕ, suc, ◌+◌, ◌<◌, ◌≤◌, ◌++◌, true, false, List, IfOk, IsOk, OnOk, OnErr, IfSome, IfNone, IsTrue, length, vec_len, vec_capacity};
 ghost use Rattle.wl_plan.specs.PlanLine.{line_of};
-ghost use Rattle.wl_group.specs.Member.{Member};
-ghost use Rattle.wl_group.specs.Running.{HasGone, HasNotGone, MaySay};
 ghost use Rattle.wl_group.specs.declared.advance.TheConstants.{MOST_EMITTED};
 
 use crate::ahead::{MOST_AHEAD, run_over};
 use crate::answer::{Advance, Emission};
-use crate::cell::Cell;
 use crate::group::Group;
-use crate::heard::{known_by, known_of, shaken_around, stretch_around};
+use crate::heard::{known_by, known_of};
 use crate::laws::{group_laws, value_laws};
 use std::alloc::{AllocError, Global};
 use std::mem;
-use wl_level::Level;
 use wl_record_core::{Record, Slot};
 use wl_replica::{PREPARED_SLOTS, Prepared, Replica};
 
 impl Group {
     ghost use Rattle.wl_record_core.specs.declared.record.Record.{Record};
-    ghost use Rattle.wl_group.specs.GroupValue.{belongs, quanta_at, may_run};
+    ghost use Rattle.wl_group.specs.Member.{next_tick};
+    ghost use Rattle.wl_group.specs.GroupValue.{belongs, members_now, may_run};
     ghost use Rattle.wl_group.specs.Running.{HasRunNext, HasReplied, Ran};
-    ghost use Rattle.wl_group.specs.Going.{HasGoneOn, HasRunSome, IsWithin, IsKnownAt};
+    ghost use Rattle.wl_group.specs.Going.{HasGoneOn, IsKnownAt, IsKnownUpTo};
     ghost use Rattle.wl_group.specs.Said.{reply_of_answer, HasAnswered};
 
     /// Runs the next quantum of a node, if it may run. Any number may be asked. Refused out of memory, the group is as it was; only a node
@@ -78,16 +70,19 @@ impl Group {
         let Some(known) = self.known_for(node) else {
             return Ok(None);
         };
-        let said = self.run_row(node, known)?;
+        let said = self.run_row(node, known, self.far[node as usize])?;
         Ok(Some(said))
     }
 
-    /// Runs quanta of a member in a row, as far as the line at its place is known: one at least, none after one that changes its drive. It
-    /// takes what the member says after them. Refused out of memory, the group is as it was.
-    fn run_row(&mut self, i: u8, known: u64) -> Result<Emission, AllocError>
+    /// Runs quanta of a member in a row before a tick, up to which the line at its place is known, through a stretch of the line and this many
+    /// more: one at least, none after one that changes its drive. It takes what the member says after them. Refused out of memory, the group
+    /// is as it was.
+    fn run_row(&mut self, i: u8, known: u64, more: u8) -> Result<Emission, AllocError>
         requires may { may_run self.old i ≡ true }
-        requires known { IsKnownAt self.old i known }
+        requires known { IsKnownUpTo self.old i known }
         ensures gone { IfOk result (λ said. HasGoneOn i self.old self.new said.items) }
+        ensures next { known ≡ suc (next_tick (line_of self.old.plan) i (members_now self.old i))
+            → IfOk result (λ said. HasRunNext i self.old self.new said.items) }
         ensures err { OnErr result (self.new ≡ self.old) }
     {
         value_laws();
@@ -99,7 +94,7 @@ impl Group {
         wl_plan::simulation_laws();
         wl_plan::checked_is_sound();
         let end = known.min(self.plan.end);
-        let ahead = self.look_ahead(i, end, self.far[i as usize]);
+        let ahead = self.look_ahead(i, end, more);
         let Some(cell) = &mut self.cells[i as usize] else {
             unreachable!()
         };
@@ -219,83 +214,19 @@ impl Group {
         None
     }
 
-    /// Runs the next quantum of a member that may run, and takes what it emits. Refused out of
-    /// memory, the group is as it was.
+    /// Runs the next quantum of a member that may run, and takes what it emits: a row of one quantum. Refused out of memory, the group is as
+    /// it was.
     fn run_next(&mut self, i: u8) -> Result<Emission, AllocError>
         requires { may_run self.old i ≡ true }
         ensures ran { IfOk result (λ emission. HasRunNext i self.old self.new emission.items) }
         ensures err { OnErr result (self.new ≡ self.old) }
     {
         value_laws();
-        let known = self.known_at(i);
-        self.run_some(i, known, 1)
-    }
-
-    /// Runs quanta of a member in a row: one at least, `most` at most, none after one that changes its drive. It takes what the
-    /// member says after them. Refused out of memory, the group is as it was.
-    fn run_some(&mut self, i: u8, known: u64, most: u64) -> Result<Emission, AllocError>
-        requires may { may_run self.old i ≡ true }
-        requires known { IsKnownAt self.old i known }
-        requires some { 0 < most }
-        ensures ran { IfOk result (λ said. HasRunSome i most self.old self.new said.items) }
-        ensures err { OnErr result (self.new ≡ self.old) }
-    {
-        value_laws();
         wl_plan::checked_is_sound();
-        wl_plan::simulation_laws();
-        group_laws();
-        let tick = self.due(i);
-        let ways = *self.ways(i);
-        let shaken = shaken_around(&self.plan, self.shaken[i as usize], i, tick);
-        self.shaken[i as usize] = shaken;
-        let stretch = stretch_around(
-            &self.plan,
-            &self.replica,
-            &mut self.come,
-            &mut self.drives,
-            &ways,
-            self.heard[i as usize],
-            shaken,
-            i,
-            tick,
-        );
-        self.heard[i as usize] = stretch;
-        let count = self.quanta_until(i, stretch.until, known).min(most);
-        let Some(cell) = &mut self.cells[i as usize] else {
-            unreachable!()
-        };
-        let said = run_cell(
-            self.alloc,
-            cell,
-            i,
-            stretch.level,
-            count,
-            &mut self.replica,
-            &mut self.emitted,
-        )?;
-        Ok(said)
-    }
-
-    /// Returns how many quanta of a member that may run come before a tick, before the end, below what is known at its place, and not after
-    /// its promise.
-    fn quanta_until(&self, i: u8, until: u64, known: u64) -> u64
-        requires may { may_run self.now i ≡ true }
-        requires known { IsKnownAt self.now i known }
-        requires due { (k : ℕ) → quanta_at self.now i ≡ Some k → (line_of self.now.plan).instant i k < until }
-        ensures some { 0 < result }
-        ensures each { (k j : ℕ) → quanta_at self.now i ≡ Some k → j < result
-            → IsWithin self.now i until ((line_of self.now.plan).instant i (k + j)) }
-    {
-        value_laws();
-        wl_plan::checked_is_sound();
-        wl_plan::simulation_laws();
-        let promised = self.replica.horizon(i) + 1;
-        let end = until.min(self.plan.end).min(known).min(promised);
-        let ran = self.node(i).quanta();
-        self.plan.nodes.as_slice()[i as usize]
-            .clock
-            .first_not_before(end)
-            - ran
+        // (reading a part gives the proof what the type keeps)
+        let _ = self.plan();
+        let next = self.due(i) + 1;
+        self.run_row(i, next, 0)
     }
 }
 
@@ -312,47 +243,6 @@ fn far_after(far: u8, said: usize) -> u8 {
 
 /// The most records that one advance emits.
 const MOST_EMITTED: usize = 2;
-
-/// Runs quanta of a member in a row, each with this level: one at least, `most` at most, none after one that changes its drive. The replica
-/// takes what it says after them, and it is appended to what was emitted.
-///
-/// Quanta that were run can't be taken back, and what they emit is known only then. So all growth comes first: the replica makes room in
-/// each slot about which the member may say something. Refused when out of memory, all is as it was.
-fn run_cell(
-    alloc: Global,
-    cell: &mut Cell,
-    i: u8,
-    level: Level,
-    most: u64,
-    replica: &mut Replica,
-    emitted: &mut Vec<Record>,
-) -> Result<Emission, AllocError>
-    requires says { (plan : GivenPlan) × ((m : Member) × MaySay plan i m cell.old level most replica.old.nodes) }
-    requires some { 0 < most }
-    requires quanta { quanta_of cell.old.node + most ≤ most_quanta }
-    requires changed { cell.old.changed ≤ most_edges }
-    ensures gone { IfOk result (λ said. HasGone i level most cell.old cell.new said.items) }
-    ensures taken { IfOk result (λ said. replica.new ≡ state_with_records replica.old said.items) }
-    ensures emitted { IfOk result (λ said. emitted.new.items ≡ emitted.old.items ++ said.items) }
-    ensures stays { OnErr result (HasNotGone cell.old cell.new) }
-    ensures not_taken { OnErr result (replica.new ≡ replica.old) }
-    ensures not_emitted { OnErr result (emitted.new.items ≡ emitted.old.items) }
-{
-    wl_replica::joining_is_a_join();
-    make_room(emitted)?;
-    let prepared = prepare(alloc, replica, cell.next_slots(i))?;
-    match cell.go(i, level, most) {
-        Ok(said) => {
-            *replica = prepared.take_all(&said);
-            append(emitted, &said);
-            Ok(said)
-        }
-        Err(_) => {
-            *replica = prepared.take_all(&[]);
-            Err(AllocError)
-        }
-    }
-}
 
 /// Moves what a replica knows into one that has room in these slots. Refused when out of memory, the
 /// replica is as it was.

@@ -53,7 +53,7 @@ impl Group {
         value_laws();
         let tick = self.due(i);
         let mut ahead = Ahead {
-            stretches: [self.find(i, tick); MOST_AHEAD],
+            stretches: [self.find(i, tick, end); MOST_AHEAD],
             count: 1,
         };
         for _ in 0..more {
@@ -83,13 +83,14 @@ impl Group {
         if tick >= end {
             return;
         }
-        let stretch = self.find(i, tick);
+        let stretch = self.find(i, tick, end);
         ahead.stretches[ahead.count] = stretch;
         ahead.count += 1;
     }
 
-    /// Returns the stretch of the line at a member's place that has this tick, at which it is known there.
-    fn find(&mut self, i: u8, tick: u64) -> Stretch
+    /// Returns the stretch of the line at a member's place that has this tick, at which it is known there. How far it is wanted is a guess,
+    /// which decides nothing.
+    pub(crate) fn find(&mut self, i: u8, tick: u64, want: u64) -> Stretch
         requires member { belongs self.old i ≡ true }
         requires early { tick < 2 ^ 64 - 1 }
         requires known { let l = line_of self.old.plan in
@@ -110,10 +111,12 @@ impl Group {
             &mut self.come,
             &mut self.drives,
             &ways,
+            &mut self.lead,
             self.heard[i as usize],
             shaken,
             i,
             tick,
+            want,
         );
         self.heard[i as usize] = stretch;
         stretch

@@ -29,6 +29,8 @@ pub struct Group {
     pub(crate) awaited: [u8; MOST_NODES],
     // For each node how many stretches of the line it looks for ahead: a guess, which decides nothing.
     pub(crate) far: [u8; MOST_NODES],
+    // The number of the node that was found to drive dominant last: a guess, which decides nothing.
+    pub(crate) lead: u8,
     pub(crate) come: Come,
     pub(crate) heard: Heard,
     pub(crate) shaken: Heard,
@@ -88,6 +90,7 @@ impl Group {
             emitted: Vec::new(alloc),
             awaited: [0; MOST_NODES],
             far: [1; MOST_NODES],
+            lead: 0,
             come: [0; MOST_NODES],
             heard: nothing_heard(),
             shaken: nothing_heard(),

@@ -1,6 +1,6 @@
 //! What a place finds: the level of the line there, and for how long it stays, as far as that is known.
 
-ghost use Rattle.std.specs.Prelude.{◌≡◌, ◌+◌, ◌-◌, ◌<◌, ◌≤◌, ◌^◌, ℕ, All, length, nat_le, nat_lt};
+ghost use Rattle.std.specs.Prelude.{◌≡◌, ◌+◌, ◌-◌, ◌<◌, ◌≤◌, ◌^◌, ℕ, All, IfSome, length, nat_le, nat_lt};
 ghost use Rattle.wl_level.specs.Levels.{level_of};
 ghost use Rattle.wl_record_core.specs.Limits.{tick_end};
 ghost use Rattle.wl_record_core.specs.Truth.{odd};
@@ -153,12 +153,21 @@ fn drive_at(plan: &Plan, replica: &Replica, i: u8, t: u64, come: &mut u32) -> St
     }
 }
 
-/// Returns what node `i` drives around tick `t`: this stretch, unless more is known by now, and else what is found again.
+/// True if a stretch of what node `i` drives needn't be found again: it reaches a tick, or as far as is known by now.
+fn is_enough(replica: &Replica, i: u8, drive: Stretch, want: u64) -> bool
+    requires { i < replica.now.nodes }
+{
+    want <= drive.until || replica.horizon(i) <= drive.until
+}
+
+/// Returns what node `i` drives around tick `t`: this stretch, if it reaches the tick that is wanted or no more is known by now, and else
+/// what is found again.
 fn drive_around(
     plan: &Plan,
     replica: &Replica,
     i: u8,
     t: u64,
+    want: u64,
     come: &mut u32,
     drive: Stretch,
 ) -> Stretch
@@ -172,19 +181,21 @@ fn drive_around(
     ensures until { t < result.until }
     ensures drive { IsDrive (line_of plan.now) i result }
 {
-    if drive.from <= t && t < drive.until && replica.horizon(i) <= drive.until {
+    if drive.from <= t && t < drive.until && is_enough(replica, i, drive, want) {
         return drive;
     }
     drive_at(plan, replica, i, t, come)
 }
 
-/// Returns what node `j` finds of node `i` alone from tick `t` on, at which that is known, and what is kept of that node's drive then.
+/// Returns what node `j` finds of node `i` alone from tick `t` on, at which that is known, and what is kept of that node's drive then. How
+/// far it is wanted is a guess, which decides nothing.
 fn stretch_of(
     plan: &Plan,
     replica: &Replica,
     i: u8,
     j: u8,
     t: u64,
+    want: u64,
     delay: u64,
     come: &mut u32,
     drive: Stretch,
@@ -210,7 +221,8 @@ fn stretch_of(
         };
         return (silence, drive);
     }
-    let own = drive_around(plan, replica, i, t - delay, come, drive);
+    let want = want.saturating_sub(delay);
+    let own = drive_around(plan, replica, i, t - delay, want, come, drive);
     let heard = Stretch {
         from: t,
         until: own.until.saturating_add(delay),
@@ -219,15 +231,99 @@ fn stretch_of(
     (heard, own)
 }
 
-/// Returns what node `j` finds of all nodes from tick `t` on, at which that is known.
+/// Returns what node `j` finds of node `i` alone from tick `t` on, at which that is known, and keeps what is found of that node's drive.
+fn heard_of(
+    plan: &Plan,
+    replica: &Replica,
+    come: &mut Come,
+    drives: &mut Heard,
+    ways: &Ways,
+    i: u8,
+    j: u8,
+    t: u64,
+    want: u64,
+) -> Stretch
+    requires checked { IsChecked plan.now }
+    requires nodes { replica.now.nodes ≡ length plan.now.nodes }
+    requires truth { HoldsTrue (length plan.now.nodes) (table_of plan.now) (slots_of replica.now) }
+    requires from { i < length plan.now.nodes }
+    requires early { t < horizon (slots_of replica.now) i + (line_of plan.now).delay i j }
+    requires short { t < 2 ^ 64 - 1 }
+    requires drives { AreDrives (line_of plan.now) drives.old }
+    requires ways { AreWays plan.now j ways.now }
+    ensures drives { AreDrives (line_of plan.now) drives.new }
+    ensures from { result.from ≡ t }
+    ensures until { t < result.until }
+    ensures heard { IsHeardOf (line_of plan.now) i j result }
+{
+    wl_plan::checked_is_sound();
+    let drive = drives[i as usize];
+    let (one, own) = stretch_of(
+        plan,
+        replica,
+        i,
+        j,
+        t,
+        want,
+        ways[i as usize],
+        &mut come[i as usize],
+        drive,
+    );
+    drives[i as usize] = own;
+    one
+}
+
+/// Returns what node `j` finds from tick `t` on of the node that was found to drive dominant last, if that one does so again.
+fn driven_again(
+    plan: &Plan,
+    replica: &Replica,
+    come: &mut Come,
+    drives: &mut Heard,
+    ways: &Ways,
+    first: u8,
+    j: u8,
+    t: u64,
+    want: u64,
+) -> Option<Stretch>
+    requires checked { IsChecked plan.now }
+    requires nodes { replica.now.nodes ≡ length plan.now.nodes }
+    requires truth { HoldsTrue (length plan.now.nodes) (table_of plan.now) (slots_of replica.now) }
+    requires place { j < length plan.now.nodes }
+    requires places { length plan.now.topology.places ≡ length plan.now.nodes }
+    requires known { let l = line_of plan.now in t < place_horizon l.nodes l.delay (slots_of replica.now) j }
+    requires early { t < 2 ^ 64 - 1 }
+    requires drives { AreDrives (line_of plan.now) drives.old }
+    requires ways { AreWays plan.now j ways.now }
+    ensures drives { AreDrives (line_of plan.now) drives.new }
+    ensures from { IfSome result (λ s. s.from ≡ t) }
+    ensures until { IfSome result (λ s. t < s.until) }
+    ensures driven { IfSome result (IsDriven (line_of plan.now) j) }
+{
+    wl_replica::known_laws();
+    wl_topology::driven_laws();
+    wl_plan::checked_is_sound();
+    if first >= plan.topology.nodes() {
+        return None;
+    }
+    let one = heard_of(plan, replica, come, drives, ways, first, j, t, want);
+    match one.level {
+        Level::Dominant => Some(one),
+        Level::Recessive => None,
+    }
+}
+
+/// Returns what node `j` finds of all nodes from tick `t` on, at which that is known. It asks first the node that was found to drive dominant
+/// last.
 fn driven_from(
     plan: &Plan,
     replica: &Replica,
     come: &mut Come,
     drives: &mut Heard,
     ways: &Ways,
+    lead: &mut u8,
     j: u8,
     t: u64,
+    want: u64,
 ) -> Stretch
     requires checked { IsChecked plan.now }
     requires nodes { replica.now.nodes ≡ length plan.now.nodes }
@@ -246,22 +342,17 @@ fn driven_from(
     wl_replica::known_laws();
     wl_topology::driven_laws();
     wl_plan::checked_is_sound();
+    if let Some(again) = driven_again(plan, replica, come, drives, ways, *lead, j, t, want) {
+        return again;
+    }
     let mut until = u64::MAX;
     for i in 0..plan.topology.nodes() {
-        let drive = drives[i as usize];
-        let (one, own) = stretch_of(
-            plan,
-            replica,
-            i,
-            j,
-            t,
-            ways[i as usize],
-            &mut come[i as usize],
-            drive,
-        );
-        drives[i as usize] = own;
+        let one = heard_of(plan, replica, come, drives, ways, i, j, t, want);
         match one.level {
-            Level::Dominant => return one,
+            Level::Dominant => {
+                *lead = i;
+                return one;
+            }
             Level::Recessive => until = until.min(one.until),
         }
     }
@@ -377,9 +468,11 @@ fn found_from(
     come: &mut Come,
     drives: &mut Heard,
     ways: &Ways,
+    lead: &mut u8,
     shaken: Stretch,
     j: u8,
     t: u64,
+    want: u64,
 ) -> Stretch
     requires checked { IsChecked plan.now }
     requires nodes { replica.now.nodes ≡ length plan.now.nodes }
@@ -405,7 +498,7 @@ fn found_from(
             level: Level::Dominant,
         };
     }
-    let driven = driven_from(plan, replica, come, drives, ways, j, t);
+    let driven = driven_from(plan, replica, come, drives, ways, lead, j, t, want);
     Stretch {
         from: t,
         until: driven.until.min(shaken.until),
@@ -421,10 +514,12 @@ pub(crate) fn stretch_around(
     come: &mut Come,
     drives: &mut Heard,
     ways: &Ways,
+    lead: &mut u8,
     heard: Stretch,
     shaken: Stretch,
     j: u8,
     t: u64,
+    want: u64,
 ) -> Stretch
     requires checked { IsChecked plan.now }
     requires nodes { replica.now.nodes ≡ length plan.now.nodes }
@@ -447,5 +542,5 @@ pub(crate) fn stretch_around(
     if heard.from <= t && t < heard.until {
         return heard;
     }
-    found_from(plan, replica, come, drives, ways, shaken, j, t)
+    found_from(plan, replica, come, drives, ways, lead, shaken, j, t, want)
 }

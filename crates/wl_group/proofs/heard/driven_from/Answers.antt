@@ -7,14 +7,14 @@ use Rattle.wl_topology.proofs.Callers.{any_none}
 use Rattle.wl_replica.specs.State.{slots_of}
 use Rattle.wl_plan.specs.PlanLine.{line_of}
 use Rattle.wl_plan.specs.Simulation.{level}
-use Rattle.wl_group.proofs.HeardProofs.{is_dominant_level, is_recessive_level, driven_by_one, one_more_drive}
+use Rattle.wl_group.proofs.HeardProofs.{is_dominant_level, is_recessive_level, driven_by_one}
 use Rattle.wl_group.proofs.heard.driven_from.Goals as goal
 
 pub loop-i-init : goal.loop-i-init
-loop-i-init c = (omega (arith, c.requires.early), (λ u from until k b. absurd (omega arith)), c.requires.drives)
+loop-i-init c = (omega (arith, c.requires.early), (λ u from until k b. absurd (omega arith)), c.driven_again.ensures.drives)
 
-pub stretch_of-requires-clause-early : goal.stretch_of-requires-clause-early
-stretch_of-requires-clause-early c =
+pub heard_of-one-requires-clause-early : goal.heard_of-one-requires-clause-early
+heard_of-one-requires-clause-early c =
     let inside : c.loop-i.i < length c.args.plan.now.nodes = omega (arith, c.loop-i-test.true, c.nodes-i-end.ensures.count, c.requires.places) in
     c.known_laws.ensures.place_known (length c.args.plan.now.nodes) (delay_of c.args.plan.now.topology) (slots_of c.args.replica.now) c.loop-i.i c.args.j c.args.t inside c.requires.known
 
@@ -24,22 +24,22 @@ returns-in-Dominant-clause-driven c t from until =
     let delay = delay_of c.args.plan.now.topology in
     let inside : c.loop-i.i < length c.args.plan.now.nodes = omega (arith, c.loop-i-test.true, c.nodes-i-end.ensures.count, c.requires.places) in
     let here = is_dominant_level (nat_le (delay c.loop-i.i c.args.j) t && level l c.loop-i.i (t - delay c.loop-i.i c.args.j))
-    (c.stretch_of.ensures.heard t from until ∙ c.in-Dominant.is) in
+    (c.heard_of-one.ensures.heard t from until ∙ c.in-Dominant.is) in
     ap level_of (driven_by_one c.driven_laws.ensures (length c.args.plan.now.nodes) delay (level l) c.loop-i.i c.args.j t inside here) ∙ sym c.in-Dominant.is
 
 pub loop-i-preserved : goal.loop-i-preserved
 loop-i-preserved c = (
-  omega (arith, c.loop-i.invariant.0, c.stretch_of.ensures.until, c.min-until.ensures),
+  omega (arith, c.loop-i.invariant.0, c.heard_of-one.ensures.until, c.min-until.ensures),
   (λ u from until k b. elim (cases_eq k c.loop-i.i) [
     | inl same ↦
         let l = line_of c.args.plan.now in
         let delay = delay_of c.args.plan.now.topology in
         subst (λ n. (nat_le (delay n c.args.j) u && level l n (u - delay n c.args.j)) ≡ false) (sym same)
         (is_recessive_level (nat_le (delay c.loop-i.i c.args.j) u && level l c.loop-i.i (u - delay c.loop-i.i c.args.j))
-        (c.stretch_of.ensures.heard u (omega (arith, from, c.stretch_of.ensures.from)) (omega (arith, until, c.min-until.ensures)) ∙ c.in-Recessive.is))
+        (c.heard_of-one.ensures.heard u (omega (arith, from, c.heard_of-one.ensures.from)) (omega (arith, until, c.min-until.ensures)) ∙ c.in-Recessive.is))
     | inr other ↦ c.loop-i.invariant.1 u from (omega (arith, until, c.min-until.ensures)) k (omega arith)
   ]),
-  one_more_drive (line_of c.args.plan.now) c.loop-i.drives c.loop-i.i c.stretch_of.result.1 c.loop-i.invariant.2 c.stretch_of.ensures.drive,
+  c.heard_of-one.ensures.drives,
 )
 
 pub returns-clause-driven : goal.returns-clause-driven

@@ -16,7 +16,7 @@ use Rattle.wl_group.specs.Kept.{group_value, IsKept}
 use Rattle.wl_group.specs.Through.{AreAhead}
 use Rattle.wl_group.proofs.Callers.{on_err}
 use Rattle.wl_group.proofs.RunProofs.{cell_read, in_cells, few_changed, value_stays, kept_stays}
-use Rattle.wl_group.proofs.OverProofs.{next_kept, inside_kept, may_say_over, kept_over, has_gone_over, due_before}
+use Rattle.wl_group.proofs.OverProofs.{next_kept, inside_kept, may_say_over, kept_over, has_gone_over, has_run_next, due_before, next_before}
 use Rattle.wl_group.proofs.group.Group.run_row.Goals as goal
 
 -- the member's cell, where one was found
@@ -162,3 +162,21 @@ returns-clause-gone c =
     has_gone_over c.value_laws.ensures c.group_laws.ensures c.table_laws.ensures c.slots_laws.ensures c.known_laws.ensures c.simulation_laws.ensures c.slots_of_states.ensures c.checked_is_sound.ensures
     g.plan g.cells.items g.replica g.emitted.items kept now view i c.in-Some.cell is c.min-end.result stop far c.run_over.new.cell c.in_ok-said.said.items c.in_ok-said.ensures.gone
     c.run_over.new.replica c.run_over.new.emitted.items c.in_ok-said.ensures.taken c.in_ok-said.ensures.emitted
+
+pub returns-clause-next : goal.returns-clause-next
+returns-clause-next c one =
+    let now = c.args.self.now in
+    let i = c.args.i in
+    let g = c.self-2.inside in
+    let view = c.self-2.view_is ∙ c.look_ahead-ahead.ensures.same in
+    let kept = c.self-2.invariant.kept in
+    let is = found c.value_laws.ensures c.checked_is_sound.ensures g.plan g.cells.items g.replica g.emitted.items kept now view i c.requires.may c.index_mut.result.now c.in-Some.cell c.index_mut.ensures.value c.in-Some.is in
+    let e : c.min-end.result ≡ min c.args.known now.plan.end = c.min-end.ensures ∙ ap (λ (x : GroupValue). min c.args.known x.plan.end) c.self.view_is in
+    let d = due_before now i c.args.known c.min-end.result c.requires.may c.requires.known e in
+    let stop = subst (λ (x : GroupValue). c.min-end.result ≤ x.plan.end) (sym view) d.2 in
+    let far = subst (λ (x : GroupValue). c.min-end.result ≤ place_horizon (length x.plan.nodes) (line_of x.plan).delay (slots_of x.replica) i) (sym view) d.1 in
+    let next = next_kept c.value_laws.ensures c.simulation_laws.ensures c.checked_is_sound.ensures g.plan g.cells.items g.replica g.emitted.items kept now view i c.in-Some.cell is in
+    let early = (next_before now i c.requires.may).0 in
+    has_run_next c.value_laws.ensures c.group_laws.ensures c.table_laws.ensures c.slots_laws.ensures c.known_laws.ensures c.simulation_laws.ensures c.slots_of_states.ensures c.checked_is_sound.ensures
+    g.plan g.cells.items g.replica g.emitted.items kept now view i c.in-Some.cell is c.min-end.result stop far c.run_over.new.cell c.in_ok-said.said.items c.in_ok-said.ensures.gone
+    c.run_over.new.replica c.run_over.new.emitted.items c.in_ok-said.ensures.taken c.in_ok-said.ensures.emitted c.requires.may (omega (arith, one, e, next, early))
