@@ -97,18 +97,19 @@ class Bus:
         return max(0, -int(-far // gain) - 1)
 
     def chased_way(self, chase, k, i):
-        """How long after its own the bit of station i reaches station k at most, if k catches up in so many edges."""
+        """How long after its own the bit of station i reaches station k at most, if k catches up in so many edges; with the winner in none."""
+        if None in (chase[i], chase[k]): return self.any_way(k, i)
         jumps = [self.lengths[w][3] * quantum(self.clocks[w]) for w in (i, k)]
         return self.any_way(k, i) + chase[k] * (10 * drift(self, i, k) + max(Fraction(0), jumps[0] - jumps[1]))
 
     def chases(self, winner):
-        return [0 if k == winner else self.chase(k, winner) for k in range(self.count)]
+        return [None if k == winner else self.chase(k, winner) for k in range(self.count)]
 
     def answers_broken(self, winner):
         """The inequalities of an acknowledgement that some pair breaks."""
         found = set()
         chase = self.chases(winner)
-        if None in chase: return {"catch"}
+        if chase.count(None) > 1: return {"catch"}
         for i in range(self.count):
             mine = quantum(self.clocks[i])
             if self.delay[i][i] > sample_of(self.lengths[i]) * mine: found.add("loops")
@@ -321,7 +322,7 @@ def answer(runs, seed, left):
         chase = bus.chases(0)
         if left == "chase":
             if not any(chase): continue
-            chase = [max(0, c - 1) for c in chase]
+            chase = [c and max(0, c - 1) for c in chase]
         wanted = [i for i in range(bus.count) if bus.may[i] and (i == 0 or rng.random() < 0.9)]
         around = rng.choice([1, 1, 3, 40])
         first = rng.randrange(1, length)

@@ -1,6 +1,7 @@
 -- Any two stations of a frame, also if neither sends: the way between them, and what gathers while both follow the edges of others.
-use Rattle.std.proofs.Common.{◌≡◌, ◌≢◌, ◌∙◌, ◌⊎◌, inl, inr, refl, sym, ap, subst, ℕ, zero, suc, ◌+◌, ◌-◌, ◌*◌, ◌<◌, ◌≤◌, Bool, true, false, not, cond, arith}
-use Rattle.std.proofs.lemmas.Bool.{and_parts, cases_lt, cases_Bool}
+use Rattle.std.proofs.Common.{◌≡◌, ◌≢◌, ◌∙◌, ◌⊎◌, inl, inr, refl, sym, ap, subst, ℕ, zero, suc, ◌+◌, ◌-◌, ◌*◌, ◌<◌, ◌≤◌, Bool, true, false, not, cond, max, ◌||◌, arith}
+use Rattle.std.specs.Prelude.{◌==◌}
+use Rattle.std.proofs.lemmas.Bool.{and_parts, cases_eq, cases_lt, cases_Bool, ne_eqb}
 use Rattle.std.proofs.Math.Nat.{mul-le-mul_left, mul-le-mul_right}
 use Rattle.wl_segments.specs.Lengths.{bit_quanta}
 use Rattle.wl_topology.specs.Driven.{DrivenLaws}
@@ -9,7 +10,7 @@ use Rattle.wl_phase.specs.Ways.{moved_to}
 use Rattle.wl_any_senders.specs.Stations.{Stations, AreStations, AreClose, AreOnALine, HaveRoom, ReachesBy, bit_drift, shared_tick, shared_quantum, shared_instant}
 use Rattle.wl_any_senders.specs.Starts.{Start, Drives, AreAllowed, AreSenders, BeginBit, BeginFrame, BeginsAlone, FindsFirst, FollowsHard, FollowsSoft}
 use Rattle.wl_any_senders.specs.Course.{IsCourse, begins_with_edge, bus_bit, since_edge, still_sends}
-use Rattle.wl_any_senders.specs.Acknowledged.{AreAllClose, CatchUp, answering, any_way, chased_way, jump_gap}
+use Rattle.wl_any_senders.specs.Acknowledged.{AreAllClose, CatchUp, answering, any_way, chased_way, gathers, jump_gap}
 use Rattle.wl_any_senders.proofs.Measures.{exact_before, instant_high, instant_low, instant_more, same_tick, tick_next}
 use Rattle.wl_any_senders.proofs.Nearing.{ahead_by, due_by, few_of, from_by, stays_below}
 use Rattle.wl_any_senders.proofs.Passing as passing
@@ -46,8 +47,16 @@ module _ (s : Stations) (line : AreOnALine s) (late : ℕ → ℕ → ℕ) (long
     };
   }
 
-pub chased_stations : (s : Stations) → AreOnALine s → (chase : ℕ → ℕ) → AreStations (answering s (chased_way s chase))
-chased_stations s line chase = any_stations s line (chased_way s chase) (λ k i. omega arith)
+pub chased_stations : (s : Stations) → AreOnALine s → (winner : ℕ) → (chase : ℕ → ℕ) → AreStations (answering s (chased_way s winner chase))
+chased_stations s line winner chase = any_stations s line (chased_way s winner chase) (λ k i. longer (any_way s k i) (s.way k i) (gathers s winner chase k i))
+  where
+    longer : (a b c : ℕ) → a ≤ max a b + c
+    longer a b c = omega arith
+
+-- between two others so much gathers
+pub gathers_is : (s : Stations) (winner : ℕ) (chase : ℕ → ℕ) (k i : ℕ) → i ≢ winner → k ≢ winner → gathers s winner chase k i ≡ chase k * (10 * bit_drift s i k + jump_gap s i k)
+gathers_is s winner chase k i other apart = ap (λ b. cond (b || k == winner) 0 (chase k * (10 * bit_drift s i k + jump_gap s i k))) (ne_eqb i winner other)
+    ∙ ap (λ b. cond b 0 (chase k * (10 * bit_drift s i k + jump_gap s i k))) (ne_eqb k winner apart)
 
 -- how a bit begins, at the same stations
 module _ (s : Stations) (late : ℕ → ℕ → ℕ) (b : Start) where
@@ -399,9 +408,33 @@ module _ (s : Stations) (are : AreStations s) (room : HaveRoom s) (bits : ℕ �
   chases zero less = first less
   chases (suc n) less = next n less (chases n (omega arith))
 
-  pub any_close : (n : ℕ) → n < length → AreAllClose s (chased_way s chase) (since n) (bits n).place
-  any_close n less i k within there other some =
-      let r = chases n less k there in
-      let near = r.1.close i within other in
+  within : (x y way any few many t : ℕ) → x < y + any + few + t → few ≤ many → x < y + (max any way + many) + t
+  within x y way any few many t h f = omega arith
+
+  at_winner : (n : ℕ) → n < length → (i k : ℕ) → i < s.count → k < s.count → i ≢ k → (still_sends s bits (suc n) i ≡ true) ⊎ (still_sends s bits (suc n) k ≡ true)
+      → ReachesBy (answering s (chased_way s winner chase)) (since n) i k ((bits n).place i) ((bits n).place k)
+  at_winner n less i k ni nk other some =
+      grows (shared_instant s i k ((bits n).place i) + s.delay i k * shared_tick s i k) (shared_instant s k i ((bits n).place k)) (s.way k i) (any_way s k i)
+      (gathers s winner chase k i) (since n * bit_drift s i k) ((reached n less).close i k ni nk other some)
+    where
+      grows : (x y way any more t : ℕ) → x < y + way + t → x < y + (max any way + more) + t
+      grows x y way any more t h = omega arith
+
+  between : (n : ℕ) → n < length → (i k : ℕ) → i < s.count → k < s.count → i ≢ k → i ≢ winner → k ≢ winner
+      → ReachesBy (answering s (chased_way s winner chase)) (since n) i k ((bits n).place i) ((bits n).place k)
+  between n less i k ni nk other apart third =
+      let r = chases n less k nk in
+      let near = r.1.close i ni other in
       let m : r.0 * (10 * bit_drift s i k + jump_gap s i k) ≤ chase k * (10 * bit_drift s i k + jump_gap s i k) = mul-le-mul_right (10 * bit_drift s i k + jump_gap s i k) r.1.few in
-      omega arith
+      let e = gathers_is s winner chase k i apart third in
+      within (shared_instant s i k ((bits n).place i) + s.delay i k * shared_tick s i k) (shared_instant s k i ((bits n).place k)) (s.way k i) (any_way s k i)
+      (r.0 * (10 * bit_drift s i k + jump_gap s i k)) (gathers s winner chase k i) (since n * bit_drift s i k) near (omega arith)
+
+  pub any_close : (n : ℕ) → n < length → AreAllClose s (chased_way s winner chase) (since n) (bits n).place
+  any_close n less i k ni nk other some = elim (cases_eq i winner) [
+    | inl own ↦ at_winner n less i k ni nk other (inl (subst (λ w. still_sends s bits (suc n) w ≡ true) (sym own) (wins_at (suc n) (length - suc n) (omega arith))))
+    | inr apart ↦ elim (cases_eq k winner) [
+      | inl theirs ↦ at_winner n less i k ni nk other (inr (subst (λ w. still_sends s bits (suc n) w ≡ true) (sym theirs) (wins_at (suc n) (length - suc n) (omega arith))))
+      | inr third ↦ between n less i k ni nk other apart third
+    ]
+  ]

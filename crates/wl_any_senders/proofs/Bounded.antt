@@ -15,7 +15,7 @@ use Rattle.wl_any_senders.specs.Stations.{Stations, AreOnALine, HaveRoom, HaveWa
 use Rattle.wl_any_senders.proofs.Sampled.{none_below}
 
 -- So many ticks, a time and ten times a difference fit, in other parts: a tick has u units, or m parts.
-fits : (u m w x y X Y c C g G : ℕ) → 0 < u → u * x ≤ m * X → m * Y ≤ u * y → m * c ≤ u * C → u * g ≤ m * G → w * u + G + 10 * (X - Y) ≤ c → w * m + g + 10 * (x - y) ≤ C
+pub fits : (u m w x y X Y c C g G : ℕ) → 0 < u → u * x ≤ m * X → m * Y ≤ u * y → m * c ≤ u * C → u * g ≤ m * G → w * u + G + 10 * (X - Y) ≤ c → w * m + g + 10 * (x - y) ≤ C
 fits u m w x y X Y c C g G some high low room time h =
     let flat : w * u + G ≤ c = omega arith in
     let times : m * (w * u + G) ≤ m * c = mul-le-mul_left m flat in
@@ -32,38 +32,38 @@ or_not true y e = refl
 or_not false y e = ap not e
 
 module _ (bus : Bus) (s : Stations) (line : AreOnALine s) (of : IsBusOf bus s) where
-  inside : (i : ℕ) → i < s.count → i < bus.nodes
+  pub inside : (i : ℕ) → i < s.count → i < bus.nodes
   inside i h = let e = of.nodes in omega arith
 
   -- so many quanta, in units and in parts
-  quanta_high : (i k n : ℕ) → i < s.count → bus.tick * (n * shared_quantum s i k) ≤ shared_tick s i k * (n * bus.longest i)
+  pub quanta_high : (i k n : ℕ) → i < s.count → bus.tick * (n * shared_quantum s i k) ≤ shared_tick s i k * (n * bus.longest i)
   quanta_high i k n h = let m : n * (s.clocks k).den * (bus.tick * (s.clocks i).num) ≤ n * (s.clocks k).den * (bus.longest i * (s.clocks i).den) = mul-le-mul_left (n * (s.clocks k).den) (of.slowest i h) in omega arith
 
-  quanta_low : (i k n : ℕ) → i < s.count → shared_tick s i k * (n * bus.shortest i) ≤ bus.tick * (n * shared_quantum s i k)
+  pub quanta_low : (i k n : ℕ) → i < s.count → shared_tick s i k * (n * bus.shortest i) ≤ bus.tick * (n * shared_quantum s i k)
   quanta_low i k n h = let m : n * (s.clocks k).den * (bus.shortest i * (s.clocks i).den) ≤ n * (s.clocks k).den * (bus.tick * (s.clocks i).num) = mul-le-mul_left (n * (s.clocks k).den) (of.fastest i h) in omega arith
 
-  quanta_back : (i k n : ℕ) → k < s.count → shared_tick s i k * (n * bus.shortest k) ≤ bus.tick * (n * shared_quantum s k i)
+  pub quanta_back : (i k n : ℕ) → k < s.count → shared_tick s i k * (n * bus.shortest k) ≤ bus.tick * (n * shared_quantum s k i)
   quanta_back i k n h = let low = quanta_low k i n h in omega arith
 
-  quanta_there : (i k n : ℕ) → k < s.count → bus.tick * (n * shared_quantum s k i) ≤ shared_tick s i k * (n * bus.longest k)
+  pub quanta_there : (i k n : ℕ) → k < s.count → bus.tick * (n * shared_quantum s k i) ≤ shared_tick s i k * (n * bus.longest k)
   quanta_there i k n h = let high = quanta_high k i n h in omega arith
 
   -- the parts of a way
-  own_way : (i k : ℕ) → ℕ
+  pub own_way : (i k : ℕ) → ℕ
   own_way i k = cond (s.may_send k) ((s.delay k i + s.delay i k) * shared_tick s i k) 0
 
-  over_way : (i k : ℕ) → ℕ
+  pub over_way : (i k : ℕ) → ℕ
   over_way i k = greatest s.count (other_sends s k) (following_way s k i)
 
-  way_is : (i k : ℕ) → i < s.count → k < s.count → s.way k i ≡ max (own_way i k) (over_way i k)
+  pub way_is : (i k : ℕ) → i < s.count → k < s.count → s.way k i ≡ max (own_way i k) (over_way i k)
   unfolding own_way over_way
   way_is i k ni nk = of.ways i k ni nk
 
-  own_is : (i k : ℕ) → s.may_send k ≡ true → own_way i k ≡ (s.delay k i + s.delay i k) * shared_tick s i k
+  pub own_is : (i k : ℕ) → s.may_send k ≡ true → own_way i k ≡ (s.delay k i + s.delay i k) * shared_tick s i k
   unfolding own_way
   own_is i k may = ap (λ b. cond b ((s.delay k i + s.delay i k) * shared_tick s i k) 0) may
 
-  own_none : (i k : ℕ) → s.may_send k ≡ false → own_way i k ≡ 0
+  pub own_none : (i k : ℕ) → s.may_send k ≡ false → own_way i k ≡ 0
   unfolding own_way
   own_none i k may = ap (λ b. cond b ((s.delay k i + s.delay i k) * shared_tick s i k) 0) may
 
@@ -79,7 +79,7 @@ module _ (bus : Bus) (s : Stations) (line : AreOnALine s) (of : IsBusOf bus s) w
   unfolding over_way
   over_each i k a na may apart = bounds_each s.count (other_sends s k) (following_way s k i) (greatest s.count (other_sends s k) (following_way s k i)) (omega arith) a na (other_is k a may apart)
 
-  over_by : (i k most : ℕ) → ((a : ℕ) → a < s.count → s.may_send a ≡ true → a ≢ k → following_way s k i a ≤ most) → over_way i k ≤ most
+  pub over_by : (i k most : ℕ) → ((a : ℕ) → a < s.count → s.may_send a ≡ true → a ≢ k → following_way s k i a ≤ most) → over_way i k ≤ most
   unfolding over_way
   over_by i k most h = bounded s.count (other_sends s k) (following_way s k i) most (λ a na e. (let b = other_by k a e in h a na b.0 b.1))
 
@@ -101,7 +101,7 @@ module _ (bus : Bus) (s : Stations) (line : AreOnALine s) (of : IsBusOf bus s) w
   straight i k ni nk pair may = (let w = way_is i k ni nk in let h = over_each i k i ni may pair.0 in let e = follows_own k i in omega arith)
 
   -- no way is longer than there and back and a look
-  follows_by : (i k a : ℕ) → i < s.count → k < s.count → a < s.count → following_way s k i a ≤ any_way s k i
+  pub follows_by : (i k a : ℕ) → i < s.count → k < s.count → a < s.count → following_way s k i a ≤ any_way s k i
   follows_by i k a ni nk na = elim (cases_eq a i) [
     | inl own ↦
         (let e = follows_own k i in
@@ -160,10 +160,30 @@ module _ (bus : Bus) (s : Stations) (line : AreOnALine s) (of : IsBusOf bus s) w
         omega arith)
   ]
 
-  look_high : (i k : ℕ) → i < s.count → k < s.count
+  pub look_high : (i k : ℕ) → i < s.count → k < s.count
       → bus.tick * (shared_quantum s k i + shared_tick s i k - s.delay k k * shared_tick s i k) ≤ shared_tick s i k * look bus k
   unfolding look
   look_high i k ni nk = beyond i k (s.delay k k) (bus.delay k k) nk (of.delays k k nk nk)
+
+  pub drift_is : (i k : ℕ) → drift bus i k ≡ bit_quanta (s.lengths i) * bus.longest i - bit_quanta (s.lengths k) * bus.shortest k
+  unfolding drift
+  drift_is i k =
+      ap (λ l. bit_quanta l * bus.longest i - bit_quanta (bus.lengths k) * bus.shortest k) (of.lengths i)
+      ∙ ap (λ l. bit_quanta (s.lengths i) * bus.longest i - bit_quanta l * bus.shortest k) (of.lengths k)
+
+  pub jump_is : (i : ℕ) → jump bus i ≡ (s.lengths i).sjw * bus.shortest i
+  unfolding jump
+  jump_is i = ap (λ l. l.sjw * bus.shortest i) (of.lengths i)
+
+  -- a loop, in parts
+  pub loop_by : (i : ℕ) → i < s.count → bus.delay i i ≤ sample_at (bus.lengths i) * bus.shortest i → (s.clocks i).den * s.delay i i ≤ sample_at (s.lengths i) * (s.clocks i).num
+  loop_by i ni h =
+      let d = of.delays i i ni ni in
+      let p : sample_at (bus.lengths i) * bus.shortest i ≡ sample_at (s.lengths i) * bus.shortest i = ap (λ l. sample_at l * bus.shortest i) (of.lengths i) in
+      let m : (s.clocks i).den * (s.delay i i * bus.tick) ≤ (s.clocks i).den * (sample_at (s.lengths i) * bus.shortest i) = mul-le-mul_left (s.clocks i).den (omega arith) in
+      let n : sample_at (s.lengths i) * (bus.shortest i * (s.clocks i).den) ≤ sample_at (s.lengths i) * (bus.tick * (s.clocks i).num) = mul-le-mul_left (sample_at (s.lengths i)) (of.fastest i ni) in
+      let all : bus.tick * ((s.clocks i).den * s.delay i i) ≤ bus.tick * (sample_at (s.lengths i) * (s.clocks i).num) = omega arith in
+      le_of_mul-le-mul_left all of.some
 
   pub have_ways : HaveWays s
   have_ways = record {
@@ -173,16 +193,6 @@ module _ (bus : Bus) (s : Stations) (line : AreOnALine s) (of : IsBusOf bus s) w
   }
 
 module _ (bus : Bus) (s : Stations) (line : AreOnALine s) (of : IsBusOf bus s) (left : IsLeftForTwo bus s) (sound : IsSound bus) where
-  drift_is : (i k : ℕ) → drift bus i k ≡ bit_quanta (s.lengths i) * bus.longest i - bit_quanta (s.lengths k) * bus.shortest k
-  unfolding drift
-  drift_is i k =
-      ap (λ l. bit_quanta l * bus.longest i - bit_quanta (bus.lengths k) * bus.shortest k) (of.lengths i)
-      ∙ ap (λ l. bit_quanta (s.lengths i) * bus.longest i - bit_quanta l * bus.shortest k) (of.lengths k)
-
-  jump_is : (i : ℕ) → jump bus i ≡ (s.lengths i).sjw * bus.shortest i
-  unfolding jump
-  jump_is i = ap (λ l. l.sjw * bus.shortest i) (of.lengths i)
-
   drifts : (i k : ℕ) → i < s.count → k < s.count → i ≢ k → (bus.listens i && bus.listens k) ≡ false → 10 * drift bus i k ≤ min (jump bus i) (jump bus k)
   unfolding left_of right_of
   drifts i k ni nk apart some =
@@ -210,8 +220,8 @@ module _ (bus : Bus) (s : Stations) (line : AreOnALine s) (of : IsBusOf bus s) (
       → 10 * drift bus i k + (bus.longest k + bus.tick - W) ≤ jump bus i
       → s.way k i + 10 * bit_drift s i k ≤ (s.delay k i + s.delay i k) * shared_tick s i k + (s.lengths i).sjw * shared_quantum s i k
   early_look i k w W ni nk same way h =
-      let d = drift_is i k in
-      let j = jump_is i in
+      let d = drift_is bus s line of i k in
+      let j = jump_is bus s line of i in
       let f =
       fits bus.tick (shared_tick s i k) 0 (bit_quanta (s.lengths i) * shared_quantum s i k) (bit_quanta (s.lengths k) * shared_quantum s k i)
       (bit_quanta (s.lengths i) * bus.longest i) (bit_quanta (s.lengths k) * bus.shortest k) ((s.lengths i).sjw * bus.shortest i) ((s.lengths i).sjw * shared_quantum s i k)
@@ -224,8 +234,8 @@ module _ (bus : Bus) (s : Stations) (line : AreOnALine s) (of : IsBusOf bus s) (
       → s.way k i + 10 * bit_drift s i k ≤ (s.delay k i + s.delay i k) * shared_tick s i k + (s.lengths i).sjw * shared_quantum s i k
   early_alone i k ni nk apart may none =
       let h = drifts i k ni nk apart (and_right (bus.listens i) (bus.listens k) (of.answers k nk may)) in
-      let d = drift_is i k in
-      let j = jump_is i in
+      let d = drift_is bus s line of i k in
+      let j = jump_is bus s line of i in
       let way = way_alone bus s line of i k ni nk may none in
       let f =
       fits bus.tick (shared_tick s i k) 0 (bit_quanta (s.lengths i) * shared_quantum s i k) (bit_quanta (s.lengths k) * shared_quantum s k i)
@@ -285,8 +295,8 @@ module _ (bus : Bus) (s : Stations) (line : AreOnALine s) (of : IsBusOf bus s) (
   late_fits : (i k : ℕ) → i < s.count → k < s.count → i ≢ k → s.may_send k ≡ true → 10 * bit_drift s k i ≤ (s.lengths i).sjw * shared_quantum s i k
   late_fits i k ni nk apart may =
       let h = drifts k i nk ni (λ e. apart (sym e)) (and_left (bus.listens k) (bus.listens i) (of.answers k nk may)) in
-      let d = drift_is k i in
-      let j = jump_is i in
+      let d = drift_is bus s line of k i in
+      let j = jump_is bus s line of i in
       let f =
       fits bus.tick (shared_tick s i k) 0 (bit_quanta (s.lengths k) * shared_quantum s k i) (bit_quanta (s.lengths i) * shared_quantum s i k)
       (bit_quanta (s.lengths k) * bus.longest k) (bit_quanta (s.lengths i) * bus.shortest i) ((s.lengths i).sjw * bus.shortest i) ((s.lengths i).sjw * shared_quantum s i k) 0 0
@@ -299,7 +309,7 @@ module _ (bus : Bus) (s : Stations) (line : AreOnALine s) (of : IsBusOf bus s) (
   unfolding left_of right_of
   not_early i k ni nk apart may =
       let h = sound.no_bit_too_early i k (inside bus s line of i ni) (inside bus s line of k nk) (and_from (not (i == k)) (not (bus.listens k)) (ap not (ne_eqb i k apart)) (ap not (of.answers k nk may))) in
-      let d = drift_is i k in
+      let d = drift_is bus s line of i k in
       let p : (bus.lengths i).ps2 * bus.shortest i ≡ (s.lengths i).ps2 * bus.shortest i = ap (λ l. l.ps2 * bus.shortest i) (of.lengths i) in
       let way = way_by bus s line of i k ni nk may in
       let f =
@@ -351,7 +361,7 @@ module _ (bus : Bus) (s : Stations) (line : AreOnALine s) (of : IsBusOf bus s) (
       let x = trip_own i k in
       let w = way_there i k i ni own apart in
       let y = strays_there i k ni apart in
-      let d = drift_is k i in
+      let d = drift_is bus s line of k i in
       let one = of.delays i k ni nk in
       let two = of.delays k i nk ni in
       let sum : (s.delay i k + s.delay k i) * bus.tick ≡ s.delay i k * bus.tick + s.delay k i * bus.tick = omega arith in
@@ -371,7 +381,7 @@ module _ (bus : Bus) (s : Stations) (line : AreOnALine s) (of : IsBusOf bus s) (
       let x = trip_other i k a own in
       let w = way_there i k a na sender other in
       let y = strays_there i k ni apart in
-      let d = drift_is k i in
+      let d = drift_is bus s line of k i in
       let one = of.delays a k na nk in
       let two = of.delays k i nk ni in
       let three = of.delays a i na ni in
@@ -428,12 +438,7 @@ module _ (bus : Bus) (s : Stations) (line : AreOnALine s) (of : IsBusOf bus s) (
       let h : cond (i == i) (bus.delay i i + bus.turns i) (late bus i i + 11 * strays bus i + ahead bus i) ≤ sample_at (bus.lengths i) * bus.shortest i =
       sound.bit_is_there_at_sample i i (inside bus s line of i ni) (inside bus s line of i ni) (or_not (i == i) (bus.listens i) (of.answers i ni may)) in
       let e = ap (λ c. cond c (bus.delay i i + bus.turns i) (late bus i i + 11 * strays bus i + ahead bus i)) (eq-eqb i i refl) in
-      let d = of.delays i i ni ni in
-      let p : sample_at (bus.lengths i) * bus.shortest i ≡ sample_at (s.lengths i) * bus.shortest i = ap (λ l. sample_at l * bus.shortest i) (of.lengths i) in
-      let m : (s.clocks i).den * (s.delay i i * bus.tick) ≤ (s.clocks i).den * (sample_at (s.lengths i) * bus.shortest i) = mul-le-mul_left (s.clocks i).den (omega arith) in
-      let n : sample_at (s.lengths i) * (bus.shortest i * (s.clocks i).den) ≤ sample_at (s.lengths i) * (bus.tick * (s.clocks i).num) = mul-le-mul_left (sample_at (s.lengths i)) (of.fastest i ni) in
-      let all : bus.tick * ((s.clocks i).den * s.delay i i) ≤ bus.tick * (sample_at (s.lengths i) * (s.clocks i).num) = omega arith in
-      le_of_mul-le-mul_left all of.some
+      loop_by bus s line of i ni (omega arith)
 
   pub has_room : HaveRoom s
   has_room = record { early_fits = early_fits; late_fits = late_fits; is_there = there; loops = loop; not_early = not_early }

@@ -1,4 +1,5 @@
 mod Beginning
+mod AckBounds
 mod AckWays
 mod Acks
 mod Bounded

@@ -92,5 +92,8 @@ any = refl
 longer : jump_gap s 1 0 ≡ 2
 longer = refl
 
-in_two_edges : chased_way s (λ k. 2) 0 1 ≡ 254
+in_two_edges : chased_way s 2 (λ k. 2) 0 1 ≡ 254
 in_two_edges = refl
+
+to_the_winner : chased_way s 1 (λ k. 2) 0 1 ≡ 50
+to_the_winner = refl

@@ -1,5 +1,5 @@
 -- The acknowledgement of a frame: of its senders one is left, and each other station drives the ACK slot dominant.
-use Rattle.std.specs.Prelude.{◌≡◌, ◌≢◌, ◌⊎◌, ℕ, suc, ◌+◌, ◌-◌, ◌*◌, ◌<◌, ◌≤◌, Bool, true, false}
+use Rattle.std.specs.Prelude.{◌≡◌, ◌≢◌, ◌⊎◌, ℕ, suc, ◌+◌, ◌-◌, ◌*◌, ◌<◌, ◌≤◌, ◌==◌, ◌||◌, max, Bool, true, false, if◌then◌else◌}
 use Rattle.wl_segments.specs.Lengths.{sample_at, bit_quanta}
 use Rattle.wl_topology.specs.Driven.{driven}
 use Rattle.wl_phase.specs.Clocks.{steady_tick}
@@ -23,9 +23,12 @@ any_way s k i = (s.delay k i + s.delay i k) * shared_tick s i k + (shared_quantu
 abbrev pub jump_gap : Stations → (i k : ℕ) → ℕ
 jump_gap s i k = (s.lengths i).sjw * shared_quantum s i k - (s.lengths k).sjw * shared_quantum s k i
 
--- and what gathers at two that both go forward to the bits of a winner: station k by as much as it may with each of so many edges, and station i with it
-abbrev pub chased_way : Stations → (chase : ℕ → ℕ) → (k i : ℕ) → ℕ
-chased_way s chase k i = any_way s k i + chase k * (10 * bit_drift s i k + jump_gap s i k)
+-- What gathers at two that both go forward to the bits of a winner: station k by as much as it may with each of so many edges, and station i with it. The winner itself stays close to each.
+abbrev pub gathers : Stations → (winner : ℕ) → (chase : ℕ → ℕ) → (k i : ℕ) → ℕ
+gathers s winner chase k i = if i == winner || k == winner then 0 else chase k * (10 * bit_drift s i k + jump_gap s i k)
+
+abbrev pub chased_way : Stations → (winner : ℕ) → (chase : ℕ → ℕ) → (k i : ℕ) → ℕ
+chased_way s winner chase k i = max (any_way s k i) (s.way k i) + gathers s winner chase k i
 
 -- With so many edges at most a station catches up with the winner: each takes a jump but for ten bits' drift away from how early it may be, and it needn't be nearer than a quantum.
 abbrev pub CatchUp : Stations → (winner : ℕ) → (chase : ℕ → ℕ) → Type 0

@@ -8,3 +8,4 @@ pub mod Plans
 pub mod Machines
 pub mod Acknowledged
 pub mod Expected
+pub mod Answers

@@ -1,7 +1,10 @@
 //! Laws of the acknowledgement of a frame with several senders, each proved as the contract of a function that does nothing.
 
 ghost use Rattle.std.specs.Prelude.{◌≡◌, ◌<◌, ◌≤◌, ℕ, suc, true, Bool};
+ghost use Rattle.wl_bound.specs.Families.{Bus};
 ghost use Rattle.wl_any_senders.specs.Acknowledged.{AreAllClose, CatchUp, IsAcknowledgedByAll, IsAnsweredByAll, answering, chased_way};
+ghost use Rattle.wl_any_senders.specs.Answers.{HasRoomToAnswer};
+ghost use Rattle.wl_any_senders.specs.Bounds.{IsBusOf};
 ghost use Rattle.wl_any_senders.specs.Course.{IsCourse, since_edge, still_sends};
 ghost use Rattle.wl_any_senders.specs.Starts.{Start};
 ghost use Rattle.wl_any_senders.specs.Stations.{AreOnALine, AreStations, HaveRoom, Stations};
@@ -22,11 +25,12 @@ pub fn all_sample_the_acknowledgement()
 /// what gathers while one catches up with the winner. Two that go forward with an edge may drift apart, and it may move the one further.
 /// `chase` has the number of edges in which each station catches up.
 pub fn any_two_stay_close()
-    ensures ways { (s : Stations) (chase : ℕ → ℕ) → AreOnALine s → AreStations (answering s (chased_way s chase)) }
+    ensures ways { (s : Stations) (winner : ℕ) (chase : ℕ → ℕ) → AreOnALine s
+        → AreStations (answering s (chased_way s winner chase)) }
     ensures close { (s : Stations) (bits : ℕ → Start) (drove : ℕ → ℕ → Bool) (length : ℕ) (until : ℕ → ℕ) (winner : ℕ)
         (chase : ℕ → ℕ) → AreStations s → HaveRoom s → IsCourse s bits drove length until → winner < s.count
         → still_sends s bits length winner ≡ true → CatchUp s winner chase
-        → (n : ℕ) → n < length → AreAllClose s (chased_way s chase) (since_edge s bits n) (bits n).place }
+        → (n : ℕ) → n < length → AreAllClose s (chased_way s winner chase) (since_edge s bits n) (bits n).place }
 {
     wl_topology::driven_laws();
 }
@@ -37,10 +41,22 @@ pub fn a_frame_is_acknowledged()
     ensures { (s : Stations) (bits : ℕ → Start) (drove : ℕ → ℕ → Bool) (n : ℕ) (until : ℕ → ℕ) (winner : ℕ)
         (chase : ℕ → ℕ) (slot : Start) (over after : ℕ → ℕ) → AreStations s → HaveRoom s
         → IsCourse s bits drove (suc n) until → winner < s.count → still_sends s bits (suc n) winner ≡ true
-        → CatchUp s winner chase → HaveRoom (answering s (chased_way s chase)) → since_edge s bits n ≤ 8
-        → IsAnsweredByAll s (chased_way s chase) winner (bits (suc n)).due slot over drove after
-        → IsAcknowledgedByAll s (chased_way s chase) (bits (suc n)).due slot over drove after }
+        → CatchUp s winner chase → HaveRoom (answering s (chased_way s winner chase)) → since_edge s bits n ≤ 8
+        → IsAnsweredByAll s (chased_way s winner chase) winner (bits (suc n)).due slot over drove after
+        → IsAcknowledgedByAll s (chased_way s winner chase) (bits (suc n)).due slot over drove after }
 {
     all_sample_the_acknowledgement();
     any_two_stay_close();
 }
+
+/// Law: a bus that meets these inequalities has room for acknowledgements, wherever within its tolerance each clock lies. They are those
+/// of the condition for margins, of any two nodes as if both sent. Each node catches up with whoever wins in `chase` edges.
+pub fn a_bus_has_room_to_answer()
+    ensures room { (bus : Bus) (s : Stations) (chase : ℕ → ℕ) → AreOnALine s → IsBusOf bus s
+        → HasRoomToAnswer bus chase
+        → (winner : ℕ) → winner < s.count → s.may_send winner ≡ true
+        → HaveRoom (answering s (chased_way s winner chase)) }
+    ensures catch { (bus : Bus) (s : Stations) (chase : ℕ → ℕ) → AreOnALine s → IsBusOf bus s
+        → HasRoomToAnswer bus chase
+        → (winner : ℕ) → winner < s.count → s.may_send winner ≡ true → CatchUp s winner chase }
+{}

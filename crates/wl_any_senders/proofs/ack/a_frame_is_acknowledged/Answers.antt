@@ -9,7 +9,7 @@ use Rattle.wl_any_senders.proofs.ack.a_frame_is_acknowledged.Goals as goal
 pub returns : goal.returns
 returns c = λ s bits drove n until winner chase slot over after are room is inside wins catch enough few answered.
     (let near = c.any_two_stay_close.ensures.close s bits drove (suc n) until winner chase are room is inside wins catch n (omega arith) in
-    c.all_sample_the_acknowledgement.ensures s (chased_way s chase) winner (bits (suc n)).due slot over drove after (suc (since_edge s bits n))
-    (c.any_two_stay_close.ensures.ways s chase are.line) enough answered (omega arith)
-    (same_places (answering s (chased_way s chase)) (λ i. true) (suc (since_edge s bits n)) (λ i. (bits n).place i + bit_quanta (s.lengths i)) (bits (suc n)).due (λ i inside. is.due n i inside)
-    (λ i k inside there other some. drifted (answering s (chased_way s chase)) (since_edge s bits n) i k ((bits n).place i) ((bits n).place k) (near i k inside there other some))))
+    c.all_sample_the_acknowledgement.ensures s (chased_way s winner chase) winner (bits (suc n)).due slot over drove after (suc (since_edge s bits n))
+    (c.any_two_stay_close.ensures.ways s winner chase are.line) enough answered (omega arith)
+    (same_places (answering s (chased_way s winner chase)) (λ i. true) (suc (since_edge s bits n)) (λ i. (bits n).place i + bit_quanta (s.lengths i)) (bits (suc n)).due (λ i inside. is.due n i inside)
+    (λ i k inside there other some. drifted (answering s (chased_way s winner chase)) (since_edge s bits n) i k ((bits n).place i) ((bits n).place k) (near i k inside there other some))))
