@@ -1,6 +1,5 @@
 //! The text of a bus's margin.
 ghost use Rattle.std.specs.Prelude.{◌≡◌, ◌++◌, ◌<◌, ◌^◌, string_bytes, length, IfOk, OnOk};
-ghost use Rattle.wl_plan.specs.Checked.{IsChecked};
 ghost use Rattle.wl_bound.specs.Conditions.{first_failure_of, plain};
 ghost use Rattle.wl_bound.specs.Families.{member_at};
 ghost use Rattle.wl_bound.specs.Oscillators.{shortest_of};
@@ -17,7 +16,7 @@ use wl_bound::{
     Failure, Family, Inequality, Oscillator, Outside, Senders, Verdict, is_covered, judge,
 };
 use wl_level::Listed;
-use wl_plan::Plan;
+use wl_plan::CheckedPlan;
 use wl_setup::{Bus, Deviation, Names};
 
 /// Returns the oscillators of the nodes, if each has rates that make a clock.
@@ -330,8 +329,7 @@ fn are_steady(deviations: &[Deviation]) -> bool
 }
 
 /// True if the law on one sender covers a plan of clocks of one rate each, and the condition holds for one sender at a time.
-fn is_proved(plan: &Plan, family: &Family, steady: bool) -> bool
-    requires { IsChecked plan.now }
+fn is_proved(plan: &CheckedPlan, family: &Family, steady: bool) -> bool
     ensures { result ≡ is_proved steady plan.now family.now }
 {
     steady && is_covered(plan) && !family.first_failure(Senders::One).is_some()
@@ -375,10 +373,9 @@ fn family_text(
     names: &Names,
     tick: u64,
     steady: bool,
-    plan: &Plan,
+    plan: &CheckedPlan,
 ) -> Result<String, AllocError>
     requires tick { tick < 2 ^ 36 }
-    requires checked { IsChecked plan.now }
     ensures { IfOk result (λ text. IsFamilyText tick steady plan.now names.now family.now (string_bytes text)) }
 {
     let mut text = String::new(alloc);
@@ -401,7 +398,6 @@ fn family_text(
 /// quantum helps most. Refused out of memory alone.
 pub fn margin_text(alloc: Global, tick: u64, bus: &Bus) -> Result<String, AllocError>
     requires tick { tick < 2 ^ 36 }
-    requires checked { IsChecked bus.now.plan }
     requires deviations { length bus.now.deviations ≡ length bus.now.plan.nodes }
     ensures { IfOk result (λ text. IsMarginText tick bus.now (string_bytes text)) }
 {
