@@ -285,7 +285,7 @@ module _ (steps : StayInStep) (errors : FindNoErrors) (winner : LeastWins) (stuf
     test k t n = wants s o n k && (nat_le (tick k ((bits n).from k)) t && nat_lt t (tick k ((bits (suc n)).from k)))
 
     -- what no bit drives isn't driven
-    none_driven : (k t : ℕ) → ((n : ℕ) → n < length → wants s o n k ≡ true → tick k ((bits n).from k) ≤ t → t < tick k ((bits (suc n)).from k) → ⊥) → drove k t ≡ false
+    pub none_driven : (k t : ℕ) → ((n : ℕ) → n < length → wants s o n k ≡ true → tick k ((bits n).from k) ≤ t → t < tick k ((bits (suc n)).from k) → ⊥) → drove k t ≡ false
     none_driven k t h = false_from_ne_true (drove k t) (λ e. (let x = any_one length (test k t) e in
         let p = and_parts (wants s o x.0 k) (nat_le (tick k ((bits x.0).from k)) t && nat_lt t (tick k ((bits (suc x.0)).from k))) x.2 in
         let r = and_parts (nat_le (tick k ((bits x.0).from k)) t) (nat_lt t (tick k ((bits (suc x.0)).from k))) p.1 in

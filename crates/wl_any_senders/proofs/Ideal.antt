@@ -1,5 +1,5 @@
 -- The machines of an opening: what follows from them for each bit, whenever it begins.
-use Rattle.std.proofs.Common.{◌≡◌, ◌∙◌, ◌⊎◌, inl, inr, refl, sym, ap, subst, ℕ, zero, suc, ◌+◌, ◌-◌, ◌*◌, ◌<◌, ◌≤◌, ◌&&◌, ◌||◌, not, cond, Bool, true, false, List, [], ◌∷◌, ◌++◌, Some, None, arith}
+use Rattle.std.proofs.Common.{◌≡◌, ◌∙◌, ◌⊎◌, inl, inr, refl, sym, ap, subst, ℕ, zero, suc, ◌+◌, ◌-◌, ◌*◌, ◌<◌, ◌≤◌, ◌&&◌, ◌||◌, not, cond, Bool, true, false, List, [], ◌∷◌, ◌++◌, Option, Some, None, arith}
 use Rattle.std.specs.Prelude.{nat_le}
 use Rattle.std.proofs.lemmas.Bool.{le-leb}
 use Rattle.wl_level.specs.declared.Level.{Level}
@@ -12,10 +12,13 @@ use Rattle.wl_frame.specs.Grammar.{Content}
 use Rattle.wl_machine.specs.Stretch.{Input}
 use Rattle.wl_machine.specs.Stretch.Input.{Sample}
 use Rattle.wl_machine.specs.Frames.{stuffed_end}
-use Rattle.wl_machine.specs.Judged.{drive_of, stretch_of}
+use Rattle.wl_machine.specs.Judged.{drive_of, judged, stretch_of}
+use Rattle.wl_machine.specs.States.{stretch_by}
+use Rattle.wl_machine.specs.Stretch.Sort.{Framing}
 use Rattle.wl_phase.specs.Clocks.{Steady, instant, steady_tick}
 use Rattle.wl_phase.proofs.Callers.{floor_high, floor_low}
-use Rattle.wl_wire.specs.Wire.{sampled}
+use Rattle.wl_wire.specs.InStep.{is_fine}
+use Rattle.wl_wire.specs.Wire.{Handed, sampled}
 use Rattle.wl_any_senders.specs.Stations.{Stations}
 use Rattle.wl_any_senders.specs.Starts.{Start}
 use Rattle.wl_any_senders.specs.OneBit.{IsRight, sampled_at}
@@ -103,3 +106,14 @@ module _ (steps : StayInStep) (errors : FindNoErrors) (winner : LeastWins) (stuf
     pub senders : (n k : ℕ) → stuffed_end (bus_levels s bits n) ≡ None → k < s.count → (bits (suc n)).drives k ≡ true → still_sends s bits (suc n) k ≡ true
     senders n k none lt e =
         sym (still_same (suc n) k) ∙ (there n none).senders k lt (λ m below. right m k) (sym (same (suc n) k) ∙ e)
+
+    pub framing : (n k : ℕ) → stuffed_end (bus_levels s bits n) ≡ None → k < s.count
+        → (head : Option Content) × (stretch_of (past_at s o (suc n) k) ≡ stretch_by (Framing head) (bus_levels s bits (suc n)))
+    framing n k none lt =
+        let f = (there n none).framing k lt (λ m below. right m k) in
+        (f.0, f.1 ∙ ap (stretch_by (Framing f.0)) (levels_same (suc n)))
+
+    pub fine : (n k : ℕ) (h : Handed) → stuffed_end (bus_levels s bits n) ≡ None → k < s.count
+        → is_fine (judged (stretch_of (past_at s o n k)) (sampled (level_of (bus_bit s bits n)) (o.frames k) h)).happened ≡ true
+    fine n k h none lt =
+        ap (λ b. is_fine (judged (stretch_of (past_at s o n k)) (sampled (level_of b) (o.frames k) h)).happened) (sym (bus_same n)) ∙ (there n none).fine k h lt

@@ -7,10 +7,13 @@ mod Calm
 mod Clocked
 mod Counting
 mod Expecting
+mod Going
 mod Ideal
+mod Lines
 mod Machines
 mod Measures
 mod Nearing
+mod Nodes
 mod Passing
 mod Planned
 mod Rows

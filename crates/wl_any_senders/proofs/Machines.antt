@@ -97,7 +97,7 @@ fine_on Tx None own x e fine = subst (λ o. (framing_received own o x).next ≡ 
 fine_on Rx head own x e fine = subst (λ o. (framing_received own o x).next ≡ None) (sym e) (received_on own x (subst (λ o. is_fine (framing_received own o x).happened ≡ true) e fine))
 
 -- the stretch after such a sample
-on_after : (s : Stretch) (x : Sampled) (head : Option Content) (own : List Level) → s ≡ stretch_by (Framing head) own → stuffed_end own ≡ None
+pub on_after : (s : Stretch) (x : Sampled) (head : Option Content) (own : List Level) → s ≡ stretch_by (Framing head) own → stuffed_end own ≡ None
     → is_fine (judged s x).happened ≡ true → stretch_after s (Sample x) ≡ stretch_by (Framing head) (own ++ x.level ∷ [])
 on_after s x head own e none fine =
     ap (λ t. stretch_after t (Sample x)) e
@@ -175,7 +175,7 @@ frames_after : (w : Wire) (events : List Event) → (wire_after w events).frames
 frames_after w [] = refl
 frames_after w (event ∷ events) = frames_after (next_wire w event) events
 
-level_back : (b : Bool) → is_dominant (level_of b) ≡ b
+pub level_back : (b : Bool) → is_dominant (level_of b) ≡ b
 level_back true = refl
 level_back false = refl
 
@@ -264,15 +264,15 @@ module _ (steps : StayInStep) (errors : FindNoErrors) (winner : LeastWins) (stuf
   stretch_there : (n k : ℕ) → at_wire (suc n) k ≡ stretch_after (at_wire n k) (Sample (sample n k))
   stretch_there n k = ap stretch_of (past_next n k) ∙ stretch_next ((wire n).past k) (Sample (sample n k))
 
-  fine_there : (n k : ℕ) → k < s.count → is_fine (judged (at_wire n k) (sample n k)).happened ≡ true
+  fine_there : (n k : ℕ) (h : Handed) → k < s.count → is_fine (judged (at_wire n k) (sampled (bus (wire n)) (frames k) h)).happened ≡ true
   unfolding wire
-  fine_there n k lt =
-      ap (λ f. is_fine (judged (at_wire n k) (sampled (bus (wire n)) (f k) (m.handed n k))).happened) (sym (frames_are n))
-      ∙ errors s.count frames (events n) sound (BusBit (m.handed n)) k (sampled (bus (wire n)) ((wire n).frames k) (m.handed n k)) (let e = count_is n in omega arith) refl
+  fine_there n k h lt =
+      ap (λ f. is_fine (judged (at_wire n k) (sampled (bus (wire n)) (f k) h)).happened) (sym (frames_are n))
+      ∙ errors s.count frames (events n) sound (BusBit (λ j. h)) k (sampled (bus (wire n)) ((wire n).frames k) h) (let e = count_is n in omega arith) refl
 
   next_stretch : (n k : ℕ) (head : Option Content) (levels : List Level) → k < s.count → at_wire n k ≡ stretch_by (Framing head) levels → stuffed_end levels ≡ None
       → at_wire (suc n) k ≡ stretch_by (Framing head) (levels ++ bus (wire n) ∷ [])
-  next_stretch n k head levels lt e none = stretch_there n k ∙ on_after (at_wire n k) (sample n k) head levels e none (fine_there n k lt)
+  next_stretch n k head levels lt e none = stretch_there n k ∙ on_after (at_wire n k) (sample n k) head levels e none (fine_there n k (m.handed n k) lt)
 
   -- one station in a frame: all are
   framed_from : (n k : ℕ) (head : Option Content) (levels : List Level) → k < s.count → 0 < length levels → at_wire n k ≡ stretch_by (Framing head) levels → AreInStep (wire n) → AreInFrame (wire n) levels
@@ -549,6 +549,11 @@ module _ (steps : StayInStep) (errors : FindNoErrors) (winner : LeastWins) (stuf
       few = few_there;
       senders = senders_there;
       sends = λ k lt good e. (let x = sends_now n k less right none lt e in (x.0, x.1, ap stretch_of (sym (right_one k lt good)) ∙ x.2.0, x.2.1));
+      framing = λ k lt good. (let each = inside_frame.each k (let c = count_is (suc n) in omega arith) in (each.0, ap stretch_of (sym (right_one k lt good)) ∙ each.1));
+      fine = λ k h lt.
+          ap (λ p. is_fine (judged (stretch_of p) (sampled (bit n) (frames k) h)).happened) (sym (agree n (omega arith) right k lt))
+          ∙ ap (λ l. is_fine (judged (at_wire n k) (sampled l (frames k) h)).happened) (sym (bus_is n (omega arith) (agree n (omega arith) right)))
+          ∙ fine_there n k h lt;
     }
 
   -- the end of what is stuffed

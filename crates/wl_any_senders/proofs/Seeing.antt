@@ -57,7 +57,7 @@ module _ (steps : StayInStep) (errors : FindNoErrors) (winner : LeastWins) (stuf
   the_course : IsCourse s bits drove length (λ k. expected_end s o length)
   the_course = course steps errors winner stuffed six ten s are room o is length valid
 
-  right_at : (n i : ℕ) → n < length → i < s.count → IsRight s (bits n) drove i
+  pub right_at : (n i : ℕ) → n < length → i < s.count → IsRight s (bits n) drove i
   right_at n i less inside = (sampled_bit s are room bits drove length (λ k. expected_end s o length) the_course laws n less).right i inside
 
   close_at : (n : ℕ) → n < length → AreClose s (sends (suc n)) (since_edge s bits n) (bits n).place

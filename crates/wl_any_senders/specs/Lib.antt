@@ -9,3 +9,5 @@ pub mod Machines
 pub mod Acknowledged
 pub mod Expected
 pub mod Answers
+pub mod Nodes
+pub mod Lines

@@ -1,5 +1,5 @@
 -- Stations whose machines drive the bits of a frame, each by what it has sampled before.
-use Rattle.std.specs.Prelude.{◌≡◌, ◌≢◌, ◌⊎◌, ℕ, zero, suc, ◌<◌, ◌≤◌, Bool, true, false, List, [], ◌∷◌, ◌++◌, Some, slice_get}
+use Rattle.std.specs.Prelude.{◌≡◌, ◌≢◌, ◌⊎◌, ℕ, zero, suc, ◌<◌, ◌≤◌, Bool, true, false, List, [], ◌∷◌, ◌++◌, Option, Some, slice_get}
 use Rattle.wl_level.specs.declared.Level.{Level}
 use Rattle.wl_level.specs.Levels.{is_dominant, level_of}
 use Rattle.wl_topology.specs.Driven.{driven}
@@ -10,10 +10,10 @@ use Rattle.wl_machine.specs.Stretch.{Stretch, Input}
 use Rattle.wl_machine.specs.Stretch.Sort.{Idle, Framing}
 use Rattle.wl_machine.specs.Stretch.Input.{Sample}
 use Rattle.wl_machine.specs.Frames.{frame_role}
-use Rattle.wl_machine.specs.Judged.{drive_of, stretch_of}
+use Rattle.wl_machine.specs.Judged.{drive_of, judged, stretch_of}
 use Rattle.wl_machine.specs.States.{stretch_by}
 use Rattle.wl_wire.specs.Wire.{Event, Handed, idle_wire, sampled, wire_after}
-use Rattle.wl_wire.specs.InStep.{Has}
+use Rattle.wl_wire.specs.InStep.{Has, is_fine}
 use Rattle.wl_wire.specs.Winner.{Beats}
 use Rattle.wl_any_senders.specs.Stations.{Stations}
 use Rattle.wl_any_senders.specs.Starts.{Start}
@@ -50,13 +50,16 @@ AllRight s bits drove n = (i : ℕ) → i < s.count → RightUpTo s bits drove n
 
 -- What follows from the machines for one bit n, if all have sampled right what was on the bus before it: fewer than ten bits have passed since an edge (Bosch CAN 2.0 part B, section
 -- 6). Let a station sample bit n right too. If it drives the next bit dominant it still sends. If it still sends, what is on the bus is what the sender of a frame of its own has sent.
--- Else it drives recessive.
+-- Else it drives recessive. No machine finds an error with its sample of bit n, whatever frame it is handed, and all have begun the frame.
 pub record GoesByMachines (s : Stations) (bits : ℕ → Start) (drove : ℕ → ℕ → Bool) (frames : ℕ → List Content) (past : ℕ → ℕ → List Input) (n : ℕ) : Type 0 where
   pub few : since_edge s bits n ≤ 9
   pub senders : (k : ℕ) → k < s.count → RightUpTo s bits drove (suc n) k → (bits (suc n)).drives k ≡ true → still_sends s bits (suc n) k ≡ true
   pub sends : (k : ℕ) → k < s.count → RightUpTo s bits drove (suc n) k → still_sends s bits (suc n) k ≡ true
       → (head : Content) × Has frames k head × (stretch_of (past (suc n) k) ≡ stretch_by (Framing (Some head)) (bus_levels s bits (suc n)))
       × (frame_role (Some head) (bus_levels s bits (suc n)) ≡ Tx)
+  pub framing : (k : ℕ) → k < s.count → RightUpTo s bits drove (suc n) k
+      → (head : Option Content) × (stretch_of (past (suc n) k) ≡ stretch_by (Framing head) (bus_levels s bits (suc n)))
+  pub fine : (k : ℕ) (h : Handed) → k < s.count → is_fine (judged (stretch_of (past n k)) (sampled (level_of (bus_bit s bits n)) (frames k) h)).happened ≡ true
 
 -- The frame of one station is what was on the bus in the first n bits. It alone still sends, and its frame has the lesser arbitration field than that of each other one that began with
 -- it (Bosch CAN 2.0 part B, section 3.1, arbitration).

@@ -3,6 +3,13 @@
 ghost use Rattle.std.specs.Prelude.{◌≡◌, ◌+◌, ◌-◌, ◌<◌, ◌≤◌, ℕ, suc, true, Bool, List, Some, None};
 ghost use Rattle.wl_level.specs.declared.Level.TheVariants.{Dominant};
 ghost use Rattle.wl_level.specs.Levels.{level_of};
+ghost use Rattle.wl_level.specs.declared.Level.{Level};
+ghost use Rattle.wl_node.specs.declared.setup.NodeSetup.{NodeSetup};
+ghost use Rattle.wl_node.specs.History.{History};
+ghost use Rattle.wl_topology.specs.Driven.{driven};
+ghost use Rattle.wl_plan.specs.Line.{Line};
+ghost use Rattle.wl_any_senders.specs.Lines.{BeginsAsExpected, DoesAsExpected, IsBeforeEnd, IsLineOf};
+ghost use Rattle.wl_any_senders.specs.Nodes.{GoesToNext, IsInBit, IsRun};
 ghost use Rattle.wl_frame.specs.Grammar.{Content};
 ghost use Rattle.wl_machine.specs.Frames.{stuffed_end};
 ghost use Rattle.wl_machine.specs.Stretch.{Input};
@@ -185,6 +192,50 @@ pub fn bit_clocks_go_as_expected()
         → BitIs (s.lengths i) seen (expected_sample s o n i) ((expected_bits s o (suc n)).place i) ((expected_bits s o (suc n)).from i)
         (level_of (bus_bit s (expected_bits s o) (suc n))) × HasSampled s o i seen (suc n) }
 {
+    wl_topology::driven_laws();
+    a_station_begins_its_bits();
+    wl_sync::clock_goes_on();
+    wl_phase::laws::an_edge_moves_the_sample();
+    wl_wire::laws::machines_stay_in_step();
+    wl_wire::laws::the_least_field_wins();
+    wl_machine::laws::a_transmitter_sends_its_head_stuffed();
+    wl_frame::laws::a_front_of_no_stuffing_ends_six_equal_bits();
+    wl_frame::laws::ten_bits_have_an_edge();
+}
+
+/// Law: a node that finds what is expected of stations does what is expected of it, from its sample of one bit to that of the next: its bit
+/// clock, its machine, and what it drives. It finds no error, and nothing counts.
+pub fn a_node_goes_as_expected()
+    ensures { (s : Stations) (o : Outset) (length i : ℕ) (setup : NodeSetup) (levels : ℕ → Level) (node : ℕ → History)
+        → AreStations s → HaveRoom s → IsOutset s o
+        → ((n : ℕ) → n < length → stuffed_end (bus_levels s (expected_bits s o) n) ≡ None)
+        → i < s.count → setup.segments ≡ s.lengths i → IsRun setup levels node → (n : ℕ) → suc n < length
+        → ((q : ℕ) → expected_sample s o n i < q → q ≤ expected_sample s o (suc n) i
+        → levels q ≡ level_of (driven s.count s.delay (expected_drove s o length) i (steady_tick (s.clocks i) q)))
+        → IsInBit s o i levels node n → GoesToNext s o i levels node n }
+{
+    wl_topology::driven_laws();
+    a_station_begins_its_bits();
+    wl_sync::clock_goes_on();
+    wl_phase::laws::an_edge_moves_the_sample();
+    wl_wire::laws::machines_stay_in_step();
+    wl_wire::laws::the_least_field_wins();
+    wl_machine::laws::a_transmitter_sends_its_head_stuffed();
+    wl_frame::laws::a_front_of_no_stuffing_ends_six_equal_bits();
+    wl_frame::laws::ten_bits_have_an_edge();
+}
+
+/// Law: so the nodes of a line do what is expected of them in a frame, whoever sends, up to the end of the stuffed part. Each has to begin
+/// the frame as is expected, if it finds what is expected. All sample each bit as it is on the bus, and none finds an error. The one that
+/// is left has the frame with the least arbitration field.
+pub fn a_line_does_what_is_expected()
+    ensures { (l : Line) (setups : ℕ → NodeSetup) (s : Stations) (o : Outset) (length end : ℕ) → IsLineOf l setups s
+        → AreStations s → HaveRoom s → IsOutset s o → 0 < length
+        → ((n : ℕ) → n < length → stuffed_end (bus_levels s (expected_bits s o) n) ≡ None)
+        → ((i : ℕ) → i < s.count → BeginsAsExpected l setups s o length i) → IsBeforeEnd l s o length end
+        → DoesAsExpected l setups s o length end }
+{
+    wl_one_sender::laws::what_is_expected_is_driven();
     wl_topology::driven_laws();
     a_station_begins_its_bits();
     wl_sync::clock_goes_on();

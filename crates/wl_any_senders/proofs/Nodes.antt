@@ -1,0 +1,361 @@
+-- A node in a frame, from one sample to the next.
+use Rattle.std.proofs.Common.{◌≡◌, ◌≢◌, ◌∙◌, ◌⊎◌, inl, inr, refl, sym, ap, subst, ℕ, zero, suc, ◌+◌, ◌-◌, ◌<◌, ◌≤◌, ◌&&◌, not, cond, Bool, true, false, List, [], ◌∷◌, ◌++◌, length, Option, Some, None, arith, append-nil}
+use Rattle.std.specs.Prelude.{nat_le}
+use Rattle.std.proofs.lemmas.Bool.{cases_Bool, cases_eq, cases_lt, le-leb, lt-leb}
+use Rattle.std.proofs.lemmas.List.Sums.{fold-append}
+use Rattle.wl_level.specs.declared.Level.{Level}
+use Rattle.wl_level.specs.declared.Level.TheVariants.{Dominant, Recessive}
+use Rattle.wl_level.specs.Levels.{is_dominant, level_of, same}
+use Rattle.wl_level.specs.Places.{before}
+use Rattle.wl_confine.specs.declared.ErrorKind.TheVariants.{Bit, Stuff}
+use Rattle.wl_confine.specs.declared.Happened.{Happened}
+use Rattle.wl_confine.specs.declared.Happened.TheVariants as happens
+use Rattle.wl_confine.specs.declared.Mode.{Mode}
+use Rattle.wl_confine.specs.declared.Mode.TheVariants.{Active}
+use Rattle.wl_confine.specs.Counts.{counts_after, counts_of, mode_of, no_counts}
+use Rattle.wl_segments.specs.Lengths.{Lengths}
+use Rattle.wl_sync.specs.declared.Beat.{Beat}
+use Rattle.wl_sync.specs.declared.Beat.TheVariants.{Plain, Sample, Start}
+use Rattle.wl_sync.specs.Edges.{Seen}
+use Rattle.wl_sync.specs.Bits.{beat_of}
+use Rattle.wl_sync.specs.Running.{clock_after}
+use Rattle.wl_sync.specs.Skips.{steady_clock}
+use Rattle.wl_topology.specs.Driven.{driven}
+use Rattle.wl_frame.specs.Stuffing.{destuffed_bits, is_stuff}
+use Rattle.wl_frame.specs.Grammar.{Content, bits_of, is_arbitration, layout_of}
+use Rattle.wl_machine.specs.declared.state.Role.{Role}
+use Rattle.wl_machine.specs.declared.state.Role.TheVariants.{Rx, Tx}
+use Rattle.wl_machine.specs.Stretch.{Judgement, Sampled, Stretch, begins, continues}
+use Rattle.wl_machine.specs.Stretch.Sort.{Flagging, Framing}
+use Rattle.wl_machine.specs.Stretch.Input.{Sample as Given}
+use Rattle.wl_machine.specs.Flags.{error_flag, fails}
+use Rattle.wl_machine.specs.Frames.{frame_role, framing_by, framing_received, framing_sent, sent_at, stuffed_end}
+use Rattle.wl_machine.specs.Judged.{awaits_start, drive_of, is_idle_sort, judged, stretch_after, stretch_of}
+use Rattle.wl_machine.specs.States.{stretch_by}
+use Rattle.wl_machine.proofs.Callers.{stretch_next}
+use Rattle.wl_node.specs.declared.setup.NodeSetup.{NodeSetup}
+use Rattle.wl_node.specs.History.{History, by_beat, history_after, no_history, sampled_next, seen_next, switched_off}
+use Rattle.wl_phase.specs.Clocks.{steady_tick}
+use Rattle.wl_phase.specs.InStep.{seen_before}
+use Rattle.wl_wire.specs.InStep.{is_fine}
+use Rattle.wl_wire.specs.Wire.{sampled}
+use Rattle.wl_any_senders.specs.Stations.{Stations}
+use Rattle.wl_any_senders.specs.Course.{bus_bit}
+use Rattle.wl_any_senders.specs.Clocked.{BitIs}
+use Rattle.wl_any_senders.specs.Expected.{HasSampled, Outset, SeesExpected, expected_bits, expected_drove, expected_sample, past_at, wants}
+use Rattle.wl_any_senders.specs.Machines.{bus_levels}
+use Rattle.wl_any_senders.specs.Nodes.{GoesToNext, IsInBit, IsRun, clock_sees}
+use Rattle.wl_any_senders.proofs.Machines.{level_back, on_after}
+
+-- whether a sample in the stuffed part is fine is a matter of its level alone
+fine_differing : (sm a b c d : Bool) (e f g h : Judgement) → is_fine e.happened ≡ false → is_fine f.happened ≡ false → is_fine g.happened ≡ false → is_fine h.happened ≡ false
+    → is_fine (cond sm (continues happens.Nothing) (cond a e (cond b (cond c f e) (cond d (continues happens.Nothing) e)))).happened
+    ≡ is_fine (cond sm (continues happens.Nothing) (cond a g (cond b (cond c h g) (cond d (continues happens.Nothing) g)))).happened
+fine_differing true a b c d e f g h p q r t = refl
+fine_differing false true b c d e f g h p q r t = p ∙ sym r
+fine_differing false false true true d e f g h p q r t = q ∙ sym t
+fine_differing false false true false d e f g h p q r t = p ∙ sym r
+fine_differing false false false c true e f g h p q r t = refl
+fine_differing false false false c false e f g h p q r t = p ∙ sym r
+
+fine_received : (six : Bool) (e g : Judgement) → is_fine e.happened ≡ false → is_fine g.happened ≡ false
+    → is_fine (cond six e (continues happens.Nothing)).happened ≡ is_fine (cond six g (continues happens.Nothing)).happened
+fine_received true e g p r = p ∙ sym r
+fine_received false e g p r = refl
+
+fine_sent : (h : Content) (own : List Level) (x y : Sampled) → x.level ≡ y.level → is_fine (framing_sent h own None x).happened ≡ is_fine (framing_sent h own None y).happened
+fine_sent h own x y e =
+    fine_differing (same (sent_at h own (length own)) x.level) (is_dominant (sent_at h own (length own))) (is_stuff own (length own))
+    (nat_le (length (destuffed_bits own (length own))) (layout_of (bits_of h)).rtr) (is_arbitration (bits_of h) (length (destuffed_bits own (length own))))
+    (fails Tx x.mode Bit) (begins happens.TxFree (Flagging (error_flag x.mode) Tx) []) (fails Tx y.mode Bit) (begins happens.TxFree (Flagging (error_flag y.mode) Tx) []) refl refl refl refl
+    ∙ ap (λ l. is_fine (cond (same (sent_at h own (length own)) l) (continues happens.Nothing)
+    (cond (is_dominant (sent_at h own (length own))) (fails Tx y.mode Bit)
+    (cond (is_stuff own (length own)) (cond (nat_le (length (destuffed_bits own (length own))) (layout_of (bits_of h)).rtr) (begins happens.TxFree (Flagging (error_flag y.mode) Tx) []) (fails Tx y.mode Bit))
+    (cond (is_arbitration (bits_of h) (length (destuffed_bits own (length own)))) (continues happens.Nothing) (fails Tx y.mode Bit))))).happened) e
+
+fine_other : (own : List Level) (x y : Sampled) → x.level ≡ y.level → is_fine (framing_received own None x).happened ≡ is_fine (framing_received own None y).happened
+fine_other own x y e =
+    fine_received (is_stuff own (length own) && same x.level (before own (length own))) (fails Rx x.mode Stuff) (fails Rx y.mode Stuff) refl refl
+    ∙ ap (λ l. is_fine (cond (is_stuff own (length own) && same l (before own (length own))) (fails Rx y.mode Stuff) (continues happens.Nothing)).happened) e
+
+fine_by : (role : Role) (head : Option Content) (own : List Level) (x y : Sampled) → stuffed_end own ≡ None → x.level ≡ y.level
+    → is_fine (framing_by role head own x).happened ≡ is_fine (framing_by role head own y).happened
+fine_by Tx (Some h) own x y none e =
+    ap (λ o. is_fine (framing_sent h own o x).happened) none ∙ fine_sent h own x y e ∙ ap (λ o. is_fine (framing_sent h own o y).happened) (sym none)
+fine_by Tx None own x y none e =
+    ap (λ o. is_fine (framing_received own o x).happened) none ∙ fine_other own x y e ∙ ap (λ o. is_fine (framing_received own o y).happened) (sym none)
+fine_by Rx head own x y none e =
+    ap (λ o. is_fine (framing_received own o x).happened) none ∙ fine_other own x y e ∙ ap (λ o. is_fine (framing_received own o y).happened) (sym none)
+
+-- a sample of the stuffed part that is fine for one is fine for all of its level
+pub fine_same : (s : Stretch) (head : Option Content) (own : List Level) (x y : Sampled) → s ≡ stretch_by (Framing head) own → stuffed_end own ≡ None → x.level ≡ y.level
+    → is_fine (judged s x).happened ≡ true → is_fine (judged s y).happened ≡ true
+fine_same s head own x y e none l fine =
+    ap (λ t. is_fine (judged t y).happened) e ∙ sym (fine_by (frame_role head own) head own x y none l) ∙ ap (λ t. is_fine (judged t x).happened) (sym e) ∙ fine
+
+-- what is fine counts nothing
+fine_counts : (h : Happened) → is_fine h ≡ true → counts_after no_counts h ≡ no_counts
+fine_counts happens.Nothing e = refl
+fine_counts happens.Sent e = refl
+fine_counts happens.Acked e = refl
+fine_counts (happens.RxError k) e = cc
+fine_counts happens.RxAfterFlag e = cc
+fine_counts happens.RxFlagBit e = cc
+fine_counts happens.RxLong e = cc
+fine_counts (happens.TxError k) e = cc
+fine_counts happens.TxFree e = cc
+fine_counts happens.PassiveAck e = cc
+fine_counts happens.TxFlagBit e = cc
+fine_counts happens.TxLong e = cc
+fine_counts happens.Recovered e = cc
+
+level_is : (l : Level) → level_of (is_dominant l) ≡ l
+level_is Dominant = refl
+level_is Recessive = refl
+
+pub seen_before_same : (a b : ℕ → Seen) (k : ℕ) → ((j : ℕ) → j < k → a j ≡ b j) → seen_before a k ≡ seen_before b k
+seen_before_same a b zero h = refl
+seen_before_same a b (suc k) h = ap (λ v. v ++ a k ∷ []) (seen_before_same a b k (λ j less. h j (omega arith))) ∙ ap (λ x. seen_before b k ++ x ∷ []) (h k (omega arith))
+
+module _ (setup : NodeSetup) (levels : ℕ → Level) (node : ℕ → History) (run : IsRun setup levels node) where
+  abbrev sees : ℕ → Seen
+  sees = clock_sees levels node
+
+  pub seen_are : (q : ℕ) → (node q).seen ≡ seen_before sees q
+  seen_are zero = ap (λ h. h.seen) run.first
+  seen_are (suc q) = ap (λ h. h.seen) (run.next q) ∙ ap (λ v. v ++ sees q ∷ []) (seen_are q)
+
+  -- what a quantum with this beat leaves
+  module _ (q : ℕ) (b : Beat) (e : beat_of setup.segments (seen_before sees q) (sees q) ≡ b) where
+    beat_is : beat_of setup.segments (node q).seen (sees q) ≡ b
+    beat_is = ap (λ v. beat_of setup.segments v (sees q)) (seen_are q) ∙ e
+
+    pub inputs_by : (node (suc q)).inputs ≡ (by_beat setup (node q) (levels q) b).inputs
+    inputs_by = ap (λ h. h.inputs) (run.next q) ∙ ap (λ x. (by_beat setup (node q) (levels q) x).inputs) beat_is
+
+    pub drive_by : (node (suc q)).drive ≡ (by_beat setup (node q) (levels q) b).drive
+    drive_by = ap (λ h. h.drive) (run.next q) ∙ ap (λ x. (by_beat setup (node q) (levels q) x).drive) beat_is
+
+    pub happened_by : (node (suc q)).happened ≡ (by_beat setup (node q) (levels q) b).happened
+    happened_by = ap (λ h. h.happened) (run.next q) ∙ ap (λ x. (by_beat setup (node q) (levels q) x).happened) beat_is
+
+  -- from the sample of one bit to that of the next, as is expected
+  module _ (s : Stations) (o : Outset) (i n : ℕ) (segments : setup.segments ≡ s.lengths i) (at : IsInBit s o i levels node n)
+      (head : Option Content) (framing : stretch_of (past_at s o (suc n) i) ≡ stretch_by (Framing head) (bus_levels s (expected_bits s o) (suc n)))
+      (nonempty : awaits_start (stretch_of (past_at s o (suc n) i)) ≡ false)
+      (begins_after : expected_sample s o n i < (expected_bits s o (suc n)).from i) where
+    abbrev S : ℕ
+    S = expected_sample s o n i
+
+    abbrev S' : ℕ
+    S' = expected_sample s o (suc n) i
+
+    abbrev F : ℕ
+    F = (expected_bits s o (suc n)).from i
+
+    abbrev X : Stretch
+    X = stretch_of (past_at s o (suc n) i)
+
+    abbrev drives : ℕ → Bool
+    drives q = cond (nat_le q F) (wants s o n i) (wants s o (suc n) i)
+
+    abbrev later : ℕ → Seen
+    later q = record { level = levels q; idle = is_idle_sort X.sort; awaits = awaits_start X; driving = drives q }
+
+    -- what it is expected to see
+    pub expected : ℕ → Seen
+    expected q = cond (nat_le q S) (sees q) (later q)
+
+    expected_old : (q : ℕ) → q ≤ S → expected q ≡ sees q
+    unfolding expected
+    expected_old q less = ap (λ b. cond b (sees q) (later q)) (le-leb q S less)
+
+    expected_new : (q : ℕ) → S < q → expected q ≡ later q
+    unfolding expected
+    expected_new q more = ap (λ b. cond b (sees q) (later q)) (lt-leb q S more)
+
+    drives_before : (q : ℕ) → q ≤ F → drives q ≡ wants s o n i
+    drives_before q less = ap (λ b. cond b (wants s o n i) (wants s o (suc n) i)) (le-leb q F less)
+
+    drives_after : (q : ℕ) → F < q → drives q ≡ wants s o (suc n) i
+    drives_after q more = ap (λ b. cond b (wants s o n i) (wants s o (suc n) i)) (lt-leb q F more)
+
+    pub sees_expected : (length : ℕ)
+        → ((q : ℕ) → S < q → q ≤ S' → levels q ≡ level_of (driven s.count s.delay (expected_drove s o length) i (steady_tick (s.clocks i) q)))
+        → SeesExpected s o length i expected n
+    sees_expected length finds = record {
+      level = λ q a b. ap (λ x. x.level) (expected_new q a) ∙ finds q a b;
+      awaits = λ q a b. ap (λ x. x.awaits) (expected_new q a) ∙ nonempty;
+      before = λ q a b. ap (λ x. x.driving) (expected_new q a) ∙ drives_before q b;
+      after = λ q a b. elim (cases_lt S q) [
+        | inl more ↦ ap (λ x. x.driving) (expected_new q more) ∙ drives_after q a
+        | inr less ↦ absurd (omega arith)
+      ];
+    }
+
+    old_before : (k : ℕ) → k ≤ suc S → seen_before expected k ≡ seen_before sees k
+    old_before k less = seen_before_same expected sees k (λ j below. expected_old j (omega arith))
+
+    pub has_expected : HasSampled s o i expected n
+    has_expected = record {
+      sampled =
+          ap (λ v. beat_of (s.lengths i) v (expected S)) (old_before S (omega arith)) ∙ ap (beat_of (s.lengths i) (seen_before sees S)) (expected_old S (omega arith))
+          ∙ at.clock.sampled;
+      steady = λ e. ap (clock_after (s.lengths i)) (old_before (suc S) (omega arith)) ∙ at.clock.steady e;
+    }
+
+    -- so it goes
+    module _ (bit : BitIs (s.lengths i) expected S ((expected_bits s o (suc n)).place i) F (level_of (bus_bit s (expected_bits s o) (suc n)))) where
+      record Same (q : ℕ) : Type 0 where
+        inputs : (node q).inputs ≡ (node (suc S)).inputs
+        happened : (node q).happened ≡ (node (suc S)).happened
+        drive : (node q).drive ≡ level_of (drives q)
+        seen : (j : ℕ) → j < q → expected j ≡ sees j
+
+      first : Same (suc S)
+      first = record {
+        inputs = refl;
+        happened = refl;
+        drive = at.drive ∙ ap level_of (sym (drives_before (suc S) begins_after));
+        seen = λ j less. expected_old j (omega arith);
+      }
+
+      -- it sees what is expected
+      sees_there : (q : ℕ) → S < q → Same q → expected q ≡ sees q
+      sees_there q more x =
+          let stretch : X ≡ stretch_of (node q).inputs = sym (ap stretch_of x.inputs ∙ at.stretch) in
+          let idle : is_idle_sort X.sort ≡ is_idle_sort (stretch_of (node q).inputs).sort = ap (λ y. is_idle_sort y.sort) stretch in
+          let awaits : awaits_start X ≡ awaits_start (stretch_of (node q).inputs) = ap awaits_start stretch in
+          let driving : drives q ≡ is_dominant (node q).drive = sym (ap is_dominant x.drive ∙ level_back (drives q)) in
+          expected_new q more ∙ (λ j. record { level = levels q; idle = idle j; awaits = awaits j; driving = driving j })
+
+      beat_there : (q : ℕ) (b : Beat) → S < q → Same q → beat_of (s.lengths i) (seen_before expected q) (expected q) ≡ b → beat_of setup.segments (seen_before sees q) (sees q) ≡ b
+      beat_there q b more x e =
+          ap (λ l. beat_of l (seen_before sees q) (sees q)) segments ∙ ap (λ v. beat_of (s.lengths i) v (sees q)) (sym (seen_before_same expected sees q x.seen))
+          ∙ ap (beat_of (s.lengths i) (seen_before expected q)) (sym (sees_there q more x)) ∙ e
+
+      seen_more : (q : ℕ) → S < q → Same q → (j : ℕ) → j < suc q → expected j ≡ sees j
+      seen_more q more x j less = elim (cases_lt j q) [
+        | inl before ↦ x.seen j before
+        | inr last ↦ (let e : q ≡ j = omega arith in subst (λ k. expected k ≡ sees k) e (sees_there q more x))
+      ]
+
+      start_there : (q : ℕ) → S < q → q ≡ F → Same q → Same (suc q)
+      start_there q more e x =
+          let b = beat_there q Start more x (ap (λ k. beat_of (s.lengths i) (seen_before expected k) (expected k)) e ∙ bit.starts.starts) in
+          record {
+            inputs = inputs_by q Start b ∙ x.inputs;
+            happened = happened_by q Start b ∙ x.happened;
+            drive =
+                drive_by q Start b ∙ ap (λ v. drive_of (stretch_of v)) x.inputs ∙ ap drive_of at.stretch ∙ sym (level_is (drive_of X))
+                ∙ ap level_of (sym (drives_after (suc q) (omega (arith, e))));
+            seen = seen_more q more x;
+          }
+
+      plain_there : (q : ℕ) → S < q → q < S' → q ≢ F → Same q → Same (suc q)
+      plain_there q more less apart x =
+          let b = beat_there q Plain more x (bit.starts.others q more less apart) in
+          record {
+            inputs = inputs_by q Plain b ∙ x.inputs;
+            happened = happened_by q Plain b ∙ x.happened;
+            drive = drive_by q Plain b ∙ x.drive ∙ ap level_of (elim (cases_lt q F) [
+              | inl before ↦ drives_before q (omega arith) ∙ sym (drives_before (suc q) before)
+              | inr from ↦ drives_after q (omega (arith, apart)) ∙ sym (drives_after (suc q) (omega (arith, apart)))
+            ]);
+            seen = seen_more q more x;
+          }
+
+      same_up : (m : ℕ) → suc S + m ≤ S' → Same (suc S + m)
+      same_up zero less = subst Same (let e : suc S ≡ suc S + 0 = omega arith in e) first
+      same_up (suc m) less =
+          (let x = same_up m (omega arith) in
+          let e : suc (suc S + m) ≡ suc S + suc m = omega arith in
+          subst Same e (elim (cases_eq (suc S + m) F) [
+            | inl here ↦ start_there (suc S + m) (omega arith) here x
+            | inr apart ↦ plain_there (suc S + m) (omega arith) (omega arith) apart x
+          ]))
+
+      same_at : (q : ℕ) → S < q → q ≤ S' → Same q
+      same_at q more less = (let e : suc S + (q - suc S) ≡ q = omega arith in subst Same e (same_up (q - suc S) (omega arith)))
+
+      -- the sample of the next bit
+      module _ (going : stuffed_end (bus_levels s (expected_bits s o) (suc n)) ≡ None) (y : Sampled) (y_level : y.level ≡ level_of (bus_bit s (expected_bits s o) (suc n)))
+          (fine : is_fine (judged X y).happened ≡ true) (next_is : past_at s o (suc (suc n)) i ≡ past_at s o (suc n) i ++ Given y ∷ [])
+          (found : levels S' ≡ level_of (bus_bit s (expected_bits s o) (suc n))) (longer : S < S') (has_next : HasSampled s o i expected (suc n)) where
+        last : Same S'
+        last = same_at S' longer (omega arith)
+
+        abbrev given : Sampled
+        given = sampled_next setup (node S') (levels S')
+
+        given_level : given.level ≡ level_of (bus_bit s (expected_bits s o) (suc n))
+        given_level = found
+
+        at_stretch : stretch_of (node S').inputs ≡ X
+        at_stretch = ap stretch_of last.inputs ∙ at.stretch
+
+        given_fine : is_fine (judged X given).happened ≡ true
+        given_fine = fine_same X head (bus_levels s (expected_bits s o) (suc n)) y given framing going (y_level ∙ sym given_level) fine
+
+        sample_beat : beat_of setup.segments (seen_before sees S') (sees S') ≡ Sample (level_of (bus_bit s (expected_bits s o) (suc n)))
+        sample_beat = beat_there S' (Sample (level_of (bus_bit s (expected_bits s o) (suc n)))) longer last bit.samples.beat
+
+        abbrev judgement : Judgement
+        judgement = judged (stretch_of (node S').inputs) given
+
+        counts_there : counts_of ((node S').happened ++ judgement.happened ∷ []) ≡ no_counts
+        counts_there =
+            fold-append counts_after no_counts (node S').happened (judgement.happened ∷ [])
+            ∙ ap (λ c. counts_after c judgement.happened) (ap counts_of last.happened ∙ at.counts)
+            ∙ fine_counts judgement.happened (ap (λ t. is_fine (judged t given).happened) at_stretch ∙ given_fine)
+
+        mode_there : given.mode ≡ Active
+        mode_there = ap mode_of (ap counts_of last.happened ∙ at.counts)
+
+        none_off : switched_off given.mode (mode_of (counts_of ((node S').happened ++ judgement.happened ∷ []))) ≡ []
+        none_off =
+            ap (λ m. switched_off m (mode_of (counts_of ((node S').happened ++ judgement.happened ∷ [])))) mode_there ∙ ap (λ c. switched_off Active (mode_of c)) counts_there
+
+        inputs_there : (node (suc S')).inputs ≡ (node S').inputs ++ Given given ∷ []
+        inputs_there =
+            inputs_by S' (Sample (level_of (bus_bit s (expected_bits s o) (suc n)))) sample_beat
+            ∙ ap (λ v. ((node S').inputs ++ Given given ∷ []) ++ v) none_off ∙ append-nil ((node S').inputs ++ Given given ∷ [])
+
+        next_stretch : (z : Sampled) → z.level ≡ level_of (bus_bit s (expected_bits s o) (suc n)) → is_fine (judged X z).happened ≡ true
+            → stretch_after X (Given z) ≡ stretch_by (Framing head) (bus_levels s (expected_bits s o) (suc (suc n)))
+        next_stretch z e f =
+            on_after X z head (bus_levels s (expected_bits s o) (suc n)) framing going f
+            ∙ ap (λ l. stretch_by (Framing head) (bus_levels s (expected_bits s o) (suc n) ++ l ∷ [])) e
+
+        stretch_there : stretch_of (node (suc S')).inputs ≡ stretch_of (past_at s o (suc (suc n)) i)
+        stretch_there =
+            ap stretch_of inputs_there ∙ stretch_next (node S').inputs (Given given) ∙ ap (λ t. stretch_after t (Given given)) at_stretch ∙ next_stretch given given_level given_fine
+            ∙ sym (ap stretch_of next_is ∙ stretch_next (past_at s o (suc n) i) (Given y) ∙ next_stretch y y_level fine)
+
+        all_seen : (j : ℕ) → j < suc S' → expected j ≡ sees j
+        all_seen = seen_more S' longer last
+
+        pub goes_to_next : GoesToNext s o i levels node n
+        goes_to_next = record {
+          bit = record {
+            clock = record {
+              sampled =
+                  ap (λ v. beat_of (s.lengths i) v (sees S')) (sym (seen_before_same expected sees S' (λ j less. all_seen j (omega arith))))
+                  ∙ ap (beat_of (s.lengths i) (seen_before expected S')) (sym (all_seen S' (omega arith))) ∙ has_next.sampled;
+              steady = λ e. ap (clock_after (s.lengths i)) (sym (seen_before_same expected sees (suc S') all_seen)) ∙ has_next.steady e;
+            };
+            stretch = stretch_there;
+            counts = ap counts_of (happened_by S' (Sample (level_of (bus_bit s (expected_bits s o) (suc n)))) sample_beat) ∙ counts_there;
+            drive =
+                drive_by S' (Sample (level_of (bus_bit s (expected_bits s o) (suc n)))) sample_beat ∙ last.drive
+                ∙ ap level_of (drives_after S' bit.starts.inside);
+          };
+          before = λ q a b. (same_at q a (let h = bit.starts.inside in omega arith)).drive ∙ ap level_of (drives_before q b);
+          after = λ q a b. elim (cases_lt S' q) [
+            | inl above ↦
+                (let e : suc S' ≡ q = omega arith in
+                subst (λ k. (node k).drive ≡ level_of (wants s o (suc n) i)) e
+                (drive_by S' (Sample (level_of (bus_bit s (expected_bits s o) (suc n)))) sample_beat ∙ last.drive ∙ ap level_of (drives_after S' bit.starts.inside)))
+            | inr inside ↦ (same_at q (omega arith) inside).drive ∙ ap level_of (drives_after q a)
+          ];
+        }
