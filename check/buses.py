@@ -2,6 +2,7 @@
 """The table of buses from practice in docs/use/margins.md: for each what `check` and `margin` say, and in how many power-ups `sweep` finds it not clean.
 
 usage: buses.py PROGRAM [--texts N] [--runs N] [ROW..]     rows by their numbers from 0, all without any
+       buses.py answers                                    how many are sound, by margin.py, and how many of these have room for acknowledgements
 
 Each row is run with N texts of random frames, of long frames with edges ten bits apart, and of frames whose last edge is ten bits before the
 acknowledgement, by turns; each text with N power-ups, at any offsets and with each clock at either limit of its tolerance.
@@ -9,9 +10,12 @@ acknowledgement, by turns; each text with N power-ups, at any offsets and with e
 import argparse
 import random
 import re
+import sys
 from copy import deepcopy
 
-from border import Node, Program, frames, long_frames, powered
+import margin
+import plain
+from border import Node, Program, frames, long_frames, plan_text, powered
 
 # What a node takes out and in, in ns
 ISO, OPTO, USUAL = (125, 125), (210, 210), (120, 130)
@@ -90,7 +94,20 @@ def line_of(program, k, texts, runs):
     return f"| {said} | {spared(program.said(nodes, 'margin'))} | {bad} of {total} |", total
 
 
+def answers():
+    """How many of the buses are sound for any senders, and how many of these have room for acknowledgements, as wl_any_senders has it."""
+    sound, roomy = 0, 0
+    for row in ROWS:
+        text = plan_text(nodes_of(row)).encode()
+        family = margin.Family(plain.read_plan(text), margin.clocks_of(plain.read_toml(text)))
+        if next(family.failures(False), None) is None:
+            sound += 1
+            roomy += family.buses(False)[0].has_room_to_answer()
+    print(f"{len(ROWS)} buses, {sound} sound, {roomy} of these with room for acknowledgements")
+
+
 def main():
+    if sys.argv[1:] == ["answers"]: return answers()
     asked = argparse.ArgumentParser(usage=__doc__.split("usage: ")[1].split("  ")[0])
     asked.add_argument("program")
     asked.add_argument("--texts", type=int, default=30)

@@ -103,6 +103,33 @@ class Bus:
             return way + min(self.apart(i, j), max(0, self.tour(i, j) - way)) + 11 * max(self.drift(j, w) for w in self.others(j)) + self.ahead(j)
         return self.look[j] + 10 * self.drift(i, j) + min(self.apart(j, i), max(0, self.early[j] - self.delay(j, j))) + self.tick + self.ahead(i)
 
+    def gathered(self, chase, i, k):
+        if not any(a in self.sends for a in self.others(i, k)): return 0
+        return chase[k] * (10 * self.drift(i, k) + max(0, self.sjw[i] * self.high[i] - self.jump[k]))
+
+    def chases(self):
+        """In how many edges each node catches up with whoever wins; None if one may never."""
+        chases, d = [0] * self.n, self.delay
+        for k in range(self.n):
+            for w in self.others(k):
+                if w not in self.sends: continue
+                far = d(k, w) + d(w, k) + self.look[k] + max(0, self.high[w] - d(w, w)) - self.low[k]
+                step = self.jump[k] - 10 * self.drift(w, k)
+                if far > 0 and step <= 0: return None
+                if far > 0: chases[k] = max(chases[k], -(-far // step) - 1)
+        return chases
+
+    def has_room_to_answer(self):
+        """The inequalities of specs/Answers.antt of the crate wl_any_senders."""
+        chase, d = self.chases(), self.delay
+        if chase is None or any(d(i, i) > self.sample[i] * self.low[i] for i in range(self.n)): return False
+        for i in range(self.n):
+            for k in self.others(i):
+                early, late = self.look[k] + self.gathered(chase, i, k) + 10 * self.drift(i, k), self.look[i] + self.gathered(chase, k, i) + 10 * self.drift(k, i)
+                if early > self.jump[i] or 10 * self.drift(k, i) > self.jump[i] or early + self.tick > self.ps2[i] * self.low[i]: return False
+                if d(i, k) + d(k, i) + late > self.sample[i] * self.low[i]: return False
+        return True
+
     def is_asked(self, kind, i, j):
         """Whether nodes i and j are asked: of one node only whether its own bit is back, of what a listener drives nothing, of two listeners nothing."""
         if kind == LATE: return i == j or not self.listens[j]
