@@ -1,12 +1,15 @@
 -- Which slots have a word, and where.
-use Rattle.std.proofs.Common.{◌≡◌, ◌<◌, ◌+◌, ◌↔◌, ℕ, zero, suc, List, [], ◌∷◌, Option, sum, sym, ap, ◌∙◌, refl, arith}
-use Rattle.std.specs.Prelude.{Some, None, IsSome, slice_index}
+use Rattle.std.proofs.Common.{◌≡◌, ◌<◌, ◌+◌, ◌↔◌, ℕ, zero, suc, List, [], ◌∷◌, Option, length, get_or, nat_lt, true, sum, sym, ap, ◌∙◌, arith, refl, inl, inr}
+use Rattle.std.proofs.Math.ListN.{set}
+use Rattle.std.proofs.lemmas.Bool.{cases_eq, ltb-true, lt-ltb}
+use Rattle.std.specs.Prelude.{Some, slice_index, unwrap_or}
 use Rattle.std.proofs.lemmas.Bool.Decides.{nat_tests}
+use Rattle.std.proofs.lemmas.List.{get_or-set_same, get_or-set_other}
 use Rattle.std.proofs.lemmas.List.Sums.{sum_by-cons}
 use Rattle.wl_record_core.specs.declared.record.Slot.{Slot}
 use Rattle.wl_record_core.specs.declared.record.Slot.TheVariants.{EdgeAt, SilenceAt}
 use Rattle.wl_hub.specs.Words.{edge_widths, silence_widths, HasWord}
-use Rattle.wl_hub.specs.Places.{place, beyond}
+use Rattle.wl_hub.specs.Places.{place, beyond, first_word, AreFirsts}
 use Rattle.wl_hub.proofs.Apart.{small_place, beyond_some}
 
 first_place : (ws : List ℕ) (w s : ℕ) → s < w → place (w ∷ ws) zero s ≡ Some s
@@ -17,11 +20,6 @@ has_place [] n s h = absurd (omega (arith, h))
 has_place (w ∷ ws) zero s h = (s, first_place ws w s h)
 has_place (w ∷ ws) (suc n) s h = let p = has_place ws n s h in (w + p.0, ap (beyond w) p.1)
 
-pub place_has : (ws : List ℕ) (n s k : ℕ) → place ws n s ≡ Some k → s < slice_index ws n
-place_has [] n s k h = cc
-place_has (w ∷ ws) zero s k h = (small_place ws w s k h).1
-place_has (w ∷ ws) (suc n) s k h = let p = beyond_some w k (place ws n s) h in place_has ws n s p.0 p.1
-
 pub place_below : (ws : List ℕ) (n s k : ℕ) → place ws n s ≡ Some k → k < sum ws
 place_below [] n s k h = cc
 place_below (w ∷ ws) zero s k h = let p = small_place ws w s k h in let all : sum (w ∷ ws) ≡ w + sum ws = sum_by-cons (λ x. x) w ws in omega (arith, p.0, p.1, all)
@@ -31,28 +29,41 @@ place_below (w ∷ ws) (suc n) s k h =
     let all : sum (w ∷ ws) ≡ w + sum ws = sum_by-cons (λ x. x) w ws in
     omega (arith, p.2, q, all)
 
-is_some : (o : Option ℕ) (k : ℕ) → o ≡ Some k → IsSome o
-is_some o k h = rw h refl
+-- a slot has a word if its number is below those of the node
+pub has_edge : (shape view : List (ℕ × ℕ)) (slot : Slot) (n s words : ℕ) → view ≡ shape → slot ≡ EdgeAt n s → words ≡ slice_index (edge_widths view) n → (nat_lt s words ≡ true) ↔ HasWord shape slot
+has_edge shape view slot n s words e is at =
+    let many : words ≡ slice_index (edge_widths shape) n = at ∙ ap (λ (l : List (ℕ × ℕ)). slice_index (edge_widths l) n) e in
+    rw is (λ t. (let lt = ltb-true s words t in omega (arith, lt, many)), λ lt. lt-ltb s words (omega (arith, lt, many)))
 
-is_none : (o : Option ℕ) → IsSome o → (k : ℕ) × (o ≡ Some k)
-is_none None h = absurd cc
-is_none (Some k) h = (k, refl)
+pub has_silence : (shape view : List (ℕ × ℕ)) (slot : Slot) (n s words : ℕ) → view ≡ shape → slot ≡ SilenceAt n s → words ≡ slice_index (silence_widths view) n → (nat_lt s words ≡ true) ↔ HasWord shape slot
+has_silence shape view slot n s words e is at =
+    let many : words ≡ slice_index (silence_widths shape) n = at ∙ ap (λ (l : List (ℕ × ℕ)). slice_index (silence_widths l) n) e in
+    rw is (λ t. (let lt = ltb-true s words t in omega (arith, lt, many)), λ lt. lt-ltb s words (omega (arith, lt, many)))
 
--- what a search for a place answers
-pub found : (ws : List ℕ) (n s : ℕ) (o : Option ℕ) → o ≡ place ws n s → IsSome o ↔ (s < slice_index ws n)
-found ws n s o is = (λ some. let k = is_none o some in place_has ws n s k.0 (sym is ∙ k.1), λ lt. let k = has_place ws n s lt in is_some o k.0 (is ∙ k.1))
+-- ---- the places of a node's words, by that of its first one
 
-pub has_edge : (shape view : List (ℕ × ℕ)) (slot : Slot) (n s : ℕ) (o : Option ℕ) → view ≡ shape → slot ≡ EdgeAt n s → o ≡ place (edge_widths view) n s → IsSome o ↔ HasWord shape slot
-has_edge shape view slot n s o e is at = rw is (found (edge_widths shape) n s o (at ∙ ap (λ (l : List (ℕ × ℕ)). place (edge_widths l) n s) e))
+first_is : (o : Option ℕ) (k : ℕ) → o ≡ Some k → unwrap_or o 0 ≡ k
+first_is o k h = rw h refl
 
-pub has_silence : (shape view : List (ℕ × ℕ)) (slot : Slot) (n s : ℕ) (o : Option ℕ) → view ≡ shape → slot ≡ SilenceAt n s → o ≡ place (silence_widths view) n s → IsSome o ↔ HasWord shape slot
-has_silence shape view slot n s o e is at = rw is (found (silence_widths shape) n s o (at ∙ ap (λ (l : List (ℕ × ℕ)). place (silence_widths l) n s) e))
+pub from_first : (ws : List ℕ) (n s : ℕ) → s < slice_index ws n → place ws n s ≡ Some (first_word ws n + s)
+from_first [] n s h = absurd (omega (arith, h))
+from_first (w ∷ ws) zero s h =
+    let none : first_word (w ∷ ws) zero ≡ 0 = first_is (place (w ∷ ws) zero 0) 0 (first_place ws w 0 (omega (arith, h))) in
+    first_place ws w s h ∙ ap Some (let e : s ≡ first_word (w ∷ ws) zero + s = omega (arith, none) in e)
+from_first (w ∷ ws) (suc n) s h =
+    let p = has_place ws n 0 (omega (arith, h)) in
+    let here : first_word ws n ≡ p.0 = first_is (place ws n 0) p.0 p.1 in
+    let there : first_word (w ∷ ws) (suc n) ≡ w + p.0 = first_is (beyond w (place ws n 0)) (w + p.0) (ap (beyond w) p.1) in
+    ap (beyond w) (from_first ws n s h) ∙ ap Some (let e : w + (first_word ws n + s) ≡ first_word (w ∷ ws) (suc n) + s = omega (arith, here, there) in e)
 
--- a place that is there is found
-pub never_none : (shape view : List (ℕ × ℕ)) (widths : List (ℕ × ℕ) → List ℕ) (n s : ℕ) (o : Option ℕ) → view ≡ shape → o ≡ place (widths view) n s → o ≡ None → s < slice_index (widths shape) n → ⊥
-never_none shape view widths n s o e at none lt =
-    let k = has_place (widths shape) n s lt in
-    no_some k.0 (sym none ∙ at ∙ ap (λ (l : List (ℕ × ℕ)). place (widths l) n s) e ∙ k.1)
-  where
-    no_some : (k : ℕ) → ◌≡◌ {A = Option ℕ} None (Some k) → ⊥
-    no_some k h = cc
+-- one more of them
+pub one_more_first : (ws firsts : List ℕ) (i first : ℕ) → i < length firsts → first ≡ first_word ws i
+    → ((n : ℕ) → n < i → slice_index firsts n ≡ first_word ws n) → (n : ℕ) → n < i + 1 → slice_index (set firsts i first) n ≡ first_word ws n
+one_more_first ws firsts i first b is before n less = elim (cases_eq n i) [
+  | inl same ↦ ap (λ m. get_or (set firsts i first) m 0) same ∙ (get_or-set_same firsts i first 0 b ∙ (is ∙ ap (first_word ws) (sym same)))
+  | inr other ↦ get_or-set_other firsts i n first 0 other ∙ before n (omega (arith, less, other))
+]
+
+-- the word of a slot, by the first one of its node
+pub placed : (ws firsts : List ℕ) (n s : ℕ) → AreFirsts ws firsts → n < 256 → s < slice_index ws n → place ws n s ≡ Some (slice_index firsts n + s)
+placed ws firsts n s are b lt = from_first ws n s lt ∙ ap (λ first. Some (first + s)) (sym (are.each n b))

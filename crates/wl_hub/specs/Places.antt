@@ -1,5 +1,5 @@
 -- Which word of a table is a record's, by the numbers of words of the nodes.
-use Rattle.std.specs.Prelude.{◌≡◌, ℕ, zero, suc, ◌+◌, ◌==◌, nat_lt, Bool, true, false, if◌then◌else◌, List, [], ◌∷◌, map, Option, Some, None}
+use Rattle.std.specs.Prelude.{◌≡◌, ℕ, zero, suc, ◌+◌, ◌<◌, ◌==◌, length, slice_index, unwrap_or, nat_lt, Bool, true, false, if◌then◌else◌, List, [], ◌∷◌, map, Option, Some, None}
 use Rattle.std.proofs.Common.{arith}
 use Rattle.std.proofs.lemmas.Bool.Decides.{nat_tests}
 use Rattle.wl_lattice.specs.declared.MaxWord.{MaxWord}
@@ -18,6 +18,15 @@ abbrev pub place : List ℕ → ℕ → ℕ → Option ℕ
 place [] n s = None
 place (w ∷ ws) zero s = if nat_lt s w then Some s else None
 place (w ∷ ws) (suc n) s = beyond w (place ws n s)
+
+-- the first word of node n; 0 if it has none
+abbrev pub first_word : List ℕ → ℕ → ℕ
+first_word ws n = unwrap_or (place ws n 0) 0
+
+-- These are they, of each number that a node may have.
+pub record AreFirsts (ws firsts : List ℕ) : Type 0 where
+  pub many : length firsts ≡ 256
+  pub each : (n : ℕ) → n < 256 → slice_index firsts n ≡ first_word ws n
 
 abbrev pub is_place : Option ℕ → ℕ → Bool
 is_place None i = false

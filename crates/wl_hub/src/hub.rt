@@ -1,9 +1,10 @@
 //! The hub: two tables of shared words, and the passes to them.
 ghost use Rattle.std.specs.Prelude.{◌≡◌, ◌<◌, ◌≤◌, ◌+◌, ◌^◌, sum};
+ghost use Rattle.wl_hub.specs.Places.{AreFirsts};
 ghost use Rattle.wl_hub.specs.Words.{edge_widths, silence_widths};
 
 use crate::board::{Board, Part};
-use crate::place::{edge_place, silence_place, totals};
+use crate::place::{Firsts, edge_firsts, silence_firsts, totals, words_of};
 use crate::truth::Truth;
 use std::alloc::{AllocError, Global};
 use wl_lattice::{FlatWord, MaxWord};
@@ -21,12 +22,16 @@ pub struct Hub<T: Truth> {
     shape: Vec<(u32, u32)>,
     edge_count: usize,
     silence_count: usize,
+    edge_firsts: Firsts,
+    silence_firsts: Firsts,
     pub ghost edge_shape: { edges.table.shared.key.shape.value.items ≡ shape.items },
     pub ghost silence_shape: { silences.table.shared.key.shape.value.items ≡ shape.items },
     pub ghost edges_counted: { (edge_count ≡ sum (edge_widths shape.items))
         × (edge_count ≤ edges.table.shared.key.words) },
     pub ghost silences_counted: { (silence_count ≡ sum (silence_widths shape.items))
         × (silence_count ≤ silences.table.shared.key.words) },
+    pub ghost edges_placed: { AreFirsts (edge_widths shape.items) edge_firsts },
+    pub ghost silences_placed: { AreFirsts (silence_widths shape.items) silence_firsts },
     pub ghost room: { edge_count + silence_count < 2 ^ 64 },
 }
 
@@ -48,6 +53,8 @@ impl<T: Truth> Drop for Hub<T> {
             shape,
             edge_count: _,
             silence_count: _,
+            edge_firsts: _,
+            silence_firsts: _,
         } = self;
         drop(edges);
         drop(silences);
@@ -76,6 +83,7 @@ impl<T: Truth> Hub<T> {
         ensures pass { IfOk result (λ r. (pass_name r.1 ≡ Some name.now) × IsNew r.1) }
     {
         let (edge_count, silence_count) = totals(shape);
+        let (edge_firsts, silence_firsts) = (edge_firsts(shape), silence_firsts(shape));
         let shape = Vec::from_slice(alloc, shape)?;
         let (edges, edge_part) = Board::open(alloc, name, &shape, edge_count.max(1))?;
         let (silences, silence_part) = Board::open(alloc, name, &shape, silence_count.max(1))?;
@@ -85,6 +93,8 @@ impl<T: Truth> Hub<T> {
             shape,
             edge_count,
             silence_count,
+            edge_firsts,
+            silence_firsts,
         };
         let pass = Pass {
             edges: edge_part,
@@ -98,10 +108,8 @@ impl<T: Truth> Hub<T> {
         ensures { IsTrue result ↔ HasWord (shape_of self.now) slot }
     {
         match slot {
-            Slot::EdgeAt { node, seq } => edge_place(self.shape.as_slice(), node, seq).is_some(),
-            Slot::SilenceAt { node, count } => {
-                silence_place(self.shape.as_slice(), node, count).is_some()
-            }
+            Slot::EdgeAt { node, seq } => seq < words_of(self.shape.as_slice(), node).0,
+            Slot::SilenceAt { node, count } => count < words_of(self.shape.as_slice(), node).1,
         }
     }
 
@@ -117,10 +125,7 @@ impl<T: Truth> Hub<T> {
         ensures place { place (edge_widths (shape_of self.now)) node seq ≡ Some result }
         ensures inside { result < self.now.edges.table.shared.key.words }
     {
-        let Some(i) = edge_place(self.shape.as_slice(), node, seq) else {
-            unreachable!()
-        };
-        i
+        self.edge_firsts[node as usize] + seq as usize
     }
 
     fn silence_index(&self, node: u8, count: u32) -> usize
@@ -128,10 +133,7 @@ impl<T: Truth> Hub<T> {
         ensures place { place (silence_widths (shape_of self.now)) node count ≡ Some result }
         ensures inside { result < self.now.silences.table.shared.key.words }
     {
-        let Some(i) = silence_place(self.shape.as_slice(), node, count) else {
-            unreachable!()
-        };
-        i
+        self.silence_firsts[node as usize] + count as usize
     }
 
     fn take_edge(&self, pass: &mut Pass<T>, node: u8, seq: u32, tick: u64)
@@ -274,6 +276,8 @@ impl<T: Truth> Hub<T> {
             shape,
             edge_count,
             silence_count,
+            edge_firsts: _,
+            silence_firsts: _,
         } = self;
         drop(shape);
         let words = edges.close(pass.edges, edge_count, words);
