@@ -230,8 +230,7 @@ impl Group {
     }
 }
 
-/// Returns how many stretches of the line a member looks for next: more after a row without a change, of which one record is said, and few
-/// else.
+/// Returns how many stretches of the line a member looks for next: more after a row without a change, which says one record, and few else.
 fn far_after(far: u8, said: usize) -> u8 {
     if said > 1 {
         return far / 2;
