@@ -269,6 +269,7 @@ def starts_soft(bus, stations, drives, n, i):
     if drives[i] and place == due == start and all(tick(bus.clocks[i], place) < a for a in arrivals): return True
     if not arrivals: return False
     found = finds(bus.clocks[i], min(arrivals))
+    if start != due and tick(bus.clocks[i], start) < min(arrivals): return False
     return place == moved_to(found - 1, bus.lengths[i][3], due) and (not drives[i] or (found <= due and place <= start <= place + 1 and found <= start))
 
 
@@ -312,10 +313,10 @@ def answer(runs, seed, left):
     random.seed(seed)
     rng = random
     counts = {"frames": 0, "samples": 0, "starts": 0, "refused": 0}
-    none = set() if left in (None, "chase") else {left}
     while counts["frames"] < runs:
         length = rng.choice([8, 12, 20, 40, 58])
-        bits = stuffed(rng)
+        # else the edges are ten bits apart, and the last one ten bits before the ACK slot
+        bits = stuffed(rng) if rng.random() < 0.5 else [True] + [(length - 1 - n) % 10 >= 4 for n in range(1, BITS + 2)]
         winner = 0
         bus = draw(rng, None if left == "chase" else left, lambda bus: bus.answers_broken(0) | (bus.broken() if bus.may[0] and left != "loops" else set()))
         if not bus.may[0] or (left and left != "loops" and bus.broken()): continue

@@ -1,11 +1,14 @@
 -- Worked stations, by computation.
-use Rattle.std.proofs.Common.{◌≡◌, ℕ, zero, suc, ◌+◌, true, refl}
+use Rattle.std.proofs.Common.{◌≡◌, ℕ, zero, suc, ◌+◌, true, false, refl}
 use Rattle.wl_segments.specs.declared.SyncRules.TheVariants.{Book}
 use Rattle.wl_segments.specs.Lengths.{Lengths}
 use Rattle.wl_clock.specs.Timing.{tick_of}
 use Rattle.wl_phase.specs.Clocks.{Steady}
+use Rattle.wl_bound.specs.Families.{Bus}
+use Rattle.wl_bound.specs.Terms.{drift, jump}
 use Rattle.wl_any_senders.specs.Stations.{Stations, shared_tick, shared_quantum, shared_instant, bit_drift}
 use Rattle.wl_any_senders.specs.Acknowledged.{any_way, chased_way, jump_gap}
+use Rattle.wl_any_senders.specs.Answers.{gathered}
 use Rattle.wl_any_senders.specs.Bounds.{bus_way, following_way}
 use Rattle.wl_any_senders.specs.Starts.{Start, reaches_at}
 
@@ -97,3 +100,24 @@ in_two_edges = refl
 
 to_the_winner : chased_way s 1 (λ k. 2) 0 1 ≡ 50
 to_the_winner = refl
+
+-- on a bus of three senders ten bits drift 100 units apart, and a jump of 22 units is 2 longer than the shortest one
+abbrev bus : Bus
+bus = record {
+  nodes = 3;
+  tick = 1;
+  shortest = λ i. 10;
+  longest = λ i. 11;
+  turns = λ i. 0;
+  lengths = λ i. l;
+  sends = λ i. true;
+  delay = λ i k. 9;
+  listens = λ i. false;
+}
+
+gathers_twice : gathered bus (λ k. 2) 0 1 ≡ 204
+unfolding drift jump
+gathers_twice = refl
+
+of_two_nodes : gathered (record bus { nodes = 2 }) (λ k. 2) 0 1 ≡ 0
+of_two_nodes = refl
