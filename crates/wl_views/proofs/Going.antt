@@ -59,7 +59,7 @@ module _ (sounds : CheckedIsSound) (laws : SimulationLaws) (plan : Plan) (checke
         (let e : next (k + 1) ≡ no_tick = ap (λ (c : Bool). cond c (at (k + 1)) no_tick) (le-ltb (at (k + 1)) plan.end outside) in omega arith)
   ]
 
-  clock_later : (q m : ℕ) → q ≤ m → at q ≤ at m
+  pub clock_later : (q m : ℕ) → q ≤ m → at q ≤ at m
   clock_later q m less = laws.clock_later (line_of plan) i q m (sound sounds laws plan checked).causal b less
 
   -- and none up to a tick stays none after more quanta

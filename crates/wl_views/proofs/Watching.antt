@@ -15,6 +15,7 @@ use Rattle.wl_plan.specs.Checked.{IsChecked, CheckedIsSound}
 use Rattle.wl_trace.specs.declared.shown.Shown.{Shown}
 use Rattle.wl_serial.specs.declared.pulse.Pulse.{Pulse}
 use Rattle.wl_views.specs.declared.signals.NodeSignals.{NodeSignals}
+use Rattle.wl_views.specs.declared.place_line.PlaceLine.{PlaceLine}
 use Rattle.wl_views.specs.declared.watched.Watched.{Watched}
 use Rattle.wl_views.specs.Held.{Awaits, Comes, Hears, Lasts, Remembers, Watches, heard_until, not_held, signals_by}
 use Rattle.wl_views.specs.Signals.{node_signals, shown_then, signals}
@@ -33,18 +34,26 @@ narrow f t u held h from below = record { later = below; same = λ v more less. 
 comes_on : (plan : Plan) (j t u : ℕ) (all : List Pulse) → Comes plan j t all → t ≤ u → Comes plan j u all
 comes_on plan j t u all h from i b below = narrow _ t u (get_or all i not_held) (h i b (omega arith)) from below
 
-hears_on : (plan : Plan) (i t u : ℕ) (w : Watched) → Hears plan i t w → t ≤ u → u < heard_until w → Hears plan i u w
-hears_on plan i t u w h from below = record {
-  cable = narrow _ t u w.cable h.cable from (omega arith);
-  disturbance = narrow _ t u w.disturbance h.disturbance from (omega arith);
-  sources = comes_on plan i t u w.sources h.sources from;
+hears_on : (plan : Plan) (i t u : ℕ) (l : PlaceLine) → Hears plan i t l → t ≤ u → u < heard_until l → Hears plan i u l
+hears_on plan i t u l h from below = record {
+  cable = narrow _ t u l.cable h.cable from (omega arith);
+  disturbance = narrow _ t u l.disturbance h.disturbance from (omega arith);
+  sources = comes_on plan i t u l.sources h.sources from;
+}
+
+-- what was heard is remembered as long as it stays
+pub remembers_on : (plan : Plan) (i t u : ℕ) (l : PlaceLine) → Hears plan i t l → t ≤ u → Remembers plan i u l
+remembers_on plan i t u l h from = record {
+  cable = λ below. narrow _ t u l.cable h.cable from below;
+  disturbance = λ below. narrow _ t u l.disturbance h.disturbance from below;
+  sources = comes_on plan i t u l.sources h.sources from;
 }
 
 -- what is known goes on as long as it stays
 pub on : (plan : Plan) (i t u : ℕ) (w : Watched) → Watches plan i t w → t ≤ u → u < w.until → Watches plan i u w
 on plan i t u w h from below = record {
   runs = h.runs;
-  hears = hears_on plan i t u w h.hears from (omega (arith, h.until));
+  hears = hears_on plan i t u w.line h.hears from (omega (arith, h.until));
   next = h.next;
   before = h.before;
   later = omega (arith, h.until);
@@ -54,7 +63,7 @@ on plan i t u w h from below = record {
 
 module _ (sounds : CheckedIsSound) (laws : SimulationLaws) (plan : Plan) (checked : IsChecked plan) (i : ℕ) (b : i < length plan.nodes) where
   pub stays : (t u : ℕ) (w : Watched) → Watches plan i t w → t ≤ u → u < w.until
-      → node_signals plan u i ≡ signals_by w.shown w.cable.dominant w.disturbance.dominant
+      → node_signals plan u i ≡ signals_by w.shown w.line.cable.dominant w.line.disturbance.dominant
   unfolding node_signals
   stays t u w h from below =
       let same : shown_then plan i u ≡ w.shown = h.same u from below in
@@ -70,7 +79,7 @@ module _ (sounds : CheckedIsSound) (laws : SimulationLaws) (plan : Plan) (checke
       }
 
   pub now : (t : ℕ) (w : Watched) → Watches plan i t w
-      → node_signals plan t i ≡ signals_by w.shown w.cable.dominant w.disturbance.dominant
+      → node_signals plan t i ≡ signals_by w.shown w.line.cable.dominant w.line.disturbance.dominant
   now t w h =
       let p = h.hears.cable.later in
       let r = h.hears.disturbance.later in
@@ -80,7 +89,7 @@ module _ (sounds : CheckedIsSound) (laws : SimulationLaws) (plan : Plan) (checke
 
   -- what it has seen began before the line changes, and before its next quantum
   begun_before : (t : ℕ) (w : Watched) → 0 < t → Watches plan i (t - 1) w → w.until ≤ t → (k : ℕ) → k < w.quanta → tick_of (setup_at plan i).clock k < t
-  begun_before t w some h past k less = elim (cases_lt (heard_until w) (t + 1)) [
+  begun_before t w some h past k less = elim (cases_lt (heard_until w.line) (t + 1)) [
     | inl run_out ↦ (let m = h.before k less in omega arith)
     | inr stays ↦
         (let e : w.next ≡ t = (let q = h.later in let m = h.until in omega arith) in
@@ -88,12 +97,8 @@ module _ (sounds : CheckedIsSound) (laws : SimulationLaws) (plan : Plan) (checke
         let n = h.next in omega arith)
   ]
 
-  pub remembered : (t : ℕ) (w : Watched) → Watches plan i (t - 1) w → Remembers plan i t w
-  remembered t w h = record {
-    cable = λ below. narrow _ (t - 1) t w.cable h.hears.cable (omega arith) below;
-    disturbance = λ below. narrow _ (t - 1) t w.disturbance h.hears.disturbance (omega arith) below;
-    sources = comes_on plan i (t - 1) t w.sources h.hears.sources (omega arith);
-  }
+  pub remembered : (t : ℕ) (w : Watched) → Watches plan i (t - 1) w → Remembers plan i t w.line
+  remembered t w h = remembers_on plan i (t - 1) t w.line h.hears (omega arith)
 
   -- where what is known runs out, it is for the line or for the next quantum: all that began before was seen
   pub awaited : (t : ℕ) (w : Watched) → 0 < t → Watches plan i (t - 1) w → w.until ≤ t → Awaits plan i t w

@@ -7,12 +7,11 @@ use Rattle.wl_plan.specs.PlanLine.{disturbed, line_of, setup_at}
 use Rattle.wl_plan.specs.Simulation.{AreInside, seen}
 use Rattle.wl_serial.specs.Heard.{comes}
 use Rattle.wl_trace.specs.declared.shown.Shown.{Shown}
-use Rattle.wl_trace.specs.declared.event.Noted.{Noted}
 use Rattle.wl_trace.specs.Rerun.{IsRerun}
 use Rattle.wl_trace.specs.Shown.{shown_of}
-use Rattle.wl_trace.specs.Synced.{syncs_of}
 use Rattle.wl_serial.specs.declared.pulse.Pulse.{Pulse}
 use Rattle.wl_views.specs.declared.signals.NodeSignals.{NodeSignals}
+use Rattle.wl_views.specs.declared.place_line.PlaceLine.{PlaceLine}
 use Rattle.wl_views.specs.declared.watched.Watched.{Watched}
 use Rattle.wl_views.specs.Signals.{driven_at, shown_then}
 
@@ -42,8 +41,8 @@ signals_by shown driven disturbed = record {
 }
 
 -- up to when cable and disturbances stay
-abbrev pub heard_until : Watched → ℕ
-heard_until w = min w.cable.until w.disturbance.until
+abbrev pub heard_until : PlaceLine → ℕ
+heard_until l = min l.cable.until l.disturbance.until
 
 abbrev pub not_held : Pulse
 not_held = record { from = 0; until = 0; dominant = false }
@@ -53,20 +52,16 @@ abbrev pub Comes : Plan → ℕ → ℕ → List Pulse → Type 0
 Comes plan j t all = (i : ℕ) → i < length plan.nodes → t < (slice_index_or all i not_held).until → Lasts (comes plan i j) t (slice_index_or all i not_held)
 
 -- from tick t on cable and disturbances are these
-pub record Hears (plan : Plan) (i t : ℕ) (w : Watched) : Type 0 where
-  pub cable : Lasts (driven_at plan i) t w.cable
-  pub disturbance : Lasts (disturbed plan i) t w.disturbance
-  pub sources : Comes plan i t w.sources
+pub record Hears (plan : Plan) (i t : ℕ) (l : PlaceLine) : Type 0 where
+  pub cable : Lasts (driven_at plan i) t l.cable
+  pub disturbance : Lasts (disturbed plan i) t l.disturbance
+  pub sources : Comes plan i t l.sources
 
 -- and so is that of them which hasn't run out at tick t
-pub record Remembers (plan : Plan) (i t : ℕ) (w : Watched) : Type 0 where
-  pub cable : t < w.cable.until → Lasts (driven_at plan i) t w.cable
-  pub disturbance : t < w.disturbance.until → Lasts (disturbed plan i) t w.disturbance
-  pub sources : Comes plan i t w.sources
-
--- how edges synchronised node i in its first k quanta
-abbrev pub syncs_then : Plan → ℕ → ℕ → List Noted
-syncs_then plan i k = syncs_of (setup_at plan i) (seen (line_of plan) i k)
+pub record Remembers (plan : Plan) (i t : ℕ) (l : PlaceLine) : Type 0 where
+  pub cable : t < l.cable.until → Lasts (driven_at plan i) t l.cable
+  pub disturbance : t < l.disturbance.until → Lasts (disturbed plan i) t l.disturbance
+  pub sources : Comes plan i t l.sources
 
 -- a node runs again, and has seen so many of its quanta before the end
 pub record Runs (plan : Plan) (i : ℕ) (w : Watched) : Type 0 where
@@ -90,11 +85,11 @@ pub record SawUpTo (plan : Plan) (i t : ℕ) (w : Watched) : Type 0 where
 -- From tick t on it hears this, and shows what it does now: it has seen those that begin before the next, at which alone that may change.
 pub record Watches (plan : Plan) (i t : ℕ) (w : Watched) : Type 0 where
   pub runs : Runs plan i w
-  pub hears : Hears plan i t w
+  pub hears : Hears plan i t w.line
   pub next : w.next ≡ next_of (setup_at plan i).clock plan.end w.quanta
-  pub before : (q : ℕ) → q < w.quanta → tick_of (setup_at plan i).clock q < heard_until w
+  pub before : (q : ℕ) → q < w.quanta → tick_of (setup_at plan i).clock q < heard_until w.line
   pub later : t < w.next
-  pub until : w.until ≡ min (heard_until w) w.next
+  pub until : w.until ≡ min (heard_until w.line) w.next
   pub same : (u : ℕ) → t ≤ u → u < w.until → shown_then plan i u ≡ w.shown
 
 -- that of all nodes

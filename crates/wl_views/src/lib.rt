@@ -8,6 +8,7 @@ mod held;
 mod laws;
 mod lines;
 mod log;
+mod place_line;
 mod sent;
 mod signals;
 mod tick;

@@ -116,7 +116,7 @@ pub(crate) fn watch_all(
     let mut watched = Vec::with_capacity(alloc, plan.nodes.len())?;
     for i in 0..plan.nodes.len() {
         let mut node = Watched::new(plan, i);
-        let _ = node.go(plan, outcome, i, 0);
+        node.go(plan, outcome, i, 0);
         watched.push(node)?;
     }
     Ok(watched)
@@ -169,7 +169,7 @@ fn push_node(
         return known.until;
     }
     let was = known.signals();
-    let _ = known.go(plan, outcome, i, t);
+    known.go(plan, outcome, i, t);
     push_node_changes(text, i, was, known.signals());
     known.until
 }

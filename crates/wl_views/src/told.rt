@@ -1,15 +1,14 @@
 //! The trace of a run: what happened to each node, a line for each event.
-ghost use Rattle.std.specs.Prelude.{◌≡◌, ◌<◌, ◌≤◌, ◌^◌, ◌++◌, [], ◌∷◌, OnOk, IfOk, length, string_bytes};
+ghost use Rattle.std.specs.Prelude.{◌≡◌, ◌-◌, ◌<◌, ◌≤◌, ◌^◌, ◌++◌, OnOk, IfOk, length, string_bytes};
 ghost use Rattle.std.specs.List.{All};
 ghost use Rattle.wl_plan.specs.Checked.{IsChecked};
 ghost use Rattle.wl_report.specs.Lines.{GrowsBy};
 ghost use Rattle.wl_serial.specs.Outcome.{outcome_of};
-ghost use Rattle.wl_trace.specs.Events.{noted};
-ghost use Rattle.wl_trace.specs.Synced.{with_next};
 ghost use Rattle.wl_level.specs.ByTick.{by_tick};
 ghost use Rattle.wl_views.specs.Trace.{all_told, error_kind_word, event_text, events_at_end, field_word, first_error_in, first_error_text, flag_word, is_error, line_start, place_text, sample_words, syncs_at_end, told_at_end, told_by, trace_line, trace_text};
 
-use crate::watched::Watched;
+use crate::place_line::PlaceLine;
+use crate::watched::level_of;
 use std::alloc::{AllocError, Global};
 use wl_clock::Clock;
 use wl_confine::{Counters, ErrorKind};
@@ -17,7 +16,7 @@ use wl_plan::Plan;
 use wl_report::{mode_word, push_content};
 use wl_serial::Outcome;
 use wl_setup::Names;
-use wl_trace::{Event, FlagForm, FrameField, Noted, Place, node_events};
+use wl_trace::{Event, FlagForm, FrameField, Noted, Place, Rerun, node_events};
 
 /// Returns the word of a field.
 fn field_word(field: FrameField) -> &'static str
@@ -184,34 +183,7 @@ fn push_told(
     Ok(())
 }
 
-/// Adds an event at this quantum.
-fn push_noted(
-    events: &mut Vec<Noted>,
-    quantum: u64,
-    bit: u64,
-    event: Event,
-) -> Result<(), AllocError>
-    ensures { OnOk result (events.new.items ≡ events.old.items ++ noted quantum bit event ∷ []) }
-{
-    events.push(Noted {
-        quantum,
-        bit,
-        event,
-    })?;
-    Ok(())
-}
-
-/// Adds a synchronisation, if there is one.
-fn push_sync(syncs: &mut Vec<Noted>, sync: Option<Noted>) -> Result<(), AllocError>
-    ensures { OnOk result (syncs.new.items ≡ with_next syncs.old.items sync) }
-{
-    match sync {
-        Some(one) => push_noted(syncs, one.quantum, one.bit, one.event),
-        None => Ok(()),
-    }
-}
-
-/// Returns how node `i` was synchronised: it runs again up to the end.
+/// Returns how node `i` was synchronised: it runs again up to the end, from one change of the line at its place to the next.
 fn syncs_at_end(
     alloc: Global,
     plan: &Plan,
@@ -225,13 +197,21 @@ fn syncs_at_end(
 {
     wl_plan::checked_is_sound();
     wl_plan::simulation_laws();
-    let mut node = Watched::new(plan, i);
+    let setup = &plan.nodes.as_slice()[i];
+    let mut line = PlaceLine::new();
+    let mut node = Rerun::new(setup.segments);
     let mut syncs = Vec::new(alloc);
+    let mut quanta = 0;
     let mut t = 0;
     while t < plan.end {
-        let sync = node.go(plan, outcome, i, t);
-        push_sync(&mut syncs, sync)?;
-        t = node.until;
+        line.hear(plan, outcome, i, t);
+        let found = line.found();
+        let until = found.until.min(plan.end);
+        let next = setup.clock.first_not_before(until);
+        let level = level_of(found.dominant);
+        node.go(setup, quanta, level, next - quanta, &mut syncs)?;
+        quanta = next;
+        t = until;
     }
     Ok(syncs)
 }

@@ -40,7 +40,7 @@ returns-clause-lines c =
     c.signals-was.ensures ∙ sym (now c.checked_is_sound.ensures c.simulation_laws.ensures plan c.requires.checked i c.requires.node (t - 1) c.args.known.now c.requires.was)
     in
     let is : c.signals.result ≡ node_signals plan t i =
-    c.signals.ensures ∙ sym (now c.checked_is_sound.ensures c.simulation_laws.ensures plan c.requires.checked i c.requires.node t c.go.new.self c.go.ensures.watches)
+    c.signals.ensures ∙ sym (now c.checked_is_sound.ensures c.simulation_laws.ensures plan c.requires.checked i c.requires.node t c.go.new.self c.go.ensures)
     in
     c.push_node_changes.ensures.lines ∙ ap₂ (λ x y. c.args.text.now.items ++ node_changes i x y) was is
 

@@ -14,5 +14,5 @@ loop-i-preserved c =
       long = ap length c.in_ok-push.ensures.items ∙ length-append all (w ∷ []) ∙ ap (λ (n : ℕ). n + 1) c.loop-i.invariant.long;
       known = λ k d below.
           subst (λ (xs : List Watched). Watches plan k 0 (get_or xs k d)) (sym c.in_ok-push.ensures.items)
-          (known_behind (λ m x. Watches plan m 0 x) all i w c.loop-i.invariant.long c.loop-i.invariant.known c.go.ensures.watches k d below);
+          (known_behind (λ m x. Watches plan m 0 x) all i w c.loop-i.invariant.long c.loop-i.invariant.known c.go.ensures k d below);
     }

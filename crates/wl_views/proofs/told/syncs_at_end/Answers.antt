@@ -1,66 +1,113 @@
--- Tick by tick of those at which something may change, up to the end.
-use Rattle.std.proofs.Common.{◌≡◌, ◌∙◌, ◌-◌, ◌≤◌, ap, sym, arith, inl, inr, cond, ℕ, Bool, List, []}
-use Rattle.std.proofs.lemmas.Bool.{cases_lt, lt-ltb}
+-- From one change of the line to the next, up to the end.
+use Rattle.std.proofs.Common.{◌≡◌, ◌∙◌, ◌+◌, ◌-◌, ◌<◌, ◌≤◌, ◌++◌, ap, sym, subst, arith, inl, inr, ℕ, List, replicate}
+use Rattle.std.proofs.lemmas.Bool.{cases_lt}
+use Rattle.wl_level.specs.declared.Level.{Level}
 use Rattle.wl_clock.specs.Timing.{tick_of}
+use Rattle.wl_node.specs.declared.setup.NodeSetup.{NodeSetup}
 use Rattle.wl_plan.specs.declared.plan.Plan.{Plan}
-use Rattle.wl_plan.specs.PlanLine.{setup_at}
+use Rattle.wl_plan.specs.PlanLine.{line_of, setup_at}
 use Rattle.wl_plan.specs.Simulation.{seen}
-use Rattle.wl_trace.specs.declared.event.Noted.{Noted}
-use Rattle.wl_trace.specs.Synced.{syncs_of, with_next}
+use Rattle.wl_serial.specs.declared.pulse.Pulse.{Pulse}
+use Rattle.wl_trace.specs.Rerun.{IsRerun, RunsOver}
+use Rattle.wl_trace.specs.Synced.{syncs_of}
 use Rattle.wl_trace.proofs.Callers.{syncs_first}
-use Rattle.wl_views.specs.declared.watched.Watched.{Watched}
-use Rattle.wl_views.specs.Held.{Watches, no_tick, syncs_then}
+use Rattle.wl_views.proofs.Going.{clock_later, same_seen, setup_is}
 use Rattle.wl_views.proofs.Seeing.{all_seen}
-use Rattle.wl_views.proofs.Watching.{awaited, on, remembered}
+use Rattle.wl_views.proofs.Watching.{remembers_on}
 use Rattle.wl_views.proofs.told.syncs_at_end.Goals as goal
 
--- none before the first quantum
-none_yet : (plan : Plan) (i : ℕ) → syncs_then plan i 0 ≡ []
-unfolding seen
-none_yet plan i = syncs_first (setup_at plan i)
-
 pub loop-t-init : goal.loop-t-init
-loop-t-init c = record {
-  remembers = c.new-node.ensures.remembers;
-  awaits = c.new-node.ensures.awaits;
-  syncs = c.new-syncs.ensures.items ∙ sym (ap (syncs_then c.args.plan.now c.args.i) c.new-node.ensures.quanta ∙ none_yet c.args.plan.now c.args.i);
-}
+unfolding seen
+loop-t-init c =
+    let setup : c.index-as_slice-i.result ≡ setup_at c.args.plan.now c.args.i =
+    c.index-as_slice-i.is ∙ setup_is c.args.plan.now c.as_slice.result.now c.args.i c.index-as_slice-i.result c.as_slice.ensures c.requires.node
+    in
+    record {
+      remembers = c.new-line.ensures c.args.plan.now c.args.i;
+      node = c.new-node.ensures (setup_at c.args.plan.now c.args.i) (ap (λ (s : NodeSetup). s.segments) (sym setup));
+      syncs = c.new-syncs.ensures.items ∙ sym (syncs_first (setup_at c.args.plan.now c.args.i));
+      before = λ q below. absurd (omega arith);
+      next = omega arith;
+      inside = omega arith;
+    }
+
+-- none of those that have run begins later
+pub overflow_sub-next : goal.overflow_sub-next
+overflow_sub-next c =
+    let plan : Plan = c.args.plan.now in
+    let i : ℕ = c.args.i in
+    let k : ℕ = c.loop-t.quanta in
+    let n : ℕ = c.first_not_before-next.result in
+    let setup = c.index-as_slice-i.is ∙ setup_is plan c.as_slice.result.now i c.index-as_slice-i.result c.as_slice.ensures c.requires.node in
+    let reached : c.min-until.result ≤ tick_of (setup_at plan i).clock n = subst (λ (s : NodeSetup). c.min-until.result ≤ tick_of s.clock n) setup c.first_not_before-next.ensures.reached in
+    let line = c.found-found.ensures.holds plan i c.loop-t.t c.hear.ensures in
+    elim (cases_lt n k) [
+      | inl less ↦ absurd (let m = c.loop-t.invariant.before n less in let l = line.later in omega (arith, c.min-until.ensures, c.loop-t-test.true))
+      | inr more ↦ more
+    ]
 
 pub loop-t-preserved : goal.loop-t-preserved
 loop-t-preserved c =
     let plan : Plan = c.args.plan.now in
     let i : ℕ = c.args.i in
     let t : ℕ = c.loop-t.t in
-    let w : Watched = c.go-sync.new.self in
-    let watches : Watches plan i t w = c.go-sync.ensures.watches in
-    let p = watches.hears.cable.later in
-    let q = watches.hears.disturbance.later in
-    let r = watches.later in
-    let until = watches.until in
-    let last : Watches plan i (w.until - 1) w = on plan i t (w.until - 1) w watches (omega arith) (omega arith) in
+    let k : ℕ = c.loop-t.quanta in
+    let n : ℕ = c.first_not_before-next.result in
+    let until : ℕ = c.min-until.result in
+    let b = c.requires.node in
+    let held : Pulse = c.found-found.result in
+    let inv = c.loop-t.invariant in
+    let sounds = c.checked_is_sound.ensures in
+    let laws = c.simulation_laws.ensures in
+    let checked = c.requires.checked in
+    let read : NodeSetup = c.index-as_slice-i.result in
+    let setup = c.index-as_slice-i.is ∙ setup_is plan c.as_slice.result.now i c.index-as_slice-i.result c.as_slice.ensures b in
+    let line = c.found-found.ensures.holds plan i t c.hear.ensures in
+    let reached : until ≤ tick_of (setup_at plan i).clock n = subst (λ (s : NodeSetup). until ≤ tick_of s.clock n) setup c.first_not_before-next.ensures.reached in
+    let more : k ≤ n = elim (cases_lt n k) [
+      | inl less ↦ absurd (let m = inv.before n less in let l = line.later in omega (arith, c.min-until.ensures, c.loop-t-test.true))
+      | inr all ↦ all
+    ]
+    in
+    let split : k + (n - k) ≡ n = omega arith in
+    let ended : until ≤ held.until = omega (arith, c.min-until.ensures) in
+    let early : (q : ℕ) → q < n → tick_of (setup_at plan i).clock q < until =
+    λ q below. subst (λ (s : NodeSetup). tick_of s.clock q < until) setup (c.first_not_before-next.ensures.least q below) in
+    let during : (q : ℕ) → k ≤ q → q < k + (n - k) → (t ≤ tick_of (setup_at plan i).clock q) × (tick_of (setup_at plan i).clock q < held.until) =
+    λ q from below. (
+      (let m = clock_later sounds laws plan checked i b k q from in let first = inv.next in omega arith),
+      (let m = early q (omega arith) in omega arith),
+    )
+    in
+    let levels : List Level = seen (line_of plan) i k in
+    let saw : levels ++ replicate (n - k) c.level_of-level.result ≡ seen (line_of plan) i n =
+    ap (λ (l : Level). levels ++ replicate (n - k) l) c.level_of-level.ensures
+    ∙ sym (same_seen sounds laws plan checked i b t held line k (n - k) during)
+    ∙ ap (seen (line_of plan) i) split
+    in
+    let ran : RunsOver read k (n - k) c.level_of-level.result c.loop-t.node c.go.new.self c.loop-t.syncs.items c.go.new.syncs.items = c.in_ok-go.ensures in
+    let placed : RunsOver (setup_at plan i) k (n - k) c.level_of-level.result c.loop-t.node c.go.new.self c.loop-t.syncs.items c.go.new.syncs.items =
+    subst (λ (s : NodeSetup). RunsOver s k (n - k) c.level_of-level.result c.loop-t.node c.go.new.self c.loop-t.syncs.items c.go.new.syncs.items) setup ran
+    in
+    let long = laws.length_seen (line_of plan) i k in
+    let later = line.later in
     record {
-      remembers = remembered c.checked_is_sound.ensures c.simulation_laws.ensures plan c.requires.checked i c.requires.node w.until w last;
-      awaits = awaited c.checked_is_sound.ensures c.simulation_laws.ensures plan c.requires.checked i c.requires.node w.until w (omega arith) last (omega arith);
-      syncs =
-          c.in_ok-push_sync.ensures
-          ∙ ap (λ (es : List Noted). with_next es c.go-sync.result) c.loop-t.invariant.syncs
-          ∙ sym c.go-sync.ensures.syncs;
+      remembers = remembers_on plan i t until c.hear.new.self c.hear.ensures (omega (arith, c.min-until.ensures, c.loop-t-test.true));
+      node = subst (λ (ls : List Level). IsRerun (setup_at plan i) ls c.go.new.self) saw (placed.run levels long inv.node);
+      syncs = placed.syncs levels long inv.node inv.syncs ∙ ap (syncs_of (setup_at plan i)) saw;
+      before = early;
+      next = reached;
+      inside = omega (arith, c.min-until.ensures);
     }
 
 pub returns : goal.returns
 returns c =
     let plan : Plan = c.args.plan.now in
     let i : ℕ = c.args.i in
-    let k : ℕ = c.loop-t.node.quanta in
-    let h = c.loop-t.invariant.awaits in
-    let past : plan.end ≤ tick_of (setup_at plan i).clock k =
-    elim (cases_lt (tick_of (setup_at plan i).clock k) plan.end) [
-      | inl inside ↦
-          absurd (let e = ap (λ (b : Bool). cond b (tick_of (setup_at plan i).clock k) no_tick) (lt-ltb (tick_of (setup_at plan i).clock k) plan.end inside) in
-          let n = h.next in
-          let m = h.here in omega (arith, c.loop-t-test.false))
-      | inr outside ↦ outside
-    ]
-    in
-    c.loop-t.invariant.syncs
-    ∙ ap (syncs_of (setup_at plan i)) (all_seen c.checked_is_sound.ensures c.simulation_laws.ensures plan c.requires.checked i c.requires.node k h.runs.inside past)
+    let k : ℕ = c.loop-t.quanta in
+    let inv = c.loop-t.invariant in
+    let past : plan.end ≤ tick_of (setup_at plan i).clock k = (let n = inv.next in omega (arith, c.loop-t-test.false)) in
+    inv.syncs
+    ∙ ap (syncs_of (setup_at plan i))
+    (all_seen c.checked_is_sound.ensures c.simulation_laws.ensures plan c.requires.checked i c.requires.node k
+    (λ q below. let m = inv.before q below in let e = inv.inside in omega arith) past)

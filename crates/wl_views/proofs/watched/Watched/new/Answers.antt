@@ -22,3 +22,6 @@ returns-clause-awaits c =
       before = λ q below. absurd (omega arith);
       here = omega arith;
     }
+
+pub returns-clause-remembers : goal.returns-clause-remembers
+returns-clause-remembers c = c.new.ensures c.args.plan.now c.args.i

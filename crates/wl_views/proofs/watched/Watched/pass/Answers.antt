@@ -10,7 +10,6 @@ use Rattle.wl_plan.specs.declared.plan.Plan.{Plan}
 use Rattle.wl_plan.specs.PlanLine.{line_of, setup_at}
 use Rattle.wl_plan.specs.Simulation.{AreInside, seen}
 use Rattle.wl_trace.specs.Rerun.{IsRerun}
-use Rattle.wl_trace.specs.Synced.{syncs_of}
 use Rattle.wl_trace.specs.Shown.{shown_of}
 use Rattle.wl_serial.specs.declared.pulse.Pulse.{Pulse}
 use Rattle.wl_views.specs.Held.{next_of}
@@ -38,8 +37,8 @@ next_tick-self-requires c =
     ] in
     few_inside c.checked_is_sound.ensures c.simulation_laws.ensures plan c.requires.checked i b (k + n) inside
 
-pub returns-clause-watches : goal.returns-clause-watches
-returns-clause-watches c =
+pub returns : goal.returns
+returns c =
     let plan : Plan = c.args.plan.now in
     let i : ℕ = c.args.i in
     let k : ℕ = c.args.self.now.quanta in
@@ -47,9 +46,9 @@ returns-clause-watches c =
     let n : ℕ = c.pass.result in
     let b = c.requires.node in
     let h = c.requires.seen in
-    let held : Pulse = c.line-line.result in
-    let line = c.line-line.ensures.holds plan i t c.requires.hears in
-    let whole = c.line-line.ensures.until in
+    let held : Pulse = c.found-line.result in
+    let line = c.found-line.ensures.holds plan i t c.requires.hears in
+    let whole = c.found-line.ensures.until in
     let sounds = c.checked_is_sound.ensures in
     let laws = c.simulation_laws.ensures in
     let checked = c.requires.checked in
@@ -89,34 +88,3 @@ returns-clause-watches c =
       same = λ u from below.
           shown_stays sounds laws plan checked i b t held line k n h.runs.inside h.before h.later during plain u from (omega (arith, c.min-self.ensures)) ∙ sym shown;
     }
-
-pub returns-clause-syncs : goal.returns-clause-syncs
-returns-clause-syncs c =
-    let plan : Plan = c.args.plan.now in
-    let i : ℕ = c.args.i in
-    let k : ℕ = c.args.self.now.quanta in
-    let t : ℕ = c.args.t in
-    let n : ℕ = c.pass.result in
-    let b = c.requires.node in
-    let h = c.requires.seen in
-    let held : Pulse = c.line-line.result in
-    let line = c.line-line.ensures.holds plan i t c.requires.hears in
-    let whole = c.line-line.ensures.until in
-    let sounds = c.checked_is_sound.ensures in
-    let laws = c.simulation_laws.ensures in
-    let checked = c.requires.checked in
-    let setup = setup_is plan c.as_slice.result.now i c.index-as_slice-i.result c.as_slice.ensures b in
-    let few : n ≤ c.saturating_sub-most.result = omega (arith, c.pass.ensures.quanta (setup_at plan i) (seen (line_of plan) i k) h.runs.node) in
-    let during : (q : ℕ) → k ≤ q → q < k + n → (tick_of (setup_at plan i).clock q < held.until) × (tick_of (setup_at plan i).clock q < plan.end) =
-    λ q from below.
-    (let less : q < c.first_not_before.result = omega (arith, c.saturating_sub-most.ensures, few) in
-    let early : tick_of (setup_at plan i).clock q < c.min-until.result = subst (λ (s : NodeSetup). tick_of s.clock q < c.min-until.result) setup (c.first_not_before.ensures.least q less) in
-    (omega (arith, c.min-until.ensures), omega (arith, c.min-until.ensures)))
-    in
-    let plain : (m : ℕ) → m ≤ n → shown_of (setup_at plan i) (seen (line_of plan) i k ++ replicate m (level_of held.dominant)) ≡ shown_of (setup_at plan i) (seen (line_of plan) i k) =
-    λ m less. ap (λ (l : Level). shown_of (setup_at plan i) (seen (line_of plan) i k ++ replicate m l)) (sym c.level_of.ensures) ∙ c.pass.ensures.same (setup_at plan i) (seen (line_of plan) i k) h.runs.node m less
-    in
-    let timely = in_time sounds laws plan checked i b t held line k n h.runs.inside h.before h.later during plain in
-    ap (syncs_of (setup_at plan i))
-    (same_seen sounds laws plan checked i b t held line k n timely ∙ ap (λ (l : Level). seen (line_of plan) i k ++ replicate n l) (sym c.level_of.ensures))
-    ∙ c.pass.ensures.syncs (setup_at plan i) (seen (line_of plan) i k) h.runs.node

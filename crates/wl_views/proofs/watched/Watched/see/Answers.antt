@@ -5,20 +5,17 @@ use Rattle.wl_level.specs.declared.Level.{Level}
 use Rattle.wl_level.specs.Levels.{level_of}
 use Rattle.wl_clock.specs.Timing.{tick_of}
 use Rattle.wl_node.specs.declared.setup.NodeSetup.{NodeSetup}
-use Rattle.wl_node.specs.History.{history_of}
 use Rattle.wl_plan.specs.declared.plan.Plan.{Plan}
 use Rattle.wl_plan.specs.Line.{found}
 use Rattle.wl_plan.specs.PlanLine.{line_of, setup_at}
 use Rattle.wl_plan.specs.Simulation.{level, seen}
 use Rattle.wl_trace.specs.Rerun.{IsRerun}
-use Rattle.wl_trace.specs.Synced.{sync_next, syncs_of, with_next}
-use Rattle.wl_trace.proofs.Callers.{syncs_more}
 use Rattle.wl_views.proofs.Going.{next_after, next_now, setup_is}
 use Rattle.wl_views.proofs.Seeing.{few_more, inside_more, seen_more}
 use Rattle.wl_views.proofs.watched.Watched.see.Goals as goal
 
-pub quantum-sync-requires : goal.quantum-sync-requires
-quantum-sync-requires c =
+pub quantum-requires : goal.quantum-requires
+quantum-requires c =
     let plan : Plan = c.args.plan.now in
     let i : ℕ = c.args.i in
     let k : ℕ = c.args.self.now.quanta in
@@ -47,8 +44,8 @@ returns-clause-seen c =
     let now = next_now c.checked_is_sound.ensures c.simulation_laws.ensures plan c.requires.checked i b k t c.requires.early (sym old.next ∙ c.if-self-t.false) in
     let begins : tick_of (setup_at plan i).clock k ≡ t = now.0 in
     let early : tick_of (setup_at plan i).clock k < plan.end = omega (arith, now.0, now.1) in
-    let line = c.line.ensures.holds plan i t c.requires.hears in
-    let is : found (line_of plan) (level (line_of plan)) i (tick_of (setup_at plan i).clock k) ≡ c.line.result.dominant =
+    let line = c.found.ensures.holds plan i t c.requires.hears in
+    let is : found (line_of plan) (level (line_of plan)) i (tick_of (setup_at plan i).clock k) ≡ c.found.result.dominant =
     ap (found (line_of plan) (level (line_of plan)) i) begins ∙ line.same t (omega arith) line.later
     in
     let levels : List Level = seen (line_of plan) i k in
@@ -56,10 +53,10 @@ returns-clause-seen c =
     ap (λ (l : Level). seen (line_of plan) i k ++ l ∷ []) (c.level_of-level.ensures ∙ ap level_of (sym is))
     ∙ sym (seen_more c.checked_is_sound.ensures c.simulation_laws.ensures plan c.requires.checked i b k)
     in
-    let node : IsRerun (setup_at plan i) (seen (line_of plan) i (k + 1)) c.quantum-sync.new.self =
-    subst (λ (ls : List Level). IsRerun (setup_at plan i) ls c.quantum-sync.new.self) sees
-    (subst (λ (s : NodeSetup). IsRerun s (levels ++ c.level_of-level.result ∷ []) c.quantum-sync.new.self) setup
-    (c.quantum-sync.ensures.run levels (c.simulation_laws.ensures.length_seen (line_of plan) i k)
+    let node : IsRerun (setup_at plan i) (seen (line_of plan) i (k + 1)) c.quantum.new.self =
+    subst (λ (ls : List Level). IsRerun (setup_at plan i) ls c.quantum.new.self) sees
+    (subst (λ (s : NodeSetup). IsRerun s (levels ++ c.level_of-level.result ∷ []) c.quantum.new.self) setup
+    (c.quantum.ensures.run levels (c.simulation_laws.ensures.length_seen (line_of plan) i k)
     (subst (λ (s : NodeSetup). IsRerun s levels c.args.self.now.node) (sym setup) old.runs.node)))
     in
     record {
@@ -74,28 +71,3 @@ returns-clause-seen c =
       ];
       later = next_after c.checked_is_sound.ensures c.simulation_laws.ensures plan c.requires.checked i b k t c.requires.early begins;
     }
-
-pub returns-clause-syncs : goal.returns-clause-syncs
-returns-clause-syncs c =
-    let plan : Plan = c.args.plan.now in
-    let i : ℕ = c.args.i in
-    let k : ℕ = c.args.self.now.quanta in
-    let t : ℕ = c.args.t in
-    let b = c.requires.node in
-    let old = c.requires.awaits in
-    let now = next_now c.checked_is_sound.ensures c.simulation_laws.ensures plan c.requires.checked i b k t c.requires.early (sym old.next ∙ c.if-self-t.false) in
-    let begins : tick_of (setup_at plan i).clock k ≡ t = now.0 in
-    let line = c.line.ensures.holds plan i t c.requires.hears in
-    let is : found (line_of plan) (level (line_of plan)) i (tick_of (setup_at plan i).clock k) ≡ c.line.result.dominant =
-    ap (found (line_of plan) (level (line_of plan)) i) begins ∙ line.same t (omega arith) line.later
-    in
-    let l : Level = c.level_of-level.result in
-    let levels : List Level = seen (line_of plan) i k in
-    let setup = c.index-as_slice-i.is ∙ setup_is plan c.as_slice.result.now i c.index-as_slice-i.result c.as_slice.ensures b in
-    ap (syncs_of (setup_at plan i)) (seen_more c.checked_is_sound.ensures c.simulation_laws.ensures plan c.requires.checked i b k
-    ∙ ap (λ (x : Level). levels ++ x ∷ []) (ap level_of is ∙ sym c.level_of-level.ensures))
-    ∙ syncs_more (setup_at plan i) levels l
-    ∙ ap (with_next (syncs_of (setup_at plan i) levels))
-    (sym (c.quantum-sync.ensures.sync levels (c.simulation_laws.ensures.length_seen (line_of plan) i k)
-    (subst (λ (s : NodeSetup). IsRerun s levels c.args.self.now.node) (sym setup) old.runs.node)
-    ∙ ap (λ (s : NodeSetup). sync_next s (history_of s levels) l) setup))
