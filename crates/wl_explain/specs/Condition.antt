@@ -102,12 +102,12 @@ condition_doubts plan names (Some f) = family_doubts f plan names
 -- of clocks and ways: by the condition if every node synchronises by the book, else each by itself
 abbrev pub clock_doubts : Plan → List (List ℕ) → Option ℕ → Option Buses → List ℕ
 clock_doubts plan names None family = condition_doubts plan names family
-clock_doubts plan names (Some i) family = each_below (doubts_with plan names) (length plan.topology.places)
+clock_doubts plan names (Some i) family = each_below (doubts_with plan names) (length plan.nodes)
 
 -- of each node, and of the end for each node
 abbrev pub rest_doubts : Plan → List (List ℕ) → List ℕ
 rest_doubts plan names =
-    each_below (node_doubts plan names) (length plan.topology.places) ++ each_below (room_doubts plan names) (length plan.topology.places)
+    each_below (node_doubts plan names) (length plan.nodes) ++ each_below (room_doubts plan names) (length plan.nodes)
 
 abbrev pub doubts_text : Plan → List (List ℕ) → Option ℕ → Option Buses → List ℕ
 doubts_text plan names other family =
@@ -119,12 +119,12 @@ abbrev pub timing_line : Plan → List (List ℕ) → ℕ → List ℕ
 timing_line plan names i = timing_figures plan names i ++ codes "\n"
 
 abbrev pub timing_lines : Plan → List (List ℕ) → List ℕ
-timing_lines plan names = each_below (timing_line plan names) (length plan.topology.places)
+timing_lines plan names = each_below (timing_line plan names) (length plan.nodes)
 
 abbrev pub TellsFigures : Plan → List (List ℕ) → Option ℕ → Option Buses → List ℕ → List ℕ → Type 0
 TellsFigures plan names None (Some f) old new = TellsReach f (old ++ timing_lines plan names) new
 TellsFigures plan names None None old new = new ≡ old ++ timing_lines plan names
-TellsFigures plan names (Some i) family old new = new ≡ old ++ each_below (figures_line plan names) (length plan.topology.places)
+TellsFigures plan names (Some i) family old new = new ≡ old ++ each_below (figures_line plan names) (length plan.nodes)
 
 -- the first node that doesn't synchronise by the book, and the family of a bus
 abbrev pub other_of : Plan → Option ℕ

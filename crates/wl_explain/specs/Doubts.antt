@@ -34,7 +34,7 @@ margin_below plan i (suc j) =
     min (margin_below plan i j) (borne (setup_at plan i) (setup_at plan j) - difference plan.end (setup_at plan i) (setup_at plan j))
 
 abbrev pub left : Plan → ℕ → ℕ
-left plan i = margin_below plan i (length plan.topology.places)
+left plan i = margin_below plan i (length plan.nodes)
 
 -- from node i to node j and back, in ticks
 abbrev pub round_trip : Plan → ℕ → ℕ → ℕ
@@ -62,7 +62,7 @@ idle_below plan zero = 0
 idle_below plan (suc j) = max (idle_below plan j) (idle_at (setup_at plan j))
 
 abbrev pub idle_from : Plan → ℕ
-idle_from plan = idle_below plan (length plan.topology.places)
+idle_from plan = idle_below plan (length plan.nodes)
 
 -- quantum k of a node begins before a tick
 abbrev pub begins_before : NodeSetup → ℕ → ℕ → Bool

@@ -1,13 +1,12 @@
 //! What is doubtful of clocks, ways and cables together: the condition for a sound bus, for each pair of nodes.
 ghost use Rattle.std.specs.Prelude.{◌≡◌, ◌^◌, ◌<◌, ◌++◌, string_bytes, length, None, OnOk};
-ghost use Rattle.wl_plan.specs.Checked.{IsChecked};
 ghost use Rattle.wl_plan.specs.PlanLine.{setup_at};
 ghost use Rattle.wl_setup.specs.Names.{name_of};
 ghost use Rattle.wl_margin.specs.Pieces.{each_below};
 ghost use Rattle.wl_explain.specs.Words.{bit_rate, unlike_words};
 ghost use Rattle.wl_explain.specs.Condition.{told_failure, are_unlike, fail_line, fail_lines, family_doubts, lines_of, pair_lines, stray_line, stray_of, stray_words, strays, unlike_line};
 
-use crate::doubts::{difference, setup};
+use crate::doubts::difference;
 use crate::words::{GREATEST_DIFFERENCE, bit_rate, push_unlike};
 use crate::{MILLION, quanta_begun};
 use std::alloc::AllocError;
@@ -15,7 +14,7 @@ use wl_bound::{Failure, Family, Inequality, Oscillator, Senders};
 use wl_clock::Clock;
 use wl_margin::push_failure_line;
 use wl_node::NodeSetup;
-use wl_plan::Plan;
+use wl_plan::CheckedPlan;
 use wl_setup::Names;
 
 /// The picoseconds of a tick, which is taken for a nanosecond.
@@ -97,12 +96,11 @@ fn are_unlike(end: u64, one: &NodeSetup, other: &NodeSetup) -> bool
 /// Adds the line of nodes `i` and `j` with unlike bit rates, once for both.
 fn push_unlike_line(
     text: &mut String,
-    plan: &Plan,
+    plan: &CheckedPlan,
     names: &Names,
     i: u8,
     j: u8,
 ) -> Result<(), AllocError>
-    requires checked { IsChecked plan.now }
     requires one { i < length plan.now.nodes }
     requires other { j < length plan.now.nodes }
     ensures { OnOk result (string_bytes text.new ≡ string_bytes text.old ++ unlike_line plan.now names.now i j) }
@@ -117,19 +115,18 @@ fn push_unlike_line(
 /// Adds the line of nodes `i` and `j` with unlike bit rates.
 fn push_unlike_pair(
     text: &mut String,
-    plan: &Plan,
+    plan: &CheckedPlan,
     names: &Names,
     i: u8,
     j: u8,
 ) -> Result<(), AllocError>
-    requires checked { IsChecked plan.now }
     requires one { i < length plan.now.nodes }
     requires other { j < length plan.now.nodes }
     ensures { OnOk result (string_bytes text.new ≡ string_bytes text.old
         ++ unlike_words (name_of names.now i) (name_of names.now j)
         (bit_rate plan.now.end (setup_at plan.now i)) (bit_rate plan.now.end (setup_at plan.now j))) }
 {
-    let (one, other) = (setup(plan, i), setup(plan, j));
+    let (one, other) = (plan.node(i), plan.node(j));
     let (a, b) = (names.name_of(i as usize), names.name_of(j as usize));
     let first = bit_rate(plan.end, one);
     let second = bit_rate(plan.end, other);
@@ -140,19 +137,18 @@ fn push_unlike_pair(
 fn push_pair_lines(
     text: &mut String,
     family: &Family,
-    plan: &Plan,
+    plan: &CheckedPlan,
     names: &Names,
     i: u8,
     j: u8,
 ) -> Result<(), AllocError>
-    requires checked { IsChecked plan.now }
     requires nodes { length family.now.members ≡ length plan.now.nodes }
     requires one { i < length plan.now.nodes }
     requires other { j < length plan.now.nodes }
     ensures { OnOk result (string_bytes text.new ≡ string_bytes text.old
         ++ pair_lines family.now plan.now names.now i j) }
 {
-    if are_unlike(plan.end, setup(plan, i), setup(plan, j)) {
+    if are_unlike(plan.end, plan.node(i), plan.node(j)) {
         push_unlike_line(text, plan, names, i, j)
     } else {
         push_fails(text, family, names, i, j)
@@ -163,11 +159,10 @@ fn push_pair_lines(
 fn push_lines_of(
     text: &mut String,
     family: &Family,
-    plan: &Plan,
+    plan: &CheckedPlan,
     names: &Names,
     i: u8,
 ) -> Result<(), AllocError>
-    requires checked { IsChecked plan.now }
     requires nodes { length family.now.members ≡ length plan.now.nodes }
     requires node { i < length plan.now.nodes }
     ensures { OnOk result (string_bytes text.new ≡ string_bytes text.old ++ lines_of family.now plan.now names.now i) }
@@ -182,10 +177,9 @@ fn push_lines_of(
 fn push_lines(
     text: &mut String,
     family: &Family,
-    plan: &Plan,
+    plan: &CheckedPlan,
     names: &Names,
 ) -> Result<(), AllocError>
-    requires checked { IsChecked plan.now }
     requires nodes { length family.now.members ≡ length plan.now.nodes }
     ensures { OnOk result (string_bytes text.new ≡ string_bytes text.old
         ++ each_below (lines_of family.now plan.now names.now) (length family.now.members)) }
@@ -242,10 +236,9 @@ fn push_stray(
 fn push_strays(
     text: &mut String,
     family: &Family,
-    plan: &Plan,
+    plan: &CheckedPlan,
     names: &Names,
 ) -> Result<(), AllocError>
-    requires checked { IsChecked plan.now }
     requires nodes { length family.now.members ≡ length plan.now.nodes }
     ensures { OnOk result (string_bytes text.new ≡ string_bytes text.old
         ++ each_below (stray_of family.now plan.now names.now) (length family.now.members)) }
@@ -253,7 +246,7 @@ fn push_strays(
     for i in 0..family.nodes() {
         let a = names.name_of(i as usize);
         let member = family.member(i);
-        push_stray(text, plan.end, a, &setup(plan, i).clock, &member.oscillator)?;
+        push_stray(text, plan.end, a, &plan.node(i).clock, &member.oscillator)?;
     }
     Ok(())
 }
@@ -262,10 +255,9 @@ fn push_strays(
 pub(crate) fn push_family(
     text: &mut String,
     family: &Family,
-    plan: &Plan,
+    plan: &CheckedPlan,
     names: &Names,
 ) -> Result<(), AllocError>
-    requires checked { IsChecked plan.now }
     requires nodes { length family.now.members ≡ length plan.now.nodes }
     ensures { OnOk result (string_bytes text.new ≡ string_bytes text.old
         ++ family_doubts family.now plan.now names.now) }

@@ -1,25 +1,14 @@
 //! What is doubtful of a plan that can be run, as numbers.
 ghost use Rattle.std.specs.Prelude.{◌≡◌, ◌+◌, ◌*◌, ◌^◌, ◌<◌, ◌≤◌, nat_lt, length};
 ghost use Rattle.wl_clock.specs.Timing.{tick_of};
-ghost use Rattle.wl_plan.specs.Checked.{IsChecked};
 ghost use Rattle.wl_plan.specs.PlanLine.{setup_at};
 ghost use Rattle.wl_explain.specs.Doubts.{begins_before, bit_length, borne, difference, first_early, first_late, frame_bits, has_no_room, idle_at, idle_from, least_quanta, left, longest_round, queue_bits, round_trip, wanted_bits};
 
 use crate::{Quantum, tolerance};
 use wl_frame::frame::Frame;
 use wl_node::NodeSetup;
-use wl_plan::Plan;
+use wl_plan::CheckedPlan;
 use wl_segments::Segments;
-
-/// Returns node `i` of a plan.
-pub(crate) fn setup(plan: &Plan, i: u8) -> &NodeSetup
-    requires { i < length plan.now.nodes }
-    ensures { result.now ≡ setup_at plan.now i }
-{
-    let nodes = plan.nodes.as_slice();
-    let place = i as usize;
-    &nodes[place]
-}
 
 /// Returns the mean length of a node's bit up to tick `end`, in millionths of a tick.
 fn bit_length(end: u64, node: &NodeSetup) -> u128
@@ -51,24 +40,23 @@ pub fn borne(one: &NodeSetup, other: &NodeSetup) -> u128
 }
 
 /// Returns the least, over all other nodes, of what the clocks of node `i` and that node may still differ by, in parts per million.
-pub fn left(plan: &Plan, i: u8) -> u128
-    requires checked { IsChecked plan.now }
+pub fn left(plan: &CheckedPlan, i: u8) -> u128
     requires node { i < length plan.now.nodes }
     ensures { result ≡ left plan.now i }
 {
-    let node = setup(plan, i);
+    let node = plan.node(i);
     let mut left = 2 * tolerance(&node.segments) as u128;
-    for j in 0..plan.topology.nodes() {
-        let other = setup(plan, j);
+    for j in 0..plan.nodes() {
+        let other = plan.node(j);
         left = left.min(borne(node, other).saturating_sub(difference(plan.end, node, other)));
     }
     left
 }
 
 /// Returns how many ticks a level takes from node `i` to node `j` and back.
-pub fn round_trip(plan: &Plan, i: u8, j: u8) -> u64
-    requires from { i < length plan.now.topology.places }
-    requires to { j < length plan.now.topology.places }
+pub fn round_trip(plan: &CheckedPlan, i: u8, j: u8) -> u64
+    requires from { i < length plan.now.nodes }
+    requires to { j < length plan.now.nodes }
     ensures { result ≡ round_trip plan.now i j }
 {
     plan.topology.propagation(i, j) + plan.topology.propagation(j, i)
@@ -135,14 +123,13 @@ fn idle_at(node: &NodeSetup) -> u64
 }
 
 /// Returns the tick from which on all nodes can be idle.
-pub fn idle_from(plan: &Plan) -> u64
-    requires { IsChecked plan.now }
+pub fn idle_from(plan: &CheckedPlan) -> u64
     ensures value { result ≡ idle_from plan.now }
     ensures soon { result < 2 ^ 40 }
 {
     let mut latest = 0;
-    for j in 0..plan.topology.nodes() {
-        latest = latest.max(idle_at(setup(plan, j)));
+    for j in 0..plan.nodes() {
+        latest = latest.max(idle_at(plan.node(j)));
     }
     latest
 }

@@ -1,6 +1,5 @@
 //! The text of an explanation.
 ghost use Rattle.std.specs.Prelude.{◌≡◌, ◌<◌, ◌++◌, string_bytes, length, IfOk, IfSome, OnOk};
-ghost use Rattle.wl_plan.specs.Checked.{IsChecked};
 ghost use Rattle.wl_explain.specs.Condition.{IsExplanation, TellsFigures, clock_doubts, doubt_lead, doubts_text, family_in, outside_line, rest_doubts, timing_line, timing_lines};
 
 use crate::condition::push_family;
@@ -8,7 +7,7 @@ use crate::words::{push_all_figures, push_nodes, push_pairs, push_room, push_tim
 use std::alloc::{AllocError, Global};
 use wl_bound::{Family, Outside, cause_outside, first_without_book};
 use wl_margin::{oscillators, push_reach, push_reason};
-use wl_plan::Plan;
+use wl_plan::CheckedPlan;
 use wl_setup::{Bus, Names};
 
 /// Returns whether a plan outside of the condition is doubtful, or no bound is known for it.
@@ -42,12 +41,11 @@ fn push_outside(text: &mut String, names: &Names, cause: Option<Outside>) -> Res
 /// Adds what is doubtful of clocks and ways.
 fn push_clock_doubts(
     text: &mut String,
-    plan: &Plan,
+    plan: &CheckedPlan,
     names: &Names,
     other: Option<u8>,
     family: &Option<Family>,
 ) -> Result<(), AllocError>
-    requires checked { IsChecked plan.now }
     requires nodes { IfSome family.now (λ f. length f.members ≡ length plan.now.nodes) }
     ensures { OnOk result (string_bytes text.new ≡ string_bytes text.old
         ++ clock_doubts plan.now names.now other family.now) }
@@ -62,8 +60,7 @@ fn push_clock_doubts(
 }
 
 /// Adds what is doubtful of each node, and of the end for each.
-fn push_rest(text: &mut String, plan: &Plan, names: &Names) -> Result<(), AllocError>
-    requires { IsChecked plan.now }
+fn push_rest(text: &mut String, plan: &CheckedPlan, names: &Names) -> Result<(), AllocError>
     ensures { OnOk result (string_bytes text.new ≡ string_bytes text.old ++ rest_doubts plan.now names.now) }
 {
     push_nodes(text, plan, names)?;
@@ -73,12 +70,11 @@ fn push_rest(text: &mut String, plan: &Plan, names: &Names) -> Result<(), AllocE
 /// Adds all doubts.
 fn push_doubts(
     text: &mut String,
-    plan: &Plan,
+    plan: &CheckedPlan,
     names: &Names,
     other: Option<u8>,
     family: &Option<Family>,
 ) -> Result<(), AllocError>
-    requires checked { IsChecked plan.now }
     requires nodes { IfSome family.now (λ f. length f.members ≡ length plan.now.nodes) }
     ensures { OnOk result (string_bytes text.new ≡ string_bytes text.old
         ++ doubts_text plan.now names.now other family.now) }
@@ -89,8 +85,12 @@ fn push_doubts(
 }
 
 /// Adds bit rate, sample point and quantum of node `i`, a line.
-fn push_timing_line(text: &mut String, plan: &Plan, names: &Names, i: u8) -> Result<(), AllocError>
-    requires checked { IsChecked plan.now }
+fn push_timing_line(
+    text: &mut String,
+    plan: &CheckedPlan,
+    names: &Names,
+    i: u8,
+) -> Result<(), AllocError>
     requires node { i < length plan.now.nodes }
     ensures { OnOk result (string_bytes text.new ≡ string_bytes text.old ++ timing_line plan.now names.now i) }
 {
@@ -99,11 +99,10 @@ fn push_timing_line(text: &mut String, plan: &Plan, names: &Names, i: u8) -> Res
 }
 
 /// Adds those of all nodes.
-fn push_timing_lines(text: &mut String, plan: &Plan, names: &Names) -> Result<(), AllocError>
-    requires { IsChecked plan.now }
+fn push_timing_lines(text: &mut String, plan: &CheckedPlan, names: &Names) -> Result<(), AllocError>
     ensures { OnOk result (string_bytes text.new ≡ string_bytes text.old ++ timing_lines plan.now names.now) }
 {
-    for i in 0..plan.topology.nodes() {
+    for i in 0..plan.nodes() {
         push_timing_line(text, plan, names, i)?;
     }
     Ok(())
@@ -112,12 +111,11 @@ fn push_timing_lines(text: &mut String, plan: &Plan, names: &Names) -> Result<()
 /// Adds the figures.
 fn push_figures_of(
     text: &mut String,
-    plan: &Plan,
+    plan: &CheckedPlan,
     names: &Names,
     other: Option<u8>,
     family: &Option<Family>,
 ) -> Result<(), AllocError>
-    requires { IsChecked plan.now }
     ensures { OnOk result (TellsFigures plan.now names.now other family.now
         (string_bytes text.old) (string_bytes text.new)) }
 {
@@ -133,11 +131,11 @@ fn push_figures_of(
 
 /// Returns the family of a bus, if the rates from which its clocks deviate make clocks.
 fn family_in(alloc: Global, bus: &Bus) -> Result<Option<Family>, AllocError>
-    requires checked { IsChecked bus.now.plan }
     requires deviations { length bus.now.deviations ≡ length bus.now.plan.nodes }
     ensures family { IfOk result (λ family. family ≡ family_in bus.now) }
     ensures nodes { IfOk result (λ family. IfSome family (λ f. length f.members ≡ length bus.now.plan.nodes)) }
 {
+    bus.plan.laws();
     match oscillators(alloc, bus.deviations.as_slice())? {
         Some(all) => Ok(Some(Family::of_plan(alloc, &bus.plan, all.as_slice())?)),
         None => Ok(None),
@@ -161,7 +159,6 @@ fn family_in(alloc: Global, bus: &Bus) -> Result<Option<Family>, AllocError>
 /// it the other clocks leave to both nodes of a pair. It also has the longest cable, in nanoseconds along it and in metres at 5 ns each. A
 /// quantum is the mean of those that the node runs before the end. A tick is taken for a nanosecond. Refused out of memory alone.
 pub fn explain_plan(alloc: Global, bus: &Bus) -> Result<String, AllocError>
-    requires checked { IsChecked bus.now.plan }
     requires deviations { length bus.now.deviations ≡ length bus.now.plan.nodes }
     ensures { IfOk result (λ text. IsExplanation bus.now (string_bytes text)) }
 {

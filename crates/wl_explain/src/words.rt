@@ -1,20 +1,19 @@
 //! The words of an explanation.
 ghost use Rattle.std.specs.Prelude.{◌≡◌, ◌≢◌, ◌^◌, ◌<◌, ◌++◌, string_bytes, length, OnOk, IfOk};
-ghost use Rattle.wl_plan.specs.Checked.{IsChecked};
 ghost use Rattle.wl_setup.specs.Names.{name_of};
 ghost use Rattle.wl_explain.specs.Words.{apart_words, bit_rate, cable_figure, cable_words, clocks_line, doubts_with, early_line, figures_line, jump_line, jump_words, late_line, margin_figures, margin_words, node_doubts, pair_doubts, room_doubts, room_line, room_words, timing_figures, timing_words, trip_line, trip_words, unlike_words, way_line};
 ghost use Rattle.wl_margin.specs.Pieces.{each_below};
 
 use crate::doubts::{
     borne, difference, first_early, first_late, has_no_room, idle_from, left, longest_round,
-    round_trip, setup, wanted_bits,
+    round_trip, wanted_bits,
 };
 use crate::{Quantum, longest_cable, metres, sample_point, tolerance};
 use std::alloc::AllocError;
 use wl_bound::only_listens;
 use wl_margin::{Hundredths, Thousandths};
 use wl_node::NodeSetup;
-use wl_plan::Plan;
+use wl_plan::CheckedPlan;
 use wl_segments::Segments;
 use wl_setup::Names;
 
@@ -115,8 +114,13 @@ fn push_trip(text: &mut String, a: &str, b: &str, trip: u64, most: u64) -> Resul
 }
 
 /// Adds what is doubtful of the way from node `i` to node `j` and back: nothing if one of them only listens, since nothing comes back from it.
-fn push_way(text: &mut String, plan: &Plan, names: &Names, i: u8, j: u8) -> Result<(), AllocError>
-    requires checked { IsChecked plan.now }
+fn push_way(
+    text: &mut String,
+    plan: &CheckedPlan,
+    names: &Names,
+    i: u8,
+    j: u8,
+) -> Result<(), AllocError>
     requires first { i < length plan.now.nodes }
     requires second { j < length plan.now.nodes }
     requires apart { i ≢ j }
@@ -125,7 +129,7 @@ fn push_way(text: &mut String, plan: &Plan, names: &Names, i: u8, j: u8) -> Resu
     if only_listens(&plan.topology, i, j) || only_listens(&plan.topology, j, i) {
         return Ok(());
     }
-    let (one, other) = (setup(plan, i), setup(plan, j));
+    let (one, other) = (plan.node(i), plan.node(j));
     push_trip(
         text,
         names.name_of(i as usize),
@@ -136,22 +140,31 @@ fn push_way(text: &mut String, plan: &Plan, names: &Names, i: u8, j: u8) -> Resu
 }
 
 /// Adds what is doubtful of nodes `i` and `j`.
-fn push_pair(text: &mut String, plan: &Plan, names: &Names, i: u8, j: u8) -> Result<(), AllocError>
-    requires checked { IsChecked plan.now }
+fn push_pair(
+    text: &mut String,
+    plan: &CheckedPlan,
+    names: &Names,
+    i: u8,
+    j: u8,
+) -> Result<(), AllocError>
     requires first { i < length plan.now.nodes }
     requires second { j < length plan.now.nodes }
     requires apart { i ≢ j }
     ensures { OnOk result (string_bytes text.new ≡ string_bytes text.old ++ pair_doubts plan.now names.now i j) }
 {
-    let (one, other) = (setup(plan, i), setup(plan, j));
+    let (one, other) = (plan.node(i), plan.node(j));
     let (a, b) = (names.name_of(i as usize), names.name_of(j as usize));
     push_clocks(text, plan.end, a, b, one, other)?;
     push_way(text, plan, names, i, j)
 }
 
 /// Adds what is doubtful of node `j` with each node before it.
-fn push_pairs_of(text: &mut String, plan: &Plan, names: &Names, j: u8) -> Result<(), AllocError>
-    requires checked { IsChecked plan.now }
+fn push_pairs_of(
+    text: &mut String,
+    plan: &CheckedPlan,
+    names: &Names,
+    j: u8,
+) -> Result<(), AllocError>
     requires second { j < length plan.now.nodes }
     ensures { OnOk result (string_bytes text.new ≡ string_bytes text.old ++ doubts_with plan.now names.now j) }
 {
@@ -162,12 +175,15 @@ fn push_pairs_of(text: &mut String, plan: &Plan, names: &Names, j: u8) -> Result
 }
 
 /// Adds what is doubtful of all pairs of nodes.
-pub(crate) fn push_pairs(text: &mut String, plan: &Plan, names: &Names) -> Result<(), AllocError>
-    requires { IsChecked plan.now }
+pub(crate) fn push_pairs(
+    text: &mut String,
+    plan: &CheckedPlan,
+    names: &Names,
+) -> Result<(), AllocError>
     ensures { OnOk result (string_bytes text.new ≡ string_bytes text.old
-        ++ each_below (doubts_with plan.now names.now) (length plan.now.topology.places)) }
+        ++ each_below (doubts_with plan.now names.now) (length plan.now.nodes)) }
 {
-    for j in 0..plan.topology.nodes() {
+    for j in 0..plan.nodes() {
         push_pairs_of(text, plan, names, j)?;
     }
     Ok(())
@@ -223,12 +239,11 @@ fn push_early(text: &mut String, a: &str, idle: u64, frame: Option<usize>) -> Re
 }
 
 /// Adds what is doubtful of node `i`.
-fn push_node(text: &mut String, plan: &Plan, names: &Names, i: u8) -> Result<(), AllocError>
-    requires checked { IsChecked plan.now }
+fn push_node(text: &mut String, plan: &CheckedPlan, names: &Names, i: u8) -> Result<(), AllocError>
     requires node { i < length plan.now.nodes }
     ensures { OnOk result (string_bytes text.new ≡ string_bytes text.old ++ node_doubts plan.now names.now i) }
 {
-    let (node, name) = (setup(plan, i), names.name_of(i as usize));
+    let (node, name) = (plan.node(i), names.name_of(i as usize));
     let idle = idle_from(plan);
     push_jump(text, name, &node.segments)?;
     push_late(text, name, first_late(plan.end, node))?;
@@ -236,12 +251,15 @@ fn push_node(text: &mut String, plan: &Plan, names: &Names, i: u8) -> Result<(),
 }
 
 /// Adds what is doubtful of each node.
-pub(crate) fn push_nodes(text: &mut String, plan: &Plan, names: &Names) -> Result<(), AllocError>
-    requires { IsChecked plan.now }
+pub(crate) fn push_nodes(
+    text: &mut String,
+    plan: &CheckedPlan,
+    names: &Names,
+) -> Result<(), AllocError>
     ensures { OnOk result (string_bytes text.new ≡ string_bytes text.old
-        ++ each_below (node_doubts plan.now names.now) (length plan.now.topology.places)) }
+        ++ each_below (node_doubts plan.now names.now) (length plan.now.nodes)) }
 {
-    for i in 0..plan.topology.nodes() {
+    for i in 0..plan.nodes() {
         push_node(text, plan, names, i)?;
     }
     Ok(())
@@ -270,13 +288,16 @@ fn push_room_of(text: &mut String, end: u64, a: &str, node: &NodeSetup) -> Resul
 }
 
 /// Adds what is doubtful of the end for each node.
-pub(crate) fn push_room(text: &mut String, plan: &Plan, names: &Names) -> Result<(), AllocError>
-    requires { IsChecked plan.now }
+pub(crate) fn push_room(
+    text: &mut String,
+    plan: &CheckedPlan,
+    names: &Names,
+) -> Result<(), AllocError>
     ensures { OnOk result (string_bytes text.new ≡ string_bytes text.old
-        ++ each_below (room_doubts plan.now names.now) (length plan.now.topology.places)) }
+        ++ each_below (room_doubts plan.now names.now) (length plan.now.nodes)) }
 {
-    for i in 0..plan.topology.nodes() {
-        push_room_of(text, plan.end, names.name_of(i as usize), setup(plan, i))?;
+    for i in 0..plan.nodes() {
+        push_room_of(text, plan.end, names.name_of(i as usize), plan.node(i))?;
     }
     Ok(())
 }
@@ -303,15 +324,14 @@ fn push_timing_words(
 /// Adds bit rate, sample point and quantum of node `i`.
 pub(crate) fn push_timing(
     text: &mut String,
-    plan: &Plan,
+    plan: &CheckedPlan,
     names: &Names,
     i: u8,
 ) -> Result<(), AllocError>
-    requires checked { IsChecked plan.now }
     requires node { i < length plan.now.nodes }
     ensures { OnOk result (string_bytes text.new ≡ string_bytes text.old ++ timing_figures plan.now names.now i) }
 {
-    let node = setup(plan, i);
+    let node = plan.node(i);
     let rate = bit_rate(plan.end, node);
     let point = sample_point(&node.segments);
     let quantum = Quantum::of_clock(&node.clock, plan.end).picoseconds();
@@ -326,12 +346,11 @@ fn push_margin_words(text: &mut String, ppm: u32, rest: u128) -> Result<(), Allo
 }
 
 /// Adds the tolerance of node `i`, and what the other clocks leave of it.
-fn push_margin(text: &mut String, plan: &Plan, i: u8) -> Result<(), AllocError>
-    requires checked { IsChecked plan.now }
+fn push_margin(text: &mut String, plan: &CheckedPlan, i: u8) -> Result<(), AllocError>
     requires node { i < length plan.now.nodes }
     ensures { OnOk result (string_bytes text.new ≡ string_bytes text.old ++ margin_figures plan.now i) }
 {
-    let ppm = tolerance(&setup(plan, i).segments);
+    let ppm = tolerance(&plan.node(i).segments);
     push_margin_words(text, ppm, left(plan, i) / 2)
 }
 
@@ -349,19 +368,22 @@ fn push_cable_words(text: &mut String, cable: Option<u64>) -> Result<(), AllocEr
 }
 
 /// Adds the longest cable to a node like node `i`.
-fn push_cable(text: &mut String, plan: &Plan, i: u8) -> Result<(), AllocError>
-    requires checked { IsChecked plan.now }
+fn push_cable(text: &mut String, plan: &CheckedPlan, i: u8) -> Result<(), AllocError>
     requires node { i < length plan.now.nodes }
     ensures { OnOk result (string_bytes text.new ≡ string_bytes text.old ++ cable_figure plan.now i) }
 {
-    let node = setup(plan, i);
+    let node = plan.node(i);
     let way = Quantum::of_clock(&node.clock, plan.end).furthest_way(&node.segments);
     push_cable_words(text, longest_cable(way, plan.topology.propagation(i, i), 1))
 }
 
 /// Adds the figures of node `i`.
-fn push_figures(text: &mut String, plan: &Plan, names: &Names, i: u8) -> Result<(), AllocError>
-    requires checked { IsChecked plan.now }
+fn push_figures(
+    text: &mut String,
+    plan: &CheckedPlan,
+    names: &Names,
+    i: u8,
+) -> Result<(), AllocError>
     requires node { i < length plan.now.nodes }
     ensures { OnOk result (string_bytes text.new ≡ string_bytes text.old ++ figures_line plan.now names.now i) }
 {
@@ -373,14 +395,13 @@ fn push_figures(text: &mut String, plan: &Plan, names: &Names, i: u8) -> Result<
 /// Adds the figures of all nodes.
 pub(crate) fn push_all_figures(
     text: &mut String,
-    plan: &Plan,
+    plan: &CheckedPlan,
     names: &Names,
 ) -> Result<(), AllocError>
-    requires { IsChecked plan.now }
     ensures { OnOk result (string_bytes text.new ≡ string_bytes text.old
-        ++ each_below (figures_line plan.now names.now) (length plan.now.topology.places)) }
+        ++ each_below (figures_line plan.now names.now) (length plan.now.nodes)) }
 {
-    for i in 0..plan.topology.nodes() {
+    for i in 0..plan.nodes() {
         push_figures(text, plan, names, i)?;
     }
     Ok(())

@@ -10,6 +10,6 @@ loop-j-preserved c =
     let j : ℕ = c.loop-j.j in
     c.min-left.ensures
     ∙ ap₂ min c.loop-j.invariant (c.saturating_sub.ensures
-    ∙ ap₂ (λ (a b : ℕ). a - b) (c.borne.ensures ∙ ap₂ borne c.setup-node.ensures c.setup-other.ensures)
-    (c.difference.ensures ∙ ap₂ (difference plan.end) c.setup-node.ensures c.setup-other.ensures))
+    ∙ ap₂ (λ (a b : ℕ). a - b) (c.borne.ensures ∙ ap₂ borne c.node-node.ensures c.node-other.ensures)
+    (c.difference.ensures ∙ (λ k. difference (c.deref.ensures.0 k).end (c.node-node.ensures k) (c.node-other.ensures k))))
     ∙ ap (margin_below plan i) {x = suc j} {y = j + 1} (omega arith)
