@@ -93,9 +93,21 @@ impl Controller {
         ensures sent { (p : SampledPast) → count_by is_sent p.frames < 2 ^ 64 - 1 → IsController self.old p
             → count_by is_sent (past_after setup.now p (quantum, level)).frames ≤ count_by is_sent p.frames + 1 }
     {
+        self.sample_at(setup, quantum, level);
+        self.machine.doing()
+    }
+
+    /// Takes the sample of this quantum, which has this level; `setup` is the node's.
+    pub(crate) fn sample_at(&mut self, setup: &NodeSetup, quantum: u64, level: Level)
+        ensures past { (p : SampledPast) → self.old.sent < 2 ^ 64 - 1 → IsController self.old p
+            → IsController self.new (past_after setup.now p (quantum, level)) }
+        ensures sent { self.new.sent ≤ self.old.sent + 1 }
+    {
+        if self.keep(level) {
+            return;
+        }
         let head = head_at(setup, self.sent, quantum, level);
         let _ = self.sample(level, head);
-        self.machine.doing()
     }
 
     /// Takes a sample of this level if nothing comes of it but that the machine has it; else returns false, and nothing changes.

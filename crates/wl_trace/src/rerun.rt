@@ -8,7 +8,7 @@ ghost use Rattle.wl_trace.specs.Rerun.{RunsOver, RunsTo, IsRerun, starts_with};
 ghost use Rattle.wl_trace.specs.Shown.{plain_quanta, shown_of};
 ghost use Rattle.wl_trace.specs.Synced.{sync_event, sync_next, syncs_of, with_next};
 
-use crate::controller::{Controller, head_at};
+use crate::controller::Controller;
 use crate::event::{Event, Noted};
 use crate::shown::{NodeState, Shown};
 use std::alloc::AllocError;
@@ -152,8 +152,7 @@ impl Rerun {
                 self.started = !self.started;
             }
             Beat::Sample(_) => {
-                let head = head_at(setup, self.controller.sent, quantum, level);
-                let _ = self.controller.sample(level, head);
+                self.controller.sample_at(setup, quantum, level);
                 self.bits = self.bits.saturating_add(1);
                 self.sampled = !self.sampled;
             }

@@ -1,11 +1,10 @@
 -- A sample is the next one of the past.
 use Rattle.std.proofs.Common.{◌≡◌, ◌∙◌, [], ◌∷◌, ◌++◌, ℕ, not, sym, ap, subst, length, length-append, arith, suc}
-use Rattle.std.specs.Option.{option_copied}
 use Rattle.wl_level.specs.declared.Level.{Level}
 use Rattle.wl_node.specs.declared.setup.NodeSetup.{NodeSetup}
 use Rattle.wl_node.specs.History.{by_beat}
 use Rattle.wl_sync.specs.declared.Beat.{Beat}
-use Rattle.wl_trace.specs.Replay.{IsController, head_at, head_then, past_after, past_of}
+use Rattle.wl_trace.specs.Replay.{IsController, past_after, past_of}
 use Rattle.wl_trace.specs.declared.rerun.Rerun.{Rerun}
 use Rattle.wl_trace.specs.Rerun.{RunsTo, starts_with}
 use Rattle.wl_trace.specs.Shown.{mark}
@@ -15,14 +14,12 @@ pub returns-in-Sample-clause-run : goal.returns-in-Sample-clause-run
 returns-in-Sample-clause-run c h starts n few fewer r =
     let level : Level = c.args.level in
     let setup : NodeSetup = c.args.setup.now in
-    let ready : option_copied c.head_at-head.result ≡ head_then setup (past_of h) c.args.quantum level =
-    c.head_at-head.ensures ∙ ap (λ (k : ℕ). head_at setup k c.args.quantum level) r.controller.sent in
-    let next : IsController c.sample.new.self (past_after setup (past_of h) (c.args.quantum, level)) = c.sample.ensures.past setup (past_of h) c.args.quantum ready few r.controller in
+    let next : IsController c.sample_at.new.self (past_after setup (past_of h) (c.args.quantum, level)) = c.sample_at.ensures.past (past_of h) few r.controller in
     let one : length (h.samples ++ (length h.seen, level) ∷ []) ≡ suc (length h.samples) = (let e = length-append h.samples ((length h.seen, level) ∷ []) in omega arith) in
-    let kept : Rerun = record c.args.self.now { controller = c.sample.new.self; bits = c.saturating_add-self.result; sampled = not c.args.self.now.sampled } in
+    let kept : Rerun = record c.args.self.now { controller = c.sample_at.new.self; bits = c.saturating_add-self.result; sampled = not c.args.self.now.sampled } in
     subst (λ (b : Beat). RunsTo kept (by_beat setup h level b) (starts_with b starts)) (sym c.in-Sample.is)
     (record {
-      controller = subst (λ (k : ℕ). IsController c.sample.new.self (past_after setup (past_of h) (k, level))) n next;
+      controller = subst (λ (k : ℕ). IsController c.sample_at.new.self (past_after setup (past_of h) (k, level))) n next;
       drive = r.drive;
       bits = omega (arith, c.saturating_add-self.ensures, r.bits, one);
       sampled = ap not r.sampled ∙ ap mark (sym one);
