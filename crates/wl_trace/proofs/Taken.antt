@@ -19,19 +19,19 @@ use Rattle.wl_machine.specs.Roles.{RoleLaws, loses}
 use Rattle.wl_trace.specs.Events.{is_transmitter}
 use Rattle.wl_trace.specs.Running.{way_of}
 
-never : (b : Bool) → (b && false) ≡ false
-never true = refl
-never false = refl
+never : (a b : Bool) → b ≡ false → (a && b) ≡ false
+never true b e = e
+never false b e = refl
 
-nowhere : (a b c : Bool) → (a && false && b && c) ≡ false
-nowhere true b c = refl
-nowhere false b c = refl
+nowhere : (a b c d : Bool) → b ≡ false → (a && b && c && d) ≡ false
+nowhere true b c d e = ap (λ (x : Bool). x && c && d) e
+nowhere false b c d e = refl
 
 -- a place behind the longest arbitration is in none
 by_format : (extended : Bool) (bits : List Level) (k : ℕ) → 32 < k
     → (nat_le (layout_by extended bits).start k && nat_lt k (layout_by extended bits).arbitration) ≡ false
-by_format true bits k far = ap (λ b. nat_le 1 k && b) (le-ltb k 33 (omega arith)) ∙ never (nat_le 1 k)
-by_format false bits k far = ap (λ b. nat_le 1 k && b) (le-ltb k 13 (omega arith)) ∙ never (nat_le 1 k)
+by_format true bits k far = never (nat_le 1 k) (nat_lt k 33) (le-ltb k 33 (omega arith))
+by_format false bits k far = never (nat_le 1 k) (nat_lt k 13) (le-ltb k 13 (omega arith))
 
 module _ (head : Content) (own bits : List Level) (x : Level) (kept : bits ≡ destuffed_bits own (length own)) where
   -- what the arbitration asks, by whether a stuff bit is due
@@ -53,8 +53,8 @@ module _ (head : Content) (own bits : List Level) (x : Level) (kept : bits ≡ d
       let last : Level = before (own ++ x ∷ []) (length own) in
       let sent : Bool = not (is_dominant (cond (is_stuff own (length own)) (opposite last) (at (bits_of head) (length bits)))) in
       asked
-      ∙ ap (λ (b : Bool). not (is_stuff own (length own)) && b && sent && is_dominant x) (by_format (is_extended (bits_of head)) (bits_of head) (length bits) far)
-      ∙ nowhere (not (is_stuff own (length own))) sent (is_dominant x)
+      ∙ nowhere (not (is_stuff own (length own))) (is_arbitration (bits_of head) (length bits)) sent (is_dominant x)
+      (by_format (is_extended (bits_of head)) (bits_of head) (length bits) far)
 
   pub lost_is : is_stuff own (length own) ≡ false
       → is_lost head (own ++ x ∷ []) (length own) ≡ (is_arbitration (bits_of head) (length bits) && not (is_dominant (at (bits_of head) (length bits))) && is_dominant x)

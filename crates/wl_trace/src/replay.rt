@@ -64,7 +64,8 @@ impl Replay {
             → IsReplay self.old p → IsReplay self.new (past_after setup p (quantum, level))) }
         ensures none { IfOk result (λ kept. kept ≡ true → (setup : NodeSetup) (p : SampledPast) (quantum : ℕ)
             → IsReplay self.old p → then_events setup p quantum level ≡ []) }
-        ensures same { IfOk result (λ kept. kept ≡ false → (p : SampledPast) → IsReplay self.old p → IsReplay self.new p) }
+        ensures same { IfOk result (λ kept. kept ≡ false → (p : SampledPast)
+            → IsReplay self.old p → IsReplay self.new p) }
         ensures sent { self.new.controller.sent ≡ self.old.controller.sent }
     {
         if !self.controller.keep(level) {

@@ -180,8 +180,8 @@ impl Rerun {
         quanta
     }
 
-    /// Runs this many quanta of this level, of which the first has this number, and adds how edges synchronise it to `syncs`; `setup` is what
-    /// it was made of. Refused only if memory runs out.
+    /// Runs this many quanta of this level, and adds how edges synchronise it to `syncs`. `quantum` is the number of the first, counted from
+    /// 0; `setup` is what it was made of. Refused only if memory runs out.
     pub fn go(
         &mut self,
         setup: &NodeSetup,
@@ -191,7 +191,8 @@ impl Rerun {
         syncs: &mut Vec<Noted>,
     ) -> Result<(), AllocError>
         requires few { quantum + most < 2 ^ 64 }
-        ensures { OnOk result (RunsOver setup.now quantum most level self.old self.new syncs.old.items syncs.new.items) }
+        ensures { OnOk result
+            (RunsOver setup.now quantum most level self.old self.new syncs.old.items syncs.new.items) }
     {
         let mut done = 0;
         while done < most {

@@ -433,7 +433,7 @@ fn is_lost(frame: &Frame, own: &[Level], bits: &[Level], level: Level) -> bool
     is_lost_to(frame, own, bits, level)
 }
 
-/// The same, from the frame's own bits.
+/// True if it does so, by the frame's own bits.
 fn is_lost_to(frame: &Frame, own: &[Level], bits: &[Level], level: Level) -> bool
     ensures { bits.now ≡ destuffed_bits own.now (length own.now)
         → result ≡ is_lost frame.now (own.now ++ level ∷ []) (length own.now) }
