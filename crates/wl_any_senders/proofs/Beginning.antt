@@ -209,7 +209,7 @@ module _ (goes : Goes) (ways : WayLaws) (l : Lengths) (book : ByTheBook l) (seen
   abbrev clock : ℕ → Running
   clock i = clock_after l (seen_before seen i)
 
-  abbrev beat_at : ℕ → Beat
+  abbrev pub beat_at : ℕ → Beat
   beat_at i = beat_of l (seen_before seen i) (seen i)
 
   abbrev sync_at : ℕ → Option Sync
@@ -230,7 +230,7 @@ module _ (goes : Goes) (ways : WayLaws) (l : Lengths) (book : ByTheBook l) (seen
   answer_there : (i : ℕ) → sync_at i ≡ running_answer (clock i) (seen i)
   answer_there i = sync_is goes l book (seen_before seen i) (seen i)
 
-  abbrev Past : ℕ → Type 0
+  abbrev pub Past : ℕ → Type 0
   Past i = moved_place (clock i) < (clock i).quanta
 
   -- right after a sample
@@ -248,11 +248,11 @@ module _ (goes : Goes) (ways : WayLaws) (l : Lengths) (book : ByTheBook l) (seen
       subst (λ q. moved_place q < q.quanta) (sym n) there
 
   -- a quantum after it
-  record On (i : ℕ) : Type 0 where
-    past : Past (suc i)
-    plain : beat_at i ≡ Plain
+  pub record On (i : ℕ) : Type 0 where
+    pub past : Past (suc i)
+    pub plain : beat_at i ≡ Plain
 
-  on_or_start : (i : ℕ) → Past i → (On i × (sample_at l ≤ way_at (suc i))) ⊎ ((beat_at i ≡ Start) × (way_at (suc i) < sample_at l))
+  pub on_or_start : (i : ℕ) → Past i → (On i × (sample_at l ≤ way_at (suc i))) ⊎ ((beat_at i ≡ Start) × (way_at (suc i) < sample_at l))
   on_or_start i past = by (past_step (clock i) (seen i) (valid i) past)
     where
       by : Either (clock i) (seen i) (valid i) (running_after (clock i) (seen i)) (beat (clock i) (seen i) (valid i))

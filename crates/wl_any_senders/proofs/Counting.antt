@@ -19,10 +19,10 @@ use Rattle.wl_sync.specs.Skips.{moved_place, quanta_before_sample, steady_clock}
 use Rattle.wl_sync.specs.Steps.{end_of, is_sampled, running_after, running_answer, running_first, running_on, running_sync}
 use Rattle.wl_phase.specs.Ways.{ByTheBook, WayLaws, moved_to}
 use Rattle.wl_phase.specs.Answer.{SamplesNext}
-use Rattle.wl_phase.specs.InStep.{seen_before}
+use Rattle.wl_phase.specs.InStep.{SyncsHard, seen_before}
 use Rattle.wl_phase.proofs.Callers.{Goes, IsValid, answer_not, none_is, soft_driving, sync_is, valid_after, zero_is}
 use Rattle.wl_any_senders.specs.Clocked.{BitIs, BitPlaceLaws, BitStartLaws, EdgeLaws, FindsEdge, NoEdgeLaws, NoneSyncs, SamplesBy, StartsOnce}
-use Rattle.wl_any_senders.proofs.Beginning.{past_on, sampled_past}
+use Rattle.wl_any_senders.proofs.Beginning.{on_or_start, past_on, sampled_past}
 use Rattle.wl_any_senders.proofs.Calm.{LevelGoes, SampleGoes, keeps}
 use Rattle.wl_any_senders.proofs.Clocked.{after_sample, down, later, unsampled_at, error_way, way, way_is}
 
@@ -151,10 +151,10 @@ module _ (goes : Goes) (level_goes : LevelGoes) (sample_goes : SampleGoes) (ways
         omega arith
 
     -- the edge counts
-    record Fresh (i : ℕ) : Type 0 where
-      line : (clock i).level ≡ Recessive
-      sample : (clock i).sample ≡ Recessive
-      synced : (clock i).synced ≡ false
+    pub record Fresh (i : ℕ) : Type 0 where
+      pub line : (clock i).level ≡ Recessive
+      pub sample : (clock i).sample ≡ Recessive
+      pub synced : (clock i).synced ≡ false
 
     fresh_on : (i : ℕ) → sync_at i ≡ None → (seen i).level ≡ Recessive → 0 < way_at i → Fresh i → Fresh (suc i)
     fresh_on i none quiet some f = record {
@@ -353,6 +353,70 @@ module _ (goes : Goes) (level_goes : LevelGoes) (sample_goes : SampleGoes) (ways
         let b = subst (λ i. InBit (clock i) (sample_at l - 1)) e (in_bit (sample_at l - 1) (omega arith)) in
         on_there (place + bit_quanta l + sample_at l) (sample_at l - 1) (omega arith) b (none_to (place + bit_quanta l + sample_at l) (omega arith) (omega arith))
         ∙ on_steady (clock (place + bit_quanta l + sample_at l)) (seen (place + bit_quanta l + sample_at l)).level (omega (arith, b.quanta)) b.longer b.shorter b.synced quiet
+
+-- an edge that is found while a start of frame is awaited synchronises hard
+hard_awaits : (s : SyncRules) (x : Seen) → s ≡ Book → x.awaits ≡ true → x.driving ≡ false → is_hard_edge s x ≡ true
+hard_awaits After x e f g = cc
+hard_awaits Book x e f g = rw (f, g) refl
+
+answer_hard : (r : Running) (x : Seen) → running_sync r x ≡ true → is_hard_edge r.lengths.sync x ≡ true → running_answer r x ≡ Some Hard
+answer_hard r x e g = rw (e, g) refl
+
+-- The start of frame of a station that follows another one's, from its last sample before it.
+module _ (goes : Goes) (level_goes : LevelGoes) (sample_goes : SampleGoes) (ways : WayLaws) (places : BitPlaceLaws) (starts : BitStartLaws) (calm : NoEdgeLaws)
+    (l : Lengths) (book : ByTheBook l) (seen : ℕ → Seen) (rest found : ℕ) (sampled : SamplesBy l seen (rest + sample_at l) Recessive)
+    (steady : clock_after l (seen_before seen (suc (rest + sample_at l))) ≡ steady_clock l) (after : rest + sample_at l < found) (inside : found ≤ rest + sample_at l + bit_quanta l)
+    (silent : (i : ℕ) → rest + sample_at l < i → i < found → (seen i).level ≡ Recessive) (there : (i : ℕ) → found ≤ i → i ≤ found - 1 + sample_at l → (seen i).level ≡ Dominant)
+    (awaits : (seen found).awaits ≡ true) (driving : (seen found).driving ≡ false) where
+  found_is : suc (found - 1) ≡ found
+  found_is = omega arith
+
+  first_dominant : (seen found).level ≡ Dominant
+  first_dominant = there found (omega arith) (let a = book.lengths.prop_low in omega arith)
+
+  hard_there : SyncsHard l seen (suc (found - 1))
+  hard_there =
+      let e : suc (rest + sample_at l) + (found - suc (rest + sample_at l)) ≡ found = omega arith in
+      let order : rest + sample_at l + bit_quanta l ≡ rest + bit_quanta l + sample_at l = omega arith in
+      let fresh = subst (Fresh goes level_goes sample_goes ways places starts calm l book seen rest Recessive sampled) e
+      (fresh_then goes level_goes sample_goes ways places starts calm l book seen rest Recessive sampled steady (found - suc (rest + sample_at l)) (omega arith) (λ i a b. silent i a (omega arith))) in
+      let sync = counts (clock_after l (seen_before seen found)) (seen found) book.book (valid_after goes l book (seen_before seen found)).begun first_dominant driving fresh.line fresh.sample fresh.synced in
+      subst (SyncsHard l seen) (sym found_is)
+      (sync_is goes l book (seen_before seen found) (seen found) ∙ answer_hard (clock_after l (seen_before seen found)) (seen found) sync (hard_awaits l.sync (seen found) book.book awaits driving))
+
+  none_held : NoneSyncs l seen (suc (found - 1)) (found - 1 + sample_at l)
+  none_held zero a b = absurd (omega arith)
+  none_held (suc i) a b = calm.held l (seen_before seen i) (seen i) (seen (suc i)) book (there i (omega arith) (omega arith))
+
+  none_silent : (i : ℕ) → rest + sample_at l < i → i < found → sync_of l (seen_before seen i) (seen i) ≡ None
+  none_silent i a b = calm.recessive l (seen_before seen i) (seen i) book (silent i a b)
+
+  pub samples_start : SamplesBy l seen (found - 1 + sample_at l) Dominant
+  samples_start =
+      subst (SamplesBy l seen (found - 1 + sample_at l)) (there (found - 1 + sample_at l) (let a = book.lengths.prop_low in omega arith) (omega arith))
+      (places.hard l seen (found - 1) book hard_there none_held).beat
+
+  pub starts_there : StartsOnce l seen (found - 1) (found - 1 + sample_at l) (suc (found - 1))
+  starts_there = starts.hard l seen (found - 1) book hard_there none_held
+
+  way_silent : (i : ℕ) → rest + sample_at l < i → i ≤ found → way ways l book seen i + i ≡ rest + bit_quanta l + sample_at l
+  way_silent i a b =
+      way_then goes level_goes sample_goes ways places starts calm l book seen rest Recessive sampled i a (omega arith) (λ j c d. none_silent j c (omega arith))
+
+  -- before it no quantum is a sample, and none begins a bit but from when one is due
+  pub unsampled_before : (i : ℕ) → rest + sample_at l < i → i < found → (level : Level) → SamplesBy l seen i level → ⊥
+  unsampled_before i a b = unsampled_at ways l book seen i (let w = way_silent i a (omega arith) in omega arith)
+
+  pub plain_before : (i : ℕ) → rest + sample_at l < i → i < found → i < rest + bit_quanta l → beat_of l (seen_before seen i) (seen i) ≡ Plain
+  plain_before i a b c =
+      let e : suc (rest + sample_at l) + (i - suc (rest + sample_at l)) ≡ i = omega arith in
+      let past = subst (λ j. moved_place (clock_after l (seen_before seen j)) < (clock_after l (seen_before seen j)).quanta) e
+      (past_on goes ways l book seen (suc (rest + sample_at l)) (i - suc (rest + sample_at l)) (sampled_past goes ways l book seen (rest + sample_at l) Recessive sampled)
+      (λ j x y. (let w = way_silent j (omega arith) (omega arith) in omega arith))) in
+      elim (on_or_start goes ways l book seen i past) [
+        | inl on ↦ on.0.plain
+        | inr start ↦ (let w = way_silent (suc i) (omega arith) b in let s = start.1 in absurd (omega arith))
+      ]
 
 pub edge_laws : Goes → LevelGoes → SampleGoes → WayLaws → BitPlaceLaws → BitStartLaws → NoEdgeLaws → EdgeLaws
 edge_laws goes level_goes sample_goes ways places starts calm = record {

@@ -27,7 +27,7 @@ use Rattle.wl_any_senders.specs.Nodes.{GoesToNext, IsInBit, IsRun}
 use Rattle.wl_any_senders.proofs.Expecting.{after_there, drives_are}
 use Rattle.wl_any_senders.proofs.Ideal.{fine, framing}
 use Rattle.wl_any_senders.proofs.Machines.{FindNoErrors, LeastWins, SendStuffed, SixOrFront, StayInStep, TenHaveEdge}
-use Rattle.wl_any_senders.proofs.Nodes.{expected, goes_to_next, has_expected, sees_expected}
+use Rattle.wl_any_senders.proofs.Nodes.{goes_to_next, has_expected, sees_expected, sees_in}
 use Rattle.wl_any_senders.proofs.Seeing.{bit_goes, has_next, right_at}
 
 module _ (steps : StayInStep) (errors : FindNoErrors) (winner : LeastWins) (stuffed : SendStuffed) (six : SixOrFront) (ten : TenHaveEdge) (laws : DrivenLaws)
@@ -53,13 +53,13 @@ module _ (steps : StayInStep) (errors : FindNoErrors) (winner : LeastWins) (stuf
 
   -- what it is expected to see
   abbrev sees : ℕ → Seen
-  sees = expected setup levels node run s o i n segments at frame.0 frame.1 no_start after
+  sees = sees_in setup levels node run s o i n segments at after
 
   sees_there : SeesExpected s o total i sees n
-  sees_there = sees_expected setup levels node run s o i n segments at frame.0 frame.1 no_start after total finds
+  sees_there = sees_expected setup levels node run s o i n segments at after no_start total finds
 
   has_there : HasSampled s o i sees n
-  has_there = has_expected setup levels node run s o i n segments at frame.0 frame.1 no_start after
+  has_there = has_expected setup levels node run s o i n segments at after
 
   bit : BitIs (s.lengths i) sees (expected_sample s o n i) ((expected_bits s o (suc n)).place i) ((expected_bits s o (suc n)).from i) (level_of (bus_bit s (expected_bits s o) (suc n)))
   bit = bit_goes steps errors winner stuffed six ten laws s are room o is total valid edges calm n i less inside sees sees_there has_there
@@ -82,6 +82,6 @@ module _ (steps : StayInStep) (errors : FindNoErrors) (winner : LeastWins) (stuf
   goes_on =
       let place = bit.samples.place in
       let longer : expected_sample s o n i < expected_sample s o (suc n) i = omega arith in
-      goes_to_next setup levels node run s o i n segments at frame.0 frame.1 no_start after bit (valid (suc n) less) given (ap level_of bus_is) fine_there refl
+      goes_to_next setup levels node run s o i n segments at after bit frame.0 frame.1 (valid (suc n) less) given (ap level_of bus_is) fine_there refl
       (finds (expected_sample s o (suc n) i) longer (omega arith) ∙ ap level_of (right_at steps errors winner stuffed six ten laws s are room o is total valid (suc n) i less inside))
       longer has_after

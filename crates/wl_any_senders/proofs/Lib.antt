@@ -14,8 +14,10 @@ mod Machines
 mod Measures
 mod Nearing
 mod Nodes
+mod Outsets
 mod Passing
 mod Planned
+mod Plans
 mod Rows
 mod Sampled
 mod Seeing

@@ -35,6 +35,26 @@ no_or : (b c : Bool) → c ≡ false → (b || c) ≡ b
 no_or true c e = refl
 no_or false c e = e
 
+-- a node after the levels that are expected
+pub run_of : (setup : NodeSetup) (levels : ℕ → Level) → IsRun setup levels (node_after setup levels)
+unfolding history_of
+run_of setup levels = record { first = refl; next = λ q. fold-append (history_after setup) no_history (levels_before levels q) (levels q ∷ []) }
+
+-- what it finds is what reaches it
+pub finds_what_comes : (l : Line) (setups : ℕ → NodeSetup) (s : Stations) → IsLineOf l setups s → (o : Outset) (total i q : ℕ) → i < s.count
+    → finds_expected l s o total i q ≡ level_of (driven s.count s.delay (expected_drove s o total) i (steady_tick (s.clocks i) q))
+finds_what_comes l setups s line o total i q inside =
+    let e = line.nodes in
+    ap level_of (no_or (driven l.nodes l.delay (expected_drove s o total) i (l.instant i q)) (l.disturbed i (l.instant i q)) (line.undisturbed i (l.instant i q) (omega arith))
+    ∙ ap (λ c. driven c l.delay (expected_drove s o total) i (l.instant i q)) (sym e)
+    ∙ delays (l.instant i q)
+    ∙ ap (driven s.count s.delay (expected_drove s o total) i) (line.ticks i q (omega arith)))
+  where
+    delays : (t : ℕ) → driven s.count l.delay (expected_drove s o total) i t ≡ driven s.count s.delay (expected_drove s o total) i t
+    delays t =
+        any_same s.count (λ k. nat_le (l.delay k i) t && expected_drove s o total k (t - l.delay k i)) (λ k. nat_le (s.delay k i) t && expected_drove s o total k (t - s.delay k i))
+        (λ k lt. ap (λ d. nat_le d t && expected_drove s o total k (t - d)) (sym (line.delays k i (let e = line.nodes in omega arith) (let e = line.nodes in omega arith))))
+
 module _ (steps : StayInStep) (errors : FindNoErrors) (winner : LeastWins) (stuffed : SendStuffed) (six : SixOrFront) (ten : TenHaveEdge) (laws : DrivenLaws)
     (edges : EdgeLaws) (calm : NoEdgeLaws)
     (l : Line) (setups : ℕ → NodeSetup) (s : Stations) (line : IsLineOf l setups s) (are : AreStations s) (room : HaveRoom s) (o : Outset) (is : IsOutset s o) (total : ℕ) (some : 0 < total)
@@ -53,20 +73,10 @@ module _ (steps : StayInStep) (errors : FindNoErrors) (winner : LeastWins) (stuf
   node i = node_after (setups i) (levels i)
 
   run : (i : ℕ) → IsRun (setups i) (levels i) (node i)
-  unfolding history_of
-  run i = record { first = refl; next = λ q. fold-append (history_after (setups i)) no_history (levels_before (levels i) q) (levels i q ∷ []) }
+  run i = run_of (setups i) (levels i)
 
-  -- what it finds is what reaches it
   finds : (i q : ℕ) → i < s.count → levels i q ≡ level_of (driven s.count s.delay drove i (steady_tick (s.clocks i) q))
-  finds i q inside =
-      let e = line.nodes in
-      ap level_of (no_or (driven l.nodes l.delay drove i (l.instant i q)) (l.disturbed i (l.instant i q)) (line.undisturbed i (l.instant i q) (omega arith))
-      ∙ ap (λ c. driven c l.delay drove i (l.instant i q)) (sym e)
-      ∙ laws_delay i (l.instant i q)
-      ∙ ap (driven s.count s.delay drove i) (line.ticks i q (omega arith)))
-    where
-      laws_delay : (i t : ℕ) → driven s.count l.delay drove i t ≡ driven s.count s.delay drove i t
-      laws_delay i t = any_same s.count _ _ (λ k lt. ap (λ d. nat_le d t && drove k (t - d)) (sym (line.delays k i)))
+  finds i q inside = finds_what_comes l setups s line o total i q inside
 
   -- all bits at a node
   bit_at : (i n : ℕ) → i < s.count → n < total → IsInBit s o i (levels i) (node i) n

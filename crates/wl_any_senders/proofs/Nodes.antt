@@ -139,223 +139,252 @@ module _ (setup : NodeSetup) (levels : ℕ → Level) (node : ℕ → History) (
     pub happened_by : (node (suc q)).happened ≡ (by_beat setup (node q) (levels q) b).happened
     happened_by = ap (λ h. h.happened) (run.next q) ∙ ap (λ x. (by_beat setup (node q) (levels q) x).happened) beat_is
 
-  -- from the sample of one bit to that of the next, as is expected
-  module _ (s : Stations) (o : Outset) (i n : ℕ) (segments : setup.segments ≡ s.lengths i) (at : IsInBit s o i levels node n)
-      (head : Option Content) (framing : stretch_of (past_at s o (suc n) i) ≡ stretch_by (Framing head) (bus_levels s (expected_bits s o) (suc n)))
-      (nonempty : awaits_start (stretch_of (past_at s o (suc n) i)) ≡ false)
-      (begins_after : expected_sample s o n i < (expected_bits s o (suc n)).from i) where
-    abbrev S : ℕ
-    S = expected_sample s o n i
-
-    abbrev S' : ℕ
-    S' = expected_sample s o (suc n) i
-
-    abbrev F : ℕ
-    F = (expected_bits s o (suc n)).from i
-
-    abbrev X : Stretch
-    X = stretch_of (past_at s o (suc n) i)
-
-    abbrev drives : ℕ → Bool
-    drives q = cond (nat_le q F) (wants s o n i) (wants s o (suc n) i)
-
+  -- from one sample on to the next one, if what the node sees in between makes its bit clock go so
+  module _ (l : Lengths) (segments : setup.segments ≡ l) (R S' : ℕ) (X : Stretch) (drives : ℕ → Bool)
+      (stretch_first : stretch_of (node (suc R)).inputs ≡ X) (drive_first : (node (suc R)).drive ≡ level_of (drives (suc R))) where
     abbrev later : ℕ → Seen
     later q = record { level = levels q; idle = is_idle_sort X.sort; awaits = awaits_start X; driving = drives q }
 
     -- what it is expected to see
     pub expected : ℕ → Seen
-    expected q = cond (nat_le q S) (sees q) (later q)
+    expected q = cond (nat_le q R) (sees q) (later q)
 
-    expected_old : (q : ℕ) → q ≤ S → expected q ≡ sees q
+    pub expected_old : (q : ℕ) → q ≤ R → expected q ≡ sees q
     unfolding expected
-    expected_old q less = ap (λ b. cond b (sees q) (later q)) (le-leb q S less)
+    expected_old q less = ap (λ b. cond b (sees q) (later q)) (le-leb q R less)
 
-    expected_new : (q : ℕ) → S < q → expected q ≡ later q
+    pub expected_new : (q : ℕ) → R < q → expected q ≡ later q
     unfolding expected
-    expected_new q more = ap (λ b. cond b (sees q) (later q)) (lt-leb q S more)
+    expected_new q more = ap (λ b. cond b (sees q) (later q)) (lt-leb q R more)
 
-    drives_before : (q : ℕ) → q ≤ F → drives q ≡ wants s o n i
-    drives_before q less = ap (λ b. cond b (wants s o n i) (wants s o (suc n) i)) (le-leb q F less)
-
-    drives_after : (q : ℕ) → F < q → drives q ≡ wants s o (suc n) i
-    drives_after q more = ap (λ b. cond b (wants s o n i) (wants s o (suc n) i)) (lt-leb q F more)
-
-    pub sees_expected : (length : ℕ)
-        → ((q : ℕ) → S < q → q ≤ S' → levels q ≡ level_of (driven s.count s.delay (expected_drove s o length) i (steady_tick (s.clocks i) q)))
-        → SeesExpected s o length i expected n
-    sees_expected length finds = record {
-      level = λ q a b. ap (λ x. x.level) (expected_new q a) ∙ finds q a b;
-      awaits = λ q a b. ap (λ x. x.awaits) (expected_new q a) ∙ nonempty;
-      before = λ q a b. ap (λ x. x.driving) (expected_new q a) ∙ drives_before q b;
-      after = λ q a b. elim (cases_lt S q) [
-        | inl more ↦ ap (λ x. x.driving) (expected_new q more) ∙ drives_after q a
-        | inr less ↦ absurd (omega arith)
-      ];
-    }
-
-    old_before : (k : ℕ) → k ≤ suc S → seen_before expected k ≡ seen_before sees k
+    pub old_before : (k : ℕ) → k ≤ suc R → seen_before expected k ≡ seen_before sees k
     old_before k less = seen_before_same expected sees k (λ j below. expected_old j (omega arith))
 
-    pub has_expected : HasSampled s o i expected n
-    has_expected = record {
-      sampled =
-          ap (λ v. beat_of (s.lengths i) v (expected S)) (old_before S (omega arith)) ∙ ap (beat_of (s.lengths i) (seen_before sees S)) (expected_old S (omega arith))
-          ∙ at.clock.sampled;
-      steady = λ e. ap (clock_after (s.lengths i)) (old_before (suc S) (omega arith)) ∙ at.clock.steady e;
-    }
+    abbrev pub beat_at : ℕ → Beat
+    beat_at q = beat_of l (seen_before expected q) (expected q)
 
-    -- so it goes
-    module _ (bit : BitIs (s.lengths i) expected S ((expected_bits s o (suc n)).place i) F (level_of (bus_bit s (expected_bits s o) (suc n)))) where
-      record Same (q : ℕ) : Type 0 where
-        inputs : (node q).inputs ≡ (node (suc S)).inputs
-        happened : (node q).happened ≡ (node (suc S)).happened
-        drive : (node q).drive ≡ level_of (drives q)
-        seen : (j : ℕ) → j < q → expected j ≡ sees j
+    -- a quantum in between begins no bit and leaves the drive, or begins one with what the machine wants
+    abbrev pub Passes : ℕ → Type 0
+    Passes q = ((beat_at q ≡ Plain) × (drives (suc q) ≡ drives q)) ⊎ ((beat_at q ≡ Start) × (drives (suc q) ≡ is_dominant (drive_of X)))
 
-      first : Same (suc S)
-      first = record {
-        inputs = refl;
-        happened = refl;
-        drive = at.drive ∙ ap level_of (sym (drives_before (suc S) begins_after));
-        seen = λ j less. expected_old j (omega arith);
-      }
+    module _ (passes : (q : ℕ) → R < q → q < S' → Passes q) (longer : R < S') where
+      pub record Same (q : ℕ) : Type 0 where
+        pub inputs : (node q).inputs ≡ (node (suc R)).inputs
+        pub happened : (node q).happened ≡ (node (suc R)).happened
+        pub drive : (node q).drive ≡ level_of (drives q)
+        pub seen : (j : ℕ) → j < q → expected j ≡ sees j
 
       -- it sees what is expected
-      sees_there : (q : ℕ) → S < q → Same q → expected q ≡ sees q
+      sees_there : (q : ℕ) → R < q → Same q → expected q ≡ sees q
       sees_there q more x =
-          let stretch : X ≡ stretch_of (node q).inputs = sym (ap stretch_of x.inputs ∙ at.stretch) in
+          let stretch : X ≡ stretch_of (node q).inputs = sym (ap stretch_of x.inputs ∙ stretch_first) in
           let idle : is_idle_sort X.sort ≡ is_idle_sort (stretch_of (node q).inputs).sort = ap (λ y. is_idle_sort y.sort) stretch in
           let awaits : awaits_start X ≡ awaits_start (stretch_of (node q).inputs) = ap awaits_start stretch in
           let driving : drives q ≡ is_dominant (node q).drive = sym (ap is_dominant x.drive ∙ level_back (drives q)) in
           expected_new q more ∙ (λ j. record { level = levels q; idle = idle j; awaits = awaits j; driving = driving j })
 
-      beat_there : (q : ℕ) (b : Beat) → S < q → Same q → beat_of (s.lengths i) (seen_before expected q) (expected q) ≡ b → beat_of setup.segments (seen_before sees q) (sees q) ≡ b
+      beat_there : (q : ℕ) (b : Beat) → R < q → Same q → beat_at q ≡ b → beat_of setup.segments (seen_before sees q) (sees q) ≡ b
       beat_there q b more x e =
-          ap (λ l. beat_of l (seen_before sees q) (sees q)) segments ∙ ap (λ v. beat_of (s.lengths i) v (sees q)) (sym (seen_before_same expected sees q x.seen))
-          ∙ ap (beat_of (s.lengths i) (seen_before expected q)) (sym (sees_there q more x)) ∙ e
+          ap (λ m. beat_of m (seen_before sees q) (sees q)) segments ∙ ap (λ v. beat_of l v (sees q)) (sym (seen_before_same expected sees q x.seen))
+          ∙ ap (beat_of l (seen_before expected q)) (sym (sees_there q more x)) ∙ e
 
-      seen_more : (q : ℕ) → S < q → Same q → (j : ℕ) → j < suc q → expected j ≡ sees j
+      seen_more : (q : ℕ) → R < q → Same q → (j : ℕ) → j < suc q → expected j ≡ sees j
       seen_more q more x j less = elim (cases_lt j q) [
         | inl before ↦ x.seen j before
         | inr last ↦ (let e : q ≡ j = omega arith in subst (λ k. expected k ≡ sees k) e (sees_there q more x))
       ]
 
-      start_there : (q : ℕ) → S < q → q ≡ F → Same q → Same (suc q)
-      start_there q more e x =
-          let b = beat_there q Start more x (ap (λ k. beat_of (s.lengths i) (seen_before expected k) (expected k)) e ∙ bit.starts.starts) in
+      step : (q : ℕ) → R < q → Same q → Passes q → Same (suc q)
+      step q more x (inl plain) =
+          (let b = beat_there q Plain more x plain.0 in
+          record {
+            inputs = inputs_by q Plain b ∙ x.inputs;
+            happened = happened_by q Plain b ∙ x.happened;
+            drive = drive_by q Plain b ∙ x.drive ∙ ap level_of (sym plain.1);
+            seen = seen_more q more x;
+          })
+      step q more x (inr start) =
+          (let b = beat_there q Start more x start.0 in
           record {
             inputs = inputs_by q Start b ∙ x.inputs;
             happened = happened_by q Start b ∙ x.happened;
             drive =
-                drive_by q Start b ∙ ap (λ v. drive_of (stretch_of v)) x.inputs ∙ ap drive_of at.stretch ∙ sym (level_is (drive_of X))
-                ∙ ap level_of (sym (drives_after (suc q) (omega (arith, e))));
+                drive_by q Start b ∙ ap (λ v. drive_of (stretch_of v)) x.inputs ∙ ap drive_of stretch_first ∙ sym (level_is (drive_of X)) ∙ ap level_of (sym start.1);
             seen = seen_more q more x;
-          }
+          })
 
-      plain_there : (q : ℕ) → S < q → q < S' → q ≢ F → Same q → Same (suc q)
-      plain_there q more less apart x =
-          let b = beat_there q Plain more x (bit.starts.others q more less apart) in
-          record {
-            inputs = inputs_by q Plain b ∙ x.inputs;
-            happened = happened_by q Plain b ∙ x.happened;
-            drive = drive_by q Plain b ∙ x.drive ∙ ap level_of (elim (cases_lt q F) [
-              | inl before ↦ drives_before q (omega arith) ∙ sym (drives_before (suc q) before)
-              | inr from ↦ drives_after q (omega (arith, apart)) ∙ sym (drives_after (suc q) (omega (arith, apart)))
-            ]);
-            seen = seen_more q more x;
-          }
-
-      same_up : (m : ℕ) → suc S + m ≤ S' → Same (suc S + m)
-      same_up zero less = subst Same (let e : suc S ≡ suc S + 0 = omega arith in e) first
+      same_up : (m : ℕ) → suc R + m ≤ S' → Same (suc R + m)
+      same_up zero less =
+          subst Same (let e : suc R ≡ suc R + 0 = omega arith in e)
+          (record { inputs = refl; happened = refl; drive = drive_first; seen = λ j below. expected_old j (omega arith) })
       same_up (suc m) less =
-          (let x = same_up m (omega arith) in
-          let e : suc (suc S + m) ≡ suc S + suc m = omega arith in
-          subst Same e (elim (cases_eq (suc S + m) F) [
-            | inl here ↦ start_there (suc S + m) (omega arith) here x
-            | inr apart ↦ plain_there (suc S + m) (omega arith) (omega arith) apart x
-          ]))
+          (let e : suc (suc R + m) ≡ suc R + suc m = omega arith in
+          subst Same e (step (suc R + m) (omega arith) (same_up m (omega arith)) (passes (suc R + m) (omega arith) (omega arith))))
 
-      same_at : (q : ℕ) → S < q → q ≤ S' → Same q
-      same_at q more less = (let e : suc S + (q - suc S) ≡ q = omega arith in subst Same e (same_up (q - suc S) (omega arith)))
+      pub same_at : (q : ℕ) → R < q → q ≤ S' → Same q
+      same_at q more less = (let e : suc R + (q - suc R) ≡ q = omega arith in subst Same e (same_up (q - suc R) (omega arith)))
 
-      -- the sample of the next bit
-      module _ (going : stuffed_end (bus_levels s (expected_bits s o) (suc n)) ≡ None) (y : Sampled) (y_level : y.level ≡ level_of (bus_bit s (expected_bits s o) (suc n)))
-          (fine : is_fine (judged X y).happened ≡ true) (next_is : past_at s o (suc (suc n)) i ≡ past_at s o (suc n) i ++ Given y ∷ [])
-          (found : levels S' ≡ level_of (bus_bit s (expected_bits s o) (suc n))) (longer : S < S') (has_next : HasSampled s o i expected (suc n)) where
+      -- the sample
+      module _ (lv : Level) (beat : beat_at S' ≡ Sample lv) (next : Stretch) (counts_first : counts_of (node (suc R)).happened ≡ no_counts) (found : levels S' ≡ lv)
+          (takes : (z : Sampled) → z.level ≡ lv → (is_fine (judged X z).happened ≡ true) × (stretch_after X (Given z) ≡ next)) where
         last : Same S'
         last = same_at S' longer (omega arith)
 
         abbrev given : Sampled
         given = sampled_next setup (node S') (levels S')
 
-        given_level : given.level ≡ level_of (bus_bit s (expected_bits s o) (suc n))
-        given_level = found
+        given_takes : (is_fine (judged X given).happened ≡ true) × (stretch_after X (Given given) ≡ next)
+        given_takes = takes given found
 
         at_stretch : stretch_of (node S').inputs ≡ X
-        at_stretch = ap stretch_of last.inputs ∙ at.stretch
+        at_stretch = ap stretch_of last.inputs ∙ stretch_first
 
-        given_fine : is_fine (judged X given).happened ≡ true
-        given_fine = fine_same X head (bus_levels s (expected_bits s o) (suc n)) y given framing going (y_level ∙ sym given_level) fine
-
-        sample_beat : beat_of setup.segments (seen_before sees S') (sees S') ≡ Sample (level_of (bus_bit s (expected_bits s o) (suc n)))
-        sample_beat = beat_there S' (Sample (level_of (bus_bit s (expected_bits s o) (suc n)))) longer last bit.samples.beat
+        sample_beat : beat_of setup.segments (seen_before sees S') (sees S') ≡ Sample lv
+        sample_beat = beat_there S' (Sample lv) longer last beat
 
         abbrev judgement : Judgement
         judgement = judged (stretch_of (node S').inputs) given
 
-        counts_there : counts_of ((node S').happened ++ judgement.happened ∷ []) ≡ no_counts
-        counts_there =
+        counts_then : counts_of ((node S').happened ++ judgement.happened ∷ []) ≡ no_counts
+        counts_then =
             fold-append counts_after no_counts (node S').happened (judgement.happened ∷ [])
-            ∙ ap (λ c. counts_after c judgement.happened) (ap counts_of last.happened ∙ at.counts)
-            ∙ fine_counts judgement.happened (ap (λ t. is_fine (judged t given).happened) at_stretch ∙ given_fine)
+            ∙ ap (λ c. counts_after c judgement.happened) (ap counts_of last.happened ∙ counts_first)
+            ∙ fine_counts judgement.happened (ap (λ t. is_fine (judged t given).happened) at_stretch ∙ given_takes.0)
 
-        mode_there : given.mode ≡ Active
-        mode_there = ap mode_of (ap counts_of last.happened ∙ at.counts)
+        mode_then : given.mode ≡ Active
+        mode_then = ap mode_of (ap counts_of last.happened ∙ counts_first)
 
         none_off : switched_off given.mode (mode_of (counts_of ((node S').happened ++ judgement.happened ∷ []))) ≡ []
         none_off =
-            ap (λ m. switched_off m (mode_of (counts_of ((node S').happened ++ judgement.happened ∷ [])))) mode_there ∙ ap (λ c. switched_off Active (mode_of c)) counts_there
+            ap (λ m. switched_off m (mode_of (counts_of ((node S').happened ++ judgement.happened ∷ [])))) mode_then ∙ ap (λ c. switched_off Active (mode_of c)) counts_then
 
-        inputs_there : (node (suc S')).inputs ≡ (node S').inputs ++ Given given ∷ []
-        inputs_there =
-            inputs_by S' (Sample (level_of (bus_bit s (expected_bits s o) (suc n)))) sample_beat
-            ∙ ap (λ v. ((node S').inputs ++ Given given ∷ []) ++ v) none_off ∙ append-nil ((node S').inputs ++ Given given ∷ [])
-
-        next_stretch : (z : Sampled) → z.level ≡ level_of (bus_bit s (expected_bits s o) (suc n)) → is_fine (judged X z).happened ≡ true
-            → stretch_after X (Given z) ≡ stretch_by (Framing head) (bus_levels s (expected_bits s o) (suc (suc n)))
-        next_stretch z e f =
-            on_after X z head (bus_levels s (expected_bits s o) (suc n)) framing going f
-            ∙ ap (λ l. stretch_by (Framing head) (bus_levels s (expected_bits s o) (suc n) ++ l ∷ [])) e
-
-        stretch_there : stretch_of (node (suc S')).inputs ≡ stretch_of (past_at s o (suc (suc n)) i)
+        pub stretch_there : stretch_of (node (suc S')).inputs ≡ next
         stretch_there =
-            ap stretch_of inputs_there ∙ stretch_next (node S').inputs (Given given) ∙ ap (λ t. stretch_after t (Given given)) at_stretch ∙ next_stretch given given_level given_fine
-            ∙ sym (ap stretch_of next_is ∙ stretch_next (past_at s o (suc n) i) (Given y) ∙ next_stretch y y_level fine)
+            ap stretch_of (inputs_by S' (Sample lv) sample_beat ∙ ap (λ v. ((node S').inputs ++ Given given ∷ []) ++ v) none_off ∙ append-nil ((node S').inputs ++ Given given ∷ []))
+            ∙ stretch_next (node S').inputs (Given given) ∙ ap (λ t. stretch_after t (Given given)) at_stretch ∙ given_takes.1
 
-        all_seen : (j : ℕ) → j < suc S' → expected j ≡ sees j
+        pub counts_there : counts_of (node (suc S')).happened ≡ no_counts
+        counts_there = ap counts_of (happened_by S' (Sample lv) sample_beat) ∙ counts_then
+
+        pub drive_there : (node (suc S')).drive ≡ level_of (drives S')
+        drive_there = drive_by S' (Sample lv) sample_beat ∙ last.drive
+
+        pub all_seen : (j : ℕ) → j < suc S' → expected j ≡ sees j
         all_seen = seen_more S' longer last
 
-        pub goes_to_next : GoesToNext s o i levels node n
-        goes_to_next = record {
+-- the next bit of a frame
+module _ (setup : NodeSetup) (levels : ℕ → Level) (node : ℕ → History) (run : IsRun setup levels node) (s : Stations) (o : Outset) (i n : ℕ) (segments : setup.segments ≡ s.lengths i)
+    (at : IsInBit s o i levels node n) (begins_after : expected_sample s o n i < (expected_bits s o (suc n)).from i) where
+  abbrev S : ℕ
+  S = expected_sample s o n i
+
+  abbrev S' : ℕ
+  S' = expected_sample s o (suc n) i
+
+  abbrev F : ℕ
+  F = (expected_bits s o (suc n)).from i
+
+  abbrev X : Stretch
+  X = stretch_of (past_at s o (suc n) i)
+
+  abbrev pub drives : ℕ → Bool
+  drives q = cond (nat_le q F) (wants s o n i) (wants s o (suc n) i)
+
+  drives_before : (q : ℕ) → q ≤ F → drives q ≡ wants s o n i
+  drives_before q less = ap (λ b. cond b (wants s o n i) (wants s o (suc n) i)) (le-leb q F less)
+
+  drives_after : (q : ℕ) → F < q → drives q ≡ wants s o (suc n) i
+  drives_after q more = ap (λ b. cond b (wants s o n i) (wants s o (suc n) i)) (lt-leb q F more)
+
+  pub drive_first : (node (suc S)).drive ≡ level_of (drives (suc S))
+  drive_first = at.drive ∙ ap level_of (sym (drives_before (suc S) begins_after))
+
+  -- what it is expected to see
+  abbrev pub sees_in : ℕ → Seen
+  sees_in = expected setup levels node run (s.lengths i) segments S S' X drives at.stretch drive_first
+
+  abbrev new_in : (q : ℕ) → S < q → sees_in q ≡ record { level = levels q; idle = is_idle_sort X.sort; awaits = awaits_start X; driving = drives q }
+  new_in = expected_new setup levels node run (s.lengths i) segments S S' X drives at.stretch drive_first
+
+  pub sees_expected : awaits_start X ≡ false → (length : ℕ)
+      → ((q : ℕ) → S < q → q ≤ S' → levels q ≡ level_of (driven s.count s.delay (expected_drove s o length) i (steady_tick (s.clocks i) q)))
+      → SeesExpected s o length i sees_in n
+  sees_expected none length finds = record {
+    level = λ q a b. ap (λ x. x.level) (new_in q a) ∙ finds q a b;
+    awaits = λ q a b. ap (λ x. x.awaits) (new_in q a) ∙ none;
+    before = λ q a b. ap (λ x. x.driving) (new_in q a) ∙ drives_before q b;
+    after = λ q a b. ap (λ x. x.driving) (new_in q (omega arith)) ∙ drives_after q a;
+  }
+
+  pub has_expected : HasSampled s o i sees_in n
+  has_expected =
+      let old = old_before setup levels node run (s.lengths i) segments S S' X drives at.stretch drive_first in
+      record {
+        sampled =
+            ap (λ v. beat_of (s.lengths i) v (sees_in S)) (old S (omega arith))
+            ∙ ap (beat_of (s.lengths i) (seen_before (clock_sees levels node) S)) (expected_old setup levels node run (s.lengths i) segments S S' X drives at.stretch drive_first S (omega arith))
+            ∙ at.clock.sampled;
+        steady = λ e. ap (clock_after (s.lengths i)) (old (suc S) (omega arith)) ∙ at.clock.steady e;
+      }
+
+  -- so it goes
+  module _ (bit : BitIs (s.lengths i) sees_in S ((expected_bits s o (suc n)).place i) F (level_of (bus_bit s (expected_bits s o) (suc n))))
+      (head : Option Content) (framing : X ≡ stretch_by (Framing head) (bus_levels s (expected_bits s o) (suc n)))
+      (going : stuffed_end (bus_levels s (expected_bits s o) (suc n)) ≡ None) (y : Sampled) (y_level : y.level ≡ level_of (bus_bit s (expected_bits s o) (suc n)))
+      (fine : is_fine (judged X y).happened ≡ true) (next_is : past_at s o (suc (suc n)) i ≡ past_at s o (suc n) i ++ Given y ∷ [])
+      (found : levels S' ≡ level_of (bus_bit s (expected_bits s o) (suc n))) (longer : S < S') (has_next : HasSampled s o i sees_in (suc n)) where
+    passes : (q : ℕ) → S < q → q < S' → Passes setup levels node run (s.lengths i) segments S S' X drives at.stretch drive_first q
+    passes q more less = elim (cases_eq q F) [
+      | inl here ↦ inr (
+        ap (λ k. beat_of (s.lengths i) (seen_before sees_in k) (sees_in k)) here ∙ bit.starts.starts,
+        drives_after (suc q) (omega (arith, here)),
+      )
+      | inr apart ↦ inl (
+        bit.starts.others q more less apart,
+        elim (cases_lt q F) [
+          | inl before ↦ drives_before (suc q) before ∙ sym (drives_before q (omega arith))
+          | inr from ↦ drives_after (suc q) (omega (arith, apart)) ∙ sym (drives_after q (omega (arith, apart)))
+        ],
+      )
+    ]
+
+    abbrev next_of : Stretch
+    next_of = stretch_by (Framing head) (bus_levels s (expected_bits s o) (suc (suc n)))
+
+    takes : (z : Sampled) → z.level ≡ level_of (bus_bit s (expected_bits s o) (suc n)) → (is_fine (judged X z).happened ≡ true) × (stretch_after X (Given z) ≡ next_of)
+    takes z e =
+        let f = fine_same X head (bus_levels s (expected_bits s o) (suc n)) y z framing going (y_level ∙ sym e) fine in (
+          f,
+          on_after X z head (bus_levels s (expected_bits s o) (suc n)) framing going f
+              ∙ ap (λ l. stretch_by (Framing head) (bus_levels s (expected_bits s o) (suc n) ++ l ∷ [])) e,
+        )
+
+    pub goes_to_next : GoesToNext s o i levels node n
+    goes_to_next =
+        let seen = all_seen setup levels node run (s.lengths i) segments S S' X drives at.stretch drive_first passes longer (level_of (bus_bit s (expected_bits s o) (suc n))) bit.samples.beat next_of
+        at.counts found takes in
+        let there = stretch_there setup levels node run (s.lengths i) segments S S' X drives at.stretch drive_first passes longer (level_of (bus_bit s (expected_bits s o) (suc n))) bit.samples.beat next_of
+        at.counts found takes in
+        let counts = counts_there setup levels node run (s.lengths i) segments S S' X drives at.stretch drive_first passes longer (level_of (bus_bit s (expected_bits s o) (suc n))) bit.samples.beat next_of
+        at.counts found takes in
+        let drive = drive_there setup levels node run (s.lengths i) segments S S' X drives at.stretch drive_first passes longer (level_of (bus_bit s (expected_bits s o) (suc n))) bit.samples.beat next_of
+        at.counts found takes ∙ ap level_of (drives_after S' bit.starts.inside) in
+        let same = same_at setup levels node run (s.lengths i) segments S S' X drives at.stretch drive_first passes longer in
+        record {
           bit = record {
             clock = record {
               sampled =
-                  ap (λ v. beat_of (s.lengths i) v (sees S')) (sym (seen_before_same expected sees S' (λ j less. all_seen j (omega arith))))
-                  ∙ ap (beat_of (s.lengths i) (seen_before expected S')) (sym (all_seen S' (omega arith))) ∙ has_next.sampled;
-              steady = λ e. ap (clock_after (s.lengths i)) (sym (seen_before_same expected sees (suc S') all_seen)) ∙ has_next.steady e;
+                  ap (λ v. beat_of (s.lengths i) v (clock_sees levels node S')) (sym (seen_before_same sees_in (clock_sees levels node) S' (λ j less. seen j (omega arith))))
+                  ∙ ap (beat_of (s.lengths i) (seen_before sees_in S')) (sym (seen S' (omega arith))) ∙ has_next.sampled;
+              steady = λ e. ap (clock_after (s.lengths i)) (sym (seen_before_same sees_in (clock_sees levels node) (suc S') seen)) ∙ has_next.steady e;
             };
-            stretch = stretch_there;
-            counts = ap counts_of (happened_by S' (Sample (level_of (bus_bit s (expected_bits s o) (suc n)))) sample_beat) ∙ counts_there;
-            drive =
-                drive_by S' (Sample (level_of (bus_bit s (expected_bits s o) (suc n)))) sample_beat ∙ last.drive
-                ∙ ap level_of (drives_after S' bit.starts.inside);
+            stretch = there ∙ sym (ap stretch_of next_is ∙ stretch_next (past_at s o (suc n) i) (Given y) ∙ (takes y y_level).1);
+            counts = counts;
+            drive = drive;
           };
-          before = λ q a b. (same_at q a (let h = bit.starts.inside in omega arith)).drive ∙ ap level_of (drives_before q b);
+          before = λ q a b. (same q a (let h = bit.starts.inside in omega arith)).drive ∙ ap level_of (drives_before q b);
           after = λ q a b. elim (cases_lt S' q) [
-            | inl above ↦
-                (let e : suc S' ≡ q = omega arith in
-                subst (λ k. (node k).drive ≡ level_of (wants s o (suc n) i)) e
-                (drive_by S' (Sample (level_of (bus_bit s (expected_bits s o) (suc n)))) sample_beat ∙ last.drive ∙ ap level_of (drives_after S' bit.starts.inside)))
-            | inr inside ↦ (same_at q (omega arith) inside).drive ∙ ap level_of (drives_after q a)
+            | inl above ↦ (let e : suc S' ≡ q = omega arith in subst (λ k. (node k).drive ≡ level_of (wants s o (suc n) i)) e drive)
+            | inr inside ↦ (same q (omega arith) inside).drive ∙ ap level_of (drives_after q a)
           ];
         }

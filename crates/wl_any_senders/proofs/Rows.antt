@@ -1,5 +1,6 @@
 -- Worked stations, by computation.
-use Rattle.std.proofs.Common.{◌≡◌, ℕ, zero, suc, ◌+◌, true, false, refl}
+use Rattle.std.proofs.Common.{◌≡◌, ℕ, zero, suc, ◌+◌, Bool, true, false, [], ◌∷◌, Some, refl}
+use Rattle.wl_level.specs.declared.Level.TheVariants.{Dominant}
 use Rattle.wl_segments.specs.declared.SyncRules.TheVariants.{Book}
 use Rattle.wl_segments.specs.Lengths.{Lengths}
 use Rattle.wl_clock.specs.Timing.{tick_of}
@@ -11,6 +12,9 @@ use Rattle.wl_any_senders.specs.Acknowledged.{any_way, chased_way, jump_gap}
 use Rattle.wl_any_senders.specs.Answers.{gathered}
 use Rattle.wl_any_senders.specs.Bounds.{bus_way, following_way}
 use Rattle.wl_any_senders.specs.Starts.{Start, reaches_at}
+use Rattle.wl_any_senders.specs.Course.{since_edge, still_sends}
+use Rattle.wl_any_senders.specs.Machines.{bus_levels}
+use Rattle.wl_any_senders.specs.Expected.{from_after, from_found, place_found}
 
 -- a bit of 1 + 3 + 3 + 3 quanta with its sample at place 7
 abbrev l : Lengths
@@ -121,3 +125,50 @@ gathers_twice = refl
 
 of_two_nodes : gathered (record bus { nodes = 2 }) (λ k. 2) 0 1 ≡ 0
 of_two_nodes = refl
+
+-- if the bit of 0 is due with its quantum 20, and that of 1 with its quantum 21 at tick 227, 1 follows so: its quantum 20 at tick 217 is the first that finds the edge
+abbrev both : ℕ → Bool
+both i = true
+
+abbrev dues : ℕ → ℕ
+dues i = 20 + i
+
+begins_alone : from_after s both dues 2 0 ≡ 20
+unfolding tick_of
+begins_alone = refl
+
+follows : from_after s both dues 2 1 ≡ 20
+unfolding tick_of
+follows = refl
+
+moved_place : place_found s dues 1 (Some 20) ≡ 19
+moved_place = refl
+
+moved_from : from_found s dues 1 (Some 20) ≡ 20
+moved_from = refl
+
+-- both begin a frame, then 0 sends dominant, recessive, dominant and 1 sends recessive: 1 has lost by bit 1, and the last edge is that of bit 3
+abbrev drives_in : ℕ → ℕ → Bool
+drives_in zero k = true
+drives_in (suc zero) zero = true
+drives_in (suc (suc zero)) zero = false
+drives_in (suc (suc (suc n))) zero = true
+drives_in (suc n) (suc k) = false
+
+abbrev frame : ℕ → Start
+frame n = record { drives = drives_in n; due = dues; place = places; from = dues }
+
+lost : still_sends s frame 2 1 ≡ false
+lost = refl
+
+left : still_sends s frame 4 0 ≡ true
+left = refl
+
+two_bits : bus_levels s frame 2 ≡ Dominant ∷ Dominant ∷ []
+two_bits = refl
+
+no_edge_since : since_edge s frame 2 ≡ 2
+no_edge_since = refl
+
+edge_there : since_edge s frame 3 ≡ 0
+edge_there = refl

@@ -67,7 +67,7 @@ module _ (steps : StayInStep) (errors : FindNoErrors) (winner : LeastWins) (stuf
   wants_are n k = drives_are steps errors winner stuffed six ten s are room o is n k
 
   -- who drives a bit dominant sends on after it
-  sends_on : (n k : ℕ) → n < length → k < s.count → wants s o n k ≡ true → sends (suc n) k ≡ true
+  pub sends_on : (n k : ℕ) → n < length → k < s.count → wants s o n k ≡ true → sends (suc n) k ≡ true
   sends_on n k less there dominant =
       and_from (sends n k) ((bits n).drives k || not (bus n)) (wants_sends steps errors winner stuffed six ten s are room o is length valid n k (omega arith) there dominant)
       (or_left ((bits n).drives k) (not (bus n)) (wants_are n k ∙ dominant))
@@ -76,7 +76,7 @@ module _ (steps : StayInStep) (errors : FindNoErrors) (winner : LeastWins) (stuf
   on_bus n k there dominant = any_from s.count k (bits n).drives there (wants_are n k ∙ dominant)
 
   -- no sender's bit comes before the sample of the one before
-  not_before : (n i k : ℕ) → n < length → i < s.count → k < s.count → sends (suc n) k ≡ true → sampled_at s (bits n) i < reaches_at s (bits (suc n)) k i
+  pub not_before : (n i k : ℕ) → n < length → i < s.count → k < s.count → sends (suc n) k ≡ true → sampled_at s (bits n) i < reaches_at s (bits (suc n)) k i
   not_before n i k less inside there sender =
       next_later s are room (sends (suc n)) (since_edge s bits n) (bits n) (bits (suc n)) drove
       (one_bit s are room bits drove length (λ k. expected_end s o length) the_course laws n less)

@@ -1,21 +1,29 @@
 -- A line whose nodes begin a frame, as stations.
-use Rattle.std.specs.Prelude.{◌≡◌, ℕ, suc, ◌+◌, ◌-◌, ◌<◌, ◌≤◌, false, List, Some}
+use Rattle.std.specs.Prelude.{◌≡◌, ℕ, suc, ◌+◌, ◌-◌, ◌<◌, ◌≤◌, true, false, List, Some}
 use Rattle.wl_level.specs.declared.Level.{Level}
 use Rattle.wl_level.specs.declared.Level.TheVariants.{Recessive}
 use Rattle.wl_level.specs.Levels.{is_dominant, level_of}
+use Rattle.wl_confine.specs.Counts.{counts_of, no_counts}
+use Rattle.wl_segments.specs.Lengths.{bit_quanta, sample_at}
+use Rattle.wl_sync.specs.Running.{clock_after}
+use Rattle.wl_sync.specs.Skips.{steady_clock}
 use Rattle.wl_machine.specs.Frames.{stuffed_end}
+use Rattle.wl_machine.specs.Judged.{stretch_of}
 use Rattle.wl_node.specs.declared.setup.NodeSetup.{NodeSetup}
 use Rattle.wl_node.specs.History.{History, history_of}
 use Rattle.wl_phase.specs.Clocks.{steady_tick}
+use Rattle.wl_phase.specs.InStep.{seen_before}
 use Rattle.wl_plan.specs.Line.{Line}
 use Rattle.wl_plan.specs.Simulation.{level, seen}
 use Rattle.wl_plan.specs.Sound.{IsCausal}
 use Rattle.wl_one_sender.specs.Expected.{levels_found}
 use Rattle.wl_one_sender.specs.Levels.{levels_before}
 use Rattle.wl_any_senders.specs.Stations.{Stations}
+use Rattle.wl_any_senders.specs.Starts.{BeginsAlone, FollowsHard}
+use Rattle.wl_any_senders.specs.Clocked.{SamplesBy}
 use Rattle.wl_any_senders.specs.Expected.{Outset, expected_bits, expected_drove, expected_sample, wants}
 use Rattle.wl_any_senders.specs.Machines.{HasWon, bus_levels}
-use Rattle.wl_any_senders.specs.Nodes.{IsInBit}
+use Rattle.wl_any_senders.specs.Nodes.{IsInBit, clock_sees}
 
 -- The nodes of a line are these stations. Nothing disturbs them.
 pub record IsLineOf (l : Line) (setups : ℕ → NodeSetup) (s : Stations) : Type 0 where
@@ -24,7 +32,7 @@ pub record IsLineOf (l : Line) (setups : ℕ → NodeSetup) (s : Stations) : Typ
   pub drives : (i : ℕ) (levels : List Level) → i < l.nodes → l.drives i levels ≡ is_dominant (history_of (setups i) levels).drive
   pub ticks : (i k : ℕ) → i < l.nodes → l.instant i k ≡ steady_tick (s.clocks i) k
   pub segments : (i : ℕ) → i < l.nodes → (setups i).segments ≡ s.lengths i
-  pub delays : (i k : ℕ) → s.delay i k ≡ l.delay i k
+  pub delays : (i k : ℕ) → i < l.nodes → k < l.nodes → s.delay i k ≡ l.delay i k
   pub undisturbed : (i t : ℕ) → i < l.nodes → l.disturbed i t ≡ false
 
 -- what a node finds if all drive as is expected of so many bits, and the node after those levels
@@ -53,3 +61,18 @@ pub record DoesAsExpected (l : Line) (setups : ℕ → NodeSetup) (s : Stations)
   pub node : (i k : ℕ) → i < l.nodes → ((j : ℕ) → j < k → l.instant i j < end) → history_of (setups i) (seen l i k) ≡ node_after (setups i) (finds_expected l s o length i) k
   pub bits : (i n : ℕ) → i < s.count → n < length → IsInBit s o i (finds_expected l s o length i) (node_after (setups i) (finds_expected l s o length i)) n
   pub won : stuffed_end (bus_levels s (expected_bits s o) length) ≡ Some length → HasWon s (expected_bits s o) o.frames length
+
+-- A node rests before a frame: it has sampled a recessive bit with its place 0 at the quantum `rest`, and no edge has moved that bit. It has driven nothing so far, and nothing has counted.
+pub record RestsBefore (s : Stations) (o : Outset) (i : ℕ) (levels : ℕ → Level) (node : ℕ → History) (rest : ℕ) : Type 0 where
+  pub sampled : SamplesBy (s.lengths i) (clock_sees levels node) (rest + sample_at (s.lengths i)) Recessive
+  pub clock : clock_after (s.lengths i) (seen_before (clock_sees levels node) (suc (rest + sample_at (s.lengths i)))) ≡ steady_clock (s.lengths i)
+  pub stretch : stretch_of (node (suc (rest + sample_at (s.lengths i)))).inputs ≡ stretch_of (o.past i)
+  pub counts : counts_of (node (suc (rest + sample_at (s.lengths i)))).happened ≡ no_counts
+  pub drive : (q : ℕ) → q ≤ suc (rest + sample_at (s.lengths i)) → (node q).drive ≡ Recessive
+
+-- It begins the frame by itself a bit after that one, or by an edge that comes before its next sample, and if it is to send by the quantum with which its start of frame is due.
+pub record BeginsAfter (s : Stations) (o : Outset) (i rest : ℕ) : Type 0 where
+  pub alone : BeginsAlone s o.start i → o.start.due i ≡ rest + bit_quanta (s.lengths i)
+  pub later : (f : FollowsHard s o.start i) → rest + sample_at (s.lengths i) < f.found
+  pub inside : (f : FollowsHard s o.start i) → f.found ≤ rest + sample_at (s.lengths i) + bit_quanta (s.lengths i)
+  pub in_time : (f : FollowsHard s o.start i) → o.start.drives i ≡ true → f.found ≤ rest + bit_quanta (s.lengths i)

@@ -1,6 +1,6 @@
 //! Laws of several senders, each proved as the contract of a function that does nothing.
 
-ghost use Rattle.std.specs.Prelude.{◌≡◌, ◌+◌, ◌-◌, ◌<◌, ◌≤◌, ℕ, suc, true, Bool, List, Some, None};
+ghost use Rattle.std.specs.Prelude.{◌≡◌, ◌+◌, ◌-◌, ◌<◌, ◌≤◌, ℕ, suc, true, Bool, List, [], Some, None};
 ghost use Rattle.wl_level.specs.declared.Level.TheVariants.{Dominant};
 ghost use Rattle.wl_level.specs.Levels.{level_of};
 ghost use Rattle.wl_level.specs.declared.Level.{Level};
@@ -8,7 +8,8 @@ ghost use Rattle.wl_node.specs.declared.setup.NodeSetup.{NodeSetup};
 ghost use Rattle.wl_node.specs.History.{History};
 ghost use Rattle.wl_topology.specs.Driven.{driven};
 ghost use Rattle.wl_plan.specs.Line.{Line};
-ghost use Rattle.wl_any_senders.specs.Lines.{BeginsAsExpected, DoesAsExpected, IsBeforeEnd, IsLineOf};
+ghost use Rattle.wl_plan.specs.PlanLine.{line_of, setup_at};
+ghost use Rattle.wl_any_senders.specs.Lines.{BeginsAfter, BeginsAsExpected, DoesAsExpected, IsBeforeEnd, IsLineOf, RestsBefore, finds_expected, node_after};
 ghost use Rattle.wl_any_senders.specs.Nodes.{GoesToNext, IsInBit, IsRun};
 ghost use Rattle.wl_frame.specs.Grammar.{Content};
 ghost use Rattle.wl_machine.specs.Frames.{stuffed_end};
@@ -245,4 +246,51 @@ pub fn a_line_does_what_is_expected()
     wl_machine::laws::a_transmitter_sends_its_head_stuffed();
     wl_frame::laws::a_front_of_no_stuffing_ends_six_equal_bits();
     wl_frame::laws::ten_bits_have_an_edge();
+}
+
+/// Law: a node that rests before a frame begins it as is expected, if it finds what is expected: by itself a bit after the last one that
+/// it has sampled, or by the edge of another one's start of frame, which synchronises it hard.
+pub fn a_node_at_rest_begins_as_expected()
+    ensures { (l : Line) (setups : ℕ → NodeSetup) (s : Stations) (o : Outset) (length i rest : ℕ) → IsLineOf l setups s
+        → AreStations s → HaveRoom s → IsOutset s o → 0 < length
+        → ((n : ℕ) → n < length → stuffed_end (bus_levels s (expected_bits s o) n) ≡ None) → i < s.count → BeginsAfter s o i rest
+        → RestsBefore s o i (finds_expected l s o length i) (node_after (setups i) (finds_expected l s o length i)) rest
+        → BeginsAsExpected l setups s o length i }
+{
+    wl_topology::driven_laws();
+    a_station_begins_its_bits();
+    wl_sync::clock_goes_on();
+    wl_phase::laws::an_edge_moves_the_sample();
+    wl_wire::laws::machines_stay_in_step();
+    wl_wire::laws::the_least_field_wins();
+    wl_machine::laws::a_transmitter_sends_its_head_stuffed();
+    wl_frame::laws::a_front_of_no_stuffing_ends_six_equal_bits();
+    wl_frame::laws::ten_bits_have_an_edge();
+}
+
+/// Law: so it is with each checked plan of one rate a clock, by the rules of the book, without disturbances and nodes that only listen.
+/// Let its stations have room, as by the condition for margins, and each of its nodes rest before a frame that some of them begin. Then up
+/// to the end of the CRC sequence all sample each bit as it is on the bus, whoever sends, and none finds an error. The one that is left has
+/// the least arbitration field.
+pub fn a_plan_does_what_is_expected()
+    ensures room { (plan : Plan) (s : Stations) (o : Outset) (rest : ℕ → ℕ) (length end : ℕ) → IsPlanOf plan s
+        → plan.disturbances ≡ [] → HaveWays s → HaveRoom s → IsOutset s o → 0 < length
+        → ((n : ℕ) → n < length → stuffed_end (bus_levels s (expected_bits s o) n) ≡ None)
+        → ((i : ℕ) → i < s.count → BeginsAfter s o i (rest i))
+        → ((i : ℕ) → i < s.count → RestsBefore s o i (finds_expected (line_of plan) s o length i)
+        (node_after (setup_at plan i) (finds_expected (line_of plan) s o length i)) (rest i))
+        → IsBeforeEnd (line_of plan) s o length end → DoesAsExpected (line_of plan) (setup_at plan) s o length end }
+    ensures sound { (plan : Plan) (s : Stations) (bus : Bus) (o : Outset) (rest : ℕ → ℕ) (length end : ℕ)
+        → IsPlanOf plan s → plan.disturbances ≡ [] → IsBusOf bus s → IsSound bus → IsOutset s o → 0 < length
+        → ((n : ℕ) → n < length → stuffed_end (bus_levels s (expected_bits s o) n) ≡ None)
+        → ((i : ℕ) → i < s.count → BeginsAfter s o i (rest i))
+        → ((i : ℕ) → i < s.count → RestsBefore s o i (finds_expected (line_of plan) s o length i)
+        (node_after (setup_at plan i) (finds_expected (line_of plan) s o length i)) (rest i))
+        → IsBeforeEnd (line_of plan) s o length end → DoesAsExpected (line_of plan) (setup_at plan) s o length end }
+{
+    wl_plan::checked_is_sound();
+    a_plan_is_on_a_line();
+    a_sound_bus_has_room();
+    a_node_at_rest_begins_as_expected();
+    a_line_does_what_is_expected();
 }
