@@ -4,8 +4,8 @@
     senders.py search RUNS SEED [LEFT]    plays 2 to 5 stations on buses that keep the condition, half of them at its border; or, with LEFT
                                           (early_fits, late_fits, is_there, loops or not_early), on buses that break that inequality alone. Says how
                                           many frames were played, bits sampled and starts compared, and how many were refused
-    senders.py answer RUNS SEED [LEFT]    the same up to the end of the frame, with its acknowledgement, on buses that have room for one; LEFT is one
-                                          of these, or chase, which counts one edge less in which a station catches up
+    senders.py answer RUNS SEED [LEFT]    the same up to the end of the frame, with its acknowledgement, on buses that have room for one. LEFT is one
+                                          of these but loops, which is_there implies; or chase: each station has an edge less to catch up
 
 A station is a bit clock of check/phase.py and a list of bits to send, or none. It begins its start of frame at the first bit that begins
 once it is ready, or with the first edge. It sends on as long as it samples what it sends.
@@ -318,8 +318,8 @@ def answer(runs, seed, left):
         # else the edges are ten bits apart, and the last one ten bits before the ACK slot
         bits = stuffed(rng) if rng.random() < 0.5 else [True] + [(length - 1 - n) % 10 >= 4 for n in range(1, BITS + 2)]
         winner = 0
-        bus = draw(rng, None if left == "chase" else left, lambda bus: bus.answers_broken(0) | (bus.broken() if bus.may[0] and left != "loops" else set()))
-        if not bus.may[0] or (left and left != "loops" and bus.broken()): continue
+        bus = draw(rng, None if left == "chase" else left, lambda bus: bus.answers_broken(0) | (bus.broken() if bus.may[0] else set()))
+        if not bus.may[0] or (left and bus.broken()): continue
         chase = bus.chases(0)
         if left == "chase":
             if not any(chase): continue
