@@ -6,7 +6,7 @@
 # - the explanation, the trace and the waveform of each of them as check/plain.py gives them, and the explanations of plans with every doubt, by the book and
 #   not, and of one whose clocks change their rates
 # - the log of one plan, as ticks of three lengths have it, and the waveform of one, as ticks of two have it
-# - two nodes with full queues, as check/plain.py reports them, and their trace, a long one, in other formats; a bus that idles, in less than a second
+# - two nodes with full queues, as check/plain.py reports them, and their trace, a long one, in other formats; a bus that idles, in less than 200 ms
 # - each row of .ci/refused.txt: the status, the one line on standard error, nothing on standard output but what explain says of it, and the hint
 # - files for input and output: what stands at the named place on each outcome; devices, rights, full disks, closed descriptors, odd names
 # - settings: lists and plans as check/settings.py has them, and what is refused (.ci/settings.sh)
@@ -97,7 +97,7 @@ is "its JSON" [ "$("$program" trace --format json < "$room/full.toml" | python3 
 # A bus that idles costs next to nothing: 800,000 quanta of each of three nodes.
 sed 's/^end = .*/end = 100_000_000/' examples/clean_500k.toml > "$room/idle.toml"
 used=$( (TIMEFORMAT='%U %S'; time "$program" run < "$room/idle.toml" > "$room/out" 2> "$room/err") 2>&1 | awk '{ print int(1000 * ($1 + $2)) }')
-is "an idle bus of 100,000,000 ticks takes $used ms" [ "$used" -lt 1000 -a ! -s "$room/err" -a "$(tail -1 "$room/out")" = 'verdict clean' ]
+is "an idle bus of 100,000,000 ticks takes $used ms" [ "$used" -lt 200 -a ! -s "$room/err" -a "$(tail -1 "$room/out")" = 'verdict clean' ]
 
 # A page has what the other commands write, each text once, also of a plan whose remarks look like a page's own words.
 printf '# </pre><script>alert(1)</script> &amp; \r\n' | cat - examples/burst.toml > "$room/marked.toml"
