@@ -281,7 +281,8 @@ pub fn a_plan_does_what_is_expected()
         (node_after (setup_at plan i) (finds_expected (line_of plan) s o length i)) (rest i))
         → IsBeforeEnd (line_of plan) s o length end → DoesAsExpected (line_of plan) (setup_at plan) s o length end }
     ensures sound { (plan : Plan) (s : Stations) (bus : Bus) (o : Outset) (rest : ℕ → ℕ) (length end : ℕ)
-        → IsPlanOf plan s → plan.disturbances ≡ [] → IsBusOf bus s → IsSound bus → IsOutset s o → 0 < length
+        → IsPlanOf plan s → plan.disturbances ≡ [] → IsBusOf bus s → IsLeftForTwo bus s → IsSound bus → IsOutset s o
+        → 0 < length
         → ((n : ℕ) → n < length → stuffed_end (bus_levels s (expected_bits s o) n) ≡ None)
         → ((i : ℕ) → i < s.count → BeginsAfter s o i (rest i))
         → ((i : ℕ) → i < s.count → RestsBefore s o i (finds_expected (line_of plan) s o length i)
