@@ -1,6 +1,6 @@
 -- The stretch of a frame, one sample later.
 use Rattle.std.proofs.Common.{◌≡◌, ◌∙◌, refl, ap, sym, ℕ, suc, ◌<◌, ◌≤◌, nat_le, nat_lt, ◌&&◌, not, Bool, true, false, cond, List, [], ◌∷◌, ◌++◌, length, Option, None, arith}
-use Rattle.std.proofs.lemmas.Bool.{le-ltb}
+use Rattle.std.proofs.lemmas.Bool.{and_right, le-ltb}
 use Rattle.wl_level.specs.declared.Level.{Level}
 use Rattle.wl_level.specs.Levels.{is_dominant, opposite}
 use Rattle.wl_level.specs.Places.{at, before, or_at, first_place}
@@ -19,10 +19,6 @@ use Rattle.wl_machine.specs.Roles.{RoleLaws, loses}
 use Rattle.wl_trace.specs.Events.{is_transmitter}
 use Rattle.wl_trace.specs.Running.{way_of}
 
-never : (a b : Bool) → b ≡ false → (a && b) ≡ false
-never true b e = e
-never false b e = refl
-
 nowhere : (a b c d : Bool) → b ≡ false → (a && b && c && d) ≡ false
 nowhere true b c d e = ap (λ (x : Bool). x && c && d) e
 nowhere false b c d e = refl
@@ -30,8 +26,8 @@ nowhere false b c d e = refl
 -- a place behind the longest arbitration is in none
 by_format : (extended : Bool) (bits : List Level) (k : ℕ) → 32 < k
     → (nat_le (layout_by extended bits).start k && nat_lt k (layout_by extended bits).arbitration) ≡ false
-by_format true bits k far = never (nat_le 1 k) (nat_lt k 33) (le-ltb k 33 (omega arith))
-by_format false bits k far = never (nat_le 1 k) (nat_lt k 13) (le-ltb k 13 (omega arith))
+by_format true bits k far = and_right (nat_le 1 k) (nat_lt k 33) (le-ltb k 33 (omega arith))
+by_format false bits k far = and_right (nat_le 1 k) (nat_lt k 13) (le-ltb k 13 (omega arith))
 
 module _ (head : Content) (own bits : List Level) (x : Level) (kept : bits ≡ destuffed_bits own (length own)) where
   -- what the arbitration asks, by whether a stuff bit is due
