@@ -9,6 +9,7 @@ mod Counting
 mod Expecting
 mod Going
 mod Ideal
+mod Idling
 mod Lines
 mod Machines
 mod Measures

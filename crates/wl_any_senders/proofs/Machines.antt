@@ -171,7 +171,7 @@ first_any (suc n) p = some_or (first_place p n) (p n) n ∙ ap (λ b. b || p n) 
     some_or None true n = refl
     some_or None false n = refl
 
-frames_after : (w : Wire) (events : List Event) → (wire_after w events).frames ≡ w.frames
+pub frames_after : (w : Wire) (events : List Event) → (wire_after w events).frames ≡ w.frames
 frames_after w [] = refl
 frames_after w (event ∷ events) = frames_after (next_wire w event) events
 

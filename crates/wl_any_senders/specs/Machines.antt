@@ -1,6 +1,8 @@
 -- Stations whose machines drive the bits of a frame, each by what it has sampled before.
-use Rattle.std.specs.Prelude.{◌≡◌, ◌≢◌, ◌⊎◌, ℕ, zero, suc, ◌<◌, ◌≤◌, Bool, true, false, List, [], ◌∷◌, ◌++◌, Option, Some, slice_get}
+use Rattle.std.specs.Prelude.{◌≡◌, ◌≢◌, ◌⊎◌, ℕ, zero, suc, ◌<◌, ◌≤◌, Bool, true, false, List, [], ◌∷◌, ◌++◌, Option, Some, None, replicate, ◌+◌, slice_get}
 use Rattle.wl_level.specs.declared.Level.{Level}
+use Rattle.wl_level.specs.declared.Level.TheVariants.{Recessive}
+use Rattle.wl_confine.specs.declared.Mode.TheVariants.{Active}
 use Rattle.wl_level.specs.Levels.{is_dominant, level_of}
 use Rattle.wl_topology.specs.Driven.{driven}
 use Rattle.wl_frame.specs.Grammar.{Content, bits_of}
@@ -11,7 +13,7 @@ use Rattle.wl_machine.specs.Stretch.Sort.{Idle, Framing}
 use Rattle.wl_machine.specs.Stretch.Input.{Sample}
 use Rattle.wl_machine.specs.Frames.{frame_role}
 use Rattle.wl_machine.specs.Judged.{drive_of, judged, stretch_of}
-use Rattle.wl_machine.specs.States.{stretch_by}
+use Rattle.wl_machine.specs.States.{sample_of, stretch_by}
 use Rattle.wl_wire.specs.Wire.{Event, Handed, idle_wire, sampled, wire_after}
 use Rattle.wl_wire.specs.InStep.{Has, is_fine}
 use Rattle.wl_wire.specs.Winner.{Beats}
@@ -72,3 +74,18 @@ pub record HasWon (s : Stations) (bits : ℕ → Start) (frames : ℕ → List C
   pub sends : still_sends s bits n station ≡ true
   pub alone : (k : ℕ) → k < s.count → k ≢ station → still_sends s bits n k ≡ false
   pub beats : (k : ℕ) → k < s.count → k ≢ station → (bits 0).drives k ≡ true → (other : Content) × Has frames k other × Beats frame other
+
+-- A machine has sampled an idle bus since its power-up: eleven recessive bits or more without a frame to send, and then at most one with which it may be handed one (ISO 11898-1, bus
+-- integration).
+abbrev pub no_frame_sample : Input
+no_frame_sample = Sample (sample_of Recessive None Active)
+
+abbrev pub HasIdled : (ℕ → List Content) → ℕ → List Input → Type 0
+HasIdled frames k past =
+    (n : ℕ) × ((past ≡ replicate (11 + n) no_frame_sample) ⊎ ((h : Handed) × (past ≡ replicate (11 + n) no_frame_sample ++ Sample (sampled Recessive (frames k) h) ∷ [])))
+
+-- machines that are on one wire, and may begin a frame
+pub record MayBeginTogether (count : ℕ) (frames : ℕ → List Content) (past : ℕ → List Input) : Type 0 where
+  pub earlier : List Event
+  pub reached : (k : ℕ) → k < count → past k ≡ (wire_after (idle_wire count frames) earlier).past k
+  pub may : (k : ℕ) → k < count → MayBegin frames k (stretch_of (past k))

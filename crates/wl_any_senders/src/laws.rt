@@ -31,7 +31,7 @@ ghost use Rattle.wl_any_senders.specs.Starts.{AreAllowed, AreSenders, BeginBit, 
 ghost use Rattle.wl_any_senders.specs.Expected.{HasSampled, IsOutset, Outset, SeesExpected, edge_start, expected_bits, expected_drove, expected_end, expected_sample};
 ghost use Rattle.wl_any_senders.specs.OneBit.{AreRight, OneBit};
 ghost use Rattle.wl_any_senders.specs.Course.{IsCourse, IsSampled, bus_bit};
-ghost use Rattle.wl_any_senders.specs.Machines.{AllRight, AreMachines, SomeBegins, GoesByMachines, HasWon, bus_levels};
+ghost use Rattle.wl_any_senders.specs.Machines.{AllRight, HasIdled, MayBeginTogether, AreMachines, SomeBegins, GoesByMachines, HasWon, bus_levels};
 
 /// Law: stations that begin a frame begin it close together: the start of frame of each reaches each other one by its way after that
 /// one's own has begun, if one of the two may send. A station begins by itself if no edge has reached it. Each other one follows the
@@ -168,6 +168,13 @@ pub fn a_bit_with_an_edge_begins()
         → ((i k : ℕ) → i < s.count → Drives s (edge_start s drives due) i k
         → steady_tick (s.clocks i) 0 < reaches_at s (edge_start s drives due) k i)
         → (k : ℕ) → k < s.count → drives k ≡ true → BeginBit s (edge_start s drives due) }
+{}
+
+/// Law: machines that have sampled an idle bus are on one wire and may begin a frame together, whenever each began to sample: eleven
+/// recessive bits or more without a frame to send, and at most one with which each may be handed one.
+pub fn idle_machines_may_begin_together()
+    ensures { (count : ℕ) (frames : ℕ → List Content) (past : ℕ → List Input)
+        → ((k : ℕ) → k < count → HasIdled frames k (past k)) → MayBeginTogether count frames past }
 {}
 
 /// Law: what is expected of stations is a course, whatever frames they have: the bits that their machines drive, each when it begins by
