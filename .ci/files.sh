@@ -48,6 +48,9 @@ mkfifo "$files/pipe" && (cat "$files/pipe" > "$files/through" & "$program" run "
 # A new file gets a name that is free: what a run that was killed has left stays
 echo left > "$files/.wireline-0.new" && said 'a new file beside one that was left' 0 '' run "$plan" -o out && holds 'a new file beside one that was left' out "$report"
 holds 'one that was left' .wireline-0.new <(echo left) && rm "$files/.wireline-0.new"
+# A pipe can't be read once more for a hint: it isn't waited for
+sed 's/^sjw = 3/sjw = 9/' "$plan" > "$files/bad" && (cat "$files/bad" > "$files/pipe" &)
+said 'a pipe with a hint' 1 'fault: NodeSegments(0, Jump)\nhint: sjw is out of its bounds or above ps1. Set `sjw` from 1 to 4 and at most `ps1`.\n' check --hint pipe
 # Names: a newline, an escape, a leading dash, 255 bytes, no UTF-8
 long=$(printf 'x%.0s' {1..255})
 for name in $'a\nb' $'\e[31mred' ./-x "$long" 'a b'; do
