@@ -15,7 +15,7 @@ use Rattle.wl_plan.specs.PlanLine.{line_of, setup_at}
 use Rattle.wl_plan.specs.Limits.{most_quanta, most_quanta-is}
 use Rattle.wl_plan.specs.Simulation.{history, ran}
 use Rattle.wl_plan.specs.SimulationLaws.{SimulationLaws}
-use Rattle.wl_plan.specs.Checked.{IsChecked, CheckedIsSound}
+use Rattle.wl_plan.specs.Checked.{IsChecked}
 use Rattle.wl_plan.specs.Sound.{IsSound}
 use Rattle.wl_serial.specs.declared.outcome.NodeOutcome.{NodeOutcome}
 use Rattle.wl_serial.specs.declared.outcome.Outcome.{Outcome}
@@ -74,10 +74,7 @@ few = omega (arith, most_quanta-is)
 within : (q : ℕ) {m n : ℕ} → q < m → m ≤ n → q ≤ n
 within q {m} {n} h g = omega arith
 
-module _ (sounds : CheckedIsSound) (laws : SimulationLaws) (in_time : SentInTime) (plan : Plan) (checked : IsChecked plan) (i : ℕ) (b : i < length plan.nodes) where
-  sound : IsSound (line_of plan)
-  sound = sounds plan checked
-
+module _ (plan : Plan) (checked : IsChecked plan) (sound : IsSound (line_of plan)) (laws : SimulationLaws) (in_time : SentInTime) (i : ℕ) (b : i < length plan.nodes) where
   samples_ran : Before (ran (line_of plan) i plan.end) (node_outcome_of plan i).samples
   samples_ran = samples_before (setup_at plan i) ((history (line_of plan) plan.end).seen i)
 

@@ -2,7 +2,6 @@
 use Rattle.std.specs.Prelude.{ℕ, ◌<◌, ◌≤◌, ◌^◌, length, Option, Some, None}
 use Rattle.std.specs.List.{All}
 use Rattle.wl_plan.specs.declared.plan.Plan.{Plan}
-use Rattle.wl_plan.specs.Checked.{IsChecked}
 use Rattle.wl_serial.specs.declared.outcome.NodeOutcome.{NodeOutcome}
 use Rattle.wl_serial.specs.Outcome.{node_outcome_of}
 use Rattle.wl_traffic.specs.declared.entries.Entry.{Entry}
@@ -21,6 +20,6 @@ pub record AreKnown (node : NodeOutcome) : Type 0 where
   pub samples : All (λ s. s.0 ≤ 2 ^ 21) node.samples
   pub frames : All (λ p. p.quantum ≤ 2 ^ 21) node.frames
 
--- of each node of a plan that can be run
-abbrev pub QuantaAreKnown : Type 0
-QuantaAreKnown = (plan : Plan) → IsChecked plan → (i : ℕ) → i < length plan.nodes → AreKnown (node_outcome_of plan i)
+-- of each node of a plan
+abbrev pub QuantaAreKnown : Plan → Type 0
+QuantaAreKnown plan = (i : ℕ) → i < length plan.nodes → AreKnown (node_outcome_of plan i)

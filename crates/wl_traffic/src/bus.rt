@@ -1,6 +1,5 @@
 //! How busy the bus was.
 ghost use Rattle.std.specs.Prelude.{◌≡◌, ◌<◌, ◌≤◌, length, IfOk};
-ghost use Rattle.wl_plan.specs.Checked.{IsChecked};
 ghost use Rattle.wl_serial.specs.Outcome.{outcome_of};
 ghost use Rattle.wl_traffic.specs.Bus.{bus_found, finding_of, found_in, is_busy_doing, is_idle_doing, is_off_doing, longest_gap, quieter, share_of, ticks_in, time_in};
 
@@ -8,7 +7,7 @@ use crate::nodes::{node_at, quanta_are_known};
 use crate::spans::{Span, spans};
 use std::alloc::{AllocError, Global};
 use wl_machine::Doing;
-use wl_plan::Plan;
+use wl_plan::CheckedPlan;
 use wl_serial::Outcome;
 
 /// The bus as a node finds it, in ticks.
@@ -114,13 +113,17 @@ fn found_in(spans: &[Span]) -> Found
 }
 
 /// Returns the bus as node `i` finds it.
-fn finding_of(alloc: Global, plan: &Plan, outcome: &Outcome, i: usize) -> Result<Found, AllocError>
-    requires checked { IsChecked plan.now }
+fn finding_of(
+    alloc: Global,
+    plan: &CheckedPlan,
+    outcome: &Outcome,
+    i: usize,
+) -> Result<Found, AllocError>
     requires outcome { outcome.now ≡ outcome_of plan.now }
     requires node { i < length plan.now.nodes }
     ensures { IfOk result (λ found. found ≡ finding_of plan.now i) }
 {
-    quanta_are_known();
+    quanta_are_known(plan);
     let (setup, node) = node_at(plan, outcome, i);
     let samples = node.samples.list(alloc)?;
     let spans = spans(alloc, setup, plan.end, samples.as_slice())?;
@@ -137,8 +140,7 @@ fn quieter(a: Found, b: Found) -> Found
 }
 
 /// Returns the bus as the node finds it to which it is idle longest, the last of equals, and whether some node was bus off.
-pub(crate) fn bus(alloc: Global, plan: &Plan, outcome: &Outcome) -> Result<Found, AllocError>
-    requires checked { IsChecked plan.now }
+pub(crate) fn bus(alloc: Global, plan: &CheckedPlan, outcome: &Outcome) -> Result<Found, AllocError>
     requires outcome { outcome.now ≡ outcome_of plan.now }
     ensures { IfOk result (λ bus. bus ≡ bus_found plan.now) }
 {

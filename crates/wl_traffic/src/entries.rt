@@ -1,7 +1,6 @@
 //! The frames of a queue, and what became of them.
 ghost use Rattle.std.specs.Prelude.{◌≡◌, ◌<◌, length, count_by, IfOk};
 ghost use Rattle.std.specs.List.{All};
-ghost use Rattle.wl_plan.specs.Checked.{IsChecked};
 ghost use Rattle.wl_serial.specs.Outcome.{outcome_of};
 ghost use Rattle.wl_traffic.specs.Known.{IsKnown};
 ghost use Rattle.wl_traffic.specs.Attempts.{entries_by, entries_of, entry_of, is_broken_at, is_lost_at};
@@ -11,7 +10,7 @@ use crate::nodes::{node_at, quanta_are_known};
 use std::alloc::{AllocError, Global};
 use wl_frame::frame::Frame;
 use wl_node::Queued;
-use wl_plan::Plan;
+use wl_plan::CheckedPlan;
 use wl_serial::Outcome;
 use wl_trace::node_events;
 
@@ -88,17 +87,16 @@ fn entries_by(
 /// Returns the frames of node `i`, and what became of them.
 pub(crate) fn entries(
     alloc: Global,
-    plan: &Plan,
+    plan: &CheckedPlan,
     outcome: &Outcome,
     i: usize,
 ) -> Result<Vec<Entry>, AllocError>
-    requires checked { IsChecked plan.now }
     requires outcome { outcome.now ≡ outcome_of plan.now }
     requires node { i < length plan.now.nodes }
     ensures entries { IfOk result (λ entries. entries.items ≡ entries_of plan.now i) }
     ensures known { IfOk result (λ entries. All IsKnown entries.items) }
 {
-    quanta_are_known();
+    quanta_are_known(plan);
     let (setup, node) = node_at(plan, outcome, i);
     let sent = sent_quanta(alloc, node.frames.as_slice())?;
     let samples = node.samples.list(alloc)?;

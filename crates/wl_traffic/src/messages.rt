@@ -1,7 +1,6 @@
 //! The lines of messages.
 ghost use Rattle.std.specs.Prelude.{◌≡◌, ◌<◌, length, count_by, slice_index_or, OnOk, IfOk};
 ghost use Rattle.std.specs.List.{All, list_any, sum_by};
-ghost use Rattle.wl_plan.specs.Checked.{IsChecked};
 ghost use Rattle.wl_report.specs.Lines.{GrowsBy, hexadecimal};
 ghost use Rattle.wl_report.specs.Report.{id_digits};
 ghost use Rattle.wl_serial.specs.Outcome.{outcome_of};
@@ -16,7 +15,7 @@ use crate::waits::{final_sample, most_waiting, quanta_waited, time_waited};
 use std::alloc::{AllocError, Global};
 use wl_clock::Clock;
 use wl_frame::frame::Frame;
-use wl_plan::Plan;
+use wl_plan::CheckedPlan;
 use wl_serial::Outcome;
 use wl_setup::Names;
 use wl_views::Tick;
@@ -158,7 +157,7 @@ fn push_message(
     alloc: Global,
     text: &mut String,
     tick: Tick,
-    plan: &Plan,
+    plan: &CheckedPlan,
     names: &Names,
     outcome: &Outcome,
     i: usize,
@@ -183,7 +182,7 @@ fn push_line_at(
     alloc: Global,
     text: &mut String,
     tick: Tick,
-    plan: &Plan,
+    plan: &CheckedPlan,
     names: &Names,
     outcome: &Outcome,
     i: usize,
@@ -210,12 +209,11 @@ fn push_node(
     alloc: Global,
     text: &mut String,
     tick: Tick,
-    plan: &Plan,
+    plan: &CheckedPlan,
     names: &Names,
     outcome: &Outcome,
     i: usize,
 ) -> Result<(), AllocError>
-    requires checked { IsChecked plan.now }
     requires outcome { outcome.now ≡ outcome_of plan.now }
     requires node { i < length plan.now.nodes }
     ensures { OnOk result (GrowsBy text.old text.new (node_lines tick plan.now names.now i)) }
@@ -232,11 +230,10 @@ pub(crate) fn push_messages(
     alloc: Global,
     text: &mut String,
     tick: Tick,
-    plan: &Plan,
+    plan: &CheckedPlan,
     names: &Names,
     outcome: &Outcome,
 ) -> Result<(), AllocError>
-    requires checked { IsChecked plan.now }
     requires outcome { outcome.now ≡ outcome_of plan.now }
     ensures { OnOk result (GrowsBy text.old text.new (all_messages tick plan.now names.now)) }
 {

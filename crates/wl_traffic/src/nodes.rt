@@ -5,12 +5,12 @@ ghost use Rattle.wl_serial.specs.Outcome.{node_outcome_of, outcome_of};
 ghost use Rattle.wl_traffic.specs.Known.{QuantaAreKnown};
 
 use wl_node::NodeSetup;
-use wl_plan::Plan;
+use wl_plan::CheckedPlan;
 use wl_serial::{NodeOutcome, Outcome};
 
 /// Returns what node `i` is made of, and what it did.
 pub(crate) fn node_at<'a>(
-    plan: &'a Plan,
+    plan: &'a CheckedPlan,
     outcome: &'a Outcome,
     i: usize,
 ) -> (&'a NodeSetup, &'a NodeOutcome)
@@ -24,11 +24,11 @@ pub(crate) fn node_at<'a>(
     (&setups[i], &nodes[i])
 }
 
-/// Law: a clock knows each quantum at which a node of a plan that passed its check sampled, and at which it completed a frame.
-pub(crate) fn quanta_are_known()
-    ensures { QuantaAreKnown }
+/// Law: a clock knows each quantum at which a node of a checked plan sampled, and at which it completed a frame.
+pub(crate) fn quanta_are_known(plan: &CheckedPlan)
+    ensures { QuantaAreKnown plan.now }
 {
-    wl_plan::checked_is_sound();
+    plan.laws();
     wl_plan::simulation_laws();
     wl_views::sent_in_time();
 }

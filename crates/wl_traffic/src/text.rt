@@ -1,6 +1,5 @@
 //! The traffic of a run as text.
 ghost use Rattle.std.specs.Prelude.{◌≡◌, string_bytes, IfOk, OnOk};
-ghost use Rattle.wl_plan.specs.Checked.{IsChecked};
 ghost use Rattle.wl_report.specs.Lines.{GrowsBy};
 ghost use Rattle.wl_serial.specs.Outcome.{outcome_of};
 ghost use Rattle.wl_traffic.specs.Reasons.{reason_of};
@@ -11,7 +10,7 @@ use crate::messages::push_messages;
 use crate::reason::{Reason, reason_by};
 use crate::spread::Hundredths;
 use std::alloc::{AllocError, Global};
-use wl_plan::Plan;
+use wl_plan::CheckedPlan;
 use wl_serial::Outcome;
 use wl_setup::Names;
 use wl_views::Tick;
@@ -51,11 +50,10 @@ fn push_reason(text: &mut String, reason: Reason) -> Result<(), AllocError>
 pub fn traffic_of(
     alloc: Global,
     tick: Tick,
-    plan: &Plan,
+    plan: &CheckedPlan,
     names: &Names,
     outcome: &Outcome,
 ) -> Result<Traffic, AllocError>
-    requires checked { IsChecked plan.now }
     requires outcome { outcome.now ≡ outcome_of plan.now }
     ensures text { IfOk result (λ t. string_bytes t.text ≡ traffic_text tick plan.now names.now) }
     ensures reason { IfOk result (λ t. t.reason ≡ reason_of plan.now) }

@@ -7,4 +7,4 @@ use Rattle.wl_traffic.proofs.bus.finding_of.Goals as goal
 pub spans-requires : goal.spans-requires
 spans-requires c =
     subst (All (λ (s : ℕ × Level). s.0 ≤ 2 ^ 21)) (sym (c.as_slice.ensures ∙ c.in_ok-samples.ensures ∙ ap (λ (n : NodeOutcome). n.samples) c.node_at.ensures.outcome))
-    (c.quanta_are_known.ensures c.args.plan.now c.requires.checked c.args.i c.requires.node).samples
+    (c.quanta_are_known.ensures c.args.i c.requires.node).samples

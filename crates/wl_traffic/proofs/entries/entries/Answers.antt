@@ -37,7 +37,7 @@ returns c =
     λ j. entries_by (queue j) ((c.deref-3.ensures.value ∙ sent) j) ((c.deref-4.ensures.value ∙ attempts) j) in
     let known : All IsKnown (entries_by (setup_at plan i).queue (sent_quanta frames) (attempts_of (sent_quanta frames) (events_at_end plan i))) =
     entries_known (setup_at plan i).queue frames (attempts_of (sent_quanta frames) (events_at_end plan i))
-    (c.quanta_are_known.ensures plan c.requires.checked i c.requires.node).frames in
+    (c.quanta_are_known.ensures i c.requires.node).frames in
     record {
       entries = IfOk-weaker c.entries_by.result _ _ (λ e is. is ∙ all) c.entries_by.ensures;
       known = IfOk-weaker c.entries_by.result _ _ (λ e is. subst (All IsKnown) (sym (is ∙ all)) known) c.entries_by.ensures;

@@ -1,6 +1,7 @@
 use Rattle.std.proofs.Common.{◌∙◌, List, length, get_or, ap, arith}
 use Rattle.std.proofs.lemmas.List.{get_or_default}
 use Rattle.wl_node.specs.declared.setup.NodeSetup.{NodeSetup}
+use Rattle.wl_plan.specs.declared.plan.Plan.{Plan}
 use Rattle.wl_plan.specs.PlanLine.{no_setup}
 use Rattle.wl_serial.specs.declared.outcome.NodeOutcome.{NodeOutcome}
 use Rattle.wl_traffic.proofs.Quanta.{node_is, nodes_all}
@@ -15,7 +16,7 @@ bounds-nodes-i c =
 
 pub returns-clause-setup : goal.returns-clause-setup
 returns-clause-setup c =
-    c.index-setups-i.is ∙ ap (λ (xs : List NodeSetup). get_or xs c.args.i c.index-setups-i.result) c.as_slice-setups.ensures
+    c.index-setups-i.is ∙ ap (λ (xs : List NodeSetup). get_or xs c.args.i c.index-setups-i.result) (c.as_slice-setups.ensures ∙ ap (λ (p : Plan). p.nodes) c.deref.ensures.0)
     ∙ get_or_default c.args.plan.now.nodes c.args.i c.index-setups-i.result no_setup c.requires.node
 
 pub returns-clause-outcome : goal.returns-clause-outcome
