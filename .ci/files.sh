@@ -41,7 +41,7 @@ cp "$plan" "$files/in" && said 'input as output' 0 '' run in -o in && holds 'inp
 cp "$plan" "$files/in" && ln -sf in "$files/link" && said 'a link as output' 0 '' run in -o link && holds 'a link as output' in "$report"
 is 'a link stays' [ -L "$files/link" ]
 cp "$plan" "$files/in" && (cd "$files" && "$program" run -o in < in) && holds 'standard input as output' in "$report"
-cp "$plan" "$files/in" && (cd "$files" && "$program" run in -o /dev/stdin < in) && holds 'a descriptor as output' in "$report"
+cp "$plan" "$files/in" && (cd "$files" && "$program" run in -o /proc/self/fd/0 < in) && holds 'a descriptor as output' in "$report"
 chmod 640 "$files/in" && cp "$plan" "$files/plan" && said 'rights' 0 '' run plan -o in && is 'the rights stay' [ "$(stat -c %a "$files/in")" = 640 ]
 mkfifo "$files/pipe" && (cat "$files/pipe" > "$files/through" & "$program" run "$plan" -o "$files/pipe"; wait) && holds 'a pipe' through "$report"
 (cat "$plan" > "$files/pipe" & "$program" run "$files/pipe" > "$files/through"; wait) && holds 'a pipe to read' through "$report"
