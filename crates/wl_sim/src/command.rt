@@ -272,7 +272,7 @@ fn untimed<'a>(alloc: Global) -> Result<Command<'a>, AllocError>
     let records = filed(
         alloc,
         "records",
-        "Simulates the plan, and writes each change of the line and the silence after it",
+        "Simulates the plan, and writes each change of what a node drives and the silence after it",
     )?;
     let run = run_command(alloc)?;
     let explain = filed_formatted(
