@@ -209,7 +209,7 @@ def sweep_faults(ask, rng, text):
     one, three = ask(text, *words, "--workers", "1"), ask(text, *words, "--workers", "3")
     want(one == three, f"{words}: three workers answer otherwise")
     if one[1]: return one[1].decode().removeprefix("fault: ").split("(")[0].strip()
-    want(re.search(r"^clean in \d+ of \d+$", one[0].decode(), re.M), f"{words}: no sum in {one[0]!r}")
+    want(re.search(r"^clean in \d+ of \d+", one[0].decode(), re.M), f"{words}: no sum in {one[0]!r}")
     made = ask(text, *words, "--format", "json")
     want(made[2] == one[2] and json.loads(made[0])["command"] == "sweep", f"{words}: JSON has status {made[2]}")
     member = ask(text, *words, "--print", "0")
