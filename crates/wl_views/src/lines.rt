@@ -1,9 +1,9 @@
 //! Text in a room of a fixed size, which needs no memory: what changes at a tick.
-ghost use Rattle.std.specs.Prelude.{◌≡◌, ◌+◌, ◌≤◌, ◌++◌, length};
+ghost use Rattle.std.specs.Prelude.{◌≡◌, ◌+◌, ◌≤◌, [], ◌∷◌, ◌++◌, length};
 ghost use Rattle.std.specs.Fmt.{decimal};
 ghost use Rattle.arrayvec.specs.ArrayVec.{array_vec_len};
 ghost use Rattle.wl_plan.specs.Limits.{latest_end};
-ghost use Rattle.wl_views.specs.Vcd.{change_line, level_changes, line_changes, mark_changes, node_changes, number_change, state_changes, time_line, value_line, word_change};
+ghost use Rattle.wl_views.specs.Vcd.{change_line, level_changes, line_changes, mark_changes, node_changes, number_change, signal_id, state_changes, time_line, value_line, word_change};
 
 use crate::signals::NodeSignals;
 use crate::tick::Tick;
@@ -39,6 +39,29 @@ fn push_number(text: &mut Lines, number: u64)
     push_bytes(text, &digits[at..]);
 }
 
+/// Adds a number that mostly has one digit.
+fn push_small(text: &mut Lines, number: u64)
+    requires { array_vec_len text.old + 20 ≤ 16384 }
+    ensures bytes { text.new.items ≡ text.old.items ++ decimal number }
+    ensures grown { array_vec_len text.new ≤ array_vec_len text.old + 20 }
+{
+    if number < 10 {
+        text.push(b'0' + number as u8);
+    } else {
+        push_number(text, number);
+    }
+}
+
+/// Adds the name of a signal of node `i`: its letter and the node's number.
+fn push_id(text: &mut Lines, letter: u8, i: usize)
+    requires { array_vec_len text.old + 21 ≤ 16384 }
+    ensures bytes { text.new.items ≡ text.old.items ++ signal_id (letter ∷ []) i }
+    ensures grown { array_vec_len text.new ≤ array_vec_len text.old + 21 }
+{
+    text.push(letter);
+    push_small(text, i as u64);
+}
+
 /// Adds the time of a tick.
 pub(crate) fn push_time(text: &mut Lines, tick: Tick, t: u64)
     requires room { array_vec_len text.old + 22 ≤ 16384 }
@@ -52,23 +75,20 @@ pub(crate) fn push_time(text: &mut Lines, tick: Tick, t: u64)
 }
 
 /// Adds the level of a signal of node `i`.
-fn push_value(text: &mut Lines, letter: &str, i: usize, high: bool)
+fn push_value(text: &mut Lines, letter: u8, i: usize, high: bool)
     requires room { array_vec_len text.old + 23 ≤ 16384 }
-    requires letter { length letter.now ≤ 1 }
-    ensures line { text.new.items ≡ text.old.items ++ value_line letter.now i high }
+    ensures line { text.new.items ≡ text.old.items ++ value_line (letter ∷ []) i high }
     ensures grown { array_vec_len text.new ≤ array_vec_len text.old + 23 }
 {
     text.push(if high { b'1' } else { b'0' });
-    push_bytes(text, letter.as_bytes());
-    push_number(text, i as u64);
+    push_id(text, letter, i);
     text.push(b'\n');
 }
 
 /// Adds the level of a signal of node `i`, if it is another than before.
-fn push_change(text: &mut Lines, letter: &str, i: usize, was: bool, now: bool)
+fn push_change(text: &mut Lines, letter: u8, i: usize, was: bool, now: bool)
     requires room { array_vec_len text.old + 23 ≤ 16384 }
-    requires letter { length letter.now ≤ 1 }
-    ensures line { text.new.items ≡ text.old.items ++ change_line letter.now i was now }
+    ensures line { text.new.items ≡ text.old.items ++ change_line (letter ∷ []) i was now }
     ensures grown { array_vec_len text.new ≤ array_vec_len text.old + 23 }
 {
     if was != now {
@@ -77,10 +97,9 @@ fn push_change(text: &mut Lines, letter: &str, i: usize, was: bool, now: bool)
 }
 
 /// Adds a number of node `i`, if it is another than before.
-fn push_number_change(text: &mut Lines, letter: &str, i: usize, was: u64, now: u64)
+fn push_number_change(text: &mut Lines, letter: u8, i: usize, was: u64, now: u64)
     requires room { array_vec_len text.old + 44 ≤ 16384 }
-    requires letter { length letter.now ≤ 1 }
-    ensures line { text.new.items ≡ text.old.items ++ number_change letter.now i was now }
+    ensures line { text.new.items ≡ text.old.items ++ number_change (letter ∷ []) i was now }
     ensures grown { array_vec_len text.new ≤ array_vec_len text.old + 44 }
 {
     if was == now {
@@ -89,17 +108,15 @@ fn push_number_change(text: &mut Lines, letter: &str, i: usize, was: u64, now: u
     text.push(b'r');
     push_number(text, now);
     text.push(b' ');
-    push_bytes(text, letter.as_bytes());
-    push_number(text, i as u64);
+    push_id(text, letter, i);
     text.push(b'\n');
 }
 
 /// Adds a word of node `i`, if it is another than before.
-fn push_word_change(text: &mut Lines, letter: &str, i: usize, was: &str, now: &str)
+fn push_word_change(text: &mut Lines, letter: u8, i: usize, was: &str, now: &str)
     requires room { array_vec_len text.old + 37 ≤ 16384 }
-    requires letter { length letter.now ≤ 1 }
     requires word { length now.now ≤ 13 }
-    ensures line { text.new.items ≡ text.old.items ++ word_change letter.now i was.now now.now }
+    ensures line { text.new.items ≡ text.old.items ++ word_change (letter ∷ []) i was.now now.now }
     ensures grown { array_vec_len text.new ≤ array_vec_len text.old + 37 }
 {
     if was == now {
@@ -108,8 +125,7 @@ fn push_word_change(text: &mut Lines, letter: &str, i: usize, was: &str, now: &s
     text.push(b's');
     push_bytes(text, now.as_bytes());
     text.push(b' ');
-    push_bytes(text, letter.as_bytes());
-    push_number(text, i as u64);
+    push_id(text, letter, i);
     text.push(b'\n');
 }
 
@@ -119,10 +135,10 @@ fn push_line_changes(text: &mut Lines, i: usize, was: NodeSignals, now: NodeSign
     ensures lines { text.new.items ≡ text.old.items ++ line_changes i was now }
     ensures grown { array_vec_len text.new ≤ array_vec_len text.old + 92 }
 {
-    push_change(text, "t", i, was.tx, now.tx);
-    push_change(text, "r", i, was.rx, now.rx);
-    push_change(text, "w", i, was.cable, now.cable);
-    push_change(text, "n", i, was.disturbance, now.disturbance);
+    push_change(text, b't', i, was.tx, now.tx);
+    push_change(text, b'r', i, was.rx, now.rx);
+    push_change(text, b'w', i, was.cable, now.cable);
+    push_change(text, b'n', i, was.disturbance, now.disturbance);
 }
 
 /// Adds the marks of node `i` that changed.
@@ -131,8 +147,8 @@ fn push_mark_changes(text: &mut Lines, i: usize, was: NodeSignals, now: NodeSign
     ensures lines { text.new.items ≡ text.old.items ++ mark_changes i was now }
     ensures grown { array_vec_len text.new ≤ array_vec_len text.old + 46 }
 {
-    push_change(text, "s", i, was.sample, now.sample);
-    push_change(text, "b", i, was.start, now.start);
+    push_change(text, b's', i, was.sample, now.sample);
+    push_change(text, b'b', i, was.start, now.start);
 }
 
 /// Adds the levels of node `i` that changed.
@@ -154,10 +170,10 @@ fn push_state_changes(text: &mut Lines, i: usize, was: NodeState, now: NodeState
     if was == now {
         return;
     }
-    push_number_change(text, "e", i, was.tec, now.tec);
-    push_number_change(text, "c", i, was.rec, now.rec);
-    push_word_change(text, "m", i, mode(was.mode), mode(now.mode));
-    push_word_change(text, "d", i, doing_word(was.doing), doing_word(now.doing));
+    push_number_change(text, b'e', i, was.tec, now.tec);
+    push_number_change(text, b'c', i, was.rec, now.rec);
+    push_word_change(text, b'm', i, mode(was.mode), mode(now.mode));
+    push_word_change(text, b'd', i, doing_word(was.doing), doing_word(now.doing));
 }
 
 /// Adds those signals of node `i` that changed.

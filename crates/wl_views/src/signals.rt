@@ -1,5 +1,5 @@
 //! The signals of a simulation's nodes at a tick, and how long they stay.
-ghost use Rattle.std.specs.Prelude.{◌≡◌, ℕ, ◌+◌, ◌-◌, ◌<◌, ◌≤◌, ◌&&◌, ◌++◌, nat_le, nat_lt, IfOk, length};
+ghost use Rattle.std.specs.Prelude.{◌≡◌, ℕ, Bool, ◌+◌, ◌-◌, ◌<◌, ◌≤◌, ◌&&◌, ◌||◌, ◌++◌, nat_le, nat_lt, IfOk, length};
 ghost use Rattle.arrayvec.specs.ArrayVec.{array_vec_len};
 ghost use Rattle.wl_topology.specs.Limits.{never};
 ghost use Rattle.wl_topology.specs.Delays.{delay_of};
@@ -43,34 +43,57 @@ pub struct NodeSignals {
     pub state: NodeState,
 }
 
-/// Returns whether the drive of node `i` is dominant as it arrives at node `j` at tick `t`. It is asked again if what was known of it has
-/// run out.
-fn come_from(
+/// Asks again whether the drive of node `i` is dominant as it arrives at node `j` at tick `t`, if what was known of it has run out.
+fn ask_again(
     plan: &Plan,
     outcome: &Outcome,
     i: usize,
     j: usize,
     t: u64,
     come: &mut usize,
-    held: Pulse,
+    held: &mut Pulse,
+)
+    requires checked { IsChecked plan.now }
+    requires outcome { outcome.now ≡ outcome_of plan.now }
+    requires from { i < length plan.now.nodes }
+    requires node { j < length plan.now.nodes }
+    requires early { t ≤ latest_end }
+    requires was { t < held.old.until → Lasts (comes plan.now i j) t held.old }
+    ensures { Lasts (comes plan.now i j) t held.new }
+{
+    wl_plan::checked_is_sound();
+    wl_plan::simulation_laws();
+    if t < held.until {
+        return;
+    }
+    let delay = plan.topology.delay(i as u8, j as u8);
+    let nodes = outcome.nodes.as_slice();
+    let changes = nodes[i].changes.as_slice();
+    *held = pulse_of(changes, delay, t, come);
+}
+
+/// Returns whether something is dominant or the drive of node `i` as it arrives at node `j` at tick `t`. That is asked again if it has run out.
+fn joined(
+    plan: &Plan,
+    outcome: &Outcome,
+    i: usize,
+    j: usize,
+    t: u64,
+    come: &mut usize,
+    held: &mut Pulse,
+    other: Pulse,
 ) -> Pulse
     requires checked { IsChecked plan.now }
     requires outcome { outcome.now ≡ outcome_of plan.now }
     requires from { i < length plan.now.nodes }
     requires node { j < length plan.now.nodes }
     requires early { t ≤ latest_end }
-    requires was { t < held.until → Lasts (comes plan.now i j) t held }
-    ensures { Lasts (comes plan.now i j) t result }
+    requires was { t < held.old.until → Lasts (comes plan.now i j) t held.old }
+    ensures held { Lasts (comes plan.now i j) t held.new }
+    ensures both { (f : ℕ → Bool) → Lasts f t other → Lasts (λ u. f u || comes plan.now i j u) t result }
 {
-    wl_plan::checked_is_sound();
-    wl_plan::simulation_laws();
-    if t < held.until {
-        return held;
-    }
-    let delay = plan.topology.delay(i as u8, j as u8);
-    let nodes = outcome.nodes.as_slice();
-    let changes = nodes[i].changes.as_slice();
-    pulse_of(changes, delay, t, come)
+    ask_again(plan, outcome, i, j, t, come, held);
+    either(other, *held)
 }
 
 /// Returns whether some node's drive is dominant at node `j` at tick `t`. `come` and `sources` are what was known of each node's.
@@ -96,9 +119,7 @@ pub(crate) fn driven(
         dominant: false,
     };
     for i in 0..plan.nodes.len() {
-        let from = come_from(plan, outcome, i, j, t, &mut come[i], sources[i]);
-        sources[i] = from;
-        all = either(all, from);
+        all = joined(plan, outcome, i, j, t, &mut come[i], &mut sources[i], all);
     }
     all
 }

@@ -26,18 +26,18 @@ loop-i-preserved c =
     let t : ℕ = c.args.t in
     let j : ℕ = c.args.j in
     let inv = c.loop-i.invariant in
-    let new : Pulse = c.come_from-from.result in
+    let new : Pulse = c.joined-all.new.held in
     let few = c.requires.checked.few_nodes in
     let below : i < length plan.nodes = omega arith in
     let long = inv.room in
     let inside : i < length c.loop-i.sources = omega arith in
     record {
       drives =
-          subst (λ n. Lasts (driven n (delay_of plan.topology) (level (line_of plan)) j) t c.either-all.result) (sym (add-one i))
-          (c.either-all.ensures.both (driven i (delay_of plan.topology) (level (line_of plan)) j) (comes plan i j) t inv.drives c.come_from-from.ensures);
+          subst (λ n. Lasts (driven n (delay_of plan.topology) (level (line_of plan)) j) t c.joined-all.result) (sym (add-one i))
+          (c.joined-all.ensures.both (driven i (delay_of plan.topology) (level (line_of plan)) j) inv.drives);
       sources = λ k b. elim (cases_eq k i) [
         | inl same ↦ subst (λ (m : ℕ). t < (get_or (set c.loop-i.sources i new) m not_held).until → Lasts (comes plan m j) t (get_or (set c.loop-i.sources i new) m not_held)) (sym same)
-            (λ later. subst (Lasts (comes plan i j) t) (sym (get_or-set_same c.loop-i.sources i new not_held inside)) c.come_from-from.ensures)
+            (λ later. subst (Lasts (comes plan i j) t) (sym (get_or-set_same c.loop-i.sources i new not_held inside)) c.joined-all.ensures.held)
         | inr other ↦ subst (λ (h : Pulse). t < h.until → Lasts (comes plan k j) t h) (sym (get_or-set_other c.loop-i.sources i k new not_held other)) (inv.sources k b)
       ];
       room = length-set c.loop-i.sources i new ∙ inv.room;

@@ -5,7 +5,7 @@ use Rattle.wl_plan.specs.PlanLine.{line_of, table_of}
 use Rattle.wl_serial.specs.declared.outcome.NodeOutcome.{NodeOutcome}
 use Rattle.wl_views.proofs.SignalProofs.{driven_more, node_is, nodes_all}
 use Rattle.wl_views.proofs.Turns.{known_from}
-use Rattle.wl_views.proofs.signals.come_from.Goals as goal
+use Rattle.wl_views.proofs.signals.ask_again.Goals as goal
 
 pub bounds-nodes-i : goal.bounds-nodes-i
 bounds-nodes-i c =
