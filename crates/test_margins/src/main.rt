@@ -8,7 +8,7 @@ use wl_clock::{Clock, Rate};
 use wl_frame::frame::Frame;
 use wl_level::Listed;
 use wl_node::{NodeSetup, Queue, Queued};
-use wl_plan::Plan;
+use wl_plan::{CheckedPlan, Plan};
 use wl_segments::{Segments, SyncRules};
 use wl_topology::{Place, Topology};
 
@@ -173,8 +173,7 @@ fn plan(alloc: Global, row: Row) -> Result<Plan> {
 /// Returns the verdict and, for any senders, the first failure, how much longer the cable and how much wider the tolerances may be, and
 /// what helps.
 fn told(alloc: Global, row: Row) -> Result<String> {
-    let plan = plan(alloc, row)?;
-    plan.check().context("a plan that can be run")?;
+    let plan = CheckedPlan::new(plan(alloc, row)?).context("a plan that can be run")?;
     let rate = Rate {
         from: 0,
         num: 125,

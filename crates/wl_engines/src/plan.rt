@@ -1,6 +1,5 @@
 //! Returns the report of a plan's simulation.
 ghost use Rattle.std.specs.Prelude.{◌≡◌, IfOk};
-ghost use Rattle.wl_plan.specs.Checked.{IsChecked};
 ghost use Rattle.wl_serial.specs.Outcome.{outcome_of};
 ghost use Rattle.wl_report.specs.Report.{report_text};
 ghost use Rattle.wl_engines.specs.Plans.{RunsPlan, IsRunOutput};
@@ -8,14 +7,13 @@ ghost use Rattle.wl_engines.specs.Plans.{RunsPlan, IsRunOutput};
 use crate::fault::RunFault;
 use std::alloc::{AllocError, Global};
 use wl_device::{Sink, Source, write_all};
-use wl_plan::Plan;
+use wl_plan::CheckedPlan;
 use wl_report::report;
 use wl_serial::run_serial;
-use wl_setup::read_plan;
+use wl_setup::read_checked;
 
 /// Returns the report of a plan's simulation.
-fn report_of(alloc: Global, plan: &Plan) -> Result<Vec<u8>, AllocError>
-    requires { IsChecked plan.now }
+fn report_of(alloc: Global, plan: &CheckedPlan) -> Result<Vec<u8>, AllocError>
     ensures { IfOk result (λ text. text.items ≡ report_text (outcome_of plan.now)) }
 {
     let outcome = run_serial(alloc, plan)?;
@@ -34,7 +32,7 @@ pub fn plan_run<R: Source, W: Sink>(
 ) -> Result<(), RunFault>
     ensures { RunsPlan R.gives W.takes IsRunOutput reader.old reader.new writer.old writer.new result }
 {
-    let (plan, _names) = read_plan(alloc, reader)?;
+    let (plan, _names) = read_checked(alloc, reader)?;
     let text = report_of(alloc, &plan)?;
     write_all(&text, writer)?;
     Ok(())

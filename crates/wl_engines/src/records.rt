@@ -1,19 +1,17 @@
 //! The records of a plan's simulation.
 ghost use Rattle.std.specs.Prelude.{◌≡◌, IfOk};
-ghost use Rattle.wl_plan.specs.Checked.{IsChecked};
 ghost use Rattle.wl_engines.specs.Plans.{RunsPlan, IsRecordsOutput, records_text};
 
 use crate::fault::RunFault;
 use std::alloc::{AllocError, Global};
 use wl_device::{Sink, Source, write_all};
-use wl_plan::Plan;
+use wl_plan::CheckedPlan;
 use wl_record::text_of;
 use wl_serial::{outcome_is_recordable, records_are_true, records_of, run_serial};
-use wl_setup::read_plan;
+use wl_setup::read_checked;
 
 /// Returns the records of a plan's simulation, as text.
-fn records_text(alloc: Global, plan: &Plan) -> Result<Vec<u8>, AllocError>
-    requires { IsChecked plan.now }
+fn records_text(alloc: Global, plan: &CheckedPlan) -> Result<Vec<u8>, AllocError>
     ensures { IfOk result (λ text. text.items ≡ records_text plan.now) }
 {
     outcome_is_recordable();
@@ -35,7 +33,7 @@ pub fn records_run<R: Source, W: Sink>(
     ensures { RunsPlan R.gives W.takes IsRecordsOutput reader.old reader.new writer.old writer.new result }
 {
     records_are_true();
-    let (plan, _names) = read_plan(alloc, reader)?;
+    let (plan, _names) = read_checked(alloc, reader)?;
     let text = records_text(alloc, &plan)?;
     write_all(&text, writer)?;
     Ok(())

@@ -1,6 +1,5 @@
 //! A run of a plan as one page.
 ghost use Rattle.std.specs.Prelude.{◌≡◌, IfOk, length};
-ghost use Rattle.wl_plan.specs.Checked.{IsChecked};
 ghost use Rattle.wl_serial.specs.Outcome.{outcome_of};
 ghost use Rattle.wl_views.specs.Vcd.{vcd_text};
 ghost use Rattle.wl_engines.specs.Paged.{IsPage, Pages, PagesText};
@@ -12,7 +11,7 @@ use wl_device::{Ended, Sink, Source, write_all};
 use wl_explain::explain_plan;
 use wl_margin::margin_text;
 use wl_page::{Texts, page};
-use wl_plan::Plan;
+use wl_plan::CheckedPlan;
 use wl_report::report;
 use wl_serial::{Outcome, run_serial};
 use wl_setup::{Bus, Names, SetupFault, bus_of_bytes, check_plan, read_bytes};
@@ -23,11 +22,10 @@ use wl_views::{Tick, trace, vcd};
 fn wave_of(
     alloc: Global,
     tick: Tick,
-    plan: &Plan,
+    plan: &CheckedPlan,
     names: &Names,
     outcome: &Outcome,
 ) -> Result<Vec<u8>, AllocError>
-    requires checked { IsChecked plan.now }
     requires outcome { outcome.now ≡ outcome_of plan.now }
     ensures { IfOk result (λ text. text.items ≡ vcd_text tick plan.now names.now) }
 {
@@ -40,7 +38,6 @@ fn wave_of(
 
 /// Returns the page of a bus, whose text is given: the simulation of its plan is run once.
 fn page_of_bus(alloc: Global, tick: Tick, text: &[u8], bus: &Bus) -> Result<Vec<u8>, AllocError>
-    requires checked { IsChecked bus.now.plan }
     requires deviations { length bus.now.deviations ≡ length bus.now.plan.nodes }
     ensures { IfOk result (λ whole. IsPage tick text.now bus.now whole.items) }
 {

@@ -5,7 +5,7 @@ use crate::fault::RunFault;
 use std::alloc::Global;
 use wl_device::{Sink, Source, write_all};
 use wl_serial::run_serial;
-use wl_setup::read_plan;
+use wl_setup::read_checked;
 use wl_traffic::{Reason, traffic_of};
 use wl_views::Tick;
 
@@ -22,7 +22,7 @@ pub fn traffic_run<R: Source, W: Sink>(
 ) -> Result<Reason, RunFault>
     ensures { RunsTraffic R.gives W.takes tick reader.old reader.new writer.old writer.new result }
 {
-    let (plan, names) = read_plan(alloc, reader)?;
+    let (plan, names) = read_checked(alloc, reader)?;
     let outcome = run_serial(alloc, &plan)?;
     let found = traffic_of(alloc, tick, &plan, &names, &outcome)?;
     write_all(found.text.as_bytes(), writer)?;

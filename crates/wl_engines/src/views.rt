@@ -1,6 +1,5 @@
 //! Views of a plan's simulation in the formats of other tools.
 ghost use Rattle.std.specs.Prelude.{◌≡◌, IfOk};
-ghost use Rattle.wl_plan.specs.Checked.{IsChecked};
 ghost use Rattle.wl_views.specs.Candump.{log_text};
 ghost use Rattle.wl_views.specs.Trace.{trace_text};
 ghost use Rattle.wl_engines.specs.Plans.{RunsPlan, IsCandumpOutput, IsTraceOutput, IsVcdOutput};
@@ -8,14 +7,13 @@ ghost use Rattle.wl_engines.specs.Plans.{RunsPlan, IsCandumpOutput, IsTraceOutpu
 use crate::fault::RunFault;
 use std::alloc::{AllocError, Global};
 use wl_device::{Sink, Source, write_all};
-use wl_plan::Plan;
+use wl_plan::CheckedPlan;
 use wl_serial::run_serial;
-use wl_setup::{Names, read_plan};
+use wl_setup::{Names, read_checked, read_plan};
 use wl_views::{Tick, candump, sent_in_time, trace, vcd};
 
 /// Returns the log of the frames that a plan's simulation sent.
-fn log_text(alloc: Global, tick: Tick, from: u32, plan: &Plan) -> Result<Vec<u8>, AllocError>
-    requires { IsChecked plan.now }
+fn log_text(alloc: Global, tick: Tick, from: u32, plan: &CheckedPlan) -> Result<Vec<u8>, AllocError>
     ensures { IfOk result (λ text. text.items ≡ log_text tick from plan.now) }
 {
     sent_in_time();
@@ -37,7 +35,7 @@ pub fn candump_run<R: Source, W: Sink>(
 ) -> Result<(), RunFault>
     ensures { RunsPlan R.gives W.takes (IsCandumpOutput tick from) reader.old reader.new writer.old writer.new result }
 {
-    let (plan, _names) = read_plan(alloc, reader)?;
+    let (plan, _names) = read_checked(alloc, reader)?;
     let text = log_text(alloc, tick, from, &plan)?;
     write_all(&text, writer)?;
     Ok(())
@@ -64,8 +62,7 @@ pub fn vcd_run<R: Source, W: Sink>(
 }
 
 /// Returns the trace of a plan's simulation, under these names of its nodes.
-fn trace_text(alloc: Global, plan: &Plan, names: &Names) -> Result<Vec<u8>, AllocError>
-    requires { IsChecked plan.now }
+fn trace_text(alloc: Global, plan: &CheckedPlan, names: &Names) -> Result<Vec<u8>, AllocError>
     ensures { IfOk result (λ text. text.items ≡ trace_text plan.now names.now) }
 {
     let outcome = run_serial(alloc, plan)?;
@@ -83,7 +80,7 @@ pub fn trace_run<R: Source, W: Sink>(
 ) -> Result<(), RunFault>
     ensures { RunsPlan R.gives W.takes IsTraceOutput reader.old reader.new writer.old writer.new result }
 {
-    let (plan, names) = read_plan(alloc, reader)?;
+    let (plan, names) = read_checked(alloc, reader)?;
     let text = trace_text(alloc, &plan, &names)?;
     write_all(&text, writer)?;
     Ok(())

@@ -1,6 +1,5 @@
 //! The report of a plan's simulation, by workers.
 ghost use Rattle.std.specs.Prelude.{◌≡◌, IfOk, IfErr};
-ghost use Rattle.wl_plan.specs.Checked.{IsChecked};
 ghost use Rattle.wl_serial.specs.Outcome.{outcome_of};
 ghost use Rattle.wl_report.specs.Report.{report_text};
 ghost use Rattle.wl_engines.specs.Workers.{CanWork, IsWorkFault, RunsByWorkers};
@@ -10,9 +9,9 @@ use std::alloc::Global;
 use std::sync::Wait;
 use std::thread::Threads;
 use wl_device::{Sink, Source, write_all};
-use wl_plan::Plan;
+use wl_plan::CheckedPlan;
 use wl_report::report;
-use wl_setup::read_plan;
+use wl_setup::read_checked;
 use wl_worker::{Gate, LinkKind, simulate_by};
 
 /// A gate that lets each turn begin.
@@ -33,16 +32,15 @@ impl Gate for OpenGate {
 fn report_by<H: Threads + Wait + Sync>(
     rt: &H,
     alloc: Global,
-    plan: Plan,
+    plan: CheckedPlan,
     workers: u8,
     kind: LinkKind,
 ) -> Result<Vec<u8>, RunFault>
-    requires { IsChecked plan }
     ensures text { IfOk result (λ text. text.items ≡ report_text (outcome_of plan)) }
     ensures count { IfOk result (λ _. CanWork workers) }
     ensures fault { IfErr result (IsWorkFault workers) }
 {
-    let outcome = simulate_by(rt, alloc, plan, workers, kind, &OpenGate)?;
+    let outcome = simulate_by(rt, alloc, plan.into_plan(), workers, kind, &OpenGate)?;
     Ok(report(alloc, &outcome)?)
 }
 
@@ -62,7 +60,7 @@ pub fn workers_run_by<H: Threads + Wait + Sync, R: Source, W: Sink>(
 ) -> Result<(), RunFault>
     ensures { RunsByWorkers R.gives W.takes workers reader.old reader.new writer.old writer.new result }
 {
-    let (plan, _names) = read_plan(alloc, reader)?;
+    let (plan, _names) = read_checked(alloc, reader)?;
     let text = report_by(rt, alloc, plan, workers, kind)?;
     write_all(&text, writer)?;
     Ok(())

@@ -1,7 +1,6 @@
 //! The cells of a map.
 ghost use Rattle.std.specs.Prelude.{◌≡◌, true, IfOk, OnOk};
 ghost use Rattle.std.specs.List.{list_all};
-ghost use Rattle.wl_plan.specs.Checked.{IsChecked};
 ghost use Rattle.wl_report.specs.Lines.{GrowsBy};
 ghost use Rattle.wl_map.specs.Cells.{cell_of_row, coloured_words, colour_of, colour_word, error_line, first_error_of, plan_error, text_error};
 ghost use Rattle.wl_setup.specs.Names.{names_of};
@@ -13,7 +12,7 @@ ghost use Rattle.wl_views.specs.Trace.{first_error_text};
 use std::alloc::{AllocError, Global};
 use std::thread::Threads;
 use std::time::Clock;
-use wl_plan::Plan;
+use wl_plan::CheckedPlan;
 use wl_serial::run_serial;
 use wl_setup::{Names, PlanText, SetupFault};
 use wl_sweep::{Sweep, Tally, Workers};
@@ -68,10 +67,9 @@ fn push_line(text: &mut String, line: &str) -> Result<(), AllocError>
 fn push_plan_error(
     alloc: Global,
     text: &mut String,
-    plan: &Plan,
+    plan: &CheckedPlan,
     names: &Names,
 ) -> Result<(), AllocError>
-    requires { IsChecked plan.now }
     ensures { OnOk result (GrowsBy text.old text.new (error_line (first_error_text plan.now names.now))) }
 {
     let outcome = run_serial(alloc, plan)?;

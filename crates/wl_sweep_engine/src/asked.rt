@@ -8,7 +8,7 @@ ghost use Rattle.wl_sweep_engine.specs.Faults.{of_range};
 use crate::fault::SweepFault;
 use std::alloc::{AllocError, Global};
 use wl_level::Listed;
-use wl_plan::Plan;
+use wl_plan::CheckedPlan;
 use wl_setup::PlanText;
 use wl_sweep::{Options, RangeFault, Sweep, SweptRange, read_range, worst_text};
 
@@ -106,7 +106,7 @@ pub(crate) fn read_sweep(
     text: PlanText,
     words: &[String],
     asked: Asked,
-) -> Result<(Plan, Sweep), SweepFault>
+) -> Result<(CheckedPlan, Sweep), SweepFault>
     ensures answer { IsRead (sweep_of text (map string_bytes words.now) asked) result }
     ensures small { IfOk result (λ r. is_small r.1 ≡ true) }
 {
