@@ -39,7 +39,8 @@ fn push_row<H: Threads + Sync + Eprint + Clock>(
 ) -> Result<bool, AllocError>
     ensures alone { OnOk result (alone.new ≡ row_alone (with_ranges alone.old ranges.now) row) }
     ensures text { OnOk result (GrowsBy text.old text.new (cell_in (with_ranges alone.old ranges.now) row)) }
-    ensures clean { IfOk result (λ clean. clean ≡ list_all is_clean (row_findings (with_ranges alone.old ranges.now) row)) }
+    ensures clean { IfOk result (λ clean. clean
+        ≡ list_all is_clean (row_findings (with_ranges alone.old ranges.now) row)) }
 {
     a_row_alone_finds_the_same();
     alone.ranges = ranges_alone(alloc, ranges, row)?;

@@ -46,7 +46,8 @@ fn value_in(range: &SweptRange, later: u64, row: u64) -> i64
 /// Returns the value of range `i` in a row: that of the last range changes the fastest.
 pub fn row_value(ranges: &[SweptRange], i: usize, row: u64) -> i64
     requires { i < length ranges.now }
-    ensures { (g : _) → g ≡ slice_index_or ranges.now i g → result ≡ value_in g (row_count (drop (i + 1) ranges.now)) row }
+    ensures { (g : _) → g ≡ slice_index_or ranges.now i g
+        → result ≡ value_in g (row_count (drop (i + 1) ranges.now)) row }
 {
     let later = row_count(&ranges[i + 1..]);
     value_in(&ranges[i], later, row)

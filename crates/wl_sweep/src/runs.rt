@@ -84,7 +84,8 @@ impl Family {
     /// Returns the tally of the runs from one on, up to another.
     fn part(&self, alloc: Global, from: u32, to: u32) -> Result<Tally, AllocError>
         requires { from ≤ to }
-        ensures { IfOk result (λ tally. tally ≡ tally_of (findings_from self.now.options self.now.text from (to - from))) }
+        ensures { IfOk result (λ tally. tally
+            ≡ tally_of (findings_from self.now.options self.now.text from (to - from))) }
     {
         let mut tally = Tally::new();
         for run in from..to {
@@ -105,7 +106,8 @@ impl Family {
         workers: u8,
     ) -> Result<Vec<Result<Tally, AllocError>>, AllocError>
         requires { from ≤ to }
-        ensures { IfOk result (λ parts. ArePartTallies self.now.options self.now.text from to size workers parts.items) }
+        ensures { IfOk result (λ parts.
+            ArePartTallies self.now.options self.now.text from to size workers parts.items) }
     {
         thread::map_indices(
             rt,
@@ -134,7 +136,8 @@ impl Family {
         workers: u8,
     ) -> Result<Tally, AllocError>
         requires { from ≤ to }
-        ensures { IfOk result (λ tally. tally ≡ tally_of (findings_from self.now.options self.now.text from (to - from))) }
+        ensures { IfOk result (λ tally. tally
+            ≡ tally_of (findings_from self.now.options self.now.text from (to - from))) }
     {
         if workers < 2 || to - from < 2 {
             return self.part(alloc, from, to);

@@ -113,8 +113,10 @@ impl Sweep {
     ) -> Result<Sum, AllocError>
         requires { is_small self.now ≡ true }
         ensures tally { IfOk result (λ sum. sum.tally ≡ tally_of (all_findings self.now)) }
-        ensures members { IfOk result (λ sum. sum.members ≡ rows_members self.now (range_with_len 0 (row_count self.now.ranges))) }
-        ensures text { OnOk result (GrowsBy text.old text.new (rows_lines self.now (range_with_len 0 (row_count self.now.ranges)))) }
+        ensures members { IfOk result (λ sum. sum.members
+            ≡ rows_members self.now (range_with_len 0 (row_count self.now.ranges))) }
+        ensures text { OnOk result (GrowsBy text.old text.new
+            (rows_lines self.now (range_with_len 0 (row_count self.now.ranges)))) }
     {
         // That its type keeps this number below 2^32 is wanted by the proof.
         let _ = most_runs(self.options);
@@ -133,7 +135,8 @@ impl Sweep {
 
     /// Returns the row and the run of a member, by its number.
     fn locate(&self, alloc: Global, number: u64) -> Result<Option<(u64, u32)>, AllocError>
-        ensures { IfOk result (λ place. place ≡ located self.now (range_with_len 0 (row_count self.now.ranges)) number) }
+        ensures { IfOk result (λ place. place
+            ≡ located self.now (range_with_len 0 (row_count self.now.ranges)) number) }
     {
         let mut left = number;
         for row in 0..row_count(self.ranges.as_slice()) {

@@ -190,7 +190,8 @@ pub(crate) fn push_change(
     family: &Family,
     run: u32,
 ) -> Result<(), AllocError>
-    ensures { OnOk result (GrowsBy text.old text.new (change_words row ranges.now family.now.options family.now.text run)) }
+    ensures { OnOk result (GrowsBy text.old text.new
+        (change_words row ranges.now family.now.options family.now.text run)) }
 {
     push_settings(text, ranges, row)?;
     push_choices(
@@ -211,7 +212,8 @@ pub(crate) fn push_member(
     run: u32,
     finding: &Finding,
 ) -> Result<(), AllocError>
-    ensures { OnOk result (GrowsBy text.old text.new (member_words row ranges.now family.now.options family.now.text run finding.now)) }
+    ensures { OnOk result (GrowsBy text.old text.new
+        (member_words row ranges.now family.now.options family.now.text run finding.now)) }
 {
     push_change(text, ranges, row, family, run)?;
     text.push_str(": ")?;
