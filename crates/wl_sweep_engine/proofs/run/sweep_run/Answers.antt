@@ -1,6 +1,8 @@
 use Rattle.std.proofs.Common.{◌≡◌, ◌∙◌, sym, subst, map, string_bytes, refl, List, ℕ, Ok, Err, inl, inr}
 use Rattle.wl_device.specs.Devices.{Writes}
+use Rattle.wl_plan.specs.declared.plan.Plan.{Plan}
 use Rattle.wl_sweep_engine.specs.Asked.{checked_workers, sweep_of}
+use Rattle.wl_sweep_engine.specs.Said.{IsSaid}
 use Rattle.wl_sweep_engine.specs.Sweeping.{RefusesSweep, WritesSweep}
 use Rattle.wl_sweep_engine.proofs.Refusing.{fine_here, refused_by, sweep_fine, wrote_by}
 use Rattle.wl_sweep_engine.proofs.run.sweep_run.Goals as goal
@@ -41,7 +43,7 @@ returns-in_err-write_all g c =
       c.in_ok-plan.sweep,
       string_bytes c.in_ok-said.said,
       (c.in_ok-text.text, c.in_ok-text.ensures (λ h. cc), c.in_ok-plan.ensures.answer),
-      c.in_ok-said.ensures.text,
+      subst (λ (p : Plan). IsSaid asked.worst p c.in_ok-plan.sweep (string_bytes c.in_ok-said.said)) c.deref.ensures.0 c.in_ok-said.ensures.text,
       c.in_ok-said.ensures.tally,
       subst (λ (bytes : List ℕ). Writes takes t bytes (Err fault) t') c.as_bytes.ensures.value c.in_err-write_all.ensures,
     )
