@@ -95,12 +95,24 @@ class Bus:
         return max([0] + [max(0, self.way(i, a) + 10 * self.drift(a, i) + self.ahead(a) + d(a, j) + d(j, i) - d(a, i))
                           for a in self.others(i, j) if a in self.sends])
 
+    def behind(self, j, a):
+        gathers = min(self.apart(a, j), max(0, self.early[a] - self.delay(a, a)))
+        return max(0, self.look[a] + 10 * self.drift(j, a) + gathers - self.jump[j])
+
+    def answered(self, i, j):
+        """How late the end of j's acknowledgement can be at i, if that of a third moves both."""
+        if len(self.sends) < 2: return 0
+        d = self.delay
+        thirds = [a for a in self.others(i, j) if not self.listens[a] and any(k in self.sends for k in self.others(a, j))]
+        return max([0] + [max(0, d(a, j) + d(j, i) + self.high[i] + self.tick - d(a, i)) + self.behind(j, a) for a in thirds])
+
     def left(self, kind, i, j):
         if kind == DRIFT: return 10 * self.drift(i, j) + self.pulled(i, j)
         if kind == LATE and i == j: return self.delay(i, i) + self.turns[i]
         if kind == LATE:
             way = self.way(i, j)
-            return way + min(self.apart(i, j), max(0, self.tour(i, j) - way)) + 11 * max(self.drift(j, w) for w in self.others(j)) + self.ahead(j)
+            late = max(way + min(self.apart(i, j), max(0, self.tour(i, j) - way)), self.answered(i, j))
+            return late + 11 * max(self.drift(j, w) for w in self.others(j)) + self.ahead(j)
         return self.look[j] + 10 * self.drift(i, j) + min(self.apart(j, i), max(0, self.early[j] - self.delay(j, j))) + self.tick + self.ahead(i)
 
     def gathered(self, chase, i, k):

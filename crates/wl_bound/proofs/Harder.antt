@@ -10,7 +10,7 @@ use Rattle.wl_topology.specs.Driven.{any_below}
 use Rattle.wl_bound.specs.declared.condition.Inequality.{Inequality}
 use Rattle.wl_bound.specs.declared.condition.Inequality.TheVariants.{DriftFitsJump, BitIsThereAtSample, NoBitTooEarly}
 use Rattle.wl_bound.specs.Families.{Bus}
-use Rattle.wl_bound.specs.Terms.{ahead, apart, chase, drift, early, edges, greatest, is_third, jump, late, look, lost, pull, pulled, sends_but, sends_third, several, strays, sum_of, tour, trip, way}
+use Rattle.wl_bound.specs.Terms.{ahead, answered, apart, behind, chase, drift, early, edges, greatest, is_answering, is_third, jump, late, look, lost, pull, pulled, sends_but, sends_third, several, strays, sum_of, tour, trip, way}
 use Rattle.wl_bound.specs.Conditions.{IsSound, is_asked, left_of, right_of}
 
 -- c is no easier than b: the same nodes, segments, senders, listeners and changes of rates, quanta that may be shorter and longer, the same own loops, longer delays and detours
@@ -205,9 +205,26 @@ tour_le b c h i j =
     over b c h (sends_third b i j) (sends_third c i j) _ _ (sends_third_same b c h i j)
     (λ a. (let comes = late_sender_le b c h i a in let round = h.detours a j i in let away = h.delays a i in omega arith))
 
+behind_le : (b c : Bus) → IsHarder b c → (j a : ℕ) → behind b j a ≤ behind c j a
+unfolding behind
+behind_le b c h j a =
+    (let l = look_le b c h a in let d = drift_le b c h j a in let p = apart_le b c h a j in let e = early_le b c h a in let o = h.own a in
+    let k = jump_le b c h j in omega arith)
+
+answering_same : (b c : Bus) → IsHarder b c → (i j a : ℕ) → is_answering b i j a ≡ is_answering c i j a
+answering_same b c h i j a = ap₂ (λ u v. not u && is_third i j a && v) (h.listens a) (third_same b c h a j)
+
+answered_le : (b c : Bus) → IsHarder b c → (i j : ℕ) → answered b i j ≤ answered c i j
+unfolding answered
+answered_le b c h i j =
+    pick_le (several b) (several c) _ _ (several_same b c h)
+    (over b c h (is_answering b i j) (is_answering c i j) (λ a. trip b i j a + behind b j a) (λ a. trip c i j a + behind c j a)
+    (answering_same b c h i j) (λ a. (let t = trip_le b c h i j a in let g = behind_le b c h j a in omega arith)))
+
 late_le : (b c : Bus) → IsHarder b c → (i j : ℕ) → late b i j ≤ late c i j
 unfolding late
-late_le b c h i j = (let w = way_le b c h i j in let a = apart_le b c h i j in let t = tour_le b c h i j in omega arith)
+late_le b c h i j =
+    (let w = way_le b c h i j in let a = apart_le b c h i j in let t = tour_le b c h i j in let n = answered_le b c h i j in omega arith)
 
 strays_le : (b c : Bus) → IsHarder b c → (j : ℕ) → strays b j ≤ strays c j
 unfolding strays

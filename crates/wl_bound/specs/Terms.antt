@@ -94,9 +94,21 @@ apart b i j = chase b i j * (10 * drift b j i + ((b.lengths j).sjw * b.longest j
 unfoldable pub tour : Bus → ℕ → ℕ → ℕ
 tour b i j = greatest b.nodes (sends_third b i j) (λ a. way b i a + 10 * drift b a i + ahead b a + b.delay a j + b.delay j i - b.delay a i)
 
+-- a third node that acknowledges what some other than it and j sends
+abbrev pub is_answering : Bus → ℕ → ℕ → ℕ → Bool
+is_answering b i j a = not (b.listens a) && is_third i j a && any_below b.nodes (sends_third b a j)
+
+-- how late node j can still be for the acknowledgement of node a, if that comes before its own: it jumps once
+unfoldable pub behind : Bus → ℕ → ℕ → ℕ
+behind b j a = look b a + 10 * drift b j a + min (apart b a j) (early b a - b.delay a a) - jump b j
+
+-- how late the end of j's acknowledgement can be at i, if both jump back by that of a third: i all the way, and j as far as its jump goes
+unfoldable pub answered : Bus → ℕ → ℕ → ℕ
+answered b i j = if several b then greatest b.nodes (is_answering b i j) (λ a. trip b i j a + behind b j a) else 0
+
 -- how late a bit of j can be at i, catching up counted
 unfoldable pub late : Bus → ℕ → ℕ → ℕ
-late b i j = way b i j + min (apart b i j) (tour b i j - way b i j)
+late b i j = max (way b i j + min (apart b i j) (tour b i j - way b i j)) (answered b i j)
 
 -- the most that a bit of node j can last longer than one of another node
 unfoldable pub strays : Bus → ℕ → ℕ

@@ -3,7 +3,7 @@ ghost use Rattle.std.specs.Prelude.{◌≡◌, ◌+◌, ◌-◌, ◌*◌, ◌^�
 ghost use Rattle.wl_topology.specs.Driven.{any_below};
 ghost use Rattle.wl_level.specs.Places.{count_places};
 ghost use Rattle.wl_bound.specs.Families.{bus_of};
-ghost use Rattle.wl_bound.specs.Terms.{ahead, apart, chase, drift, early, edges, greatest, is_third, jump, late, look, lost, pull, pulled, sends_but, sends_third, several, strays, sum_of, tour, trip, way};
+ghost use Rattle.wl_bound.specs.Terms.{ahead, answered, apart, behind, chase, drift, early, edges, greatest, is_answering, is_third, jump, late, look, lost, pull, pulled, sends_but, sends_third, several, strays, sum_of, tour, trip, way};
 
 use crate::family::{Family, Setting};
 
@@ -312,6 +312,65 @@ impl Family {
         longest
     }
 
+    /// True if node `a` is a third one that acknowledges what some other than it and `j` sends.
+    fn is_answering(&self, setting: Setting, i: u8, j: u8, a: u8) -> bool
+        requires one { i < length self.now.members }
+        requires other { j < length self.now.members }
+        requires third { a < length self.now.members }
+        ensures { result ≡ is_answering (bus_of self.now setting) i j a }
+    {
+        a != i && a != j && !self.listens(a, j) && self.third_sends(setting, a, j)
+    }
+
+    /// Returns how late node `j` can still be for the acknowledgement of node `a` once it has jumped back.
+    #[tactic(auto, unfolding(crate::specs::Terms::behind))]
+    fn behind(&self, setting: Setting, j: u8, a: u8) -> u128
+        requires late { j < length self.now.members }
+        requires first { a < length self.now.members }
+        ensures value { result ≡ behind (bus_of self.now setting) j a }
+        ensures most { result < 2 ^ 96 }
+    {
+        let least = self
+            .early(setting, a)
+            .saturating_sub(self.delay(setting, a, a));
+        let gathers = self.apart(setting, a, j).min(least);
+        let late = self.look(setting, a) + 10 * self.drift(setting, j, a) + gathers;
+        late.saturating_sub(self.jump(setting, j))
+    }
+
+    /// Returns how late the end of `j`'s acknowledgement can be at `i`, if both jump back by that of a third node.
+    #[tactic(auto, unfolding(crate::specs::Terms::answered))]
+    pub(crate) fn answered(&self, setting: Setting, i: u8, j: u8) -> u128
+        requires one { i < length self.now.members }
+        requires other { j < length self.now.members }
+        ensures value { result ≡ answered (bus_of self.now setting) i j }
+        ensures most { result < 2 ^ 97 }
+    {
+        if self.several(setting) {
+            self.latest_answer(setting, i, j)
+        } else {
+            0
+        }
+    }
+
+    /// Returns that over the nodes whose acknowledgement may come first.
+    fn latest_answer(&self, setting: Setting, i: u8, j: u8) -> u128
+        requires one { i < length self.now.members }
+        requires other { j < length self.now.members }
+        ensures value { let b = bus_of self.now setting in
+            result ≡ greatest (length self.now.members) (is_answering b i j) (λ a. trip b i j a + behind b j a) }
+        ensures most { result < 2 ^ 97 }
+    {
+        let mut latest = 0;
+        for a in 0..self.nodes() {
+            if self.is_answering(setting, i, j, a) {
+                let behind = self.behind(setting, j, a);
+                latest = latest.max(self.trip(setting, i, j, a) + behind);
+            }
+        }
+        latest
+    }
+
     /// Returns how late a bit of node `j` can be at node `i`, catching up counted.
     #[tactic(auto, unfolding(crate::specs::Terms::late))]
     pub(crate) fn late(&self, setting: Setting, i: u8, j: u8) -> u128
@@ -321,9 +380,10 @@ impl Family {
         ensures most { result < 2 ^ 97 }
     {
         let way = self.way(setting, i, j);
-        way + self
+        let chased = self
             .apart(setting, i, j)
-            .min(self.tour(setting, i, j).saturating_sub(way))
+            .min(self.tour(setting, i, j).saturating_sub(way));
+        (way + chased).max(self.answered(setting, i, j))
     }
 
     /// Returns the most by which a bit of node `j` can last longer than one of another node.
