@@ -1,6 +1,7 @@
 mod Alone
 mod Always
 mod Answering
+mod Belonging
 mod Bits
 mod Bounded
 mod Calm

@@ -1,5 +1,5 @@
 -- A plan on which one node alone sends, as one of the buses of a family that the condition for margins is about.
-use Rattle.std.specs.Prelude.{◌≡◌, ◌≢◌, ℕ, ◌-◌, ◌*◌, ◌<◌, ◌≤◌, max, true, false, List, [], ◌∷◌, length}
+use Rattle.std.specs.Prelude.{◌≡◌, ◌≢◌, ℕ, ◌+◌, ◌-◌, ◌*◌, ◌<◌, ◌≤◌, max, true, false, List, [], ◌∷◌, length}
 use Rattle.std.specs.Int.{div_ceil}
 use Rattle.wl_level.specs.declared.Level.{Level}
 use Rattle.wl_segments.specs.Lengths.{Lengths, sample_at, bit_quanta}
@@ -8,6 +8,7 @@ use Rattle.wl_plan.specs.declared.plan.Plan.{Plan}
 use Rattle.wl_plan.specs.PlanLine.{setup_at}
 use Rattle.wl_phase.specs.Clocks.{Steady}
 use Rattle.wl_bound.specs.Conditions.{plain}
+use Rattle.wl_bound.specs.Oscillators.{Pace}
 use Rattle.wl_bound.specs.Families.{Buses, longest_in, member_at, only_listens, shortest_in, units}
 use Rattle.wl_bound.specs.Verdicts.{idle_at, is_ready_from}
 use Rattle.wl_one_sender.specs.OneSender.{SenderBus}
@@ -17,6 +18,19 @@ use Rattle.wl_one_sender.specs.Tolerances.{Tolerance}
 -- what the clocks of a family may do, in the units of the condition for margins
 abbrev pub tolerance_of : Buses → Tolerance
 tolerance_of f = record { units = units plain; shortest = shortest_in f plain; longest = longest_in f plain }
+
+-- A clock of one rate keeps to an oscillator: a quantum takes no less than its fastest nominal one and no more than its slowest, each with the tolerance.
+pub record KeepsPace (p : Pace) (c : Steady) : Type 0 where
+  pub fastest : p.fastest.num * (1000000 - p.tolerance) * c.den ≤ 1000000 * c.num * p.fastest.den
+  pub slowest : 1000000 * c.num * p.slowest.den ≤ p.slowest.num * (1000000 + p.tolerance) * c.den
+
+-- The second plan has the nodes and the cable of the first, and its clocks have the same rates. Its frames and offsets are free.
+pub record IsAlike (plan other : Plan) (clocks others : ℕ → Steady) : Type 0 where
+  pub cable : other.topology ≡ plan.topology
+  pub nodes : length other.nodes ≡ length plan.nodes
+  pub segments : (i : ℕ) → i < length plan.nodes → (setup_at other i).segments ≡ (setup_at plan i).segments
+  pub num : (i : ℕ) → i < length plan.nodes → (others i).num ≡ (clocks i).num
+  pub den : (i : ℕ) → i < length plan.nodes → (others i).den ≡ (clocks i).den
 
 -- The plan has the cable and the nodes of the family. Each clock has one rate, which lies within the tolerance of its oscillator.
 pub record IsOfFamily (f : Buses) (plan : Plan) (clocks : ℕ → Steady) : Type 0 where

@@ -20,8 +20,9 @@ ghost use Rattle.wl_one_sender.specs.Plans.{IsSteadyPlan, sender_bus_of};
 ghost use Rattle.wl_one_sender.specs.Through.{AreFrames, EndsInSlots, GetThrough};
 ghost use Rattle.wl_one_sender.specs.Tolerances.{FitClocks, IsWithinTolerance, Tolerance};
 ghost use Rattle.wl_one_sender.specs.Bounds.{IsBoundOf};
-ghost use Rattle.wl_one_sender.specs.Clean.{HasOneSender, IsOfFamily, bus_with, tolerance_of};
-ghost use Rattle.wl_bound.specs.Families.{Bus, Buses, bus_of, member_at};
+ghost use Rattle.wl_one_sender.specs.Clean.{HasOneSender, IsAlike, IsOfFamily, KeepsPace, bus_with, tolerance_of};
+ghost use Rattle.wl_bound.specs.Oscillators.{IsPace, Pace};
+ghost use Rattle.wl_bound.specs.Families.{Bus, Buses, bus_of, family_of, member_at};
 ghost use Rattle.wl_bound.specs.Conditions.{IsSound, first_failure_of, plain};
 ghost use Rattle.wl_bound.specs.Covered.{is_covered};
 ghost use Rattle.wl_bound.specs.declared.condition.Senders.TheVariants.{One};
@@ -137,6 +138,18 @@ pub fn a_plan_is_bound()
 {
     a_plan_is_such_a_bus();
 }
+
+/// Law: a plan whose clocks keep to some oscillators is one of the family that its nodes make with these. And a family has with a plan
+/// all that differ from it in frames and offsets alone.
+pub fn a_family_has_all_such_plans()
+    ensures own { (plan : Plan) (paces : List Pace) (clocks : ℕ → Steady)
+        → length (family_of plan paces).members ≡ length plan.nodes
+        → ((i : ℕ) → i < length plan.nodes → IsPace (member_at (family_of plan paces) i).oscillator)
+        → ((i : ℕ) → i < length plan.nodes → KeepsPace (member_at (family_of plan paces) i).oscillator (clocks i))
+        → IsOfFamily (family_of plan paces) plan clocks }
+    ensures others { (f : Buses) (plan other : Plan) (clocks others : ℕ → Steady) → IsOfFamily f plan clocks
+        → IsAlike plan other clocks others → IsOfFamily f other others }
+{}
 
 /// Law: let the condition for margins hold for a family on which this node alone sends. Then on each of its plans on which this
 /// node alone has frames all frames get through: no node ever finds an error, and each receives every frame in time.
