@@ -3,6 +3,7 @@ mod AckBounds
 mod AckWays
 mod Acks
 mod Bounded
+pub mod Callers
 mod Calm
 mod Clocked
 mod Counting
@@ -24,3 +25,4 @@ mod Sampled
 mod Seeing
 mod Settling
 mod Starting
+mod Unreached

@@ -5,4 +5,5 @@
 #![tactic(auto)]
 
 pub mod ack;
+pub mod before;
 pub mod laws;

@@ -1,0 +1,6 @@
+mod Beginning
+mod Plans
+mod Reaching
+mod Resting
+mod Rows
+mod Silent

@@ -1,0 +1,197 @@
+-- The nodes of a plan are idle when the first frame of any becomes ready, and each is handed its first frame.
+use Rattle.std.proofs.Common.{◌≡◌, ◌∙◌, inl, inr, refl, sym, ap, ℕ, suc, ◌+◌, ◌-◌, ◌*◌, ◌<◌, ◌≤◌, length, not, cond, Bool, true, false, List, [], ◌∷◌, Some, None, arith}
+use Rattle.std.specs.Prelude.{nat_lt, slice_get}
+use Rattle.std.specs.Int.{div_ceil}
+use Rattle.std.proofs.lemmas.Bool.{cases_lt, le-leb, lt-leb, lt-ltb}
+use Rattle.std.proofs.lemmas.Grind.{div_ceil_times}
+use Rattle.std.proofs.lemmas.List.{get_or_past}
+use Rattle.std.proofs.Math.Nat.{lt_of_mul-lt-mul_right, mul-le-mul_right}
+use Rattle.wl_clock.specs.Timing.{tick_of}
+use Rattle.wl_segments.specs.Lengths.{Lengths, bit_quanta, sample_at}
+use Rattle.wl_node.specs.declared.setup.NodeSetup.{NodeSetup}
+use Rattle.wl_node.specs.declared.setup.Queued.{Queued}
+use Rattle.wl_node.specs.History.{ready_head}
+use Rattle.wl_phase.specs.Clocks.{steady_tick}
+use Rattle.wl_phase.proofs.Callers.{tick_up}
+use Rattle.wl_plan.specs.declared.plan.Plan.{Plan}
+use Rattle.wl_plan.specs.PlanLine.{line_of, no_setup, setup_at}
+use Rattle.wl_plan.specs.Sound.{IsCausal}
+use Rattle.wl_bound.specs.Verdicts.{idle_at, is_ready_from}
+use Rattle.wl_one_sender.specs.Clean.{decides_at}
+use Rattle.wl_one_sender.specs.Through.{first_ready}
+use Rattle.wl_any_senders.specs.Plans.{IsPlanOf}
+use Rattle.wl_any_senders.specs.Stations.{AreOnALine, Stations}
+use Rattle.wl_first_frame.specs.FirstFrames.{HasFirstFrames, first_content, waiting_of}
+use Rattle.wl_first_frame.specs.FirstStarts.{AreIdle, HandTheFirst, Waiting, decision_quantum, due_first, has_first}
+
+same_has : (q : List Queued) → nat_lt 0 (length (first_content q)) ≡ nat_lt 0 (length q)
+same_has [] = refl
+same_has (x ∷ more) = lt-ltb 0 1 (omega arith) ∙ sym (lt-ltb 0 (length (x ∷ more)) (let h : 0 < suc (length more) = omega arith in h))
+
+none_has : (q : List Queued) → nat_lt 0 (length (first_content q)) ≡ false → q ≡ []
+none_has [] e = refl
+none_has (x ∷ more) e = cc
+
+-- a queue that isn't empty
+record Begins (q : List Queued) : Type 0 where
+  first : Queued
+  later : List Queued
+  is : q ≡ first ∷ later
+
+some_has : (q : List Queued) → nat_lt 0 (length (first_content q)) ≡ true → Begins q
+some_has [] e = cc
+some_has (x ∷ more) e = record { first = x; later = more; is = refl }
+
+ready_then : (q : List Queued) (k : ℕ) → nat_lt 0 (length (first_content q)) ≡ true → first_ready q ≤ k → ready_head q k ≡ slice_get (first_content q) 0
+ready_then [] k e less = cc
+ready_then (x ∷ more) k e less = ap (λ c. cond c (Some x.frame) None) (le-leb x.ready k less)
+
+unready_then : (q : List Queued) (k : ℕ) → k < first_ready q → ready_head q k ≡ None
+unready_then [] k less = refl
+unready_then (x ∷ more) k less = ap (λ c. cond c (Some x.frame) None) (lt-leb x.ready k less)
+
+-- a frame that becomes ready from a tick on
+ready_after : (setup : NodeSetup) (q : List Queued) (t : ℕ) → nat_lt 0 (length (first_content q)) ≡ true → is_ready_from setup q t ≡ true → t ≤ tick_of setup.clock (first_ready q)
+ready_after setup [] t e h = cc
+ready_after setup (x ∷ more) t e h = elim (cases_lt (tick_of setup.clock x.ready) t) [
+  | inl early ↦ (let f = ap not (lt-ltb (tick_of setup.clock x.ready) t early) in cc)
+  | inr late ↦ late
+]
+
+-- the bit with whose sample it decides
+module _ (l : Lengths) (ready : ℕ) (some : 0 < bit_quanta l) (short : sample_at l < bit_quanta l) where
+  pub decided_after : ready ≤ decides_at l ready * bit_quanta l + sample_at l
+  decided_after =
+      let ceil = (div_ceil_times (ready - sample_at l) (bit_quanta l) (omega arith)).0 in
+      let above : div_ceil (ready - sample_at l) (bit_quanta l) * bit_quanta l ≤ decides_at l ready * bit_quanta l = mul-le-mul_right (bit_quanta l) (omega arith) in
+      omega arith
+
+  pub undecided : (n : ℕ) → 11 * bit_quanta l ≤ ready → n < decides_at l ready → n * bit_quanta l + sample_at l < ready
+  undecided n late less = elim (cases_lt n 11) [
+    | inl few ↦ (let h : n * bit_quanta l ≤ 10 * bit_quanta l = mul-le-mul_right (bit_quanta l) (omega arith) in omega arith)
+    | inr many ↦
+        (let under : suc n ≤ div_ceil (ready - sample_at l) (bit_quanta l) = omega arith in
+        let up : suc n * bit_quanta l ≤ div_ceil (ready - sample_at l) (bit_quanta l) * bit_quanta l = mul-le-mul_right (bit_quanta l) under in
+        let more : suc n * bit_quanta l ≡ n * bit_quanta l + bit_quanta l = omega arith in
+        let ceil = (div_ceil_times (ready - sample_at l) (bit_quanta l) (omega arith)).1 in
+        omega arith)
+  ]
+
+  pub many_bits : 11 * bit_quanta l ≤ ready → 10 < decides_at l ready
+  many_bits late =
+      let ceil = (div_ceil_times (ready - sample_at l) (bit_quanta l) (omega arith)).0 in
+      let low : 10 * bit_quanta l < div_ceil (ready - sample_at l) (bit_quanta l) * bit_quanta l = omega arith in
+      let h = lt_of_mul-lt-mul_right (bit_quanta l) low in
+      omega arith
+
+module _ (plan : Plan) (s : Stations) (of : IsPlanOf plan s) (line : AreOnALine s) (causal : IsCausal (line_of plan)) where
+  abbrev w : Waiting
+  w = waiting_of plan s
+
+  abbrev q_of : ℕ → List Queued
+  q_of i = (setup_at plan i).queue
+
+  abbrev l_of : ℕ → Lengths
+  l_of i = (setup_at plan i).segments
+
+  abbrev ready : ℕ → ℕ
+  ready i = first_ready (q_of i)
+
+  long : (i : ℕ) → i < s.count → (0 < bit_quanta (l_of i)) × (sample_at (l_of i) < bit_quanta (l_of i))
+  long i inside =
+      let e : bit_quanta (s.lengths i) ≡ bit_quanta (l_of i) = ap bit_quanta (of.lengths i inside) in
+      let f : sample_at (s.lengths i) ≡ sample_at (l_of i) = ap sample_at (of.lengths i inside) in
+      let low = (line.book i inside).lengths.low in
+      let two = (line.book i inside).lengths.ps2_low in
+      (omega arith, omega arith)
+
+  tick_is : (i k : ℕ) → i < s.count → tick_of (setup_at plan i).clock k ≡ steady_tick (s.clocks i) k
+  tick_is i k inside = ap (λ t. tick_of t k) (of.rates i inside)
+
+  up : (i k n : ℕ) → i < s.count → k ≤ n → steady_tick (s.clocks i) k ≤ steady_tick (s.clocks i) n
+  up i k n inside h = tick_up (s.clocks i) (line.steady i inside).divides k n h
+
+  later : (i k : ℕ) → i < s.count → steady_tick (s.clocks i) k < steady_tick (s.clocks i) (suc k)
+  later i k inside =
+      let count = of.count in
+      let h = causal.clocks i k (omega arith) in
+      let a = tick_is i k inside in
+      let b = tick_is i (suc k) inside in
+      omega arith
+
+  in_plan : (i : ℕ) → has_first w i ≡ true → i < s.count
+  in_plan i e = elim (cases_lt i s.count) [
+    | inl less ↦ less
+    | inr past ↦
+        (let count = of.count in
+        let none : q_of i ≡ [] = ap (λ x. x.queue) (get_or_past plan.nodes i no_setup (omega arith)) in
+        let f : has_first w i ≡ false = ap (λ q. nat_lt 0 (length (first_content q))) none in
+        cc)
+  ]
+
+  pub hands : ((i : ℕ) → i < s.count → has_first w i ≡ true → 11 * bit_quanta (l_of i) ≤ ready i) → HandTheFirst w (setup_at plan)
+  hands late = record {
+    none = λ i q inside e. ap (λ x. ready_head x q) (none_has (q_of i) e);
+    unready = λ i n inside less. unready i n inside less;
+    ready = λ i inside e.
+        ready_then (q_of i) (decision_quantum w i) e
+        (let l = of.lengths i inside in
+        let x : decision_quantum w i ≡ w.decides i * bit_quanta (l_of i) + sample_at (l_of i) = ap (λ k. w.decides i * bit_quanta k + sample_at k) l in
+        let h = decided_after (l_of i) (ready i) (long i inside).0 (long i inside).1 in
+        omega arith);
+  }
+    where
+      by_frames : (i n : ℕ) → i < s.count → n < w.decides i → (c : Bool) → has_first w i ≡ c → ready_head (q_of i) (n * bit_quanta (l_of i) + sample_at (l_of i)) ≡ None
+      by_frames i n inside less true e =
+          unready_then (q_of i) (n * bit_quanta (l_of i) + sample_at (l_of i)) (undecided (l_of i) (ready i) (long i inside).0 (long i inside).1 n (late i inside e) less)
+      by_frames i n inside less false e = ap (λ x. ready_head x (n * bit_quanta (l_of i) + sample_at (l_of i))) (none_has (q_of i) e)
+
+      unready : (i n : ℕ) → i < s.count → n < w.decides i → ready_head (q_of i) (n * bit_quanta (s.lengths i) + sample_at (s.lengths i)) ≡ None
+      unready i n inside less =
+          ap (λ k. ready_head (q_of i) (n * bit_quanta k + sample_at k)) (of.lengths i inside) ∙ by_frames i n inside less (has_first w i) refl
+
+  module _ (has : HasFirstFrames plan s) where
+    -- all nodes are idle by then
+    ready_from : (i k : ℕ) → i < s.count → has_first w k ≡ true → steady_tick (s.clocks i) (11 * bit_quanta (l_of i)) ≤ steady_tick (s.clocks k) (ready k)
+    ready_from i k inside e =
+        let there = in_plan k e in
+        let h = ready_after (setup_at plan k) (q_of k) (idle_at (setup_at plan i)) e (has.idle i k inside there) in
+        let a = tick_is i (11 * bit_quanta (l_of i)) inside in
+        let b = tick_is k (ready k) there in
+        omega arith
+
+    pub late : (i : ℕ) → i < s.count → has_first w i ≡ true → 11 * bit_quanta (l_of i) ≤ ready i
+    late i inside e = elim (cases_lt (ready i) (11 * bit_quanta (l_of i))) [
+      | inl early ↦
+          (let from = ready_from i i inside e in
+          let next = later i (ready i) inside in
+          let more = up i (suc (ready i)) (11 * bit_quanta (l_of i)) inside early in
+          absurd (omega arith))
+      | inr more ↦ more
+    ]
+
+    before_due : (i k : ℕ) → i < s.count → has_first w k ≡ true
+        → steady_tick (s.clocks i) (10 * bit_quanta (s.lengths i) + sample_at (s.lengths i)) < steady_tick (s.clocks k) (due_first w k)
+    before_due i k inside e =
+        let there = in_plan k e in
+        let li : 10 * bit_quanta (s.lengths i) + sample_at (s.lengths i) ≡ 10 * bit_quanta (l_of i) + sample_at (l_of i) = ap (λ m. 10 * bit_quanta m + sample_at m) (of.lengths i inside) in
+        let lk : due_first w k ≡ suc (w.decides k) * bit_quanta (l_of k) = ap (λ m. suc (w.decides k) * bit_quanta m) (of.lengths k there) in
+        let short = (long i inside).1 in
+        let shorter = (long k there).1 in
+        let next = later i (10 * bit_quanta (s.lengths i) + sample_at (s.lengths i)) inside in
+        let more = up i (suc (10 * bit_quanta (s.lengths i) + sample_at (s.lengths i))) (11 * bit_quanta (l_of i)) inside (omega arith) in
+        let from = ready_from i k inside e in
+        let decided = decided_after (l_of k) (ready k) (long k there).0 (long k there).1 in
+        let bit : suc (w.decides k) * bit_quanta (l_of k) ≡ w.decides k * bit_quanta (l_of k) + bit_quanta (l_of k) = omega arith in
+        let last = up k (ready k) (due_first w k) there (omega arith) in
+        omega arith
+
+    pub idle : AreIdle w
+    idle = record {
+      frames = has.frames;
+      inside = in_plan;
+      may = λ i e. has.may i (in_plan i e) (sym (same_has (q_of i)) ∙ e);
+      some = (has.some.0, same_has (q_of has.some.0) ∙ has.some.2);
+      later = λ i e. many_bits (l_of i) (ready i) (long i (in_plan i e)).0 (long i (in_plan i e)).1 (late i (in_plan i e) e);
+      idle = before_due;
+    }

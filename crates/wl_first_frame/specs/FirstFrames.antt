@@ -1,0 +1,33 @@
+-- The first frame on the bus of a plan.
+use Rattle.std.specs.Prelude.{◌≡◌, ℕ, ◌<◌, true, List, [], ◌∷◌}
+use Rattle.wl_frame.specs.Grammar.{Content}
+use Rattle.wl_node.specs.declared.setup.Queued.{Queued}
+use Rattle.wl_plan.specs.declared.plan.Plan.{Plan}
+use Rattle.wl_plan.specs.PlanLine.{setup_at}
+use Rattle.wl_bound.specs.Verdicts.{has_frames, idle_at, is_ready_from}
+use Rattle.wl_one_sender.specs.Clean.{decides_at}
+use Rattle.wl_one_sender.specs.Through.{first_ready}
+use Rattle.wl_wire.specs.InStep.{AreSoundFrames}
+use Rattle.wl_any_senders.specs.Stations.{Stations}
+use Rattle.wl_first_frame.specs.FirstStarts.{Waiting}
+
+-- the frame of a queue that waits first, if there is one
+abbrev pub first_content : List Queued → List Content
+first_content [] = []
+first_content (q ∷ more) = q.frame ∷ []
+
+-- the nodes of a plan, each with its first frame
+abbrev pub waiting_of : Plan → Stations → Waiting
+waiting_of plan s = record {
+  stations = s;
+  frames = λ i. first_content (setup_at plan i).queue;
+  decides = λ i. decides_at (setup_at plan i).segments (first_ready (setup_at plan i).queue);
+}
+
+-- Some node has frames. The first ones of any two differ in format, identifier or RTR bit, and each node that has some may send. All nodes are idle when the first frame of any
+-- becomes ready: each has counted the eleven bits that it waits for (Bosch CAN 2.0 part B, section 2, wake-up; ISO 11898-1, bus integration).
+pub record HasFirstFrames (plan : Plan) (s : Stations) : Type 0 where
+  pub frames : AreSoundFrames s.count (waiting_of plan s).frames
+  pub may : (i : ℕ) → i < s.count → has_frames (setup_at plan i) ≡ true → s.may_send i ≡ true
+  pub some : (i : ℕ) × (i < s.count) × (has_frames (setup_at plan i) ≡ true)
+  pub idle : (i k : ℕ) → i < s.count → k < s.count → is_ready_from (setup_at plan k) (setup_at plan k).queue (idle_at (setup_at plan i)) ≡ true

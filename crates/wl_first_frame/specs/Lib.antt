@@ -1,0 +1,2 @@
+pub mod FirstStarts
+pub mod FirstFrames
