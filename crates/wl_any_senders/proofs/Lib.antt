@@ -11,6 +11,7 @@ mod Expecting
 mod Going
 mod Ideal
 mod Idling
+mod Lasting
 mod Lines
 mod Machines
 mod Measures

@@ -11,3 +11,4 @@ pub mod Expected
 pub mod Answers
 pub mod Nodes
 pub mod Lines
+pub mod Ends

@@ -6,4 +6,5 @@
 
 pub mod ack;
 pub mod before;
+pub mod ending;
 pub mod laws;

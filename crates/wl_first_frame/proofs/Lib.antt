@@ -1,4 +1,5 @@
 mod Beginning
+mod Going
 mod Plans
 mod Reaching
 mod Resting

@@ -3,13 +3,17 @@ use Rattle.std.specs.Prelude.{◌≡◌, ℕ, ◌<◌, true, List, [], ◌∷◌
 use Rattle.wl_frame.specs.Grammar.{Content}
 use Rattle.wl_node.specs.declared.setup.Queued.{Queued}
 use Rattle.wl_plan.specs.declared.plan.Plan.{Plan}
-use Rattle.wl_plan.specs.PlanLine.{setup_at}
+use Rattle.wl_plan.specs.PlanLine.{line_of, setup_at}
 use Rattle.wl_bound.specs.Verdicts.{has_frames, idle_at, is_ready_from}
 use Rattle.wl_one_sender.specs.Clean.{decides_at}
 use Rattle.wl_one_sender.specs.Through.{first_ready}
 use Rattle.wl_wire.specs.InStep.{AreSoundFrames}
 use Rattle.wl_any_senders.specs.Stations.{Stations}
-use Rattle.wl_first_frame.specs.FirstStarts.{Waiting}
+use Rattle.wl_any_senders.specs.Expected.{Outset, expected_bits}
+use Rattle.wl_any_senders.specs.Ends.{HasStuffedBits}
+use Rattle.wl_any_senders.specs.Lines.{DoesAsExpected, IsBeforeEnd}
+use Rattle.wl_any_senders.specs.Machines.{HasWon}
+use Rattle.wl_first_frame.specs.FirstStarts.{Waiting, first_outset}
 
 -- the frame of a queue that waits first, if there is one
 abbrev pub first_content : List Queued → List Content
@@ -31,3 +35,15 @@ pub record HasFirstFrames (plan : Plan) (s : Stations) : Type 0 where
   pub may : (i : ℕ) → i < s.count → has_frames (setup_at plan i) ≡ true → s.may_send i ≡ true
   pub some : (i : ℕ) × (i < s.count) × (has_frames (setup_at plan i) ≡ true)
   pub idle : (i k : ℕ) → i < s.count → k < s.count → is_ready_from (setup_at plan k) (setup_at plan k).queue (idle_at (setup_at plan i)) ≡ true
+
+-- the first frame on the bus of a plan, as its nodes begin it
+abbrev pub outset_of : Plan → Stations → Outset
+outset_of plan s = first_outset (waiting_of plan s)
+
+-- It has so many bits up to the end of its CRC sequence, stuff bits among them. Up to a tick by which no node has sampled more of them all nodes do what is expected: they sample each bit as
+-- it is on the bus, and find no error. One frame is left (Bosch CAN 2.0 part B, section 3.1, arbitration).
+pub record GoesToItsCrc (plan : Plan) (s : Stations) : Type 0 where
+  pub bits : ℕ
+  pub stuffed : HasStuffedBits s (outset_of plan s) bits
+  pub does : (end : ℕ) → IsBeforeEnd (line_of plan) s (outset_of plan s) bits end → DoesAsExpected (line_of plan) (setup_at plan) s (outset_of plan s) bits end
+  pub won : HasWon s (expected_bits s (outset_of plan s)) (waiting_of plan s).frames bits

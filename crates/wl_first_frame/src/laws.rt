@@ -4,18 +4,17 @@ ghost use Rattle.std.specs.Prelude.{◌≡◌, ◌<◌, ℕ, [], None};
 ghost use Rattle.wl_machine.specs.Frames.{stuffed_end};
 ghost use Rattle.wl_node.specs.declared.setup.NodeSetup.{NodeSetup};
 ghost use Rattle.wl_plan.specs.Line.{Line};
-ghost use Rattle.wl_plan.specs.PlanLine.{line_of, setup_at};
+ghost use Rattle.wl_plan.specs.PlanLine.{setup_at};
 ghost use Rattle.wl_plan.specs.declared.plan.Plan.{Plan};
 ghost use Rattle.wl_bound.specs.Conditions.{IsSound};
 ghost use Rattle.wl_bound.specs.Families.{Bus};
 ghost use Rattle.wl_any_senders.specs.Bounds.{IsBusOf, IsLeftForTwo};
 ghost use Rattle.wl_any_senders.specs.Expected.{IsOutset, expected_bits};
-ghost use Rattle.wl_any_senders.specs.Lines.{BeginsAfter, DoesAsExpected, IsBeforeEnd, IsLineOf, RestsBefore, finds_expected, node_after};
+ghost use Rattle.wl_any_senders.specs.Lines.{BeginsAfter, IsLineOf, RestsBefore, finds_expected, node_after};
 ghost use Rattle.wl_any_senders.specs.Machines.{bus_levels};
 ghost use Rattle.wl_any_senders.specs.Plans.{IsPlanOf};
-ghost use Rattle.wl_any_senders.specs.Stations.{AreOnALine, AreStations, HaveRoom, HaveWays};
-ghost use Rattle.wl_any_senders.specs.Stations.{Stations};
-ghost use Rattle.wl_first_frame.specs.FirstFrames.{HasFirstFrames, waiting_of};
+ghost use Rattle.wl_any_senders.specs.Stations.{AreOnALine, AreStations, HaveRoom, HaveWays, Stations};
+ghost use Rattle.wl_first_frame.specs.FirstFrames.{GoesToItsCrc, HasFirstFrames, waiting_of};
 ghost use Rattle.wl_first_frame.specs.FirstStarts.{AreIdle, HandTheFirst, Waiting, first_outset, rest_first};
 
 /// Law: idle stations begin a first frame together, if some have one. Whoever has decided to send before another one's start of frame
@@ -61,21 +60,16 @@ pub fn a_plan_has_a_first_frame()
 /// margins. Some have frames, and all are idle when the first frame of any becomes ready. Then up to the end of the CRC sequence all
 /// sample each bit as it is on the bus, and none finds an error. The one that is left has the least arbitration field.
 pub fn the_first_frame_goes_as_expected()
-    ensures room { (plan : Plan) (s : Stations) (length end : ℕ) → IsPlanOf plan s → plan.disturbances ≡ [] → HaveWays s
-        → HaveRoom s → HasFirstFrames plan s → 0 < length
-        → ((n : ℕ) → n < length → stuffed_end (bus_levels s (expected_bits s (first_outset (waiting_of plan s))) n) ≡ None)
-        → IsBeforeEnd (line_of plan) s (first_outset (waiting_of plan s)) length end
-        → DoesAsExpected (line_of plan) (setup_at plan) s (first_outset (waiting_of plan s)) length end }
-    ensures sound { (plan : Plan) (s : Stations) (bus : Bus) (length end : ℕ) → IsPlanOf plan s → plan.disturbances ≡ []
-        → IsBusOf bus s → IsLeftForTwo bus s → IsSound bus → HasFirstFrames plan s → 0 < length
-        → ((n : ℕ) → n < length → stuffed_end (bus_levels s (expected_bits s (first_outset (waiting_of plan s))) n) ≡ None)
-        → IsBeforeEnd (line_of plan) s (first_outset (waiting_of plan s)) length end
-        → DoesAsExpected (line_of plan) (setup_at plan) s (first_outset (waiting_of plan s)) length end }
+    ensures room { (plan : Plan) (s : Stations) → IsPlanOf plan s → plan.disturbances ≡ [] → HaveWays s → HaveRoom s
+        → HasFirstFrames plan s → GoesToItsCrc plan s }
+    ensures sound { (plan : Plan) (s : Stations) (bus : Bus) → IsPlanOf plan s → plan.disturbances ≡ []
+        → IsBusOf bus s → IsLeftForTwo bus s → IsSound bus → HasFirstFrames plan s → GoesToItsCrc plan s }
 {
     wl_plan::checked_is_sound();
     wl_any_senders::laws::a_plan_is_on_a_line();
     wl_any_senders::laws::a_sound_bus_has_room();
     wl_any_senders::laws::a_plan_does_what_is_expected();
+    wl_any_senders::ending::the_stuffed_part_ends();
     idle_stations_begin_a_first_frame();
     nodes_rest_before_a_first_frame();
     a_plan_has_a_first_frame();
