@@ -1,7 +1,7 @@
 #!/usr/bin/env python3
 """Looks for what makes the sources hard to read, and fails if it finds something that accepted.txt doesn't have with a reason.
 
-usage: house.py [--all] [repeats|wide|names|unused|long|english|comments|links|quotes|edits]..     all of them if none is named; --all shows what is accepted, too
+usage: house.py [--all] [repeats|wide|names|unused|long|english|comments|links|quotes|cites|edits]..     all of them if none is named; --all shows what is accepted, too
 
 repeats  lemma statements that stand more than once, up to the names of their variables (definitions and proofs are read, bodies not; a module's own
          name for a lemma of another one is none)
@@ -14,6 +14,7 @@ comments of the doc comments of src/: sentences of more than 30 words, words to 
          it ('Returns ..', 'True if ..') or with a verb
 links    links of pages that lead to no file or to no heading
 quotes   code that a page quotes from a file that it names just above, and that isn't there
+cites    words of code that a page links to a source which hasn't them; of `Type::function` the function
 edits    wrong bodies whose old text isn't once in the file that they name
 
 Each search yields what accepted.txt may name, and the line that is printed. A line of accepted.txt is `KIND: WHAT`, or `KIND N: WHAT` if there may be N of
@@ -266,6 +267,15 @@ def quotes():
                         yield path.relative_to(TOP), f"{path.relative_to(TOP)}: not in {last.resolve().relative_to(TOP)}: {part.splitlines()[0]}"
 
 
+def cites():
+    for path in pages():
+        for said, target in re.findall(r"\[(`[^\]]+`)\]\(([^)#]+\.(?:antt|rt))\)", path.read_text(encoding="utf-8")):
+            source = (path.parent / target).resolve()
+            for word in re.findall(r"`(?:\w+::)?(\w+)`", said):
+                if source.is_file() and not re.search(rf"(?<![\w-]){word}(?![\w-])", source.read_text(encoding="utf-8")):
+                    yield f"{path.relative_to(TOP)} {word}", f"{path.relative_to(TOP)}: {word} isn't in {source.relative_to(TOP)}"
+
+
 def edits():
     for edit in sorted([*TOP.glob("crates/*/must-fail/*.edit"), *TOP.glob("check/wrong-bodies/*/*.edit")]):
         crate = edit.parent.name if edit.parent.name != "must-fail" else edit.parent.parent.name
@@ -295,7 +305,7 @@ def accepted():
 
 
 def main():
-    every = {it.__name__: it for it in (repeats, wide, names, unused, long, english, comments, links, quotes, edits)}
+    every = {it.__name__: it for it in (repeats, wide, names, unused, long, english, comments, links, quotes, cites, edits)}
     words, left, bad = sys.argv[1:], accepted(), 0
     show = "--all" in words
     for kind in [it for it in words if it != "--all"] or every:
