@@ -1,14 +1,13 @@
 //! What a listener finds while one node alone is heard.
 ghost use Rattle.std.specs.Prelude.{◌≡◌, ◌<◌, ◌≤◌, length};
-ghost use Rattle.wl_plan.specs.Checked.{IsChecked};
 ghost use Rattle.wl_topology.specs.Delays.{delay_of};
 ghost use Rattle.wl_serial.specs.Heard.{IsEar, IsFound, IsHeard, HearsOnly};
 ghost use Rattle.wl_serial.specs.Running.{AreSomewhere, RunsBelow};
 
+use crate::checked::Checked;
 use crate::ear::{Ear, Found, level_by};
 use crate::pulse::pulse_of;
 use crate::running_node::Running;
-use wl_plan::Plan;
 
 /// The node that sends, the tick below which a listener hears nothing else, and how many of its changes had arrived there.
 #[derive(Drop)]
@@ -25,13 +24,12 @@ impl Alone {
     #[inline(always)]
     pub(crate) fn find(
         &mut self,
-        plan: &Plan,
+        plan: &Checked,
         running: &[Running],
         ear: &mut Ear,
         i: usize,
         until: u64,
     ) -> Found
-        requires checked { IsChecked plan.now }
         requires node { i < length plan.now.nodes }
         requires leader { self.old.node < length plan.now.nodes }
         requires somewhere { AreSomewhere plan.now running.now }
@@ -47,6 +45,7 @@ impl Alone {
         ensures leader { self.new.node ≡ self.old.node }
         ensures only { HearsOnly plan.now running.now self.new.node i self.new.until }
     {
+        plan.laws();
         let j = self.node;
         if running[i].next < self.until {
             return self.hear(plan, running, ear.delays[j], i, until.min(self.until));
@@ -59,8 +58,14 @@ impl Alone {
 
     /// Returns what the node makes at node `i`, a delay later, from that one's next quantum on and below a tick.
     #[inline(always)]
-    fn hear(&mut self, plan: &Plan, running: &[Running], delay: u64, i: usize, until: u64) -> Found
-        requires checked { IsChecked plan.now }
+    fn hear(
+        &mut self,
+        plan: &Checked,
+        running: &[Running],
+        delay: u64,
+        i: usize,
+        until: u64,
+    ) -> Found
         requires node { i < length plan.now.nodes }
         requires leader { self.old.node < length plan.now.nodes }
         requires somewhere { AreSomewhere plan.now running.now }
@@ -73,6 +78,7 @@ impl Alone {
         ensures leader { self.new.node ≡ self.old.node }
         ensures until { self.new.until ≡ self.old.until }
     {
+        plan.laws();
         let t = running[i].next;
         let changes = running[self.node].changes.as_slice();
         let pulse = pulse_of(changes, delay, t, &mut self.come);

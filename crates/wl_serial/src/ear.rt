@@ -1,18 +1,17 @@
 //! What a node finds on the line, and for how long, by how far the nodes have run.
 ghost use Rattle.std.specs.Prelude.{◌≡◌, ℕ, ◌+◌, ◌<◌, ◌≤◌, ◌^◌, ◌||◌, List, length, set, slice_index_or};
 ghost use Rattle.wl_level.specs.Levels.{level_of};
-ghost use Rattle.wl_plan.specs.Checked.{IsChecked};
 ghost use Rattle.wl_plan.specs.declared.plan.Plan.{Plan as GivenPlan};
 ghost use Rattle.wl_serial.specs.Heard.{AreDelays, AreOthers, AreSooner, IsEar, AreEars, IsFound, IsHeard, AreHeard, HasChanged, HearsOnly};
 ghost use Rattle.wl_serial.specs.Rest.{IsSilent};
 ghost use Rattle.wl_serial.specs.Running.{AreRunning, AreSomewhere, AreKnown, KnowsOthers, RunsBelow, AllKnown};
 
+use crate::checked::Checked;
 use crate::disturbed::disturbed_at;
 use crate::pulse::{Pulse, SILENCE};
 use crate::running_node::{Running, Ticks};
 use crate::sources::Sources;
 use wl_level::Level;
-use wl_plan::Plan;
 use wl_topology::MOST_NODES;
 
 /// What a place keeps of the line. It has the delay from each node and from each other node, and what arrives from each node. It has what
@@ -35,8 +34,7 @@ pub(crate) struct Found {
 
 impl Ear {
     /// Returns the ear of node `j`, which has heard nothing.
-    pub(crate) fn new(plan: &Plan, j: usize) -> Ear
-        requires checked { IsChecked plan.now }
+    pub(crate) fn new(plan: &Checked, j: usize) -> Ear
         requires node { j < length plan.now.nodes }
         ensures ear { IsEar plan.now j result }
         ensures heard { (running : List Running) → IsHeard plan.now running j result }
@@ -51,8 +49,13 @@ impl Ear {
     }
 
     /// Returns the tick below which all that arrives at node `j` from the others is known; at most the end.
-    pub(crate) fn horizon(&self, plan: &Plan, running: &[Running], known: &Ticks, j: usize) -> u64
-        requires checked { IsChecked plan.now }
+    pub(crate) fn horizon(
+        &self,
+        plan: &Checked,
+        running: &[Running],
+        known: &Ticks,
+        j: usize,
+    ) -> u64
         requires running { AreRunning plan.now running.now }
         requires known { AreKnown plan.now.end running.now known.now }
         requires node { j < length plan.now.nodes }
@@ -61,7 +64,8 @@ impl Ear {
         ensures ends { result ≤ plan.now.end }
         ensures later { (t : ℕ) → t < plan.now.end → AllKnown t running.now → t < result }
     {
-        let mut horizon = plan.end;
+        plan.laws();
+        let mut horizon = plan.end();
         for i in 0..MOST_NODES {
             horizon = horizon.min(known[i].saturating_add(self.others[i]));
         }
@@ -69,8 +73,13 @@ impl Ear {
     }
 
     /// Returns what node `j` finds from its next quantum on, below a tick, by the changes that are known.
-    pub(crate) fn hear(&mut self, plan: &Plan, running: &[Running], j: usize, until: u64) -> Found
-        requires checked { IsChecked plan.now }
+    pub(crate) fn hear(
+        &mut self,
+        plan: &Checked,
+        running: &[Running],
+        j: usize,
+        until: u64,
+    ) -> Found
         requires node { j < length plan.now.nodes }
         requires somewhere { AreSomewhere plan.now running.now }
         requires ear { IsEar plan.now j self.old }
@@ -82,6 +91,7 @@ impl Ear {
         ensures few { result.until ≤ until }
         ensures found { IsFound plan.now j running.now result }
     {
+        plan.laws();
         let t = running[j].next;
         self.hear_anew(plan, running, j, t);
         if t < self.shaken.from || self.shaken.until <= t {
@@ -108,8 +118,7 @@ impl Ear {
 
     /// Returns the tick below which node `i` finds what node `j` drove, from its next quantum on, by the known changes; 0 if something else
     /// may be there.
-    pub(crate) fn alone_until(&self, plan: &Plan, running: &[Running], j: usize, i: usize) -> u64
-        requires checked { IsChecked plan.now }
+    pub(crate) fn alone_until(&self, plan: &Checked, running: &[Running], j: usize, i: usize) -> u64
         requires node { i < length plan.now.nodes }
         requires leader { j < length plan.now.nodes }
         requires all { length running.now ≡ length plan.now.nodes }
@@ -117,6 +126,7 @@ impl Ear {
         requires heard { IsHeard plan.now running.now i self.now }
         ensures { HearsOnly plan.now running.now j i result }
     {
+        plan.laws();
         if self.shaken.dominant || running[i].next < self.shaken.from {
             return 0;
         }
@@ -124,8 +134,7 @@ impl Ear {
     }
 
     /// Asks what arrives from the nodes, if the last answer doesn't say it for tick `t`, at which node `j` has its next quantum.
-    fn hear_anew(&mut self, plan: &Plan, running: &[Running], j: usize, t: u64)
-        requires checked { IsChecked plan.now }
+    fn hear_anew(&mut self, plan: &Checked, running: &[Running], j: usize, t: u64)
         requires node { j < length plan.now.nodes }
         requires somewhere { AreSomewhere plan.now running.now }
         requires early { t < 2 ^ 63 }
@@ -163,42 +172,42 @@ impl Ear {
 }
 
 /// Returns the delay from each node to place `j`.
-fn delays_to(plan: &Plan, j: usize) -> Ticks
-    requires checked { IsChecked plan.now }
+fn delays_to(plan: &Checked, j: usize) -> Ticks
     requires node { j < length plan.now.nodes }
     ensures { AreDelays plan.now j result }
 {
+    plan.laws();
     let mut delays = [0; MOST_NODES];
-    for i in 0..plan.nodes.len() {
-        delays[i] = plan.topology.delay(i as u8, j as u8);
+    for i in 0..plan.nodes() {
+        delays[i] = plan.delay(i, j);
     }
     delays
 }
 
 /// Returns the delay from each other node to place `j`, and from its own one more than any tick.
-fn delays_of_others(plan: &Plan, j: usize) -> Ticks
-    requires checked { IsChecked plan.now }
+fn delays_of_others(plan: &Checked, j: usize) -> Ticks
     requires node { j < length plan.now.nodes }
     ensures { AreOthers plan.now j result }
 {
+    plan.laws();
     let mut others = [u64::MAX; MOST_NODES];
-    for i in 0..plan.nodes.len() {
+    for i in 0..plan.nodes() {
         if i != j {
-            others[i] = plan.topology.delay(i as u8, j as u8);
+            others[i] = plan.delay(i, j);
         }
     }
     others
 }
 
 /// Notes for all places that node `i` changed its drive at this tick.
-pub(crate) fn tell(plan: &Plan, ears: &mut [Ear], i: usize, tick: u64)
-    requires checked { IsChecked plan.now }
+pub(crate) fn tell(plan: &Checked, ears: &mut [Ear], i: usize, tick: u64)
     requires ears { AreEars plan.now ears.old }
     requires node { i < length plan.now.nodes }
     ensures ears { AreEars plan.now ears.new }
     ensures heard { (rs : List Running) (r : Running) → i < length rs → AreHeard plan.now rs ears.old
         → HasChanged i tick rs r → AreHeard plan.now (set rs i r) ears.new }
 {
+    plan.laws();
     wl_record_core::table_laws();
     for m in 0..ears.len() {
         ears[m].expect(i, tick);

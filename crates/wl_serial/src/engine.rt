@@ -6,6 +6,7 @@ ghost use Rattle.wl_serial.specs.Outcome.{node_outcome_of, outcome_of};
 ghost use Rattle.wl_serial.specs.Heard.{AreEars, AreHeard};
 ghost use Rattle.wl_serial.specs.Running.{AreRunning, AreKnown, AllKnown, NoneBefore, IsNext, ticks_left};
 
+use crate::checked::Checked;
 use crate::ear::Ear;
 use crate::guess::{guess, is_led};
 use crate::outcome::{NodeOutcomes, Outcome};
@@ -24,47 +25,46 @@ pub fn run_serial(alloc: Global, plan: &Plan) -> Result<Outcome, AllocError>
     requires { IsChecked plan.now }
     ensures { IfOk result (λ outcome. outcome ≡ outcome_of plan.now) }
 {
-    let mut running = begin(alloc, plan)?;
-    let mut ears = listen(alloc, plan)?;
-    let mut known = all_known(plan, &running);
-    run(alloc, plan, &mut running, &mut ears, &mut known)?;
+    let checked = Checked::new(plan);
+    let mut running = begin(alloc, &checked)?;
+    let mut ears = listen(alloc, &checked)?;
+    let mut known = all_known(&checked, &running);
+    run(alloc, &checked, &mut running, &mut ears, &mut known)?;
     Ok(Outcome {
-        nodes: finish(alloc, plan, running)?,
+        nodes: finish(alloc, &checked, running)?,
         end: plan.end,
     })
 }
 
 /// Returns all nodes before their first quanta.
-fn begin(alloc: Global, plan: &Plan) -> Result<Vec<Running>, AllocError>
-    requires { IsChecked plan.now }
+fn begin(alloc: Global, plan: &Checked) -> Result<Vec<Running>, AllocError>
     ensures { IfOk result (λ running. AreRunning plan.now running.items) }
 {
     let mut running = Vec::new(alloc);
-    for i in 0..plan.nodes.len() {
+    for i in 0..plan.nodes() {
         running.push(Running::begin(alloc, plan, i)?)?;
     }
     Ok(running)
 }
 
 /// Returns an ear at each place.
-fn listen(alloc: Global, plan: &Plan) -> Result<Vec<Ear>, AllocError>
-    requires { IsChecked plan.now }
+fn listen(alloc: Global, plan: &Checked) -> Result<Vec<Ear>, AllocError>
     ensures ears { IfOk result (λ ears. AreEars plan.now ears.items) }
     ensures heard { IfOk result (λ ears. (running : List Running) → AreHeard plan.now running ears.items) }
 {
     let mut ears = Vec::new(alloc);
-    for j in 0..plan.nodes.len() {
+    for j in 0..plan.nodes() {
         ears.push(Ear::new(plan, j))?;
     }
     Ok(ears)
 }
 
 /// Returns up to which ticks the drives are known.
-pub(crate) fn all_known(plan: &Plan, running: &[Running]) -> Ticks
-    requires checked { IsChecked plan.now }
+pub(crate) fn all_known(plan: &Checked, running: &[Running]) -> Ticks
     requires running { AreRunning plan.now running.now }
     ensures { AreKnown plan.now.end running.now result }
 {
+    plan.laws();
     let mut known = [u64::MAX; MOST_NODES];
     for i in 0..running.len() {
         known[i] = running[i].known;
@@ -75,12 +75,11 @@ pub(crate) fn all_known(plan: &Plan, running: &[Running]) -> Ticks
 /// Runs all quanta before the end.
 fn run(
     alloc: Global,
-    plan: &Plan,
+    plan: &Checked,
     running: &mut [Running],
     ears: &mut [Ear],
     known: &mut Ticks,
 ) -> Result<(), AllocError>
-    requires checked { IsChecked plan.now }
     requires running { AreRunning plan.now running.old }
     requires ears { AreEars plan.now ears.old }
     requires heard { AreHeard plan.now running.old ears.old }
@@ -103,7 +102,7 @@ fn run(
 /// to which a guess failed, if one did.
 fn step(
     alloc: Global,
-    plan: &Plan,
+    plan: &Checked,
     running: &mut [Running],
     ears: &mut [Ear],
     known: &mut Ticks,
@@ -111,7 +110,6 @@ fn step(
     led: bool,
     asked: &mut u64,
 ) -> Result<Option<u64>, AllocError>
-    requires checked { IsChecked plan.now }
     requires running { AreRunning plan.now running.old }
     requires ears { AreEars plan.now ears.old }
     requires heard { AreHeard plan.now running.old ears.old }
@@ -136,14 +134,13 @@ fn step(
 
 /// Gives node `j` its turn, if the line doesn't rest up to there.
 fn plain(
-    plan: &Plan,
+    plan: &Checked,
     running: &mut [Running],
     ears: &mut [Ear],
     known: &mut Ticks,
     j: usize,
     asked: &mut u64,
 ) -> Result<(), AllocError>
-    requires checked { IsChecked plan.now }
     requires running { AreRunning plan.now running.old }
     requires ears { AreEars plan.now ears.old }
     requires heard { AreHeard plan.now running.old ears.old }
@@ -160,7 +157,7 @@ fn plain(
 }
 
 /// Returns the node whose drive is known the least far, of those that have a quantum before the end: all others wait for it.
-fn next_before(plan: &Plan, running: &[Running], known: &Ticks) -> Option<usize>
+fn next_before(plan: &Checked, running: &[Running], known: &Ticks) -> Option<usize>
     requires running { AreRunning plan.now running.now }
     requires known { AreKnown plan.now.end running.now known.now }
     ensures { MatchOption result (NoneBefore plan.now.end running.now) (IsNext plan.now.end running.now) }
@@ -172,7 +169,7 @@ fn next_before(plan: &Plan, running: &[Running], known: &Ticks) -> Option<usize>
 }
 
 /// Returns the node whose drive is known the least far, unless all are known up to the end.
-fn least_known(plan: &Plan, running: &[Running], known: &Ticks) -> Option<usize>
+fn least_known(plan: &Checked, running: &[Running], known: &Ticks) -> Option<usize>
     requires running { AreRunning plan.now running.now }
     requires known { AreKnown plan.now.end running.now known.now }
     ensures { MatchOption result (AllKnown plan.now.end running.now) (IsNext plan.now.end running.now) }
@@ -185,19 +182,19 @@ fn least_known(plan: &Plan, running: &[Running], known: &Ticks) -> Option<usize>
             node = i;
         }
     }
-    if plan.end <= least {
+    if plan.end() <= least {
         return None;
     }
     Some(node)
 }
 
 /// Returns a node that has a quantum before the end, if all are known up to the end.
-fn left_before(plan: &Plan, running: &[Running]) -> Option<usize>
+fn left_before(plan: &Checked, running: &[Running]) -> Option<usize>
     requires { AllKnown plan.now.end running.now }
     ensures { MatchOption result (NoneBefore plan.now.end running.now) (IsNext plan.now.end running.now) }
 {
     for (i, r) in running.iter().enumerate() {
-        if r.next < plan.end {
+        if r.next < plan.end() {
             return Some(i);
         }
     }
@@ -205,12 +202,12 @@ fn left_before(plan: &Plan, running: &[Running]) -> Option<usize>
 }
 
 /// Returns what the nodes did; all have run to the end.
-fn finish(alloc: Global, plan: &Plan, running: Vec<Running>) -> Result<NodeOutcomes, AllocError>
-    requires checked { IsChecked plan.now }
+fn finish(alloc: Global, plan: &Checked, running: Vec<Running>) -> Result<NodeOutcomes, AllocError>
     requires running { AreRunning plan.now running.items }
     requires ended { NoneBefore plan.now.end running.items }
     ensures { IfOk result (λ nodes. nodes ≡ map (node_outcome_of plan.now) (range_with_len 0 (length plan.now.nodes))) }
 {
+    plan.laws();
     let mut nodes = Listed::new(alloc);
     for r in running {
         nodes.push(r.finish())?;

@@ -2,7 +2,6 @@
 //! alone up to there, and then each listener runs as far beside what it sent. If none of them changes its drive, all did what they do
 //! (`a_consistent_guess_holds` of `wl_plan`). Else all go back to where they were.
 ghost use Rattle.std.specs.Prelude.{◌≡◌, ◌≢◌, ℕ, ◌<◌, ◌≤◌, true, IfOk, OnOk, MatchOption, List, length, slice_index_or};
-ghost use Rattle.wl_plan.specs.Checked.{IsChecked};
 ghost use Rattle.wl_serial.specs.declared.ear.Ear.{Ear as GivenEar};
 ghost use Rattle.wl_serial.specs.declared.running_node.Running.{Running as GivenRunning};
 ghost use Rattle.wl_serial.specs.Guess.{AreAsFar, AreBack, AreBefore, AreLater, HaveListened, HavePassed, RanAlone};
@@ -11,12 +10,12 @@ ghost use Rattle.wl_serial.specs.Running.{AreRunning, AreSomewhere, AreKnown, Is
 ghost use Rattle.wl_serial.specs.Stretch.{TellsTheSame};
 
 use crate::alone::Alone;
+use crate::checked::Checked;
 use crate::ear::Ear;
 use crate::engine::all_known;
 use crate::running_node::{Before, Running, Ticks};
 use crate::turn::{run_found, stretch};
 use std::alloc::{AllocError, Global};
-use wl_plan::Plan;
 
 /// With fewer bits before it than these a sender is not run ahead: the guess would cost more than it saves.
 const FEWEST_BITS: usize = 8;
@@ -40,13 +39,12 @@ pub(crate) fn is_led(running: &[Running], j: usize) -> bool
 /// then all are where they were.
 pub(crate) fn guess(
     alloc: Global,
-    plan: &Plan,
+    plan: &Checked,
     running: &mut [Running],
     ears: &mut [Ear],
     known: &mut Ticks,
     j: usize,
 ) -> Result<Option<u64>, AllocError>
-    requires checked { IsChecked plan.now }
     requires running { AreRunning plan.now running.old }
     requires ears { AreEars plan.now ears.old }
     requires heard { AreHeard plan.now running.old ears.old }
@@ -60,14 +58,14 @@ pub(crate) fn guess(
         (ticks_left plan.now.end running.new < ticks_left plan.now.end running.old)
         (λ t. AreAsFar running.old running.new)) }
 {
-    wl_plan::checked_is_sound();
+    plan.laws();
     wl_plan::simulation_laws();
     wl_plan::a_consistent_guess_holds();
     wl_record_core::table_laws();
     wl_node::node_laws();
     let marks = keep(alloc, running)?;
     lead(plan, running, ears, j)?;
-    let until = running[j].next.min(plan.end);
+    let until = running[j].next.min(plan.end());
     if follow(plan, running, ears, j, until)? {
         promise_all(plan, running);
         *known = all_known(plan, running);
@@ -90,8 +88,12 @@ fn keep(alloc: Global, running: &[Running]) -> Result<Vec<Before>, AllocError>
 }
 
 /// Runs node `j` on up to the end of its CRC sequence, beside the known changes of the others.
-fn lead(plan: &Plan, running: &mut [Running], ears: &mut [Ear], j: usize) -> Result<(), AllocError>
-    requires checked { IsChecked plan.now }
+fn lead(
+    plan: &Checked,
+    running: &mut [Running],
+    ears: &mut [Ear],
+    j: usize,
+) -> Result<(), AllocError>
     requires node { j < length plan.now.nodes }
     requires somewhere { AreSomewhere plan.now running.old }
     requires ears { AreEars plan.now ears.old }
@@ -103,10 +105,10 @@ fn lead(plan: &Plan, running: &mut [Running], ears: &mut [Ear], j: usize) -> Res
     ensures later { OnOk result ((d : GivenRunning)
         → (slice_index_or running.old j d).next < (slice_index_or running.new j d).next) }
 {
-    wl_plan::checked_is_sound();
+    plan.laws();
     wl_plan::simulation_laws();
     wl_plan::a_consistent_guess_holds();
-    stretch(plan, running, ears, j, plan.end)?;
+    stretch(plan, running, ears, j, plan.end())?;
     let mut stop = running[j].sends_until(plan, j);
     while running[j].next < stop {
         stretch(plan, running, ears, j, stop)?;
@@ -117,13 +119,12 @@ fn lead(plan: &Plan, running: &mut [Running], ears: &mut [Ear], j: usize) -> Res
 
 /// Runs each node but node `j` on up to a tick, beside all known changes. True if none of them changed its drive; else not all have run.
 fn follow(
-    plan: &Plan,
+    plan: &Checked,
     running: &mut [Running],
     ears: &mut [Ear],
     j: usize,
     until: u64,
 ) -> Result<bool, AllocError>
-    requires checked { IsChecked plan.now }
     requires leader { j < length plan.now.nodes }
     requires somewhere { AreSomewhere plan.now running.old }
     requires ears { AreEars plan.now ears.old }
@@ -147,14 +148,13 @@ fn follow(
 /// Runs node `i` on up to a tick, beside all known changes, as long as it doesn't change its drive. True if it never did. As
 /// long as it hears node `j` alone, it goes from change to change of that one.
 fn listen(
-    plan: &Plan,
+    plan: &Checked,
     running: &mut [Running],
     ears: &mut [Ear],
     j: usize,
     i: usize,
     until: u64,
 ) -> Result<bool, AllocError>
-    requires checked { IsChecked plan.now }
     requires node { i < length plan.now.nodes }
     requires leader { j < length plan.now.nodes }
     requires somewhere { AreSomewhere plan.now running.old }
@@ -168,7 +168,7 @@ fn listen(
     ensures reached { IfOk result (λ right. right ≡ true
         → (d : GivenRunning) → until ≤ (slice_index_or running.new i d).next) }
 {
-    wl_plan::checked_is_sound();
+    plan.laws();
     wl_plan::simulation_laws();
     wl_plan::a_consistent_guess_holds();
     let mut alone = Alone {
@@ -186,8 +186,7 @@ fn listen(
 }
 
 /// Notes of each node up to which tick its drive is known, whatever it sees.
-fn promise_all(plan: &Plan, running: &mut [Running])
-    requires checked { IsChecked plan.now }
+fn promise_all(plan: &Checked, running: &mut [Running])
     requires running { AreRunning plan.now running.old }
     ensures running { AreRunning plan.now running.new }
     ensures heard { (ears : List GivenEar) → AreHeard plan.now running.old ears → AreHeard plan.now running.new ears }
@@ -211,8 +210,7 @@ fn back(alloc: Global, running: &mut [Running], marks: &[Before]) -> Result<(), 
 }
 
 /// Drops all that the places have found.
-fn forget(plan: &Plan, ears: &mut [Ear])
-    requires checked { IsChecked plan.now }
+fn forget(plan: &Checked, ears: &mut [Ear])
     requires ears { AreEars plan.now ears.old }
     ensures ears { AreEars plan.now ears.new }
     ensures heard { (rs : List GivenRunning) → AreHeard plan.now rs ears.new }

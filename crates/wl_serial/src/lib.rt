@@ -2,6 +2,7 @@
 #![tactic(auto)]
 
 mod alone;
+mod checked;
 mod disturbed;
 mod ear;
 mod engine;

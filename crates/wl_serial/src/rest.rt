@@ -1,25 +1,23 @@
 //! A line at rest: all nodes go on at once.
 ghost use Rattle.std.specs.Prelude.{◌≡◌, ℕ, ◌<◌, ◌≤◌, length};
-ghost use Rattle.wl_plan.specs.Checked.{IsChecked};
 ghost use Rattle.wl_serial.specs.Heard.{AreEars, AreHeard};
 ghost use Rattle.wl_serial.specs.Rest.{AreLifted, AreSilent, AllStand, AllStay};
 ghost use Rattle.wl_serial.specs.Running.{AreRunning, AreKnown, IsNext};
 
+use crate::checked::Checked;
 use crate::ear::Ear;
 use crate::running_node::{Running, Ticks};
-use wl_plan::Plan;
 
 /// Lifts the ticks below which the drives are known, if the line is at rest. Node `j` goes next. `asked` is the tick at which all nodes were
 /// last asked. If node `j` isn't known further they are not asked again. It decides nothing but speed.
 pub(crate) fn rest(
-    plan: &Plan,
+    plan: &Checked,
     running: &mut [Running],
     ears: &[Ear],
     known: &mut Ticks,
     j: usize,
     asked: &mut u64,
 )
-    requires checked { IsChecked plan.now }
     requires running { AreRunning plan.now running.old }
     requires ears { AreEars plan.now ears.now }
     requires heard { AreHeard plan.now running.old ears.now }
@@ -42,15 +40,14 @@ pub(crate) fn rest(
 /// Returns the tick below which no node changes its drive: the earliest at which a dominant level could arrive anywhere, or a node that has
 /// seen only recessive could drive dominant. It is 0 if that is no later than the tick below which the drive of node `j` is known. `asked`
 /// becomes that tick if all nodes are asked.
-fn rests_until(plan: &Plan, running: &[Running], ears: &[Ear], j: usize, asked: &mut u64) -> u64
-    requires checked { IsChecked plan.now }
+fn rests_until(plan: &Checked, running: &[Running], ears: &[Ear], j: usize, asked: &mut u64) -> u64
     requires running { AreRunning plan.now running.now }
     requires ears { AreEars plan.now ears.now }
     requires heard { AreHeard plan.now running.now ears.now }
     requires node { j < length running.now }
     ensures { AllStay plan.now result running.now }
 {
-    wl_plan::checked_is_sound();
+    plan.laws();
     wl_plan::simulation_laws();
     wl_plan::a_line_at_rest_stays();
     wl_record_core::table_laws();
@@ -68,13 +65,13 @@ fn rests_until(plan: &Plan, running: &[Running], ears: &[Ear], j: usize, asked: 
 }
 
 /// Returns the tick below which nothing dominant arrives at a place from the next quantum of its node on; at most the end.
-fn all_silent_until(plan: &Plan, running: &[Running], ears: &[Ear]) -> u64
+fn all_silent_until(plan: &Checked, running: &[Running], ears: &[Ear]) -> u64
     requires running { AreRunning plan.now running.now }
     requires ears { AreEars plan.now ears.now }
     requires heard { AreHeard plan.now running.now ears.now }
     ensures silent { AreSilent plan.now running.now result }
 {
-    let mut until = plan.end;
+    let mut until = plan.end();
     for j in 0..ears.len() {
         until = until.min(ears[j].silent_until(running, j));
     }
@@ -83,8 +80,7 @@ fn all_silent_until(plan: &Plan, running: &[Running], ears: &[Ear]) -> u64
 
 /// Returns the tick up to which each node drives recessive if it sees recessive only, and no later than tick `most`; 0 if one drives
 /// dominant.
-fn all_stand_until(plan: &Plan, running: &[Running], most: u64) -> u64
-    requires checked { IsChecked plan.now }
+fn all_stand_until(plan: &Checked, running: &[Running], most: u64) -> u64
     requires running { AreRunning plan.now running.now }
     ensures stand { 0 < result → AllStand plan.now result running.now }
     ensures few { result ≤ most }
@@ -97,8 +93,7 @@ fn all_stand_until(plan: &Plan, running: &[Running], most: u64) -> u64
 }
 
 /// Notes that the drives of all nodes are known up to tick `until`; one that is known further stays so.
-fn lift(plan: &Plan, running: &mut [Running], known: &mut Ticks, until: u64)
-    requires checked { IsChecked plan.now }
+fn lift(plan: &Checked, running: &mut [Running], known: &mut Ticks, until: u64)
     requires running { AreRunning plan.now running.old }
     requires known { AreKnown plan.now.end running.old known.old }
     requires stay { AllStay plan.now until running.old }

@@ -11,12 +11,12 @@ ghost use Rattle.wl_serial.specs.Outcome.{node_outcome_of};
 ghost use Rattle.wl_serial.specs.Rest.{NodeStands, Stays};
 ghost use Rattle.wl_serial.specs.Running.{IsRunning, IsSomewhere, GoesOn, RanBelow, IsKnownOn, IsLater, one_more};
 
+use crate::checked::Checked;
 use crate::outcome::{Changes, NodeOutcome};
 use std::alloc::{AllocError, Global};
 use wl_clock::Clock;
 use wl_level::{Level, Listed};
 use wl_node::{MOST_RUN_QUANTA, Mark, Node};
-use wl_plan::Plan;
 use wl_topology::MOST_NODES;
 
 /// For each node a tick.
@@ -45,14 +45,13 @@ const MOST_BITS: u64 = 118;
 
 impl Running {
     /// Returns node `i` before its first quantum.
-    pub(crate) fn begin(alloc: Global, plan: &Plan, i: usize) -> Result<Running, AllocError>
-        requires checked { IsChecked plan.now }
+    pub(crate) fn begin(alloc: Global, plan: &Checked, i: usize) -> Result<Running, AllocError>
         requires node { i < length plan.now.nodes }
         ensures { IfOk result (IsRunning plan.now i) }
     {
-        wl_plan::checked_is_sound();
+        plan.laws();
         wl_plan::simulation_laws();
-        let setup = &plan.nodes.as_slice()[i];
+        let setup = plan.node(i);
         let next = setup.clock.at(0);
         Ok(Running {
             node: Node::new(alloc, setup.clone_in(alloc)?)?,
@@ -66,12 +65,11 @@ impl Running {
     /// stays. Returns the tick of that quantum, if there is one.
     pub(crate) fn go(
         &mut self,
-        plan: &Plan,
+        plan: &Checked,
         i: usize,
         level: Level,
         until: u64,
     ) -> Result<Option<u64>, AllocError>
-        requires checked { IsChecked plan.now }
         requires node { i < length plan.now.nodes }
         requires somewhere { IsSomewhere plan.now i self.old }
         requires below { self.old.next < until }
@@ -84,10 +82,10 @@ impl Running {
         ensures told { IfOk result (λ change. self.new.changes ≡ one_more self.old.changes change) }
         ensures later { OnOk result (self.old.next < self.new.next) }
     {
-        wl_plan::checked_is_sound();
+        plan.laws();
         wl_plan::simulation_laws();
         wl_record_core::table_laws();
-        let clock = &plan.nodes.as_slice()[i].clock;
+        let clock = &plan.node(i).clock;
         let quanta = self.node.quanta();
         let before = self.node.drive();
         let most = clock.first_not_before(until) - quanta;
@@ -100,18 +98,17 @@ impl Running {
     }
 
     /// Notes up to which tick the drive is known, whatever the node sees.
-    pub(crate) fn promise(&mut self, plan: &Plan, i: usize)
-        requires checked { IsChecked plan.now }
+    pub(crate) fn promise(&mut self, plan: &Checked, i: usize)
         requires node { i < length plan.now.nodes }
         requires running { IsRunning plan.now i self.old }
         ensures running { IsRunning plan.now i self.new }
         ensures next { self.new.next ≡ self.old.next }
         ensures changes { self.new.changes ≡ self.old.changes }
     {
-        wl_plan::checked_is_sound();
+        plan.laws();
         wl_plan::simulation_laws();
         let last = self.node.quanta() + self.node.quiet() as u64;
-        self.known = plan.nodes.as_slice()[i].clock.at(last);
+        self.known = plan.node(i).clock.at(last);
     }
 
     /// Returns where the node is.
@@ -141,41 +138,39 @@ impl Running {
 
     /// Returns the tick at which a transmitter is sure to be near the end of its CRC sequence, or before it; at most the end. 0 for a node
     /// that doesn't transmit.
-    pub(crate) fn sends_until(&self, plan: &Plan, i: usize) -> u64
-        requires checked { IsChecked plan.now }
+    pub(crate) fn sends_until(&self, plan: &Checked, i: usize) -> u64
         requires node { i < length plan.now.nodes }
         requires somewhere { IsSomewhere plan.now i self.now }
         ensures { result ≤ plan.now.end }
     {
-        wl_plan::checked_is_sound();
+        plan.laws();
         let bits = (self.node.to_send() as u64).min(MOST_BITS);
-        if bits == 0 || plan.end <= self.next {
+        if bits == 0 || plan.end() <= self.next {
             return 0;
         }
-        let setup = &plan.nodes.as_slice()[i];
+        let setup = plan.node(i);
         let last = self.node.quanta() + bits * setup.segments.bit_quanta();
-        setup.clock.at(last).min(plan.end)
+        setup.clock.at(last).min(plan.end())
     }
 
     /// Returns up to which tick the node is sure to drive recessive, if it sees recessive only; 0 if it drives dominant.
-    pub(crate) fn stands_until(&self, plan: &Plan, i: usize) -> u64
-        requires checked { IsChecked plan.now }
+    pub(crate) fn stands_until(&self, plan: &Checked, i: usize) -> u64
         requires node { i < length plan.now.nodes }
         requires running { IsRunning plan.now i self.now }
         ensures { 0 < result → NodeStands plan.now result i self.now }
     {
-        wl_plan::checked_is_sound();
+        plan.laws();
         wl_plan::simulation_laws();
         let stays = self.node.stays();
         if stays == 0 || self.node.drive().is_dominant() {
             return 0;
         }
         let last = self.node.quanta() + stays;
-        plan.nodes.as_slice()[i].clock.at(last.min(MOST_RUN_QUANTA))
+        plan.node(i).clock.at(last.min(MOST_RUN_QUANTA))
     }
 
     /// Notes that the drive is known below a tick, if it isn't known further.
-    pub(crate) fn lift(&mut self, plan: &Plan, i: usize, until: u64)
+    pub(crate) fn lift(&mut self, plan: &Checked, i: usize, until: u64)
         requires running { IsRunning plan.now i self.old }
         requires stays { Stays plan.now until i self.old }
         ensures running { IsRunning plan.now i self.new }

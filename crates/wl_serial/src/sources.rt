@@ -1,14 +1,13 @@
 //! What arrives at a place from each node, and when that changes next.
 ghost use Rattle.std.specs.Prelude.{◌≡◌, ◌≢◌, ℕ, ◌<◌, ◌≤◌, ◌^◌, false, length, slice_index_or};
-ghost use Rattle.wl_plan.specs.Checked.{IsChecked};
 ghost use Rattle.wl_record_core.specs.Truth.{IsIncreasing};
 ghost use Rattle.wl_topology.specs.Limits.{most_places};
 ghost use Rattle.wl_serial.specs.Heard.{AreDelays, AreTallied, IsAhead, IsAlone, AreSooner, AreSources, IsPulseTold, drove};
 ghost use Rattle.wl_serial.specs.Running.{AreSomewhere};
 
+use crate::checked::Checked;
 use crate::pulse::{Pulse, pulse_of};
 use crate::running_node::{Running, Ticks};
-use wl_plan::Plan;
 use wl_topology::MOST_NODES;
 
 /// What is cached of the nodes at a place. Of each node it is how many of its changes had arrived when they were last asked for, and the
@@ -27,14 +26,13 @@ pub(crate) struct Sources {
 
 impl Sources {
     /// Returns a cache in which no node of a plan has been asked yet.
-    pub(crate) fn new(plan: &Plan) -> Sources
-        requires { IsChecked plan.now }
+    pub(crate) fn new(plan: &Checked) -> Sources
         ensures kept { AreTallied (length plan.now.nodes) result }
         ensures ahead { IsAhead result }
         ensures nothing { (i : ℕ) → i < length plan.now.nodes → slice_index_or result.nexts i 0 ≡ 0 }
     {
         let mut nexts = [u64::MAX; MOST_NODES];
-        for i in 0..plan.nodes.len() {
+        for i in 0..plan.nodes() {
             nexts[i] = 0;
         }
         Sources {
@@ -51,13 +49,12 @@ impl Sources {
     /// other one is asked.
     pub(crate) fn hear(
         &mut self,
-        plan: &Plan,
+        plan: &Checked,
         running: &[Running],
         delays: &Ticks,
         j: usize,
         t: u64,
     ) -> Pulse
-        requires checked { IsChecked plan.now }
         requires node { j < length plan.now.nodes }
         requires somewhere { AreSomewhere plan.now running.now }
         requires delays { AreDelays plan.now j delays.now }
@@ -72,6 +69,7 @@ impl Sources {
         ensures until { t < result.until }
         ensures told { IsPulseTold plan.now running.now j result }
     {
+        plan.laws();
         if self.others <= t {
             return self.hear_all(plan, running, delays, j, t);
         }
@@ -90,13 +88,12 @@ impl Sources {
     /// Returns the same, if any node may have changed its drive. Only those are asked from which a change has arrived.
     fn hear_all(
         &mut self,
-        plan: &Plan,
+        plan: &Checked,
         running: &[Running],
         delays: &Ticks,
         j: usize,
         t: u64,
     ) -> Pulse
-        requires checked { IsChecked plan.now }
         requires node { j < length plan.now.nodes }
         requires somewhere { AreSomewhere plan.now running.now }
         requires delays { AreDelays plan.now j delays.now }
@@ -110,6 +107,7 @@ impl Sources {
         ensures until { t < result.until }
         ensures told { IsPulseTold plan.now running.now j result }
     {
+        plan.laws();
         let mut until = u64::MAX;
         let mut one = 0;
         let mut others = u64::MAX;
@@ -157,8 +155,7 @@ impl Sources {
     }
 
     /// Takes up the changes of node `i` that have arrived by tick `t`.
-    fn take(&mut self, plan: &Plan, changes: &[u64], delay: u64, i: usize, t: u64)
-        requires checked { IsChecked plan.now }
+    fn take(&mut self, plan: &Checked, changes: &[u64], delay: u64, i: usize, t: u64)
         requires node { i < length plan.now.nodes }
         requires order { IsIncreasing changes.now }
         requires early { t < 2 ^ 63 }
@@ -173,6 +170,7 @@ impl Sources {
         ensures drove { (u : ℕ) → t ≤ u → u < slice_index_or self.new.nexts i 0
             → drove changes.now delay u ≡ slice_index_or self.new.drives i false }
     {
+        plan.laws();
         let one = pulse_of(changes, delay, t, &mut self.come[i]);
         self.nexts[i] = one.until;
         self.driving = self.driving + usize::from(one.dominant) - usize::from(self.drives[i]);

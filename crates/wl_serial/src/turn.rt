@@ -1,24 +1,22 @@
 //! A node's turn: all its quanta below its horizon.
 ghost use Rattle.std.specs.Prelude.{◌≡◌, ℕ, ◌<◌, ◌≤◌, false, IfOk, OnOk, length};
-ghost use Rattle.wl_plan.specs.Checked.{IsChecked};
 ghost use Rattle.wl_serial.specs.Heard.{AreEars, AreHeard, IsFound};
 ghost use Rattle.wl_serial.specs.Running.{AreRunning, AreSomewhere, AreKnown, KnowsOthers, IsNext, IsFewer, OnlyOne, RunsBelow, ticks_left};
 ghost use Rattle.wl_serial.specs.Stretch.{HasStretched, TellsTheSame};
 
+use crate::checked::Checked;
 use crate::ear::{Ear, Found, tell};
 use crate::running_node::{Running, Ticks};
 use std::alloc::AllocError;
-use wl_plan::Plan;
 
 /// Runs all quanta of node `j` below its horizon, and notes up to which tick its drive is known then.
 pub(crate) fn turn(
-    plan: &Plan,
+    plan: &Checked,
     running: &mut [Running],
     ears: &mut [Ear],
     known: &mut Ticks,
     j: usize,
 ) -> Result<(), AllocError>
-    requires checked { IsChecked plan.now }
     requires running { AreRunning plan.now running.old }
     requires ears { AreEars plan.now ears.old }
     requires heard { AreHeard plan.now running.old ears.old }
@@ -39,13 +37,12 @@ pub(crate) fn turn(
 
 /// Runs all quanta of node `j` below `horizon`; every level that arrives before it is known.
 fn run_below(
-    plan: &Plan,
+    plan: &Checked,
     running: &mut [Running],
     ears: &mut [Ear],
     j: usize,
     horizon: u64,
 ) -> Result<(), AllocError>
-    requires checked { IsChecked plan.now }
     requires node { j < length plan.now.nodes }
     requires running { AreRunning plan.now running.old }
     requires ears { AreEars plan.now ears.old }
@@ -58,7 +55,7 @@ fn run_below(
     ensures others { OnOk result (OnlyOne j running.old running.new) }
     ensures fewer { OnOk result (IsFewer plan.now.end horizon j running.old running.new) }
 {
-    wl_plan::checked_is_sound();
+    plan.laws();
     wl_plan::simulation_laws();
     wl_record_core::table_laws();
     while running[j].next < horizon {
@@ -70,13 +67,12 @@ fn run_below(
 /// Runs quanta of node `j`: up to the next change of what it finds by the known changes, to the first quantum that changes its drive, or to
 /// a tick. All places note its change. True if there was one.
 pub(crate) fn stretch(
-    plan: &Plan,
+    plan: &Checked,
     running: &mut [Running],
     ears: &mut [Ear],
     j: usize,
     until: u64,
 ) -> Result<bool, AllocError>
-    requires checked { IsChecked plan.now }
     requires node { j < length plan.now.nodes }
     requires somewhere { AreSomewhere plan.now running.old }
     requires ears { AreEars plan.now ears.old }
@@ -97,13 +93,12 @@ pub(crate) fn stretch(
 /// there was one.
 #[inline(always)]
 pub(crate) fn run_found(
-    plan: &Plan,
+    plan: &Checked,
     running: &mut [Running],
     ears: &mut [Ear],
     j: usize,
     found: Found,
 ) -> Result<bool, AllocError>
-    requires checked { IsChecked plan.now }
     requires node { j < length plan.now.nodes }
     requires somewhere { AreSomewhere plan.now running.old }
     requires ears { AreEars plan.now ears.old }

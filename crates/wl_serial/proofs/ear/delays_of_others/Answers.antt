@@ -7,13 +7,13 @@ use Rattle.wl_serial.proofs.ear.delays_of_others.Goals.{then-i-j, else-i-j}
 pub loop-i-preserved : goal.loop-i-preserved
 loop-i-preserved c =
     let plan = c.args.plan.now in
-    let node : c.loop-i.i < length plan.topology.places = omega (arith, c.loop-i-test.true, c.len-i-end.ensures, c.requires.checked.placed) in
-    let own : c.args.j < length plan.topology.places = omega (arith, c.requires.node, c.requires.checked.placed) in
+    let node : c.loop-i.i < length plan.topology.places = omega (arith, c.loop-i-test.true, c.nodes-i-end.ensures.value, c.laws.ensures.checked.placed) in
+    let own : c.args.j < length plan.topology.places = omega (arith, c.requires.node, c.laws.ensures.checked.placed) in
     elim c.if-i-j.branch [
       | then-i-j w ↦
           rw (w.others-is)
           (others_more plan c.args.j c.loop-i.others c.loop-i.i _
-          (omega (arith, c.loop-i-test.true, c.len-i-end.ensures, c.requires.checked.few_nodes, c.loop-i.invariant.0)) c.loop-i.invariant w.delay.ensures.ticks
+          (omega (arith, c.loop-i-test.true, c.nodes-i-end.ensures.value, c.laws.ensures.checked.few_nodes, c.loop-i.invariant.0)) c.loop-i.invariant w.delay.ensures.ticks
           w.delay.ensures.positive)
       | else-i-j w ↦ rw (w.others-is) (own_left_out plan c.args.j c.loop-i.others c.loop-i.i (omega (arith, w.if-i-j.false)) c.loop-i.invariant)
     ]

@@ -6,5 +6,5 @@ use Rattle.wl_serial.proofs.engine.all_known.Goals as goal
 
 pub loop-i-preserved : goal.loop-i-preserved
 loop-i-preserved c =
-    known_more c.args.plan.now.end c.args.running.now c.loop-i.known c.loop-i.i _ (omega (arith, c.loop-i-test.true, c.requires.running.all, c.requires.checked.few_nodes, c.loop-i.invariant.0))
+    known_more c.args.plan.now.end c.args.running.now c.loop-i.known c.loop-i.i _ (omega (arith, c.loop-i-test.true, c.requires.running.all, c.laws.ensures.checked.few_nodes, c.loop-i.invariant.0))
     c.loop-i.invariant (λ r. ap (λ x. x.known) (get_or_default c.args.running.now c.loop-i.i c.index-running-i.result r c.loop-i-test.true))

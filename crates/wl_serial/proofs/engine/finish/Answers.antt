@@ -12,6 +12,6 @@ loop-r-preserved c =
     let t = YieldsList-turn (YieldsList-from_vec {s = c.into_iter-r-iterator.result} c.args.running.items h.0 (h.1 ∙ c.args.running.ok.0)) c.loop-r.yielded c.loop-r.r-iterator c.loop-r.yielded_by c.next.result c.next.new.self c.in-Some.r c.in-Some.is c.next.ensures.steps in
     let is_node : length c.loop-r.yielded < length c.args.plan.now.nodes = omega arith in
     told_more c.args.plan.now c.loop-r.yielded c.in-Some.r c.loop-r.nodes c.push.new.self c.finish.result c.in_ok-push.ensures.ok c.loop-r.invariant
-    (c.finish.ensures c.args.plan.now (length c.loop-r.yielded) c.requires.checked is_node
+    (c.finish.ensures c.args.plan.now (length c.loop-r.yielded) c.laws.ensures.checked is_node
     (stands_at c.args.plan.now c.args.running.items (length c.loop-r.yielded) c.in-Some.r t.0 t.1 c.requires.running)
     (subst (λ r. c.args.plan.now.end ≤ r.next) (sym t.1) (c.requires.ended (length c.loop-r.yielded) c.in-Some.r t.0)))

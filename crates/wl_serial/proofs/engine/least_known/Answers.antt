@@ -21,10 +21,10 @@ pub returns : goal.returns
 returns c =
     let all : c.loop-i.i ≡ length c.args.known.now = omega (arith, c.told-known, c.loop-i-test.false, c.loop-i.auto.i-end) in
     least_is_next c.args.plan.now c.args.running.now c.args.known.now c.loop-i.node c.loop-i.least c.requires.running c.requires.known
-    (subst (λ n. IsLeast c.args.known.now n c.loop-i.node c.loop-i.least) all c.loop-i.invariant) c.if-plan-least.false
+    (subst (λ n. IsLeast c.args.known.now n c.loop-i.node c.loop-i.least) all c.loop-i.invariant) (omega (arith, c.if-end-least.false, c.end.ensures))
 
-pub returns-then-plan-least : goal.returns-then-plan-least
-returns-then-plan-least c =
+pub returns-then-end-least : goal.returns-then-end-least
+returns-then-end-least c =
     let all : c.loop-i.i ≡ length c.args.known.now = omega (arith, c.told-known, c.loop-i-test.false, c.loop-i.auto.i-end) in
     all_known c.args.plan.now c.args.running.now c.args.known.now c.loop-i.node c.loop-i.least c.requires.known
-    (subst (λ n. IsLeast c.args.known.now n c.loop-i.node c.loop-i.least) all c.loop-i.invariant) c.if-plan-least.true
+    (subst (λ n. IsLeast c.args.known.now n c.loop-i.node c.loop-i.least) all c.loop-i.invariant) (omega (arith, c.if-end-least.true, c.end.ensures))

@@ -5,4 +5,4 @@ use Rattle.wl_serial.proofs.engine.run_serial.Goals as goal
 
 pub run-requires-clause-heard : goal.run-requires-clause-heard
 run-requires-clause-heard c =
-    subst (AreHeard c.args.plan.now c.deref_mut.result.now) (sym c.deref_mut-2.ensures.value) (c.in_ok-ears.ensures.heard c.deref_mut.result.now)
+    subst (AreHeard c.new-checked.result c.deref_mut.result.now) (sym c.deref_mut-2.ensures.value) (c.in_ok-ears.ensures.heard c.deref_mut.result.now)

@@ -15,8 +15,8 @@ pub follow-requires-clause-somewhere : goal.follow-requires-clause-somewhere
 follow-requires-clause-somewhere c =
     somewhere_on c.args.plan.now c.args.j c.args.plan.now.end c.args.running.now c.lead.new.running (somewhere c.args.plan.now c.args.running.now c.requires.running) c.in_ok-lead.ensures.ran
 
-pub promise_all-requires-clause-running : goal.promise_all-requires-clause-running
-promise_all-requires-clause-running c =
+pub promise_all-requires : goal.promise_all-requires
+promise_all-requires c =
     let plan = c.args.plan.now in
     let d = c.index-running-j.result in
     let rs = c.args.running.now in
@@ -24,9 +24,12 @@ promise_all-requires-clause-running c =
     let new = c.follow.new.running in
     let lead = c.in_ok-lead.ensures.ran in
     let were = c.in_ok-follow.ensures.listened c.if-branch.true in
-    holds plan rs new c.min-until.result d c.a_consistent_guess_holds.ensures c.simulation_laws.ensures c.table_laws.ensures (c.checked_is_sound.ensures plan c.requires.checked) c.requires.running
-    (let m = c.min-until.ensures in omega (arith, m)) (were.all ∙ lead.all)
-    (all_guessed plan c.args.j c.min-until.result d rs led new c.simulation_laws.ensures c.requires.next.is_node (let m = c.min-until.ensures in omega (arith, m)) lead were c.requires.running.all)
+    record {
+      running =
+          holds plan rs new c.min-until.result d c.a_consistent_guess_holds.ensures c.simulation_laws.ensures c.table_laws.ensures c.laws.ensures.sound c.requires.running
+          (let m = c.min-until.ensures in omega (arith, m, c.end.ensures)) (were.all ∙ lead.all)
+          (all_guessed plan c.args.j c.min-until.result d rs led new c.simulation_laws.ensures c.requires.next.is_node (let m = c.min-until.ensures in omega (arith, m)) lead were c.requires.running.all);
+    }
 
 pub returns-then-branch-clause-heard : goal.returns-then-branch-clause-heard
 returns-then-branch-clause-heard c = c.promise_all.ensures.heard c.follow.new.ears c.in_ok-follow.ensures.heard

@@ -12,13 +12,13 @@ loop-running-init c =
     let rs = c.args.running.now in
     let ran = c.in_ok-stretch.ensures.ran in
     let b : j < length rs = omega (arith, c.requires.node, c.requires.somewhere.all) in
-    let alone = ran_more plan j plan.end plan.end rs rs c.stretch.new.running c.a_consistent_guess_holds.ensures c.simulation_laws.ensures
-    (c.checked_is_sound.ensures plan c.requires.checked) c.requires.node b (omega arith) (omega arith) (ran_none plan j plan.end rs c.requires.somewhere b) ran in (
+    let alone = ran_more plan j plan.end c.end.result rs rs c.stretch.new.running c.a_consistent_guess_holds.ensures c.simulation_laws.ensures
+    c.laws.ensures.sound c.requires.node b (omega (arith, c.end.ensures)) (omega arith) (ran_none plan j plan.end rs c.requires.somewhere b) ran in (
       c.in_ok-stretch.ensures.ears,
       c.in_ok-stretch.ensures.heard,
       somewhere_on plan j plan.end rs c.stretch.new.running c.requires.somewhere alone,
       alone,
-      (λ d. later_stretch plan j plan.end rs c.stretch.new.running d b ran),
+      (λ d. later_stretch plan j c.end.result rs c.stretch.new.running d b ran),
       c.sends_until-stop.ensures,
     )
 
@@ -33,7 +33,7 @@ loop-running-preserved c =
     let new = c.stretch-in-loop-running.new.running in
     let b : j < length rs = omega (arith, c.requires.node, h.2.all) in
     let alone = ran_more plan j plan.end c.loop-running.stop first rs new c.a_consistent_guess_holds.ensures c.simulation_laws.ensures
-    (c.checked_is_sound.ensures plan c.requires.checked) c.requires.node b h.5 (omega arith) h.3 ran in (
+    c.laws.ensures.sound c.requires.node b h.5 (omega arith) h.3 ran in (
       c.in_ok-stretch-2.ensures.ears,
       c.in_ok-stretch-2.ensures.heard,
       somewhere_on plan j plan.end first new c.requires.somewhere alone,

@@ -47,7 +47,7 @@ loop-running-preserved c =
     let ran = c.in_ok-run_found.ensures.ran in
     let b : i < length rs = omega (arith, c.requires.node, h.2.all) in
     let alone = ran_more plan i c.args.until c.find-found.result.until c.args.running.now rs c.run_found.new.running c.a_consistent_guess_holds.ensures c.simulation_laws.ensures
-    (c.checked_is_sound.ensures plan c.requires.checked) c.requires.node b c.find-found.ensures.few c.requires.ends h.3 ran in (
+    c.laws.ensures.sound c.requires.node b c.find-found.ensures.few c.requires.ends h.3 ran in (
       c.in_ok-run_found.ensures.ears,
       c.in_ok-run_found.ensures.heard,
       somewhere_on plan i c.args.until c.args.running.now c.run_found.new.running c.requires.somewhere alone,
@@ -66,4 +66,4 @@ returns-then-branch-clause-ran c =
     let h = c.loop-running.invariant in
     let b : i < length rs = omega (arith, c.requires.node, h.2.all) in
     ran_more plan i c.args.until c.find-found.result.until c.args.running.now rs c.run_found.new.running c.a_consistent_guess_holds.ensures c.simulation_laws.ensures
-    (c.checked_is_sound.ensures plan c.requires.checked) c.requires.node b c.find-found.ensures.few c.requires.ends h.3 c.in_ok-run_found.ensures.ran
+    c.laws.ensures.sound c.requires.node b c.find-found.ensures.few c.requires.ends h.3 c.in_ok-run_found.ensures.ran

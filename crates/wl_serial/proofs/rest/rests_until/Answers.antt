@@ -17,7 +17,7 @@ returns c =
     let few = c.all_stand_until.ensures.few in
     elim (cases_lt 0 t) [
       | inl some ↦
-          all_stay plan rs c.requires.running c.driven_laws.ensures c.simulation_laws.ensures c.table_laws.ensures (c.checked_is_sound.ensures plan c.requires.checked) t
+          all_stay plan rs c.requires.running c.driven_laws.ensures c.simulation_laws.ensures c.table_laws.ensures c.laws.ensures.sound t
           c.a_line_at_rest_stays.ensures
           (λ j d b. silent_less plan rs j (get_or rs j d).next t c.all_silent_until-silent.result few (c.all_silent_until-silent.ensures.silent j d b))
           (c.all_stand_until.ensures.stand some)

@@ -20,7 +20,7 @@ loop-running-preserved c =
     let b : j < length rs = omega (arith, c.requires.node, h.0.all) in
     let d = c.index-running-j.result in
     let before = c.loop-running-test.true in
-    let run = runs_plain plan rs j c.args.horizon d r c.simulation_laws.ensures c.table_laws.ensures (c.checked_is_sound.ensures plan c.requires.checked) h.0 h.4 b
+    let run = runs_plain plan rs j c.args.horizon d r c.simulation_laws.ensures c.table_laws.ensures c.laws.ensures.sound h.0 h.4 b
     (ran.goes d) (ran.known d) (ran.later d) in (
       subst (AreRunning plan) (sym ran.is) (one_on plan rs j r b h.0 run),
       c.in_ok-stretch.ensures.ears,

@@ -8,7 +8,7 @@ pub returns : goal.returns
 returns c =
     let plan = c.args.plan.now in
     let rs = c.args.running.now in
-    let few = c.requires.checked.few_nodes in
+    let few = c.laws.ensures.checked.few_nodes in
     let inside : c.args.i < length rs = omega (arith, c.requires.node, c.requires.all) in
     let min = c.min.ensures in
     hears_only plan rs c.args.j c.args.i c.alone_until.result c.min.result c.args.self.now c.requires.leader few

@@ -12,7 +12,7 @@ loop-i-preserved c =
     let o : c.loop-i.i < length others = omega (arith, c.loop-i-test.true, c.requires.ear.others.all) in
     let sum = c.saturating_add.ensures in
     let least = c.min-horizon.ensures in
-    let ends = c.requires.checked.ends in
+    let ends = c.laws.ensures.checked.ends in
     horizon_one_more c.args.plan.now c.args.j c.args.running.now known others c.loop-i.i c.loop-i.horizon c.min-horizon.result c.saturating_add.result _ _ c.requires.known c.requires.ear.others b o
     (get_or_default known c.loop-i.i 0 _ b) (get_or_default others c.loop-i.i 0 _ o) (omega (arith, sum)) (λ t before early. omega (arith, sum, before, early, ends)) (omega (arith, least))
     (omega (arith, least)) (λ t below early. omega (arith, least, below, early)) c.loop-i.invariant

@@ -7,8 +7,8 @@ use Rattle.wl_serial.proofs.running_node.Running.sends_until.Goals as goal
 
 pub overflow_add-last : goal.overflow_add-last
 overflow_add-last c =
-    let few = quanta_below c.args.plan.now c.args.i c.quanta.result c.args.self.now (c.checked_is_sound.ensures c.args.plan.now c.requires.checked) c.requires.node c.requires.somewhere c.quanta.ensures.value
-    c.if-plan-self.false in
+    let few = quanta_below c.args.plan.now c.args.i c.quanta.result c.args.self.now c.laws.ensures.sound c.requires.node c.requires.somewhere c.quanta.ensures.value
+    (omega (arith, c.if-end-self.false, c.end.ensures)) in
     let long = c.bit_quanta.ensures.lengths.high in
     let short : c.bit_quanta.result ≤ 25 = omega (arith, long, c.bit_quanta.ensures.quanta) in
     let most : c.min-bits.result * c.bit_quanta.result ≤ c.min-bits.result * 25 = mul-le-mul_left c.min-bits.result short in
@@ -16,8 +16,8 @@ overflow_add-last c =
 
 pub at-requires : goal.at-requires
 at-requires c =
-    let few = quanta_below c.args.plan.now c.args.i c.quanta.result c.args.self.now (c.checked_is_sound.ensures c.args.plan.now c.requires.checked) c.requires.node c.requires.somewhere c.quanta.ensures.value
-    c.if-plan-self.false in
+    let few = quanta_below c.args.plan.now c.args.i c.quanta.result c.args.self.now c.laws.ensures.sound c.requires.node c.requires.somewhere c.quanta.ensures.value
+    (omega (arith, c.if-end-self.false, c.end.ensures)) in
     let long = c.bit_quanta.ensures.lengths.high in
     let short : c.bit_quanta.result ≤ 25 = omega (arith, long, c.bit_quanta.ensures.quanta) in
     let most : c.min-bits.result * c.bit_quanta.result ≤ c.min-bits.result * 25 = mul-le-mul_left c.min-bits.result short in

@@ -6,12 +6,11 @@ use Rattle.wl_plan.specs.PlanLine.{setup_at, line_of}
 use Rattle.wl_plan.specs.Simulation.{seen}
 use Rattle.wl_serial.proofs.Resting.{stands}
 use Rattle.wl_serial.proofs.Steps.{quanta_most}
-use Rattle.wl_serial.proofs.Stretches.{setup_is}
 use Rattle.wl_serial.proofs.running_node.Running.stands_until.Goals as goal
 
 pub overflow_add-last : goal.overflow_add-last
 overflow_add-last c =
-    let few = quanta_most c.args.plan.now c.args.i c.args.self.now c.quanta.result c.simulation_laws.ensures (c.checked_is_sound.ensures c.args.plan.now c.requires.checked)
+    let few = quanta_most c.args.plan.now c.args.i c.args.self.now c.quanta.result c.simulation_laws.ensures c.laws.ensures.sound
     c.requires.node c.requires.running c.quanta.ensures.value in
     omega (arith, few, c.stays-stays.ensures.most, most_quanta-is)
 
@@ -19,9 +18,9 @@ pub returns : goal.returns
 returns c some k run =
     let plan = c.args.plan.now in
     let i = c.args.i in
-    let few = quanta_most plan i c.args.self.now c.quanta.result c.simulation_laws.ensures (c.checked_is_sound.ensures plan c.requires.checked)
+    let few = quanta_most plan i c.args.self.now c.quanta.result c.simulation_laws.ensures c.laws.ensures.sound
     c.requires.node c.requires.running c.quanta.ensures.value in
-    let element = setup_is plan i c.index-as_slice-i.result c.as_slice.result.now c.as_slice.ensures c.index-as_slice-i.is c.requires.node in
+    let element = c.node.ensures in
     let here : c.quanta.result ≡ k = c.quanta.ensures.levels (seen (line_of plan) i k) run.runs.node ∙ c.simulation_laws.ensures.length_seen (line_of plan) i k in
     let min = c.min.ensures in
     let n = c.min.result - k in

@@ -46,7 +46,7 @@ returns-clause-told c =
           let inside : i < length rs = omega (arith, node, c.requires.somewhere.all) in
           let here = ap (λ x. get_or x.nexts i 0) w.self-is in
           let far = ap (λ x. x.others) w.self-is in
-          told_by plan rs c.args.j 16 w.take.new.self _ c.requires.checked.few_nodes w.take.ensures.kept
+          told_by plan rs c.args.j 16 w.take.new.self _ c.laws.ensures.checked.few_nodes w.take.ensures.kept
           (sources_taken plan rs c.args.j c.args.t i s w.take.new.self c.requires.sources w.take.ensures.nexts w.take.ensures.drives
           (λ u d after before.
           ap (λ x. drove x.changes (delay_of plan.topology i c.args.j) u) (get_or_default rs i d w.index-running-i.result inside)
@@ -57,7 +57,7 @@ returns-clause-told c =
       | else-self-i w ↦
           let here = ap (λ x. get_or x.nexts i 0) w.self-is in
           let far = ap (λ x. x.others) w.self-is in
-          told_by plan rs c.args.j 16 s _ c.requires.checked.few_nodes c.requires.kept c.requires.sources
+          told_by plan rs c.args.j 16 s _ c.laws.ensures.checked.few_nodes c.requires.kept c.requires.sources
           (λ k b. until_ahead i c.min-until.result s s c.requires.ahead refl refl (λ m other. refl) (omega (arith, min, here)) (omega (arith, min, far)) k b)
           (ap (λ x. nat_lt 0 x.driving) w.self-is)
     ]

@@ -53,5 +53,5 @@ loop-i-preserved c =
 
 pub returns-clause-told : goal.returns-clause-told
 returns-clause-told c =
-    told_by c.args.plan.now c.args.running.now c.args.j 16 c.loop-i.self _ c.requires.checked.few_nodes c.loop-i.invariant.0 c.loop-i.invariant.1
+    told_by c.args.plan.now c.args.running.now c.args.j 16 c.loop-i.self _ c.laws.ensures.checked.few_nodes c.loop-i.invariant.0 c.loop-i.invariant.1
     (λ k b. c.loop-i.invariant.3 k (omega (arith, b, c.loop-i-test.false))) refl

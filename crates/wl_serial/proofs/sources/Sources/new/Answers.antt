@@ -7,6 +7,6 @@ pub returns-clause-kept : goal.returns-clause-kept
 returns-clause-kept c = record {
   nexts = c.loop-i.invariant.0;
   drives = refl;
-  beyond = λ i past b. c.loop-i.invariant.2 i (omega (arith, past, c.loop-i.auto.i-end, c.len-i-end.ensures)) b;
+  beyond = λ i past b. c.loop-i.invariant.2 i (omega (arith, past, c.loop-i.auto.i-end, c.nodes-i-end.ensures.value)) b;
   driving = none_drives (length c.args.plan.now.nodes);
 }
