@@ -1,5 +1,6 @@
 mod GoesLemmas
 mod LineLemmas
+mod NumberLemmas
 mod TableLemmas
 mod ArrayLemmas
 pub mod Callers

@@ -6,6 +6,7 @@
 
 mod header;
 mod laws;
+mod number;
 mod row;
 mod value;
 

@@ -5,6 +5,7 @@ ghost use Rattle.toml.specs.Data.{no_items};
 ghost use Rattle.toml.specs.View.{view, array_view};
 ghost use Rattle.toml.specs.Parse as spec;
 
+use crate::number::plain_number;
 use std::alloc::Global;
 use toml::Value;
 use toml_parser::text::{first, skip, skip_blank};
@@ -31,6 +32,8 @@ fn atom(alloc: Global, s: &str) -> Option<(Value, &str)>
             Ok((text, rest)) => Some((Value::String(text), rest)),
             Err(_) => None,
         }
+    } else if let Some((n, rest)) = plain_number(s) {
+        Some((Value::Integer(n as i64), rest))
     } else {
         match unquoted(alloc, s) {
             Ok((scalar, rest)) => Some((scalar_value(scalar), rest)),
