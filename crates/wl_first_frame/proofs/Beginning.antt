@@ -1,7 +1,7 @@
 -- The first frame as one of machines that begin it together, and after which bit each begins it.
-use Rattle.std.proofs.Common.{◌≡◌, ◌∙◌, inl, inr, refl, sym, ap, ℕ, suc, ◌+◌, ◌-◌, ◌*◌, ◌/◌, ◌<◌, ◌≤◌, cond, true, false, List, [], ◌∷◌, ◌++◌, length, replicate, Option, Some, None, arith}
+use Rattle.std.proofs.Common.{◌≡◌, ◌∙◌, inl, inr, refl, sym, ap, ℕ, suc, ◌+◌, ◌-◌, ◌*◌, ◌/◌, ◌<◌, ◌≤◌, cond, true, false, List, [], ◌∷◌, ◌++◌, length, replicate, Option, Some, None, arith, max, subst}
 use Rattle.std.specs.Prelude.{nat_lt, slice_get}
-use Rattle.std.proofs.lemmas.Bool.{cases_Bool}
+use Rattle.std.proofs.lemmas.Bool.{cases_Bool, cases_lt}
 use Rattle.std.proofs.Math.Nat.{div-mul-le_self, lt-div-mul-add, lt_of_mul-lt-mul_right}
 use Rattle.wl_level.specs.declared.Level.TheVariants.{Dominant, Recessive}
 use Rattle.wl_level.specs.Levels.{is_dominant}
@@ -16,6 +16,7 @@ use Rattle.wl_machine.specs.Stretch.Input.{Sample}
 use Rattle.wl_machine.specs.Judged.{drive_by, drive_of, head_of, stretch_after, stretch_of}
 use Rattle.wl_machine.specs.States.{sample_of, stretch_by}
 use Rattle.wl_machine.proofs.Callers.{stretch_next}
+use Rattle.wl_wire.specs.Wire.{sampled}
 use Rattle.wl_any_senders.specs.Stations.{AreOnALine, Stations}
 use Rattle.wl_any_senders.specs.Starts.{Start}
 use Rattle.wl_any_senders.specs.Expected.{IsOutset, Outset}
@@ -43,12 +44,28 @@ idle_if frames s q (inr due) = elim q.sort [
 ]
 
 -- a list with a first element
-first_some : (cs : List Content) → nat_lt 0 (length cs) ≡ true → (c : Content) × (slice_get cs 0 ≡ Some c)
+pub first_some : (cs : List Content) → nat_lt 0 (length cs) ≡ true → (c : Content) × (slice_get cs 0 ≡ Some c)
 first_some [] e = cc
 first_some (c ∷ cs) e = (c, refl)
 
+-- it is idle after eleven samples without a frame
+idle_by : MayTogether → (n : ℕ) → 10 < n → (stretch_of (replicate n no_frame_sample)).sort ≡ Idle
+idle_by together n many =
+    let e : n ≡ 11 + (n - 11) = omega arith in
+    let m = together 1 (λ k. []) (λ k. replicate n no_frame_sample) (λ k less. (n - 11, inl (ap (λ j. replicate j no_frame_sample) e))) in
+    idle_if (λ k. []) (stretch_of (replicate n no_frame_sample)) (quiet_after n) (m.may 0 (omega arith))
+
 takes_head : (s : Stretch) (c : Content) → s.sort ≡ Idle → stretch_after s (Sample (sample_of Recessive (Some c) Active)) ≡ stretch_by (Framing (Some c)) []
 takes_head s c e = ap (λ k. stretch_after (stretch_by k s.own) (Sample (sample_of Recessive (Some c) Active))) e
+
+-- from the eleventh sample on a machine that is handed a frame is to begin it
+pub decided : MayTogether → (n : ℕ) (c : Content) → 10 ≤ n → stretch_after (stretch_of (replicate n no_frame_sample)) (Sample (sample_of Recessive (Some c) Active)) ≡ stretch_by (Framing (Some c)) []
+decided together n c many = elim (cases_lt 10 n) [
+  | inl more ↦ takes_head (stretch_of (replicate n no_frame_sample)) c (idle_by together n more)
+  | inr few ↦
+      (let e : 10 ≡ n = omega arith in
+      subst (λ m. stretch_after (stretch_of (replicate m no_frame_sample)) (Sample (sample_of Recessive (Some c) Active)) ≡ stretch_by (Framing (Some c)) []) e refl)
+]
 
 module _ (w : Waiting) (line : AreOnALine w.stations) (are : AreIdle w) where
   abbrev s : Stations
@@ -84,8 +101,7 @@ module _ (w : Waiting) (line : AreOnALine w.stations) (are : AreIdle w) where
 
   last_own : (i : ℕ) → i < s.count → begins_first w i ≡ true → (op : Option ℕ) → edge_first w i ≡ op → IsLast i
   last_own i inside e None none =
-      (let has = reaching.begins_has w line are i e in
-      let many = are.later i has in
+      (let many = are.later i in
       let last = reaching.last_is w line are i e in
       let rest = rest_begins i e in
       let x = rest.0 in
@@ -95,7 +111,7 @@ module _ (w : Waiting) (line : AreOnALine w.stations) (are : AreIdle w) where
       record { many = omega arith; before = omega arith; next = omega arith; own = λ h. omega arith })
   last_own i inside e (Some q) found =
       (let has = reaching.begins_has w line are i e in
-      let many = are.later i has in
+      let many = are.later i in
       let last = reaching.last_is w line are i e in
       let rest = rest_begins i e in
       let x = rest.0 in
@@ -111,7 +127,7 @@ module _ (w : Waiting) (line : AreOnALine w.stations) (are : AreIdle w) where
   last_other i inside e (Some q) found =
       (let f = reaching.found_is w line are i q found in
       let from : b.from i ≡ q = ap (hard_from (due_first w i)) found in
-      let after : 10 * B i + S i < q = reaching.after_tenth w line are i q inside f in
+      let after : 10 * B i + S i < q = reaching.after_eleventh w line are i q inside f in
       let long : 0 < B i = (let l = (line.book i inside).lengths.low in omega arith) in
       let rest : rest_first w i ≡ (q - suc (S i)) / B i * B i = ap (λ n. n * B i) (last_follows i e ∙ ap (λ n. (n - suc (S i)) / B i) from) in
       let low = div-mul-le_self (q - suc (S i)) (B i) in
@@ -148,11 +164,9 @@ module _ (w : Waiting) (line : AreOnALine w.stations) (are : AreIdle w) where
   idled : (k : ℕ) → k < s.count → HasIdled w.frames k (o.past k)
   idled k inside = elim (cases_Bool (begins_first w k)) [
     | inl own ↦
-        (let has = reaching.begins_has w line are k own in
-        let many = are.later k has in
-        let n : w.decides k ≡ 11 + (w.decides k - 11) = omega arith in (
-          w.decides k - 11,
-          inr (handed_first, past_begins k own ∙ ap (silent_past true (w.frames k)) n),
+        (let n : max 11 (w.decides k) ≡ 11 + (max 11 (w.decides k) - 11) = omega arith in (
+          max 11 (w.decides k) - 11,
+          inr (handed_first, past_begins k own ∙ ap (λ m. replicate m no_frame_sample ++ Sample (sampled Recessive (w.frames k) handed_first) ∷ []) n),
         ))
     | inr other ↦
         (let many = (last_at k inside).many in
@@ -166,22 +180,15 @@ module _ (together : MayTogether) (w : Waiting) (line : AreOnALine w.stations) (
   abbrev may : MayBeginTogether w.stations.count w.frames (first_outset w).past
   may = together w.stations.count w.frames (first_outset w).past (idled w line are)
 
-  -- a machine that is handed its frame then drives its start
-  idle_by : (n : ℕ) → 10 < n → (stretch_of (replicate n no_frame_sample)).sort ≡ Idle
-  idle_by n many =
-      let e : n ≡ 11 + (n - 11) = omega arith in
-      let m = together 1 w.frames (λ k. replicate n no_frame_sample) (λ k less. (n - 11, inl (ap (λ j. replicate j no_frame_sample) e))) in
-      idle_if w.frames (stretch_of (replicate n no_frame_sample)) (quiet_after n) (m.may 0 (omega arith))
-
+  -- a machine that is handed its frame drives its start
   begun : (k : ℕ) → begins_first w k ≡ true → drive_of (stretch_of ((first_outset w).past k)) ≡ Dominant
   begun k e =
       let has = reaching.begins_has w line are k e in
-      let many = are.later k has in
       let c = first_some (w.frames k) has in
       ap (λ p. drive_of (stretch_of p)) (past_begins w line are k e)
-      ∙ ap (λ h. drive_of (stretch_of (replicate (w.decides k) no_frame_sample ++ Sample (sample_of Recessive h Active) ∷ []))) c.1
-      ∙ ap drive_of (stretch_next (replicate (w.decides k) no_frame_sample) (Sample (sample_of Recessive (Some c.0) Active)))
-      ∙ ap drive_of (takes_head (stretch_of (replicate (w.decides k) no_frame_sample)) c.0 (idle_by (w.decides k) many))
+      ∙ ap (λ h. drive_of (stretch_of (replicate (max 11 (w.decides k)) no_frame_sample ++ Sample (sample_of Recessive h Active) ∷ []))) c.1
+      ∙ ap drive_of (stretch_next (replicate (max 11 (w.decides k)) no_frame_sample) (Sample (sample_of Recessive (Some c.0) Active)))
+      ∙ ap drive_of (decided together (max 11 (w.decides k)) c.0 (omega arith))
       ∙ drives_first c.0 (are.frames.content k c.0 (are.inside k has) (0, c.1))
 
   drives_as : (k : ℕ) → begins_first w k ≡ is_dominant (drive_of (stretch_of ((first_outset w).past k)))

@@ -1,11 +1,11 @@
 -- The nodes of a plan are idle when the first frame of any becomes ready, and each is handed its first frame.
-use Rattle.std.proofs.Common.{◌≡◌, ◌∙◌, inl, inr, refl, sym, ap, ℕ, suc, ◌+◌, ◌-◌, ◌*◌, ◌<◌, ◌≤◌, length, not, cond, Bool, true, false, List, [], ◌∷◌, Some, None, arith}
+use Rattle.std.proofs.Common.{◌≡◌, ◌≢◌, ◌∙◌, inl, inr, refl, sym, ap, ℕ, suc, ◌+◌, ◌-◌, ◌*◌, ◌<◌, ◌≤◌, length, not, cond, Bool, true, false, List, [], ◌∷◌, Some, None, arith}
 use Rattle.std.specs.Prelude.{nat_lt, slice_get}
 use Rattle.std.specs.Int.{div_ceil}
 use Rattle.std.proofs.lemmas.Bool.{cases_lt, le-leb, lt-leb, lt-ltb}
 use Rattle.std.proofs.lemmas.Grind.{div_ceil_times}
 use Rattle.std.proofs.lemmas.List.{get_or_past}
-use Rattle.std.proofs.Math.Nat.{lt_of_mul-lt-mul_right, mul-le-mul_right}
+use Rattle.std.proofs.Math.Nat.{mul-le-mul_right}
 use Rattle.wl_clock.specs.Timing.{tick_of}
 use Rattle.wl_segments.specs.Lengths.{Lengths, bit_quanta, sample_at}
 use Rattle.wl_node.specs.declared.setup.NodeSetup.{NodeSetup}
@@ -21,8 +21,8 @@ use Rattle.wl_one_sender.specs.Clean.{decides_at}
 use Rattle.wl_one_sender.specs.Through.{first_ready}
 use Rattle.wl_any_senders.specs.Plans.{IsPlanOf}
 use Rattle.wl_any_senders.specs.Stations.{AreOnALine, Stations}
-use Rattle.wl_first_frame.specs.FirstFrames.{HasFirstFrames, first_content, waiting_of}
-use Rattle.wl_first_frame.specs.FirstStarts.{AreIdle, HandTheFirst, Waiting, decision_quantum, due_first, has_first}
+use Rattle.wl_first_frame.specs.FirstFrames.{AreIdleWhenReady, HasFirstFrames, HasFrames, first_content, waiting_of}
+use Rattle.wl_first_frame.specs.FirstStarts.{AreIdle, HandTheFirst, Waiting, decision_quantum, due_first, eleventh, has_first}
 
 same_has : (q : List Queued) → nat_lt 0 (length (first_content q)) ≡ nat_lt 0 (length q)
 same_has [] = refl
@@ -59,29 +59,19 @@ ready_after setup (x ∷ more) t e h = elim (cases_lt (tick_of setup.clock x.rea
 ]
 
 -- the bit with whose sample it decides
-module _ (l : Lengths) (ready : ℕ) (some : 0 < bit_quanta l) (short : sample_at l < bit_quanta l) where
+module _ (l : Lengths) (ready : ℕ) (some : 0 < bit_quanta l) where
   pub decided_after : ready ≤ decides_at l ready * bit_quanta l + sample_at l
   decided_after =
       let ceil = (div_ceil_times (ready - sample_at l) (bit_quanta l) (omega arith)).0 in
       let above : div_ceil (ready - sample_at l) (bit_quanta l) * bit_quanta l ≤ decides_at l ready * bit_quanta l = mul-le-mul_right (bit_quanta l) (omega arith) in
       omega arith
 
-  pub undecided : (n : ℕ) → 11 * bit_quanta l ≤ ready → n < decides_at l ready → n * bit_quanta l + sample_at l < ready
-  undecided n late less = elim (cases_lt n 11) [
-    | inl few ↦ (let h : n * bit_quanta l ≤ 10 * bit_quanta l = mul-le-mul_right (bit_quanta l) (omega arith) in omega arith)
-    | inr many ↦
-        (let under : suc n ≤ div_ceil (ready - sample_at l) (bit_quanta l) = omega arith in
-        let up : suc n * bit_quanta l ≤ div_ceil (ready - sample_at l) (bit_quanta l) * bit_quanta l = mul-le-mul_right (bit_quanta l) under in
-        let more : suc n * bit_quanta l ≡ n * bit_quanta l + bit_quanta l = omega arith in
-        let ceil = (div_ceil_times (ready - sample_at l) (bit_quanta l) (omega arith)).1 in
-        omega arith)
-  ]
-
-  pub many_bits : 11 * bit_quanta l ≤ ready → 10 < decides_at l ready
-  many_bits late =
-      let ceil = (div_ceil_times (ready - sample_at l) (bit_quanta l) (omega arith)).0 in
-      let low : 10 * bit_quanta l < div_ceil (ready - sample_at l) (bit_quanta l) * bit_quanta l = omega arith in
-      let h = lt_of_mul-lt-mul_right (bit_quanta l) low in
+  pub undecided : (n : ℕ) → 10 ≤ n → n < decides_at l ready → n * bit_quanta l + sample_at l < ready
+  undecided n many less =
+      let under : suc n ≤ div_ceil (ready - sample_at l) (bit_quanta l) = omega arith in
+      let up : suc n * bit_quanta l ≤ div_ceil (ready - sample_at l) (bit_quanta l) * bit_quanta l = mul-le-mul_right (bit_quanta l) under in
+      let more : suc n * bit_quanta l ≡ n * bit_quanta l + bit_quanta l = omega arith in
+      let ceil = (div_ceil_times (ready - sample_at l) (bit_quanta l) (omega arith)).1 in
       omega arith
 
 module _ (plan : Plan) (s : Stations) (of : IsPlanOf plan s) (line : AreOnALine s) (causal : IsCausal (line_of plan)) where
@@ -129,69 +119,64 @@ module _ (plan : Plan) (s : Stations) (of : IsPlanOf plan s) (line : AreOnALine 
         cc)
   ]
 
-  pub hands : ((i : ℕ) → i < s.count → has_first w i ≡ true → 11 * bit_quanta (l_of i) ≤ ready i) → HandTheFirst w (setup_at plan)
-  hands late = record {
+  pub hands : HandTheFirst w (setup_at plan)
+  hands = record {
     none = λ i q inside e. ap (λ x. ready_head x q) (none_has (q_of i) e);
-    unready = λ i n inside less. unready i n inside less;
+    unready = λ i n inside more less. unready i n inside more less;
     ready = λ i inside e.
         ready_then (q_of i) (decision_quantum w i) e
         (let l = of.lengths i inside in
         let x : decision_quantum w i ≡ w.decides i * bit_quanta (l_of i) + sample_at (l_of i) = ap (λ k. w.decides i * bit_quanta k + sample_at k) l in
-        let h = decided_after (l_of i) (ready i) (long i inside).0 (long i inside).1 in
+        let h = decided_after (l_of i) (ready i) (long i inside).0 in
         omega arith);
   }
     where
-      by_frames : (i n : ℕ) → i < s.count → n < w.decides i → (c : Bool) → has_first w i ≡ c → ready_head (q_of i) (n * bit_quanta (l_of i) + sample_at (l_of i)) ≡ None
-      by_frames i n inside less true e =
-          unready_then (q_of i) (n * bit_quanta (l_of i) + sample_at (l_of i)) (undecided (l_of i) (ready i) (long i inside).0 (long i inside).1 n (late i inside e) less)
-      by_frames i n inside less false e = ap (λ x. ready_head x (n * bit_quanta (l_of i) + sample_at (l_of i))) (none_has (q_of i) e)
+      by_frames : (i n : ℕ) → i < s.count → 10 ≤ n → n < w.decides i → (c : Bool) → has_first w i ≡ c → ready_head (q_of i) (n * bit_quanta (l_of i) + sample_at (l_of i)) ≡ None
+      by_frames i n inside more less true e =
+          unready_then (q_of i) (n * bit_quanta (l_of i) + sample_at (l_of i)) (undecided (l_of i) (ready i) (long i inside).0 n more less)
+      by_frames i n inside more less false e = ap (λ x. ready_head x (n * bit_quanta (l_of i) + sample_at (l_of i))) (none_has (q_of i) e)
 
-      unready : (i n : ℕ) → i < s.count → n < w.decides i → ready_head (q_of i) (n * bit_quanta (s.lengths i) + sample_at (s.lengths i)) ≡ None
-      unready i n inside less =
-          ap (λ k. ready_head (q_of i) (n * bit_quanta k + sample_at k)) (of.lengths i inside) ∙ by_frames i n inside less (has_first w i) refl
+      unready : (i n : ℕ) → i < s.count → 10 ≤ n → n < w.decides i → ready_head (q_of i) (n * bit_quanta (s.lengths i) + sample_at (s.lengths i)) ≡ None
+      unready i n inside more less =
+          ap (λ k. ready_head (q_of i) (n * bit_quanta k + sample_at k)) (of.lengths i inside) ∙ by_frames i n inside more less (has_first w i) refl
 
-  module _ (has : HasFirstFrames plan s) where
-    -- all nodes are idle by then
-    ready_from : (i k : ℕ) → i < s.count → has_first w k ≡ true → steady_tick (s.clocks i) (11 * bit_quanta (l_of i)) ≤ steady_tick (s.clocks k) (ready k)
-    ready_from i k inside e =
+  pub idle : HasFirstFrames plan s → AreIdle w
+  idle first = record {
+    frames = first.has.frames;
+    inside = in_plan;
+    may = λ i e. first.has.may i (in_plan i e) (sym (same_has (q_of i)) ∙ e);
+    some = (first.has.some.0, same_has (q_of first.has.some.0) ∙ first.has.some.2);
+    later = λ i. omega arith;
+    idle = λ i k inside apart e. first.idle i k inside (in_plan k e) apart (sym (same_has (q_of k)) ∙ e);
+  }
+
+  -- all nodes are idle by then
+  module _ (has : HasFrames plan s) (by : AreIdleWhenReady plan s) where
+    ready_from : (i k : ℕ) → i < s.count → i ≢ k → has_first w k ≡ true → steady_tick (s.clocks i) (11 * bit_quanta (l_of i)) ≤ steady_tick (s.clocks k) (ready k)
+    ready_from i k inside apart e =
         let there = in_plan k e in
-        let h = ready_after (setup_at plan k) (q_of k) (idle_at (setup_at plan i)) e (has.idle i k inside there) in
+        let h = ready_after (setup_at plan k) (q_of k) (idle_at (setup_at plan i)) e (by i k inside there apart) in
         let a = tick_is i (11 * bit_quanta (l_of i)) inside in
         let b = tick_is k (ready k) there in
         omega arith
 
-    pub late : (i : ℕ) → i < s.count → has_first w i ≡ true → 11 * bit_quanta (l_of i) ≤ ready i
-    late i inside e = elim (cases_lt (ready i) (11 * bit_quanta (l_of i))) [
-      | inl early ↦
-          (let from = ready_from i i inside e in
-          let next = later i (ready i) inside in
-          let more = up i (suc (ready i)) (11 * bit_quanta (l_of i)) inside early in
-          absurd (omega arith))
-      | inr more ↦ more
-    ]
-
-    before_due : (i k : ℕ) → i < s.count → has_first w k ≡ true
-        → steady_tick (s.clocks i) (10 * bit_quanta (s.lengths i) + sample_at (s.lengths i)) < steady_tick (s.clocks k) (due_first w k)
-    before_due i k inside e =
+    before_due : (i k : ℕ) → i < s.count → i ≢ k → has_first w k ≡ true → steady_tick (s.clocks i) (eleventh w i) < steady_tick (s.clocks k) (due_first w k)
+    before_due i k inside apart e =
         let there = in_plan k e in
-        let li : 10 * bit_quanta (s.lengths i) + sample_at (s.lengths i) ≡ 10 * bit_quanta (l_of i) + sample_at (l_of i) = ap (λ m. 10 * bit_quanta m + sample_at m) (of.lengths i inside) in
+        let li : eleventh w i ≡ 10 * bit_quanta (l_of i) + sample_at (l_of i) = ap (λ m. 10 * bit_quanta m + sample_at m) (of.lengths i inside) in
         let lk : due_first w k ≡ suc (w.decides k) * bit_quanta (l_of k) = ap (λ m. suc (w.decides k) * bit_quanta m) (of.lengths k there) in
         let short = (long i inside).1 in
         let shorter = (long k there).1 in
-        let next = later i (10 * bit_quanta (s.lengths i) + sample_at (s.lengths i)) inside in
-        let more = up i (suc (10 * bit_quanta (s.lengths i) + sample_at (s.lengths i))) (11 * bit_quanta (l_of i)) inside (omega arith) in
-        let from = ready_from i k inside e in
-        let decided = decided_after (l_of k) (ready k) (long k there).0 (long k there).1 in
+        let next = later i (eleventh w i) inside in
+        let more = up i (suc (eleventh w i)) (11 * bit_quanta (l_of i)) inside (omega arith) in
+        let from = ready_from i k inside apart e in
+        let decided = decided_after (l_of k) (ready k) (long k there).0 in
         let bit : suc (w.decides k) * bit_quanta (l_of k) ≡ w.decides k * bit_quanta (l_of k) + bit_quanta (l_of k) = omega arith in
         let last = up k (ready k) (due_first w k) there (omega arith) in
         omega arith
 
-    pub idle : AreIdle w
-    idle = record {
-      frames = has.frames;
-      inside = in_plan;
-      may = λ i e. has.may i (in_plan i e) (sym (same_has (q_of i)) ∙ e);
-      some = (has.some.0, same_has (q_of has.some.0) ∙ has.some.2);
-      later = λ i e. many_bits (l_of i) (ready i) (long i (in_plan i e)).0 (long i (in_plan i e)).1 (late i (in_plan i e) e);
-      idle = before_due;
+    pub first_frames : HasFirstFrames plan s
+    first_frames = record {
+      has = has;
+      idle = λ i k inside there apart e. (let before = before_due i k inside apart (same_has (q_of k) ∙ e) in omega arith);
     }

@@ -12,7 +12,7 @@ use Rattle.wl_any_senders.specs.Stations.{AreOnALine, Stations}
 use Rattle.wl_any_senders.specs.Starts.{BeginFrame, BeginsAlone, Drives, FollowsHard, Start, reaches_at}
 use Rattle.wl_any_senders.specs.Expected.{most}
 use Rattle.wl_any_senders.proofs.Callers.{most_from, nearest}
-use Rattle.wl_first_frame.specs.FirstStarts.{AreIdle, Waiting, begins_first, decision_quantum, due_first, edge_first, first_start, hard_from, has_first, is_reached_first, last_before, looks_first, hard_place}
+use Rattle.wl_first_frame.specs.FirstStarts.{AreIdle, Waiting, begins_first, decision_quantum, due_first, edge_first, eleventh, first_start, hard_from, has_first, is_reached_first, last_before, looks_first, hard_place}
 
 module _ (w : Waiting) (line : AreOnALine w.stations) (are : AreIdle w) where
   abbrev s : Stations
@@ -91,13 +91,10 @@ module _ (w : Waiting) (line : AreOnALine w.stations) (are : AreIdle w) where
   unreached_before i q r inside h e = false_from_ne_true (reached i q) (λ f. (let g = reached_later i q r inside h f in cc))
 
   -- none has reached a station by its eleventh sample
-  abbrev pub tenth : ℕ → ℕ
-  tenth i = 10 * bit_quanta (s.lengths i) + sample_at (s.lengths i)
-
-  unreached_tenth : (i : ℕ) → i < s.count → reached i (tenth i) ≡ false
-  unreached_tenth i inside = false_from_ne_true (reached i (tenth i)) (λ e.
-      (let x = reached_by i (tenth i) e in
-      let early = are.idle i x.by inside x.has_one in
+  unreached_eleventh : (i : ℕ) → i < s.count → reached i (eleventh w i) ≡ false
+  unreached_eleventh i inside = false_from_ne_true (reached i (eleventh w i)) (λ e.
+      (let x = reached_by i (eleventh w i) e in
+      let early = are.idle i x.by inside (λ f. x.other (sym f)) x.has_one in
       let reach = x.reach in
       absurd (omega arith)))
 
@@ -291,7 +288,7 @@ module _ (w : Waiting) (line : AreOnALine w.stations) (are : AreIdle w) where
       }
     where
       positive : (q : ℕ) → IsFound i q → 0 < q
-      positive zero f = (let g = unreached_before i 0 (tenth i) inside (omega arith) (unreached_tenth i inside) in let h = f.here in cc)
+      positive zero f = (let g = unreached_before i 0 (eleventh w i) inside (omega arith) (unreached_eleventh i inside) in let h = f.here in cc)
       positive (suc q) f = omega arith
 
   begins_alone : (i : ℕ) → i < s.count → edge_first w i ≡ None → BeginsAlone s b i
@@ -327,10 +324,10 @@ module _ (w : Waiting) (line : AreOnALine w.stations) (are : AreIdle w) where
   some_first = some_at are.some.0 (are.inside are.some.0 are.some.1) (edge_first w are.some.0) refl
 
   -- where the quantum that finds an edge lies
-  pub after_tenth : (i q : ℕ) → i < s.count → IsFound i q → tenth i < q
-  after_tenth i q inside f = elim (cases_lt (tenth i) q) [
+  pub after_eleventh : (i q : ℕ) → i < s.count → IsFound i q → eleventh w i < q
+  after_eleventh i q inside f = elim (cases_lt (eleventh w i) q) [
     | inl less ↦ less
-    | inr more ↦ (let g = unreached_before i q (tenth i) inside more (unreached_tenth i inside) in let h = f.here in cc)
+    | inr more ↦ (let g = unreached_before i q (eleventh w i) inside more (unreached_eleventh i inside) in let h = f.here in cc)
   ]
 
   pub after_decision : (i q : ℕ) → i < s.count → begins_first w i ≡ true → IsFound i q → decision_quantum w i < q

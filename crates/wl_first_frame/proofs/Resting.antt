@@ -1,5 +1,5 @@
 -- Each node rests before the first frame.
-use Rattle.std.proofs.Common.{◌≡◌, ◌∙◌, ◌⊎◌, inl, inr, refl, sym, ap, subst, ℕ, suc, ◌+◌, ◌-◌, ◌*◌, ◌<◌, ◌≤◌, Bool, true, false, ◌++◌, ◌∷◌, [], replicate, Option, Some, None, arith}
+use Rattle.std.proofs.Common.{◌≡◌, ◌∙◌, ◌⊎◌, inl, inr, refl, sym, ap, subst, ℕ, suc, ◌+◌, ◌-◌, ◌*◌, ◌<◌, ◌≤◌, max, Bool, true, false, ◌++◌, ◌∷◌, [], replicate, Option, Some, None, arith}
 use Rattle.std.specs.Prelude.{slice_get}
 use Rattle.std.proofs.lemmas.Bool.{cases_Bool}
 use Rattle.std.proofs.Math.Nat.{lt_of_mul-lt-mul_right}
@@ -12,9 +12,11 @@ use Rattle.wl_sync.specs.Running.{clock_after}
 use Rattle.wl_sync.specs.Skips.{steady_clock}
 use Rattle.wl_topology.specs.Driven.{driven}
 use Rattle.wl_frame.specs.Grammar.{Content}
+use Rattle.wl_machine.specs.Stretch.{Stretch}
 use Rattle.wl_machine.specs.Stretch.Input.{Sample}
 use Rattle.wl_machine.specs.Frames.{stuffed_end}
-use Rattle.wl_machine.specs.Judged.{stretch_of}
+use Rattle.wl_machine.specs.Judged.{stretch_after, stretch_of}
+use Rattle.wl_machine.proofs.Callers.{stretch_next}
 use Rattle.wl_machine.specs.States.{sample_of}
 use Rattle.wl_node.specs.declared.setup.NodeSetup.{NodeSetup}
 use Rattle.wl_node.specs.History.{History, ready_head}
@@ -31,7 +33,7 @@ use Rattle.wl_any_senders.specs.Machines.{bus_levels, no_frame_sample}
 use Rattle.wl_any_senders.specs.Nodes.{IsRun, clock_sees}
 use Rattle.wl_any_senders.proofs.Callers.{finds_what_comes, run_of}
 use Rattle.wl_first_frame.specs.FirstStarts.{AreIdle, HandTheFirst, Waiting, begins_first, due_first, edge_first, first_outset, hard_from, has_first, is_reached_first, last_before, rest_first, silent_past}
-use Rattle.wl_first_frame.proofs.Beginning.{IsLast, last_at}
+use Rattle.wl_first_frame.proofs.Beginning.{IsLast, MayTogether, decided, first_some, last_at}
 use Rattle.wl_first_frame.proofs.Reaching as reaching
 use Rattle.wl_first_frame.proofs.Silent as silence
 
@@ -42,7 +44,7 @@ NothingFound = (s : Stations) (o : Outset) (length i q : ℕ) → AreStations s 
     → ((k : ℕ) → Drives s o.start i k → steady_tick (s.clocks i) q < reaches_at s o.start k i)
     → driven s.count s.delay (expected_drove s o length) i (steady_tick (s.clocks i) q) ≡ false
 
-module _ (nothing : NothingFound) (ways : WayLaws) (calm : NoEdgeLaws) (edges : EdgeLaws) (l : Line) (setups : ℕ → NodeSetup) (w : Waiting)
+module _ (together : MayTogether) (nothing : NothingFound) (ways : WayLaws) (calm : NoEdgeLaws) (edges : EdgeLaws) (l : Line) (setups : ℕ → NodeSetup) (w : Waiting)
     (line : IsLineOf l setups w.stations) (on : AreStations w.stations) (room : HaveRoom w.stations) (are : AreIdle w) (hand : HandTheFirst w setups) (outset : IsOutset w.stations (first_outset w))
     (total : ℕ) (valid : (n : ℕ) → n < total → stuffed_end (bus_levels w.stations (expected_bits w.stations (first_outset w)) n) ≡ None) (i : ℕ) (inside : i < w.stations.count) where
   abbrev s : Stations
@@ -110,19 +112,19 @@ module _ (nothing : NothingFound) (ways : WayLaws) (calm : NoEdgeLaws) (edges : 
       let before = last.before in
       lt_of_mul-lt-mul_right B (let h : m * B < w.decides i * B = omega arith in h))
 
-  none_up_to : begins_first w i ≡ false → (n : ℕ) → n ≤ m → ready_head (setups i).queue (n * B + S) ≡ None
-  none_up_to e n less = elim (cases_Bool (has_first w i)) [
-    | inl own ↦ (let h = few e own (edge_first w i) refl in hand.unready i n inside (omega arith))
+  none_up_to : begins_first w i ≡ false → (n : ℕ) → 10 ≤ n → n ≤ m → ready_head (setups i).queue (n * B + S) ≡ None
+  none_up_to e n more less = elim (cases_Bool (has_first w i)) [
+    | inl own ↦ (let h = few e own (edge_first w i) refl in hand.unready i n inside more (omega arith))
     | inr none ↦ hand.none i (n * B + S) inside none
   ]
 
   own_bits : begins_first w i ≡ true → m ≡ w.decides i
   own_bits e = reaching.last_is w on.line are i e
 
-  unready : (n : ℕ) → n < m → ready_head (setups i).queue (n * B + S) ≡ None
-  unready n less = elim (cases_Bool (begins_first w i)) [
-    | inl own ↦ (let h = own_bits own in hand.unready i n inside (omega arith))
-    | inr other ↦ none_up_to other n (omega arith)
+  unready : (n : ℕ) → 10 ≤ n → n < m → ready_head (setups i).queue (n * B + S) ≡ None
+  unready n more less = elim (cases_Bool (begins_first w i)) [
+    | inl own ↦ (let h = own_bits own in hand.unready i n inside more (omega arith))
+    | inr other ↦ none_up_to other n more (omega arith)
   ]
 
   abbrev head_by : Bool → Option Content
@@ -132,15 +134,24 @@ module _ (nothing : NothingFound) (ways : WayLaws) (calm : NoEdgeLaws) (edges : 
   handed_last : (c : Bool) → begins_first w i ≡ c → ready_head (setups i).queue (m * B + S) ≡ head_by c
   handed_last true e =
       ap (λ n. ready_head (setups i).queue (n * B + S)) (own_bits e) ∙ hand.ready i inside (reaching.begins_has w on.line are i e)
-  handed_last false e = none_up_to e m (omega arith)
+  handed_last false e = none_up_to e m last.many (omega arith)
 
-  past_is : (c : Bool) → begins_first w i ≡ c → replicate m no_frame_sample ++ Sample (sample_of Recessive (head_by c) Active) ∷ [] ≡ o.past i
-  past_is true e = sym (ap (λ c. silent_past c (w.frames i) m) e)
-  past_is false e = sym (silence.samples_more m) ∙ sym (ap (λ c. silent_past c (w.frames i) m) e)
+  abbrev next : Option Content → Stretch
+  next head = stretch_after (stretch_of (replicate m no_frame_sample)) (Sample (sample_of Recessive head Active))
+
+  past_is : (c : Bool) → begins_first w i ≡ c → next (head_by c) ≡ stretch_of (o.past i)
+  past_is true e =
+      let c = first_some (w.frames i) (reaching.begins_has w on.line are i e) in
+      ap next c.1 ∙ decided together m c.0 last.many
+      ∙ sym (ap (λ b. stretch_of (silent_past b (w.frames i) m)) e
+      ∙ ap (λ h. stretch_of (replicate (max 11 m) no_frame_sample ++ Sample (sample_of Recessive h Active) ∷ [])) c.1
+      ∙ stretch_next (replicate (max 11 m) no_frame_sample) (Sample (sample_of Recessive (Some c.0) Active))
+      ∙ decided together (max 11 m) c.0 (omega arith))
+  past_is false e = silence.next_of m ∙ sym (ap (λ b. stretch_of (silent_past b (w.frames i) m)) e)
 
   -- by its segments
   abbrev Unready : Lengths → Type 0
-  Unready k = (n : ℕ) → n < m → ready_head (setups i).queue (n * bit_quanta k + sample_at k) ≡ None
+  Unready k = (n : ℕ) → 10 ≤ n → n < m → ready_head (setups i).queue (n * bit_quanta k + sample_at k) ≡ None
 
   abbrev Silent : Lengths → Type 0
   Silent k = (q : ℕ) → q ≤ m * bit_quanta k + sample_at k → levels q ≡ Recessive
@@ -152,7 +163,7 @@ module _ (nothing : NothingFound) (ways : WayLaws) (calm : NoEdgeLaws) (edges : 
   record Rests (k : Lengths) : Type 0 where
     sampled : SamplesBy k (clock_sees levels node) (m * bit_quanta k + sample_at k) Recessive
     clock : clock_after k (seen_before (clock_sees levels node) (suc (m * bit_quanta k + sample_at k))) ≡ steady_clock k
-    inputs : (node (suc (m * bit_quanta k + sample_at k))).inputs ≡ replicate m no_frame_sample ++ Sample (sample_of Recessive (head_by (begins_first w i)) Active) ∷ []
+    stretch : stretch_of (node (suc (m * bit_quanta k + sample_at k))).inputs ≡ next (head_by (begins_first w i))
     counts : silence.NoneCounts (node (suc (m * bit_quanta k + sample_at k)))
     drive : (q : ℕ) → q ≤ suc (m * bit_quanta k + sample_at k) → (node q).drive ≡ Recessive
 
@@ -160,7 +171,7 @@ module _ (nothing : NothingFound) (ways : WayLaws) (calm : NoEdgeLaws) (edges : 
   rests quiet none head = record {
     sampled = silence.sampled_last ways calm edges (setups i) book levels node run m quiet none (head_by (begins_first w i)) head;
     clock = steady (m - 1) (let many = last.many in omega arith);
-    inputs = silence.inputs_last ways calm edges (setups i) book levels node run m quiet none (head_by (begins_first w i)) head;
+    stretch = silence.stretch_last ways calm edges (setups i) book levels node run m quiet none (head_by (begins_first w i)) head;
     counts = silence.counts_last ways calm edges (setups i) book levels node run m quiet none (head_by (begins_first w i)) head;
     drive = silence.drive_up_to ways calm edges (setups i) book levels node run m quiet none (head_by (begins_first w i)) head;
   }
@@ -169,7 +180,7 @@ module _ (nothing : NothingFound) (ways : WayLaws) (calm : NoEdgeLaws) (edges : 
           ≡ steady_clock (setups i).segments
       steady n e =
           subst (λ j. ((q : ℕ) → q ≤ j * bit_quanta (setups i).segments + sample_at (setups i).segments → levels q ≡ Recessive)
-          → ((n : ℕ) → n < j → ready_head (setups i).queue (n * bit_quanta (setups i).segments + sample_at (setups i).segments) ≡ None)
+          → ((n : ℕ) → 10 ≤ n → n < j → ready_head (setups i).queue (n * bit_quanta (setups i).segments + sample_at (setups i).segments) ≡ None)
           → clock_after (setups i).segments (seen_before (clock_sees levels node) (suc (j * bit_quanta (setups i).segments + sample_at (setups i).segments))) ≡ steady_clock (setups i).segments)
           e (λ q u. silence.steady_last ways calm edges (setups i) book levels node run n q u) quiet none
 
@@ -183,7 +194,7 @@ module _ (nothing : NothingFound) (ways : WayLaws) (calm : NoEdgeLaws) (edges : 
       record {
         sampled = r.sampled;
         clock = r.clock;
-        stretch = ap stretch_of (r.inputs ∙ past_is (begins_first w i) refl);
+        stretch = r.stretch ∙ past_is (begins_first w i) refl;
         counts = r.counts;
         drive = r.drive;
       }

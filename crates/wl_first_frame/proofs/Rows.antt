@@ -4,9 +4,12 @@ use Rattle.wl_segments.specs.declared.SyncRules.TheVariants.{Book}
 use Rattle.wl_segments.specs.Lengths.{Lengths}
 use Rattle.wl_clock.specs.Timing.{tick_of}
 use Rattle.wl_frame.specs.Grammar.{Content}
+use Rattle.wl_machine.specs.Stretch.Sort.{Framing}
+use Rattle.wl_machine.specs.Judged.{stretch_of}
+use Rattle.wl_machine.specs.States.{stretch_by}
 use Rattle.wl_phase.specs.Clocks.{Steady}
 use Rattle.wl_any_senders.specs.Stations.{Stations}
-use Rattle.wl_first_frame.specs.FirstStarts.{Waiting, begins_first, decision_quantum, due_first, edge_first, first_start, last_before, rest_first}
+use Rattle.wl_first_frame.specs.FirstStarts.{Waiting, begins_first, decision_quantum, due_first, edge_first, eleventh, first_start, last_before, rest_first, silent_past}
 
 -- a bit of 1 + 3 + 3 + 3 quanta with its sample at place 7
 abbrev l : Lengths
@@ -94,6 +97,13 @@ listens = refl
 alone : begins_first one 1 ≡ true
 unfolding tick_of
 alone = refl
+
+-- It may decide with its eleventh sample, and is then to begin its frame.
+tenth_bit : eleventh (both 10) 0 ≡ 107
+tenth_bit = refl
+
+to_begin : stretch_of (silent_past true (c ∷ []) 10) ≡ stretch_by (Framing (Some c)) []
+to_begin = refl
 
 -- An edge that comes just when a station would decide: station 1 has quanta of 10 ticks and begins at tick 1, and its start of frame reaches station 0 at tick 1210, the tick of the
 -- sample of bit 11 but for three quanta, at tick 1170. With a frame of that bit station 0 begins by itself at tick 1200; with one of the next bit it follows.

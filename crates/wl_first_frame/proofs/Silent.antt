@@ -86,6 +86,29 @@ quiet_after (suc n) =
 pub none_driven_after : (n : ℕ) → drive_of (stretch_of (replicate n no_frame_sample)) ≡ Recessive
 none_driven_after n = drives_none (stretch_of (replicate n no_frame_sample)) (quiet_after n)
 
+-- a machine that integrates asks for no frame
+integrates : (c : ℕ) (head : Option Content) → c < 10 → stretch_after (stretch_of (replicate c no_frame_sample)) (Sample (sample_of Recessive head Active))
+    ≡ stretch_after (stretch_of (replicate c no_frame_sample)) no_frame_sample
+integrates zero head few = refl
+integrates (suc zero) head few = refl
+integrates (suc (suc zero)) head few = refl
+integrates (suc (suc (suc zero))) head few = refl
+integrates (suc (suc (suc (suc zero)))) head few = refl
+integrates (suc (suc (suc (suc (suc zero))))) head few = refl
+integrates (suc (suc (suc (suc (suc (suc zero)))))) head few = refl
+integrates (suc (suc (suc (suc (suc (suc (suc zero))))))) head few = refl
+integrates (suc (suc (suc (suc (suc (suc (suc (suc zero)))))))) head few = refl
+integrates (suc (suc (suc (suc (suc (suc (suc (suc (suc zero))))))))) head few = refl
+integrates (suc (suc (suc (suc (suc (suc (suc (suc (suc (suc c)))))))))) head few = absurd (omega arith)
+
+pub next_of : (n : ℕ) → stretch_after (stretch_of (replicate n no_frame_sample)) no_frame_sample ≡ stretch_of (replicate (suc n) no_frame_sample)
+next_of n = sym (ap stretch_of (samples_more n) ∙ stretch_next (replicate n no_frame_sample) no_frame_sample)
+
+any_head : (c : ℕ) (head : Option Content) → (c < 10) ⊎ (head ≡ None)
+    → stretch_after (stretch_of (replicate c no_frame_sample)) (Sample (sample_of Recessive head Active)) ≡ stretch_of (replicate (suc c) no_frame_sample)
+any_head c head (inl few) = integrates c head few ∙ next_of c
+any_head c head (inr none) = ap (λ h. stretch_after (stretch_of (replicate c no_frame_sample)) (Sample (sample_of Recessive h Active))) none ∙ next_of c
+
 abbrev pub NoneCounts : History → Type 0
 NoneCounts h = counts_of h.happened ≡ no_counts
 
@@ -136,7 +159,7 @@ module _ (ways : WayLaws) (calm : NoEdgeLaws) (edges : EdgeLaws) (setup : NodeSe
   pub record IsStill (q c : ℕ) : Type 0 where
     pub way : way q + q ≡ c * B + S
     pub near : c * B + S < q + B
-    pub inputs : (node q).inputs ≡ replicate c no_frame_sample
+    pub stretch : stretch_of (node q).inputs ≡ stretch_of (replicate c no_frame_sample)
     pub counts : counts_of (node q).happened ≡ no_counts
     pub frames : (node q).frames ≡ []
     pub drive : (node q).drive ≡ Recessive
@@ -149,7 +172,7 @@ module _ (ways : WayLaws) (calm : NoEdgeLaws) (edges : EdgeLaws) (setup : NodeSe
       record {
         way = omega arith;
         near = omega arith;
-        inputs = ap (λ h. h.inputs) first;
+        stretch = ap (λ h. stretch_of h.inputs) first;
         counts = ap (λ h. counts_of h.happened) first;
         frames = ap (λ h. h.frames) first;
         drive = ap (λ h. h.drive) first;
@@ -178,7 +201,7 @@ module _ (ways : WayLaws) (calm : NoEdgeLaws) (edges : EdgeLaws) (setup : NodeSe
         record {
           way = omega (arith, apart);
           near = omega arith;
-          inputs = inputs_by setup levels node run q beats.Plain e ∙ a.inputs;
+          stretch = ap stretch_of (inputs_by setup levels node run q beats.Plain e) ∙ a.stretch;
           counts = ap counts_of (happened_by setup levels node run q beats.Plain e) ∙ a.counts;
           frames = frames_by q beats.Plain e ∙ a.frames;
           drive = driven_by setup levels node run q beats.Plain e ∙ a.drive;
@@ -190,10 +213,10 @@ module _ (ways : WayLaws) (calm : NoEdgeLaws) (edges : EdgeLaws) (setup : NodeSe
         record {
           way = omega (arith, apart);
           near = omega arith;
-          inputs = inputs_by setup levels node run q beats.Start e ∙ a.inputs;
+          stretch = ap stretch_of (inputs_by setup levels node run q beats.Start e) ∙ a.stretch;
           counts = ap counts_of (happened_by setup levels node run q beats.Start e) ∙ a.counts;
           frames = frames_by q beats.Start e ∙ a.frames;
-          drive = driven_by setup levels node run q beats.Start e ∙ ap (λ v. drive_of (stretch_of v)) a.inputs ∙ none_driven_after c;
+          drive = driven_by setup levels node run q beats.Start e ∙ ap drive_of a.stretch ∙ none_driven_after c;
         })
     passes apart (beats.Sample level) e = absurd (apart (ways.only l (seen_before sees q) (sees q) level book e).1)
 
@@ -221,7 +244,7 @@ module _ (ways : WayLaws) (calm : NoEdgeLaws) (edges : EdgeLaws) (setup : NodeSe
       judgement = judged (stretch_of (node q).inputs) given
 
       judged_is : judgement ≡ judged (stretch_of (replicate c no_frame_sample)) (sample_of Recessive head Active)
-      judged_is = ap (λ v. judged (stretch_of v) given) a.inputs ∙ ap (judged (stretch_of (replicate c no_frame_sample))) given_is
+      judged_is = ap (λ v. judged v given) a.stretch ∙ ap (judged (stretch_of (replicate c no_frame_sample))) given_is
 
       on : TakesOn judgement
       on = subst TakesOn (sym judged_is) (takes_on (stretch_of (replicate c no_frame_sample)) head (quiet_after c))
@@ -235,11 +258,16 @@ module _ (ways : WayLaws) (calm : NoEdgeLaws) (edges : EdgeLaws) (setup : NodeSe
       none_off =
           ap (λ m. switched_off m (mode_of (counts_of ((node q).happened ++ judgement.happened ∷ [])))) mode_is ∙ ap (λ n. switched_off Active (mode_of n)) counts_then
 
-      pub inputs_then : (node (suc q)).inputs ≡ replicate c no_frame_sample ++ Sample (sample_of Recessive head Active) ∷ []
-      inputs_then =
-          inputs_by setup levels node run q (beats.Sample (levels q)) beat
-          ∙ ap (λ v. ((node q).inputs ++ Sample given ∷ []) ++ v) none_off ∙ append-nil ((node q).inputs ++ Sample given ∷ [])
-          ∙ ap (λ v. v ++ Sample given ∷ []) a.inputs ∙ ap (λ x. replicate c no_frame_sample ++ Sample x ∷ []) given_is
+      abbrev next : Stretch
+      next = stretch_after (stretch_of (replicate c no_frame_sample)) (Sample (sample_of Recessive head Active))
+
+      pub stretch_then : stretch_of (node (suc q)).inputs ≡ next
+      stretch_then =
+          ap stretch_of
+          (inputs_by setup levels node run q (beats.Sample (levels q)) beat
+          ∙ ap (λ v. ((node q).inputs ++ Sample given ∷ []) ++ v) none_off ∙ append-nil ((node q).inputs ++ Sample given ∷ []))
+          ∙ stretch_next (node q).inputs (Sample given) ∙ ap (λ v. stretch_after v (Sample given)) a.stretch
+          ∙ ap (λ x. stretch_after (stretch_of (replicate c no_frame_sample)) (Sample x)) given_is
 
       pub counts_there : counts_of (node (suc q)).happened ≡ no_counts
       counts_there = ap counts_of (happened_by setup levels node run q (beats.Sample (levels q)) beat) ∙ counts_then
@@ -252,7 +280,7 @@ module _ (ways : WayLaws) (calm : NoEdgeLaws) (edges : EdgeLaws) (setup : NodeSe
       pub drive_there : (node (suc q)).drive ≡ Recessive
       drive_there = driven_by setup levels node run q (beats.Sample (levels q)) beat ∙ a.drive
 
-    samples : way q ≡ 0 → ready_head setup.queue q ≡ None → IsStill (suc q) (suc c)
+    samples : way q ≡ 0 → (c < 10) ⊎ (ready_head setup.queue q ≡ None) → IsStill (suc q) (suc c)
     samples now unready =
         let near = a.near in
         let here = a.way in
@@ -262,17 +290,23 @@ module _ (ways : WayLaws) (calm : NoEdgeLaws) (edges : EdgeLaws) (setup : NodeSe
         record {
           way = omega arith;
           near = omega arith;
-          inputs = inputs_then now None unready ∙ sym (samples_more c);
-          counts = counts_there now None unready;
-          frames = frames_there now None unready;
-          drive = drive_there now None unready;
+          stretch = stretch_then now (ready_head setup.queue q) refl ∙ any_head c (ready_head setup.queue q) unready;
+          counts = counts_there now (ready_head setup.queue q) refl;
+          frames = frames_there now (ready_head setup.queue q) refl;
+          drive = drive_there now (ready_head setup.queue q) refl;
         }
 
   -- all its quanta
-  module _ (m : ℕ) (silent : (q : ℕ) → q ≤ m * B + S → levels q ≡ Recessive) (unready : (n : ℕ) → n < m → ready_head setup.queue (n * B + S) ≡ None) where
+  module _ (m : ℕ) (silent : (q : ℕ) → q ≤ m * B + S → levels q ≡ Recessive) (unready : (n : ℕ) → 10 ≤ n → n < m → ready_head setup.queue (n * B + S) ≡ None) where
     record Still (q : ℕ) : Type 0 where
       count : ℕ
       is : IsStill q count
+
+    unready_at : (c q : ℕ) → q ≡ c * B + S → c < m → (c < 10) ⊎ (ready_head setup.queue q ≡ None)
+    unready_at c q place few = elim (cases_lt c 10) [
+      | inl less ↦ inl less
+      | inr more ↦ inr (ap (ready_head setup.queue) place ∙ unready c more few)
+    ]
 
     still_on : (q : ℕ) → q < m * B + S → Still q → Still (suc q)
     still_on q less x = elim (cases_eq (way q) 0) [
@@ -280,7 +314,7 @@ module _ (ways : WayLaws) (calm : NoEdgeLaws) (edges : EdgeLaws) (setup : NodeSe
           (let at = x.is.way in
           let place : q ≡ x.count * B + S = omega arith in
           let few : x.count < m = lt_of_mul-lt-mul_right B (let h : x.count * B < m * B = omega arith in h) in
-          record { count = suc x.count; is = samples q x.count (silent q (omega arith)) x.is now (ap (ready_head setup.queue) place ∙ unready x.count few) })
+          record { count = suc x.count; is = samples q x.count (silent q (omega arith)) x.is now (unready_at x.count q place few) })
       | inr apart ↦ record { count = x.count; is = passes q x.count (silent q (omega arith)) x.is apart (beat_of l (seen_before sees q) (sees q)) refl }
     ]
 
@@ -312,9 +346,9 @@ module _ (ways : WayLaws) (calm : NoEdgeLaws) (edges : EdgeLaws) (setup : NodeSe
     pub sampled_last : (head : Option Content) → ready_head setup.queue (m * B + S) ≡ head → SamplesBy l sees (m * B + S) Recessive
     sampled_last head ready = beat (m * B + S) m silent_last still_last way_last head ready ∙ ap beats.Sample silent_last
 
-    pub inputs_last : (head : Option Content) → ready_head setup.queue (m * B + S) ≡ head
-        → (node (suc (m * B + S))).inputs ≡ replicate m no_frame_sample ++ Sample (sample_of Recessive head Active) ∷ []
-    inputs_last head ready = inputs_then (m * B + S) m silent_last still_last way_last head ready
+    pub stretch_last : (head : Option Content) → ready_head setup.queue (m * B + S) ≡ head
+        → stretch_of (node (suc (m * B + S))).inputs ≡ stretch_after (stretch_of (replicate m no_frame_sample)) (Sample (sample_of Recessive head Active))
+    stretch_last head ready = stretch_then (m * B + S) m silent_last still_last way_last head ready
 
     pub counts_last : (head : Option Content) → ready_head setup.queue (m * B + S) ≡ head → counts_of (node (suc (m * B + S))).happened ≡ no_counts
     counts_last head ready = counts_there (m * B + S) m silent_last still_last way_last head ready
@@ -329,13 +363,13 @@ module _ (ways : WayLaws) (calm : NoEdgeLaws) (edges : EdgeLaws) (setup : NodeSe
     ]
 
   -- its bit clock after the second bit or a later one
-  module _ (n : ℕ) (silent : (q : ℕ) → q ≤ suc n * B + S → levels q ≡ Recessive) (unready : (k : ℕ) → k < suc n → ready_head setup.queue (k * B + S) ≡ None) where
+  module _ (n : ℕ) (silent : (q : ℕ) → q ≤ suc n * B + S → levels q ≡ Recessive) (unready : (k : ℕ) → 10 ≤ k → k < suc n → ready_head setup.queue (k * B + S) ≡ None) where
     next_bit : n * B + B + S ≡ suc n * B + S
     next_bit = omega arith
 
     pub steady_last : clock_after l (seen_before sees (suc (suc n * B + S))) ≡ steady_clock l
     steady_last =
-        let before = sampled_last n (λ q less. silent q (let e = next_bit in omega arith)) (λ k less. unready k (omega arith)) None (unready n (omega arith)) in
+        let before = sampled_last n (λ q less. silent q (let e = next_bit in omega arith)) (λ k more less. unready k more (omega arith)) (ready_head setup.queue (n * B + S)) refl in
         subst (λ q. clock_after l (seen_before sees (suc q)) ≡ steady_clock l) next_bit
         (edges.steady l sees (n * B) Recessive book before
         (λ i after inside. calm.recessive l (seen_before sees i) (sees i) book (silent i (let e = next_bit in omega arith)))

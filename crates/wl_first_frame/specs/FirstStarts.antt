@@ -1,5 +1,5 @@
 -- How stations on a silent line begin their first frames: which begin by themselves, which follow an edge, and what each has sampled before.
-use Rattle.std.specs.Prelude.{◌≡◌, ◌<◌, ℕ, suc, ◌+◌, ◌-◌, ◌*◌, ◌/◌, ◌&&◌, not, nat_lt, Bool, true, false, List, [], ◌∷◌, ◌++◌, length, Option, Some, None, replicate, slice_get, if◌then◌else◌}
+use Rattle.std.specs.Prelude.{◌≡◌, ◌≢◌, ◌<◌, ◌≤◌, ℕ, suc, ◌+◌, ◌-◌, ◌*◌, ◌/◌, ◌&&◌, not, max, nat_lt, Bool, true, false, List, [], ◌∷◌, ◌++◌, length, Option, Some, None, replicate, slice_get, if◌then◌else◌}
 use Rattle.wl_level.specs.declared.Level.TheVariants.{Recessive}
 use Rattle.wl_confine.specs.declared.Mode.TheVariants.{Active}
 use Rattle.wl_segments.specs.Lengths.{bit_quanta, sample_at}
@@ -76,12 +76,13 @@ last_before w i =
     if begins_first w i then w.decides i
     else ((first_start w).from i - suc (sample_at (w.stations.lengths i))) / bit_quanta (w.stations.lengths i)
 
--- what a machine has sampled with so many bits and one: with the last one it is handed a frame if it begins one
+-- What a machine has sampled with so many bits and one: with the last one it is handed a frame if it begins one. It is in the same stretch whether that is the sample that ends its
+-- integration or the next one.
 abbrev pub handed_first : Handed
 handed_first = record { which = 0; mode = Active }
 
 abbrev pub silent_past : (begins : Bool) → List Content → ℕ → List Input
-silent_past true frames n = replicate n no_frame_sample ++ Sample (sampled Recessive frames handed_first) ∷ []
+silent_past true frames n = replicate (max 11 n) no_frame_sample ++ Sample (sampled Recessive frames handed_first) ∷ []
 silent_past false frames n = replicate (suc n) no_frame_sample
 
 -- and the frame as one of several stations that begin it together
@@ -97,20 +98,24 @@ first_outset w = record {
 abbrev pub rest_first : Waiting → ℕ → ℕ
 rest_first w i = last_before w i * bit_quanta (w.stations.lengths i)
 
--- Some station has a frame, and no two have frames of one format, identifier and RTR bit. Each is idle before a start of frame reaches it: it has sampled eleven bits, and decides to send with
--- a later one (Bosch CAN 2.0 part B, section 2, wake-up; ISO 11898-1, bus integration).
+-- the quantum of its eleventh sample, with which the bus is idle to it (ISO 11898-1, bus integration)
+abbrev pub eleventh : Waiting → ℕ → ℕ
+eleventh w i = 10 * bit_quanta (w.stations.lengths i) + sample_at (w.stations.lengths i)
+
+-- Some station has a frame, and no two have frames of one format, identifier and RTR bit. Each is idle before another one's start of frame reaches it, and decides to send with its eleventh
+-- sample or a later one (Bosch CAN 2.0 part B, section 2, wake-up).
 pub record AreIdle (w : Waiting) : Type 0 where
   pub frames : AreSoundFrames w.stations.count w.frames
   pub inside : (i : ℕ) → has_first w i ≡ true → i < w.stations.count
   pub may : (i : ℕ) → has_first w i ≡ true → w.stations.may_send i ≡ true
   pub some : (i : ℕ) × (has_first w i ≡ true)
-  pub later : (i : ℕ) → has_first w i ≡ true → 10 < w.decides i
-  pub idle : (i k : ℕ) → i < w.stations.count → has_first w k ≡ true
-      → steady_tick (w.stations.clocks i) (10 * bit_quanta (w.stations.lengths i) + sample_at (w.stations.lengths i)) < steady_tick (w.stations.clocks k) (due_first w k)
+  pub later : (i : ℕ) → 10 ≤ w.decides i
+  pub idle : (i k : ℕ) → i < w.stations.count → i ≢ k → has_first w k ≡ true
+      → steady_tick (w.stations.clocks i) (eleventh w i) < steady_tick (w.stations.clocks k) (due_first w k) + w.stations.delay k i
 
--- Nodes whose machines are handed these frames: none before the bit with which a station decides to send, then the first one, and none at all if it has none.
+-- Nodes whose machines are handed these frames: from the eleventh bit on none before that with which a station decides to send, then the first one, and none at all if it has none.
 pub record HandTheFirst (w : Waiting) (setups : ℕ → NodeSetup) : Type 0 where
   pub none : (i q : ℕ) → i < w.stations.count → has_first w i ≡ false → ready_head (setups i).queue q ≡ None
-  pub unready : (i n : ℕ) → i < w.stations.count → n < w.decides i
+  pub unready : (i n : ℕ) → i < w.stations.count → 10 ≤ n → n < w.decides i
       → ready_head (setups i).queue (n * bit_quanta (w.stations.lengths i) + sample_at (w.stations.lengths i)) ≡ None
   pub ready : (i : ℕ) → i < w.stations.count → has_first w i ≡ true → ready_head (setups i).queue (decision_quantum w i) ≡ slice_get (w.frames i) 0

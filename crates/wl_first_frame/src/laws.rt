@@ -14,7 +14,7 @@ ghost use Rattle.wl_any_senders.specs.Lines.{BeginsAfter, IsLineOf, RestsBefore,
 ghost use Rattle.wl_any_senders.specs.Machines.{bus_levels};
 ghost use Rattle.wl_any_senders.specs.Plans.{IsPlanOf};
 ghost use Rattle.wl_any_senders.specs.Stations.{AreOnALine, AreStations, HaveRoom, HaveWays, Stations};
-ghost use Rattle.wl_first_frame.specs.FirstFrames.{GoesToItsCrc, HasFirstFrames, waiting_of};
+ghost use Rattle.wl_first_frame.specs.FirstFrames.{AreIdleWhenReady, GoesToItsCrc, HasFirstFrames, HasFrames, waiting_of};
 ghost use Rattle.wl_first_frame.specs.FirstStarts.{AreIdle, HandTheFirst, Waiting, first_outset, rest_first};
 
 /// Law: idle stations begin a first frame together, if some have one. Whoever has decided to send before another one's start of frame
@@ -38,18 +38,21 @@ pub fn nodes_rest_before_a_first_frame()
         (node_after (setups i) (finds_expected l w.stations (first_outset w) length i)) (rest_first w i) }
 {
     wl_phase::laws::an_edge_moves_the_sample();
+    wl_any_senders::laws::idle_machines_may_begin_together();
     wl_any_senders::laws::no_edge_counts_then();
     wl_any_senders::laws::a_station_begins_its_bits();
     wl_any_senders::before::nothing_is_found_before_a_frame();
     idle_stations_begin_a_first_frame();
 }
 
-/// Law: the nodes of such a plan are such stations: from their power-up on each hands its machine the first frame of its queue.
+/// Law: the nodes of a plan are such stations, if some have frames: from its power-up on each hands its machine the first frame of its queue.
+/// So it is if each is idle when the first frame of any other becomes ready.
 pub fn a_plan_has_a_first_frame()
+    ensures ready { (plan : Plan) (s : Stations) → IsPlanOf plan s → HasFrames plan s → AreIdleWhenReady plan s
+        → HasFirstFrames plan s }
     ensures idle { (plan : Plan) (s : Stations) → IsPlanOf plan s → HasFirstFrames plan s
         → AreIdle (waiting_of plan s) }
-    ensures hands { (plan : Plan) (s : Stations) → IsPlanOf plan s → HasFirstFrames plan s
-        → HandTheFirst (waiting_of plan s) (setup_at plan) }
+    ensures hands { (plan : Plan) (s : Stations) → IsPlanOf plan s → HandTheFirst (waiting_of plan s) (setup_at plan) }
 {
     wl_plan::checked_is_sound();
     wl_any_senders::laws::a_plan_is_on_a_line();
@@ -57,8 +60,8 @@ pub fn a_plan_has_a_first_frame()
 
 /// Law: the first frame on the bus of each such plan goes as expected, whoever sends, from the power-up of all nodes on. The plan is checked,
 /// with one rate a clock, by the book, without disturbances and nodes that only listen. There is room for its nodes, as by the condition for
-/// margins. Some have frames, and all are idle when the first frame of any becomes ready. Then up to the end of the CRC sequence all
-/// sample each bit as it is on the bus, and none finds an error. The one that is left has the least arbitration field.
+/// margins. Some have frames, and each is idle when another one's start of frame would reach it. Then up to the end of the CRC sequence
+/// all sample each bit as it is on the bus, and none finds an error. The one that is left has the least arbitration field.
 pub fn the_first_frame_goes_as_expected()
     ensures room { (plan : Plan) (s : Stations) → IsPlanOf plan s → plan.disturbances ≡ [] → HaveWays s → HaveRoom s
         → HasFirstFrames plan s → GoesToItsCrc plan s }
