@@ -19,7 +19,7 @@ none_at_all : (n : ℕ) → any_below n (λ k. false) ≡ false
 none_at_all n = false_from_ne_true (any_below n (λ k. false)) (λ e. (let k = any_one n (λ k. false) e in let f = k.2 in cc))
 
 -- one of two numbers isn't a third
-another : (w : ℕ) → (k : ℕ) × (k < 2) × (k ≢ w)
+pub another : (w : ℕ) → (k : ℕ) × (k < 2) × (k ≢ w)
 another w = elim (cases_eq w 0) [
   | inl zeroth ↦ (1, omega arith, (λ e. (let f = zeroth in omega arith)))
   | inr other ↦ (0, omega arith, (λ e. other (sym e)))

@@ -1,7 +1,14 @@
--- What the proofs of upper crates may use, and no other lemma of this crate: of some stations the nearest, and a bound of some numbers; one quantum later in ticks; a node after the
--- levels that it finds, quantum by quantum; and the line of a plan.
-pub use Rattle.wl_any_senders.proofs.Settling.{Nearest, most_from, nearest}
-pub use Rattle.wl_any_senders.proofs.Measures.{tick_next}
-pub use Rattle.wl_any_senders.proofs.Nodes.{drive_by, happened_by, inputs_by, seen_are}
-pub use Rattle.wl_any_senders.proofs.Lines.{finds_what_comes, run_of}
+-- What the proofs of upper crates may use, and no other lemma of this crate: ticks of quanta, the nearest of some stations, how a bit with an edge begins, what is expected of stations and
+-- when, a node after the levels that it finds and between two of its samples, and the line of a plan.
+pub use Rattle.wl_any_senders.proofs.Machines.{FindNoErrors, LeastWins, SendStuffed, SixOrFront, StayInStep, TenHaveEdge, first_any, frames_after, goes, level_back, no_intermission, not_between}
+pub use Rattle.wl_any_senders.proofs.Measures.{drifted, instant_more, tick_next, ticks_before}
+pub use Rattle.wl_any_senders.proofs.Settling.{Nearest, begin_bit, begins_by, caught, from_early, from_late, low, most_from, nearest}
+pub use Rattle.wl_any_senders.proofs.Expecting.{after_there, course, driven_at, drives_are, edge_is, from_all, from_sample, may, none_driven, place_low, plain_is}
+pub use Rattle.wl_any_senders.proofs.Seeing.{due_sample, from_low, on_bus, place_up, plain_when, right_at}
+pub use Rattle.wl_any_senders.proofs.Lines.{finds_what_comes, no_or, run_of}
+pub use Rattle.wl_any_senders.proofs.Passing.{same_places}
+pub use Rattle.wl_any_senders.proofs.AckWays.{any_close, chased_stations}
+pub use Rattle.wl_any_senders.proofs.Acks.{acknowledged, another}
+pub use Rattle.wl_any_senders.proofs.Sampled.{is_there}
+pub use Rattle.wl_any_senders.proofs.Nodes.{Passes, Same, fine_counts, drive_by, drive_first, drives, expected_new, happened_by, has_expected, inputs_by, same_at, seen_are, seen_before_same, sees_in}
 pub use Rattle.wl_any_senders.proofs.Plans.{line_of_plan}

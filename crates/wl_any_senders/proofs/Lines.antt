@@ -31,7 +31,7 @@ use Rattle.wl_any_senders.proofs.Machines.{FindNoErrors, LeastWins, SendStuffed,
 use Rattle.wl_any_senders.proofs.Seeing.{right_at}
 use Rattle.wl_any_senders.proofs.Measures.{tick_next}
 
-no_or : (b c : Bool) → c ≡ false → (b || c) ≡ b
+pub no_or : (b c : Bool) → c ≡ false → (b || c) ≡ b
 no_or true c e = refl
 no_or false c e = e
 

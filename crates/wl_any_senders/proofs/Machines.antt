@@ -110,12 +110,12 @@ idle_after s x e d =
     ∙ ap (λ l. (or_next (cond (is_dominant l) (begins happens.Nothing (Framing None) (x.level ∷ [])) (idle_on x.head)).next (stretch_by Idle (s.own ++ x.level ∷ []))).sort) d
 
 -- what is not of a frame
-not_between : (head : Option Content) (own : List Level) → 0 < length own → is_between (stretch_by (Framing head) own) ≡ true → ⊥
+pub not_between : (head : Option Content) (own : List Level) → 0 < length own → is_between (stretch_by (Framing head) own) ≡ true → ⊥
 not_between None own some e = cc
 not_between (Some head) [] some e = absurd (omega arith)
 not_between (Some head) (l ∷ own) some e = cc
 
-no_intermission : (head : Option Content) (role : Role) → Framing head ≡ Intermission role → ⊥
+pub no_intermission : (head : Option Content) (role : Role) → Framing head ≡ Intermission role → ⊥
 no_intermission head role e = cc
 
 same_head : (a b : Option Content) → Framing a ≡ Framing b → a ≡ b
@@ -162,7 +162,7 @@ lost_cases false true Recessive c (inl d) = cc
 lost_cases false true Recessive c (inr r) = ap is_dominant r
 
 -- the level of the bus
-first_any : (n : ℕ) (p : ℕ → Bool) → is_some (first_place p n) ≡ any_below n p
+pub first_any : (n : ℕ) (p : ℕ → Bool) → is_some (first_place p n) ≡ any_below n p
 first_any zero p = refl
 first_any (suc n) p = some_or (first_place p n) (p n) n ∙ ap (λ b. b || p n) (first_any n p)
   where

@@ -94,7 +94,7 @@ fine_same s head own x y e none l fine =
     ap (λ t. is_fine (judged t y).happened) e ∙ sym (fine_by (frame_role head own) head own x y none l) ∙ ap (λ t. is_fine (judged t x).happened) (sym e) ∙ fine
 
 -- what is fine counts nothing
-fine_counts : (h : Happened) → is_fine h ≡ true → counts_after no_counts h ≡ no_counts
+pub fine_counts : (h : Happened) → is_fine h ≡ true → counts_after no_counts h ≡ no_counts
 fine_counts happens.Nothing e = refl
 fine_counts happens.Sent e = refl
 fine_counts happens.Acked e = refl

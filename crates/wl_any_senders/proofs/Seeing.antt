@@ -72,7 +72,7 @@ module _ (steps : StayInStep) (errors : FindNoErrors) (winner : LeastWins) (stuf
       and_from (sends n k) ((bits n).drives k || not (bus n)) (wants_sends steps errors winner stuffed six ten s are room o is length valid n k (omega arith) there dominant)
       (or_left ((bits n).drives k) (not (bus n)) (wants_are n k ∙ dominant))
 
-  on_bus : (n k : ℕ) → k < s.count → wants s o n k ≡ true → bus n ≡ true
+  pub on_bus : (n k : ℕ) → k < s.count → wants s o n k ≡ true → bus n ≡ true
   on_bus n k there dominant = any_from s.count k (bits n).drives there (wants_are n k ∙ dominant)
 
   -- no sender's bit comes before the sample of the one before
@@ -90,7 +90,7 @@ module _ (steps : StayInStep) (errors : FindNoErrors) (winner : LeastWins) (stuf
       (λ i k inside there other some. drifted s (since_edge s bits n) i k ((bits n).place i) ((bits n).place k) (close_at n less i k inside there other some))
       i k inside there sender refl
 
-  from_low : (n k : ℕ) → (bits (suc n)).from k ≤ dues n k
+  pub from_low : (n k : ℕ) → (bits (suc n)).from k ≤ dues n k
   from_low n k = elim (cases_Bool (begins_with_edge s bits (suc n))) [
     | inl edge ↦
         subst (λ b. b.from k ≤ dues n k) (sym (edge_is steps errors winner stuffed six ten s are room o is n edge))
@@ -99,7 +99,7 @@ module _ (steps : StayInStep) (errors : FindNoErrors) (winner : LeastWins) (stuf
   ]
 
   -- a bit's place is early by the jump width at most
-  place_up : (n i : ℕ) → dues n i ≤ (bits (suc n)).place i + (s.lengths i).sjw
+  pub place_up : (n i : ℕ) → dues n i ≤ (bits (suc n)).place i + (s.lengths i).sjw
   place_up n i = elim (cases_Bool (begins_with_edge s bits (suc n))) [
     | inl edge ↦
         subst (λ b. dues n i ≤ b.place i + (s.lengths i).sjw) (sym (edge_is steps errors winner stuffed six ten s are room o is n edge))
@@ -121,10 +121,10 @@ module _ (steps : StayInStep) (errors : FindNoErrors) (winner : LeastWins) (stuf
       ])
 
   -- a recessive bit begins without an edge
-  plain_when : (n : ℕ) → bus (suc n) ≡ false → begins_with_edge s bits (suc n) ≡ false
+  pub plain_when : (n : ℕ) → bus (suc n) ≡ false → begins_with_edge s bits (suc n) ≡ false
   plain_when n e = false_from_ne_true (begins_with_edge s bits (suc n)) (λ x. (let p = (and_parts (not (bus n)) (bus (suc n)) x).1 in cc))
 
-  due_sample : (m n i : ℕ) → i < s.count → m < n → bus n ≡ false → dues m i + sample_at (s.lengths i) ≤ S n i
+  pub due_sample : (m n i : ℕ) → i < s.count → m < n → bus n ≡ false → dues m i + sample_at (s.lengths i) ≤ S n i
   due_sample m zero i inside less e = absurd (omega arith)
   due_sample m (suc n) i inside less e = elim (cases_lt (suc m) (suc n)) [
     | inl more ↦ (let up = place_later m (suc n) i inside more in omega arith)
