@@ -1,0 +1,12 @@
+mod Again
+mod Asked
+mod Below
+mod Ends
+mod Hearing
+mod LineEnds
+mod Next
+mod NodeEnds
+mod Rows
+mod Sampling
+mod Slot
+mod Ticking

@@ -1,0 +1,6 @@
+pub mod Ends
+pub mod Asked
+pub mod Clocks
+pub mod Rests
+pub mod Lines
+pub mod Again
