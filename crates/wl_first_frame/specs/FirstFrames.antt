@@ -50,7 +50,7 @@ pub record HasFirstFrames (plan : Plan) (s : Stations) : Type 0 where
 abbrev pub outset_of : Plan → Stations → Outset
 outset_of plan s = first_outset (waiting_of plan s)
 
--- It has so many bits up to the end of its CRC sequence, stuff bits among them. Up to a tick by which no node has sampled more of them all nodes do what is expected: they sample each bit as
+-- It has so many bits up to the end of its CRC sequence, stuff bits among them. All nodes do what is expected up to a tick by which none has sampled more of them: they sample each bit as
 -- it is on the bus, and find no error. One frame is left (Bosch CAN 2.0 part B, section 3.1, arbitration).
 pub record GoesToItsCrc (plan : Plan) (s : Stations) : Type 0 where
   pub bits : ℕ

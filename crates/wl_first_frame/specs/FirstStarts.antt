@@ -16,7 +16,8 @@ use Rattle.wl_any_senders.specs.Starts.{Start}
 use Rattle.wl_any_senders.specs.Expected.{Outset, found_before, is_reached, most}
 use Rattle.wl_any_senders.specs.Machines.{no_frame_sample}
 
--- Stations on a silent line, from their power-up on: the frames that each may be handed, and the bit, counted from its power-up, with whose sample it decides to send the first of them.
+-- Stations on a silent line from their power-up on, and the frames that each may be handed. Each decides to send the first of them with the sample of one of its bits, which count from its
+-- power-up.
 pub record Waiting : Type 0 where
   pub stations : Stations
   pub frames : ℕ → List Content
@@ -26,8 +27,8 @@ pub record Waiting : Type 0 where
 abbrev pub has_first : Waiting → ℕ → Bool
 has_first w i = nat_lt 0 (length (w.frames i))
 
--- On a silent line a bit takes its quanta, from quantum 0 on. By which quantum it decides to send, and by which one its start of frame is due, a bit after the one with whose sample it has
--- decided (Bosch CAN 2.0 part B, section 3.2.5, bus idle).
+-- The quantum by which it decides, if each bit takes its quanta from quantum 0 on, and that with which its start of frame is due. That is the beginning of the next bit (Bosch CAN 2.0
+-- part B, section 3.2.5, bus idle).
 abbrev pub decision_quantum : Waiting → ℕ → ℕ
 decision_quantum w i = w.decides i * bit_quanta (w.stations.lengths i) + sample_at (w.stations.lengths i)
 
