@@ -1,8 +1,9 @@
 -- The nodes of a line go to the end of a frame as is expected, if all begin it so.
-use Rattle.std.proofs.Common.{◌≡◌, ◌∙◌, inl, inr, refl, sym, ap, ℕ, zero, suc, ◌+◌, ◌-◌, ◌<◌, ◌≤◌, ◌&&◌, not, Bool, false, [], ◌∷◌, ◌++◌, Some, None, arith}
+use Rattle.std.proofs.Common.{◌≡◌, ◌∙◌, ◌⊎◌, inl, inr, refl, sym, ap, ℕ, zero, suc, ◌+◌, ◌-◌, ◌*◌, ◌<◌, ◌≤◌, ◌&&◌, not, Bool, false, [], ◌∷◌, ◌++◌, Some, None, arith}
 use Rattle.std.specs.Prelude.{◌==◌}
 use Rattle.std.proofs.lemmas.Bool.{cases_eq, cases_lt, ne_eqb}
 use Rattle.wl_level.specs.declared.Level.{Level}
+use Rattle.wl_level.specs.declared.Level.TheVariants.{Recessive}
 use Rattle.wl_level.specs.Levels.{is_dominant, level_of}
 use Rattle.wl_confine.specs.Counts.{counts_of}
 use Rattle.wl_sync.specs.Bits.{beat_of}
@@ -12,7 +13,9 @@ use Rattle.wl_machine.specs.Frames.{stuffed_end}
 use Rattle.wl_machine.specs.Judged.{stretch_of}
 use Rattle.wl_node.specs.declared.setup.NodeSetup.{NodeSetup}
 use Rattle.wl_node.specs.History.{History, history_of, seen_next}
-use Rattle.wl_phase.specs.Clocks.{steady_tick}
+use Rattle.wl_phase.specs.Clocks.{instant, steady_tick}
+use Rattle.wl_phase.proofs.Callers.{floor_high, floor_low}
+use Rattle.std.proofs.Math.Nat.{lt_of_mul-lt-mul_left}
 use Rattle.wl_phase.specs.InStep.{seen_before}
 use Rattle.wl_plan.specs.Line.{Line}
 use Rattle.wl_plan.specs.Simulation.{level, seen}
@@ -21,15 +24,18 @@ use Rattle.wl_one_sender.specs.Expected.{IsExpected, levels_found}
 use Rattle.wl_one_sender.specs.Levels.{levels_before}
 use Rattle.wl_any_senders.specs.Stations.{AreStations, HaveRoom, Stations}
 use Rattle.wl_any_senders.specs.Starts.{Start}
+use Rattle.wl_any_senders.specs.Clocked.{BitIs}
+use Rattle.wl_any_senders.specs.Course.{bus_bit}
+use Rattle.wl_sync.specs.declared.Beat.TheVariants.{Plain}
 use Rattle.wl_any_senders.specs.Machines.{HasWon, bus_levels}
 use Rattle.wl_any_senders.specs.Acknowledged.{CatchUp, answering, chased_way}
 use Rattle.wl_any_senders.specs.Expected.{IsOutset, Outset, expected_bits, expected_drove, expected_sample, wants}
 use Rattle.wl_any_senders.specs.Nodes.{GoesToNext, IsInBit, IsRun, clock_sees}
 use Rattle.wl_any_senders.specs.Lines.{BeginsAsExpected, IsBeforeEnd, IsLineOf, finds_expected, node_after}
-use Rattle.wl_any_senders.proofs.Callers.{after_there, driven_at, finds_what_comes, from_all, from_sample, level_back, none_driven, run_of, seen_before_same, tick_next}
+use Rattle.wl_any_senders.proofs.Callers.{after_there, drive_by, driven_at, finds_what_comes, from_all, from_sample, level_back, none_driven, run_of, seen_before_same, tick_next}
 use Rattle.wl_frame_end.specs.Asked.{EndAsAsked}
 use Rattle.wl_frame_end.specs.Rests.{NodeEnds}
-use Rattle.wl_frame_end.specs.Lines.{LineEnds, finds_end}
+use Rattle.wl_frame_end.specs.Lines.{LineEnds, LineRests, finds_end, earliest_of, next_due, rests_until}
 use Rattle.wl_frame_end.proofs.Asked.{as_asked}
 use Rattle.wl_frame_end.proofs.Below.{ClockLaws, MachineLaws}
 use Rattle.wl_frame_end.proofs.Hearing as hearing
@@ -54,6 +60,32 @@ FindLevels = (l : Line) (until : ℕ → ℕ) (drove : ℕ → ℕ → Bool) →
 levels_agree : (a b : ℕ → Level) (k : ℕ) → ((j : ℕ) → suc j ≤ k → a j ≡ b j) → levels_before a k ≡ levels_before b k
 levels_agree a b zero h = refl
 levels_agree a b (suc k) h = ap (λ v. v ++ a k ∷ []) (levels_agree a b k (λ j less. h j (omega arith))) ∙ ap (λ x. levels_before b k ++ x ∷ []) (h k (omega arith))
+
+-- the least of some numbers
+least_own : (n : ℕ) (f : ℕ → ℕ) (own : ℕ) → earliest_of n f own ≤ own
+least_own zero f own = omega arith
+least_own (suc n) f own = (let e = least_own n f own in omega arith)
+
+least_other : (n : ℕ) (f : ℕ → ℕ) (own k : ℕ) → k < n → earliest_of n f own ≤ f k
+least_other zero f own k less = absurd (omega arith)
+least_other (suc n) f own k less = elim (cases_lt k n) [
+  | inl below ↦ (let e = least_other n f own k below in omega arith)
+  | inr last ↦ (let same : n ≡ k = omega arith in let e : f n ≡ f k = ap f same in omega arith)
+]
+
+least_above : (n : ℕ) (f : ℕ → ℕ) (own x : ℕ) → x < own → ((k : ℕ) → k < n → x < f k) → x < earliest_of n f own
+least_above zero f own x first h = first
+least_above (suc n) f own x first h = (let e = least_above n f own x first (λ k less. h k (omega arith)) in let last = h n (omega arith) in omega arith)
+
+least_is : (n : ℕ) (f : ℕ → ℕ) (own : ℕ) → (earliest_of n f own ≡ own) ⊎ ((k : ℕ) × (k < n) × (earliest_of n f own ≡ f k))
+least_is zero f own = inl refl
+least_is (suc n) f own = elim (cases_lt (f n) (earliest_of n f own)) [
+  | inl less ↦ inr (n, omega arith, omega arith)
+  | inr more ↦ elim (least_is n f own) [
+    | inl e ↦ inl (omega arith)
+    | inr x ↦ inr (x.0, (let h = x.1 in omega arith), (let e = x.2 in omega arith))
+  ]
+]
 
 module _ (m : MachineLaws) (clocks : ClockLaws) (goes_on : GoesOn) (l : Line) (setups : ℕ → NodeSetup) (s : Stations) (line : IsLineOf l setups s) (are : AreStations s) (room : HaveRoom s)
     (o : Outset) (is : IsOutset s o) (end : ℕ) (valid : (n : ℕ) → n < end → stuffed_end (bus_levels s (expected_bits s o) n) ≡ None)
@@ -353,5 +385,103 @@ module _ (m : MachineLaws) (clocks : ClockLaws) (goes_on : GoesOn) (l : Line) (s
     drives = driven_is l (λ i. stop) drove line.causal (is_expected stop before);
     node = λ i k ni less. ap (history_of (setups i)) (seen_is l (λ i. stop) drove line.causal (is_expected stop before) i k ni less);
     bits = bit_at;
+    ends = ends_at;
+  }
+
+  -- after the third bit of the intermission a node is silent up to the next one
+  silent_after : (i q : ℕ) → i < s.count → S (end + 12) i < q → levels i q ≡ Recessive
+  silent_after i q inside after =
+      (let up = samples_up (suc (suc end)) (end + 12) i (omega arith) inside in
+      finds i q inside ∙ ap level_of (hearing.silent_then m s are room o is end valid over won chase catch enough i q inside (omega arith)))
+
+  next_bit : (i : ℕ) → i < s.count → BitIs (s.lengths i) (clock_sees (levels i) (node i)) (S (end + 12) i) (next_due s o end i) (next_due s o end i) Recessive
+  next_bit i inside =
+      clocks.edges.silent (s.lengths i) (clock_sees (levels i) (node i)) ((bits (end + 12)).place i) (level_of (bus_bit s bits (end + 12))) (are.line.book i inside)
+      (ends_at i inside).rests.clock.sampled (λ q a b. silent_after i q inside a)
+
+  rest_drive : (i p : ℕ) → i < s.count → suc (S (end + 12) i) + p ≤ next_due s o end i → (node i (suc (S (end + 12) i) + p)).drive ≡ Recessive
+  rest_drive i zero inside less =
+      (let up = samples_up (end + 11) (end + 12) i (omega arith) inside in
+      (ends_at i inside).rests.drive (suc (S (end + 12) i) + 0) (omega arith) (omega arith))
+  rest_drive i (suc p) inside less =
+      (let q : ℕ = suc (S (end + 12) i) + p in
+      let e : suc q ≡ suc (S (end + 12) i) + suc p = omega arith in
+      let plain = (next_bit i inside).starts.others q (omega arith) (omega arith) (λ f. omega (arith, f)) in
+      let beat = ap (λ x. beat_of x (seen_before (clock_sees (levels i) (node i)) q) (clock_sees (levels i) (node i) q)) (segments i inside) ∙ plain in
+      ap (λ k. (node i k).drive) (sym e) ∙ drive_by (setups i) (levels i) (node i) (run_of (setups i) (levels i)) q Plain beat ∙ rest_drive i p inside (omega arith))
+
+  drives_late : (i k t : ℕ) → i < s.count → S (end + 12) i < k → k < next_due s o end i → tick i k ≤ t → drove i t ≡ is_dominant (node i (suc k)).drive
+  drives_late i k t inside after less low =
+      (let one = late_from (end + 12) i inside (omega arith) (omega arith) in
+      let two = sample_from (end + 12) i inside in
+      let three = tick_next s are i inside (from (end + 12) i) k (omega arith) in
+      let four = slot.slot_up m s are room o is end valid over won chase catch enough i inside in
+      let e : suc (S (end + 12) i) + (k - S (end + 12) i) ≡ suc k = omega arith in
+      slot.drove_after m s are room o is end valid over won chase catch enough i t inside (omega arith) (omega arith)
+      ∙ sym (ap is_dominant (ap (λ q. (node i q).drive) (sym e) ∙ rest_drive i (k - S (end + 12) i) inside (omega arith))))
+
+  next_tick : (i n k : ℕ) → i < s.count → n < k → tick i n < tick i k
+  next_tick i n k inside less =
+      let steady = are.line.steady i inside in
+      let slow = steady.not_fast in
+      let low = floor_low (s.clocks i) n in
+      let high = floor_high (s.clocks i) (suc n) steady.divides in
+      let one : instant (s.clocks i) (suc n) ≡ instant (s.clocks i) n + (s.clocks i).num = omega arith in
+      let both : (s.clocks i).den * suc (tick i n) < (s.clocks i).den * suc (tick i (suc n)) = omega arith in
+      let up = lt_of_mul-lt-mul_left (s.clocks i).den both in
+      let rest = tick_next s are i inside (suc n) k less in
+      omega arith
+
+  abbrev until : ℕ → ℕ
+  until = rests_until s o end
+
+  near_by : (i j : ℕ) → i < s.count → j < s.count → until j ≤ until i + s.delay i j
+  near_by i j inside there = elim (least_is s.count (λ k. tick k (next_due s o end k) + s.delay k i) (tick i (next_due s o end i))) [
+    | inl own ↦ (let x = least_other s.count (λ k. tick k (next_due s o end k) + s.delay k j) (tick j (next_due s o end j)) i inside in omega arith)
+    | inr by ↦
+        (let k = by.0 in
+        let lt = by.1 in
+        let e = by.2 in
+        let x = least_other s.count (λ w. tick w (next_due s o end w) + s.delay w j) (tick j (next_due s o end j)) k lt in
+        let detour = are.line.detours k i j lt inside there in
+        omega arith)
+  ]
+
+  expected_until : ((i : ℕ) → i < s.count → until i ≤ l.stop) → IsExpected l until drove
+  expected_until inside_stop = record {
+    near = λ i j ni nj. (let e = line.nodes in
+        let d = line.delays i j ni nj in
+        let x = near_by i j (omega arith) (omega arith) in
+        omega arith);
+    inside = λ i ni. (let e = line.nodes in inside_stop i (omega arith));
+    before = λ i t ni less early. (let e = line.nodes in
+        let inside : i < s.count = omega arith in
+        let first = line.ticks i 0 ni in
+        let up = tick_next s are i inside 0 (from 0 i) (omega arith) in
+        quiet_first i t inside (omega arith));
+    drives = λ i k t ni less low high. (let e = line.nodes in
+        let inside : i < s.count = omega arith in
+        let one = line.ticks i k ni in
+        let two = line.ticks i (suc k) ni in
+        let last = least_own s.count (λ w. tick w (next_due s o end w) + s.delay w i) (tick i (next_due s o end i)) in
+        let few : k < next_due s o end i = elim (cases_lt k (next_due s o end i)) [
+          | inl f ↦ f
+          | inr more ↦ (let up = tick_next s are i inside (next_due s o end i) k more in absurd (omega arith))
+        ] in
+        elim (cases_lt (S (end + 12) i) k) [
+          | inl late ↦ drives_late i k t inside late few (omega arith)
+          | inr early ↦ drives_there i k t inside early (omega arith) (omega arith)
+        ] ∙ sym (line.drives i (levels_before (levels i) (suc k)) ni));
+  }
+
+  pub line_rests : DriveExpected → FindLevels → ((i k : ℕ) → i < s.count → k < s.count → tick i (S (end + 12) i) < tick k (next_due s o end k) + s.delay k i)
+      → ((i : ℕ) → i < s.count → until i ≤ l.stop) → LineRests l setups s o end won.station won.frame
+  line_rests driven_is seen_is early inside_stop = record {
+    drives = driven_is l until drove line.causal (expected_until inside_stop);
+    node = λ i k ni less. ap (history_of (setups i)) (seen_is l until drove line.causal (expected_until inside_stop) i k ni less);
+    in_time = λ i inside.
+        (let low = (are.line.book i inside).lengths.ps2_low in
+        let up = next_tick i (S (end + 12) i) (next_due s o end i) inside (omega arith) in
+        least_above s.count (λ k. tick k (next_due s o end k) + s.delay k i) (tick i (next_due s o end i)) (tick i (S (end + 12) i)) up (λ k there. early i k inside there));
     ends = ends_at;
   }

@@ -1,5 +1,5 @@
 -- Worked ends of frames, by computation.
-use Rattle.std.proofs.Common.{◌≡◌, true, false, [], ◌∷◌, None, Some, refl}
+use Rattle.std.proofs.Common.{◌≡◌, ◌+◌, true, false, [], ◌∷◌, None, Some, refl}
 use Rattle.wl_level.specs.declared.Level.TheVariants.{Dominant, Recessive}
 use Rattle.wl_frame.specs.Grammar.{Content}
 use Rattle.wl_machine.specs.declared.state.Role.TheVariants.{Rx, Tx}
@@ -7,6 +7,7 @@ use Rattle.wl_machine.specs.Stretch.Sort.{Framing, Intermission}
 use Rattle.wl_machine.specs.Stretch.Ended.{NoFrame, Sent}
 use Rattle.wl_machine.specs.States.{stretch_by}
 use Rattle.wl_frame_end.specs.Ends.{end_bit, end_drive, end_frame, end_levels, end_stretch}
+use Rattle.wl_frame_end.specs.Lines.{earliest_of}
 use Rattle.wl_frame_end.specs.Rests.{passing_bit}
 
 -- the CRC delimiter, the ACK slot, the ACK delimiter, and the first bit of the end of frame
@@ -50,3 +51,10 @@ sender_bit = refl
 
 receiver_bit : passing_bit 40 2 1 ≡ 48
 receiver_bit = refl
+
+-- the least of 7, 10 and 11, and of 12, 10 and 11
+least : earliest_of 2 (λ k. 10 + k) 7 ≡ 7
+least = refl
+
+least_other : earliest_of 2 (λ k. 10 + k) 12 ≡ 10
+least_other = refl

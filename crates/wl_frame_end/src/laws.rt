@@ -33,7 +33,7 @@ ghost use Rattle.wl_any_senders.specs.Answers.{HasRoomToAnswer};
 ghost use Rattle.wl_any_senders.specs.Bounds.{IsBusOf, IsLeftForTwo};
 ghost use Rattle.wl_any_senders.specs.Plans.{IsPlanOf};
 ghost use Rattle.wl_frame_end.specs.Again.{HasRoomToRest, RestsAgain, past_end};
-ghost use Rattle.wl_frame_end.specs.Lines.{LineEnds};
+ghost use Rattle.wl_frame_end.specs.Lines.{LineEnds, LineRests, rests_until};
 ghost use Rattle.wl_frame_end.specs.Rests.{NodeEnds, waiting_frame};
 ghost use Rattle.wl_frame_end.specs.Clocks.{SeesEnd};
 ghost use Rattle.wl_frame_end.specs.Asked.{CanBeAnswered, EndAsAsked, EndsBefore};
@@ -198,11 +198,34 @@ pub fn the_next_frame_finds_all_at_rest()
     wl_frame::laws::ten_bits_have_an_edge();
 }
 
+/// Law: so all nodes of a line rest with that room, each up to a tick of its own, before which no next frame reaches it: each has sampled
+/// the third bit of the intermission by then.
+pub fn a_line_rests_after_a_frame()
+    ensures { (l : Line) (setups : ℕ → NodeSetup) (s : Stations) (o : Outset) (end : ℕ) (chase : ℕ → ℕ)
+        → IsLineOf l setups s → AreStations s → HaveRoom s → IsOutset s o → EndsBefore s o end
+        → (won : HasWon s (expected_bits s o) o.frames end) → CanBeAnswered s won.station chase
+        → HasRoomToRest s (chased_way s won.station chase)
+        → ((i : ℕ) → i < s.count → BeginsAsExpected l setups s o end i)
+        → ((i : ℕ) → i < s.count → rests_until s o end i ≤ l.stop) → LineRests l setups s o end won.station won.frame }
+{
+    the_next_frame_finds_all_at_rest();
+    wl_one_sender::laws::what_is_expected_is_driven();
+    wl_topology::driven_laws();
+    wl_any_senders::laws::a_node_goes_as_expected();
+    wl_any_senders::laws::a_station_begins_its_bits();
+    wl_any_senders::laws::no_edge_counts_then();
+    wl_wire::laws::machines_stay_in_step();
+    wl_wire::laws::the_least_field_wins();
+    wl_machine::laws::a_transmitter_sends_its_head_stuffed();
+    wl_frame::laws::a_front_of_no_stuffing_ends_six_equal_bits();
+    wl_frame::laws::ten_bits_have_an_edge();
+}
+
 /// Law: so it is with each checked plan of one rate a clock, by the rules of the book, without disturbances and nodes that only listen. Let
 /// its bus meet the condition for margins and have room for acknowledgements. Each of its nodes rests before a frame that some begin. Then
-/// one of them has won, its frame is acknowledged and received by all others, and all rest afterwards.
+/// one of them has won, and its frame is acknowledged and received by all others. With room for twelve bits' drift all rest afterwards.
 pub fn a_plan_goes_to_the_end()
-    ensures { (plan : Plan) (s : Stations) (bus : Bus) (o : Outset) (rest chase : ℕ → ℕ) (end stop : ℕ)
+    ensures ends { (plan : Plan) (s : Stations) (bus : Bus) (o : Outset) (rest chase : ℕ → ℕ) (end stop : ℕ)
         → IsPlanOf plan s → plan.disturbances ≡ [] → IsBusOf bus s → IsLeftForTwo bus s → IsSound bus
         → HasRoomToAnswer bus chase → IsOutset s o → EndsBefore s o end
         → ((i : ℕ) → i < s.count → BeginsAfter s o i (rest i))
@@ -211,6 +234,17 @@ pub fn a_plan_goes_to_the_end()
         → IsBeforeEnd (line_of plan) s o (end + 13) stop
         → (won : HasWon s (expected_bits s o) o.frames end)
         × LineEnds (line_of plan) (setup_at plan) s o end won.station won.frame stop }
+    ensures rests { (plan : Plan) (s : Stations) (bus : Bus) (o : Outset) (rest chase : ℕ → ℕ) (end : ℕ)
+        → IsPlanOf plan s → plan.disturbances ≡ [] → IsBusOf bus s → IsLeftForTwo bus s → IsSound bus
+        → HasRoomToAnswer bus chase
+        → ((w : ℕ) → w < s.count → s.may_send w ≡ true → HasRoomToRest s (chased_way s w chase))
+        → IsOutset s o → EndsBefore s o end
+        → ((i : ℕ) → i < s.count → BeginsAfter s o i (rest i))
+        → ((i : ℕ) → i < s.count → RestsBefore s o i (finds_expected (line_of plan) s o end i)
+        (node_after (setup_at plan i) (finds_expected (line_of plan) s o end i)) (rest i))
+        → ((i : ℕ) → i < s.count → rests_until s o end i ≤ (line_of plan).stop)
+        → (won : HasWon s (expected_bits s o) o.frames end)
+        × LineRests (line_of plan) (setup_at plan) s o end won.station won.frame }
 {
     wl_plan::checked_is_sound();
     wl_any_senders::laws::a_plan_is_on_a_line();
@@ -219,6 +253,7 @@ pub fn a_plan_goes_to_the_end()
     wl_any_senders::laws::a_plan_does_what_is_expected();
     wl_any_senders::ack::a_bus_has_room_to_answer();
     a_line_goes_to_the_end();
+    a_line_rests_after_a_frame();
     wl_topology::driven_laws();
     wl_wire::laws::machines_stay_in_step();
     wl_wire::laws::the_least_field_wins();
