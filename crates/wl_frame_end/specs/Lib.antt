@@ -4,3 +4,4 @@ pub mod Clocks
 pub mod Rests
 pub mod Lines
 pub mod Again
+pub mod First

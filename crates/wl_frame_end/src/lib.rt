@@ -5,4 +5,5 @@
 //! synchronisation).
 #![tactic(auto)]
 
+pub mod first;
 pub mod laws;

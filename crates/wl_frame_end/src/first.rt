@@ -1,0 +1,33 @@
+//! The law of the first frame of a plan, proved as the contract of a function that does nothing.
+
+ghost use Rattle.std.specs.Prelude.{◌≡◌, ℕ, []};
+ghost use Rattle.wl_plan.specs.declared.plan.Plan.{Plan};
+ghost use Rattle.wl_bound.specs.Conditions.{IsSound};
+ghost use Rattle.wl_bound.specs.Families.{Bus};
+ghost use Rattle.wl_any_senders.specs.Answers.{HasRoomToAnswer};
+ghost use Rattle.wl_any_senders.specs.Bounds.{IsBusOf, IsLeftForTwo};
+ghost use Rattle.wl_any_senders.specs.Plans.{IsPlanOf};
+ghost use Rattle.wl_any_senders.specs.Stations.{Stations};
+ghost use Rattle.wl_first_frame.specs.FirstFrames.{HasFirstFrames};
+ghost use Rattle.wl_frame_end.specs.First.{FirstGetsThrough};
+
+use crate::laws::a_plan_goes_to_the_end;
+
+/// Law: the first frame on the bus of each such plan gets through, whoever begins it, from the power-up of all nodes on. The plan is checked,
+/// with one rate a clock, by the book, without disturbances and nodes that only listen. Its bus meets the condition for margins and has room
+/// for acknowledgements. Some nodes have frames, and each has sampled eleven bits before another one's start of frame reaches it. Then the
+/// least of the frames that are begun is sent and received by all others, nobody finds an error, and all rest afterwards.
+pub fn the_first_frame_gets_through()
+    ensures { (plan : Plan) (s : Stations) (bus : Bus) (chase : ℕ → ℕ) → IsPlanOf plan s → plan.disturbances ≡ []
+        → IsBusOf bus s → IsLeftForTwo bus s → IsSound bus → HasRoomToAnswer bus chase → HasFirstFrames plan s
+        → FirstGetsThrough plan s }
+{
+    wl_plan::checked_is_sound();
+    wl_any_senders::laws::a_plan_is_on_a_line();
+    wl_any_senders::laws::a_sound_bus_has_room();
+    wl_any_senders::ending::the_stuffed_part_ends();
+    wl_first_frame::laws::idle_stations_begin_a_first_frame();
+    wl_first_frame::laws::nodes_rest_before_a_first_frame();
+    wl_first_frame::laws::a_plan_has_a_first_frame();
+    a_plan_goes_to_the_end();
+}
