@@ -9,7 +9,7 @@ use std::alloc::{AllocError, Global};
 use wl_device::{Sink, Source, write_all};
 use wl_plan::CheckedPlan;
 use wl_serial::run_serial;
-use wl_setup::{Names, read_checked, read_plan};
+use wl_setup::{Names, read_checked};
 use wl_views::{Tick, candump, sent_in_time, trace, vcd};
 
 /// Returns the log of the frames that a plan's simulation sent.
@@ -55,7 +55,7 @@ pub fn vcd_run<R: Source, W: Sink>(
 ) -> Result<(), RunFault>
     ensures { RunsPlan R.gives W.takes (IsVcdOutput tick) reader.old reader.new writer.old writer.new result }
 {
-    let (plan, names) = read_plan(alloc, reader)?;
+    let (plan, names) = read_checked(alloc, reader)?;
     let outcome = run_serial(alloc, &plan)?;
     vcd(alloc, tick, &plan, &names, &outcome, writer)?;
     Ok(())

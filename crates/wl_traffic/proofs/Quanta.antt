@@ -1,8 +1,7 @@
--- The nodes of an outcome, and the quanta that clocks know of them.
-use Rattle.std.proofs.Common.{◌≡◌, ◌∙◌, sym, ap, subst, arith, ℕ, suc, ◌+◌, ◌^◌, ◌<◌, ◌≤◌, List, [], ◌∷◌, length, fold, zero-add, add-zero, get_or}
+-- The quanta that clocks know of the nodes of an outcome.
+use Rattle.std.proofs.Common.{◌≡◌, sym, subst, arith, ℕ, suc, ◌+◌, ◌^◌, ◌<◌, ◌≤◌, List, [], ◌∷◌, length, fold, zero-add, add-zero, get_or}
 use Rattle.std.specs.List.{All}
 use Rattle.std.proofs.lemmas.List.Elements.{All-append, All-cons, All-nil}
-use Rattle.std.proofs.lemmas.List.FromFn.{get_or-map-range_with_len, length-map-range_with_len}
 use Rattle.wl_level.specs.declared.Level.{Level}
 use Rattle.wl_sync.specs.declared.Beat.{Beat}
 use Rattle.wl_sync.specs.declared.Beat.TheVariants as beats
@@ -12,25 +11,17 @@ use Rattle.wl_node.specs.declared.setup.NodeSetup.{NodeSetup}
 use Rattle.wl_node.specs.History.{History, history_of, history_after, no_history, by_beat, seen_next}
 use Rattle.wl_plan.specs.declared.plan.Plan.{Plan}
 use Rattle.wl_plan.specs.PlanLine.{line_of, setup_at}
-use Rattle.wl_plan.specs.Limits.{most_quanta, most_quanta-is}
+use Rattle.wl_plan.specs.Limits.{most_quanta}
 use Rattle.wl_plan.specs.Simulation.{history, ran}
 use Rattle.wl_plan.specs.SimulationLaws.{SimulationLaws}
 use Rattle.wl_plan.specs.Checked.{IsChecked}
 use Rattle.wl_plan.specs.Sound.{IsSound}
 use Rattle.wl_serial.specs.declared.outcome.NodeOutcome.{NodeOutcome}
-use Rattle.wl_serial.specs.declared.outcome.Outcome.{Outcome}
 use Rattle.wl_serial.specs.Outcome.{node_outcome_of, outcome_of}
 use Rattle.wl_trace.proofs.Callers.{one_more}
 use Rattle.wl_views.specs.Sent.{SentInTime}
+use Rattle.wl_views.proofs.Callers.{few, node_is, nodes_all, within}
 use Rattle.wl_traffic.specs.Known.{AreKnown}
-
-pub node_is : (plan : Plan) (outcome : Outcome) (i : ℕ) (d : NodeOutcome) → outcome ≡ outcome_of plan → i < length plan.nodes
-    → get_or outcome.nodes i d ≡ node_outcome_of plan i
-node_is plan outcome i d is b =
-    ap (λ (o : Outcome). get_or o.nodes i d) is ∙ get_or-map-range_with_len (node_outcome_of plan) 0 (length plan.nodes) i i d b (zero-add i)
-
-pub nodes_all : (plan : Plan) (outcome : Outcome) → outcome ≡ outcome_of plan → length outcome.nodes ≡ length plan.nodes
-nodes_all plan outcome is = ap (λ (o : Outcome). length o.nodes) is ∙ length-map-range_with_len (node_outcome_of plan) 0 (length plan.nodes)
 
 -- each of these samples was before quantum n
 abbrev Before : ℕ → List (ℕ × Level) → Type 0
@@ -67,12 +58,6 @@ module _ (setup : NodeSetup) where
   samples_before levels =
       subst (λ n. Before n (fold (history_after setup) no_history levels).samples) (zero-add (length levels))
       (fold_before levels no_history (All-nil (λ s. s.0 < 0)))
-
-few : most_quanta ≤ 2 ^ 21
-few = omega (arith, most_quanta-is)
-
-within : (q : ℕ) {m n : ℕ} → q < m → m ≤ n → q ≤ n
-within q {m} {n} h g = omega arith
 
 module _ (plan : Plan) (checked : IsChecked plan) (sound : IsSound (line_of plan)) (laws : SimulationLaws) (in_time : SentInTime) (i : ℕ) (b : i < length plan.nodes) where
   samples_ran : Before (ran (line_of plan) i plan.end) (node_outcome_of plan i).samples

@@ -5,6 +5,7 @@ use Rattle.std.proofs.lemmas.List.{get_or_default, replicate_more}
 use Rattle.wl_level.specs.declared.Level.{Level}
 use Rattle.wl_level.specs.Levels.{level_of}
 use Rattle.wl_clock.specs.Timing.{tick_of}
+use Rattle.wl_record_core.specs.Limits.{tick_end, tick_end-is}
 use Rattle.wl_node.specs.declared.setup.NodeSetup.{NodeSetup}
 use Rattle.wl_plan.specs.declared.plan.Plan.{Plan}
 use Rattle.wl_plan.specs.Limits.{latest_end}
@@ -12,12 +13,11 @@ use Rattle.wl_plan.specs.Line.{found}
 use Rattle.wl_plan.specs.PlanLine.{line_of, no_setup, setup_at}
 use Rattle.wl_plan.specs.Simulation.{AreInside, level, ran, seen}
 use Rattle.wl_plan.specs.SimulationLaws.{SimulationLaws}
-use Rattle.wl_plan.specs.Checked.{IsChecked, CheckedIsSound}
+use Rattle.wl_plan.specs.Sound.{IsSound}
 use Rattle.wl_trace.specs.Shown.{shown_of}
 use Rattle.wl_serial.specs.declared.pulse.Pulse.{Pulse}
 use Rattle.wl_views.specs.Held.{Lasts, next_of, no_tick}
 use Rattle.wl_views.specs.Signals.{shown_then}
-use Rattle.wl_views.proofs.InTime.{sound}
 use Rattle.wl_views.proofs.Seeing.{few_more, later, seen_more}
 
 snoc : {A : Type 0} (xs : List A) (x : A) (n : ℕ) → xs ++ replicate (n + 1) x ≡ (xs ++ replicate n x) ++ x ∷ []
@@ -27,7 +27,7 @@ snoc xs x n = ap (λ more. xs ++ more) (sym (replicate_more n x)) ∙ sym (appen
 pub setup_is : (plan : Plan) (nodes : List NodeSetup) (i : ℕ) (d : NodeSetup) → nodes ≡ plan.nodes → i < length plan.nodes → get_or nodes i d ≡ setup_at plan i
 setup_is plan nodes i d are b = ap (λ (xs : List NodeSetup). get_or xs i d) are ∙ get_or_default plan.nodes i d no_setup b
 
-module _ (sounds : CheckedIsSound) (laws : SimulationLaws) (plan : Plan) (checked : IsChecked plan) (i : ℕ) (b : i < length plan.nodes) where
+module _ (laws : SimulationLaws) (plan : Plan) (sound : IsSound (line_of plan)) (i : ℕ) (b : i < length plan.nodes) where
   abbrev at : ℕ → ℕ
   at q = tick_of (setup_at plan i).clock q
 
@@ -54,13 +54,13 @@ module _ (sounds : CheckedIsSound) (laws : SimulationLaws) (plan : Plan) (checke
   next_after k t early is = elim (cases_lt (at (k + 1)) plan.end) [
     | inl inside ↦
         (let e : next (k + 1) ≡ at (k + 1) = ap (λ (c : Bool). cond c (at (k + 1)) no_tick) (lt-ltb (at (k + 1)) plan.end inside) in
-        let m = later sounds laws plan checked i b k in omega arith)
+        let m = later laws plan sound i b k in omega arith)
     | inr outside ↦
         (let e : next (k + 1) ≡ no_tick = ap (λ (c : Bool). cond c (at (k + 1)) no_tick) (le-ltb (at (k + 1)) plan.end outside) in omega arith)
   ]
 
   pub clock_later : (q m : ℕ) → q ≤ m → at q ≤ at m
-  clock_later q m less = laws.clock_later (line_of plan) i q m (sound sounds laws plan checked).causal b less
+  clock_later q m less = laws.clock_later (line_of plan) i q m sound.causal b less
 
   -- and none up to a tick stays none after more quanta
   pub next_on : (k n t : ℕ) → t ≤ latest_end → t < next k → t < next (k + n)
@@ -78,17 +78,17 @@ module _ (sounds : CheckedIsSound) (laws : SimulationLaws) (plan : Plan) (checke
   begun_earlier q k less inside = elim (cases_lt (at k) plan.end) [
     | inl early ↦
         (let e : next k ≡ at k = ap (λ (c : Bool). cond c (at k) no_tick) (lt-ltb (at k) plan.end early) in
-        let m = later sounds laws plan checked i b q in
+        let m = later laws plan sound i b q in
         let n = clock_later (q + 1) k (omega arith) in omega arith)
     | inr outside ↦
         (let e : next k ≡ no_tick = ap (λ (c : Bool). cond c (at k) no_tick) (le-ltb (at k) plan.end outside) in
-        let ends = checked.ends in omega arith)
+        let ends = sound.end_fits in omega (arith, tick_end-is))
   ]
 
   -- few quanta begin before the end
   pub few_inside : (k : ℕ) → AreInside (line_of plan) i k → k ≤ 2 ^ 21
   few_inside zero inside = omega arith
-  few_inside (suc k) inside = let m = few_more sounds laws plan checked i b k (inside k (omega arith)) in omega arith
+  few_inside (suc k) inside = let m = few_more laws plan sound i b k (inside k (omega arith)) in omega arith
 
   -- as many have run up to a tick as began up to it
   run_at_least : (k u : ℕ) → AreInside (line_of plan) i k → ((q : ℕ) → q < k → at q ≤ u) → k ≤ ran (line_of plan) i (suc u)
@@ -97,7 +97,7 @@ module _ (sounds : CheckedIsSound) (laws : SimulationLaws) (plan : Plan) (checke
         absurd (let r = ran (line_of plan) i (suc u) in
         let p = begun r less in
         let q = inside r less in
-        elim (laws.ran_all (line_of plan) i (suc u) (sound sounds laws plan checked).causal b) [
+        elim (laws.ran_all (line_of plan) i (suc u) sound.causal b) [
           | inl past ↦ omega arith
           | inr past ↦ omega arith
         ])
@@ -107,7 +107,7 @@ module _ (sounds : CheckedIsSound) (laws : SimulationLaws) (plan : Plan) (checke
   run_at_most : (k u : ℕ) → u < next k → ran (line_of plan) i (suc u) ≤ k
   run_at_most k u less = elim (cases_lt k (ran (line_of plan) i (suc u))) [
     | inl more ↦
-        absurd (let causal = (sound sounds laws plan checked).causal in
+        absurd (let causal = sound.causal in
         let begun = laws.ran_before (line_of plan) i (suc u) k causal b more in
         let inside = laws.ran_inside (line_of plan) i (suc u) causal b k more in
         let m = before_next k u less inside in omega arith)
@@ -115,7 +115,7 @@ module _ (sounds : CheckedIsSound) (laws : SimulationLaws) (plan : Plan) (checke
   ]
 
   shown_ran : (u : ℕ) → shown_then plan i u ≡ shown_of (setup_at plan i) (seen (line_of plan) i (ran (line_of plan) i (suc u)))
-  shown_ran u = ap (shown_of (setup_at plan i)) (laws.history_seen (line_of plan) i (suc u) (sound sounds laws plan checked).causal b)
+  shown_ran u = ap (shown_of (setup_at plan i)) (laws.history_seen (line_of plan) i (suc u) sound.causal b)
 
   -- on a line that stays all quanta see the same
   module _ (t : ℕ) (held : Pulse) (line : Lasts (found (line_of plan) (level (line_of plan)) i) t held) (k : ℕ) where
@@ -126,7 +126,7 @@ module _ (sounds : CheckedIsSound) (laws : SimulationLaws) (plan : Plan) (checke
         let here = during (k + n) (omega arith) (omega arith) in
         let l : Level = level_of held.dominant in
         ap (seen (line_of plan) i) {x = k + suc n} {y = (k + n) + 1} (omega arith)
-        ∙ seen_more sounds laws plan checked i b (k + n)
+        ∙ seen_more laws plan sound i b (k + n)
         ∙ ap (λ (d : Bool). seen (line_of plan) i (k + n) ++ level_of d ∷ []) (line.same (at (k + n)) here.0 here.1)
         ∙ ap (λ (ls : List Level). ls ++ l ∷ []) (same_seen n (λ q from below. during q from (omega arith)))
         ∙ sym (snoc (seen (line_of plan) i k) l n)

@@ -21,7 +21,6 @@ use Rattle.wl_plan.specs.PlanLine.{line_of, setup_at}
 use Rattle.wl_plan.specs.Limits.{most_quanta, most_quanta-is}
 use Rattle.wl_plan.specs.Simulation.{history, ran}
 use Rattle.wl_plan.specs.SimulationLaws.{SimulationLaws}
-use Rattle.wl_plan.specs.Checked.{IsChecked, CheckedIsSound}
 use Rattle.wl_plan.specs.Sound.{IsSound}
 use Rattle.wl_serial.specs.declared.outcome.NodeOutcome.{NodeOutcome}
 use Rattle.wl_serial.specs.Outcome.{node_outcome_of, outcome_of}
@@ -83,10 +82,7 @@ few = omega (arith, most_quanta-is)
 pub within : (q : ℕ) {m n : ℕ} → q < m → m ≤ n → q ≤ n
 within q {m} {n} h g = omega arith
 
-module _ (sounds : CheckedIsSound) (laws : SimulationLaws) (plan : Plan) (checked : IsChecked plan) where
-  pub sound : IsSound (line_of plan)
-  sound = sounds plan checked
-
+module _ (laws : SimulationLaws) (plan : Plan) (sound : IsSound (line_of plan)) where
   -- a quantum that a node has run at the end began below it
   pub inside : (i q : ℕ) → i < length plan.nodes → q < ran (line_of plan) i plan.end → tick_of (setup_at plan i).clock q < plan.end
   inside i q b h = laws.ran_inside (line_of plan) i plan.end sound.causal b q h

@@ -1,3 +1,4 @@
+pub mod Callers
 mod InTime
 mod Lists
 mod Pieces

@@ -8,10 +8,10 @@ use Rattle.wl_plan.specs.Line.{found}
 use Rattle.wl_plan.specs.PlanLine.{line_of, setup_at}
 use Rattle.wl_plan.specs.Simulation.{AreInside, history, level, seen}
 use Rattle.wl_plan.specs.SimulationLaws.{SimulationLaws}
-use Rattle.wl_plan.specs.Checked.{IsChecked, CheckedIsSound}
-use Rattle.wl_views.proofs.InTime.{few, sound}
+use Rattle.wl_plan.specs.Sound.{IsSound}
+use Rattle.wl_views.proofs.InTime.{few}
 
-module _ (sounds : CheckedIsSound) (laws : SimulationLaws) (plan : Plan) (checked : IsChecked plan) (j : ℕ) (b : j < length plan.nodes) where
+module _ (laws : SimulationLaws) (plan : Plan) (sound : IsSound (line_of plan)) (j : ℕ) (b : j < length plan.nodes) where
   abbrev at_quantum : ℕ → ℕ
   at_quantum k = tick_of (setup_at plan j).clock k
 
@@ -27,11 +27,11 @@ module _ (sounds : CheckedIsSound) (laws : SimulationLaws) (plan : Plan) (checke
 
   pub all_seen : (k : ℕ) → AreInside (line_of plan) j k → plan.end ≤ at_quantum k → seen (line_of plan) j k ≡ (history (line_of plan) plan.end).seen j
   all_seen k h past =
-      sym (laws.history_seen (line_of plan) j plan.end (sound sounds laws plan checked).causal b
-      ∙ ap (seen (line_of plan) j) (laws.ran_at_end (line_of plan) j k (sound sounds laws plan checked).causal b h past))
+      sym (laws.history_seen (line_of plan) j plan.end sound.causal b
+      ∙ ap (seen (line_of plan) j) (laws.ran_at_end (line_of plan) j k sound.causal b h past))
 
   pub few_more : (k : ℕ) → at_quantum k < plan.end → k + 1 ≤ 2 ^ 21
-  few_more k below = let less = (sound sounds laws plan checked).few_quanta j k b below in let all = few in omega arith
+  few_more k below = let less = sound.few_quanta j k b below in let all = few in omega arith
 
   pub later : (k : ℕ) → at_quantum k < at_quantum (k + 1)
-  later k = subst (λ n. at_quantum k < at_quantum n) (sym (add-one k)) ((sound sounds laws plan checked).causal.clocks j k b)
+  later k = subst (λ n. at_quantum k < at_quantum n) (sym (add-one k)) (sound.causal.clocks j k b)

@@ -18,8 +18,6 @@ use Rattle.wl_views.specs.Signals.{shown_then}
 use Rattle.wl_level.specs.declared.Level.{Level}
 use Rattle.wl_level.specs.Levels.{is_dominant}
 use Rattle.wl_node.specs.History.{history_of}
-use Rattle.wl_plan.specs.Checked.{IsChecked, CheckedIsSound}
-use Rattle.wl_views.proofs.InTime.{sound}
 use Rattle.wl_views.proofs.Turns.{holds_as}
 
 pub node_is : (plan : Plan) (outcome : Outcome) (i : ℕ) (d : NodeOutcome) → outcome ≡ outcome_of plan → i < length plan.nodes
@@ -45,9 +43,8 @@ module _ (laws : SimulationLaws) (plan : Plan) (sound : IsSound (line_of plan)) 
       (λ u. ap₂ (λ d xs. drove xs d u) is are ∙ came (delay_of plan.topology i j) u) h
 
 -- what a node drives at a tick, by what it has seen up to it
-pub driven_then : CheckedIsSound → SimulationLaws → (plan : Plan) → IsChecked plan → (i : ℕ) → i < length plan.nodes → (t : ℕ)
+pub driven_then : SimulationLaws → (plan : Plan) → IsSound (line_of plan) → (i : ℕ) → i < length plan.nodes → (t : ℕ)
     → level (line_of plan) i t ≡ is_dominant (shown_then plan i t).drive
-driven_then sounds laws plan checked i b t =
-    let causal = (sound sounds laws plan checked).causal in
-    laws.level_is (line_of plan) i t causal b
-    ∙ ap (λ (ls : List Level). is_dominant (history_of (setup_at plan i) ls).drive) (sym (laws.history_seen (line_of plan) i (suc t) causal b))
+driven_then laws plan sound i b t =
+    laws.level_is (line_of plan) i t sound.causal b
+    ∙ ap (λ (ls : List Level). is_dominant (history_of (setup_at plan i) ls).drive) (sym (laws.history_seen (line_of plan) i (suc t) sound.causal b))

@@ -9,12 +9,12 @@ use Rattle.wl_plan.specs.PlanLine.{line_of, setup_at}
 use Rattle.wl_plan.specs.Limits.{most_quanta}
 use Rattle.wl_plan.specs.Simulation.{history}
 use Rattle.wl_plan.specs.SimulationLaws.{SimulationLaws}
-use Rattle.wl_plan.specs.Checked.{IsChecked, CheckedIsSound}
+use Rattle.wl_plan.specs.Sound.{IsSound}
 use Rattle.wl_trace.specs.declared.event.Noted.{Noted}
 use Rattle.wl_trace.specs.Laws.{TraceLaws}
 use Rattle.wl_views.specs.Trace.{all_told, events_at_end, syncs_at_end, told_at_end, told_by}
 use Rattle.wl_level.proofs.Callers.{range_more}
-use Rattle.wl_views.proofs.InTime.{few, inside, sound, within}
+use Rattle.wl_views.proofs.InTime.{few, inside, within}
 
 -- of each number
 all_numbers : {A : Type 0} (P : A → Type 0) (f : ℕ → List A) (a n : ℕ) → ((i : ℕ) → i < a + n → All P (f i)) → All P (flat_map f (range_with_len a n))
@@ -28,18 +28,18 @@ told_more plan i =
     ∙ flat_map-append (told_at_end plan) (range_with_len 0 i) (i ∷ [])
     ∙ ap (λ zs. flat_map (told_at_end plan) (range_with_len 0 i) ++ zs) (append-nil (told_at_end plan i))
 
-module _ (sounds : CheckedIsSound) (laws : SimulationLaws) (tells : TraceLaws) (plan : Plan) (checked : IsChecked plan) where
+module _ (laws : SimulationLaws) (tells : TraceLaws) (plan : Plan) (sound : IsSound (line_of plan)) where
   -- quanta that have run, of node i
   abbrev Ran : (i : ℕ) (es : List Noted) → Type 0
   Ran i es = All (λ n. n.quantum < length ((history (line_of plan) plan.end).seen i)) es
 
   below : (i : ℕ) (es : List Noted) → i < length plan.nodes → Ran i es → All (λ n. tick_of (setup_at plan i).clock n.quantum < plan.end) es
-  below i es b h = λ k d c. inside sounds laws plan checked i (get_or es k d).quantum b (h k d c)
+  below i es b h = λ k d c. inside laws plan sound i (get_or es k d).quantum b (h k d c)
 
   known : (i : ℕ) (es : List Noted) → i < length plan.nodes → Ran i es → All (λ n. n.quantum ≤ 2 ^ 21) es
   known i es b h = λ k d c.
       let q = (get_or es k d).quantum in
-      let less : q < most_quanta = (sound sounds laws plan checked).few_quanta i q b (below i es b h k d c) in
+      let less : q < most_quanta = sound.few_quanta i q b (below i es b h k d c) in
       within q less few
 
   syncs_ran : (i : ℕ) → Ran i (syncs_at_end plan i)

@@ -9,9 +9,9 @@ use Rattle.wl_level.specs.Levels.{is_dominant}
 use Rattle.wl_confine.specs.declared.Mode.TheVariants.{Active}
 use Rattle.wl_machine.specs.declared.doing.Doing.TheVariants.{Integrating}
 use Rattle.wl_plan.specs.declared.plan.Plan.{Plan}
-use Rattle.wl_plan.specs.PlanLine.{setup_at}
+use Rattle.wl_plan.specs.PlanLine.{line_of, setup_at}
 use Rattle.wl_plan.specs.SimulationLaws.{SimulationLaws}
-use Rattle.wl_plan.specs.Checked.{IsChecked, CheckedIsSound}
+use Rattle.wl_plan.specs.Sound.{IsSound}
 use Rattle.wl_trace.specs.declared.shown.Shown.{Shown}
 use Rattle.wl_serial.specs.declared.pulse.Pulse.{Pulse}
 use Rattle.wl_views.specs.declared.signals.NodeSignals.{NodeSignals}
@@ -61,7 +61,7 @@ on plan i t u w h from below = record {
   same = λ v more less. h.same v (omega arith) less;
 }
 
-module _ (sounds : CheckedIsSound) (laws : SimulationLaws) (plan : Plan) (checked : IsChecked plan) (i : ℕ) (b : i < length plan.nodes) where
+module _ (laws : SimulationLaws) (plan : Plan) (sound : IsSound (line_of plan)) (i : ℕ) (b : i < length plan.nodes) where
   pub stays : (t u : ℕ) (w : Watched) → Watches plan i t w → t ≤ u → u < w.until
       → node_signals plan u i ≡ signals_by w.shown w.line.cable.dominant w.line.disturbance.dominant
   unfolding node_signals
@@ -69,7 +69,7 @@ module _ (sounds : CheckedIsSound) (laws : SimulationLaws) (plan : Plan) (checke
       let same : shown_then plan i u ≡ w.shown = h.same u from below in
       let e = h.until in
       λ x. record {
-        tx = ap not (driven_then sounds laws plan checked i b u ∙ ap (λ (s : Shown). is_dominant s.drive) same) x;
+        tx = ap not (driven_then laws plan sound i b u ∙ ap (λ (s : Shown). is_dominant s.drive) same) x;
         rx = ap₂ (λ d e. not (d || e)) (h.hears.cable.same u from (omega arith)) (h.hears.disturbance.same u from (omega arith)) x;
         cable = ap not (h.hears.cable.same u from (omega arith)) x;
         disturbance = h.hears.disturbance.same u from (omega arith) x;
@@ -93,7 +93,7 @@ module _ (sounds : CheckedIsSound) (laws : SimulationLaws) (plan : Plan) (checke
     | inl run_out ↦ (let m = h.before k less in omega arith)
     | inr stays ↦
         (let e : w.next ≡ t = (let q = h.later in let m = h.until in omega arith) in
-        let m = begun_earlier sounds laws plan checked i b k w.quanta less (h.runs.inside k less) in
+        let m = begun_earlier laws plan sound i b k w.quanta less (h.runs.inside k less) in
         let n = h.next in omega arith)
   ]
 

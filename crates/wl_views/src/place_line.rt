@@ -1,7 +1,6 @@
 //! What is known of the line at a node's place from a tick on.
 ghost use Rattle.std.specs.Prelude.{◌≡◌, ◌||◌, ◌≤◌, ◌<◌, ℕ, length};
 ghost use Rattle.wl_plan.specs.declared.plan.Plan.{Plan};
-ghost use Rattle.wl_plan.specs.Checked.{IsChecked};
 ghost use Rattle.wl_plan.specs.Limits.{latest_end};
 ghost use Rattle.wl_plan.specs.Line.{found};
 ghost use Rattle.wl_plan.specs.PlanLine.{line_of};
@@ -11,7 +10,7 @@ ghost use Rattle.wl_views.specs.Held.{Hears, Lasts, Remembers, heard_until};
 
 use crate::held::either;
 use crate::signals::driven;
-use wl_plan::Plan;
+use wl_plan::CheckedPlan;
 use wl_serial::{Outcome, Pulse, disturbed_at};
 use wl_topology::MOST_NODES;
 
@@ -47,8 +46,7 @@ impl PlaceLine {
     }
 
     /// Asks again for cable and disturbances at node `i` if what was known of them has run out at tick `t`.
-    pub(crate) fn hear(&mut self, plan: &Plan, outcome: &Outcome, i: usize, t: u64)
-        requires checked { IsChecked plan.now }
+    pub(crate) fn hear(&mut self, plan: &CheckedPlan, outcome: &Outcome, i: usize, t: u64)
         requires outcome { outcome.now ≡ outcome_of plan.now }
         requires node { i < length plan.now.nodes }
         requires early { t ≤ latest_end }

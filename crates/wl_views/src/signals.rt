@@ -4,7 +4,6 @@ ghost use Rattle.arrayvec.specs.ArrayVec.{array_vec_len};
 ghost use Rattle.wl_topology.specs.Limits.{never};
 ghost use Rattle.wl_topology.specs.Delays.{delay_of};
 ghost use Rattle.wl_topology.specs.Driven.{driven};
-ghost use Rattle.wl_plan.specs.Checked.{IsChecked};
 ghost use Rattle.wl_plan.specs.Limits.{latest_end};
 ghost use Rattle.wl_plan.specs.Line.{found};
 ghost use Rattle.wl_plan.specs.PlanLine.{disturbed, is_at, line_of};
@@ -19,7 +18,7 @@ use crate::held::either;
 use crate::lines::{Lines, push_node_changes};
 use crate::watched::Watched;
 use std::alloc::{AllocError, Global};
-use wl_plan::Plan;
+use wl_plan::CheckedPlan;
 use wl_serial::{Outcome, Pulse, pulse_of};
 use wl_topology::MOST_NODES;
 use wl_trace::NodeState;
@@ -45,7 +44,7 @@ pub struct NodeSignals {
 
 /// Asks again whether the drive of node `i` is dominant as it arrives at node `j` at tick `t`, if what was known of it has run out.
 fn ask_again(
-    plan: &Plan,
+    plan: &CheckedPlan,
     outcome: &Outcome,
     i: usize,
     j: usize,
@@ -53,7 +52,6 @@ fn ask_again(
     come: &mut usize,
     held: &mut Pulse,
 )
-    requires checked { IsChecked plan.now }
     requires outcome { outcome.now ≡ outcome_of plan.now }
     requires from { i < length plan.now.nodes }
     requires node { j < length plan.now.nodes }
@@ -61,7 +59,7 @@ fn ask_again(
     requires was { t < held.old.until → Lasts (comes plan.now i j) t held.old }
     ensures { Lasts (comes plan.now i j) t held.new }
 {
-    wl_plan::checked_is_sound();
+    plan.laws();
     wl_plan::simulation_laws();
     if t < held.until {
         return;
@@ -74,7 +72,7 @@ fn ask_again(
 
 /// Returns whether something is dominant or the drive of node `i` as it arrives at node `j` at tick `t`. That is asked again if it has run out.
 fn joined(
-    plan: &Plan,
+    plan: &CheckedPlan,
     outcome: &Outcome,
     i: usize,
     j: usize,
@@ -83,7 +81,6 @@ fn joined(
     held: &mut Pulse,
     other: Pulse,
 ) -> Pulse
-    requires checked { IsChecked plan.now }
     requires outcome { outcome.now ≡ outcome_of plan.now }
     requires from { i < length plan.now.nodes }
     requires node { j < length plan.now.nodes }
@@ -98,14 +95,13 @@ fn joined(
 
 /// Returns whether some node's drive is dominant at node `j` at tick `t`. `come` and `sources` are what was known of each node's.
 pub(crate) fn driven(
-    plan: &Plan,
+    plan: &CheckedPlan,
     outcome: &Outcome,
     j: usize,
     t: u64,
     come: &mut [usize; MOST_NODES],
     sources: &mut [Pulse; MOST_NODES],
 ) -> Pulse
-    requires checked { IsChecked plan.now }
     requires outcome { outcome.now ≡ outcome_of plan.now }
     requires node { j < length plan.now.nodes }
     requires early { t ≤ latest_end }
@@ -113,6 +109,7 @@ pub(crate) fn driven(
     ensures drives { Lasts (driven_at plan.now j) t result }
     ensures sources { Comes plan.now j t sources.new }
 {
+    plan.laws();
     let mut all = Pulse {
         from: t,
         until: u64::MAX,
@@ -127,15 +124,15 @@ pub(crate) fn driven(
 /// Returns what is known of each node's signals from tick 0 on. Refused only if memory runs out.
 pub(crate) fn watch_all(
     alloc: Global,
-    plan: &Plan,
+    plan: &CheckedPlan,
     outcome: &Outcome,
 ) -> Result<Vec<Watched>, AllocError>
-    requires checked { IsChecked plan.now }
     requires outcome { outcome.now ≡ outcome_of plan.now }
     ensures { IfOk result (λ watched. AllWatched plan.now 0 watched.items) }
 {
-    let mut watched = Vec::with_capacity(alloc, plan.nodes.len())?;
-    for i in 0..plan.nodes.len() {
+    let nodes = plan.nodes.len();
+    let mut watched = Vec::with_capacity(alloc, nodes)?;
+    for i in 0..nodes {
         let mut node = Watched::new(plan, i);
         node.go(plan, outcome, i, 0);
         watched.push(node)?;
@@ -146,14 +143,13 @@ pub(crate) fn watch_all(
 /// Returns the signals of all nodes at tick 0, by what is known of each. Refused only if memory runs out.
 pub(crate) fn first_signals(
     alloc: Global,
-    plan: &Plan,
+    plan: &CheckedPlan,
     watched: &[Watched],
 ) -> Result<Vec<NodeSignals>, AllocError>
-    requires checked { IsChecked plan.now }
     requires watched { AllWatched plan.now 0 watched.now }
     ensures { IfOk result (λ now. now.items ≡ signals plan.now 0) }
 {
-    wl_plan::checked_is_sound();
+    plan.laws();
     wl_plan::simulation_laws();
     let mut now = Vec::with_capacity(alloc, watched.len())?;
     for i in 0..watched.len() {
@@ -165,13 +161,12 @@ pub(crate) fn first_signals(
 /// Adds those signals of node `i` that change at tick `t`, notes what is known of it from then on, and returns how long that stays.
 fn push_node(
     text: &mut Lines,
-    plan: &Plan,
+    plan: &CheckedPlan,
     outcome: &Outcome,
     i: usize,
     t: u64,
     known: &mut Watched,
 ) -> u64
-    requires checked { IsChecked plan.now }
     requires outcome { outcome.now ≡ outcome_of plan.now }
     requires node { i < length plan.now.nodes }
     requires some { 0 < t }
@@ -184,7 +179,7 @@ fn push_node(
     ensures watches { Watches plan.now i t known.new }
     ensures until { result ≡ known.new.until }
 {
-    wl_plan::checked_is_sound();
+    plan.laws();
     wl_plan::simulation_laws();
     if t < known.until {
         return known.until;
@@ -198,12 +193,11 @@ fn push_node(
 /// Adds those signals of all nodes that change at tick `t`, and returns a later tick up to which none of them changes again.
 pub(crate) fn push_changes(
     text: &mut Lines,
-    plan: &Plan,
+    plan: &CheckedPlan,
     outcome: &Outcome,
     t: u64,
     watched: &mut [Watched],
 ) -> u64
-    requires checked { IsChecked plan.now }
     requires outcome { outcome.now ≡ outcome_of plan.now }
     requires some { 0 < t }
     requires early { t < plan.now.end }
@@ -216,7 +210,7 @@ pub(crate) fn push_changes(
     ensures stays { (u : ℕ) → t ≤ u → u < result → signals plan.now u ≡ signals plan.now t }
     ensures watched { AllWatched plan.now (result - 1) watched.new }
 {
-    wl_plan::checked_is_sound();
+    plan.laws();
     wl_plan::simulation_laws();
     let mut until = plan.end;
     for i in 0..watched.len() {

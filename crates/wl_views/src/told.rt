@@ -1,7 +1,6 @@
 //! The trace of a run: what happened to each node, a line for each event.
 ghost use Rattle.std.specs.Prelude.{◌≡◌, ◌-◌, ◌<◌, ◌≤◌, ◌^◌, ◌++◌, OnOk, IfOk, length, string_bytes};
 ghost use Rattle.std.specs.List.{All};
-ghost use Rattle.wl_plan.specs.Checked.{IsChecked};
 ghost use Rattle.wl_report.specs.Lines.{GrowsBy};
 ghost use Rattle.wl_serial.specs.Outcome.{outcome_of};
 ghost use Rattle.wl_level.specs.ByTick.{by_tick};
@@ -12,7 +11,7 @@ use crate::watched::level_of;
 use std::alloc::{AllocError, Global};
 use wl_clock::Clock;
 use wl_confine::{Counters, ErrorKind};
-use wl_plan::Plan;
+use wl_plan::CheckedPlan;
 use wl_report::{mode_word, push_content};
 use wl_serial::Outcome;
 use wl_setup::Names;
@@ -186,27 +185,26 @@ fn push_told(
 /// Returns how node `i` was synchronised: it runs again up to the end, from one change of the line at its place to the next.
 fn syncs_at_end(
     alloc: Global,
-    plan: &Plan,
+    plan: &CheckedPlan,
     outcome: &Outcome,
     i: usize,
 ) -> Result<Vec<Noted>, AllocError>
-    requires checked { IsChecked plan.now }
     requires outcome { outcome.now ≡ outcome_of plan.now }
     requires node { i < length plan.now.nodes }
     ensures { IfOk result (λ syncs. syncs.items ≡ syncs_at_end plan.now i) }
 {
-    wl_plan::checked_is_sound();
+    plan.laws();
     wl_plan::simulation_laws();
-    let setup = &plan.nodes.as_slice()[i];
+    let (setup, end) = (&plan.nodes.as_slice()[i], plan.end);
     let mut line = PlaceLine::new();
     let mut node = Rerun::new(setup.segments);
     let mut syncs = Vec::new(alloc);
     let mut quanta = 0;
     let mut t = 0;
-    while t < plan.end {
+    while t < end {
         line.hear(plan, outcome, i, t);
         let found = line.found();
-        let until = found.until.min(plan.end);
+        let until = found.until.min(end);
         let next = setup.clock.first_not_before(until);
         let level = level_of(found.dominant);
         node.go(setup, quanta, level, next - quanta, &mut syncs)?;
@@ -219,11 +217,10 @@ fn syncs_at_end(
 /// Returns what the samples of node `i` did.
 fn events_at_end(
     alloc: Global,
-    plan: &Plan,
+    plan: &CheckedPlan,
     outcome: &Outcome,
     i: usize,
 ) -> Result<Vec<Noted>, AllocError>
-    requires checked { IsChecked plan.now }
     requires outcome { outcome.now ≡ outcome_of plan.now }
     requires node { i < length plan.now.nodes }
     ensures { IfOk result (λ events. events.items ≡ events_at_end plan.now i) }
@@ -239,16 +236,15 @@ fn events_at_end(
 fn push_node(
     alloc: Global,
     told: &mut Vec<(u64, (usize, Noted))>,
-    plan: &Plan,
+    plan: &CheckedPlan,
     outcome: &Outcome,
     i: usize,
 ) -> Result<(), AllocError>
-    requires checked { IsChecked plan.now }
     requires outcome { outcome.now ≡ outcome_of plan.now }
     requires node { i < length plan.now.nodes }
     ensures { OnOk result (told.new.items ≡ told.old.items ++ told_at_end plan.now i) }
 {
-    wl_plan::checked_is_sound();
+    plan.laws();
     wl_plan::simulation_laws();
     wl_trace::trace_laws();
     let clock = &plan.nodes.as_slice()[i].clock;
@@ -262,10 +258,9 @@ fn push_node(
 /// Returns the events of all nodes, node by node, each with its tick.
 fn all_told(
     alloc: Global,
-    plan: &Plan,
+    plan: &CheckedPlan,
     outcome: &Outcome,
 ) -> Result<Vec<(u64, (usize, Noted))>, AllocError>
-    requires checked { IsChecked plan.now }
     requires outcome { outcome.now ≡ outcome_of plan.now }
     ensures { IfOk result (λ told. told.items ≡ all_told plan.now) }
 {
@@ -279,14 +274,13 @@ fn all_told(
 /// Returns the events of all nodes in the order of their ticks; those of one tick node by node.
 fn told_in_order(
     alloc: Global,
-    plan: &Plan,
+    plan: &CheckedPlan,
     outcome: &Outcome,
 ) -> Result<Vec<(u64, (usize, Noted))>, AllocError>
-    requires checked { IsChecked plan.now }
     requires outcome { outcome.now ≡ outcome_of plan.now }
     ensures { IfOk result (λ told. told.items ≡ by_tick plan.now.end (all_told plan.now)) }
 {
-    wl_plan::checked_is_sound();
+    plan.laws();
     wl_plan::simulation_laws();
     wl_trace::trace_laws();
     let mut told = all_told(alloc, plan, outcome)?;
@@ -298,11 +292,10 @@ fn told_in_order(
 /// `{tick} {node} {name} q {quantum} b {bit} {what}`, in the order of their ticks; those of one tick node by node.
 pub fn trace(
     alloc: Global,
-    plan: &Plan,
+    plan: &CheckedPlan,
     names: &Names,
     outcome: &Outcome,
 ) -> Result<Vec<u8>, AllocError>
-    requires checked { IsChecked plan.now }
     requires outcome { outcome.now ≡ outcome_of plan.now }
     ensures { IfOk result (λ text. text.items ≡ trace_text plan.now names.now) }
 {
@@ -344,11 +337,10 @@ fn push_first_error(
 /// when out of memory.
 pub fn first_error(
     alloc: Global,
-    plan: &Plan,
+    plan: &CheckedPlan,
     names: &Names,
     outcome: &Outcome,
 ) -> Result<String, AllocError>
-    requires checked { IsChecked plan.now }
     requires outcome { outcome.now ≡ outcome_of plan.now }
     ensures { IfOk result (λ text. string_bytes text ≡ first_error_text plan.now names.now) }
 {

@@ -5,7 +5,6 @@ ghost use Rattle.wl_level.specs.Levels.{level_of};
 ghost use Rattle.wl_topology.specs.Limits.{longest_delay};
 ghost use Rattle.wl_node.specs.declared.setup.NodeSetup.{NodeSetup};
 ghost use Rattle.wl_plan.specs.declared.plan.Plan.{Plan};
-ghost use Rattle.wl_plan.specs.Checked.{IsChecked};
 ghost use Rattle.wl_plan.specs.Limits.{latest_end};
 ghost use Rattle.wl_plan.specs.Line.{found};
 ghost use Rattle.wl_plan.specs.PlanLine.{line_of};
@@ -19,7 +18,7 @@ use crate::place_line::PlaceLine;
 use crate::signals::NodeSignals;
 use wl_clock::Clock;
 use wl_level::Level;
-use wl_plan::Plan;
+use wl_plan::CheckedPlan;
 use wl_serial::Outcome;
 use wl_trace::{Rerun, Shown};
 
@@ -62,13 +61,13 @@ fn next_tick(clock: &Clock, end: u64, quantum: u64) -> u64
 
 impl Watched {
     /// Returns node `i` before its first quantum.
-    pub(crate) fn new(plan: &Plan, i: usize) -> Watched
+    pub(crate) fn new(plan: &CheckedPlan, i: usize) -> Watched
         requires node { i < length plan.now.nodes }
         ensures remembers { Remembers plan.now i 0 result.line }
         ensures awaits { Awaits plan.now i 0 result }
         ensures quanta { result.quanta ≡ 0 }
     {
-        let setup = &plan.nodes.as_slice()[i];
+        let (setup, end) = (&plan.nodes.as_slice()[i], plan.end);
         let node = Rerun::new(setup.segments);
         let shown = node.shown();
         Watched {
@@ -76,7 +75,7 @@ impl Watched {
             node,
             shown,
             quanta: 0,
-            next: next_tick(&setup.clock, plan.end, 0),
+            next: next_tick(&setup.clock, end, 0),
             until: 0,
         }
     }
@@ -98,8 +97,7 @@ impl Watched {
     }
 
     /// Goes on to tick `t`.
-    pub(crate) fn go(&mut self, plan: &Plan, outcome: &Outcome, i: usize, t: u64)
-        requires checked { IsChecked plan.now }
+    pub(crate) fn go(&mut self, plan: &CheckedPlan, outcome: &Outcome, i: usize, t: u64)
         requires outcome { outcome.now ≡ outcome_of plan.now }
         requires node { i < length plan.now.nodes }
         requires early { t ≤ latest_end }
@@ -113,8 +111,7 @@ impl Watched {
     }
 
     /// Sees the quantum of tick `t`, if one begins then.
-    fn see(&mut self, plan: &Plan, i: usize, t: u64)
-        requires checked { IsChecked plan.now }
+    fn see(&mut self, plan: &CheckedPlan, i: usize, t: u64)
         requires node { i < length plan.now.nodes }
         requires early { t ≤ latest_end }
         requires hears { Hears plan.now i t self.old.line }
@@ -122,7 +119,7 @@ impl Watched {
         ensures seen { SawUpTo plan.now i t self.new }
         ensures line { self.new.line ≡ self.old.line }
     {
-        wl_plan::checked_is_sound();
+        plan.laws();
         wl_plan::simulation_laws();
         if self.next != t {
             return;
@@ -135,22 +132,21 @@ impl Watched {
     }
 
     /// Sees the quanta after tick `t` that neither sample nor begin a bit, as long as the line stays.
-    fn pass(&mut self, plan: &Plan, i: usize, t: u64)
-        requires checked { IsChecked plan.now }
+    fn pass(&mut self, plan: &CheckedPlan, i: usize, t: u64)
         requires node { i < length plan.now.nodes }
         requires early { t ≤ latest_end }
         requires hears { Hears plan.now i t self.old.line }
         requires seen { SawUpTo plan.now i t self.old }
         ensures { Watches plan.now i t self.new }
     {
-        wl_plan::checked_is_sound();
+        plan.laws();
         wl_plan::simulation_laws();
         let line = self.line.found();
-        let clock = &plan.nodes.as_slice()[i].clock;
-        let until = line.until.min(plan.end);
+        let (clock, end) = (&plan.nodes.as_slice()[i].clock, plan.end);
+        let until = line.until.min(end);
         let most = clock.first_not_before(until).saturating_sub(self.quanta);
         self.quanta += self.node.pass(level_of(line.dominant), most);
-        self.next = next_tick(clock, plan.end, self.quanta);
+        self.next = next_tick(clock, end, self.quanta);
         self.until = line.until.min(self.next);
     }
 }

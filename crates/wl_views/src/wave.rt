@@ -3,7 +3,6 @@ ghost use Rattle.std.specs.Prelude.{◌≡◌, ℕ, ◌+◌, ◌-◌, ◌<◌, �
 ghost use Rattle.std.specs.List.{flat_map, range_with_len};
 ghost use Rattle.arrayvec.specs.ArrayVec.{array_vec_len};
 ghost use Rattle.wl_device.specs.Devices.{Writes};
-ghost use Rattle.wl_plan.specs.Checked.{IsChecked};
 ghost use Rattle.wl_serial.specs.Outcome.{outcome_of};
 ghost use Rattle.wl_views.specs.Held.{AllWatched};
 ghost use Rattle.wl_views.specs.Signals.{signals};
@@ -19,7 +18,7 @@ use crate::watched::Watched;
 use arrayvec::ArrayVec;
 use std::alloc::Global;
 use wl_device::{Sink, WriteFault, send};
-use wl_plan::Plan;
+use wl_plan::CheckedPlan;
 use wl_serial::Outcome;
 use wl_setup::Names;
 
@@ -30,12 +29,11 @@ const PIECE: usize = 8_192;
 fn push_tick(
     text: &mut Lines,
     tick: Tick,
-    plan: &Plan,
+    plan: &CheckedPlan,
     outcome: &Outcome,
     t: u64,
     watched: &mut [Watched],
 ) -> u64
-    requires checked { IsChecked plan.now }
     requires outcome { outcome.now ≡ outcome_of plan.now }
     requires some { 0 < t }
     requires early { t < plan.now.end }
@@ -48,7 +46,7 @@ fn push_tick(
     ensures stays { (u : ℕ) → t ≤ u → u < result → signals plan.now u ≡ signals plan.now t }
     ensures watched { AllWatched plan.now (result - 1) watched.new }
 {
-    wl_plan::checked_is_sound();
+    plan.laws();
     let before = text.len();
     push_time(text, tick, t);
     let timed = text.len();
@@ -63,12 +61,11 @@ fn push_tick(
 fn write_from<W: Sink>(
     front: &[u8],
     tick: Tick,
-    plan: &Plan,
+    plan: &CheckedPlan,
     outcome: &Outcome,
     watched: &mut [Watched],
     writer: &mut W,
 ) -> Result<(), WriteFault>
-    requires checked { IsChecked plan.now }
     requires outcome { outcome.now ≡ outcome_of plan.now }
     requires watched { AllWatched plan.now 0 watched.old }
     ensures { Writes W.takes writer.old
@@ -76,14 +73,15 @@ fn write_from<W: Sink>(
         ++ time_line tick plan.now.end))
         result writer.new }
 {
-    wl_plan::checked_is_sound();
+    plan.laws();
     let mut calls = match send(front, writer, 0) {
         Ok(made) => made,
         Err(fault) => return Err(fault),
     };
+    let end = plan.end;
     let mut text: Lines = ArrayVec::new();
     let mut t = 1;
-    while t < plan.end {
+    while t < end {
         if text.len() > PIECE {
             calls = match send(text.as_slice(), writer, calls) {
                 Ok(made) => made,
@@ -93,7 +91,7 @@ fn write_from<W: Sink>(
         }
         t = push_tick(&mut text, tick, plan, outcome, t, watched);
     }
-    push_time(&mut text, tick, plan.end);
+    push_time(&mut text, tick, end);
     match send(text.as_slice(), writer, calls) {
         Ok(_) => Ok(()),
         Err(fault) => Err(fault),
@@ -107,12 +105,11 @@ fn write_from<W: Sink>(
 pub fn vcd<W: Sink>(
     alloc: Global,
     tick: Tick,
-    plan: &Plan,
+    plan: &CheckedPlan,
     names: &Names,
     outcome: &Outcome,
     writer: &mut W,
 ) -> Result<(), ViewFault>
-    requires checked { IsChecked plan.now }
     requires outcome { outcome.now ≡ outcome_of plan.now }
     ensures { Streams W.takes writer.old (vcd_text tick plan.now names.now) writer.new result }
 {

@@ -4,7 +4,6 @@ use Rattle.wl_setup.specs.Check.{IsPlanCheck}
 use Rattle.wl_serial.specs.Outcome.{outcome_of}
 use Rattle.wl_margin.specs.Margins.{IsMarginText}
 use Rattle.wl_report.specs.Report.{report_text}
-use Rattle.wl_views.specs.Trace.{trace_text}
 use Rattle.wl_engines.specs.Paged.{IsPage}
 use Rattle.wl_engines.proofs.PageProofs.{ok_so, same_page}
 use Rattle.wl_engines.proofs.run_page.page_of_bus.Goals as goal
@@ -19,9 +18,9 @@ returns c =
     let traffic = c.as_bytes-4.ensures.value ∙ c.in_ok-traffic.ensures.text in
     let names = c.args.bus.now.names in
     let ran = c.in_ok-outcome.ensures ∙ ap outcome_of c.deref-2.ensures.0 in
-    let report = c.deref-4.ensures.value ∙ (c.in_ok-report.ensures ∙ ap report_text ran) in
-    let trace = c.deref-5.ensures.value ∙ (c.in_ok-trace.ensures ∙ ap (λ (p : Plan). trace_text p names) c.deref-3.ensures.0) in
-    let wave = c.deref-6.ensures.value ∙ c.in_ok-wave.ensures in
+    let report = c.deref-3.ensures.value ∙ (c.in_ok-report.ensures ∙ ap report_text ran) in
+    let trace = c.deref-4.ensures.value ∙ c.in_ok-trace.ensures in
+    let wave = c.deref-5.ensures.value ∙ c.in_ok-wave.ensures in
     let checks = subst (λ (p : Plan). IsPlanCheck p names (string_bytes c.in_ok-settings.settings)) c.deref.ensures.0 c.in_ok-settings.ensures in
     let same = same_page c.args.text.now figures settings margin traffic report trace wave in
     let spare =

@@ -4,7 +4,7 @@ use Rattle.wl_node.specs.declared.setup.NodeSetup.{NodeSetup}
 use Rattle.wl_plan.specs.declared.plan.Plan.{Plan}
 use Rattle.wl_plan.specs.PlanLine.{no_setup}
 use Rattle.wl_serial.specs.declared.outcome.NodeOutcome.{NodeOutcome}
-use Rattle.wl_traffic.proofs.Quanta.{node_is, nodes_all}
+use Rattle.wl_views.proofs.Callers.{node_is, nodes_all}
 use Rattle.wl_traffic.proofs.nodes.node_at.Goals as goal
 
 pub bounds-nodes-i : goal.bounds-nodes-i

@@ -1,6 +1,8 @@
 -- By its changes.
 use Rattle.std.proofs.Common.{◌≡◌, ◌∙◌, List, length, get_or, ap, sym, subst, arith}
+use Rattle.wl_topology.specs.Delays.{delay_of}
 use Rattle.wl_record_core.specs.Truth.{IsIncreasing}
+use Rattle.wl_plan.specs.declared.plan.Plan.{Plan}
 use Rattle.wl_plan.specs.PlanLine.{line_of, table_of}
 use Rattle.wl_serial.specs.declared.outcome.NodeOutcome.{NodeOutcome}
 use Rattle.wl_views.proofs.SignalProofs.{driven_more, node_is, nodes_all}
@@ -29,6 +31,6 @@ returns c =
     ∙ ap (λ (n : NodeOutcome). n.changes)
     (ap (λ (xs : List NodeOutcome). get_or xs c.args.i c.index-nodes-i.result) c.as_slice-nodes.ensures ∙ node_is c.args.plan.now c.args.outcome.now c.args.i c.index-nodes-i.result c.requires.outcome c.requires.from)
     in
-    driven_more c.simulation_laws.ensures c.args.plan.now (c.checked_is_sound.ensures c.args.plan.now c.requires.checked) c.args.i c.requires.from c.args.j c.args.t c.delay-delay.result
-    c.as_slice-changes.result.now c.pulse_of.result c.delay-delay.ensures.ticks are
+    driven_more c.simulation_laws.ensures c.args.plan.now c.laws.ensures.sound c.args.i c.requires.from c.args.j c.args.t c.delay-delay.result
+    c.as_slice-changes.result.now c.pulse_of.result (c.delay-delay.ensures.ticks ∙ ap (λ (p : Plan). delay_of p.topology c.args.i c.args.j) c.deref.ensures.0) are
     (known_from _ c.args.t c.pulse_of.result c.pulse_of.ensures.from c.pulse_of.ensures.until c.pulse_of.ensures.dominant)

@@ -1,5 +1,5 @@
 -- One node more, each by its changes.
-use Rattle.std.proofs.Common.{◌∙◌, ◌<◌, ℕ, inl, inr, length, length-set, get_or, set, sym, subst, arith, add-one, get_or-set_other, get_or-set_same}
+use Rattle.std.proofs.Common.{◌≡◌, ◌∙◌, ◌<◌, ℕ, inl, inr, length, length-set, get_or, set, ap, sym, subst, arith, add-one, get_or-set_other, get_or-set_same}
 use Rattle.std.proofs.lemmas.Bool.{cases_eq}
 use Rattle.wl_topology.specs.Delays.{delay_of}
 use Rattle.wl_topology.specs.Driven.{driven}
@@ -27,7 +27,8 @@ loop-i-preserved c =
     let j : ℕ = c.args.j in
     let inv = c.loop-i.invariant in
     let new : Pulse = c.joined-all.new.held in
-    let few = c.requires.checked.few_nodes in
+    let few = c.laws.ensures.checked.few_nodes in
+    let all : length c.deref.result.now.nodes ≡ length plan.nodes = ap (λ (p : Plan). length p.nodes) c.deref.ensures.0 in
     let below : i < length plan.nodes = omega arith in
     let long = inv.room in
     let inside : i < length c.loop-i.sources = omega arith in

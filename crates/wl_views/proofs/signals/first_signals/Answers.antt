@@ -19,6 +19,6 @@ loop-i-preserved c =
       now =
           c.in_ok-push.ensures.items
           ∙ ap₂ (λ (xs : List NodeSignals) x. xs ++ x ∷ []) c.loop-i.invariant.now
-          (c.signals.ensures ∙ sym (now c.checked_is_sound.ensures c.simulation_laws.ensures plan c.requires.checked i b 0 w watches))
+          (c.signals.ensures ∙ sym (now c.simulation_laws.ensures plan c.laws.ensures.sound i b 0 w watches))
           ∙ sym (map-range_with_len_more (node_signals plan 0) 0 i i (zero-add i));
     }

@@ -17,7 +17,7 @@ loop-i-preserved c =
     let all = c.requires.watched.nodes in
     let room : i < length c.loop-i.watched = omega arith in
     let b : i < length c.args.plan.now.nodes = omega arith in
-    let few = c.requires.checked.few_nodes in
+    let few = c.laws.ensures.checked.few_nodes in
     let watches = c.push_node-stays.ensures.watches in
     let p = watches.hears.cable.later in
     let r = watches.hears.disturbance.later in
@@ -64,8 +64,8 @@ returns-clause-stays c u from below =
     let w : Watched = get_or c.loop-i.watched k d in
     let inside : k < c.loop-i.i = omega arith in
     let less = c.loop-i.invariant.lasting k d inside in
-    stays c.checked_is_sound.ensures c.simulation_laws.ensures plan c.requires.checked k b t u w (c.loop-i.invariant.known k d inside) from (omega arith)
-    ∙ sym (now c.checked_is_sound.ensures c.simulation_laws.ensures plan c.requires.checked k b t w (c.loop-i.invariant.known k d inside)))
+    stays c.simulation_laws.ensures plan c.laws.ensures.sound k b t u w (c.loop-i.invariant.known k d inside) from (omega arith)
+    ∙ sym (now c.simulation_laws.ensures plan c.laws.ensures.sound k b t w (c.loop-i.invariant.known k d inside)))
 
 pub returns-clause-watched : goal.returns-clause-watched
 returns-clause-watched c =

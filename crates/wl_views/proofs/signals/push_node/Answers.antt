@@ -15,8 +15,8 @@ returns-then-t-known-clause-lines c =
     let w = c.args.known.now in
     let below : t < w.until = omega (arith, c.if-t-known.true) in
     let same : node_signals plan t i ≡ node_signals plan (t - 1) i =
-    stays c.checked_is_sound.ensures c.simulation_laws.ensures plan c.requires.checked i c.requires.node (t - 1) t w c.requires.was (omega arith) below
-    ∙ sym (now c.checked_is_sound.ensures c.simulation_laws.ensures plan c.requires.checked i c.requires.node (t - 1) w c.requires.was)
+    stays c.simulation_laws.ensures plan c.laws.ensures.sound i c.requires.node (t - 1) t w c.requires.was (omega arith) below
+    ∙ sym (now c.simulation_laws.ensures plan c.laws.ensures.sound i c.requires.node (t - 1) w c.requires.was)
     in
     sym (ap (λ x. c.args.text.now.items ++ node_changes i (node_signals plan (t - 1) i) x) same
     ∙ ap (λ ys. c.args.text.now.items ++ ys) (same_node i (node_signals plan (t - 1) i)) ∙ append-nil c.args.text.now.items)
@@ -29,7 +29,7 @@ returns-then-t-known-clause-watches c =
 pub go-requires-clause-awaits : goal.go-requires-clause-awaits
 go-requires-clause-awaits c =
     let past : c.args.known.now.until ≤ c.args.t = omega (arith, c.if-t-known.false) in
-    awaited c.checked_is_sound.ensures c.simulation_laws.ensures c.args.plan.now c.requires.checked c.args.i c.requires.node c.args.t c.args.known.now c.requires.some c.requires.was past
+    awaited c.simulation_laws.ensures c.args.plan.now c.laws.ensures.sound c.args.i c.requires.node c.args.t c.args.known.now c.requires.some c.requires.was past
 
 pub returns-clause-lines : goal.returns-clause-lines
 returns-clause-lines c =
@@ -37,13 +37,13 @@ returns-clause-lines c =
     let i : ℕ = c.args.i in
     let t : ℕ = c.args.t in
     let was : c.signals-was.result ≡ node_signals plan (t - 1) i =
-    c.signals-was.ensures ∙ sym (now c.checked_is_sound.ensures c.simulation_laws.ensures plan c.requires.checked i c.requires.node (t - 1) c.args.known.now c.requires.was)
+    c.signals-was.ensures ∙ sym (now c.simulation_laws.ensures plan c.laws.ensures.sound i c.requires.node (t - 1) c.args.known.now c.requires.was)
     in
     let is : c.signals.result ≡ node_signals plan t i =
-    c.signals.ensures ∙ sym (now c.checked_is_sound.ensures c.simulation_laws.ensures plan c.requires.checked i c.requires.node t c.go.new.self c.go.ensures)
+    c.signals.ensures ∙ sym (now c.simulation_laws.ensures plan c.laws.ensures.sound i c.requires.node t c.go.new.self c.go.ensures)
     in
     c.push_node_changes.ensures.lines ∙ ap₂ (λ x y. c.args.text.now.items ++ node_changes i x y) was is
 
 pub go-requires-clause-remembers : goal.go-requires-clause-remembers
 go-requires-clause-remembers c =
-    remembered c.checked_is_sound.ensures c.simulation_laws.ensures c.args.plan.now c.requires.checked c.args.i c.requires.node c.args.t c.args.known.now c.requires.was
+    remembered c.simulation_laws.ensures c.args.plan.now c.laws.ensures.sound c.args.i c.requires.node c.args.t c.args.known.now c.requires.was

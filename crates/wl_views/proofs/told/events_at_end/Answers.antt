@@ -25,7 +25,7 @@ returns c =
     let i : ℕ = c.args.i in
     let levels : List Level = (history (line_of plan) plan.end).seen i in
     let setup : c.index-setups-i.result ≡ setup_at plan i =
-    c.index-setups-i.is ∙ ap (λ (xs : List NodeSetup). get_or xs i c.index-setups-i.result) c.as_slice-setups.ensures ∙ get_or_default plan.nodes i c.index-setups-i.result no_setup c.requires.node
+    c.index-setups-i.is ∙ ap (λ (xs : List NodeSetup). get_or xs i c.index-setups-i.result) (c.as_slice-setups.ensures ∙ ap (λ (p : Plan). p.nodes) c.deref.ensures.0) ∙ get_or_default plan.nodes i c.index-setups-i.result no_setup c.requires.node
     in
     let samples : c.as_slice.result.now ≡ (history_at_end plan i).samples =
     c.as_slice.ensures ∙ c.in_ok-samples.ensures

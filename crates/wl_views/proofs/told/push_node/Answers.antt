@@ -6,10 +6,10 @@ use Rattle.wl_views.proofs.told.push_node.Goals as goal
 
 pub push_told-requires : goal.push_told-requires
 push_told-requires c =
-    subst (All (λ (n : Noted). n.quantum ≤ 2 ^ 21)) (sym (c.deref.ensures.value ∙ c.in_ok-syncs.ensures))
-    (syncs_known c.checked_is_sound.ensures c.simulation_laws.ensures c.trace_laws.ensures c.args.plan.now c.requires.checked c.args.i c.requires.node)
+    subst (All (λ (n : Noted). n.quantum ≤ 2 ^ 21)) (sym (c.deref-2.ensures.value ∙ c.in_ok-syncs.ensures))
+    (syncs_known c.simulation_laws.ensures c.trace_laws.ensures c.args.plan.now c.laws.ensures.sound c.args.i c.requires.node)
 
 pub push_told-requires-2 : goal.push_told-requires-2
 push_told-requires-2 c =
-    subst (All (λ (n : Noted). n.quantum ≤ 2 ^ 21)) (sym (c.deref-2.ensures.value ∙ c.in_ok-events.ensures))
-    (events_known c.checked_is_sound.ensures c.simulation_laws.ensures c.trace_laws.ensures c.args.plan.now c.requires.checked c.args.i c.requires.node)
+    subst (All (λ (n : Noted). n.quantum ≤ 2 ^ 21)) (sym (c.deref-3.ensures.value ∙ c.in_ok-events.ensures))
+    (events_known c.simulation_laws.ensures c.trace_laws.ensures c.args.plan.now c.laws.ensures.sound c.args.i c.requires.node)

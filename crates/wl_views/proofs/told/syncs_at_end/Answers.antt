@@ -20,7 +20,8 @@ pub loop-t-init : goal.loop-t-init
 unfolding seen
 loop-t-init c =
     let setup : c.index-as_slice-i.result ≡ setup_at c.args.plan.now c.args.i =
-    c.index-as_slice-i.is ∙ setup_is c.args.plan.now c.as_slice.result.now c.args.i c.index-as_slice-i.result c.as_slice.ensures c.requires.node
+    c.index-as_slice-i.is ∙ setup_is c.args.plan.now c.as_slice.result.now c.args.i c.index-as_slice-i.result
+    (c.as_slice.ensures ∙ ap (λ (p : Plan). p.nodes) c.deref.ensures.0) c.requires.node
     in
     record {
       remembers = c.new-line.ensures c.args.plan.now c.args.i;
@@ -38,7 +39,8 @@ overflow_sub-next c =
     let i : ℕ = c.args.i in
     let k : ℕ = c.loop-t.quanta in
     let n : ℕ = c.first_not_before-next.result in
-    let setup = c.index-as_slice-i.is ∙ setup_is plan c.as_slice.result.now i c.index-as_slice-i.result c.as_slice.ensures c.requires.node in
+    let setup = c.index-as_slice-i.is ∙ setup_is plan c.as_slice.result.now i c.index-as_slice-i.result (c.as_slice.ensures ∙ ap (λ (p : Plan). p.nodes) c.deref.ensures.0) c.requires.node in
+    let ends : c.deref-2.result.now.end ≡ plan.end = ap (λ (p : Plan). p.end) c.deref-2.ensures.0 in
     let reached : c.min-until.result ≤ tick_of (setup_at plan i).clock n = subst (λ (s : NodeSetup). c.min-until.result ≤ tick_of s.clock n) setup c.first_not_before-next.ensures.reached in
     let line = c.found-found.ensures.holds plan i c.loop-t.t c.hear.ensures in
     elim (cases_lt n k) [
@@ -57,11 +59,11 @@ loop-t-preserved c =
     let b = c.requires.node in
     let held : Pulse = c.found-found.result in
     let inv = c.loop-t.invariant in
-    let sounds = c.checked_is_sound.ensures in
     let laws = c.simulation_laws.ensures in
-    let checked = c.requires.checked in
+    let sound = c.laws.ensures.sound in
     let read : NodeSetup = c.index-as_slice-i.result in
-    let setup = c.index-as_slice-i.is ∙ setup_is plan c.as_slice.result.now i c.index-as_slice-i.result c.as_slice.ensures b in
+    let setup = c.index-as_slice-i.is ∙ setup_is plan c.as_slice.result.now i c.index-as_slice-i.result (c.as_slice.ensures ∙ ap (λ (p : Plan). p.nodes) c.deref.ensures.0) b in
+    let ends : c.deref-2.result.now.end ≡ plan.end = ap (λ (p : Plan). p.end) c.deref-2.ensures.0 in
     let line = c.found-found.ensures.holds plan i t c.hear.ensures in
     let reached : until ≤ tick_of (setup_at plan i).clock n = subst (λ (s : NodeSetup). until ≤ tick_of s.clock n) setup c.first_not_before-next.ensures.reached in
     let more : k ≤ n = elim (cases_lt n k) [
@@ -75,14 +77,14 @@ loop-t-preserved c =
     λ q below. subst (λ (s : NodeSetup). tick_of s.clock q < until) setup (c.first_not_before-next.ensures.least q below) in
     let during : (q : ℕ) → k ≤ q → q < k + (n - k) → (t ≤ tick_of (setup_at plan i).clock q) × (tick_of (setup_at plan i).clock q < held.until) =
     λ q from below. (
-      (let m = clock_later sounds laws plan checked i b k q from in let first = inv.next in omega arith),
+      (let m = clock_later laws plan sound i b k q from in let first = inv.next in omega arith),
       (let m = early q (omega arith) in omega arith),
     )
     in
     let levels : List Level = seen (line_of plan) i k in
     let saw : levels ++ replicate (n - k) c.level_of-level.result ≡ seen (line_of plan) i n =
     ap (λ (l : Level). levels ++ replicate (n - k) l) c.level_of-level.ensures
-    ∙ sym (same_seen sounds laws plan checked i b t held line k (n - k) during)
+    ∙ sym (same_seen laws plan sound i b t held line k (n - k) during)
     ∙ ap (seen (line_of plan) i) split
     in
     let ran : RunsOver read k (n - k) c.level_of-level.result c.loop-t.node c.go.new.self c.loop-t.syncs.items c.go.new.syncs.items = c.in_ok-go.ensures in
@@ -106,8 +108,9 @@ returns c =
     let i : ℕ = c.args.i in
     let k : ℕ = c.loop-t.quanta in
     let inv = c.loop-t.invariant in
+    let ends : c.deref-2.result.now.end ≡ plan.end = ap (λ (p : Plan). p.end) c.deref-2.ensures.0 in
     let past : plan.end ≤ tick_of (setup_at plan i).clock k = (let n = inv.next in omega (arith, c.loop-t-test.false)) in
     inv.syncs
     ∙ ap (syncs_of (setup_at plan i))
-    (all_seen c.checked_is_sound.ensures c.simulation_laws.ensures plan c.requires.checked i c.requires.node k
+    (all_seen c.simulation_laws.ensures plan c.laws.ensures.sound i c.requires.node k
     (λ q below. let m = inv.before q below in let e = inv.inside in omega arith) past)

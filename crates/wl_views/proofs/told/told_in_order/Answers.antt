@@ -20,5 +20,5 @@ returns c =
     (IsNonDecreasingBy-from_sort_by_key (λ s. s.0) _ c.in_ok-sort_by_key.ensures.sorted (λ a r q k. search rules))
     (c.in_ok-sort_by_key.ensures.stable (λ s. s.0) (answers_always _ (λ a r. r ≡ a.0.now.0) _ (λ f a r q k. search rules)))
     (subst (All (λ (s : ℕ × (ℕ × Noted)). s.0 < end)) (sym c.in_ok-told.ensures)
-    (told_below c.checked_is_sound.ensures c.simulation_laws.ensures c.trace_laws.ensures c.args.plan.now c.requires.checked))
+    (told_below c.simulation_laws.ensures c.trace_laws.ensures c.args.plan.now c.laws.ensures.sound))
     ∙ ap (by_tick end) c.in_ok-told.ensures

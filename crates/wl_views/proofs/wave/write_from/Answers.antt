@@ -3,6 +3,7 @@ use Rattle.std.proofs.Common.{◌≡◌, ◌∙◌, ◌-◌, ◌<◌, ◌≤◌,
 use Rattle.std.specs.List.{flat_map, range_with_len}
 use Rattle.wl_device.specs.Devices.{Answer}
 use Rattle.wl_device.proofs.Runs.{SoFar, nothing_so_far, broke_off_after, sent_more, went_out_after}
+use Rattle.wl_plan.specs.declared.plan.Plan.{Plan}
 use Rattle.wl_views.specs.Signals.{signals}
 use Rattle.wl_views.specs.Vcd.{tick_lines, time_line}
 use Rattle.wl_views.proofs.Walk.{all_told, one_tick, rest_of, tick_more, whole_of}
@@ -23,6 +24,7 @@ returns-in-Err-send g c =
     let t : ℕ = c.loop-t.t in
     let end : ℕ = c.args.plan.now.end in
     let f = tick_lines c.args.tick (signals c.args.plan.now) in
+    let ends : c.deref.result.now.end ≡ end = ap (λ (p : Plan). p.end) c.deref.ensures.0 in
     let some : 1 ≤ t = inv.5 in
     let inside : t ≤ end = omega (arith, c.loop-t-test.true) in
     let told : List ℕ = flat_map f (range_with_len 1 (t - 1)) in
@@ -91,12 +93,14 @@ returns-in-Ok-send-2 g c =
     let t : ℕ = c.loop-t.t in
     let end : ℕ = c.args.plan.now.end in
     let f = tick_lines c.args.tick (signals c.args.plan.now) in
+    let ends : c.deref.result.now.end ≡ end = ap (λ (p : Plan). p.end) c.deref.ensures.0 in
     let last : end - 1 ≡ t - 1 = omega (arith, c.loop-t-test.false, inv.5, inv.6) in
     let told : List ℕ = flat_map f (range_with_len 1 (t - 1)) in
     let all : List ℕ = flat_map f (range_with_len 1 (end - 1)) in
     let time : List ℕ = time_line c.args.tick end in
     let whole : inv.1 ++ c.as_slice-2.result.now ≡ c.args.front.now ++ (all ++ time) =
-    all_told c.args.front.now inv.1 c.loop-t.text.items told c.as_slice-2.result.now time all inv.3 (c.as_slice-2.ensures.value ∙ c.push_time.ensures.line)
+    all_told c.args.front.now inv.1 c.loop-t.text.items told c.as_slice-2.result.now time all inv.3 (c.as_slice-2.ensures.value ∙ c.push_time.ensures.line
+    ∙ ap (λ (p : Plan). c.loop-t.text.items ++ time_line c.args.tick p.end) c.deref.ensures.0)
     (ap (λ (n : ℕ). flat_map f (range_with_len 1 n)) last)
     in (
       inv.0 ++ out.0,
@@ -111,13 +115,15 @@ returns-in-Err-send-2 g c =
     let t : ℕ = c.loop-t.t in
     let end : ℕ = c.args.plan.now.end in
     let f = tick_lines c.args.tick (signals c.args.plan.now) in
+    let ends : c.deref.result.now.end ≡ end = ap (λ (p : Plan). p.end) c.deref.ensures.0 in
     let last : end - 1 ≡ t - 1 = omega (arith, c.loop-t-test.false, inv.5, inv.6) in
     let told : List ℕ = flat_map f (range_with_len 1 (t - 1)) in
     let all : List ℕ = flat_map f (range_with_len 1 (end - 1)) in
     let time : List ℕ = time_line c.args.tick end in
     let whole : inv.1 ++ (c.as_slice-2.result.now ++ []) ≡ c.args.front.now ++ (all ++ time) =
     ap (λ ys. inv.1 ++ ys) (append-nil c.as_slice-2.result.now)
-    ∙ all_told c.args.front.now inv.1 c.loop-t.text.items told c.as_slice-2.result.now time all inv.3 (c.as_slice-2.ensures.value ∙ c.push_time.ensures.line)
+    ∙ all_told c.args.front.now inv.1 c.loop-t.text.items told c.as_slice-2.result.now time all inv.3 (c.as_slice-2.ensures.value ∙ c.push_time.ensures.line
+    ∙ ap (λ (p : Plan). c.loop-t.text.items ++ time_line c.args.tick p.end) c.deref.ensures.0)
     (ap (λ (n : ℕ). flat_map f (range_with_len 1 n)) last)
     in
     (_, broke_off_after g.W.Sink.takes c.args.writer.now inv.1 c.loop-t.calls c.loop-t.writer inv.0 c.as_slice-2.result.now [] (c.args.front.now ++ (all ++ time)) c.send-2.new.writer off.0 inv.2 off.1 whole)

@@ -25,7 +25,8 @@ next_tick-self-requires c =
     let n : ℕ = c.pass.result in
     let b = c.requires.node in
     let h = c.requires.seen in
-    let setup = setup_is plan c.as_slice.result.now i c.index-as_slice-i.result c.as_slice.ensures b in
+    let setup = setup_is plan c.as_slice.result.now i c.index-as_slice-i.result (c.as_slice.ensures ∙ ap (λ (p : Plan). p.nodes) c.deref.ensures.0) b in
+    let ends : c.deref-2.result.now.end ≡ plan.end = ap (λ (p : Plan). p.end) c.deref-2.ensures.0 in
     let few : n ≤ c.saturating_sub-most.result = omega (arith, c.pass.ensures.quanta (setup_at plan i) (seen (line_of plan) i k) h.runs.node) in
     let inside : AreInside (line_of plan) i (k + n) =
     λ q below. elim (cases_lt q k) [
@@ -35,7 +36,7 @@ next_tick-self-requires c =
           let early : tick_of (setup_at plan i).clock q < c.min-until.result = subst (λ (s : NodeSetup). tick_of s.clock q < c.min-until.result) setup (c.first_not_before.ensures.least q less) in
           omega (arith, c.min-until.ensures))
     ] in
-    few_inside c.checked_is_sound.ensures c.simulation_laws.ensures plan c.requires.checked i b (k + n) inside
+    few_inside c.simulation_laws.ensures plan c.laws.ensures.sound i b (k + n) inside
 
 pub returns : goal.returns
 returns c =
@@ -49,10 +50,10 @@ returns c =
     let held : Pulse = c.found-line.result in
     let line = c.found-line.ensures.holds plan i t c.requires.hears in
     let whole = c.found-line.ensures.until in
-    let sounds = c.checked_is_sound.ensures in
     let laws = c.simulation_laws.ensures in
-    let checked = c.requires.checked in
-    let setup = setup_is plan c.as_slice.result.now i c.index-as_slice-i.result c.as_slice.ensures b in
+    let sound = c.laws.ensures.sound in
+    let setup = setup_is plan c.as_slice.result.now i c.index-as_slice-i.result (c.as_slice.ensures ∙ ap (λ (p : Plan). p.nodes) c.deref.ensures.0) b in
+    let ends : c.deref-2.result.now.end ≡ plan.end = ap (λ (p : Plan). p.end) c.deref-2.ensures.0 in
     let few : n ≤ c.saturating_sub-most.result = omega (arith, c.pass.ensures.quanta (setup_at plan i) (seen (line_of plan) i k) h.runs.node) in
     let during : (q : ℕ) → k ≤ q → q < k + n → (tick_of (setup_at plan i).clock q < held.until) × (tick_of (setup_at plan i).clock q < plan.end) =
     λ q from below.
@@ -63,19 +64,20 @@ returns c =
     let plain : (m : ℕ) → m ≤ n → shown_of (setup_at plan i) (seen (line_of plan) i k ++ replicate m (level_of held.dominant)) ≡ shown_of (setup_at plan i) (seen (line_of plan) i k) =
     λ m less. ap (λ (l : Level). shown_of (setup_at plan i) (seen (line_of plan) i k ++ replicate m l)) (sym c.level_of.ensures) ∙ c.pass.ensures.same (setup_at plan i) (seen (line_of plan) i k) h.runs.node m less
     in
-    let timely = in_time sounds laws plan checked i b t held line k n h.runs.inside h.before h.later during plain in
-    let next : c.next_tick-self.result ≡ next_of (setup_at plan i).clock plan.end (k + n) = c.next_tick-self.ensures ∙ ap (λ (s : NodeSetup). next_of s.clock plan.end (k + n)) setup in
+    let timely = in_time laws plan sound i b t held line k n h.runs.inside h.before h.later during plain in
+    let next : c.next_tick-self.result ≡ next_of (setup_at plan i).clock plan.end (k + n) = c.next_tick-self.ensures
+    ∙ ap (λ (s : NodeSetup). next_of s.clock c.deref-2.result.now.end (k + n)) setup ∙ ap (λ (p : Plan). next_of (setup_at plan i).clock p.end (k + n)) c.deref-2.ensures.0 in
     let shown : c.args.self.now.shown ≡ shown_of (setup_at plan i) (seen (line_of plan) i (k + n)) =
-    h.runs.shown ∙ sym (shown_upto sounds laws plan checked i b t held line k n h.runs.inside h.before h.later during plain n (omega arith)) in
+    h.runs.shown ∙ sym (shown_upto laws plan sound i b t held line k n h.runs.inside h.before h.later during plain n (omega arith)) in
     record {
       runs = record {
         node =
             subst (λ (ls : List Level). IsRerun (setup_at plan i) ls c.pass.new.self)
             (ap (λ (l : Level). seen (line_of plan) i k ++ replicate n l) c.level_of.ensures
-            ∙ sym (same_seen sounds laws plan checked i b t held line k n timely))
+            ∙ sym (same_seen laws plan sound i b t held line k n timely))
             (c.pass.ensures.run (setup_at plan i) (seen (line_of plan) i k) h.runs.node);
         shown = shown;
-        inside = all_inside sounds laws plan checked i b t held line k n h.runs.inside h.before h.later during plain;
+        inside = all_inside laws plan sound i b t held line k n h.runs.inside h.before h.later during plain;
       };
       hears = record { cable = c.requires.hears.cable; disturbance = c.requires.hears.disturbance; sources = c.requires.hears.sources };
       next = next;
@@ -83,8 +85,8 @@ returns c =
         | inl low ↦ (let m = h.before q low in let l = line.later in omega arith)
         | inr high ↦ (let m = (during q high below).0 in omega arith)
       ];
-      later = (let m = next_on sounds laws plan checked i b k n t c.requires.early h.later in omega arith);
+      later = (let m = next_on laws plan sound i b k n t c.requires.early h.later in omega arith);
       until = c.min-self.ensures ∙ ap (λ (n : ℕ). min n c.next_tick-self.result) whole;
       same = λ u from below.
-          shown_stays sounds laws plan checked i b t held line k n h.runs.inside h.before h.later during plain u from (omega (arith, c.min-self.ensures)) ∙ sym shown;
+          shown_stays laws plan sound i b t held line k n h.runs.inside h.before h.later during plain u from (omega (arith, c.min-self.ensures)) ∙ sym shown;
     }

@@ -19,8 +19,8 @@ quantum-requires c =
     let plan : Plan = c.args.plan.now in
     let i : ℕ = c.args.i in
     let k : ℕ = c.args.self.now.quanta in
-    let now = next_now c.checked_is_sound.ensures c.simulation_laws.ensures plan c.requires.checked i c.requires.node k c.args.t c.requires.early (sym c.requires.awaits.next ∙ c.if-self-t.false) in
-    let few = few_more c.checked_is_sound.ensures c.simulation_laws.ensures plan c.requires.checked i c.requires.node k (omega (arith, now.0, now.1)) in
+    let now = next_now c.simulation_laws.ensures plan c.laws.ensures.sound i c.requires.node k c.args.t c.requires.early (sym c.requires.awaits.next ∙ c.if-self-t.false) in
+    let few = few_more c.simulation_laws.ensures plan c.laws.ensures.sound i c.requires.node k (omega (arith, now.0, now.1)) in
     record { few = omega arith }
 
 pub overflow_add-self : goal.overflow_add-self
@@ -28,8 +28,8 @@ overflow_add-self c =
     let plan : Plan = c.args.plan.now in
     let i : ℕ = c.args.i in
     let k : ℕ = c.args.self.now.quanta in
-    let now = next_now c.checked_is_sound.ensures c.simulation_laws.ensures plan c.requires.checked i c.requires.node k c.args.t c.requires.early (sym c.requires.awaits.next ∙ c.if-self-t.false) in
-    let few = few_more c.checked_is_sound.ensures c.simulation_laws.ensures plan c.requires.checked i c.requires.node k (omega (arith, now.0, now.1)) in
+    let now = next_now c.simulation_laws.ensures plan c.laws.ensures.sound i c.requires.node k c.args.t c.requires.early (sym c.requires.awaits.next ∙ c.if-self-t.false) in
+    let few = few_more c.simulation_laws.ensures plan c.laws.ensures.sound i c.requires.node k (omega (arith, now.0, now.1)) in
     omega arith
 
 pub returns-clause-seen : goal.returns-clause-seen
@@ -40,8 +40,8 @@ returns-clause-seen c =
     let t : ℕ = c.args.t in
     let b = c.requires.node in
     let old = c.requires.awaits in
-    let setup = c.index-as_slice-i.is ∙ setup_is plan c.as_slice.result.now i c.index-as_slice-i.result c.as_slice.ensures b in
-    let now = next_now c.checked_is_sound.ensures c.simulation_laws.ensures plan c.requires.checked i b k t c.requires.early (sym old.next ∙ c.if-self-t.false) in
+    let setup = c.index-as_slice-i.is ∙ setup_is plan c.as_slice.result.now i c.index-as_slice-i.result (c.as_slice.ensures ∙ ap (λ (p : Plan). p.nodes) c.deref.ensures.0) b in
+    let now = next_now c.simulation_laws.ensures plan c.laws.ensures.sound i b k t c.requires.early (sym old.next ∙ c.if-self-t.false) in
     let begins : tick_of (setup_at plan i).clock k ≡ t = now.0 in
     let early : tick_of (setup_at plan i).clock k < plan.end = omega (arith, now.0, now.1) in
     let line = c.found.ensures.holds plan i t c.requires.hears in
@@ -51,7 +51,7 @@ returns-clause-seen c =
     let levels : List Level = seen (line_of plan) i k in
     let sees : levels ++ c.level_of-level.result ∷ [] ≡ seen (line_of plan) i (k + 1) =
     ap (λ (l : Level). seen (line_of plan) i k ++ l ∷ []) (c.level_of-level.ensures ∙ ap level_of (sym is))
-    ∙ sym (seen_more c.checked_is_sound.ensures c.simulation_laws.ensures plan c.requires.checked i b k)
+    ∙ sym (seen_more c.simulation_laws.ensures plan c.laws.ensures.sound i b k)
     in
     let node : IsRerun (setup_at plan i) (seen (line_of plan) i (k + 1)) c.quantum.new.self =
     subst (λ (ls : List Level). IsRerun (setup_at plan i) ls c.quantum.new.self) sees
@@ -63,11 +63,11 @@ returns-clause-seen c =
       runs = record {
         node = node;
         shown = c.shown-self.ensures (setup_at plan i) (seen (line_of plan) i (k + 1)) node;
-        inside = inside_more c.checked_is_sound.ensures c.simulation_laws.ensures plan c.requires.checked i b k old.runs.inside early;
+        inside = inside_more c.simulation_laws.ensures plan c.laws.ensures.sound i b k old.runs.inside early;
       };
       before = λ q less. elim (cases_lt q k) [
         | inl low ↦ (let m = old.before q low in omega arith)
         | inr high ↦ (let e : q ≡ k = omega arith in let m = ap (tick_of (setup_at plan i).clock) e in omega arith)
       ];
-      later = next_after c.checked_is_sound.ensures c.simulation_laws.ensures plan c.requires.checked i b k t c.requires.early begins;
+      later = next_after c.simulation_laws.ensures plan c.laws.ensures.sound i b k t c.requires.early begins;
     }
