@@ -13,6 +13,7 @@ mod Plain
 mod Resting
 mod Rows
 mod Runners
+mod Slices
 mod Steps
 mod Stretches
 mod Told

@@ -1,5 +1,5 @@
 -- What a stretch of quanta of one level does to a node that runs, by the laws of the simulation.
-use Rattle.std.proofs.Common.{◌≡◌, ℕ, suc, zero, ◌+◌, ◌<◌, ◌≤◌, Bool, true, false, inl, inr, List, [], ◌∷◌, ◌++◌, take, length, replicate, append_assoc, append-nil, add-one, add-zero, refl, sym, ◌∙◌, ap, subst, arith, if◌then◌else◌, get_or, All}
+use Rattle.std.proofs.Common.{◌≡◌, ℕ, suc, zero, ◌+◌, ◌<◌, ◌≤◌, Bool, true, false, inl, inr, List, [], ◌∷◌, ◌++◌, take, length, replicate, append_assoc, append-nil, add-one, add-zero, refl, sym, ◌∙◌, ap, subst, arith, if◌then◌else◌, All}
 use Rattle.std.proofs.lemmas.Bool.{cases_lt}
 use Rattle.std.proofs.lemmas.List.{replicate_more}
 use Rattle.std.proofs.lemmas.List.Elements.{All-append, All-cons}
@@ -23,7 +23,6 @@ use Rattle.wl_plan.specs.SimulationLaws.{SimulationLaws}
 use Rattle.wl_plan.specs.Sound.{IsCausal, IsSound}
 use Rattle.wl_serial.specs.declared.running_node.Running.{Running}
 use Rattle.wl_serial.specs.Running.{IsAt, IsLater, IsSomewhere, OwnIsTold, RunsOn, finds, line_with}
-use Rattle.wl_plan.proofs.Callers.{element_is}
 use Rattle.wl_serial.proofs.Found.{own_on}
 
 -- one quantum more stands below the end
@@ -214,11 +213,7 @@ after_some plan i k p laws sound b =
     let f = sound.causal.clocks i (k + p) b in
     omega (arith, e, f)
 
--- the setup at a place, as it is read
-pub setup_is : (plan : Plan) (i : ℕ) (x : NodeSetup) (xs : List NodeSetup) → xs ≡ plan.nodes → x ≡ get_or xs i x → i < length plan.nodes → get_or xs i x ≡ setup_at plan i
-setup_is plan i x xs e is b = sym is ∙ element_is plan i x xs e is b
-
--- by the clock of that setup, the quanta below a tick are more than have run, and few
+-- by the clock of the setup at a place, the quanta below a tick are more than have run, and few
 pub more_and_few : (plan : Plan) (i : ℕ) (r : Running) (x : NodeSetup) (quanta n until : ℕ) → SimulationLaws → IsSound (line_of plan) → i < length plan.nodes → (some : IsSomewhere plan i r)
     → x ≡ setup_at plan i → quanta ≡ quanta_of r.node → r.next < until → until ≤ plan.end → until ≤ tick_of x.clock n
     → ((k : ℕ) → k < n → tick_of x.clock k < until) → (quanta ≡ some.0) × (quanta < n) × (n ≤ most_quanta)

@@ -1,3 +1,4 @@
+pub mod Engine
 pub mod Guess
 pub mod Heard
 pub mod Outcome

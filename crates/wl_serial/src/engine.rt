@@ -3,20 +3,28 @@ ghost use Rattle.std.specs.Prelude.{◌≡◌, ◌<◌, ◌≤◌, IfOk, OnOk, M
 ghost use Rattle.std.specs.List.{range_with_len};
 ghost use Rattle.wl_plan.specs.Checked.{IsChecked};
 ghost use Rattle.wl_serial.specs.Outcome.{node_outcome_of, outcome_of};
+ghost use Rattle.wl_serial.specs.Engine.{GoesNext, IsEngine, IsNearer};
 ghost use Rattle.wl_serial.specs.Heard.{AreEars, AreHeard};
-ghost use Rattle.wl_serial.specs.Running.{AreRunning, AreKnown, AllKnown, NoneBefore, IsNext, ticks_left};
+ghost use Rattle.wl_serial.specs.Running.{AreRunning, AreKnown, AllKnown, NoneBefore, IsNext};
 
 use crate::checked::Checked;
 use crate::ear::Ear;
-use crate::guess::{guess, is_led};
+use crate::guess::is_led;
 use crate::outcome::{NodeOutcomes, Outcome};
-use crate::rest::rest;
 use crate::running_node::{Running, Ticks};
-use crate::turn::turn;
 use std::alloc::{AllocError, Global};
 use wl_level::Listed;
 use wl_plan::Plan;
 use wl_topology::MOST_NODES;
+
+/// The nodes of a plan as far as they have run, an ear at each place, and for each node the tick below which its drive is known.
+#[derive(Drop)]
+pub(crate) struct Engine {
+    pub(crate) nodes: Vec<Running>,
+    pub(crate) ears: Vec<Ear>,
+    /// The nodes have these ticks too: here they are read faster.
+    pub(crate) known: Ticks,
+}
 
 /// Returns the outcome of the tick-by-tick simulation of a plan that passed its check.
 ///
@@ -26,12 +34,10 @@ pub fn run_serial(alloc: Global, plan: &Plan) -> Result<Outcome, AllocError>
     ensures { IfOk result (λ outcome. outcome ≡ outcome_of plan.now) }
 {
     let checked = Checked::new(plan);
-    let mut running = begin(alloc, &checked)?;
-    let mut ears = listen(alloc, &checked)?;
-    let mut known = all_known(&checked, &running);
-    run(alloc, &checked, &mut running, &mut ears, &mut known)?;
+    let mut engine = Engine::new(alloc, &checked)?;
+    engine.run(alloc, &checked)?;
     Ok(Outcome {
-        nodes: finish(alloc, &checked, running)?,
+        nodes: finish(alloc, &checked, engine.nodes)?,
         end: plan.end,
     })
 }
@@ -72,88 +78,70 @@ pub(crate) fn all_known(plan: &Checked, running: &[Running]) -> Ticks
     known
 }
 
-/// Runs all quanta before the end.
-fn run(
-    alloc: Global,
-    plan: &Checked,
-    running: &mut [Running],
-    ears: &mut [Ear],
-    known: &mut Ticks,
-) -> Result<(), AllocError>
-    requires running { AreRunning plan.now running.old }
-    requires ears { AreEars plan.now ears.old }
-    requires heard { AreHeard plan.now running.old ears.old }
-    requires known { AreKnown plan.now.end running.old known.old }
-    ensures running { OnOk result (AreRunning plan.now running.new) }
-    ensures ended { OnOk result (NoneBefore plan.now.end running.new) }
-{
-    let mut refused = 0;
-    let mut asked = 0;
-    while let Some(j) = next_before(plan, running, known) {
-        let led = refused <= running[j].next && is_led(running, j);
-        if let Some(t) = step(alloc, plan, running, ears, known, j, led, &mut asked)? {
-            refused = t;
+impl Engine {
+    /// Returns the engine before the first quanta.
+    fn new(alloc: Global, plan: &Checked) -> Result<Engine, AllocError>
+        ensures { IfOk result (IsEngine plan.now) }
+    {
+        let nodes = begin(alloc, plan)?;
+        let ears = listen(alloc, plan)?;
+        let known = all_known(plan, &nodes);
+        Ok(Engine { nodes, ears, known })
+    }
+
+    /// Runs all quanta before the end.
+    fn run(&mut self, alloc: Global, plan: &Checked) -> Result<(), AllocError>
+        requires { IsEngine plan.now self.old }
+        ensures engine { OnOk result (IsEngine plan.now self.new) }
+        ensures ended { OnOk result (NoneBefore plan.now.end self.new.nodes.items) }
+    {
+        let mut refused = 0;
+        let mut asked = 0;
+        while let Some(j) = next_before(plan, &self.nodes, &self.known) {
+            let led = refused <= self.nodes[j].next && is_led(&self.nodes, j);
+            if let Some(t) = self.step(alloc, plan, j, led, &mut asked)? {
+                refused = t;
+            }
         }
+        Ok(())
     }
-    Ok(())
-}
 
-/// Lets node `j` go next. If all can go ahead by a guess they do; if not, or if the guess fails, the node has its turn. Returns the tick up
-/// to which a guess failed, if one did.
-fn step(
-    alloc: Global,
-    plan: &Checked,
-    running: &mut [Running],
-    ears: &mut [Ear],
-    known: &mut Ticks,
-    j: usize,
-    led: bool,
-    asked: &mut u64,
-) -> Result<Option<u64>, AllocError>
-    requires running { AreRunning plan.now running.old }
-    requires ears { AreEars plan.now ears.old }
-    requires heard { AreHeard plan.now running.old ears.old }
-    requires known { AreKnown plan.now.end running.old known.old }
-    requires next { IsNext plan.now.end running.old j }
-    ensures running { OnOk result (AreRunning plan.now running.new) }
-    ensures ears { OnOk result (AreEars plan.now ears.new) }
-    ensures heard { OnOk result (AreHeard plan.now running.new ears.new) }
-    ensures known { OnOk result (AreKnown plan.now.end running.new known.new) }
-    ensures fewer { OnOk result (ticks_left plan.now.end running.new < ticks_left plan.now.end running.old) }
-{
-    if !led {
-        plain(plan, running, ears, known, j, asked)?;
-        return Ok(None);
+    /// Lets node `j` go next. If all can go ahead by a guess they do; if not, or if the guess fails, the node has its turn. Returns the tick
+    /// up to which a guess failed, if one did.
+    fn step(
+        &mut self,
+        alloc: Global,
+        plan: &Checked,
+        j: usize,
+        led: bool,
+        asked: &mut u64,
+    ) -> Result<Option<u64>, AllocError>
+        requires engine { IsEngine plan.now self.old }
+        requires next { GoesNext plan.now j self.old }
+        ensures engine { OnOk result (IsEngine plan.now self.new) }
+        ensures nearer { OnOk result (IsNearer plan.now self.old self.new) }
+    {
+        if !led {
+            self.plain(plan, j, asked)?;
+            return Ok(None);
+        }
+        let failed = self.guess(alloc, plan, j)?;
+        if failed.is_some() {
+            self.plain(plan, j, asked)?;
+        }
+        Ok(failed)
     }
-    let failed = guess(alloc, plan, running, ears, known, j)?;
-    if failed.is_some() {
-        plain(plan, running, ears, known, j, asked)?;
-    }
-    Ok(failed)
-}
 
-/// Gives node `j` its turn, if the line doesn't rest up to there.
-fn plain(
-    plan: &Checked,
-    running: &mut [Running],
-    ears: &mut [Ear],
-    known: &mut Ticks,
-    j: usize,
-    asked: &mut u64,
-) -> Result<(), AllocError>
-    requires running { AreRunning plan.now running.old }
-    requires ears { AreEars plan.now ears.old }
-    requires heard { AreHeard plan.now running.old ears.old }
-    requires known { AreKnown plan.now.end running.old known.old }
-    requires next { IsNext plan.now.end running.old j }
-    ensures running { OnOk result (AreRunning plan.now running.new) }
-    ensures ears { OnOk result (AreEars plan.now ears.new) }
-    ensures heard { OnOk result (AreHeard plan.now running.new ears.new) }
-    ensures known { OnOk result (AreKnown plan.now.end running.new known.new) }
-    ensures fewer { OnOk result (ticks_left plan.now.end running.new < ticks_left plan.now.end running.old) }
-{
-    rest(plan, running, ears, known, j, asked);
-    turn(plan, running, ears, known, j)
+    /// Gives node `j` its turn, if the line doesn't rest up to there.
+    fn plain(&mut self, plan: &Checked, j: usize, asked: &mut u64) -> Result<(), AllocError>
+        requires engine { IsEngine plan.now self.old }
+        requires next { GoesNext plan.now j self.old }
+        ensures engine { OnOk result (IsEngine plan.now self.new) }
+        ensures nearer { OnOk result (IsNearer plan.now self.old self.new) }
+    {
+        self.rest(plan, j, asked);
+        self.turn(plan, j)
+    }
 }
 
 /// Returns the node whose drive is known the least far, of those that have a quantum before the end: all others wait for it.

@@ -5,15 +5,16 @@ ghost use Rattle.std.specs.Prelude.{◌≡◌, ◌≢◌, ℕ, ◌<◌, ◌≤�
 ghost use Rattle.wl_serial.specs.declared.ear.Ear.{Ear as GivenEar};
 ghost use Rattle.wl_serial.specs.declared.running_node.Running.{Running as GivenRunning};
 ghost use Rattle.wl_serial.specs.Guess.{AreAsFar, AreBack, AreBefore, AreLater, HaveListened, HavePassed, RanAlone};
+ghost use Rattle.wl_serial.specs.Engine.{GoesNext, IsEngine, IsNearer};
 ghost use Rattle.wl_serial.specs.Heard.{AreEars, AreHeard};
-ghost use Rattle.wl_serial.specs.Running.{AreRunning, AreSomewhere, AreKnown, IsNext, RunsBelow, ticks_left};
+ghost use Rattle.wl_serial.specs.Running.{AreRunning, AreSomewhere, RunsBelow, ticks_left};
 ghost use Rattle.wl_serial.specs.Stretch.{TellsTheSame};
 
 use crate::alone::Alone;
 use crate::checked::Checked;
 use crate::ear::Ear;
-use crate::engine::all_known;
-use crate::running_node::{Before, Running, Ticks};
+use crate::engine::{Engine, all_known};
+use crate::running_node::{Before, Running};
 use crate::turn::{run_found, stretch};
 use std::alloc::{AllocError, Global};
 
@@ -35,45 +36,40 @@ pub(crate) fn is_led(running: &[Running], j: usize) -> bool
     true
 }
 
-/// Runs all nodes ahead beside what node `j` sends. Returns `None` if they did what they do, and else the tick up to which they were run;
-/// then all are where they were.
-pub(crate) fn guess(
-    alloc: Global,
-    plan: &Checked,
-    running: &mut [Running],
-    ears: &mut [Ear],
-    known: &mut Ticks,
-    j: usize,
-) -> Result<Option<u64>, AllocError>
-    requires running { AreRunning plan.now running.old }
-    requires ears { AreEars plan.now ears.old }
-    requires heard { AreHeard plan.now running.old ears.old }
-    requires known { AreKnown plan.now.end running.old known.old }
-    requires next { IsNext plan.now.end running.old j }
-    ensures running { OnOk result (AreRunning plan.now running.new) }
-    ensures ears { OnOk result (AreEars plan.now ears.new) }
-    ensures heard { OnOk result (AreHeard plan.now running.new ears.new) }
-    ensures known { OnOk result (AreKnown plan.now.end running.new known.new) }
-    ensures went { IfOk result (λ failed. MatchOption failed
-        (ticks_left plan.now.end running.new < ticks_left plan.now.end running.old)
-        (λ t. AreAsFar running.old running.new)) }
-{
-    plan.laws();
-    wl_plan::simulation_laws();
-    wl_plan::a_consistent_guess_holds();
-    wl_record_core::table_laws();
-    wl_node::node_laws();
-    let marks = keep(alloc, running)?;
-    lead(plan, running, ears, j)?;
-    let until = running[j].next.min(plan.end());
-    if follow(plan, running, ears, j, until)? {
-        promise_all(plan, running);
-        *known = all_known(plan, running);
-        return Ok(None);
+impl Engine {
+    /// Runs all nodes ahead beside what node `j` sends. Returns `None` if they did what they do, and else the tick up to which they were run;
+    /// then all are where they were.
+    pub(crate) fn guess(
+        &mut self,
+        alloc: Global,
+        plan: &Checked,
+        j: usize,
+    ) -> Result<Option<u64>, AllocError>
+        requires engine { IsEngine plan.now self.old }
+        requires next { GoesNext plan.now j self.old }
+        ensures engine { OnOk result (IsEngine plan.now self.new) }
+        ensures went { IfOk result (λ failed. MatchOption failed (IsNearer plan.now self.old self.new)
+            (λ t. AreAsFar self.old.nodes.items self.new.nodes.items)) }
+    {
+        plan.laws();
+        wl_plan::simulation_laws();
+        wl_plan::a_consistent_guess_holds();
+        wl_record_core::table_laws();
+        wl_node::node_laws();
+        let nodes: &mut [Running] = &mut self.nodes;
+        let ears: &mut [Ear] = &mut self.ears;
+        let marks = keep(alloc, nodes)?;
+        lead(plan, nodes, ears, j)?;
+        let until = nodes[j].next.min(plan.end());
+        if follow(plan, nodes, ears, j, until)? {
+            promise_all(plan, nodes);
+            self.known = all_known(plan, nodes);
+            return Ok(None);
+        }
+        back(alloc, nodes, &marks)?;
+        forget(plan, ears);
+        Ok(Some(until))
     }
-    back(alloc, running, &marks)?;
-    forget(plan, ears);
-    Ok(Some(until))
 }
 
 /// Returns where all nodes are.

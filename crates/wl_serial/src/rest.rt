@@ -1,39 +1,33 @@
 //! A line at rest: all nodes go on at once.
 ghost use Rattle.std.specs.Prelude.{◌≡◌, ℕ, ◌<◌, ◌≤◌, length};
+ghost use Rattle.wl_serial.specs.Engine.{IsEngine};
 ghost use Rattle.wl_serial.specs.Heard.{AreEars, AreHeard};
 ghost use Rattle.wl_serial.specs.Rest.{AreLifted, AreSilent, AllStand, AllStay};
-ghost use Rattle.wl_serial.specs.Running.{AreRunning, AreKnown, IsNext};
+ghost use Rattle.wl_serial.specs.Running.{AreRunning, AreKnown};
 
 use crate::checked::Checked;
 use crate::ear::Ear;
+use crate::engine::Engine;
 use crate::running_node::{Running, Ticks};
 
-/// Lifts the ticks below which the drives are known, if the line is at rest. Node `j` goes next. `asked` is the tick at which all nodes were
-/// last asked. If node `j` isn't known further they are not asked again. It decides nothing but speed.
-pub(crate) fn rest(
-    plan: &Checked,
-    running: &mut [Running],
-    ears: &[Ear],
-    known: &mut Ticks,
-    j: usize,
-    asked: &mut u64,
-)
-    requires running { AreRunning plan.now running.old }
-    requires ears { AreEars plan.now ears.now }
-    requires heard { AreHeard plan.now running.old ears.now }
-    requires known { AreKnown plan.now.end running.old known.old }
-    requires node { j < length running.old }
-    ensures running { AreRunning plan.now running.new }
-    ensures known { AreKnown plan.now.end running.new known.new }
-    ensures lifted { AreLifted plan.now running.old running.new }
-{
-    let at = running[j].known;
-    if at == *asked {
-        return;
-    }
-    let until = rests_until(plan, running, ears, j, asked);
-    if at < until {
-        lift(plan, running, known, until);
+impl Engine {
+    /// Lifts the ticks below which the drives are known, if the line is at rest. Node `j` goes next. `asked` is the tick at which all nodes
+    /// were last asked. If node `j` isn't known further they are not asked again. It decides nothing but speed.
+    pub(crate) fn rest(&mut self, plan: &Checked, j: usize, asked: &mut u64)
+        requires engine { IsEngine plan.now self.old }
+        requires node { j < length self.old.nodes.items }
+        ensures engine { IsEngine plan.now self.new }
+        ensures lifted { AreLifted plan.now self.old.nodes.items self.new.nodes.items }
+    {
+        let at = self.nodes[j].known;
+        if at == *asked {
+            return;
+        }
+        let until = rests_until(plan, &self.nodes, &self.ears, j, asked);
+        if until <= at {
+            return;
+        }
+        lift(plan, &mut self.nodes, &mut self.known, until);
     }
 }
 

@@ -1,38 +1,32 @@
 //! A node's turn: all its quanta below its horizon.
 ghost use Rattle.std.specs.Prelude.{◌≡◌, ℕ, ◌<◌, ◌≤◌, false, IfOk, OnOk, length};
+ghost use Rattle.wl_serial.specs.Engine.{GoesNext, IsEngine, IsNearer};
 ghost use Rattle.wl_serial.specs.Heard.{AreEars, AreHeard, IsFound};
-ghost use Rattle.wl_serial.specs.Running.{AreRunning, AreSomewhere, AreKnown, KnowsOthers, IsNext, IsFewer, OnlyOne, RunsBelow, ticks_left};
+ghost use Rattle.wl_serial.specs.Running.{AreRunning, AreSomewhere, KnowsOthers, IsFewer, OnlyOne, RunsBelow};
 ghost use Rattle.wl_serial.specs.Stretch.{HasStretched, TellsTheSame};
 
 use crate::checked::Checked;
 use crate::ear::{Ear, Found, tell};
-use crate::running_node::{Running, Ticks};
+use crate::engine::Engine;
+use crate::running_node::Running;
 use std::alloc::AllocError;
 
-/// Runs all quanta of node `j` below its horizon, and notes up to which tick its drive is known then.
-pub(crate) fn turn(
-    plan: &Checked,
-    running: &mut [Running],
-    ears: &mut [Ear],
-    known: &mut Ticks,
-    j: usize,
-) -> Result<(), AllocError>
-    requires running { AreRunning plan.now running.old }
-    requires ears { AreEars plan.now ears.old }
-    requires heard { AreHeard plan.now running.old ears.old }
-    requires known { AreKnown plan.now.end running.old known.old }
-    requires next { IsNext plan.now.end running.old j }
-    ensures running { OnOk result (AreRunning plan.now running.new) }
-    ensures ears { OnOk result (AreEars plan.now ears.new) }
-    ensures heard { OnOk result (AreHeard plan.now running.new ears.new) }
-    ensures known { OnOk result (AreKnown plan.now.end running.new known.new) }
-    ensures fewer { OnOk result (ticks_left plan.now.end running.new < ticks_left plan.now.end running.old) }
-{
-    let horizon = ears[j].horizon(plan, running, known, j);
-    run_below(plan, running, ears, j, horizon)?;
-    running[j].promise(plan, j);
-    known[j] = running[j].known;
-    Ok(())
+impl Engine {
+    /// Runs all quanta of node `j` below its horizon, and notes up to which tick its drive is known then.
+    pub(crate) fn turn(&mut self, plan: &Checked, j: usize) -> Result<(), AllocError>
+        requires engine { IsEngine plan.now self.old }
+        requires next { GoesNext plan.now j self.old }
+        ensures engine { OnOk result (IsEngine plan.now self.new) }
+        ensures nearer { OnOk result (IsNearer plan.now self.old self.new) }
+    {
+        let nodes: &mut [Running] = &mut self.nodes;
+        let ears: &mut [Ear] = &mut self.ears;
+        let horizon = ears[j].horizon(plan, nodes, &self.known, j);
+        run_below(plan, nodes, ears, j, horizon)?;
+        nodes[j].promise(plan, j);
+        self.known[j] = nodes[j].known;
+        Ok(())
+    }
 }
 
 /// Runs all quanta of node `j` below `horizon`; every level that arrives before it is known.
