@@ -2,6 +2,7 @@ mod Loops
 mod TableLemmas
 mod ValueLemmas
 mod QuickLemmas
+mod FrameLemmas
 mod UnknownLemmas
 mod NameLemmas
 mod ReadLemmas

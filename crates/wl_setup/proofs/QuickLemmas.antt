@@ -45,7 +45,7 @@ none_parts : {A : Type 0} (o : Option A) (os : List (Option A)) → first_some (
 none_parts None os h = (refl, h)
 none_parts (Some x) os h = absurd (none-some x (sym h))
 
-pass : {A : Type 0} (o : Option A) (os : List (Option A)) → o ≡ None → first_some (o ∷ os) ≡ first_some os
+pub pass : {A : Type 0} (o : Option A) (os : List (Option A)) → o ≡ None → first_some (o ∷ os) ≡ first_some os
 pass None os h = refl
 pass (Some x) os h = absurd (none-some x (sym h))
 

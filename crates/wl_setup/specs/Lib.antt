@@ -8,6 +8,7 @@ pub mod Spots
 pub mod Names
 pub mod Document
 pub mod Quick
+pub mod QuickFrame
 pub mod Reading
 pub mod Plans
 pub mod Buses

@@ -143,6 +143,12 @@ node_of_pairs ps frames = record {
 abbrev pub members : Pairs → Members
 members ps = close (nodes_of ps)
 
+-- a text has the pairs of a table without fault, and this is what they say
+abbrev pub IsTableText : {T : Type 0} → (Members → Option SetupFault) → (Members → T) → List ℕ → T → List ℕ → Type 0
+IsTableText fault make text made rest =
+    (ps : Pairs) × Goes text (map pair_expression ps) rest × IsTable ps
+    × (fault (members ps) ≡ None) × (made ≡ make (members ps))
+
 -- a text has tables below headers of one kind, all without fault, and this is what they say
 abbrev pub AreTables : {T : Type 0} → (Members → Option SetupFault) → (Members → T)
     → List ℕ → Header → List T → List ℕ → Type 0

@@ -12,6 +12,7 @@ mod names;
 mod plan;
 mod plan_text;
 mod quick;
+mod quick_frame;
 mod read;
 mod spot;
 mod tables;

@@ -1,6 +1,6 @@
 //! Plans' texts of the usual form: a line for each key, the nodes with their frames, then the disturbances. `None` says nothing
 //! of a text. Only texts of the first version are of the usual form.
-ghost use Rattle.std.specs.Prelude.{◌≡◌, IsTrue, None, true, IfSome, Some};
+ghost use Rattle.std.specs.Prelude.{◌≡◌, ◌≤◌, length, IsTrue, None, true, IfSome, Some};
 ghost use Rattle.toml.specs.Data.{Members};
 ghost use Rattle.toml.specs.Parse.{parse_document};
 ghost use Rattle.wl_tables.specs.Tables.{IsTable, Goes};
@@ -10,17 +10,17 @@ ghost use Rattle.wl_setup.specs.Keys.{table_keys};
 ghost use Rattle.wl_setup.specs.Limits.{first_version};
 ghost use Rattle.wl_setup.specs.Faults.{required_fault_of, optional_fault_of, frame_fault, disturbance_fault};
 ghost use Rattle.wl_setup.specs.Texts.{frame_of, disturbance_of};
-ghost use Rattle.wl_setup.specs.Quick.{pair_value, required_pairs, optional_pairs, has_only, HasKeys, first_frame_keys, first_disturbance_keys, frame_of_pairs, disturbance_of_pairs, clock_of_pairs, pair_keys, node_of_pairs, members, AreTables, IsNodeText, AreNodes, IsTopRow, plan_of_pairs, Says, value_data};
+ghost use Rattle.wl_setup.specs.Quick.{pair_value, required_pairs, optional_pairs, has_only, HasKeys, first_disturbance_keys, disturbance_of_pairs, clock_of_pairs, pair_keys, node_of_pairs, members, IsTableText, AreTables, IsNodeText, AreNodes, IsTopRow, plan_of_pairs, Says, value_data};
 ghost use Rattle.wl_setup.specs.Reading.{document_of};
 
 use crate::fault::SetupFault;
 use crate::keys::{self, Key, Keys};
 use crate::limits::FIRST_VERSION;
 use crate::plan_text::{ClockText, DisturbanceText, FrameText, NodeText, PlanText, RateText};
+use crate::quick_frame::{frame_of_lines, read_frame_lines};
 use crate::tables::is_among;
 use crate::values::{
-    bytes_of, has_kind, name_of, number_of, ppm_of, small_of, sync_choice_of, tolerance_of,
-    truth_of,
+    has_kind, name_of, number_of, ppm_of, small_of, sync_choice_of, tolerance_of, truth_of,
 };
 use std::alloc::Global;
 use toml::Value;
@@ -96,8 +96,8 @@ fn fits(row: &Row, keys: Keys) -> bool
     has_required(row, keys.required) && has_optional(row, keys.optional) && has_only(row, keys)
 }
 
-/// What the pairs below a header are read as.
-trait QuickRow: Drop {
+/// What the lines below a header are read as.
+trait QuickTable: Drop {
     ghost use Rattle.std.specs.Prelude.{Option};
     ghost use Rattle.toml.specs.Data.{Members};
     ghost use Rattle.wl_setup.specs.declared.fault.SetupFault.{SetupFault};
@@ -108,53 +108,21 @@ trait QuickRow: Drop {
     /// What such a table says.
     ghost make: { Members → Self };
 
-    fn quick(alloc: Global, row: &Row) -> Option<Self>
-        requires { IsTable (pairs_of row.now) }
-        ensures fault { IfSome result (λ r. Self.fault (members (pairs_of row.now)) ≡ None) }
-        ensures value { IfSome result (λ r. r ≡ Self.make (members (pairs_of row.now))) };
+    /// Returns what the lines up to the next header or the end say, and the text from there.
+    fn read(alloc: Global, s: &str) -> Option<(Self, &str)>
+        ensures table { IfSome result (λ r. IsTableText Self.fault Self.make s.now r.0 r.1.now) }
+        ensures within { IfSome result (λ r. length r.1.now ≤ length s.now) };
 }
 
-/// Returns the keys of a frame of the first version.
-fn frame_keys() -> Keys
-    ensures required { result.required.now ≡ first_frame_keys.required }
-    ensures optional { result.optional.now ≡ first_frame_keys.optional }
-{
-    Keys {
-        required: keys::frame_required(false),
-        optional: keys::frame_optional(false),
-    }
-}
-
-/// Returns the frame that pairs say.
-fn frame(alloc: Global, row: &Row) -> Option<FrameText>
-    ensures { IfSome result (λ f. f ≡ frame_of_pairs (pairs_of row.now)) }
-{
-    match bytes_of(alloc, value(row, Key::Bytes)) {
-        Ok(bytes) => Some(FrameText {
-            id: small_of(value(row, Key::Id)),
-            dlc: small_of(value(row, Key::Dlc)),
-            remote: truth_of(value(row, Key::Remote)),
-            bytes,
-            ready: number_of(value(row, Key::Ready)),
-            extended: truth_of(value(row, Key::Extended)),
-            every: None,
-            count: None,
-        }),
-        Err(_) => None,
-    }
-}
-
-impl QuickRow for FrameText {
+impl QuickTable for FrameText {
     ghost fault = { frame_fault first_version };
 
     ghost make = { frame_of };
 
-    fn quick(alloc: Global, row: &Row) -> Option<FrameText> {
-        if fits(row, frame_keys()) {
-            frame(alloc, row)
-        } else {
-            None
-        }
+    fn read(alloc: Global, s: &str) -> Option<(FrameText, &str)> {
+        let (lines, rest) = read_frame_lines(alloc, s)?;
+        let frame = frame_of_lines(alloc, lines)?;
+        Some((frame, rest))
     }
 }
 
@@ -181,14 +149,15 @@ fn disturbance(row: &Row) -> DisturbanceText
     }
 }
 
-impl QuickRow for DisturbanceText {
+impl QuickTable for DisturbanceText {
     ghost fault = { disturbance_fault first_version };
 
     ghost make = { disturbance_of };
 
-    fn quick(_alloc: Global, row: &Row) -> Option<DisturbanceText> {
-        if fits(row, disturbance_keys()) {
-            Some(disturbance(row))
+    fn read(alloc: Global, s: &str) -> Option<(DisturbanceText, &str)> {
+        let (row, rest) = read_row(alloc, s)?;
+        if fits(&row, disturbance_keys()) {
+            Some((disturbance(&row), rest))
         } else {
             None
         }
@@ -196,7 +165,7 @@ impl QuickRow for DisturbanceText {
 }
 
 /// Returns what the tables below headers of this kind say, and the text from the next line of another kind on.
-fn read_tables<T: QuickRow>(alloc: Global, s: &str, which: Header) -> Option<(Listed<T>, &str)>
+fn read_tables<T: QuickTable>(alloc: Global, s: &str, which: Header) -> Option<(Listed<T>, &str)>
     ensures { IfSome result (λ r. AreTables T.fault T.make s.now which r.0 r.1.now) }
 {
     let mut made = Listed::new(alloc);
@@ -205,8 +174,7 @@ fn read_tables<T: QuickRow>(alloc: Global, s: &str, which: Header) -> Option<(Li
         let Some(below) = pass_header(alloc, rest, which) else {
             return Some((made, rest));
         };
-        let (row, next) = read_row(alloc, below)?;
-        let table = T::quick(alloc, &row)?;
+        let (table, next) = T::read(alloc, below)?;
         match made.push(table) {
             Ok(()) => rest = next,
             Err(_) => return None,

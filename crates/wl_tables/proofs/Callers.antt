@@ -1,17 +1,20 @@
 -- What callers cite: texts in pieces, the document of a plan's lines, and what its tables hold.
-use Rattle.std.proofs.Common.{Option, ◌&&◌, ◌≡◌, ℕ, suc, ◌<◌, ◌==◌, Bool, true, false, List, [], ◌∷◌, ◌++◌, length, map, Ordering, Less, Equal, Greater, nat_cmp, Some, None, option_map, refl, sym, ap, ◌∙◌, inl, inr, ◌⊎◌, arith}
+use Rattle.std.proofs.Common.{Option, ◌&&◌, ◌≡◌, ℕ, suc, ◌<◌, ◌≤◌, ◌==◌, Bool, true, false, List, [], ◌∷◌, ◌++◌, length, map, Ordering, Less, Equal, Greater, nat_cmp, Some, None, option_map, refl, sym, ap, ◌∙◌, inl, inr, ◌⊎◌, arith}
 use Rattle.std.proofs.lemmas.Bool.{and_parts}
 use Rattle.std.proofs.lemmas.Option.{same_Some}
 use Rattle.std.specs.List.{AllByRecursion, list_all}
 use Rattle.std.specs.Cmp.Lexicographic.{slice_cmp}
-use Rattle.toml_parser.specs.Lexical.{first}
+use Rattle.std.proofs.lemmas.List.{map-append}
+use Rattle.toml_parser.specs.Lexical.{first, skip_blank}
 use Rattle.toml.specs.Data.{Members, no_members, member, Data, array, table, Items, no_items, item, push_item, get_member, same_key}
 use Rattle.toml.specs.Tables.{Node, Nodes, no_nodes, node, value, insert, close, close_node, Expression, Document}
-use Rattle.toml.specs.Parse.{lines, skip_bom, parse_document}
+use Rattle.toml.specs.Parse.{line, lines, skip_bom, parse_document}
 use Rattle.toml.specs.View.{items_of}
 use Rattle.toml.proofs.Turns.{document_some}
-use Rattle.wl_tables.specs.Tables.{Pairs, Goes, puts, nodes_of, IsTable, first_value, complete, array_of, with_tables, lines_of_each, Group, plan_lines, plan_nodes, IsNodeTable, IsTop, IsOver, PlansAreRead}
+use Rattle.wl_tables.specs.Tables.{Pairs, pair_expression, Goes, puts, nodes_of, IsTable, first_value, complete, array_of, with_tables, lines_of_each, Group, plan_lines, plan_nodes, IsNodeTable, IsTop, IsOver, PlansAreRead}
 use Rattle.wl_tables.proofs.GoesLemmas as goes
+pub use Rattle.wl_tables.proofs.LineLemmas.{line_of_pair}
+pub use Rattle.wl_tables.proofs.TableLemmas.{table_last}
 use Rattle.wl_tables.proofs.TableLemmas.{get_inserted, member_of_node, member_of_table, put_split}
 use Rattle.wl_tables.proofs.ArrayLemmas.{get_past_tables, run_plan}
 
@@ -112,3 +115,9 @@ keys_of_table test ps h all = keys_put test ps no_nodes (nodes_of ps) h all refl
 pub keys_of_tables : (test : List ℕ → Bool) (k : List ℕ) (ns : List Nodes) (base : Nodes) → test k ≡ true → all_keys test (close base) ≡ true → all_keys test (close (with_tables k ns base)) ≡ true
 keys_of_tables test k [] base here all = all
 keys_of_tables test k (n ∷ ns) base here all = keys_inserted test k (array_of no_items n ns) base here all
+
+-- a row of one pair more
+pub row_last : (text rest start after : List ℕ) (ps : Pairs) (p : List ℕ × Data) → Goes text (map pair_expression ps) rest → start ≡ skip_blank rest → length start ≤ length rest
+    → line start ≡ Some (pair_expression p, after) → length after < length start → Goes text (map pair_expression (ps ++ p ∷ [])) after
+row_last text rest start after ps p h is within read shorter =
+    rw (map-append pair_expression ps (p ∷ [])) (goes.goes_more text (map pair_expression ps) rest start (pair_expression p) after h is within read shorter)

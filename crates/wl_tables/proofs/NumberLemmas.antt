@@ -1,8 +1,7 @@
 -- Plain decimal digits are a word of TOML's grammar, and write the number that they look like.
-use Rattle.std.proofs.Common.{◌≡◌, ℕ, ◌+◌, ◌^◌, ◌<◌, ◌≤◌, Bool, true, false, not, ◌&&◌, ◌||◌, ◌==◌, pos, List, [], ◌∷◌, ◌++◌, length, take, drop, length-take, decimal, Some, refl, sym, ap, ◌∙◌, subst, arith, take-append-drop, get_or, get_or-take}
-use Rattle.std.proofs.lemmas.Bool.{and_parts}
+use Rattle.std.proofs.Common.{◌≡◌, ℕ, ◌+◌, ◌^◌, ◌<◌, ◌≤◌, true, pos, List, ◌++◌, length, take, drop, length-take, decimal, Some, sym, ap, ◌∙◌, subst, arith, take-append-drop, get_or, get_or-take}
 use Rattle.std.proofs.lemmas.Bool.Decides.{nat_tests}
-use Rattle.std.proofs.lemmas.List.Sums.{prefix_len-le-length, prefix_len_passes}
+use Rattle.std.proofs.lemmas.List.Sums.{prefix_len_passes}
 use Rattle.std.proofs.lemmas.Str.Parse.{IsNumeralModel, numerals_by_value, tells_digits, tells_by_index, digits_value_short}
 use Rattle.std.proofs.lemmas.Fmt.{decimal-digits_value}
 use Rattle.std.specs.Char.{is_ascii_digit}

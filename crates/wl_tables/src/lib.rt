@@ -4,12 +4,15 @@
 //! of another form, or no TOML, or memory was refused.
 #![tactic(auto)]
 
+mod bytes;
 mod header;
 mod laws;
 mod number;
 mod row;
 mod value;
 
+pub use bytes::{read_bytes, read_number};
 pub use header::{Header, is_over, pass_header};
 pub use laws::plans_are_read;
-pub use row::{Pair, Row, read_row};
+pub use row::{Pair, Row, ends_line, key_equals, read_row};
+pub use value::read_value;

@@ -1,8 +1,9 @@
 //! Numbers that are written as plain decimal digits.
-ghost use Rattle.std.specs.Prelude.{◌≡◌, ◌<◌, ◌≤◌, ◌^◌, pos, length, Some, IfSome, option_map};
+ghost use Rattle.std.specs.Prelude.{◌≡◌, ◌<◌, ◌≤◌, ◌^◌, true, pos, length, Some, IfSome, option_map};
 ghost use Rattle.std.specs.Char.{is_ascii_digit};
 ghost use Rattle.std.specs.List.{prefix_len};
 ghost use Rattle.std.specs.Str.Parse.{digits_value, AllDigits};
+ghost use Rattle.toml_parser.specs.Lexical.{first};
 ghost use Rattle.toml_parser.specs.declared.scalar.Scalar.TheVariants.{Integer};
 ghost use Rattle.toml_parser.specs.Numbers.{unquoted};
 ghost use Rattle.wl_tables.specs.Numbers as spec;
@@ -53,6 +54,7 @@ fn ends_word(s: &str) -> bool
 pub(crate) fn plain_number(s: &str) -> Option<(u64, &str)>
     ensures number { option_map (λ r. (r.0, r.1.now)) result ≡ spec.plain_number s.now }
     ensures value { IfSome result (λ r. unquoted s.now ≡ Some (Integer (pos r.0), r.1.now)) }
+    ensures digit { IfSome result (λ _. is_ascii_digit (first s.now) ≡ true) }
     ensures fits { IfSome result (λ r. r.0 < 2 ^ 63) }
     ensures shorter { IfSome result (λ r. length r.1.now < length s.now) }
 {

@@ -7,7 +7,7 @@ ghost use Rattle.toml.specs.Parse as spec;
 ghost use Rattle.wl_tables.specs.Tables.{pair_expression, Goes, IsTable, first_value};
 ghost use Rattle.wl_tables.specs.Rows.{pair_view, pairs_of};
 
-use crate::value::value;
+use crate::value::read_value;
 use std::alloc::Global;
 use toml::Value;
 use toml_parser::bytes::is_bare;
@@ -34,7 +34,7 @@ fn bare_len(bytes: &[u8]) -> usize
 }
 
 /// Returns the key at the front, which has no quotes and no dots, and the text after its `=`.
-fn key_equals(s: &str) -> Option<(&str, &str)>
+pub fn key_equals(s: &str) -> Option<(&str, &str)>
     ensures key { IfSome result (λ r. spec.key_equals s.now ≡ Some (([], r.0.now), r.1.now)) }
     ensures bare { IfSome result (λ r. is_bare (first s.now) ≡ true) }
     ensures shorter { IfSome result (λ r. length r.1.now < length s.now) }
@@ -52,7 +52,7 @@ fn key_equals(s: &str) -> Option<(&str, &str)>
 }
 
 /// True if nothing but white space or a comment is left of the line.
-pub(crate) fn ends_line(s: &str) -> bool
+pub fn ends_line(s: &str) -> bool
     ensures { result ≡ spec.ends_line (skip_ws s.now) }
 {
     let end = skip_ws(s);
@@ -65,7 +65,7 @@ fn read_pair(alloc: Global, s: &str) -> Option<(Pair<'_>, &str)>
     ensures shorter { IfSome result (λ r. length r.1.now < length s.now) }
 {
     let (key, at_value) = key_equals(s)?;
-    let (value, rest) = value(alloc, at_value)?;
+    let (value, rest) = read_value(alloc, at_value)?;
     if ends_line(rest) {
         Some((Pair { key, value }, rest))
     } else {

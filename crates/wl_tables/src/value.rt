@@ -43,7 +43,7 @@ fn atom(alloc: Global, s: &str) -> Option<(Value, &str)>
 }
 
 /// Returns the value at the front, which is no array and no table, and the text after it.
-fn flat_value(alloc: Global, s: &str) -> Option<(Value, &str)>
+pub(crate) fn flat_value(alloc: Global, s: &str) -> Option<(Value, &str)>
     ensures value { (depth : ℕ) → IfSome result (λ r. spec.val depth s.now ≡ Some (view r.0, r.1.now)) }
     ensures shorter { IfSome result (λ r. length r.1.now < length s.now) }
 {
@@ -54,7 +54,7 @@ fn flat_value(alloc: Global, s: &str) -> Option<(Value, &str)>
 }
 
 /// Returns the text after a comma, or at the closing bracket of an array.
-fn after_element(s: &str) -> Option<&str>
+pub(crate) fn after_element(s: &str) -> Option<&str>
     ensures value { IfSome result (λ rest. spec.after_element 93 s.now ≡ Some rest.now) }
     ensures within { IfSome result (λ rest. length rest.now ≤ length s.now) }
 {
@@ -91,7 +91,7 @@ fn array(alloc: Global, s: &str) -> Option<(Vec<Value>, &str)>
 }
 
 /// Returns the value at the front, which holds no array in an array and no table, and the text after it.
-pub(crate) fn value(alloc: Global, s: &str) -> Option<(Value, &str)>
+pub fn read_value(alloc: Global, s: &str) -> Option<(Value, &str)>
     ensures value { IfSome result (λ r. spec.val recursion_limit s.now ≡ Some (view r.0, r.1.now)) }
     ensures shorter { IfSome result (λ r. length r.1.now < length s.now) }
 {

@@ -3,7 +3,7 @@ use Rattle.std.proofs.lemmas.Grind.{common_steps}
 use Rattle.toml_parser.specs.Lexical.{first}
 use Rattle.toml.proofs.Turns.{val_open_array}
 use Rattle.toml.proofs.Views.{view-Array}
-use Rattle.wl_tables.proofs.value.value.Goals as goal
+use Rattle.wl_tables.proofs.value.read_value.Goals as goal
 
 pub returns-then-first-eq91-clause-value : goal.returns-then-first-eq91-clause-value
 returns-then-first-eq91-clause-value c =
