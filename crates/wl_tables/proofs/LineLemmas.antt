@@ -1,15 +1,18 @@
 -- The lines of pairs and headers.
-use Rattle.std.proofs.Common.{◌≡◌, ℕ, ◌<◌, true, false, ◌==◌, List, [], ◌∷◌, take, drop, slice_index, Some, refl, ◌∙◌, inl, inr, arith}
+use Rattle.std.proofs.Common.{◌≡◌, ℕ, ◌<◌, true, false, ◌==◌, List, [], ◌∷◌, ◌++◌, length, take, drop, take-append-drop, slice_index, Some, refl, ap, ◌∙◌, subst, inl, inr, arith}
 use Rattle.std.proofs.lemmas.Bool.{cases_Bool}
 use Rattle.std.proofs.lemmas.Bool.Decides.{nat_tests}
 use Rattle.std.specs.List.{prefix_len}
 use Rattle.toml_parser.specs.Lexical.{first, is_bare, skip_ws}
-use Rattle.toml_parser.specs.Strings.{Key, key, simple_key, starts_string, recursion_limit}
+use Rattle.toml_parser.specs.Strings.{Key, key, key_after, simple_key, starts_string, recursion_limit}
 use Rattle.toml_parser.proofs.StringsLemmas.{key_after_turn}
 use Rattle.toml.specs.Data.{Data}
 use Rattle.toml.specs.Tables.{key_value, array_table}
 use Rattle.toml.specs.Parse.{val, key_equals, header_key, expression, ends_line, line}
 use Rattle.toml.proofs.Turns.{keyval_ok}
+use Rattle.wl_tables.specs.Tables.{header_expression, key_of_header, usual_text}
+use Rattle.wl_tables.specs.declared.header.Header.{Header}
+use Rattle.wl_tables.specs.declared.header.Header.TheVariants as which
 
 pub first_bare : (text : List ℕ) → 0 < prefix_len is_bare text → is_bare (first text) ≡ true
 first_bare [] some = absurd (omega arith)
@@ -57,3 +60,24 @@ line_of_header (c ∷ b ∷ text) after rest k opened second keyed close closed 
 pub first_of_rest : (text : List ℕ) → first (drop 1 text) ≡ slice_index text 1
 first_of_rest [] = refl
 first_of_rest (c ∷ cs) = refl
+
+key_of_usual : (w : Header) (rest : List ℕ) → key (skip_ws (drop 2 (usual_text w ++ rest))) ≡ Some (key_of_header w, 93 ∷ 93 ∷ rest)
+unfolding skip_ws simple_key key_after
+key_of_usual which.Node rest = refl
+key_of_usual which.Frame rest = refl
+key_of_usual which.Disturbance rest = refl
+
+line_from_usual : (w : Header) (rest : List ℕ) → ends_line (skip_ws rest) ≡ true → line (usual_text w ++ rest) ≡ Some (header_expression (key_of_header w), rest)
+line_from_usual which.Node rest ends =
+    line_of_header (usual_text which.Node ++ rest) (93 ∷ 93 ∷ rest) rest (key_of_header which.Node) refl refl (key_of_usual which.Node rest) refl refl refl ends
+line_from_usual which.Frame rest ends =
+    line_of_header (usual_text which.Frame ++ rest) (93 ∷ 93 ∷ rest) rest (key_of_header which.Frame) refl refl (key_of_usual which.Frame rest) refl refl refl ends
+line_from_usual which.Disturbance rest ends =
+    line_of_header (usual_text which.Disturbance ++ rest) (93 ∷ 93 ∷ rest) rest (key_of_header which.Disturbance) refl refl (key_of_usual which.Disturbance rest) refl refl refl ends
+
+-- the line of a header that is written as usual
+pub line_of_usual : (w : Header) (text rest : List ℕ) → usual_text w ≡ take (length (usual_text w)) text → rest ≡ drop (length (usual_text w)) text → ends_line (skip_ws rest) ≡ true
+    → line text ≡ Some (header_expression (key_of_header w), rest)
+line_of_usual w text rest front is ends =
+    let whole : usual_text w ++ rest ≡ text = ap (λ t. t ++ rest) front ∙ ap (λ t. take (length (usual_text w)) text ++ t) is ∙ take-append-drop (length (usual_text w)) text in
+    subst (λ t. line t ≡ Some (header_expression (key_of_header w), rest)) whole (line_from_usual w rest ends)

@@ -27,6 +27,12 @@ key_of_header which.Node = ([], codes "node")
 key_of_header which.Frame = (codes "node" ∷ [], codes "frame")
 key_of_header which.Disturbance = ([], codes "disturbance")
 
+-- a header as it is usually written
+abbrev pub usual_text : Header → List ℕ
+usual_text which.Node = codes "[[node]]"
+usual_text which.Frame = codes "[[node.frame]]"
+usual_text which.Disturbance = codes "[[disturbance]]"
+
 -- the document after some expressions
 abbrev pub after_lines : Document → List Expression → Option Document
 after_lines doc [] = Some doc

@@ -3,7 +3,7 @@ ghost use Rattle.std.specs.Prelude.{◌≡◌, ◌==◌, IsTrue, true, Some, [],
 ghost use Rattle.toml_parser.specs.Lexical.{first, skip_ws};
 ghost use Rattle.toml_parser.specs.Reading.{key_view};
 ghost use Rattle.toml.specs.Parse as spec;
-ghost use Rattle.wl_tables.specs.Tables.{Goes, IsOver, header_expression, key_of_header};
+ghost use Rattle.wl_tables.specs.Tables.{Goes, IsOver, header_expression, key_of_header, usual_text};
 
 use crate::row::ends_line;
 use std::alloc::Global;
@@ -85,12 +85,39 @@ fn is_named(key: &Key, which: Header) -> bool
     }
 }
 
+/// Returns the header as it is usually written.
+fn usual_text(which: Header) -> &'static str
+    ensures { result.now ≡ usual_text which }
+{
+    match which {
+        Header::Node => "[[node]]",
+        Header::Frame => "[[node.frame]]",
+        Header::Disturbance => "[[disturbance]]",
+    }
+}
+
+/// Returns the text after the header at the front, if it is written as usual and nothing but white space or a comment is left of its line.
+fn after_usual(s: &str, which: Header) -> Option<&str>
+    ensures line { IfSome result (λ rest. spec.line s.now ≡ Some (header_expression (key_of_header which), rest.now)) }
+    ensures shorter { IfSome result (λ rest. length rest.now < length s.now) }
+{
+    let text = usual_text(which);
+    if !s.as_bytes().starts_with(text.as_bytes()) {
+        return None;
+    }
+    let rest = skip(s, text.len());
+    if ends_line(rest) { Some(rest) } else { None }
+}
+
 /// Returns the text after the next line with something on it, if that is this header.
 pub fn pass_header(alloc: Global, s: &str, which: Header) -> Option<&str>
     ensures line { IfSome result (λ rest. Goes s.now (header_expression (key_of_header which) ∷ []) rest.now) }
     ensures shorter { IfSome result (λ rest. length rest.now < length s.now) }
 {
     let start = skip_blank(s, true);
+    if let Some(rest) = after_usual(start, which) {
+        return Some(rest);
+    }
     let (key, rest) = double_header(alloc, start)?;
     if is_named(&key, which) {
         Some(rest)
