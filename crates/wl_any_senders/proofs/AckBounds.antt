@@ -33,7 +33,7 @@ module _ (bus : Bus) (s : Stations) (line : AreOnALine s) (of : IsBusOf bus s) (
   abbrev late : ℕ → ℕ → ℕ
   late = chased_way s winner chase
 
-  drift_high : (i k : ℕ) → i < s.count → k < s.count → bus.tick * bit_drift s i k ≤ shared_tick s i k * drift bus i k
+  pub drift_high : (i k : ℕ) → i < s.count → k < s.count → bus.tick * bit_drift s i k ≤ shared_tick s i k * drift bus i k
   drift_high i k ni nk =
       let d = drift_is bus s line of i k in
       let h =
@@ -84,10 +84,10 @@ module _ (bus : Bus) (s : Stations) (line : AreOnALine s) (of : IsBusOf bus s) (
   ]
 
   -- a look and what gathers, in parts
-  extra : (i k : ℕ) → ℕ
+  pub extra : (i k : ℕ) → ℕ
   extra i k = shared_quantum s k i + shared_tick s i k - s.delay k k * shared_tick s i k + gathers s winner chase k i
 
-  extra_high : (i k : ℕ) → i < s.count → k < s.count → bus.tick * extra i k ≤ shared_tick s i k * (look bus k + gathered bus chase i k)
+  pub extra_high : (i k : ℕ) → i < s.count → k < s.count → bus.tick * extra i k ≤ shared_tick s i k * (look bus k + gathered bus chase i k)
   unfolding extra
   extra_high i k ni nk =
       add bus.tick (shared_tick s i k) (shared_quantum s k i + shared_tick s i k - s.delay k k * shared_tick s i k) (gathers s winner chase k i) (look bus k) (gathered bus chase i k)
@@ -105,7 +105,7 @@ module _ (bus : Bus) (s : Stations) (line : AreOnALine s) (of : IsBusOf bus s) (
         | inr none ↦ (let own = own_none bus s line of i k none in omega arith)
       ]
 
-  late_is : (i k : ℕ) → i < s.count → k < s.count → late k i ≤ (s.delay k i + s.delay i k) * shared_tick s i k + extra i k
+  pub late_is : (i k : ℕ) → i < s.count → k < s.count → late k i ≤ (s.delay k i + s.delay i k) * shared_tick s i k + extra i k
   unfolding extra
   late_is i k ni nk =
       sums (s.way k i) ((s.delay k i + s.delay i k) * shared_tick s i k) (shared_quantum s k i + shared_tick s i k - s.delay k k * shared_tick s i k) (gathers s winner chase k i) (way_any i k ni nk)

@@ -12,3 +12,5 @@ pub use Rattle.wl_any_senders.proofs.Acks.{acknowledged, another}
 pub use Rattle.wl_any_senders.proofs.Sampled.{is_there}
 pub use Rattle.wl_any_senders.proofs.Nodes.{Passes, Same, fine_counts, drive_by, drive_first, drives, expected_new, happened_by, has_expected, inputs_by, same_at, seen_are, seen_before_same, sees_in}
 pub use Rattle.wl_any_senders.proofs.Plans.{line_of_plan}
+pub use Rattle.wl_any_senders.proofs.AckBounds.{drift_high, extra, extra_high, late_is}
+pub use Rattle.wl_any_senders.proofs.Bounded.{inside as inside_bus, quanta_low}

@@ -10,3 +10,4 @@ mod Rows
 mod Sampling
 mod Slot
 mod Ticking
+mod Twelve

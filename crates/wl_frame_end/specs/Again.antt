@@ -12,6 +12,9 @@ use Rattle.wl_machine.specs.Judged.{stretch_of}
 use Rattle.wl_node.specs.History.{History}
 use Rattle.wl_phase.specs.InStep.{seen_before}
 use Rattle.wl_wire.specs.Wire.{Handed, sampled}
+use Rattle.wl_bound.specs.Families.{Bus}
+use Rattle.wl_bound.specs.Terms.{drift, look}
+use Rattle.wl_any_senders.specs.Answers.{gathered}
 use Rattle.wl_any_senders.specs.Stations.{Stations, bit_drift, shared_quantum, shared_tick}
 use Rattle.wl_any_senders.specs.Clocked.{SamplesBy}
 use Rattle.wl_any_senders.specs.Expected.{Outset, past_at}
@@ -25,6 +28,11 @@ past_end s o end handed k = past_at s o (end + 12) k ++ Sample (sampled Recessiv
 abbrev pub HasRoomToRest : Stations → (late : ℕ → ℕ → ℕ) → Type 0
 HasRoomToRest s late = (i k : ℕ) → i < s.count → k < s.count → i ≢ k
     → late k i + 12 * bit_drift s i k + shared_tick s i k ≤ (s.delay k i + s.delay i k) * shared_tick s i k + (s.lengths i).ps2 * shared_quantum s i k
+
+-- The inequality for that, of any two nodes of a bus as if both sent, wherever within its tolerance each clock lies.
+abbrev pub LeavesRoomToRest : Bus → (chase : ℕ → ℕ) → Type 0
+LeavesRoomToRest bus chase = (i k : ℕ) → i < bus.nodes → k < bus.nodes → i ≢ k
+    → look bus k + gathered bus chase i k + 12 * drift bus i k + bus.tick ≤ (bus.lengths i).ps2 * bus.shortest i
 
 -- A node rests, as before a first frame (`RestsBefore`): it has sampled a recessive bit with its place 0 at the quantum `rest`, and no edge has moved that bit. Its machine is where `past`
 -- puts it, nothing has counted, and it has driven nothing since a quantum.

@@ -9,7 +9,7 @@ ghost use Rattle.wl_segments.specs.Lengths.{bit_quanta};
 ghost use Rattle.wl_machine.specs.Stretch.{Sampled};
 ghost use Rattle.wl_machine.specs.Frames.{frame_role, stuffed_end};
 ghost use Rattle.wl_machine.specs.Judged.{drive_of};
-ghost use Rattle.wl_any_senders.specs.Stations.{AreStations, HaveRoom, Stations};
+ghost use Rattle.wl_any_senders.specs.Stations.{AreOnALine, AreStations, HaveRoom, Stations};
 ghost use Rattle.wl_any_senders.specs.Machines.{HasWon, MayBeginTogether};
 ghost use Rattle.wl_any_senders.specs.Acknowledged.{IsAcknowledgedByAll, IsAnsweredByAll, chased_way};
 ghost use Rattle.wl_any_senders.specs.Expected.{HasSampled, IsOutset, Outset, expected_bits, expected_drove, expected_sample};
@@ -32,7 +32,7 @@ ghost use Rattle.wl_bound.specs.Families.{Bus};
 ghost use Rattle.wl_any_senders.specs.Answers.{HasRoomToAnswer};
 ghost use Rattle.wl_any_senders.specs.Bounds.{IsBusOf, IsLeftForTwo};
 ghost use Rattle.wl_any_senders.specs.Plans.{IsPlanOf};
-ghost use Rattle.wl_frame_end.specs.Again.{HasRoomToRest, RestsAgain, past_end};
+ghost use Rattle.wl_frame_end.specs.Again.{HasRoomToRest, LeavesRoomToRest, RestsAgain, past_end};
 ghost use Rattle.wl_frame_end.specs.Lines.{LineEnds, LineRests, rests_until};
 ghost use Rattle.wl_frame_end.specs.Rests.{NodeEnds, waiting_frame};
 ghost use Rattle.wl_frame_end.specs.Clocks.{SeesEnd};
@@ -221,6 +221,14 @@ pub fn a_line_rests_after_a_frame()
     wl_frame::laws::ten_bits_have_an_edge();
 }
 
+/// Law: a bus that meets this inequality has that room, wherever within its tolerance each clock lies. It is the last one of those for
+/// acknowledgements (`HasRoomToAnswer`), with twelve bits' drift in the place of ten.
+pub fn a_bus_has_room_to_rest()
+    ensures { (bus : Bus) (s : Stations) (chase : ℕ → ℕ) → AreOnALine s → IsBusOf bus s → HasRoomToAnswer bus chase
+        → LeavesRoomToRest bus chase
+        → (winner : ℕ) → winner < s.count → s.may_send winner ≡ true → HasRoomToRest s (chased_way s winner chase) }
+{}
+
 /// Law: so it is with each checked plan of one rate a clock, by the rules of the book, without disturbances and nodes that only listen. Let
 /// its bus meet the condition for margins and have room for acknowledgements. Each of its nodes rests before a frame that some begin. Then
 /// one of them has won, and its frame is acknowledged and received by all others. With room for twelve bits' drift all rest afterwards.
@@ -236,9 +244,7 @@ pub fn a_plan_goes_to_the_end()
         × LineEnds (line_of plan) (setup_at plan) s o end won.station won.frame stop }
     ensures rests { (plan : Plan) (s : Stations) (bus : Bus) (o : Outset) (rest chase : ℕ → ℕ) (end : ℕ)
         → IsPlanOf plan s → plan.disturbances ≡ [] → IsBusOf bus s → IsLeftForTwo bus s → IsSound bus
-        → HasRoomToAnswer bus chase
-        → ((w : ℕ) → w < s.count → s.may_send w ≡ true → HasRoomToRest s (chased_way s w chase))
-        → IsOutset s o → EndsBefore s o end
+        → HasRoomToAnswer bus chase → LeavesRoomToRest bus chase → IsOutset s o → EndsBefore s o end
         → ((i : ℕ) → i < s.count → BeginsAfter s o i (rest i))
         → ((i : ℕ) → i < s.count → RestsBefore s o i (finds_expected (line_of plan) s o end i)
         (node_after (setup_at plan i) (finds_expected (line_of plan) s o end i)) (rest i))
@@ -254,6 +260,7 @@ pub fn a_plan_goes_to_the_end()
     wl_any_senders::ack::a_bus_has_room_to_answer();
     a_line_goes_to_the_end();
     a_line_rests_after_a_frame();
+    a_bus_has_room_to_rest();
     wl_topology::driven_laws();
     wl_wire::laws::machines_stay_in_step();
     wl_wire::laws::the_least_field_wins();

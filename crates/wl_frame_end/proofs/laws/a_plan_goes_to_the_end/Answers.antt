@@ -28,7 +28,7 @@ returns-clause-ends c = λ plan s bus o rest chase end stop of calm bus_of left 
     ))
 
 pub returns-clause-rests : goal.returns-clause-rests
-returns-clause-rests c = λ plan s bus o rest chase end of calm bus_of left sound answers enough is stuffed begin rests inside_stop.
+returns-clause-rests c = λ plan s bus o rest chase end of calm bus_of left sound answers leaves is stuffed begin rests inside_stop.
     (let on = c.a_plan_is_on_a_line.ensures plan s of in
     let are : AreStations s = record { line = on; ways = c.a_sound_bus_has_room.ensures.ways bus s on bus_of } in
     let room = c.a_sound_bus_has_room.ensures.room bus s on bus_of left sound in
@@ -46,6 +46,6 @@ returns-clause-rests c = λ plan s bus o rest chase end of calm bus_of left soun
             catch = c.a_bus_has_room_to_answer.ensures.catch bus s chase on bus_of answers won.station won.inside sends;
             room = c.a_bus_has_room_to_answer.ensures.room bus s chase on bus_of answers won.station won.inside sends;
           })
-          (enough won.station won.inside sends)
+          (c.a_bus_has_room_to_rest.ensures bus s chase on bus_of answers leaves won.station won.inside sends)
           (λ i inside. c.a_node_at_rest_begins_as_expected.ensures (line_of plan) (setup_at plan) s o end i (rest i) line are room is some stuffed.none inside (begin i inside) (rests i inside)) inside_stop,
     ))
