@@ -2,7 +2,7 @@
 """The table of buses from practice in docs/use/margins.md: for each what `check` and `margin` say, and in how many power-ups `sweep` finds it not clean.
 
 usage: buses.py PROGRAM [--texts N] [--runs N] [ROW..]     rows by their numbers from 0, all without any
-       buses.py answers                                    how many are sound, by margin.py, and how many of these have room for acknowledgements
+       buses.py answers                                    how many are sound, by margin.py, and how many of these have room for acknowledgements and to rest
 
 Each row is run with N texts of random frames, of long frames with edges ten bits apart, and of frames whose last edge is ten bits before the
 acknowledgement, by turns; each text with N power-ups, at any offsets and with each clock at either limit of its tolerance.
@@ -95,15 +95,17 @@ def line_of(program, k, texts, runs):
 
 
 def answers():
-    """How many of the buses are sound for any senders, and how many of these have room for acknowledgements, as wl_any_senders has it."""
-    sound, roomy = 0, 0
+    """How many of the buses are sound for any senders, how many of these have room for acknowledgements, as wl_any_senders has it, and how many to rest, as wl_frame_end has it."""
+    sound, roomy, rests = 0, 0, 0
     for row in ROWS:
         text = plan_text(nodes_of(row)).encode()
         family = margin.Family(plain.read_plan(text), margin.clocks_of(plain.read_toml(text)))
         if next(family.failures(False), None) is None:
             sound += 1
-            roomy += family.buses(False)[0].has_room_to_answer()
-    print(f"{len(ROWS)} buses, {sound} sound, {roomy} of these with room for acknowledgements")
+            bus = family.buses(False)[0]
+            roomy += bus.has_room_to_answer()
+            rests += bus.has_room_to_answer() and bus.has_room_to_rest()
+    print(f"{len(ROWS)} buses, {sound} sound, {roomy} of these with room for acknowledgements, {rests} with room to rest")
 
 
 def main():

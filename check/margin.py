@@ -142,6 +142,12 @@ class Bus:
                 if d(i, k) + d(k, i) + late > self.sample[i] * self.low[i]: return False
         return True
 
+    def has_room_to_rest(self):
+        """The inequality LeavesRoomToRest of specs/Again.antt of the crate wl_frame_end, of a bus with room for acknowledgements."""
+        chase = self.chases()
+        return all(self.look[k] + self.gathered(chase, i, k) + 12 * self.drift(i, k) + self.tick <= self.ps2[i] * self.low[i]
+                   for i in range(self.n) for k in self.others(i))
+
     def is_asked(self, kind, i, j):
         """Whether nodes i and j are asked: of one node only whether its own bit is back, of what a listener drives nothing, of two listeners nothing."""
         if kind == LATE: return i == j or not self.listens[j]
