@@ -16,7 +16,7 @@ use crate::laws::a_plan_goes_to_the_end;
 /// Law: the first frame on the bus of each such plan gets through, whoever begins it, from the power-up of all nodes on. The plan is checked,
 /// with one rate a clock, by the book, without disturbances and nodes that only listen. Its bus meets the condition for margins and has room
 /// for acknowledgements. Some nodes have frames, and each has sampled eleven bits before another one's start of frame reaches it. Then the
-/// least of the frames that are begun is sent and received by all others, nobody finds an error, and all rest afterwards.
+/// least of the frames that are begun is sent and received by all others, and nobody finds an error, up to the third bit of the intermission.
 pub fn the_first_frame_gets_through()
     ensures { (plan : Plan) (s : Stations) (bus : Bus) (chase : ℕ → ℕ) → IsPlanOf plan s → plan.disturbances ≡ []
         → IsBusOf bus s → IsLeftForTwo bus s → IsSound bus → HasRoomToAnswer bus chase → HasFirstFrames plan s

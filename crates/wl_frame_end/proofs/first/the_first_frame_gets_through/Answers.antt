@@ -20,7 +20,7 @@ returns c = λ plan s bus chase of calm bus_of left sound answers has.
     record {
       bits = bits.0;
       stuffed = bits.1;
-      ends = λ stop before. c.a_plan_goes_to_the_end.ensures plan s bus o (rest_first w) chase bits.0 stop of calm bus_of left sound answers is
+      ends = λ stop before. c.a_plan_goes_to_the_end.ensures.ends plan s bus o (rest_first w) chase bits.0 stop of calm bus_of left sound answers is
           (record { none = bits.1.going; there = bits.1.over })
           (c.idle_stations_begin_a_first_frame.ensures.after w on idle)
           (λ i inside. c.nodes_rest_before_a_first_frame.ensures (line_of plan) (setup_at plan) w bits.0 i line are room idle hands bits.1.going inside)
