@@ -75,15 +75,19 @@ class Bus:
         return max([0] + [self.way(i, a) + 10 * self.drift(a, i) + self.ahead(a) for a in self.others(i) if a in self.sends])
 
     def edges_of(self, i):
-        ahead = self.early[i] - self.low[i]
-        step = self.jump[i] - 10 * max([0] + [self.drift(a, i) for a in self.others(i) if a in self.sends])
-        if ahead <= 0: return 0
-        return 14 if step <= 0 else min(14, -(-ahead // step))
+        far = self.early[i] - self.low[i]
+        lost = 10 * max([0] + [self.drift(a, i) for a in self.others(i) if a in self.sends])
+        gained = max(0, self.jump[i] - lost)
+        if far <= 0: return 0
+        if far <= 14 * gained: return -(-far // gained)
+        return min(74, -(-(far + 14 * lost) // self.jump[i])) if self.jump[i] else 74
+
+    def spread(self, i, j):
+        return 10 * self.drift(j, i) + max(0, self.sjw[j] * self.high[j] - self.jump[i])
 
     def apart(self, i, j):
         third = any(a in self.sends for a in self.others(i, j))
-        edges = min(self.edges[i], self.edges[j]) if third else 0
-        return edges * (10 * self.drift(j, i) + max(0, self.sjw[j] * self.high[j] - self.jump[i]))
+        return (min(self.edges[i], self.edges[j]) if third else 0) * self.spread(i, j)
 
     def pulled(self, i, j):
         third = any(a in self.sends for a in self.others(i, j))
@@ -96,8 +100,7 @@ class Bus:
                           for a in self.others(i, j) if a in self.sends])
 
     def behind(self, j, a):
-        gathers = min(self.apart(a, j), max(0, self.early[a] - self.delay(a, a)))
-        return max(0, self.look[a] + 10 * self.drift(j, a) + gathers - self.jump[j])
+        return max(0, self.look[a] + 10 * self.drift(j, a) + self.edges[j] * self.spread(a, j) - self.jump[j])
 
     def answered(self, i, j):
         """How late the end of j's acknowledgement can be at i, if that of a third moves both."""

@@ -10,7 +10,7 @@ use Rattle.wl_topology.specs.Driven.{any_below}
 use Rattle.wl_bound.specs.declared.condition.Inequality.{Inequality}
 use Rattle.wl_bound.specs.declared.condition.Inequality.TheVariants.{DriftFitsJump, BitIsThereAtSample, NoBitTooEarly}
 use Rattle.wl_bound.specs.Families.{Bus}
-use Rattle.wl_bound.specs.Terms.{ahead, answered, apart, behind, chase, drift, early, edges, greatest, is_answering, is_third, jump, late, look, lost, pull, pulled, sends_but, sends_third, several, strays, sum_of, tour, trip, way}
+use Rattle.wl_bound.specs.Terms.{ahead, answered, apart, behind, chase, drift, early, edges, greatest, is_answering, is_third, jump, late, look, lost, pull, pulled, sends_but, sends_third, several, spread, strays, sum_of, tour, trip, way}
 use Rattle.wl_bound.specs.Conditions.{IsSound, is_asked, left_of, right_of}
 
 -- c is no easier than b: the same nodes, segments, senders, listeners and changes of rates, quanta that may be shorter and longer, the same own loops, longer delays and detours
@@ -149,31 +149,78 @@ lost_le b c h i =
     let most = over b c h (sends_but b i) (sends_but c i) (λ a. drift b a i) (λ a. drift c a i) (sends_but_same b c h i) (λ a. drift_le b c h a i) in
     omega arith
 
--- the edges, by their numbers alone
-edges_by : ℕ → ℕ → ℕ → ℕ → ℕ
-edges_by e q j l = cond (nat_le e q) 0 (cond (nat_le j l) 14 (min 14 (div_ceil (e - q) (j - l))))
+-- a quotient of no more than 14, and one of more
+pub ceil_within : (x d : ℕ) → 0 < d → x ≤ 14 * d → div_ceil x d ≤ 14
+ceil_within x d some le =
+    elim (cases_lt 14 (div_ceil x d)) [
+      | inl above ↦
+          (let lower = (div_ceil_times x d some).1 in
+          let wide : 15 * d ≤ div_ceil x d * d = mul-le-mul_right d above in
+          absurd (omega arith))
+      | inr within ↦ within
+    ]
 
-few : (v : Bool) (n : ℕ) → cond v 14 (min 14 n) ≤ 14
-few true n = omega arith
-few false n = omega arith
+ceil_beyond : (x d : ℕ) → 0 < d → 14 * d < x → 14 < div_ceil x d
+ceil_beyond x d some lt =
+    elim (cases_lt 14 (div_ceil x d)) [
+      | inl above ↦ above
+      | inr within ↦
+          (let upper = (div_ceil_times x d some).0 in
+          let wide : div_ceil x d * d ≤ 14 * d = mul-le-mul_right d within in
+          absurd (omega arith))
+    ]
+
+-- the edges that are not sparse, and all, by their numbers alone
+many_by : ℕ → ℕ → ℕ → ℕ
+many_by x j l = cond (nat_le j 0) 74 (min 74 (div_ceil (x + 14 * l) j))
+
+edges_by : ℕ → ℕ → ℕ → ℕ → ℕ
+edges_by e q j l = cond (nat_le e q) 0 (cond (nat_le (e - q) (14 * (j - l))) (div_ceil (e - q) (j - l)) (many_by (e - q) j l))
+
+many_beyond : (y k m : ℕ) → 14 * (k - m) < y → 14 ≤ many_by y k m
+unfolding many_by
+many_beyond y k m lt =
+    elim (cases_lt 0 k) [
+      | inr none ↦ rw (le-leb k 0 none) (omega arith)
+      | inl some ↦ rw (lt-leb k 0 some) (let more = ceil_beyond (y + 14 * m) k some (omega arith) in omega arith)
+    ]
+
+many_le : (x y j k l m : ℕ) → x ≤ y → k ≤ j → l ≤ m → many_by x j l ≤ many_by y k m
+unfolding many_by
+many_le x y j k l m hx hj hl =
+    elim (cases_lt 0 k) [
+      | inr none ↦ rw (le-leb k 0 none) (at_most (nat_le j 0) (div_ceil (x + 14 * l) j))
+      | inl some ↦
+          rw (lt-leb k 0 some, lt-leb j 0 (omega arith)) (let less = ceil_le (x + 14 * l) (y + 14 * m) j k some hj (omega arith) in omega arith)
+    ]
+  where
+    at_most : (v : Bool) (n : ℕ) → cond v 74 (min 74 n) ≤ 74
+    at_most true n = omega arith
+    at_most false n = omega arith
 
 edges_by_le : (e q j l f r k m : ℕ) → e ≤ f → r ≤ q → k ≤ j → l ≤ m → edges_by e q j l ≤ edges_by f r k m
 unfolding edges_by
 edges_by_le e q j l f r k m he hq hj hl =
     elim (cases_lt q e) [
       | inr soon ↦ rw (le-leb e q soon) (omega arith)
-      | inl far ↦ rw (lt-leb e q far, lt-leb f r (omega arith)) (later (cases_lt m k))
+      | inl far ↦ rw (lt-leb e q far, lt-leb f r (omega arith)) (later far (cases_lt (14 * (j - l)) (e - q)) (cases_lt (14 * (k - m)) (f - r)))
     ]
   where
-    later : (m < k) ⊎ (k ≤ m)
-        → cond (nat_le j l) 14 (min 14 (div_ceil (e - q) (j - l))) ≤ cond (nat_le k m) 14 (min 14 (div_ceil (f - r) (k - m)))
-    later (inr slow) = rw (le-leb k m slow) (few (nat_le j l) (div_ceil (e - q) (j - l)))
-    later (inl quick) =
-        rw (lt-leb k m quick, lt-leb j l (omega arith))
-        (let less = ceil_le (e - q) (f - r) (j - l) (k - m) (omega arith) (omega arith) (omega arith) in omega arith)
+    later : q < e → (14 * (j - l) < e - q) ⊎ (e - q ≤ 14 * (j - l)) → (14 * (k - m) < f - r) ⊎ (f - r ≤ 14 * (k - m))
+        → cond (nat_le (e - q) (14 * (j - l))) (div_ceil (e - q) (j - l)) (many_by (e - q) j l)
+        ≤ cond (nat_le (f - r) (14 * (k - m))) (div_ceil (f - r) (k - m)) (many_by (f - r) k m)
+    later far (inl dense) (inl other) =
+        rw (lt-leb (e - q) (14 * (j - l)) dense, lt-leb (f - r) (14 * (k - m)) other) (many_le (e - q) (f - r) j k l m (omega arith) hj hl)
+    later far (inl dense) (inr other) = absurd (omega arith)
+    later far (inr sparse) (inl other) =
+        rw (le-leb (e - q) (14 * (j - l)) sparse, lt-leb (f - r) (14 * (k - m)) other)
+        (let few = ceil_within (e - q) (j - l) (omega arith) sparse in let more = many_beyond (f - r) k m other in omega arith)
+    later far (inr sparse) (inr other) =
+        rw (le-leb (e - q) (14 * (j - l)) sparse, le-leb (f - r) (14 * (k - m)) other)
+        (ceil_le (e - q) (f - r) (j - l) (k - m) (omega arith) (omega arith) (omega arith))
 
 edges_le : (b c : Bus) → IsHarder b c → (i : ℕ) → edges b i ≤ edges c i
-unfolding edges edges_by
+unfolding edges edges_by many_by
 edges_le b c h i =
     edges_by_le (early b i) (b.shortest i) (jump b i) (lost b i) (early c i) (c.shortest i) (jump c i) (lost c i)
     (early_le b c h i) (h.shorter i) (jump_le b c h i) (lost_le b c h i)
@@ -189,15 +236,19 @@ chase_le b c h i j =
     let other = edges_le b c h j in
     pick_le (any_below b.nodes (sends_third b i j)) (any_below c.nodes (sends_third c i j)) _ _ (third_same b c h i j) (omega arith)
 
-apart_le : (b c : Bus) → IsHarder b c → (i j : ℕ) → apart b i j ≤ apart c i j
-unfolding apart
-apart_le b c h i j =
+spread_le : (b c : Bus) → IsHarder b c → (i j : ℕ) → spread b i j ≤ spread c i j
+unfolding spread
+spread_le b c h i j =
     let moves : (b.lengths j).sjw * b.longest j ≤ (c.lengths j).sjw * c.longest j =
     subst (λ (l : Lengths). (b.lengths j).sjw * b.longest j ≤ l.sjw * c.longest j) (h.lengths j)
     (mul-le-mul_left (b.lengths j).sjw (h.longer j)) in
     let jumps = jump_le b c h i in
     let drifts = drift_le b c h j i in
-    mul-le-mul (chase_le b c h i j) (omega arith)
+    omega arith
+
+apart_le : (b c : Bus) → IsHarder b c → (i j : ℕ) → apart b i j ≤ apart c i j
+unfolding apart
+apart_le b c h i j = mul-le-mul (chase_le b c h i j) (spread_le b c h i j)
 
 tour_le : (b c : Bus) → IsHarder b c → (i j : ℕ) → tour b i j ≤ tour c i j
 unfolding tour
@@ -208,8 +259,8 @@ tour_le b c h i j =
 behind_le : (b c : Bus) → IsHarder b c → (j a : ℕ) → behind b j a ≤ behind c j a
 unfolding behind
 behind_le b c h j a =
-    (let l = look_le b c h a in let d = drift_le b c h j a in let p = apart_le b c h a j in let e = early_le b c h a in let o = h.own a in
-    let k = jump_le b c h j in omega arith)
+    (let gathers : edges b j * spread b a j ≤ edges c j * spread c a j = mul-le-mul (edges_le b c h j) (spread_le b c h a j) in
+    let l = look_le b c h a in let d = drift_le b c h j a in let k = jump_le b c h j in omega arith)
 
 answering_same : (b c : Bus) → IsHarder b c → (i j a : ℕ) → is_answering b i j a ≡ is_answering c i j a
 answering_same b c h i j a = ap₂ (λ u v. not u && is_third i j a && v) (h.listens a) (third_same b c h a j)

@@ -14,7 +14,7 @@ use Rattle.wl_bound.specs.declared.condition.Inequality.TheVariants.{DriftFitsJu
 use Rattle.wl_bound.specs.declared.condition.Senders.TheVariants.{Any, One}
 use Rattle.wl_bound.specs.Oscillators.{Pace, longest_of, oscillator_of, shortest_of}
 use Rattle.wl_bound.specs.Families.{Buses, delay_in, lengths_in, longest_in, sends_in, shortest_in, turns_in}
-use Rattle.wl_bound.specs.Terms.{ahead, answered, apart, behind, chase, drift, early, edges, jump, late, look, lost, pull, pulled, several, strays, tour, trip, way}
+use Rattle.wl_bound.specs.Terms.{ahead, answered, apart, behind, chase, drift, early, edges, jump, late, look, lost, pull, pulled, several, spread, strays, tour, trip, way}
 use Rattle.wl_bound.specs.Conditions.{first_failure_of, is_asked, left_of, plain, right_of}
 use Rattle.wl_bound.specs.declared.verdict.Outside.TheVariants.{ListenerSends, NobodyAcknowledges, NotByTheBook}
 use Rattle.wl_bound.specs.Verdicts.{outside_of}
@@ -85,50 +85,50 @@ no_clock = refl
 -- ---- 500 kbit/s over 98 m, with no doubt by either figure alone: 1480 ns there and back, and eleven bits of drift, are beyond the sample
 both_at_once : first_failure_of (one_way (lengths 8 4 3 3) (pace 125 7000) 98) plain One
     ≡ Some (failing BitIsThereAtSample 1788000000 1613625000)
-unfolding first_failure_of left_of right_of shortest_in longest_in delay_in sends_in turns_in ahead drift jump look trip way several early lost edges chase apart tour behind answered late pull pulled strays lengths_in
+unfolding first_failure_of left_of right_of shortest_in longest_in delay_in sends_in turns_in ahead drift jump look trip way several early lost edges chase spread apart tour behind answered late pull pulled strays lengths_in
 both_at_once = refl
 
 cable_alone : first_failure_of (one_way (lengths 8 4 3 3) (pace 125 0) 98) plain One ≡ None
-unfolding first_failure_of left_of right_of shortest_in longest_in delay_in sends_in turns_in ahead drift jump look trip way several early lost edges chase apart tour behind answered late pull pulled strays lengths_in
+unfolding first_failure_of left_of right_of shortest_in longest_in delay_in sends_in turns_in ahead drift jump look trip way several early lost edges chase spread apart tour behind answered late pull pulled strays lengths_in
 cable_alone = refl
 
 drift_alone : first_failure_of (one_way (lengths 8 4 3 3) (pace 125 7000) 0) plain One ≡ None
-unfolding first_failure_of left_of right_of shortest_in longest_in delay_in sends_in turns_in ahead drift jump look trip way several early lost edges chase apart tour behind answered late pull pulled strays lengths_in
+unfolding first_failure_of left_of right_of shortest_in longest_in delay_in sends_in turns_in ahead drift jump look trip way several early lost edges chase spread apart tour behind answered late pull pulled strays lengths_in
 drift_alone = refl
 
 -- ---- 500 kbit/s over 100 m, sample point 75 %: there and back is just the sample with perfect clocks, for both senders at once too
 to_the_metre : first_failure_of (both_ways (lengths 7 4 4 3) (pace 125 0) 100) plain Any ≡ None
-unfolding first_failure_of left_of right_of shortest_in longest_in delay_in sends_in turns_in ahead drift jump look trip way several early lost edges chase apart tour behind answered late pull pulled strays lengths_in
+unfolding first_failure_of left_of right_of shortest_in longest_in delay_in sends_in turns_in ahead drift jump look trip way several early lost edges chase spread apart tour behind answered late pull pulled strays lengths_in
 to_the_metre = refl
 
 beyond_by_drift : first_failure_of (both_ways (lengths 7 4 4 3) (pace 125 100) 100) plain Any
     ≡ Some (failing BitIsThereAtSample 1504400000 1499850000)
-unfolding first_failure_of left_of right_of shortest_in longest_in delay_in sends_in turns_in ahead drift jump look trip way several early lost edges chase apart tour behind answered late pull pulled strays lengths_in
+unfolding first_failure_of left_of right_of shortest_in longest_in delay_in sends_in turns_in ahead drift jump look trip way several early lost edges chase spread apart tour behind answered late pull pulled strays lengths_in
 beyond_by_drift = refl
 
 a_metre_less : first_failure_of (both_ways (lengths 7 4 4 3) (pace 125 100) 99) plain Any ≡ None
-unfolding first_failure_of left_of right_of shortest_in longest_in delay_in sends_in turns_in ahead drift jump look trip way several early lost edges chase apart tour behind answered late pull pulled strays lengths_in
+unfolding first_failure_of left_of right_of shortest_in longest_in delay_in sends_in turns_in ahead drift jump look trip way several early lost edges chase spread apart tour behind answered late pull pulled strays lengths_in
 a_metre_less = refl
 
 -- ---- 800 kbit/s over 50 m, the same
 fifty_metres : first_failure_of (both_ways (lengths 3 4 2 1) (pace 125 0) 50) plain Any ≡ None
-unfolding first_failure_of left_of right_of shortest_in longest_in delay_in sends_in turns_in ahead drift jump look trip way several early lost edges chase apart tour behind answered late pull pulled strays lengths_in
+unfolding first_failure_of left_of right_of shortest_in longest_in delay_in sends_in turns_in ahead drift jump look trip way several early lost edges chase spread apart tour behind answered late pull pulled strays lengths_in
 fifty_metres = refl
 
 -- ---- ten bits of drift and a jump of one quantum: 3115 ppm, and no more
 fits : first_failure_of (one_way (lengths 6 7 2 1) (pace 125 3115) 5) plain One ≡ None
-unfolding first_failure_of left_of right_of shortest_in longest_in delay_in sends_in turns_in ahead drift jump look trip way several early lost edges chase apart tour behind answered late pull pulled strays lengths_in
+unfolding first_failure_of left_of right_of shortest_in longest_in delay_in sends_in turns_in ahead drift jump look trip way several early lost edges chase spread apart tour behind answered late pull pulled strays lengths_in
 fits = refl
 
 fits_no_more : first_failure_of (one_way (lengths 6 7 2 1) (pace 125 3116) 5) plain One
     ≡ Some (failing DriftFitsJump 124640000 124610500)
-unfolding first_failure_of left_of right_of shortest_in longest_in delay_in sends_in turns_in ahead drift jump look trip way several early lost edges chase apart tour behind answered late pull pulled strays lengths_in
+unfolding first_failure_of left_of right_of shortest_in longest_in delay_in sends_in turns_in ahead drift jump look trip way several early lost edges chase spread apart tour behind answered late pull pulled strays lengths_in
 fits_no_more = refl
 
 -- ---- a jump as wide as PHASE_SEG2: the next bit comes too early first
 too_early : first_failure_of (one_way (lengths 8 4 4 4) (pace 120 11610) 0) plain One
     ≡ Some (failing NoBitTooEarly 474688000 474427200)
-unfolding first_failure_of left_of right_of shortest_in longest_in delay_in sends_in turns_in ahead drift jump look trip way several early lost edges chase apart tour behind answered late pull pulled strays lengths_in
+unfolding first_failure_of left_of right_of shortest_in longest_in delay_in sends_in turns_in ahead drift jump look trip way several early lost edges chase spread apart tour behind answered late pull pulled strays lengths_in
 too_early = refl
 
 -- ---- Rates that change: 15 changes take 15 ticks from the way to the sample, and from PHASE_SEG2
@@ -145,21 +145,21 @@ first_turns l p x = record {
 -- without them 100 m are just the sample
 a_metre_too_far : first_failure_of (first_turns (lengths 7 4 4 3) (pace 125 0) 99) plain One
     ≡ Some (failing BitIsThereAtSample 1505000000 1500000000)
-unfolding first_failure_of left_of right_of shortest_in longest_in delay_in sends_in turns_in ahead drift jump look trip way several early lost edges chase apart tour behind answered late pull pulled strays lengths_in
+unfolding first_failure_of left_of right_of shortest_in longest_in delay_in sends_in turns_in ahead drift jump look trip way several early lost edges chase spread apart tour behind answered late pull pulled strays lengths_in
 a_metre_too_far = refl
 
 near_enough : first_failure_of (first_turns (lengths 7 4 4 3) (pace 125 0) 98) plain One ≡ None
-unfolding first_failure_of left_of right_of shortest_in longest_in delay_in sends_in turns_in ahead drift jump look trip way several early lost edges chase apart tour behind answered late pull pulled strays lengths_in
+unfolding first_failure_of left_of right_of shortest_in longest_in delay_in sends_in turns_in ahead drift jump look trip way several early lost edges chase spread apart tour behind answered late pull pulled strays lengths_in
 near_enough = refl
 
 -- a bit of the first node comes too early at the second, by ten bits of drift, a tick, and 15
 early_by_turns : first_failure_of (first_turns (lengths 8 4 4 4) (pace 120 11400) 0) plain One
     ≡ Some (record { inequality = NoBitTooEarly; node = 1; other = 0; sides = record { left = 481120000; right = 474528000 } })
-unfolding first_failure_of left_of right_of shortest_in longest_in delay_in sends_in turns_in ahead drift jump look trip way several early lost edges chase apart tour behind answered late pull pulled strays lengths_in
+unfolding first_failure_of left_of right_of shortest_in longest_in delay_in sends_in turns_in ahead drift jump look trip way several early lost edges chase spread apart tour behind answered late pull pulled strays lengths_in
 early_by_turns = refl
 
 early_by_no_turns : first_failure_of (one_way (lengths 8 4 4 4) (pace 120 11400) 0) plain One ≡ None
-unfolding first_failure_of left_of right_of shortest_in longest_in delay_in sends_in turns_in ahead drift jump look trip way several early lost edges chase apart tour behind answered late pull pulled strays lengths_in
+unfolding first_failure_of left_of right_of shortest_in longest_in delay_in sends_in turns_in ahead drift jump look trip way several early lost edges chase spread apart tour behind answered late pull pulled strays lengths_in
 early_by_no_turns = refl
 
 -- ---- Two senders that pull each other forward, and a third node with short quanta
@@ -176,16 +176,16 @@ pulling l p = record {
 -- a quantum of 250 ticks an edge, and a jump of 80
 pulled_forward : first_failure_of (pulling (lengths 8 8 8 1) (pace 80 0)) plain Any
     ≡ Some (record { inequality = DriftFitsJump; node = 2; other = 0; sides = record { left = 250000000; right = 80000000 } })
-unfolding first_failure_of left_of right_of shortest_in longest_in delay_in sends_in turns_in ahead drift jump look trip way several early lost edges chase apart tour behind answered late pull pulled strays lengths_in
+unfolding first_failure_of left_of right_of shortest_in longest_in delay_in sends_in turns_in ahead drift jump look trip way several early lost edges chase spread apart tour behind answered late pull pulled strays lengths_in
 pulled_forward = refl
 
 -- one sender alone pulls nobody, and a jump as long puts it right
 alone_fits : first_failure_of (pulling (lengths 8 8 8 1) (pace 80 0)) plain One ≡ None
-unfolding first_failure_of left_of right_of shortest_in longest_in delay_in sends_in turns_in ahead drift jump look trip way several early lost edges chase apart tour behind answered late pull pulled strays lengths_in
+unfolding first_failure_of left_of right_of shortest_in longest_in delay_in sends_in turns_in ahead drift jump look trip way several early lost edges chase spread apart tour behind answered late pull pulled strays lengths_in
 alone_fits = refl
 
 wider_fits : first_failure_of (pulling (lengths 8 8 8 4) (pace 80 0)) plain Any ≡ None
-unfolding first_failure_of left_of right_of shortest_in longest_in delay_in sends_in turns_in ahead drift jump look trip way several early lost edges chase apart tour behind answered late pull pulled strays lengths_in
+unfolding first_failure_of left_of right_of shortest_in longest_in delay_in sends_in turns_in ahead drift jump look trip way several early lost edges chase spread apart tour behind answered late pull pulled strays lengths_in
 wider_fits = refl
 
 -- ---- An acknowledgement that comes early, and two receivers whose jumps are unlike (check/margins/acknowledged_unlike.toml)
@@ -203,16 +203,16 @@ unlike far = record {
 -- what the last one's jump leaves is beyond its sample
 acknowledged_unlike : first_failure_of (unlike 597) plain Any
     ≡ Some (record { inequality = BitIsThereAtSample; node = 2; other = 3; sides = record { left = 1000000000; right = 900000000 } })
-unfolding first_failure_of left_of right_of shortest_in longest_in delay_in sends_in turns_in ahead drift jump look trip way several early lost edges chase apart tour behind answered late pull pulled strays lengths_in
+unfolding first_failure_of left_of right_of shortest_in longest_in delay_in sends_in turns_in ahead drift jump look trip way several early lost edges chase spread apart tour behind answered late pull pulled strays lengths_in
 acknowledged_unlike = refl
 
 -- 100 ticks nearer it isn't, and with one sender nobody is early
 acknowledged_near : first_failure_of (unlike 497) plain Any ≡ None
-unfolding first_failure_of left_of right_of shortest_in longest_in delay_in sends_in turns_in ahead drift jump look trip way several early lost edges chase apart tour behind answered late pull pulled strays lengths_in
+unfolding first_failure_of left_of right_of shortest_in longest_in delay_in sends_in turns_in ahead drift jump look trip way several early lost edges chase spread apart tour behind answered late pull pulled strays lengths_in
 acknowledged_near = refl
 
 acknowledged_alone : first_failure_of (unlike 597) plain One ≡ None
-unfolding first_failure_of left_of right_of shortest_in longest_in delay_in sends_in turns_in ahead drift jump look trip way several early lost edges chase apart tour behind answered late pull pulled strays lengths_in
+unfolding first_failure_of left_of right_of shortest_in longest_in delay_in sends_in turns_in ahead drift jump look trip way several early lost edges chase spread apart tour behind answered late pull pulled strays lengths_in
 acknowledged_alone = refl
 
 -- ---- A third node that only listens, beside two senders
@@ -229,17 +229,17 @@ with_third l p third = record {
 -- over 1000 m a node's bits come far too late, and those of a listener come to nobody
 far_node : first_failure_of (with_third (lengths 6 7 2 1) (pace 125 100) (place 1000)) plain Any
     ≡ Some (record { inequality = BitIsThereAtSample; node = 0; other = 2; sides = record { left = 10516475000; right = 1749825000 } })
-unfolding first_failure_of left_of right_of shortest_in longest_in delay_in sends_in turns_in ahead drift jump look trip way several early lost edges chase apart tour behind answered late pull pulled strays lengths_in
+unfolding first_failure_of left_of right_of shortest_in longest_in delay_in sends_in turns_in ahead drift jump look trip way several early lost edges chase spread apart tour behind answered late pull pulled strays lengths_in
 far_node = refl
 
 far_listener : first_failure_of (with_third (lengths 6 7 2 1) (pace 125 100) (ear 1000 120)) plain Any ≡ None
-unfolding first_failure_of left_of right_of shortest_in longest_in delay_in sends_in turns_in ahead drift jump look trip way several early lost edges chase apart tour behind answered late pull pulled strays lengths_in
+unfolding first_failure_of left_of right_of shortest_in longest_in delay_in sends_in turns_in ahead drift jump look trip way several early lost edges chase spread apart tour behind answered late pull pulled strays lengths_in
 far_listener = refl
 
 -- its own bit has to be back at its sample: 1630 ns out and 130 ns in are beyond 14 quanta
 own_bit : first_failure_of (with_third (lengths 6 7 2 1) (pace 125 100) (ear 5 1630)) plain Any
     ≡ Some (record { inequality = BitIsThereAtSample; node = 2; other = 2; sides = record { left = 1760000000; right = 1749825000 } })
-unfolding first_failure_of left_of right_of shortest_in longest_in delay_in sends_in turns_in ahead drift jump look trip way several early lost edges chase apart tour behind answered late pull pulled strays lengths_in
+unfolding first_failure_of left_of right_of shortest_in longest_in delay_in sends_in turns_in ahead drift jump look trip way several early lost edges chase spread apart tour behind answered late pull pulled strays lengths_in
 own_bit = refl
 
 -- of a listener 2 and a node 0

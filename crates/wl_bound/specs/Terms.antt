@@ -67,12 +67,14 @@ early b i = if several b then greatest b.nodes (sends_but b i) (λ a. way b i a 
 unfoldable pub lost : Bus → ℕ → ℕ
 lost b i = 10 * greatest b.nodes (sends_but b i) (λ a. drift b a i)
 
--- how many edges node i takes to catch up with that sender: a frame of 8 bytes has 14 edges at least ten bits apart
+-- How many edges node i takes to catch up with that sender: each takes a jump off, and ten bits of drift at most come on top. If it takes more than the
+-- 14 that are ten bits apart, they lie nearer: then 140 bits of drift come on top in all. An edge takes two bits, so a frame has 74 at most.
 unfoldable pub edges : Bus → ℕ → ℕ
 edges b i =
     if nat_le (early b i) (b.shortest i) then 0
-    else if nat_le (jump b i) (lost b i) then 14
-    else min 14 (div_ceil (early b i - b.shortest i) (jump b i - lost b i))
+    else if nat_le (early b i - b.shortest i) (14 * (jump b i - lost b i)) then div_ceil (early b i - b.shortest i) (jump b i - lost b i)
+    else if nat_le (jump b i) 0 then 74
+    else min 74 (div_ceil (early b i - b.shortest i + 14 * lost b i) (jump b i))
 
 -- By how much two senders at least can pull the edges of sender j forward, each following the other ahead of its edge, while node i follows both.
 unfoldable pub pull : Bus → ℕ → ℕ → ℕ
@@ -86,9 +88,13 @@ pulled b i j = pull b i j - (jump b i - jump b j)
 unfoldable pub chase : Bus → ℕ → ℕ → ℕ
 chase b i j = if any_below b.nodes (sends_third b i j) then min (edges b i) (edges b j) else 0
 
+-- how much later node j can get for node i with each edge that both follow
+unfoldable pub spread : Bus → ℕ → ℕ → ℕ
+spread b i j = 10 * drift b j i + ((b.lengths j).sjw * b.longest j - jump b i)
+
 -- how much later j can get for i meanwhile
 unfoldable pub apart : Bus → ℕ → ℕ → ℕ
-apart b i j = chase b i j * (10 * drift b j i + ((b.lengths j).sjw * b.longest j - jump b i))
+apart b i j = chase b i j * spread b i j
 
 -- how late it can be for i at most, since the edges of a third sender reach it too
 unfoldable pub tour : Bus → ℕ → ℕ → ℕ
@@ -100,7 +106,7 @@ is_answering b i j a = not (b.listens a) && is_third i j a && any_below b.nodes 
 
 -- how late node j can still be for the acknowledgement of node a, if that comes before its own: it jumps once
 unfoldable pub behind : Bus → ℕ → ℕ → ℕ
-behind b j a = look b a + 10 * drift b j a + min (apart b a j) (early b a - b.delay a a) - jump b j
+behind b j a = look b a + 10 * drift b j a + edges b j * spread b a j - jump b j
 
 -- how late the end of j's acknowledgement can be at i, if both jump back by that of a third: i all the way, and j as far as its jump goes
 unfoldable pub answered : Bus → ℕ → ℕ → ℕ

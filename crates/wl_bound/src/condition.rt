@@ -123,7 +123,7 @@ impl Family {
         requires one { i < length self.now.members }
         requires other { j < length self.now.members }
         ensures value { result ≡ left_of (bus_of self.now setting) inequality i j }
-        ensures most { result < 2 ^ 100 }
+        ensures most { result < 2 ^ 103 }
     {
         match inequality {
             Inequality::DriftFitsJump => {

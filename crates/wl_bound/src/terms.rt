@@ -3,12 +3,15 @@ ghost use Rattle.std.specs.Prelude.{◌≡◌, ◌+◌, ◌-◌, ◌*◌, ◌^�
 ghost use Rattle.wl_topology.specs.Driven.{any_below};
 ghost use Rattle.wl_level.specs.Places.{count_places};
 ghost use Rattle.wl_bound.specs.Families.{bus_of};
-ghost use Rattle.wl_bound.specs.Terms.{ahead, answered, apart, behind, chase, drift, early, edges, greatest, is_answering, is_third, jump, late, look, lost, pull, pulled, sends_but, sends_third, several, strays, sum_of, tour, trip, way};
+ghost use Rattle.wl_bound.specs.Terms.{ahead, answered, apart, behind, chase, drift, early, edges, greatest, is_answering, is_third, jump, late, look, lost, pull, pulled, sends_but, sends_third, several, spread, strays, sum_of, tour, trip, way};
 
 use crate::family::{Family, Setting};
 
-/// The edges of a frame of 8 bytes that are ten bits apart: the most in which a node catches up.
-const MOST_EDGES: u128 = 14;
+/// The edges of a frame of 8 bytes that are ten bits apart.
+const SPARSE_EDGES: u128 = 14;
+
+/// The most edges of a frame up to the end of its CRC sequence, two bits apart.
+const MOST_EDGES: u128 = 74;
 
 impl Family {
     /// Returns by how much a bit of node `i` can last longer than one of node `j`.
@@ -191,23 +194,28 @@ impl Family {
     }
 
     /// Returns how many edges node `i` takes to catch up with that sender.
-    #[tactic(auto, unfolding(crate::specs::Terms::edges))]
+    #[tactic(auto, unfolding(crate::specs::Terms::edges), using(crate::proofs::Harder::ceil_within))]
     fn edges(&self, setting: Setting, i: u8) -> u128
         requires { i < length self.now.members }
         ensures value { result ≡ edges (bus_of self.now setting) i }
-        ensures most { result ≤ 14 }
+        ensures most { result ≤ 74 }
     {
         let early = self.early(setting, i);
         let quantum = self.shortest(setting, i);
         if early <= quantum {
             return 0;
         }
+        let far = early - quantum;
         let jump = self.jump(setting, i);
         let lost = self.lost(setting, i);
-        if jump <= lost {
+        let gained = jump.saturating_sub(lost);
+        if far <= SPARSE_EDGES * gained {
+            return far.div_ceil(gained);
+        }
+        if jump == 0 {
             return MOST_EDGES;
         }
-        MOST_EDGES.min((early - quantum).div_ceil(jump - lost))
+        MOST_EDGES.min((far + SPARSE_EDGES * lost).div_ceil(jump))
     }
 
     /// True if some third node sends.
@@ -257,7 +265,7 @@ impl Family {
         requires one { i < length self.now.members }
         requires other { j < length self.now.members }
         ensures value { result ≡ chase (bus_of self.now setting) i j }
-        ensures most { result ≤ 14 }
+        ensures most { result ≤ 74 }
     {
         if self.third_sends(setting, i, j) {
             self.edges(setting, i).min(self.edges(setting, j))
@@ -266,17 +274,28 @@ impl Family {
         }
     }
 
+    /// Returns how much later node `j` can get for node `i` with each edge that both follow.
+    #[tactic(auto, unfolding(crate::specs::Terms::spread))]
+    fn spread(&self, setting: Setting, i: u8, j: u8) -> u128
+        requires one { i < length self.now.members }
+        requires other { j < length self.now.members }
+        ensures value { result ≡ spread (bus_of self.now setting) i j }
+        ensures most { result < 2 ^ 95 }
+    {
+        let jumps = self.segments(setting, j).sjw() as u128 * self.longest(setting, j);
+        let unlike = jumps.saturating_sub(self.jump(setting, i));
+        10 * self.drift(setting, j, i) + unlike
+    }
+
     /// Returns how much later node `j` can get for node `i` meanwhile.
     #[tactic(auto, unfolding(crate::specs::Terms::apart))]
     pub(crate) fn apart(&self, setting: Setting, i: u8, j: u8) -> u128
         requires one { i < length self.now.members }
         requires other { j < length self.now.members }
         ensures value { result ≡ apart (bus_of self.now setting) i j }
-        ensures most { result < 2 ^ 99 }
+        ensures most { result < 2 ^ 102 }
     {
-        let jumps = self.segments(setting, j).sjw() as u128 * self.longest(setting, j);
-        let unlike = jumps.saturating_sub(self.jump(setting, i));
-        self.chase(setting, i, j) * (10 * self.drift(setting, j, i) + unlike)
+        self.chase(setting, i, j) * self.spread(setting, i, j)
     }
 
     /// Returns how late node `j` can be for node `i` by the edges of sender `a`.
@@ -322,18 +341,18 @@ impl Family {
         a != i && a != j && !self.listens(a, j) && self.third_sends(setting, a, j)
     }
 
-    /// Returns how late node `j` can still be for the acknowledgement of node `a` once it has jumped back.
+    /// Returns how late node `j` can still be for the acknowledgement of node `a` once it has jumped back. It catches up in
+    /// `chased` edges.
     #[tactic(auto, unfolding(crate::specs::Terms::behind))]
-    fn behind(&self, setting: Setting, j: u8, a: u8) -> u128
+    fn behind(&self, setting: Setting, j: u8, a: u8, chased: u128) -> u128
         requires late { j < length self.now.members }
         requires first { a < length self.now.members }
+        requires chased { chased ≡ edges (bus_of self.now setting) j }
+        requires few { chased ≤ 74 }
         ensures value { result ≡ behind (bus_of self.now setting) j a }
-        ensures most { result < 2 ^ 96 }
+        ensures most { result < 2 ^ 102 - 2 ^ 90 }
     {
-        let least = self
-            .early(setting, a)
-            .saturating_sub(self.delay(setting, a, a));
-        let gathers = self.apart(setting, a, j).min(least);
+        let gathers = chased * self.spread(setting, a, j);
         let late = self.look(setting, a) + 10 * self.drift(setting, j, a) + gathers;
         late.saturating_sub(self.jump(setting, j))
     }
@@ -344,7 +363,7 @@ impl Family {
         requires one { i < length self.now.members }
         requires other { j < length self.now.members }
         ensures value { result ≡ answered (bus_of self.now setting) i j }
-        ensures most { result < 2 ^ 97 }
+        ensures most { result < 2 ^ 102 }
     {
         if self.several(setting) {
             self.latest_answer(setting, i, j)
@@ -359,12 +378,13 @@ impl Family {
         requires other { j < length self.now.members }
         ensures value { let b = bus_of self.now setting in
             result ≡ greatest (length self.now.members) (is_answering b i j) (λ a. trip b i j a + behind b j a) }
-        ensures most { result < 2 ^ 97 }
+        ensures most { result < 2 ^ 102 }
     {
+        let chased = self.edges(setting, j);
         let mut latest = 0;
         for a in 0..self.nodes() {
             if self.is_answering(setting, i, j, a) {
-                let behind = self.behind(setting, j, a);
+                let behind = self.behind(setting, j, a, chased);
                 latest = latest.max(self.trip(setting, i, j, a) + behind);
             }
         }
@@ -377,7 +397,7 @@ impl Family {
         requires one { i < length self.now.members }
         requires other { j < length self.now.members }
         ensures value { result ≡ late (bus_of self.now setting) i j }
-        ensures most { result < 2 ^ 97 }
+        ensures most { result < 2 ^ 102 }
     {
         let way = self.way(setting, i, j);
         let chased = self

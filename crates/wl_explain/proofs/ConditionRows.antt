@@ -11,7 +11,7 @@ use Rattle.wl_bound.specs.declared.condition.Inequality.TheVariants.{DriftFitsJu
 use Rattle.wl_bound.specs.declared.verdict.Outside.TheVariants.{ListenerSends, NoFrames, NobodyAcknowledges, SameIdentifier}
 use Rattle.wl_bound.specs.Oscillators.{Pace}
 use Rattle.wl_bound.specs.Families.{Buses, delay_in, lengths_in, longest_in, sends_in, shortest_in, turns_in}
-use Rattle.wl_bound.specs.Terms.{ahead, answered, apart, behind, chase, drift, early, edges, jump, late, look, lost, pull, pulled, several, strays, tour, trip, way}
+use Rattle.wl_bound.specs.Terms.{ahead, answered, apart, behind, chase, drift, early, edges, jump, late, look, lost, pull, pulled, several, spread, strays, tour, trip, way}
 use Rattle.wl_bound.specs.Conditions.{left_of, right_of}
 use Rattle.wl_explain.specs.Condition.{fail_line, fail_lines, outside_line, stray_line}
 
@@ -51,23 +51,23 @@ three_nodes l p x = record {
 -- there and back over 98 m, and eleven bits of drift at 7000 ppm
 not_there : fail_line (two_nodes (book_lengths 8 4 3 3) (steady 125 7000) 98) three_names BitIsThereAtSample 0 1
     ≡ codes "doubt: a bit of b comes to a up to 1788.000 ns (14.41 quanta) after its own began, and a samples after 1613.625 ns (13.00 quanta)\n"
-unfolding digits left_of right_of shortest_in longest_in delay_in sends_in turns_in ahead drift jump look trip way several early lost edges chase apart tour behind answered late pull pulled strays lengths_in
+unfolding digits left_of right_of shortest_in longest_in delay_in sends_in turns_in ahead drift jump look trip way several early lost edges chase spread apart tour behind answered late pull pulled strays lengths_in
 not_there = refl
 
 -- ten bits of drift within 3115 ppm, and no more
 too_far : fail_line (two_nodes (book_lengths 6 7 2 1) (steady 125 3116) 5) three_names DriftFitsJump 0 1
     ≡ codes "doubt: in ten bits a falls behind b by up to 124.640 ns (1.01 quanta), and an edge puts right 124.610 ns (1.00 quanta)\n"
-unfolding digits left_of right_of shortest_in longest_in delay_in sends_in turns_in ahead drift jump look trip way several early lost edges chase apart tour behind answered late pull pulled strays lengths_in
+unfolding digits left_of right_of shortest_in longest_in delay_in sends_in turns_in ahead drift jump look trip way several early lost edges chase spread apart tour behind answered late pull pulled strays lengths_in
 too_far = refl
 
 no_further : fail_lines (two_nodes (book_lengths 6 7 2 1) (steady 125 3115) 5) three_names 0 1 ≡ []
-unfolding left_of right_of shortest_in longest_in delay_in sends_in turns_in ahead drift jump look trip way several early lost edges chase apart tour behind answered late pull pulled strays lengths_in
+unfolding left_of right_of shortest_in longest_in delay_in sends_in turns_in ahead drift jump look trip way several early lost edges chase spread apart tour behind answered late pull pulled strays lengths_in
 no_further = refl
 
 -- with each sender alone it holds
 only_several : fail_line (three_nodes (book_lengths 6 7 2 1) (steady 125 1000) 5) three_names NoBitTooEarly 0 1
     ≡ codes "doubt: if several nodes send at once, the next bit of b comes to a up to 282.500 ns (2.27 quanta) too early, and its PHASE_SEG2 has 249.750 ns (2.00 quanta)\n"
-unfolding digits left_of right_of shortest_in longest_in delay_in sends_in turns_in ahead drift jump look trip way several early lost edges chase apart tour behind answered late pull pulled strays lengths_in
+unfolding digits left_of right_of shortest_in longest_in delay_in sends_in turns_in ahead drift jump look trip way several early lost edges chase spread apart tour behind answered late pull pulled strays lengths_in
 only_several = refl
 
 -- a clock of 126 ticks in the place of 125, over 80 quanta: 8,000 ppm
@@ -112,9 +112,9 @@ with_listener = record {
 
 own_bit : fail_lines with_listener three_names 2 2
     ≡ codes "doubt: a bit of c comes back to it 1760.000 ns (14.09 quanta) after it began, and it samples after 1749.825 ns (14.00 quanta)\n"
-unfolding digits left_of right_of shortest_in longest_in delay_in sends_in turns_in ahead drift jump look trip way several early lost edges chase apart tour behind answered late pull pulled strays lengths_in
+unfolding digits left_of right_of shortest_in longest_in delay_in sends_in turns_in ahead drift jump look trip way several early lost edges chase spread apart tour behind answered late pull pulled strays lengths_in
 own_bit = refl
 
 not_heard : fail_lines with_listener three_names 0 2 ≡ []
-unfolding left_of right_of shortest_in longest_in delay_in sends_in turns_in ahead drift jump look trip way several early lost edges chase apart tour behind answered late pull pulled strays lengths_in
+unfolding left_of right_of shortest_in longest_in delay_in sends_in turns_in ahead drift jump look trip way several early lost edges chase spread apart tour behind answered late pull pulled strays lengths_in
 not_heard = refl
