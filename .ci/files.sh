@@ -27,6 +27,7 @@ done
 said 'a file that is not there' 3 'fault: Read\nfile: none\n' run none
 said 'with a hint' 3 'fault: Read\nfile: none\nhint: Check that there is such a file, and that it can be read.\n' run --hint none
 said 'a folder to read' 3 'fault: Read\nfile: .\n' check .
+said 'a folder to read, records' 3 'fault: Read\nfile: .\n' merge .
 said 'a folder to write' 3 'fault: Write\nfile: .\n' check "$plan" -o .
 said 'a folder that is not there' 3 'fault: Write\nfile: none/out\n' check "$plan" -o none/out
 said 'the hint on it' 3 'fault: Write\nfile: none/out\nhint: Check that the file and its folder can be written and their disk has room.\n' check --hint "$plan" -o none/out
@@ -47,7 +48,12 @@ mkfifo "$files/pipe" && (cat "$files/pipe" > "$files/through" & "$program" run "
 (cat "$plan" > "$files/pipe" & "$program" run "$files/pipe" > "$files/through"; wait) && holds 'a pipe to read' through "$report"
 # A new file gets a name that is free: what a run that was killed has left stays
 echo left > "$files/.wireline-0.new" && said 'a new file beside one that was left' 0 '' run "$plan" -o out && holds 'a new file beside one that was left' out "$report"
-holds 'one that was left' .wireline-0.new <(echo left) && rm "$files/.wireline-0.new"
+holds 'one that was left' .wireline-0.new <(echo left)
+for ((n = 0; n < 999; n++)); do echo left > "$files/.wireline-$n.new"; done
+said 'a new file beside 999 that were left' 0 '' run "$plan" -o out && holds 'a new file beside 999 that were left' out "$report"
+is 'they stay' [ "$(cat "$files"/.wireline-*.new | sort -u)" = left -a "$(find "$files" -name '.wireline-*' | wc -l)" = 999 ]
+echo left > "$files/.wireline-999.new" && said 'no name is free' 3 'fault: Write\nfile: new\n' run "$plan" -o new && is 'no file came' [ ! -e "$files/new" ]
+find "$files" -name '.wireline-*' -delete
 # A pipe can't be read once more for a hint: it isn't waited for
 sed 's/^sjw = 3/sjw = 9/' "$plan" > "$files/bad" && (cat "$files/bad" > "$files/pipe" &)
 said 'a pipe with a hint' 1 'fault: NodeSegments(0, Jump)\nhint: sjw is out of its bounds or above ps1. Set `sjw` from 1 to 4 and at most `ps1`.\n' check --hint pipe
@@ -82,6 +88,8 @@ for name in tables dotted; do
 done
 # Progress: a line a second from the first second on, and none of a run that takes less
 said 'progress of a short run' 0 '' run --progress "$plan"
+least=$(for _ in 1 2 3; do begun=${EPOCHREALTIME/./} && "$program" run --progress "$plan" > /dev/null && echo $((${EPOCHREALTIME/./} - begun)); done | sort -n | head -1)
+is "a short run doesn't wait for a line of progress: $least us" [ "$least" -lt 900000 ]
 (sleep 2.5 && cat "$plan") | "$program" run --progress > "$room/out" 2> "$room/err"
 is 'progress' cmp -s "$room/err" <(printf 'progress: %s s\n' 1 2)
 is 'progress (standard output)' cmp -s "$room/out" "$report"

@@ -15,8 +15,8 @@
 # - sweeps: known answers, what is refused, files, memory (.ci/sweeps.sh)
 # - command lines that name no task, or are no text: status 2, and nothing on standard output
 # - a run that doesn't end in 300 seconds, as one whose workers wait for each other for ever, has failed
-# - a reader and a writer that fail, and threads that can't be made: status 3
-# - as many workers as were asked for, and by the link that was asked for
+# - a reader and a writer that fail, with their hints, and threads that can't be made: status 3
+# - as many workers as were asked for, by their threads, and by the link that was asked for
 # - each allocation refused in turn, of some commands and amid the events of a world; a disk that fails; worlds that restart
 set -uo pipefail
 cd "$(dirname "$0")/.."
@@ -88,6 +88,10 @@ for word in candump vcd page margin traffic; do
   is "$word of full queues" [ $? = 0 -a -s "$room/$word" -a ! -s "$room/err" ]
 done
 is "lines of candump of full queues" [ "$(wc -l < "$room/candump")" = 128 ]
+# By two workers that is a run of some thousands of turns.
+for link in hub mail; do
+  runs "run of full queues by two workers, $link" "$room/full.toml" 0 "$room/full" "$room/none" run --workers 2 --link "$link"
+done
 # Other formats of a text of more than 64 KiB have a record for each line.
 "$program" trace < "$room/full.toml" > "$room/traced"
 is "the trace of full queues is long" [ "$(wc -c < "$room/traced")" -gt 100000 ]
@@ -196,6 +200,14 @@ ended=0
 python3 -B check/formats.py "$program" examples/clean_500k.toml examples/burst.toml examples/bus_off.toml .ci/bounds.toml .ci/doubts.toml > "$room/out" || ended=$?
 is "JSON and CSV: $(tail -3 "$room/out" | tr '\n' '/')" [ "$ended" = 0 ]
 . .ci/settings.sh
+# Each worker has a thread of its own beside the program's, and one works on that.
+python3 -Bc 'import sys; sys.path.insert(0, "bench"); import worst; print(worst.plan(nodes=16, quanta=200_000))' > "$room/busy.toml"
+for workers in 1 2 3 8; do
+  for link in hub mail; do
+    found=$(threads "$program" run --workers "$workers" --link "$link" "$room/busy.toml")
+    is "threads of a run by $workers workers, $link: $found" [ "$found" = $((workers == 1 ? 1 : workers + 1)) ]
+  done
+done
 
 while IFS= read -r words; do
   # shellcheck disable=SC2086
@@ -296,6 +308,9 @@ for word in margin traffic; do
   runs "a format that is none, $word" examples/clean_500k.toml 2 "$room/none" "$room/fault" "$word" --format xml
 done
 
+printf 'wl_sim 0.1.0\n' > "$room/fault"
+runs "the version" "$room/none" 2 "$room/none" "$room/fault" --version
+
 printf "error: the arguments can't be read\n" > "$room/fault"
 runs "words that are no text" examples/clean_500k.toml 2 "$room/none" "$room/fault" run $'\xff'
 
@@ -313,6 +328,17 @@ for word in merge horizon check records run explain trace candump vcd page margi
   is "$word to a writer that fails (standard error)" cmp -s "$room/err" "$room/fault"
 done
 
+# The hints on standard input and output, and on memory, are those of docs/use/commands.md.
+remedy_of() { grep -F "| \`$1\` |" docs/use/commands.md | sed 's/ |$//;s/.* | //'; }
+for word in merge check sweep; do
+  printf 'fault: Read\nhint: %s\n' "$(remedy_of Read)" > "$room/fault"
+  runs "the hint on a reader that fails, $word" / 3 "$room/none" "$room/fault" "$word" --hint
+  input=examples/clean_500k.toml
+  [ "$word" != merge ] || input=examples/records.txt
+  "$program" "$word" --hint < "$input" > /dev/full 2> "$room/err"
+  is "the hint on a writer that fails, $word" cmp -s "$room/err" <(printf 'fault: Write\nhint: %s\n' "$(remedy_of Write)")
+done
+
 # The least limit on memory under which the program runs by one thread leaves no room for the stacks of eight more.
 limited() { (ulimit -v "$1" && shift && timeout 300 "$program" run "$@" < examples/clean_500k.toml > "$room/out" 2> "$room/err"); }
 limit=2000
@@ -321,7 +347,7 @@ ended=0
 limited "$((limit + 8000))" --hint --workers 8 || ended=$?
 is "threads that can't be made (status $ended: $(head -c 200 "$room/err"))" grep -qxE 'fault: (Worker\([0-7]\)|Memory)' "$room/err"
 fault=$(sed -n 's/^fault: //p' "$room/err")
-remedy=$(grep -F "| \`${fault/[0-7]/n}\` |" docs/use/commands.md | sed 's/ |$//;s/.* | //')
+remedy=$(remedy_of "${fault/[0-7]/n}")
 is "the hint on them: $(tail -1 "$room/err")" [ -n "$remedy" -a "$(sed -n 's/^hint: //p' "$room/err")" = "$remedy" ]
 is "threads that can't be made (status)" [ "$ended" = 3 -a ! -s "$room/out" ]
 # No clause says how many threads there are: eight workers don't fit into what is just enough for two.
