@@ -1,12 +1,14 @@
 -- Refusals: that they are no fault of the writer, and what an engine that answers one has done.
-use Rattle.std.proofs.Common.{◌≡◌, ◌≢◌, ◌∙◌, ap, sym, refl, ℕ, ◌+◌, Bool, true, false, cond, List, [], ◌∷◌, Result, Ok, Err, Option, Some, None, subst}
+use Rattle.std.proofs.Common.{◌≡◌, ◌≢◌, ◌∙◌, ap, sym, refl, ℕ, ◌+◌, Bool, true, false, cond, List, [], ◌∷◌, Result, Ok, Err, Option, Some, None, inr, subst}
 use Rattle.std.proofs.lemmas.Bool.{false≢true, true≢false}
+use Rattle.wl_device.specs.Devices.{Answer}
 use Rattle.wl_device.specs.declared.device.WriteFault.{WriteFault}
 use Rattle.wl_plan.specs.declared.plan.Plan.{Plan}
 use Rattle.wl_setup.specs.declared.fault.SetupFault.{SetupFault}
 use Rattle.wl_setup.specs.declared.fault.SetupFault.TheVariants as setup
 use Rattle.wl_setup.specs.declared.plan_text.PlanText.{PlanText}
 use Rattle.wl_setup.specs.Plans.{plan_of_text}
+use Rattle.wl_setup.specs.Reading.{ReadsPlan}
 use Rattle.wl_sweep.specs.declared.range.SweptRange.{SweptRange}
 use Rattle.wl_sweep.specs.declared.sweep.Sweep.{Sweep}
 use Rattle.wl_sweep.specs.declared.vary.RangeFault.{RangeFault}
@@ -21,6 +23,7 @@ use Rattle.wl_sweep_engine.specs.Faults.{of_range, of_setup}
 use Rattle.std.specs.Prelude.{IsErrAnd}
 use Rattle.wl_sweep_engine.specs.Printed.{printed_member}
 use Rattle.wl_sweep_engine.specs.Ran.{Ran}
+use Rattle.wl_sweep_engine.specs.Sweeping.{RefusesSweep}
 
 abbrev pub is_write : SweepFault → Bool
 is_write sweep.Runs = false
@@ -132,6 +135,17 @@ module _ {A T : Type 0} (Refuses : SweepFault → Type 0) (Wrote : A → Result 
       → IsErrAnd r (λ other. other ≡ e) → Ran Refuses Wrote t t' r
   refused_by e fine r (Ok u) is = absurd is
   refused_by e fine r (Err other) is = subst (λ f. Ran Refuses Wrote t t' (Err f)) (sym is) (refuse e fine r)
+
+-- a text was read, and the sweep that it means is refused
+module _ {A S T : Type 0} (gives : S → Answer → S → Type 0) (takes : T → Answer → T → Type 0) (words : List (List ℕ)) (asked : Asked) (s s' : S) (t : T)
+    (checked : Result (Unit {0}) SweepFault) (Refuses : SweepFault → Type 0) (Wrote : A → Result (Unit {0}) WriteFault → Type 0)
+    (refuses : (e : SweepFault) → RefusesSweep gives takes words asked s s' t t checked e → Refuses e) where
+  pub swept_by : checked ≡ Ok tt → (text : PlanText) → ReadsPlan gives s (Ok text) s' → (e : SweepFault)
+      → (e ≢ sweep.Memory → sweep_of text words asked ≡ Err e) → (r : Result A SweepFault) → IsErrAnd r (λ other. other ≡ e) → Ran Refuses Wrote t t r
+  swept_by fine text read e answer =
+      refused_by Refuses Wrote t t refl e
+      (λ n. fine_here (sweep_of text words asked) e (sweep_fine text words asked) (answer n))
+      (λ n. refuses e (inr (inr (fine, (text, read, answer n)))))
 
 -- the writer failed
 pub wrote_by : {A T : Type 0} (Refuses : SweepFault → Type 0) (Wrote : A → Result (Unit {0}) WriteFault → Type 0) (t t' : T) (answer : A) (fault : WriteFault)

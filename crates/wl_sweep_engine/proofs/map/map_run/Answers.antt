@@ -1,9 +1,8 @@
-use Rattle.std.proofs.Common.{◌≡◌, ◌∙◌, sym, subst, map, string_bytes, refl, List, ℕ, Ok, Err, inl, inr}
+use Rattle.std.proofs.Common.{◌∙◌, sym, subst, map, string_bytes, List, ℕ, Err}
 use Rattle.wl_device.specs.Devices.{Writes}
-use Rattle.wl_map.specs.Maps.{map_text}
-use Rattle.wl_sweep_engine.specs.Asked.{checked_workers, sweep_of}
+use Rattle.wl_sweep_engine.specs.Asked.{checked_workers}
 use Rattle.wl_sweep_engine.specs.Sweeping.{RefusesSweep, WritesMap}
-use Rattle.wl_sweep_engine.proofs.Refusing.{fine_here, refused_by, sweep_fine, wrote_by}
+use Rattle.wl_sweep_engine.proofs.Refusing.{swept_by, wrote_by}
 use Rattle.wl_sweep_engine.proofs.map.map_run.Goals as goal
 
 pub returns-in_err-sweep : goal.returns-in_err-sweep
@@ -16,12 +15,9 @@ returns-in_err-sweep g c =
     let after = c.read_text.new.reader in
     let t = c.args.writer.now in
     let checked = checked_workers asked.options c.args.workers.count in
-    let text = c.in_ok-text.text in
-    let e = c.in_err-sweep.field-0.0 in
-    refused_by (RefusesSweep gives takes words asked s after t t checked) (WritesMap gives takes words asked s after t t c.args.workers.count) t t refl e
-    (λ n. fine_here (sweep_of text words asked) e (sweep_fine text words asked) (c.in_err-sweep.ensures.answer n))
-    (λ n. inr (inr (sym c.check_workers.ensures ∙ c.in_ok-check_workers.was, (text, c.in_ok-text.ensures (λ h. cc), c.in_err-sweep.ensures.answer n))))
-    c.from_residual-in_err-sweep.result c.from_residual-in_err-sweep.ensures.1
+    swept_by gives takes words asked s after t checked (RefusesSweep gives takes words asked s after t t checked) (WritesMap gives takes words asked s after t t c.args.workers.count)
+    (λ e refuses. refuses) (sym c.check_workers.ensures ∙ c.in_ok-check_workers.was) c.in_ok-text.text (c.in_ok-text.ensures (λ h. cc)) c.in_err-sweep.field-0.0
+    c.in_err-sweep.ensures.answer c.from_residual-in_err-sweep.result c.from_residual-in_err-sweep.ensures.1
 
 pub returns-in_err-write_all : goal.returns-in_err-write_all
 returns-in_err-write_all g c =

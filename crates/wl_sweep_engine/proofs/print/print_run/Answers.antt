@@ -1,9 +1,9 @@
-use Rattle.std.proofs.Common.{◌≡◌, ◌∙◌, sym, map, string_bytes, refl, List, ℕ, Ok, Err, inl, inr}
+use Rattle.std.proofs.Common.{◌∙◌, sym, map, string_bytes, refl, inl, inr}
 use Rattle.wl_sweep.specs.Sweeps.{member_at}
-use Rattle.wl_sweep_engine.specs.Asked.{checked_options, sweep_of}
+use Rattle.wl_sweep_engine.specs.Asked.{checked_options}
 use Rattle.wl_sweep_engine.specs.Printed.{printed_of}
 use Rattle.wl_sweep_engine.specs.Sweeping.{RefusesMember, WritesMember}
-use Rattle.wl_sweep_engine.proofs.Refusing.{fine_here, printed_fine, refused_by, sweep_fine}
+use Rattle.wl_sweep_engine.proofs.Refusing.{fine_here, printed_fine, refused_by, swept_by}
 use Rattle.wl_sweep_engine.proofs.print.print_run.Goals as goal
 
 pub returns-in_err-sweep : goal.returns-in_err-sweep
@@ -15,12 +15,10 @@ returns-in_err-sweep g c =
     let s = c.args.reader.now in
     let after = c.read_text.new.reader in
     let t = c.args.writer.now in
-    let text = c.in_ok-text.text in
-    let e = c.in_err-sweep.field-0.0 in
-    refused_by (RefusesMember gives takes words asked s after t t c.args.number) (WritesMember gives takes words asked s after t t c.args.number) t t refl e
-    (λ n. fine_here (sweep_of text words asked) e (sweep_fine text words asked) (c.in_err-sweep.ensures.answer n))
-    (λ n. inr (inr (inr (sym c.check_options.ensures ∙ c.in_ok-check_options.was, (text, c.in_ok-text.ensures (λ h. cc), c.in_err-sweep.ensures.answer n)))))
-    c.from_residual-in_err-sweep.result c.from_residual-in_err-sweep.ensures.1
+    swept_by gives takes words asked s after t (checked_options asked.options) (RefusesMember gives takes words asked s after t t c.args.number)
+    (WritesMember gives takes words asked s after t t c.args.number) (λ e refuses. inr refuses) (sym c.check_options.ensures ∙ c.in_ok-check_options.was)
+    c.in_ok-text.text (c.in_ok-text.ensures (λ h. cc)) c.in_err-sweep.field-0.0 c.in_err-sweep.ensures.answer c.from_residual-in_err-sweep.result
+    c.from_residual-in_err-sweep.ensures.1
 
 pub returns-in_err-text-2 : goal.returns-in_err-text-2
 returns-in_err-text-2 g c =
