@@ -22,6 +22,11 @@ pub enum LinkFault {
 }
 
 impl From<AllocError> for LinkFault {
+    ghost use Rattle.std.specs.Prelude.{◌≡◌};
+    ghost use Rattle.wl_worker.specs.declared.link.LinkFault.TheVariants.{Memory};
+
+    ghost from_gives = { λ _ given. given ≡ Memory };
+
     fn from(_: AllocError) -> LinkFault {
         LinkFault::Memory
     }
