@@ -14,3 +14,8 @@ pub use Rattle.wl_any_senders.proofs.Nodes.{Passes, Same, fine_counts, drive_by,
 pub use Rattle.wl_any_senders.proofs.Plans.{line_of_plan}
 pub use Rattle.wl_any_senders.proofs.AckBounds.{drift_high, extra, extra_high, late_is}
 pub use Rattle.wl_any_senders.proofs.Bounded.{inside as inside_bus, quanta_low}
+pub use Rattle.wl_any_senders.proofs.Waited.{idle_after, none_is, none_of, one_more, takes_head}
+pub use Rattle.wl_any_senders.proofs.Outsets.{IsAtRest, has_begun}
+pub use Rattle.wl_any_senders.proofs.Beginning.{bit_start_laws}
+pub use Rattle.wl_any_senders.proofs.Calm.{LevelGoes, SampleGoes}
+pub use Rattle.wl_any_senders.proofs.Clocked.{bit_place_laws}

@@ -1,146 +1,30 @@
 -- Machines on an idle bus are on one wire, whenever each began to sample it.
-use Rattle.std.proofs.Common.{◌≡◌, ◌≢◌, ◌∙◌, ◌⊎◌, inl, inr, refl, sym, ap, subst, ℕ, zero, suc, ◌+◌, ◌<◌, ◌≤◌, ◌&&◌, not, cond, Bool, true, false, List, [], ◌∷◌, ◌++◌, length, replicate, Option, Some, None, arith, append-nil}
-use Rattle.std.specs.Prelude.{◌==◌, slice_get}
-use Rattle.std.proofs.lemmas.Bool.{cases_eq, cases_lt, eq-eqb, ne_eqb}
-use Rattle.std.proofs.lemmas.List.Sums.{fold-append}
-use Rattle.std.proofs.lemmas.Option.{slice_get_past}
-use Rattle.wl_level.specs.declared.Level.TheVariants.{Dominant, Recessive}
-use Rattle.wl_level.specs.Levels.{is_dominant}
-use Rattle.wl_level.proofs.Callers.{snoc}
-use Rattle.wl_confine.specs.declared.Mode.TheVariants.{Active}
+use Rattle.std.proofs.Common.{◌≡◌, ◌∙◌, inl, inr, refl, sym, ap, ℕ, zero, suc, ◌+◌, ◌<◌, List, [], ◌∷◌, ◌++◌, replicate, arith}
+use Rattle.std.proofs.lemmas.List.{append_assoc}
+use Rattle.wl_level.specs.declared.Level.TheVariants.{Recessive}
 use Rattle.wl_frame.specs.Grammar.{Content}
-use Rattle.wl_machine.specs.Stretch.{Input, Sampled, Stretch}
-use Rattle.wl_machine.specs.Stretch.Sort.{Framing, Idle}
+use Rattle.wl_machine.specs.Stretch.{Input}
 use Rattle.wl_machine.specs.Stretch.Input.{Sample}
-use Rattle.wl_machine.specs.Quiet.{idle_on}
-use Rattle.wl_machine.specs.Judged.{drive_by, judged_by, or_next, stretch_after, stretch_of}
-use Rattle.wl_machine.specs.States.{sample_of, stretch_by}
-use Rattle.wl_machine.proofs.Callers.{stretch_next}
-use Rattle.wl_wire.specs.Wire.{Event, Handed, Wire, idle_wire, is_between_by, may_be_alone, next_wire, sampled, stretch_at, wire_after}
-use Rattle.wl_wire.specs.Wire.Event.{Own}
-use Rattle.wl_any_senders.proofs.Machines.{frames_after}
-use Rattle.wl_any_senders.specs.Machines.{HasIdled, MayBegin, MayBeginTogether, no_frame_sample}
+use Rattle.wl_wire.specs.Wire.{sampled}
+use Rattle.wl_any_senders.specs.Machines.{HasIdled, MayBeginTogether, no_frame_sample}
+use Rattle.wl_any_senders.specs.Waits.{HasWaited}
+use Rattle.wl_any_senders.proofs.Waited.{none_is, none_of, one_more, wait_together}
 
--- the bus is idle to such a machine
-one_more : (n : ℕ) → replicate (11 + suc n) no_frame_sample ≡ replicate (11 + n) no_frame_sample ++ no_frame_sample ∷ []
-one_more n = ap (λ m. replicate m no_frame_sample) (let e : 11 + suc n ≡ suc (11 + n) = omega arith in e) ∙ snoc [] no_frame_sample (11 + n)
+abbrev eleven : List Input
+eleven = replicate 11 no_frame_sample
 
-stays_idle : (s : Stretch) → s.sort ≡ Idle → (stretch_after s no_frame_sample).sort ≡ Idle
-stays_idle s e = ap (λ q. (stretch_after (stretch_by q s.own) no_frame_sample).sort) e
+by_eleven : (n : ℕ) → replicate (11 + n) no_frame_sample ≡ eleven ++ replicate n no_frame_sample
+by_eleven n = ap (λ m. replicate m no_frame_sample) (let e : 11 + n ≡ suc (suc (suc (suc (suc (suc (suc (suc (suc (suc (suc (n))))))))))) = omega arith in e)
 
-is_idle : (n : ℕ) → (stretch_of (replicate (11 + n) no_frame_sample)).sort ≡ Idle
-is_idle zero = refl
-is_idle (suc n) =
-    ap (λ p. (stretch_of p).sort) (one_more n) ∙ ap (λ s. s.sort) (stretch_next (replicate (11 + n) no_frame_sample) no_frame_sample)
-    ∙ stays_idle (stretch_of (replicate (11 + n) no_frame_sample)) (is_idle n)
+-- a machine after its eleventh sample
+waited : (frames : ℕ → List Content) (k : ℕ) (past : List Input) → HasIdled frames k past → HasWaited (frames k) eleven past
+waited frames k past (zero, inl e) = inl e
+waited frames k past (suc n, inl e) =
+    inr (n, none_of frames k, refl, e ∙ by_eleven (suc n) ∙ ap (λ p. eleven ++ p) (one_more n) ∙ ap (λ x. eleven ++ (replicate n no_frame_sample ++ x ∷ [])) (sym (none_is frames k)))
+waited frames k past (n, inr (h, e)) =
+    inr (n, h, refl, e ∙ ap (λ p. p ++ Sample (sampled Recessive (frames k) h) ∷ []) (by_eleven n) ∙ append_assoc eleven (replicate n no_frame_sample) (Sample (sampled Recessive (frames k) h) ∷ []))
 
-idle_alone : (s : Stretch) → s.sort ≡ Idle → may_be_alone s ≡ true
-idle_alone s e = ap (λ q. is_between_by q s.own && not (is_dominant (drive_by q s.own))) e
-
--- with one more sample it may be to send
-handed_next : (frames : ℕ → List Content) (k : ℕ) (s : Stretch) (h : Handed) (o : Option Content) → slice_get (frames k) h.which ≡ o → s.sort ≡ Idle
-    → MayBegin frames k (stretch_after s (Sample (sampled Recessive (frames k) h)))
-handed_next frames k s h None given e =
-    inl (ap (λ o. (stretch_after s (Sample (sample_of Recessive o h.mode))).sort) given ∙ ap (λ q. (stretch_after (stretch_by q s.own) (Sample (sample_of Recessive None h.mode))).sort) e)
-handed_next frames k s h (Some c) given e =
-    inr (
-      c,
-      (h.which, given),
-      ap (λ o. stretch_after s (Sample (sample_of Recessive o h.mode))) given ∙ ap (λ q. stretch_after (stretch_by q s.own) (Sample (sample_of Recessive (Some c) h.mode))) e,
-    )
-
-may_by : (frames : ℕ → List Content) (k : ℕ) (past : List Input) → HasIdled frames k past → MayBegin frames k (stretch_of past)
-may_by frames k past (n, inl e) = inl (ap (λ p. (stretch_of p).sort) e ∙ is_idle n)
-may_by frames k past (n, inr (h, e)) =
-    subst (MayBegin frames k) (sym (ap stretch_of e ∙ stretch_next (replicate (11 + n) no_frame_sample) (Sample (sampled Recessive (frames k) h))))
-    (handed_next frames k (stretch_of (replicate (11 + n) no_frame_sample)) h (slice_get (frames k) h.which) refl (is_idle n))
-
--- one machine samples a recessive bit by itself
-own_at : (w : Wire) (k : ℕ) (h : Handed) → may_be_alone (stretch_at w k) ≡ true → (next_wire w (Own k h)).past k ≡ w.past k ++ Sample (sampled Recessive (w.frames k) h) ∷ []
-own_at w k h may =
-    ap (λ b. w.past k ++ cond (b && may_be_alone (stretch_at w k)) (Sample (sampled Recessive (w.frames k) h) ∷ []) []) (eq-eqb k k refl)
-    ∙ ap (λ b. w.past k ++ cond b (Sample (sampled Recessive (w.frames k) h) ∷ []) []) may
-
-own_other : (w : Wire) (k j : ℕ) (h : Handed) → j ≢ k → (next_wire w (Own k h)).past j ≡ w.past j
-own_other w k j h apart =
-    ap (λ b. w.past j ++ cond (b && may_be_alone (stretch_at w j)) (Sample (sampled Recessive (w.frames j) h) ∷ []) []) (ne_eqb j k apart) ∙ append-nil (w.past j)
-
-module _ (frames : ℕ → List Content) where
-  abbrev none_of : ℕ → Handed
-  none_of k = record { which = length (frames k); mode = Active }
-
-  idles : (k n : ℕ) → List Event
-  idles k zero = []
-  idles k (suc n) = idles k n ++ Own k (none_of k) ∷ []
-
-  next_idle : (w : Wire) (k n : ℕ) → wire_after w (idles k (suc n)) ≡ next_wire (wire_after w (idles k n)) (Own k (none_of k))
-  unfolding idles
-  next_idle w k n = fold-append next_wire w (idles k n) (Own k (none_of k) ∷ [])
-
-  idle_past : (w : Wire) (k n : ℕ) → w.frames ≡ frames → w.past k ≡ replicate 11 no_frame_sample → (wire_after w (idles k n)).past k ≡ replicate (11 + n) no_frame_sample
-  unfolding idles
-  idle_past w k zero same first = first
-  idle_past w k (suc n) same first =
-      let before = idle_past w k n same first in
-      ap (λ v. v.past k) (next_idle w k n)
-      ∙ own_at (wire_after w (idles k n)) k (none_of k) (ap (λ p. may_be_alone (stretch_of p)) before ∙ idle_alone (stretch_of (replicate (11 + n) no_frame_sample)) (is_idle n))
-      ∙ ap (λ p. p ++ Sample (sampled Recessive ((wire_after w (idles k n)).frames k) (none_of k)) ∷ []) before
-      ∙ ap (λ f. replicate (11 + n) no_frame_sample ++ Sample (sampled Recessive (f k) (none_of k)) ∷ []) (frames_after w (idles k n) ∙ same)
-      ∙ ap (λ o. replicate (11 + n) no_frame_sample ++ Sample (sample_of Recessive o Active) ∷ []) (slice_get_past (frames k) (length (frames k)) (omega arith))
-      ∙ sym (one_more n)
-
-  idle_other : (w : Wire) (k j n : ℕ) → j ≢ k → (wire_after w (idles k n)).past j ≡ w.past j
-  unfolding idles
-  idle_other w k j zero apart = refl
-  idle_other w k j (suc n) apart = ap (λ v. v.past j) (next_idle w k n) ∙ own_other (wire_after w (idles k n)) k j (none_of k) apart ∙ idle_other w k j n apart
-
-  -- what one machine has sampled more
-  record Adds (w : Wire) (k : ℕ) (past : List Input) : Type 0 where
-    more : List Event
-    mine : (wire_after w more).past k ≡ past
-    others : (j : ℕ) → j ≢ k → (wire_after w more).past j ≡ w.past j
-
-  adds : (w : Wire) (k : ℕ) (past : List Input) → w.frames ≡ frames → w.past k ≡ replicate 11 no_frame_sample → HasIdled frames k past → Adds w k past
-  adds w k past same first (n, inl e) = record { more = idles k n; mine = idle_past w k n same first ∙ sym e; others = λ j apart. idle_other w k j n apart }
-  adds w k past same first (n, inr (h, e)) =
-      (let before = idle_past w k n same first in
-      let split : wire_after w (idles k n ++ Own k h ∷ []) ≡ next_wire (wire_after w (idles k n)) (Own k h) = fold-append next_wire w (idles k n) (Own k h ∷ []) in
-      record {
-        more = idles k n ++ Own k h ∷ [];
-        mine =
-            ap (λ v. v.past k) split
-            ∙ own_at (wire_after w (idles k n)) k h (ap (λ p. may_be_alone (stretch_of p)) before ∙ idle_alone (stretch_of (replicate (11 + n) no_frame_sample)) (is_idle n))
-            ∙ ap (λ p. p ++ Sample (sampled Recessive ((wire_after w (idles k n)).frames k) h) ∷ []) before
-            ∙ ap (λ f. replicate (11 + n) no_frame_sample ++ Sample (sampled Recessive (f k) h) ∷ []) (frames_after w (idles k n) ∙ same) ∙ sym e;
-        others = λ j apart. ap (λ v. v.past j) split ∙ own_other (wire_after w (idles k n)) k j h apart ∙ idle_other w k j n apart;
-      })
-
-  module _ (count : ℕ) (past : ℕ → List Input) (idled : (k : ℕ) → k < count → HasIdled frames k (past k)) where
-    record UpTo (c : ℕ) : Type 0 where
-      events : List Event
-      mine : (k : ℕ) → k < c → past k ≡ (wire_after (idle_wire count frames) events).past k
-      others : (j : ℕ) → c ≤ j → (wire_after (idle_wire count frames) events).past j ≡ replicate 11 no_frame_sample
-
-    up_to : (c : ℕ) → c ≤ count → UpTo c
-    up_to zero few = record { events = []; mine = λ k less. absurd (omega arith); others = λ j more. refl }
-    up_to (suc c) few =
-        (let u = up_to c (omega arith) in
-        let w = wire_after (idle_wire count frames) u.events in
-        let a = adds (wire_after (idle_wire count frames) u.events) c (past c) (frames_after (idle_wire count frames) u.events) (u.others c (omega arith)) (idled c (omega arith)) in
-        let split : wire_after (idle_wire count frames) (u.events ++ a.more) ≡ wire_after (wire_after (idle_wire count frames) u.events) a.more =
-        fold-append next_wire (idle_wire count frames) u.events a.more in
-        record {
-          events = u.events ++ a.more;
-          mine = λ k less. elim (cases_lt k c) [
-            | inl before ↦ u.mine k before ∙ sym (ap (λ v. v.past k) split ∙ a.others k (λ e. omega (arith, e)))
-            | inr last ↦
-                (let e : c ≡ k = omega arith in
-                subst (λ j. past j ≡ (wire_after (idle_wire count frames) (u.events ++ a.more)).past j) e (sym (ap (λ v. v.past c) split ∙ a.mine)))
-          ];
-          others = λ j more. ap (λ v. v.past j) split ∙ a.others j (λ e. omega (arith, e)) ∙ u.others j (omega arith);
-        })
-
-    pub may_together : MayBeginTogether count frames past
-    may_together =
-        let u = up_to count (omega arith) in
-        record { earlier = u.events; reached = u.mine; may = λ k less. may_by frames k (past k) (idled k less) }
+pub may_together : (frames : ℕ → List Content) (count : ℕ) (past : ℕ → List Input) → ((k : ℕ) → k < count → HasIdled frames k (past k)) → MayBeginTogether count frames past
+may_together frames count past idled =
+    let first : MayBeginTogether count frames (λ k. eleven) = record { earlier = []; reached = λ k less. refl; may = λ k less. inl refl } in
+    wait_together frames count (λ k. eleven) past first (λ k less. waited frames k (past k) (idled k less))

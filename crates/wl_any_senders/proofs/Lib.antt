@@ -27,3 +27,4 @@ mod Seeing
 mod Settling
 mod Starting
 mod Unreached
+mod Waited

@@ -40,7 +40,7 @@ use Rattle.wl_any_senders.specs.Machines.{MayBegin, bus_levels}
 use Rattle.wl_any_senders.specs.Clocked.{BitIs, BitPlaceLaws, BitStartLaws, EdgeLaws, NoEdgeLaws, SamplesBy, StartsOnce}
 use Rattle.wl_any_senders.specs.Expected.{HasSampled, IsOutset, Outset, expected_bits, expected_drove, expected_sample, past_at, wants}
 use Rattle.wl_any_senders.specs.Nodes.{IsInBit, IsRun, clock_sees}
-use Rattle.wl_any_senders.specs.Lines.{BeginsAfter, RestsBefore}
+use Rattle.wl_any_senders.specs.Lines.{BeginsAfter}
 use Rattle.wl_any_senders.proofs.Calm.{LevelGoes, SampleGoes}
 use Rattle.wl_any_senders.proofs.Counting.{plain_before, samples_start, starts_there, unsampled_before}
 use Rattle.wl_any_senders.proofs.Expecting.{driven_at, drives_are, from_all, from_sample, sent_at, wants_sends}
@@ -62,13 +62,21 @@ waits : (frames : ℕ → List Content) (k : ℕ) (x : Stretch) → MayBegin fra
 waits frames k x (inl idle) = ap (λ q. awaits_by q x.own) idle
 waits frames k x (inr due) = ap awaits_start due.2
 
+-- A node is at rest: it has sampled a recessive bit with its place 0 at the quantum `rest`, as before a frame. What it has done before doesn't matter.
+pub record IsAtRest (s : Stations) (o : Outset) (i : ℕ) (levels : ℕ → Level) (node : ℕ → History) (rest : ℕ) : Type 0 where
+  pub sampled : SamplesBy (s.lengths i) (clock_sees levels node) (rest + sample_at (s.lengths i)) Recessive
+  pub clock : clock_after (s.lengths i) (seen_before (clock_sees levels node) (suc (rest + sample_at (s.lengths i)))) ≡ steady_clock (s.lengths i)
+  pub stretch : stretch_of (node (suc (rest + sample_at (s.lengths i)))).inputs ≡ stretch_of (o.past i)
+  pub counts : counts_of (node (suc (rest + sample_at (s.lengths i)))).happened ≡ no_counts
+  pub drive : (node (suc (rest + sample_at (s.lengths i)))).drive ≡ Recessive
+
 module _ (steps : StayInStep) (errors : FindNoErrors) (winner : LeastWins) (stuffed : SendStuffed) (six : SixOrFront) (ten : TenHaveEdge) (laws : DrivenLaws)
     (goes : Goes) (level_goes : LevelGoes) (sample_goes : SampleGoes) (ways : WayLaws) (places : BitPlaceLaws) (starts : BitStartLaws) (edges : EdgeLaws) (calm : NoEdgeLaws)
     (s : Stations) (are : AreStations s) (room : HaveRoom s) (o : Outset) (is : IsOutset s o) (total : ℕ) (some : 0 < total)
     (valid : (n : ℕ) → n < total → stuffed_end (bus_levels s (expected_bits s o) n) ≡ None)
     (i : ℕ) (inside : i < s.count) (setup : NodeSetup) (segments : setup.segments ≡ s.lengths i) (levels : ℕ → Level) (node : ℕ → History) (run : IsRun setup levels node)
-    (finds : (q : ℕ) → levels q ≡ level_of (driven s.count s.delay (expected_drove s o total) i (steady_tick (s.clocks i) q)))
-    (rest : ℕ) (r : RestsBefore s o i levels node rest) (b : BeginsAfter s o i rest) where
+    (rest : ℕ) (r : IsAtRest s o i levels node rest) (b : BeginsAfter s o i rest)
+    (finds : (q : ℕ) → rest + sample_at (s.lengths i) < q → q ≤ expected_sample s o 0 i → levels q ≡ level_of (driven s.count s.delay (expected_drove s o total) i (steady_tick (s.clocks i) q))) where
   abbrev drove : ℕ → ℕ → Bool
   drove = expected_drove s o total
 
@@ -137,14 +145,14 @@ module _ (steps : StayInStep) (errors : FindNoErrors) (winner : LeastWins) (stuf
       let driving = driven_at steps errors winner stuffed six ten s are room o is total valid 0 w (tick i q - s.delay w i) some there (omega arith) (omega arith) ∙ dominant in
       laws.dominant_from s.count s.delay drove w i (tick i q) there (omega arith) driving
 
-  level_at : (q : ℕ) (c : Bool) → driven s.count s.delay drove i (tick i q) ≡ c → levels q ≡ level_of c
-  level_at q c e = finds q ∙ ap level_of e
+  level_at : (q : ℕ) (c : Bool) → R < q → q ≤ last → driven s.count s.delay drove i (tick i q) ≡ c → levels q ≡ level_of c
+  level_at q c more less e = finds q more less ∙ ap level_of e
 
   bus_first : bus_bit s (expected_bits s o) 0 ≡ true
   bus_first = any_from s.count is.some.0 o.start.drives is.some.1 is.some.2
 
-  last_level : levels last ≡ Dominant
-  last_level = level_at last true (right_at steps errors winner stuffed six ten laws s are room o is total valid 0 i some inside ∙ bus_first)
+  last_level : R < last → levels last ≡ Dominant
+  last_level more = level_at last true more (omega arith) (right_at steps errors winner stuffed six ten laws s are room o is total valid 0 i some inside ∙ bus_first)
 
   own_late : (w q : ℕ) → w ≡ i → reaches_at s o.start w i ≤ tick i q → q ≤ F → ⊥
   own_late w q e reach by_from =
@@ -156,9 +164,9 @@ module _ (steps : StayInStep) (errors : FindNoErrors) (winner : LeastWins) (stuf
   as_driver : (w : ℕ) → w < s.count → w ≢ i → wants s o 0 w ≡ true → Drives s o.start i w
   as_driver w there other dominant = record { inside = there; other = other; dominant = is.drives w ∙ dominant }
 
-  silent_until : (end : ℕ) → end ≤ F → end ≤ last → ((w : ℕ) → Drives s o.start i w → (q : ℕ) → q ≤ end → tick i q < reaches_at s o.start w i) → (q : ℕ) → q ≤ end → levels q ≡ Recessive
-  silent_until end by_from by_last unfound q less =
-      level_at q false (false_from_ne_true (driven s.count s.delay drove i (tick i q)) (λ e. (let w = driver_at q (omega arith) e in
+  silent_until : (end : ℕ) → end ≤ F → end ≤ last → ((w : ℕ) → Drives s o.start i w → (q : ℕ) → q ≤ end → tick i q < reaches_at s o.start w i) → (q : ℕ) → R < q → q ≤ end → levels q ≡ Recessive
+  silent_until end by_from by_last unfound q more less =
+      level_at q false more (omega arith) (false_from_ne_true (driven s.count s.delay drove i (tick i q)) (λ e. (let w = driver_at q (omega arith) e in
       let reach = w.reaches in
       elim (cases_eq w.by i) [
         | inl own ↦ own_late w.by q own reach (omega arith)
@@ -168,7 +176,7 @@ module _ (steps : StayInStep) (errors : FindNoErrors) (winner : LeastWins) (stuf
   -- the start of frame, once its clock is known
   module _ (rests_before : R < F) (from_last : F < last) where
     drive_first : (node (suc R)).drive ≡ level_of (drives (suc R))
-    drive_first = r.drive (suc R) (omega arith) ∙ ap level_of (sym (drives_before (suc R) rests_before))
+    drive_first = r.drive ∙ ap level_of (sym (drives_before (suc R) rests_before))
 
     abbrev exp : ℕ → Seen
     exp = expected setup levels node run l segments R last X drives r.stretch drive_first
@@ -226,7 +234,7 @@ module _ (steps : StayInStep) (errors : FindNoErrors) (winner : LeastWins) (stuf
       longer = omega arith
 
       seen_in : (j : ℕ) → j < suc last → exp j ≡ clock_sees levels node j
-      seen_in = all_seen setup levels node run l segments R last X drives r.stretch drive_first passes longer Dominant beat next r.counts last_level takes
+      seen_in = all_seen setup levels node run l segments R last X drives r.stretch drive_first passes longer Dominant beat next r.counts (last_level longer) takes
 
       bit_first : IsInBit s o i levels node 0
       bit_first = record {
@@ -236,18 +244,15 @@ module _ (steps : StayInStep) (errors : FindNoErrors) (winner : LeastWins) (stuf
               ∙ ap (beat_of l (seen_before exp last)) (sym (seen_in last (omega arith))) ∙ beat ∙ ap Sample (sym (ap level_of bus_first));
           steady = λ e. absurd (both_ways (bus_bit s (expected_bits s o) 0) e bus_first);
         };
-        stretch = stretch_there setup levels node run l segments R last X drives r.stretch drive_first passes longer Dominant beat next r.counts last_level takes;
-        counts = counts_there setup levels node run l segments R last X drives r.stretch drive_first passes longer Dominant beat next r.counts last_level takes;
+        stretch = stretch_there setup levels node run l segments R last X drives r.stretch drive_first passes longer Dominant beat next r.counts (last_level longer) takes;
+        counts = counts_there setup levels node run l segments R last X drives r.stretch drive_first passes longer Dominant beat next r.counts (last_level longer) takes;
         drive =
-            drive_there setup levels node run l segments R last X drives r.stretch drive_first passes longer Dominant beat next r.counts last_level takes
+            drive_there setup levels node run l segments R last X drives r.stretch drive_first passes longer Dominant beat next r.counts (last_level longer) takes
             ∙ ap level_of (drives_after last from_last);
       }
 
-      before_first : (q : ℕ) → q ≤ F → (node q).drive ≡ Recessive
-      before_first q less = elim (cases_lt R q) [
-        | inl more ↦ (same_at setup levels node run l segments R last X drives r.stretch drive_first passes longer q more (omega arith)).drive ∙ ap level_of (drives_before q less)
-        | inr few ↦ r.drive q (omega arith)
-      ]
+      before_first : (q : ℕ) → R < q → q ≤ F → (node q).drive ≡ Recessive
+      before_first q more less = (same_at setup levels node run l segments R last X drives r.stretch drive_first passes longer q more (omega arith)).drive ∙ ap level_of (drives_before q less)
 
       after_first : (q : ℕ) → F < q → q ≤ suc last → (node q).drive ≡ level_of (wants s o 0 i)
       after_first q more less = elim (cases_lt last q) [
@@ -255,11 +260,11 @@ module _ (steps : StayInStep) (errors : FindNoErrors) (winner : LeastWins) (stuf
         | inr few ↦ (same_at setup levels node run l segments R last X drives r.stretch drive_first passes longer q (omega arith) few).drive ∙ ap level_of (drives_after q more)
       ]
 
-      begun : IsInBit s o i levels node 0 × ((q : ℕ) → q ≤ F → (node q).drive ≡ Recessive) × ((q : ℕ) → F < q → q ≤ suc last → (node q).drive ≡ level_of (wants s o 0 i))
+      begun : IsInBit s o i levels node 0 × ((q : ℕ) → R < q → q ≤ F → (node q).drive ≡ Recessive) × ((q : ℕ) → F < q → q ≤ suc last → (node q).drive ≡ level_of (wants s o 0 i))
       begun = (bit_first, before_first, after_first)
 
   abbrev pub HasBegun : Type 0
-  HasBegun = IsInBit s o i levels node 0 × ((q : ℕ) → q ≤ F → (node q).drive ≡ Recessive) × ((q : ℕ) → F < q → q ≤ suc last → (node q).drive ≡ level_of (wants s o 0 i))
+  HasBegun = IsInBit s o i levels node 0 × ((q : ℕ) → R < q → q ≤ F → (node q).drive ≡ Recessive) × ((q : ℕ) → F < q → q ≤ suc last → (node q).drive ≡ level_of (wants s o 0 i))
 
   -- it begins by itself
   module _ (itself : BeginsAlone s o.start i) where
@@ -281,7 +286,7 @@ module _ (steps : StayInStep) (errors : FindNoErrors) (winner : LeastWins) (stuf
     d_is : d ≡ true
     d_is = sym (is.drives i) ∙ itself.dominant
 
-    silent_alone : (q : ℕ) → q ≤ rest + bit_quanta l → levels q ≡ Recessive
+    silent_alone : (q : ℕ) → R < q → q ≤ rest + bit_quanta l → levels q ≡ Recessive
     silent_alone =
         silent_until (rest + bit_quanta l) (let e = from_is in omega arith) (let e = last_is in omega arith)
         (λ w x q less. (let un = itself.unfound w x in let up = tick_next s are i inside q (o.start.place i) (let e = due_is in omega arith) in omega arith))
@@ -291,14 +296,14 @@ module _ (steps : StayInStep) (errors : FindNoErrors) (winner : LeastWins) (stuf
 
     bit_alone : BitIs l exp_alone R (rest + bit_quanta l) (rest + bit_quanta l) (exp_alone (rest + bit_quanta l + sample_at l)).level
     bit_alone =
-        edges.own l exp_alone rest Recessive book (sampled_in rests_alone from_alone) (λ q more less. ap (λ x. x.level) (new_in rests_alone from_alone q more) ∙ silent_alone q less)
+        edges.own l exp_alone rest Recessive book (sampled_in rests_alone from_alone) (λ q more less. ap (λ x. x.level) (new_in rests_alone from_alone q more) ∙ silent_alone q more less)
         (λ q more less. (let e = from_is in let low = book.lengths.ps2_low in ap (λ x. x.driving) (new_in rests_alone from_alone q (omega arith)) ∙ drives_after q (omega arith) ∙ d_is))
 
     alone_level : (exp_alone (rest + bit_quanta l + sample_at l)).level ≡ Dominant
     alone_level =
         let e = last_is in
         let low = book.lengths.ps2_low in
-        ap (λ x. x.level) (new_in rests_alone from_alone (rest + bit_quanta l + sample_at l) (omega arith)) ∙ ap levels (sym e) ∙ last_level
+        ap (λ x. x.level) (new_in rests_alone from_alone (rest + bit_quanta l + sample_at l) (omega arith)) ∙ ap levels (sym e) ∙ last_level (let f = rests_alone in let g = from_alone in omega arith)
 
     passes_alone : (q : ℕ) → R < q → q < last → Later rests_alone from_alone q
     passes_alone q more less = elim (cases_eq q (rest + bit_quanta l)) [
@@ -339,14 +344,14 @@ module _ (steps : StayInStep) (errors : FindNoErrors) (winner : LeastWins) (stuf
     from_last_hard : F < last
     from_last_hard = let e = from_hard in let f = last_hard in let a = book.lengths.prop_low in let c = book.lengths.ps1_low in let g = h.finds.later in omega arith
 
-    silent_hard : (q : ℕ) → q < h.found → levels q ≡ Recessive
-    silent_hard q less =
+    silent_hard : (q : ℕ) → R < q → q < h.found → levels q ≡ Recessive
+    silent_hard q more less =
         silent_until q (let e = from_hard in omega arith) (let e = from_hard in let f = from_last_hard in omega arith)
-        (λ w x j low. (let un = h.finds.finds.unseen q less in let up = tick_next s are i inside j q low in let f = h.finds.first w x in omega arith)) q (omega arith)
+        (λ w x j low. (let un = h.finds.finds.unseen q less in let up = tick_next s are i inside j q low in let f = h.finds.first w x in omega arith)) q more (omega arith)
 
     dominant_hard : (q : ℕ) → h.found ≤ q → q ≤ last → levels q ≡ Dominant
     dominant_hard q more less =
-        level_at q true (driven_then h.by q h.finds.by.inside (sym (is.drives h.by) ∙ h.finds.by.dominant)
+        level_at q true (let later = b.later h in omega arith) less (driven_then h.by q h.finds.by.inside (sym (is.drives h.by) ∙ h.finds.by.dominant)
         (let seen_by = h.finds.finds.seen in let up = tick_next s are i inside h.found q more in omega arith) less)
 
     abbrev exp_hard : ℕ → Seen
@@ -356,7 +361,7 @@ module _ (steps : StayInStep) (errors : FindNoErrors) (winner : LeastWins) (stuf
     new_hard = new_in rests_hard from_last_hard
 
     silent_seen : (q : ℕ) → R < q → q < h.found → (exp_hard q).level ≡ Recessive
-    silent_seen q more less = ap (λ x. x.level) (new_hard q more) ∙ silent_hard q less
+    silent_seen q more less = ap (λ x. x.level) (new_hard q more) ∙ silent_hard q more less
 
     there_seen : (q : ℕ) → h.found ≤ q → q ≤ h.found - 1 + sample_at l → (exp_hard q).level ≡ Dominant
     there_seen q more less = (let later = b.later h in let e = last_hard in ap (λ x. x.level) (new_hard q (omega arith)) ∙ dominant_hard q more (omega arith))

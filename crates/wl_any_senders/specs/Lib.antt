@@ -12,3 +12,4 @@ pub mod Answers
 pub mod Nodes
 pub mod Lines
 pub mod Ends
+pub mod Waits

@@ -8,3 +8,4 @@ pub mod ack;
 pub mod before;
 pub mod ending;
 pub mod laws;
+pub mod waits;

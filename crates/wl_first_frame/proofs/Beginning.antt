@@ -22,16 +22,16 @@ use Rattle.wl_any_senders.specs.Starts.{Start}
 use Rattle.wl_any_senders.specs.Expected.{IsOutset, Outset}
 use Rattle.wl_any_senders.specs.Lines.{BeginsAfter}
 use Rattle.wl_any_senders.specs.Machines.{HasIdled, MayBegin, MayBeginTogether, no_frame_sample}
-use Rattle.wl_first_frame.specs.FirstStarts.{AreIdle, Waiting, begins_first, decision_quantum, due_first, edge_first, first_outset, first_start, hard_from, handed_first, last_before, rest_first, silent_past}
+use Rattle.wl_first_frame.specs.FirstStarts.{AreIdle, Waiting, begins_first, decision_quantum, due_first, edge_first, eleventh, first_outset, first_start, hard_from, handed_first, has_first, last_before, rest_first, silent_past}
 use Rattle.wl_first_frame.proofs.Reaching as reaching
-use Rattle.wl_first_frame.proofs.Reaching.{IsFound}
+use Rattle.wl_first_frame.proofs.Reaching.{IsSilence, Silence}
 use Rattle.wl_first_frame.proofs.Silent.{IsQuiet, none_driven_after, quiet_after}
 
 abbrev pub MayTogether : Type 0
 MayTogether = (count : ℕ) (frames : ℕ → List Content) (past : ℕ → List Input) → ((k : ℕ) → k < count → HasIdled frames k (past k)) → MayBeginTogether count frames past
 
 -- a frame that is to begin drives its start of frame
-drives_first : (c : Content) → IsContent c → drive_by (Framing (Some c)) [] ≡ Dominant
+pub drives_first : (c : Content) → IsContent c → drive_by (Framing (Some c)) [] ≡ Dominant
 unfolding bits_of
 drives_first c is = ((frame_is_read (bits_of c) c).0 (is, sent_free, refl)).begins
 
@@ -67,6 +67,21 @@ decided together n c many = elim (cases_lt 10 n) [
       subst (λ m. stretch_after (stretch_of (replicate m no_frame_sample)) (Sample (sample_of Recessive (Some c) Active)) ≡ stretch_by (Framing (Some c)) []) e refl)
 ]
 
+-- the stations as ones on a silent line
+abbrev pub silence_of : Waiting → Silence
+silence_of w = record { stations = w.stations; has = has_first w; due = due_first w; decision = decision_quantum w; rested = eleventh w }
+
+pub silent_of : (w : Waiting) → AreOnALine w.stations → AreIdle w → IsSilence (silence_of w)
+silent_of w line are = record {
+  inside = are.inside;
+  some = are.some;
+  early = λ i inside. (let low = (line.book i inside).lengths.ps2_low in omega arith);
+  idle = are.idle;
+}
+
+pub last_is : (w : Waiting) (i : ℕ) → begins_first w i ≡ true → last_before w i ≡ w.decides i
+last_is w i e = ap (λ c. cond c (w.decides i) (((first_start w).from i - suc (sample_at (w.stations.lengths i))) / bit_quanta (w.stations.lengths i))) e
+
 module _ (w : Waiting) (line : AreOnALine w.stations) (are : AreIdle w) where
   abbrev s : Stations
   s = w.stations
@@ -95,14 +110,14 @@ module _ (w : Waiting) (line : AreOnALine w.stations) (are : AreIdle w) where
 
   rest_begins : (i : ℕ) → begins_first w i ≡ true → (rest_first w i + S i ≡ decision_quantum w i) × (rest_first w i + B i ≡ due_first w i)
   rest_begins i e =
-      let f : rest_first w i ≡ w.decides i * B i = ap (λ n. n * B i) (reaching.last_is w line are i e) in
+      let f : rest_first w i ≡ w.decides i * B i = ap (λ n. n * B i) (last_is w i e) in
       let more : suc (w.decides i) * B i ≡ w.decides i * B i + B i = omega arith in
       (omega arith, omega arith)
 
   last_own : (i : ℕ) → i < s.count → begins_first w i ≡ true → (op : Option ℕ) → edge_first w i ≡ op → IsLast i
   last_own i inside e None none =
       (let many = are.later i in
-      let last = reaching.last_is w line are i e in
+      let last = last_is w i e in
       let rest = rest_begins i e in
       let x = rest.0 in
       let y = rest.1 in
@@ -110,24 +125,24 @@ module _ (w : Waiting) (line : AreOnALine w.stations) (are : AreIdle w) where
       let from : b.from i ≡ due_first w i = ap (hard_from (due_first w i)) none in
       record { many = omega arith; before = omega arith; next = omega arith; own = λ h. omega arith })
   last_own i inside e (Some q) found =
-      (let has = reaching.begins_has w line are i e in
+      (let has = reaching.begins_has (silence_of w) line (silent_of w line are) i e in
       let many = are.later i in
-      let last = reaching.last_is w line are i e in
+      let last = last_is w i e in
       let rest = rest_begins i e in
       let x = rest.0 in
       let y = rest.1 in
-      let f = reaching.found_is w line are i q found in
-      let after = reaching.after_decision w line are i q inside e f in
-      let by = reaching.by_due w line are i q has f in
+      let f = reaching.found_is (silence_of w) line (silent_of w line are) i q found in
+      let after = reaching.after_decision (silence_of w) line (silent_of w line are) i q inside e f in
+      let by = reaching.by_due (silence_of w) line (silent_of w line are) i q has f in
       let from : b.from i ≡ q = ap (hard_from (due_first w i)) found in
       record { many = omega arith; before = omega arith; next = omega arith; own = λ h. omega arith })
 
   last_other : (i : ℕ) → i < s.count → begins_first w i ≡ false → (op : Option ℕ) → edge_first w i ≡ op → IsLast i
-  last_other i inside e None none = (let yes = reaching.alone_begins w line are i inside none in cc)
+  last_other i inside e None none = (let yes = reaching.alone_begins (silence_of w) line (silent_of w line are) i inside none in cc)
   last_other i inside e (Some q) found =
-      (let f = reaching.found_is w line are i q found in
+      (let f = reaching.found_is (silence_of w) line (silent_of w line are) i q found in
       let from : b.from i ≡ q = ap (hard_from (due_first w i)) found in
-      let after : 10 * B i + S i < q = reaching.after_eleventh w line are i q inside f in
+      let after : 10 * B i + S i < q = reaching.after_rested (silence_of w) line (silent_of w line are) i q inside f in
       let long : 0 < B i = (let l = (line.book i inside).lengths.low in omega arith) in
       let rest : rest_first w i ≡ (q - suc (S i)) / B i * B i = ap (λ n. n * B i) (last_follows i e ∙ ap (λ n. (n - suc (S i)) / B i) from) in
       let low = div-mul-le_self (q - suc (S i)) (B i) in
@@ -156,7 +171,7 @@ module _ (w : Waiting) (line : AreOnALine w.stations) (are : AreIdle w) where
 
   -- what each machine has sampled
   past_begins : (k : ℕ) → begins_first w k ≡ true → o.past k ≡ silent_past true (w.frames k) (w.decides k)
-  past_begins k e = ap (λ c. silent_past c (w.frames k) (last_before w k)) e ∙ ap (silent_past true (w.frames k)) (reaching.last_is w line are k e)
+  past_begins k e = ap (λ c. silent_past c (w.frames k) (last_before w k)) e ∙ ap (silent_past true (w.frames k)) (last_is w k e)
 
   past_follows : (k : ℕ) → begins_first w k ≡ false → o.past k ≡ replicate (suc (last_before w k)) no_frame_sample
   past_follows k e = ap (λ c. silent_past c (w.frames k) (last_before w k)) e
@@ -183,7 +198,7 @@ module _ (together : MayTogether) (w : Waiting) (line : AreOnALine w.stations) (
   -- a machine that is handed its frame drives its start
   begun : (k : ℕ) → begins_first w k ≡ true → drive_of (stretch_of ((first_outset w).past k)) ≡ Dominant
   begun k e =
-      let has = reaching.begins_has w line are k e in
+      let has = reaching.begins_has (silence_of w) line (silent_of w line are) k e in
       let c = first_some (w.frames k) has in
       ap (λ p. drive_of (stretch_of p)) (past_begins w line are k e)
       ∙ ap (λ h. drive_of (stretch_of (replicate (max 11 (w.decides k)) no_frame_sample ++ Sample (sample_of Recessive h Active) ∷ []))) c.1
@@ -204,7 +219,7 @@ module _ (together : MayTogether) (w : Waiting) (line : AreOnALine w.stations) (
     reached = may.reached;
     may = may.may;
     drives = drives_as;
-    begin = reaching.begin_first w line are;
-    allowed = λ k inside e. are.may k (reaching.begins_has w line are k e);
-    some = reaching.some_first w line are;
+    begin = reaching.begin_first (silence_of w) line (silent_of w line are);
+    allowed = λ k inside e. are.may k (reaching.begins_has (silence_of w) line (silent_of w line are) k e);
+    some = reaching.some_first (silence_of w) line (silent_of w line are);
   }

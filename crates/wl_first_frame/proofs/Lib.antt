@@ -1,4 +1,5 @@
 mod Beginning
+pub mod Callers
 mod Going
 mod Plans
 mod Reaching

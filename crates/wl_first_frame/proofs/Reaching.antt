@@ -1,28 +1,49 @@
--- Which stations begin the first frame by themselves, and which follow the first edge that reaches them.
+-- Which stations on a silent line begin a frame by themselves, and which follow the first edge that reaches them.
 use Rattle.std.proofs.Common.{◌≡◌, ◌≢◌, ◌∙◌, ◌⊎◌, inl, inr, refl, sym, ap, ℕ, zero, suc, ◌+◌, ◌-◌, ◌*◌, ◌/◌, ◌<◌, ◌≤◌, ◌&&◌, not, cond, Bool, true, false, Option, Some, None, arith}
 use Rattle.std.specs.Prelude.{◌==◌, nat_le}
 use Rattle.std.proofs.lemmas.Bool.{and_from, and_parts, cases_Bool, cases_eq, cases_lt, eq-eqb, false_from_ne_true, le-leb, leb-true, ne_eqb}
 use Rattle.std.proofs.Math.Nat.{lt_of_mul-lt-mul_left, mul-le-mul_left}
 use Rattle.wl_level.proofs.Callers.{first_is, first_none}
-use Rattle.wl_segments.specs.Lengths.{bit_quanta, sample_at}
 use Rattle.wl_topology.proofs.Callers.{any_from, any_one}
 use Rattle.wl_phase.specs.Clocks.{steady_tick}
 use Rattle.wl_phase.proofs.Callers.{floor_high, tick_up}
 use Rattle.wl_any_senders.specs.Stations.{AreOnALine, Stations}
 use Rattle.wl_any_senders.specs.Starts.{BeginFrame, BeginsAlone, Drives, FollowsHard, Start, reaches_at}
-use Rattle.wl_any_senders.specs.Expected.{most}
+use Rattle.wl_any_senders.specs.Expected.{found_before, is_reached, most}
 use Rattle.wl_any_senders.proofs.Callers.{most_from, nearest}
-use Rattle.wl_first_frame.specs.FirstStarts.{AreIdle, Waiting, begins_first, decision_quantum, due_first, edge_first, eleventh, first_start, hard_from, has_first, is_reached_first, last_before, looks_first, hard_place}
+use Rattle.wl_first_frame.specs.FirstStarts.{hard_from, hard_place}
 
-module _ (w : Waiting) (line : AreOnALine w.stations) (are : AreIdle w) where
+-- Stations on a silent line: which of them have a frame, when the start of frame of each is due, by which quantum it has decided to send, and by which it is idle.
+pub record Silence : Type 0 where
+  pub stations : Stations
+  pub has : ℕ → Bool
+  pub due : ℕ → ℕ
+  pub decision : ℕ → ℕ
+  pub rested : ℕ → ℕ
+
+-- Some station has a frame. Each decides before that is due, and is idle before another one's start of frame reaches it.
+pub record IsSilence (w : Silence) : Type 0 where
+  pub inside : (i : ℕ) → w.has i ≡ true → i < w.stations.count
+  pub some : (i : ℕ) × (w.has i ≡ true)
+  pub early : (i : ℕ) → i < w.stations.count → w.decision i < w.due i
+  pub idle : (i k : ℕ) → i < w.stations.count → i ≢ k → w.has k ≡ true
+      → steady_tick (w.stations.clocks i) (w.rested i) < steady_tick (w.stations.clocks k) (w.due k) + w.stations.delay k i
+
+module _ (w : Silence) (line : AreOnALine w.stations) (are : IsSilence w) where
   abbrev s : Stations
   s = w.stations
 
   abbrev has : ℕ → Bool
-  has = has_first w
+  has = w.has
 
   abbrev due : ℕ → ℕ
-  due = due_first w
+  due = w.due
+
+  abbrev decision : ℕ → ℕ
+  decision = w.decision
+
+  abbrev rested : ℕ → ℕ
+  rested = w.rested
 
   abbrev tick : ℕ → ℕ → ℕ
   tick k q = steady_tick (s.clocks k) q
@@ -30,11 +51,20 @@ module _ (w : Waiting) (line : AreOnALine w.stations) (are : AreIdle w) where
   abbrev T : ℕ → ℕ
   T k = tick k (due k)
 
-  abbrev reached : ℕ → ℕ → Bool
-  reached = is_reached_first w
+  abbrev pub reached : ℕ → ℕ → Bool
+  reached i q = is_reached s has due i q
 
-  abbrev b : Start
-  b = first_start w
+  abbrev pub begins : ℕ → Bool
+  begins i = has i && not (reached i (decision i))
+
+  abbrev looks : ℕ → ℕ
+  looks i = cond (has i) (due i) (most s.count (λ k. T k + s.delay k i))
+
+  abbrev pub edge : ℕ → Option ℕ
+  edge i = found_before s has due i (suc (looks i))
+
+  abbrev pub b : Start
+  b = record { drives = begins; due = due; place = λ i. hard_place (due i) (edge i); from = λ i. hard_from (due i) (edge i) }
 
   pub up : (i q r : ℕ) → i < s.count → q ≤ r → tick i q ≤ tick i r
   up i q r inside h = tick_up (s.clocks i) (line.steady i inside).divides q r h
@@ -90,50 +120,47 @@ module _ (w : Waiting) (line : AreOnALine w.stations) (are : AreIdle w) where
   unreached_before : (i q r : ℕ) → i < s.count → q ≤ r → reached i r ≡ false → reached i q ≡ false
   unreached_before i q r inside h e = false_from_ne_true (reached i q) (λ f. (let g = reached_later i q r inside h f in cc))
 
-  -- none has reached a station by its eleventh sample
-  unreached_eleventh : (i : ℕ) → i < s.count → reached i (eleventh w i) ≡ false
-  unreached_eleventh i inside = false_from_ne_true (reached i (eleventh w i)) (λ e.
-      (let x = reached_by i (eleventh w i) e in
+  -- none has reached a station by the quantum by which it is idle
+  pub unreached_rested : (i : ℕ) → i < s.count → reached i (rested i) ≡ false
+  unreached_rested i inside = false_from_ne_true (reached i (rested i)) (λ e.
+      (let x = reached_by i (rested i) e in
       let early = are.idle i x.by inside (λ f. x.other (sym f)) x.has_one in
       let reach = x.reach in
       absurd (omega arith)))
 
   -- whoever has decided begins a frame
-  pub begins_has : (i : ℕ) → begins_first w i ≡ true → has i ≡ true
-  begins_has i e = (and_parts (has i) (not (reached i (decision_quantum w i))) e).0
+  pub begins_has : (i : ℕ) → begins i ≡ true → has i ≡ true
+  begins_has i e = (and_parts (has i) (not (reached i (decision i))) e).0
 
-  decided_early : (i : ℕ) → i < s.count → decision_quantum w i < due i
-  decided_early i inside = let low = (line.book i inside).lengths.ps2_low in omega arith
+  decided_early : (i : ℕ) → i < s.count → decision i < due i
+  decided_early i inside = are.early i inside
 
-  begins_from : (i : ℕ) → has i ≡ true → reached i (decision_quantum w i) ≡ false → begins_first w i ≡ true
-  begins_from i has_one e = and_from (has i) (not (reached i (decision_quantum w i))) has_one (ap not e)
-
-  pub last_is : (i : ℕ) → begins_first w i ≡ true → last_before w i ≡ w.decides i
-  last_is i e = ap (λ c. cond c (w.decides i) ((b.from i - suc (sample_at (s.lengths i))) / bit_quanta (s.lengths i))) e
+  begins_from : (i : ℕ) → has i ≡ true → reached i (decision i) ≡ false → begins i ≡ true
+  begins_from i has_one e = and_from (has i) (not (reached i (decision i))) has_one (ap not e)
 
   -- what its look finds
   pub record IsFound (i q : ℕ) : Type 0 where
-    pub found : edge_first w i ≡ Some q
-    pub by_look : q ≤ looks_first w i
+    pub found : edge i ≡ Some q
+    pub by_look : q ≤ looks i
     pub here : reached i q ≡ true
     pub before : (j : ℕ) → j < q → reached i j ≡ false
 
-  pub found_is : (i q : ℕ) → edge_first w i ≡ Some q → IsFound i q
+  pub found_is : (i q : ℕ) → edge i ≡ Some q → IsFound i q
   found_is i q e =
-      let x = first_is (reached i) (suc (looks_first w i)) q e in
+      let x = first_is (reached i) (suc (looks i)) q e in
       record { found = e; by_look = (let h = x.inside in omega arith); here = x.passes; before = x.none_before }
 
-  look_own : (i : ℕ) → has i ≡ true → looks_first w i ≡ due i
+  look_own : (i : ℕ) → has i ≡ true → looks i ≡ due i
   look_own i e = ap (λ c. cond c (due i) (most s.count (λ k. T k + s.delay k i))) e
 
-  look_other : (i : ℕ) → has i ≡ false → looks_first w i ≡ most s.count (λ k. T k + s.delay k i)
+  look_other : (i : ℕ) → has i ≡ false → looks i ≡ most s.count (λ k. T k + s.delay k i)
   look_other i e = ap (λ c. cond c (due i) (most s.count (λ k. T k + s.delay k i))) e
 
-  unfound : (i : ℕ) → edge_first w i ≡ None → reached i (looks_first w i) ≡ false
-  unfound i e = first_none (reached i) (suc (looks_first w i)) e (looks_first w i) (omega arith)
+  unfound : (i : ℕ) → edge i ≡ None → reached i (looks i) ≡ false
+  unfound i e = first_none (reached i) (suc (looks i)) e (looks i) (omega arith)
 
   -- a station that finds no edge has a frame
-  alone_has : (i : ℕ) → i < s.count → edge_first w i ≡ None → has i ≡ true
+  alone_has : (i : ℕ) → i < s.count → edge i ≡ None → has i ≡ true
   alone_has i inside e = elim (cases_Bool (has i)) [
     | inl own ↦ own
     | inr none ↦
@@ -141,28 +168,28 @@ module _ (w : Waiting) (line : AreOnALine w.stations) (are : AreIdle w) where
         let other : k ≢ i = λ f. (let g : has k ≡ has i = ap has f in let h = are.some.1 in cc) in
         let bound = most_from s.count (λ j. T j + s.delay j i) k (are.inside k are.some.1) in
         let look = look_other i none in
-        let ticks = many_ticks i (looks_first w i) inside in
-        let yes = reached_from i (looks_first w i) k are.some.1 other (omega arith) in
+        let ticks = many_ticks i (looks i) inside in
+        let yes = reached_from i (looks i) k are.some.1 other (omega arith) in
         let no = unfound i e in
         cc)
   ]
 
-  alone_unreached : (i : ℕ) → i < s.count → edge_first w i ≡ None → reached i (due i) ≡ false
+  alone_unreached : (i : ℕ) → i < s.count → edge i ≡ None → reached i (due i) ≡ false
   alone_unreached i inside e = sym (ap (reached i) (look_own i (alone_has i inside e))) ∙ unfound i e
 
-  pub alone_early : (i q : ℕ) → i < s.count → edge_first w i ≡ None → q ≤ due i → reached i q ≡ false
+  pub alone_early : (i q : ℕ) → i < s.count → edge i ≡ None → q ≤ due i → reached i q ≡ false
   alone_early i q inside e less = unreached_before i q (due i) inside less (alone_unreached i inside e)
 
-  pub alone_begins : (i : ℕ) → i < s.count → edge_first w i ≡ None → begins_first w i ≡ true
+  pub alone_begins : (i : ℕ) → i < s.count → edge i ≡ None → begins i ≡ true
   alone_begins i inside e =
       let early = decided_early i inside in
-      begins_from i (alone_has i inside e) (unreached_before i (decision_quantum w i) (due i) inside (omega arith) (alone_unreached i inside e))
+      begins_from i (alone_has i inside e) (unreached_before i (decision i) (due i) inside (omega arith) (alone_unreached i inside e))
 
   -- a station that no edge has reached when its own is due begins by itself
-  leads : (i : ℕ) → has i ≡ true → reached i (due i) ≡ false → i < s.count → edge_first w i ≡ None
-  leads i has_one e inside = none (edge_first w i) refl
+  leads : (i : ℕ) → has i ≡ true → reached i (due i) ≡ false → i < s.count → edge i ≡ None
+  leads i has_one e inside = none (edge i) refl
     where
-      none : (o : Option ℕ) → edge_first w i ≡ o → edge_first w i ≡ None
+      none : (o : Option ℕ) → edge i ≡ o → edge i ≡ None
       none None f = f
       none (Some q) f =
           (let x = found_is i q f in
@@ -178,7 +205,7 @@ module _ (w : Waiting) (line : AreOnALine w.stations) (are : AreIdle w) where
   record Trails (k : ℕ) : Type 0 where
     by : Reaches k (b.from k)
 
-  from_case : (k : ℕ) → (o : Option ℕ) → edge_first w k ≡ o → Leads k ⊎ Trails k
+  from_case : (k : ℕ) → (o : Option ℕ) → edge k ≡ o → Leads k ⊎ Trails k
   from_case k None e = inl (record { from = ap (hard_from (due k)) e })
   from_case k (Some q) e =
       (let f : b.from k ≡ q = ap (hard_from (due k)) e in
@@ -187,7 +214,7 @@ module _ (w : Waiting) (line : AreOnALine w.stations) (are : AreIdle w) where
   -- The start of frame of any other station comes no earlier than the first of these, or after the station's own.
   own_or_first : (i k : ℕ) → i < s.count → Drives s b i k → (least : ℕ) → ((v : ℕ) → has v ≡ true → v ≢ i → least ≤ T v + s.delay v i)
       → (least ≤ reaches_at s b k i) ⊎ ((has i ≡ true) × (T i < reaches_at s b k i))
-  own_or_first i k inside d least h = by (from_case k (edge_first w k) refl)
+  own_or_first i k inside d least h = by (from_case k (edge k) refl)
     where
       has_k : has k ≡ true
       has_k = begins_has k d.dominant
@@ -259,7 +286,7 @@ module _ (w : Waiting) (line : AreOnALine w.stations) (are : AreIdle w) where
       let there = are.inside x.by x.has_one in
       let free = first_leads i q inside f x in
       let early = decided_early x.by there in
-      let begins = begins_from x.by x.has_one (unreached_before x.by (decision_quantum w x.by) (due x.by) there (omega arith) free) in
+      let begins = begins_from x.by x.has_one (unreached_before x.by (decision x.by) (due x.by) there (omega arith) free) in
       let itself : b.from x.by ≡ due x.by = ap (hard_from (due x.by)) (leads x.by x.has_one free there) in
       let tick_is : tick x.by (b.from x.by) ≡ T x.by = ap (tick x.by) itself in
       let reach = x.reach in
@@ -288,10 +315,10 @@ module _ (w : Waiting) (line : AreOnALine w.stations) (are : AreIdle w) where
       }
     where
       positive : (q : ℕ) → IsFound i q → 0 < q
-      positive zero f = (let g = unreached_before i 0 (eleventh w i) inside (omega arith) (unreached_eleventh i inside) in let h = f.here in cc)
+      positive zero f = (let g = unreached_before i 0 (rested i) inside (omega arith) (unreached_rested i inside) in let h = f.here in cc)
       positive (suc q) f = omega arith
 
-  begins_alone : (i : ℕ) → i < s.count → edge_first w i ≡ None → BeginsAlone s b i
+  begins_alone : (i : ℕ) → i < s.count → edge i ≡ None → BeginsAlone s b i
   begins_alone i inside e =
       let place : b.place i ≡ due i = ap (hard_place (due i)) e in
       let from : b.from i ≡ due i = ap (hard_from (due i)) e in
@@ -308,44 +335,44 @@ module _ (w : Waiting) (line : AreOnALine w.stations) (are : AreIdle w) where
             ]);
       }
 
-  begin_at : (i : ℕ) → i < s.count → (o : Option ℕ) → edge_first w i ≡ o → BeginsAlone s b i ⊎ FollowsHard s b i
+  begin_at : (i : ℕ) → i < s.count → (o : Option ℕ) → edge i ≡ o → BeginsAlone s b i ⊎ FollowsHard s b i
   begin_at i inside None e = inl (begins_alone i inside e)
   begin_at i inside (Some q) e = inr (follows i q inside (found_is i q e))
 
   pub begin_first : BeginFrame s b
-  begin_first i inside = begin_at i inside (edge_first w i) refl
+  begin_first i inside = begin_at i inside (edge i) refl
 
   -- some station begins it
-  some_at : (k : ℕ) → k < s.count → (o : Option ℕ) → edge_first w k ≡ o → (v : ℕ) × (v < s.count) × (begins_first w v ≡ true)
+  some_at : (k : ℕ) → k < s.count → (o : Option ℕ) → edge k ≡ o → (v : ℕ) × (v < s.count) × (begins v ≡ true)
   some_at k inside None e = (k, inside, alone_begins k inside e)
   some_at k inside (Some q) e = (let f = follows k q inside (found_is k q e) in (f.by, f.finds.by.inside, f.finds.by.dominant))
 
-  pub some_first : (v : ℕ) × (v < s.count) × (begins_first w v ≡ true)
-  some_first = some_at are.some.0 (are.inside are.some.0 are.some.1) (edge_first w are.some.0) refl
+  pub some_first : (v : ℕ) × (v < s.count) × (begins v ≡ true)
+  some_first = some_at are.some.0 (are.inside are.some.0 are.some.1) (edge are.some.0) refl
 
   -- where the quantum that finds an edge lies
-  pub after_eleventh : (i q : ℕ) → i < s.count → IsFound i q → eleventh w i < q
-  after_eleventh i q inside f = elim (cases_lt (eleventh w i) q) [
+  pub after_rested : (i q : ℕ) → i < s.count → IsFound i q → rested i < q
+  after_rested i q inside f = elim (cases_lt (rested i) q) [
     | inl less ↦ less
-    | inr more ↦ (let g = unreached_before i q (eleventh w i) inside more (unreached_eleventh i inside) in let h = f.here in cc)
+    | inr more ↦ (let g = unreached_before i q (rested i) inside more (unreached_rested i inside) in let h = f.here in cc)
   ]
 
-  pub after_decision : (i q : ℕ) → i < s.count → begins_first w i ≡ true → IsFound i q → decision_quantum w i < q
-  after_decision i q inside e f = elim (cases_lt (decision_quantum w i) q) [
+  pub after_decision : (i q : ℕ) → i < s.count → begins i ≡ true → IsFound i q → decision i < q
+  after_decision i q inside e f = elim (cases_lt (decision i) q) [
     | inl less ↦ less
     | inr more ↦
-        (let later = reached_later i q (decision_quantum w i) inside more f.here in
-        let none = (and_parts (has i) (not (reached i (decision_quantum w i))) e).1 in
-        let g : not (reached i (decision_quantum w i)) ≡ false = ap not later in
+        (let later = reached_later i q (decision i) inside more f.here in
+        let none = (and_parts (has i) (not (reached i (decision i))) e).1 in
+        let g : not (reached i (decision i)) ≡ false = ap not later in
         cc)
   ]
 
   pub by_due : (i q : ℕ) → has i ≡ true → IsFound i q → q ≤ due i
   by_due i q e f = let look = look_own i e in let low = f.by_look in omega arith
 
-  pub by_decision : (i q : ℕ) → i < s.count → has i ≡ true → begins_first w i ≡ false → IsFound i q → q ≤ decision_quantum w i
-  by_decision i q inside e none f = elim (cases_lt (decision_quantum w i) q) [
-    | inl early ↦ (let yes = begins_from i e (f.before (decision_quantum w i) early) in cc)
+  pub by_decision : (i q : ℕ) → i < s.count → has i ≡ true → begins i ≡ false → IsFound i q → q ≤ decision i
+  by_decision i q inside e none f = elim (cases_lt (decision i) q) [
+    | inl early ↦ (let yes = begins_from i e (f.before (decision i) early) in cc)
     | inr more ↦ more
   ]
 

@@ -33,7 +33,7 @@ use Rattle.wl_any_senders.specs.Machines.{bus_levels, no_frame_sample}
 use Rattle.wl_any_senders.specs.Nodes.{IsRun, clock_sees}
 use Rattle.wl_any_senders.proofs.Callers.{finds_what_comes, run_of}
 use Rattle.wl_first_frame.specs.FirstStarts.{AreIdle, HandTheFirst, Waiting, begins_first, due_first, edge_first, first_outset, hard_from, has_first, is_reached_first, last_before, rest_first, silent_past}
-use Rattle.wl_first_frame.proofs.Beginning.{IsLast, MayTogether, decided, first_some, last_at}
+use Rattle.wl_first_frame.proofs.Beginning.{IsLast, MayTogether, decided, first_some, last_at, last_is, silence_of, silent_of}
 use Rattle.wl_first_frame.proofs.Reaching as reaching
 use Rattle.wl_first_frame.proofs.Silent as silence
 
@@ -84,14 +84,14 @@ module _ (together : MayTogether) (nothing : NothingFound) (ways : WayLaws) (cal
   unreached : (q : ℕ) → q < o.start.from i → (op : Option ℕ) → edge_first w i ≡ op → is_reached_first w i q ≡ false
   unreached q less None e =
       (let from : o.start.from i ≡ due_first w i = ap (hard_from (due_first w i)) e in
-      reaching.alone_early w on.line are i q inside e (omega arith))
-  unreached q less (Some f) e = (let from : o.start.from i ≡ f = ap (hard_from (due_first w i)) e in (reaching.found_is w on.line are i f e).before q (omega arith))
+      reaching.alone_early (silence_of w) on.line (silent_of w on.line are) i q inside e (omega arith))
+  unreached q less (Some f) e = (let from : o.start.from i ≡ f = ap (hard_from (due_first w i)) e in (reaching.found_is (silence_of w) on.line (silent_of w on.line are) i f e).before q (omega arith))
 
   due_or_none : (q : ℕ) → q < o.start.from i → (op : Option ℕ) → edge_first w i ≡ op → (q ≤ due_first w i) ⊎ (has_first w i ≡ false)
   due_or_none q less None e = inl (let from : o.start.from i ≡ due_first w i = ap (hard_from (due_first w i)) e in omega arith)
   due_or_none q less (Some f) e = elim (cases_Bool (has_first w i)) [
     | inl own ↦
-        inl (let from : o.start.from i ≡ f = ap (hard_from (due_first w i)) e in let by = reaching.by_due w on.line are i f own (reaching.found_is w on.line are i f e) in omega arith)
+        inl (let from : o.start.from i ≡ f = ap (hard_from (due_first w i)) e in let by = reaching.by_due (silence_of w) on.line (silent_of w on.line are) i f own (reaching.found_is (silence_of w) on.line (silent_of w on.line are) i f e) in omega arith)
     | inr none ↦ inr none
   ]
 
@@ -100,14 +100,14 @@ module _ (together : MayTogether) (nothing : NothingFound) (ways : WayLaws) (cal
       finds_what_comes l setups s line o total i q inside
       ∙ ap level_of
       (nothing s o total i q on room outset valid inside (omega arith)
-      (reaching.unfound_before w on.line are i q inside (unreached q less (edge_first w i) refl) (due_or_none q less (edge_first w i) refl)))
+      (reaching.unfound_before (silence_of w) on.line (silent_of w on.line are) i q inside (unreached q less (edge_first w i) refl) (due_or_none q less (edge_first w i) refl)))
 
   -- what it is handed
   few : begins_first w i ≡ false → has_first w i ≡ true → (op : Option ℕ) → edge_first w i ≡ op → m < w.decides i
-  few e own None none = (let yes = reaching.alone_begins w on.line are i inside none in cc)
+  few e own None none = (let yes = reaching.alone_begins (silence_of w) on.line (silent_of w on.line are) i inside none in cc)
   few e own (Some q) found =
-      (let f = reaching.found_is w on.line are i q found in
-      let by = reaching.by_decision w on.line are i q inside own e f in
+      (let f = reaching.found_is (silence_of w) on.line (silent_of w on.line are) i q found in
+      let by = reaching.by_decision (silence_of w) on.line (silent_of w on.line are) i q inside own e f in
       let from : o.start.from i ≡ q = ap (hard_from (due_first w i)) found in
       let before = last.before in
       lt_of_mul-lt-mul_right B (let h : m * B < w.decides i * B = omega arith in h))
@@ -119,7 +119,7 @@ module _ (together : MayTogether) (nothing : NothingFound) (ways : WayLaws) (cal
   ]
 
   own_bits : begins_first w i ≡ true → m ≡ w.decides i
-  own_bits e = reaching.last_is w on.line are i e
+  own_bits e = last_is w i e
 
   unready : (n : ℕ) → 10 ≤ n → n < m → ready_head (setups i).queue (n * B + S) ≡ None
   unready n more less = elim (cases_Bool (begins_first w i)) [
@@ -133,7 +133,7 @@ module _ (together : MayTogether) (nothing : NothingFound) (ways : WayLaws) (cal
 
   handed_last : (c : Bool) → begins_first w i ≡ c → ready_head (setups i).queue (m * B + S) ≡ head_by c
   handed_last true e =
-      ap (λ n. ready_head (setups i).queue (n * B + S)) (own_bits e) ∙ hand.ready i inside (reaching.begins_has w on.line are i e)
+      ap (λ n. ready_head (setups i).queue (n * B + S)) (own_bits e) ∙ hand.ready i inside (reaching.begins_has (silence_of w) on.line (silent_of w on.line are) i e)
   handed_last false e = none_up_to e m last.many (omega arith)
 
   abbrev next : Option Content → Stretch
@@ -141,7 +141,7 @@ module _ (together : MayTogether) (nothing : NothingFound) (ways : WayLaws) (cal
 
   past_is : (c : Bool) → begins_first w i ≡ c → next (head_by c) ≡ stretch_of (o.past i)
   past_is true e =
-      let c = first_some (w.frames i) (reaching.begins_has w on.line are i e) in
+      let c = first_some (w.frames i) (reaching.begins_has (silence_of w) on.line (silent_of w on.line are) i e) in
       ap next c.1 ∙ decided together m c.0 last.many
       ∙ sym (ap (λ b. stretch_of (silent_past b (w.frames i) m)) e
       ∙ ap (λ h. stretch_of (replicate (max 11 m) no_frame_sample ++ Sample (sample_of Recessive h Active) ∷ [])) c.1

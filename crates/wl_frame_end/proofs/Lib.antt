@@ -1,6 +1,7 @@
 mod Again
 mod Asked
 mod Below
+pub mod Callers
 mod Ends
 mod Hearing
 mod LineEnds

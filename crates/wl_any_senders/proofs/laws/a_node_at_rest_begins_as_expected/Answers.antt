@@ -1,4 +1,6 @@
-use Rattle.std.proofs.Common.{◌≡◌, ℕ, ◌<◌, arith}
+use Rattle.std.proofs.Common.{◌≡◌, inl, inr, ℕ, suc, ◌+◌, ◌<◌, ◌≤◌, arith}
+use Rattle.std.proofs.lemmas.Bool.{cases_lt}
+use Rattle.wl_segments.specs.Lengths.{sample_at}
 use Rattle.wl_topology.specs.Driven.{DrivenLaws}
 use Rattle.wl_node.specs.declared.setup.NodeSetup.{NodeSetup}
 use Rattle.wl_machine.specs.Frames.{stuffed_end}
@@ -27,8 +29,14 @@ begins_by steps errors winner stuffed six ten laws goes level sample ways edges 
     let x =
     has_begun steps errors winner stuffed six ten laws goes level sample ways (bit_place_laws ways) (bit_start_laws goes ways) edges (no_edge_laws goes sample level ways) s are room o is length some
     valid i inside (setups i) (line.segments i (let e = line.nodes in omega arith)) (finds_expected l s o length i) (node_after (setups i) (finds_expected l s o length i))
-    (run_of (setups i) (finds_expected l s o length i)) (λ q. finds_what_comes l setups s line o length i q inside) rest rests after in
-    record { bit = x.0; before = x.1; after = x.2 }
+    (run_of (setups i) (finds_expected l s o length i)) rest
+    (record { sampled = rests.sampled; clock = rests.clock; stretch = rests.stretch; counts = rests.counts; drive = rests.drive (suc (rest + sample_at (s.lengths i))) (omega arith) }) after
+    (λ q more less. finds_what_comes l setups s line o length i q inside) in
+    record {
+      bit = x.0;
+      before = λ q less. elim (cases_lt (rest + sample_at (s.lengths i)) q) [ inl more ↦ x.1 q more less | inr few ↦ rests.drive q (omega arith) ];
+      after = x.2;
+    }
 
 pub returns : goal.returns
 returns c =

@@ -1,0 +1,60 @@
+-- A node that begins a frame as is expected goes through the whole of it, whatever it has done before.
+use Rattle.std.proofs.Common.{◌≡◌, ◌∙◌, inl, inr, ap, ℕ, zero, suc, ◌+◌, ◌-◌, ◌<◌, ◌≤◌, Some, None, arith}
+use Rattle.std.proofs.lemmas.Bool.{cases_lt}
+use Rattle.wl_level.specs.declared.Level.{Level}
+use Rattle.wl_level.specs.Levels.{level_of}
+use Rattle.wl_topology.specs.Driven.{driven}
+use Rattle.wl_machine.specs.Frames.{stuffed_end}
+use Rattle.wl_node.specs.declared.setup.NodeSetup.{NodeSetup}
+use Rattle.wl_node.specs.History.{History}
+use Rattle.wl_phase.specs.Clocks.{steady_tick}
+use Rattle.wl_any_senders.specs.Acknowledged.{CatchUp, answering, chased_way}
+use Rattle.wl_any_senders.specs.Expected.{IsOutset, Outset, expected_bits, expected_drove, expected_sample}
+use Rattle.wl_any_senders.specs.Machines.{HasWon, bus_levels}
+use Rattle.wl_any_senders.specs.Nodes.{IsInBit, IsRun}
+use Rattle.wl_any_senders.specs.Stations.{AreStations, HaveRoom, Stations}
+use Rattle.wl_frame_end.specs.Rests.{NodeEnds}
+use Rattle.wl_frame_end.proofs.Callers.{GoesOn, MachineLaws, found_was, samples_up}
+use Rattle.wl_frames.specs.NextNodes.{BeginsSince, GoesThrough}
+
+module _ (m : MachineLaws) (goes_on : GoesOn) (s : Stations) (are : AreStations s) (room : HaveRoom s) (o : Outset) (is : IsOutset s o) (end : ℕ)
+    (valid : (n : ℕ) → n < end → stuffed_end (bus_levels s (expected_bits s o) n) ≡ None)
+    (over : stuffed_end (bus_levels s (expected_bits s o) end) ≡ Some end) (won : HasWon s (expected_bits s o) o.frames end)
+    (chase : ℕ → ℕ) (catch : CatchUp s won.station chase) (enough : HaveRoom (answering s (chased_way s won.station chase)))
+    (i : ℕ) (inside : i < s.count) (setup : NodeSetup) (segments : setup.segments ≡ s.lengths i) (levels : ℕ → Level) (node : ℕ → History) (run : IsRun setup levels node) (since low : ℕ)
+    (finds : (q : ℕ) → low < q → q ≤ expected_sample s o (end + 12) i → levels q ≡ level_of (driven s.count s.delay (expected_drove s o (end + 13)) i (steady_tick (s.clocks i) q))) where
+  abbrev S : ℕ → ℕ
+  S n = expected_sample s o n i
+
+  up : (a n : ℕ) → a ≤ n → S a ≤ S n
+  up a n less = samples_up m s are room o is end valid over won chase catch enough a n i inside less
+
+  -- up to the sample of the CRC delimiter it finds what the stuffed part drives
+  pub finds_early : (q : ℕ) → low < q → q ≤ S end → levels q ≡ level_of (driven s.count s.delay (expected_drove s o end) i (steady_tick (s.clocks i) q))
+  finds_early q more less =
+      (let e = up end (end + 12) (omega arith) in finds q more (omega arith)) ∙ ap level_of (found_was m s are room o is end valid over won chase catch enough i q inside less)
+
+  module _ (by_low : low ≤ S 0) (begins : BeginsSince s o i levels node since)
+      (ends_law : ((n q : ℕ) → suc n ≡ end → S n < q → q ≤ S (end + 12) → levels q ≡ level_of (driven s.count s.delay (expected_drove s o (end + 13)) i (steady_tick (s.clocks i) q)))
+      → ((n : ℕ) → suc n ≡ end → IsInBit s o i levels node n) → NodeEnds s o end won.station i won.frame setup levels node) where
+    early_at : (n : ℕ) → n < end → IsInBit s o i levels node n
+    early_at zero less = begins.bit
+    early_at (suc n) less =
+        (goes_on s o end i setup levels node are room is valid inside segments run n less
+        (λ q a b. (let first = up 0 n (omega arith) in let last = up (suc n) end (omega arith) in finds_early q (omega arith) (omega arith))) (early_at n (omega arith))).bit
+
+    ends : NodeEnds s o end won.station i won.frame setup levels node
+    ends = ends_law (λ n q e a b. (let first = up 0 n (omega arith) in finds q (omega arith) b)) (λ n e. early_at n (omega arith))
+
+    bit_at : (n : ℕ) → n < end + 12 → IsInBit s o i levels node n
+    bit_at n less = elim (cases_lt n end) [
+      | inl early ↦ early_at n early
+      | inr late ↦ late_at n late less
+    ]
+      where
+        late_at : (n : ℕ) → end ≤ n → n < end + 12 → IsInBit s o i levels node n
+        late_at zero more less = begins.bit
+        late_at (suc n) more less = (ends.next (suc n - end) n (omega arith) (omega arith)).bit
+
+    pub goes_through : GoesThrough s o end won.station i won.frame setup levels node since
+    goes_through = record { begins = begins; bits = bit_at; ends = ends }

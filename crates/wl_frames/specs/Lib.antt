@@ -1,0 +1,2 @@
+pub mod NextStarts
+pub mod NextNodes

@@ -1,0 +1,7 @@
+//! Frames one after another on one line, by any number of senders.
+//!
+//! All is by the rules of the book, for clocks of one rate each (Bosch CAN 2.0 part B, sections 3.2.5 and 10).
+#![tactic(auto)]
+
+pub mod laws;
+pub mod nodes;
