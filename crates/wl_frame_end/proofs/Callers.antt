@@ -3,3 +3,4 @@
 pub use Rattle.wl_frame_end.proofs.Below.{ClockLaws, MachineLaws}
 pub use Rattle.wl_frame_end.proofs.Hearing.{begins_after, found_was, samples_up}
 pub use Rattle.wl_frame_end.proofs.LineEnds.{GoesOn}
+pub use Rattle.wl_frame_end.proofs.Slot.{over_is}

@@ -1,7 +1,9 @@
 mod Beginning
+mod Chaining
 mod Free
 mod Idle
 mod Lasting
 mod Outset
 mod Resuming
 mod Through
+mod Windows

@@ -11,7 +11,7 @@ use Rattle.wl_phase.specs.Clocks.{steady_tick}
 use Rattle.wl_any_senders.specs.Acknowledged.{CatchUp, answering, chased_way}
 use Rattle.wl_any_senders.specs.Expected.{IsOutset, Outset, expected_bits, expected_drove, expected_sample}
 use Rattle.wl_any_senders.specs.Machines.{HasWon, bus_levels}
-use Rattle.wl_any_senders.specs.Nodes.{IsInBit, IsRun}
+use Rattle.wl_any_senders.specs.Nodes.{GoesToNext, IsInBit, IsRun}
 use Rattle.wl_any_senders.specs.Stations.{AreStations, HaveRoom, Stations}
 use Rattle.wl_frame_end.specs.Rests.{NodeEnds}
 use Rattle.wl_frame_end.proofs.Callers.{GoesOn, MachineLaws, found_was, samples_up}
@@ -37,24 +37,26 @@ module _ (m : MachineLaws) (goes_on : GoesOn) (s : Stations) (are : AreStations 
   module _ (by_low : low ≤ S 0) (begins : BeginsSince s o i levels node since)
       (ends_law : ((n q : ℕ) → suc n ≡ end → S n < q → q ≤ S (end + 12) → levels q ≡ level_of (driven s.count s.delay (expected_drove s o (end + 13)) i (steady_tick (s.clocks i) q)))
       → ((n : ℕ) → suc n ≡ end → IsInBit s o i levels node n) → NodeEnds s o end won.station i won.frame setup levels node) where
-    early_at : (n : ℕ) → n < end → IsInBit s o i levels node n
+    abbrev Early : ℕ → Type 0
+    Early n = IsInBit s o i levels node n
+
+    early_next : (n : ℕ) → suc n < end → Early n → GoesToNext s o i levels node n
+    early_next n less at =
+        goes_on s o end i setup levels node are room is valid inside segments run n less
+        (λ q a b. (let first = up 0 n (omega arith) in let last = up (suc n) end (omega arith) in finds_early q (omega arith) (omega arith))) at
+
+    early_at : (n : ℕ) → n < end → Early n
     early_at zero less = begins.bit
-    early_at (suc n) less =
-        (goes_on s o end i setup levels node are room is valid inside segments run n less
-        (λ q a b. (let first = up 0 n (omega arith) in let last = up (suc n) end (omega arith) in finds_early q (omega arith) (omega arith))) (early_at n (omega arith))).bit
+    early_at (suc n) less = (early_next n less (early_at n (omega arith))).bit
 
     ends : NodeEnds s o end won.station i won.frame setup levels node
     ends = ends_law (λ n q e a b. (let first = up 0 n (omega arith) in finds q (omega arith) b)) (λ n e. early_at n (omega arith))
 
-    bit_at : (n : ℕ) → n < end + 12 → IsInBit s o i levels node n
-    bit_at n less = elim (cases_lt n end) [
-      | inl early ↦ early_at n early
-      | inr late ↦ late_at n late less
+    next_at : (n : ℕ) → suc n < end + 12 → GoesToNext s o i levels node n
+    next_at n less = elim (cases_lt (suc n) end) [
+      | inl early ↦ early_next n early (early_at n (omega arith))
+      | inr late ↦ ends.next (suc n - end) n (omega arith) (omega arith)
     ]
-      where
-        late_at : (n : ℕ) → end ≤ n → n < end + 12 → IsInBit s o i levels node n
-        late_at zero more less = begins.bit
-        late_at (suc n) more less = (ends.next (suc n - end) n (omega arith) (omega arith)).bit
 
     pub goes_through : GoesThrough s o end won.station i won.frame setup levels node since
-    goes_through = record { begins = begins; bits = bit_at; ends = ends }
+    goes_through = record { begins = begins; next = next_at; ends = ends }

@@ -1,2 +1,4 @@
 pub mod NextStarts
 pub mod NextNodes
+pub mod Frames
+pub mod Runs

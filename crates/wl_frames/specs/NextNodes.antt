@@ -10,7 +10,7 @@ use Rattle.wl_node.specs.declared.setup.Queued.{Queued}
 use Rattle.wl_node.specs.History.{History, ready_head}
 use Rattle.wl_any_senders.specs.Stations.{Stations}
 use Rattle.wl_any_senders.specs.Expected.{Outset, expected_bits, expected_sample, wants}
-use Rattle.wl_any_senders.specs.Nodes.{IsInBit}
+use Rattle.wl_any_senders.specs.Nodes.{GoesToNext, IsInBit}
 use Rattle.wl_frame_end.specs.Rests.{NodeEnds}
 use Rattle.wl_frames.specs.NextStarts.{Resting, has_next}
 
@@ -34,5 +34,5 @@ pub record BeginsSince (s : Stations) (o : Outset) (i : ℕ) (levels : ℕ → L
 -- It goes through the whole frame so: it samples each bit as it is on the bus, the frame passes it, sent or received, and it rests with the third bit of the intermission.
 pub record GoesThrough (s : Stations) (o : Outset) (end sender i : ℕ) (frame : Content) (setup : NodeSetup) (levels : ℕ → Level) (node : ℕ → History) (since : ℕ) : Type 0 where
   pub begins : BeginsSince s o i levels node since
-  pub bits : (n : ℕ) → n < end + 12 → IsInBit s o i levels node n
+  pub next : (n : ℕ) → suc n < end + 12 → GoesToNext s o i levels node n
   pub ends : NodeEnds s o end sender i frame setup levels node
