@@ -5,7 +5,7 @@ pub use Rattle.wl_any_senders.proofs.Measures.{drifted, instant_more, tick_next,
 pub use Rattle.wl_any_senders.proofs.Settling.{Nearest, begin_bit, begins_by, caught, from_early, from_late, low, most_from, nearest}
 pub use Rattle.wl_any_senders.proofs.Expecting.{after_there, course, driven_at, drives_are, edge_is, from_all, from_sample, may, none_driven, place_low, plain_is}
 pub use Rattle.wl_any_senders.proofs.Seeing.{due_sample, from_low, on_bus, place_up, plain_when, right_at}
-pub use Rattle.wl_any_senders.proofs.Lines.{finds_what_comes, no_or, run_of}
+pub use Rattle.wl_any_senders.proofs.Lines.{finds_driven, finds_what_comes, no_or, run_of}
 pub use Rattle.wl_any_senders.proofs.Passing.{same_places}
 pub use Rattle.wl_any_senders.proofs.AckWays.{any_close, chased_stations}
 pub use Rattle.wl_any_senders.proofs.Acks.{acknowledged, another}

@@ -41,19 +41,23 @@ unfolding history_of
 run_of setup levels = record { first = refl; next = λ q. fold-append (history_after setup) no_history (levels_before levels q) (levels q ∷ []) }
 
 -- what it finds is what reaches it
+pub finds_driven : (l : Line) (setups : ℕ → NodeSetup) (s : Stations) → IsLineOf l setups s → (drove : ℕ → ℕ → Bool) (i q : ℕ) → i < s.count
+    → levels_found l drove i q ≡ level_of (driven s.count s.delay drove i (steady_tick (s.clocks i) q))
+finds_driven l setups s line drove i q inside =
+    let e = line.nodes in
+    ap level_of (no_or (driven l.nodes l.delay drove i (l.instant i q)) (l.disturbed i (l.instant i q)) (line.undisturbed i (l.instant i q) (omega arith))
+    ∙ ap (λ c. driven c l.delay drove i (l.instant i q)) (sym e)
+    ∙ delays (l.instant i q)
+    ∙ ap (driven s.count s.delay drove i) (line.ticks i q (omega arith)))
+  where
+    delays : (t : ℕ) → driven s.count l.delay drove i t ≡ driven s.count s.delay drove i t
+    delays t =
+        any_same s.count (λ k. nat_le (l.delay k i) t && drove k (t - l.delay k i)) (λ k. nat_le (s.delay k i) t && drove k (t - s.delay k i))
+        (λ k lt. ap (λ d. nat_le d t && drove k (t - d)) (sym (line.delays k i (let e = line.nodes in omega arith) (let e = line.nodes in omega arith))))
+
 pub finds_what_comes : (l : Line) (setups : ℕ → NodeSetup) (s : Stations) → IsLineOf l setups s → (o : Outset) (total i q : ℕ) → i < s.count
     → finds_expected l s o total i q ≡ level_of (driven s.count s.delay (expected_drove s o total) i (steady_tick (s.clocks i) q))
-finds_what_comes l setups s line o total i q inside =
-    let e = line.nodes in
-    ap level_of (no_or (driven l.nodes l.delay (expected_drove s o total) i (l.instant i q)) (l.disturbed i (l.instant i q)) (line.undisturbed i (l.instant i q) (omega arith))
-    ∙ ap (λ c. driven c l.delay (expected_drove s o total) i (l.instant i q)) (sym e)
-    ∙ delays (l.instant i q)
-    ∙ ap (driven s.count s.delay (expected_drove s o total) i) (line.ticks i q (omega arith)))
-  where
-    delays : (t : ℕ) → driven s.count l.delay (expected_drove s o total) i t ≡ driven s.count s.delay (expected_drove s o total) i t
-    delays t =
-        any_same s.count (λ k. nat_le (l.delay k i) t && expected_drove s o total k (t - l.delay k i)) (λ k. nat_le (s.delay k i) t && expected_drove s o total k (t - s.delay k i))
-        (λ k lt. ap (λ d. nat_le d t && expected_drove s o total k (t - d)) (sym (line.delays k i (let e = line.nodes in omega arith) (let e = line.nodes in omega arith))))
+finds_what_comes l setups s line o total i q inside = finds_driven l setups s line (expected_drove s o total) i q inside
 
 module _ (steps : StayInStep) (errors : FindNoErrors) (winner : LeastWins) (stuffed : SendStuffed) (six : SixOrFront) (ten : TenHaveEdge) (laws : DrivenLaws)
     (edges : EdgeLaws) (calm : NoEdgeLaws)

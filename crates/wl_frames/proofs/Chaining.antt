@@ -29,7 +29,7 @@ use Rattle.wl_frame_end.proofs.Callers.{MachineLaws, over_is}
 use Rattle.wl_frames.specs.Frames.{AreFrames, Follows, Frame, IsFrame, frame_drove, frames_drove, resting_of, third_sample}
 use Rattle.wl_frames.specs.NextNodes.{GoesThrough, HandsNext, head_after}
 use Rattle.wl_frames.specs.NextStarts.{AreFreeNext, AreResting, Resting, has_next, outset_next, rest_next, rested, start_next}
-use Rattle.wl_frames.specs.Runs.{GoesThroughFrame, HandsBetween}
+use Rattle.wl_frames.specs.Runs.{GoesThroughOne, HandsBetween, quiet_by}
 use Rattle.wl_frames.proofs.Windows as windows
 use Rattle.wl_frames.proofs.Windows.{IsHeard, NothingFound, RestAfter}
 
@@ -89,18 +89,21 @@ module _ (m : MachineLaws) (nothing : NothingFound) (is_heard : IsHeard) (rest_a
       → levels q ≡ level_of (driven s.count s.delay (frame_drove s (fs n)) i (steady_tick (s.clocks i) q))
   finds_alone n q less after by = finds n q less by ∙ ap level_of (windows.alone m nothing is_heard rest_after s are room fs count frames n i q less inside after by)
 
-  go : (n : ℕ) (less : n < count) (rest since : ℕ) → BeginsAfter s (fs n).outset i rest → RestsAgain s ((fs n).outset.past i) i levels node rest since → since ≤ rest + sample_at (s.lengths i)
-      → ((j : ℕ) → suc j ≡ n → T j ≤ rest + sample_at (s.lengths i)) → GoesThroughFrame s (fs n) (frames.each n less) i setup levels node
-  go n less rest since after at by last =
+  abbrev Goes : (n : ℕ) → n < count → Type 0
+  Goes n less = GoesThroughOne s fs count frames i first_since setup levels node n less
+
+  abbrev quiet : ℕ → ℕ
+  quiet n = quiet_by s fs i first_since n
+
+  go : (n : ℕ) (less : n < count) (rest : ℕ) → BeginsAfter s (fs n).outset i rest → RestsAgain s ((fs n).outset.past i) i levels node rest (quiet n) → quiet n ≤ rest + sample_at (s.lengths i)
+      → ((j : ℕ) → suc j ≡ n → T j ≤ rest + sample_at (s.lengths i)) → Goes n less
+  go n less rest after at by last =
       let f = frames.each n less in
-      record {
-        since = since;
-        through = through s (fs n).outset (fs n).bits f.chase are room f.outset f.some f.ends f.won f.answer i rest since setup levels node inside segments run after at by
-            (λ q more up. finds_alone n q less (λ j e. (let low = last j e in omega arith)) up);
-      }
+      through s (fs n).outset (fs n).bits f.chase are room f.outset f.some f.ends f.won f.answer i rest (quiet n) setup levels node inside segments run after at by
+      (λ q more up. finds_alone n q less (λ j e. (let low = last j e in omega arith)) up)
 
   -- from one frame to the next
-  module _ (n : ℕ) (less : suc n < count) (x : GoesThroughFrame s (fs n) (frames.each n (omega arith)) i setup levels node) where
+  module _ (n : ℕ) (less : suc n < count) (x : Goes n (omega arith)) where
     abbrev f : IsFrame s (fs n)
     f = frames.each n (omega arith)
 
@@ -132,7 +135,7 @@ module _ (m : MachineLaws) (nothing : NothingFound) (is_heard : IsHeard) (rest_a
         omega arith
 
     rests_then : RestsAgain s (before i ++ Sample (sampled Recessive ((fs n).outset.frames i) handed) ∷ []) i levels node (r.place i) since
-    rests_then = rests s (fs n).outset (fs n).bits are room f.outset f.ends f.won (λ k. handed) (λ k lt. refl) i setup levels node inside x.through.ends which.1
+    rests_then = rests s (fs n).outset (fs n).bits are room f.outset f.ends f.won (λ k. handed) (λ k lt. refl) i setup levels node inside x.ends which.1
 
     silent : (q : ℕ) → rested r i < q → q < (start_next r).from i → levels q ≡ Recessive
     silent q more below =
@@ -145,13 +148,19 @@ module _ (m : MachineLaws) (nothing : NothingFound) (is_heard : IsHeard) (rest_a
         handed refl since since_by rests_then silent
         (subst (λ h. HandsNext r i h (unsent_of setup (node (suc (T n))))) (sym which.1) (hands n less))).0
 
-    pub goes_on : GoesThroughFrame s (fs (suc n)) (frames.each (suc n) less) i setup levels node
+    -- it has driven nothing since the third bit of the intermission
+    waits_quiet : RestsAgain s ((outset_next r before).past i) i levels node (rest_next r i) (T n)
+    waits_quiet =
+        let w = waits in
+        let by = since_by in
+        record { sampled = w.sampled; clock = w.clock; stretch = w.stretch; counts = w.counts; drive = λ q low high. w.drive q (omega arith) high }
+
+    pub goes_on : Goes (suc n) less
     goes_on =
-        let low = since_by in
-        go (suc n) less (rest_next r i) since (windows.begins_after m nothing is_heard rest_after s are room fs count frames n less i inside)
-        (subst (λ o. RestsAgain s (o.past i) i levels node (rest_next r i) since) (sym next.is) waits) (omega arith)
+        go (suc n) less (rest_next r i) (windows.begins_after m nothing is_heard rest_after s are room fs count frames n less i inside)
+        (subst (λ o. RestsAgain s (o.past i) i levels node (rest_next r i) (T n)) (sym next.is) waits_quiet) (omega arith)
         (λ j e. (let same : j ≡ n = omega (arith, e) in let f : T j ≡ T n = ap T same in omega arith))
 
-  pub chained : (n : ℕ) (less : n < count) → GoesThroughFrame s (fs n) (frames.each n less) i setup levels node
-  chained zero less = go 0 less first_rest first_since begins first early (λ j e. absurd (omega (arith, e)))
+  pub chained : (n : ℕ) (less : n < count) → Goes n less
+  chained zero less = go 0 less first_rest begins first early (λ j e. absurd (omega (arith, e)))
   chained (suc n) less = goes_on n less (chained n (omega arith))

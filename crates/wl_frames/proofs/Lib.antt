@@ -1,9 +1,12 @@
 mod Beginning
 mod Chaining
+mod Driving
 mod Free
 mod Idle
 mod Lasting
+mod LineGoing
 mod Outset
 mod Resuming
+mod Rows
 mod Through
 mod Windows

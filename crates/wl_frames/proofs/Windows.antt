@@ -123,6 +123,9 @@ module _ (m : MachineLaws) (nothing : NothingFound) (is_heard : IsHeard) (rest_a
     after : After (fs (suc n)).outset
     after = subst After (sym next.is) after_is
 
+    pub third_before : T n i < (fs (suc n)).outset.start.from i
+    third_before = after.from
+
     first_later : T n i ≤ S (suc n) 0 i
     first_later =
         let f = frames.each (suc n) less in
@@ -182,7 +185,7 @@ module _ (m : MachineLaws) (nothing : NothingFound) (is_heard : IsHeard) (rest_a
     pub later_third : T n i ≤ T (suc n) i
     later_third = let first = first_later in let last = up (suc n) 0 ((fs (suc n)).bits + 12) i less (omega arith) inside in omega arith
 
-  thirds_up : (n g i : ℕ) → n ≤ g → g < count → i < s.count → T n i ≤ T g i
+  pub thirds_up : (n g i : ℕ) → n ≤ g → g < count → i < s.count → T n i ≤ T g i
   thirds_up n zero i low less inside = (let e : n ≡ 0 = omega arith in let f : T n i ≡ T 0 i = ap (λ k. T k i) e in omega arith)
   thirds_up n (suc g) i low less inside = elim (cases_eq n (suc g)) [
     | inl same ↦ (let f : T n i ≡ T (suc g) i = ap (λ k. T k i) same in omega arith)

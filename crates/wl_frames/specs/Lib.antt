@@ -2,3 +2,4 @@ pub mod NextStarts
 pub mod NextNodes
 pub mod Frames
 pub mod Runs
+pub mod Lines

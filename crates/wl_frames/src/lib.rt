@@ -4,5 +4,6 @@
 #![tactic(auto)]
 
 pub mod laws;
+pub mod lines;
 pub mod nodes;
 pub mod runs;

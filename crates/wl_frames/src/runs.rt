@@ -13,7 +13,7 @@ ghost use Rattle.wl_any_senders.specs.Nodes.{IsRun};
 ghost use Rattle.wl_any_senders.specs.Stations.{AreStations, HaveRoom, Stations};
 ghost use Rattle.wl_frame_end.specs.Again.{RestsAgain};
 ghost use Rattle.wl_frames.specs.Frames.{AreFrames, Frame, frame_drove, frames_drove, third_sample};
-ghost use Rattle.wl_frames.specs.Runs.{GoesThroughFrame, HandsBetween};
+ghost use Rattle.wl_frames.specs.Runs.{GoesThroughOne, HandsBetween};
 
 use crate::laws::stations_rest_after_a_frame;
 use crate::nodes::{a_node_goes_through_the_next_frame, a_node_waits_for_the_next_frame};
@@ -50,7 +50,7 @@ pub fn a_node_goes_from_frame_to_frame()
         → (rest since : ℕ) → BeginsAfter s (frames 0).outset i rest
         → RestsAgain s ((frames 0).outset.past i) i levels node rest since → since ≤ rest + sample_at (s.lengths i)
         → HandsBetween s frames count are i setup node
-        → (n : ℕ) (less : n < count) → GoesThroughFrame s (frames n) (are.each n less) i setup levels node }
+        → (n : ℕ) (less : n < count) → GoesThroughOne s frames count are i since setup levels node n less }
 {
     wl_topology::driven_laws();
     wl_any_senders::before::nothing_is_found_before_a_frame();
