@@ -103,11 +103,6 @@ impl<'c, L: Link + Drop> Link for Watched<'c, L> {
         self.link.wait()
     }
 
-    fn wait_for_node(&mut self, node: u8) -> Option<u8> {
-        self.counts.waits.fetch_add(1, Ordering::SeqCst);
-        self.link.wait_for_node(node)
-    }
-
     fn stop(&mut self) {
         self.link.stop()
     }

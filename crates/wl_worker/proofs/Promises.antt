@@ -1,4 +1,4 @@
--- The member with the least promise, found node by node, and the node whose known levels end first at a place.
+-- The member with the least promise, found node by node.
 use Rattle.std.proofs.Common.{◌≡◌, ℕ, ◌+◌, ◌<◌, ◌≤◌, true, false, inl, inr, Option, Some, None, is_some, refl, sym, ◌∙◌, ap, subst, arith, true≢false}
 use Rattle.std.specs.Prelude.{IfSome, IfNone}
 use Rattle.std.proofs.lemmas.Bool.{cases_lt}
@@ -7,7 +7,7 @@ use Rattle.wl_replica.specs.Known.{horizon}
 use Rattle.wl_group.specs.GroupValue.{GroupValue, IsGroupValue, quanta_at, belongs, has_ended}
 use Rattle.wl_group.specs.ValueLaws.{ValueLaws}
 use Rattle.wl_worker.specs.Finished.{MembersEnded}
-use Rattle.wl_worker.specs.Promised.{promise_of, known_of, IsLeastPromised, IsLeastOf, IsFirstOf}
+use Rattle.wl_worker.specs.Promised.{promise_of, IsLeastPromised, IsLeastOf}
 
 -- ---- one node more
 
@@ -119,35 +119,3 @@ least_of_all laws g v n all (Some i) h = record {
 pub none_of_all : (laws : ValueLaws) (g : GroupValue) → IsGroupValue g → (n : ℕ) → g.replica.nodes ≤ n → (least : Option ℕ) → IsLeastOf g n least → IfNone least (MembersEnded g)
 none_of_all laws g v n all None h = λ j o. let b = member_below laws g v j o in h.none j (omega arith) o
 none_of_all laws g v n all (Some i) h = tt
-
-pub least_is_below : (g : GroupValue) (n : ℕ) (least : Option ℕ) → IsLeastOf g n least → IfSome least (λ i. i < n)
-least_is_below g n None h = tt
-least_is_below g n (Some i) h = h.some.below
-
--- ---- the node whose known levels end first
-
-pub first_alone : (g : GroupValue) (i : ℕ) → IsFirstOf g i 1 0
-first_alone g i = record {
-  below = omega arith;
-  least = λ j b. (let e : 0 ≡ j = omega arith in subst (λ m. known_of g 0 i ≤ known_of g m i) e (omega arith));
-}
-
--- one that is known no less far
-pub still_first : (g : GroupValue) (i n first : ℕ) → IsFirstOf g i n first → known_of g first i ≤ known_of g n i → IsFirstOf g i (n + 1) first
-still_first g i n first before further = record {
-  below = (let c = before.below in omega arith);
-  least = λ j b. elim (cases_lt j n) [
-    | inl old ↦ before.least j old
-    | inr new ↦ (let e : n ≡ j = omega arith in subst (λ m. known_of g first i ≤ known_of g m i) e further)
-  ];
-}
-
--- one that is known less far
-pub first_now : (g : GroupValue) (i n first : ℕ) → IsFirstOf g i n first → known_of g n i < known_of g first i → IsFirstOf g i (n + 1) n
-first_now g i n first before less = record {
-  below = omega arith;
-  least = λ j b. elim (cases_lt j n) [
-    | inl old ↦ (let c = before.least j old in omega arith)
-    | inr new ↦ (let e : n ≡ j = omega arith in subst (λ m. known_of g n i ≤ known_of g m i) e (omega arith))
-  ];
-}

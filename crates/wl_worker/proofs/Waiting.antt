@@ -1,18 +1,18 @@
--- Workers that all wait are at their ends: of the members that are not, the one with the least promise of all would run. And what one waits for.
+-- Workers that all wait are at their ends: of the members that are not, the one with the least promise of all would run.
 use Rattle.std.proofs.Common.{◌≡◌, ℕ, zero, suc, ◌+◌, ◌<◌, ◌≤◌, true, false, ◌&&◌, inl, inr, length, nat_le, sym, ◌∙◌, ap, subst, arith, true≢false}
-use Rattle.std.proofs.lemmas.Bool.{cases_lt, cases_Bool, and_from, and_parts, lt-ltb, ltb-true, leb-true, leb-false}
-use Rattle.wl_replica.specs.State.{State, slots_of}
-use Rattle.wl_replica.specs.Known.{horizon, place_horizon}
+use Rattle.std.proofs.lemmas.Bool.{cases_lt, cases_Bool, and_from, and_parts, lt-ltb, leb-true, leb-false}
+use Rattle.wl_replica.specs.State.{slots_of}
+use Rattle.wl_replica.specs.Known.{place_horizon}
 use Rattle.wl_replica.specs.KnownLaws.{KnownLaws}
 use Rattle.wl_plan.specs.declared.plan.Plan.{Plan}
 use Rattle.wl_plan.specs.PlanLine.{line_of}
 use Rattle.wl_plan.specs.Checked.{CheckedIsSound}
-use Rattle.wl_group.specs.Member.{next_tick, can_run}
+use Rattle.wl_group.specs.Member.{next_tick}
 use Rattle.wl_group.specs.GroupValue.{GroupValue, IsGroupValue, belongs, members_now, may_run, has_ended}
 use Rattle.wl_group.specs.ValueLaws.{ValueLaws}
 use Rattle.wl_worker.specs.Finished.{MembersEnded}
-use Rattle.wl_worker.specs.Promised.{promise_of, IsLeastPromised, IsBlocked, IsFirstToEnd}
-use Rattle.wl_worker.specs.Waiting.{KnowAll, BlockedHaveEnded, WaitsForOne}
+use Rattle.wl_worker.specs.Promised.{promise_of, IsLeastPromised, IsBlocked}
+use Rattle.wl_worker.specs.Waiting.{KnowAll, BlockedHaveEnded}
 use Rattle.wl_worker.proofs.Promises.{member_below}
 
 -- the tick of a member's next quantum
@@ -101,32 +101,3 @@ module _ (laws : ValueLaws) (knows : KnownLaws) (sound : CheckedIsSound) (plan :
 
 pub blocked_have_ended : ValueLaws → KnownLaws → CheckedIsSound → BlockedHaveEnded
 blocked_have_ended laws knows sound plan workers groups all blocked w b = all_ended laws knows sound plan workers groups all blocked w b
-
--- ---- what a blocked member waits for
-
-module _ (laws : ValueLaws) (knows : KnownLaws) (sound : CheckedIsSound) (g : GroupValue) (i j : ℕ) (told : State) (v : IsGroupValue g)
-    (member : belongs g i ≡ true) (runs : has_ended g i ≡ false) (stuck : may_run g i ≡ false) (first : IsFirstToEnd g i j)
-    (no_more : horizon (slots_of told) j ≤ promise_of g j) where
-  here : i < length g.plan.nodes
-  here = node_of laws g v i member
-
-  -- were it known up to its next quantum by what is told, so it had been before
-  known_before : due_at g i < place_horizon (line_of g.plan).nodes (line_of g.plan).delay (slots_of told) i
-      → due_at g i < place_horizon (line_of g.plan).nodes (line_of g.plan).delay (slots_of g.replica) i
-  known_before known =
-      let l = line_of g.plan in
-      let is_node : j < l.nodes = subst (λ m. j < m) v.of_all first.below in
-      let by = knows.place_known l.nodes l.delay (slots_of told) j i (due_at g i) is_node known in
-      knows.place_above l.nodes l.delay (slots_of g.replica) i (due_at g i) (sound g.plan v.checked).some_node
-      (λ n b. let each = first.least n (subst (λ m. n < m) (sym v.of_all) b) in omega arith)
-
-  may_not : can_run (line_of g.plan) i (members_now g i) (slots_of told) ≡ false
-  may_not = elim (cases_Bool (can_run (line_of g.plan) i (members_now g i) (slots_of told))) [
-    | inl can ↦ (let parts = and_parts _ _ can in
-        let before = known_before (ltb-true _ _ parts.1) in
-        absurd (true≢false (sym (and_from _ _ member (and_from _ _ parts.0 (lt-ltb _ _ before))) ∙ stuck)))
-    | inr cannot ↦ cannot
-  ]
-
-pub waits_for_one : ValueLaws → KnownLaws → CheckedIsSound → WaitsForOne
-waits_for_one laws knows sound g i j told v member runs stuck first no_more = may_not laws knows sound g i j told v member runs stuck first no_more

@@ -1,10 +1,9 @@
 -- Which member of a group runs next: the one that is known the least far. This project's profile; for a reader who knows simulation: the process
 -- with the least clock first (Chandy and Misra 1979).
-use Rattle.std.specs.Prelude.{◌≡◌, ◌⊎◌, ℕ, ◌+◌, ◌<◌, ◌≤◌, true, false, Option, IfSome, IfNone}
+use Rattle.std.specs.Prelude.{◌≡◌, ◌⊎◌, ℕ, ◌<◌, ◌≤◌, true, false, Option, IfSome, IfNone}
 use Rattle.wl_replica.specs.State.{slots_of}
 use Rattle.wl_replica.specs.Known.{horizon}
 use Rattle.wl_group.specs.GroupValue.{GroupValue, belongs, may_run, has_ended}
-use Rattle.wl_topology.specs.Delays.{delay_of}
 use Rattle.wl_worker.specs.Finished.{MembersEnded}
 
 -- the tick up to which it is known what node i drives
@@ -32,16 +31,3 @@ pub record IsLeastOf (g : GroupValue) (n : ℕ) (least : Option ℕ) : Type 0 wh
 -- the one with the least promise may not run, or all are at their ends
 abbrev pub IsBlocked : GroupValue → Type 0
 IsBlocked g = MembersEnded g ⊎ ((i : ℕ) × IsLeastPromised g i × (may_run g i ≡ false))
-
--- the tick up to which it is known at node i what node j drives
-abbrev pub known_of : GroupValue → ℕ → ℕ → ℕ
-known_of g j i = promise_of g j + delay_of g.plan.topology j i
-
--- Of the nodes below n, what is known of this one ends first at node i.
-pub record IsFirstOf (g : GroupValue) (i n first : ℕ) : Type 0 where
-  pub below : first < n
-  pub least : (j : ℕ) → j < n → known_of g first i ≤ known_of g j i
-
--- of all nodes
-abbrev pub IsFirstToEnd : GroupValue → ℕ → ℕ → Type 0
-IsFirstToEnd g i first = IsFirstOf g i g.replica.nodes first

@@ -1,13 +1,9 @@
 -- Workers that all wait for one another. This project's profile; for a reader who knows simulation: that there is no deadlock (Chandy and Misra 1979).
-use Rattle.std.specs.Prelude.{◌≡◌, ℕ, ◌<◌, ◌≤◌, true, false, length}
-use Rattle.wl_replica.specs.State.{State, slots_of}
-use Rattle.wl_replica.specs.Known.{horizon}
+use Rattle.std.specs.Prelude.{◌≡◌, ℕ, ◌<◌, ◌≤◌, true, length}
 use Rattle.wl_plan.specs.declared.plan.Plan.{Plan}
-use Rattle.wl_plan.specs.PlanLine.{line_of}
-use Rattle.wl_group.specs.Member.{can_run}
-use Rattle.wl_group.specs.GroupValue.{GroupValue, IsGroupValue, belongs, members_now, may_run, has_ended}
+use Rattle.wl_group.specs.GroupValue.{GroupValue, IsGroupValue, belongs}
 use Rattle.wl_worker.specs.Finished.{MembersEnded}
-use Rattle.wl_worker.specs.Promised.{promise_of, IsBlocked, IsFirstToEnd}
+use Rattle.wl_worker.specs.Promised.{promise_of, IsBlocked}
 
 -- Groups of a plan, by worker. Each node is a member of one, and no group knows less of a node than the group that has it: what was said has arrived.
 pub record KnowAll (plan : Plan) (workers : ℕ) (groups : ℕ → GroupValue) : Type 0 where
@@ -20,8 +16,3 @@ pub record KnowAll (plan : Plan) (workers : ℕ) (groups : ℕ → GroupValue) :
 abbrev pub BlockedHaveEnded : Type 0
 BlockedHaveEnded = (plan : Plan) (workers : ℕ) (groups : ℕ → GroupValue) → KnowAll plan workers groups
     → ((w : ℕ) → w < workers → IsBlocked (groups w)) → (w : ℕ) → w < workers → MembersEnded (groups w)
-
--- A blocked member waits for one node: whatever else is told, it may not run while no more is known of the node that is known the least far at its place.
-abbrev pub WaitsForOne : Type 0
-WaitsForOne = (g : GroupValue) (i j : ℕ) (told : State) → IsGroupValue g → belongs g i ≡ true → has_ended g i ≡ false → may_run g i ≡ false
-    → IsFirstToEnd g i j → horizon (slots_of told) j ≤ promise_of g j → can_run (line_of g.plan) i (members_now g i) (slots_of told) ≡ false

@@ -58,15 +58,6 @@ impl Heard {
             None => bell.stopped(rt),
         }
     }
-
-    /// Waits until something of this node was given after the look, or some worker stopped; without a look it doesn't wait. Returns the
-    /// first one that stopped.
-    pub(crate) fn wait_for_node<R: Wait>(self, rt: &R, bell: &Bell, node: u8) -> Option<u8> {
-        match self.rings {
-            Some(rings) => bell.wait_for_node(rt, rings, node),
-            None => bell.stopped(rt),
-        }
-    }
 }
 
 /// Returns how many letters the workers other than this one have sent, by a bell that had rung so often before; 2^64 - 1 means more.

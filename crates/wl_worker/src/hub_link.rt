@@ -82,7 +82,7 @@ impl<'h, R: Wait> Link for HubLink<'h, R> {
     fn give(&mut self, alloc: Global, records: &[Record]) -> Result<(), LinkFault> {
         let _ = alloc;
         let given = give_words(self.hub, &mut self.pass, records);
-        self.bell.give(self.rt, self.worker, records, given);
+        self.bell.give(self.rt, self.worker, given);
         self.heard = self.heard.after_own();
         Ok(())
     }
@@ -115,10 +115,6 @@ impl<'h, R: Wait> Link for HubLink<'h, R> {
 
     fn wait(&mut self) -> Option<u8> {
         self.heard.wait(self.rt, self.bell)
-    }
-
-    fn wait_for_node(&mut self, node: u8) -> Option<u8> {
-        self.heard.wait_for_node(self.rt, self.bell, node)
     }
 
     fn stop(&mut self) {

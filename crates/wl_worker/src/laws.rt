@@ -1,6 +1,6 @@
 //! Laws of what links hand over.
 ghost use Rattle.wl_worker.specs.Handed.{NothingIsTaken};
-ghost use Rattle.wl_worker.specs.Waiting.{BlockedHaveEnded, WaitsForOne};
+ghost use Rattle.wl_worker.specs.Waiting.{BlockedHaveEnded};
 
 /// Law: a group that is as it was has taken some records, namely none. That is what a link that
 /// brings nothing owes.
@@ -16,16 +16,6 @@ pub fn nothing_is_taken()
 #[tactic(auto, using(crate::proofs::Waiting::blocked_have_ended))]
 pub fn blocked_workers_have_ended()
     ensures { BlockedHaveEnded }
-{
-    wl_group::value_laws();
-    wl_replica::known_laws();
-    wl_plan::checked_is_sound();
-}
-
-/// Law: a blocked member waits for one node, the one whose known levels end first at its place. Whatever is told of others, it may not run
-/// before more is known of that one. So a worker needs no news but of it.
-pub fn a_blocked_member_waits_for_one_node()
-    ensures { WaitsForOne }
 {
     wl_group::value_laws();
     wl_replica::known_laws();

@@ -138,16 +138,6 @@ pub trait Link {
         ensures same { (p : GivenPlan) → is_of self.old p → is_of self.new p }
         ensures number { number self.new ≡ number self.old };
 
-    /// Waits until another worker gave something of this node after this link's last `fetch` began, or some worker stopped. Returns the first
-    /// one that stopped, if any. A link that doesn't know the nodes of what was given may wait for anything, as `wait` does.
-    fn wait_for_node(&mut self, node: u8) -> Option<u8>
-        ensures same { (p : GivenPlan) → is_of self.old p → is_of self.new p }
-        ensures number { number self.new ≡ number self.old }
-    {
-        let _ = node;
-        self.wait()
-    }
-
     /// Lets the others know that this worker stopped.
     fn stop(&mut self)
         ensures same { (p : GivenPlan) → is_of self.old p → is_of self.new p }

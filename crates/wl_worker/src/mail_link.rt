@@ -94,7 +94,7 @@ impl<'h, R: Wait> Link for MailLink<'h, R> {
     /// Sends a letter of these records to every other worker, and then rings the bell. The post counts one letter more for each.
     fn give(&mut self, alloc: Global, records: &[Record]) -> Result<(), LinkFault> {
         let given = give_letter(self.rt, alloc, &mut self.post, &self.plan, records)?;
-        self.bell.give(self.rt, self.worker, records, given);
+        self.bell.give(self.rt, self.worker, given);
         self.heard = self.heard.after_own();
         Ok(())
     }
@@ -124,10 +124,6 @@ impl<'h, R: Wait> Link for MailLink<'h, R> {
 
     fn wait(&mut self) -> Option<u8> {
         self.heard.wait(self.rt, self.bell)
-    }
-
-    fn wait_for_node(&mut self, node: u8) -> Option<u8> {
-        self.heard.wait_for_node(self.rt, self.bell, node)
     }
 
     fn stop(&mut self) {

@@ -4,7 +4,7 @@ ghost use Rattle.wl_plan.specs.declared.plan.Plan.{Plan as GivenPlan};
 ghost use Rattle.wl_group.specs.GroupValue.{belongs, may_run, initial_group};
 ghost use Rattle.wl_worker.specs.Handed.{AreTrueOfPlan};
 ghost use Rattle.wl_worker.specs.Finished.{MembersEnded, HasFinished};
-ghost use Rattle.wl_worker.specs.Promised.{IsLeastPromised, IsLeastOf, IsBlocked, IsFirstToEnd, IsFirstOf, known_of};
+ghost use Rattle.wl_worker.specs.Promised.{IsLeastPromised, IsLeastOf, IsBlocked};
 ghost use Rattle.wl_worker.specs.Given.{first_silences_of, Gives, GaveFirst};
 
 use crate::link::{Fault, Gate, Link, LinkFault};
@@ -78,13 +78,13 @@ fn run<L: Link, G: Gate>(
             begin_anew(alloc, group, link).map_err(|fault| fault_of(fault, worker))?;
         }
         let waits = step(alloc, group, link).map_err(|fault| fault_of(fault, worker))?;
-        let Some(least) = least_promised(group) else {
+        if least_promised(group).is_none() {
             return Ok(());
-        };
+        }
         if !waits {
             continue;
         }
-        if let Some(stopped) = link.wait_for_node(blocker(group, least)) {
+        if let Some(stopped) = link.wait() {
             return Err(Fault::Worker(stopped));
         }
     }
@@ -254,10 +254,9 @@ fn hand<L: Link>(
 }
 
 /// Returns the first member with the least promise, of those that aren't at their ends; none if all are.
-#[tactic(auto, using(crate::proofs::Promises::least_of_all, crate::proofs::Promises::none_of_all, crate::proofs::Promises::least_is_below))]
+#[tactic(auto, using(crate::proofs::Promises::least_of_all, crate::proofs::Promises::none_of_all))]
 fn least_promised(group: &Group) -> Option<u8>
     ensures least { IfSome result (IsLeastPromised group.now) }
-    ensures node { IfSome result (λ i. i < group.now.replica.nodes) }
     ensures ended { IfNone result (MembersEnded group.now) }
 {
     wl_group::value_laws();
@@ -285,44 +284,4 @@ fn least_with(group: &Group, least: Option<u8>, i: u8) -> Option<u8>
         return Some(first);
     }
     Some(i)
-}
-
-/// Returns the first node whose known levels end first at node `i`. If that is a member which is blocked, it stays so until more is known
-/// of that node.
-#[tactic(auto, using(crate::proofs::Promises::first_alone))]
-fn blocker(group: &Group, i: u8) -> u8
-    requires { i < group.now.replica.nodes }
-    ensures { IsFirstToEnd group.now i result }
-{
-    wl_group::value_laws();
-    let mut first = 0u8;
-    for j in 1..group.replica().nodes() {
-        first = first_with(group, i, first, j);
-    }
-    first
-}
-
-/// Returns the one of the nodes up to `j` whose known levels end first at node `i`, by the one of those before it.
-#[tactic(auto, using(crate::proofs::Promises::still_first, crate::proofs::Promises::first_now))]
-fn first_with(group: &Group, i: u8, first: u8, j: u8) -> u8
-    requires node { i < group.now.replica.nodes }
-    requires before { IsFirstOf group.now i j first }
-    requires next { j < group.now.replica.nodes }
-    ensures { IsFirstOf group.now i (j + 1) result }
-{
-    if known_until(group, first, i) <= known_until(group, j, i) {
-        first
-    } else {
-        j
-    }
-}
-
-/// Returns the tick below which what node `j` drives is known at node `i`.
-fn known_until(group: &Group, j: u8, i: u8) -> u64
-    requires from { j < group.now.replica.nodes }
-    requires to { i < group.now.replica.nodes }
-    ensures { result ≡ known_of group.now j i }
-{
-    wl_group::value_laws();
-    group.replica().horizon(j) + group.plan().topology.delay(j, i)
 }
