@@ -22,6 +22,7 @@ use Rattle.wl_any_senders.specs.Starts.{Start}
 use Rattle.wl_any_senders.specs.Expected.{IsOutset, Outset}
 use Rattle.wl_any_senders.specs.Lines.{BeginsAfter}
 use Rattle.wl_any_senders.specs.Machines.{HasIdled, MayBegin, MayBeginTogether, no_frame_sample}
+use Rattle.wl_any_senders.proofs.Callers.{takes_head}
 use Rattle.wl_first_frame.specs.FirstStarts.{AreIdle, Waiting, begins_first, decision_quantum, due_first, edge_first, eleventh, first_outset, first_start, hard_from, handed_first, has_first, last_before, rest_first, silent_past}
 use Rattle.wl_first_frame.proofs.Reaching as reaching
 use Rattle.wl_first_frame.proofs.Reaching.{IsSilence, Silence}
@@ -54,9 +55,6 @@ idle_by together n many =
     let e : n ≡ 11 + (n - 11) = omega arith in
     let m = together 1 (λ k. []) (λ k. replicate n no_frame_sample) (λ k less. (n - 11, inl (ap (λ j. replicate j no_frame_sample) e))) in
     idle_if (λ k. []) (stretch_of (replicate n no_frame_sample)) (quiet_after n) (m.may 0 (omega arith))
-
-takes_head : (s : Stretch) (c : Content) → s.sort ≡ Idle → stretch_after s (Sample (sample_of Recessive (Some c) Active)) ≡ stretch_by (Framing (Some c)) []
-takes_head s c e = ap (λ k. stretch_after (stretch_by k s.own) (Sample (sample_of Recessive (Some c) Active))) e
 
 -- from the eleventh sample on a machine that is handed a frame is to begin it
 pub decided : MayTogether → (n : ℕ) (c : Content) → 10 ≤ n → stretch_after (stretch_of (replicate n no_frame_sample)) (Sample (sample_of Recessive (Some c) Active)) ≡ stretch_by (Framing (Some c)) []

@@ -7,7 +7,7 @@ use Rattle.std.proofs.Math.Nat.{lt_of_mul-lt-mul_right}
 use Rattle.wl_level.specs.declared.Level.{Level}
 use Rattle.wl_level.specs.declared.Level.TheVariants.{Recessive}
 use Rattle.wl_level.specs.Places.{run_at_end}
-use Rattle.wl_level.proofs.Callers.{length_more, snoc}
+use Rattle.wl_level.proofs.Callers.{length_more}
 use Rattle.wl_confine.specs.declared.Happened.TheVariants.{Nothing}
 use Rattle.wl_confine.specs.declared.Mode.TheVariants.{Active}
 use Rattle.wl_confine.specs.Counts.{counts_after, counts_of, mode_of, no_counts}
@@ -36,21 +36,21 @@ use Rattle.wl_phase.proofs.Callers.{IsSilent, first_silent}
 use Rattle.wl_any_senders.specs.Clocked.{EdgeLaws, NoEdgeLaws, SamplesBy}
 use Rattle.wl_any_senders.specs.Machines.{no_frame_sample}
 use Rattle.wl_any_senders.specs.Nodes.{IsRun, clock_sees}
-use Rattle.wl_any_senders.proofs.Callers.{drive_by as driven_by, happened_by, inputs_by, seen_are}
+use Rattle.wl_any_senders.proofs.Callers.{drive_by as driven_by, happened_by, inputs_by, one_more, seen_are}
 
 -- a machine between frames, and what a recessive sample makes of it
 pub record IsQuiet (s : Stretch) : Type 0 where
   pub sort : (s.sort ≡ Integration) ⊎ (s.sort ≡ Idle)
 
-record TakesOn (j : Judgement) : Type 0 where
-  happened : j.happened ≡ Nothing
-  ended : j.ended ≡ NoFrame
+pub record TakesOn (j : Judgement) : Type 0 where
+  pub happened : j.happened ≡ Nothing
+  pub ended : j.ended ≡ NoFrame
 
 ends_integration : (b : Bool) (head : Option Content) → TakesOn (cond b (begins Nothing (free head) []) (continues Nothing))
 ends_integration true head = record { happened = refl; ended = refl }
 ends_integration false head = record { happened = refl; ended = refl }
 
-goes_idle : (head : Option Content) → TakesOn (idle_on head)
+pub goes_idle : (head : Option Content) → TakesOn (idle_on head)
 goes_idle None = record { happened = refl; ended = refl }
 goes_idle (Some c) = record { happened = refl; ended = refl }
 
@@ -75,13 +75,10 @@ stays_quiet s q = elim q.sort [
   | inr idles ↦ subst (λ k. IsQuiet (stretch_after (stretch_by k s.own) no_frame_sample)) (sym idles) (record { sort = inr refl })
 ]
 
-pub samples_more : (n : ℕ) → replicate (suc n) no_frame_sample ≡ replicate n no_frame_sample ++ no_frame_sample ∷ []
-samples_more n = snoc [] no_frame_sample n
-
 pub quiet_after : (n : ℕ) → IsQuiet (stretch_of (replicate n no_frame_sample))
 quiet_after zero = record { sort = inl refl }
 quiet_after (suc n) =
-    subst IsQuiet (sym (ap stretch_of (samples_more n) ∙ stretch_next (replicate n no_frame_sample) no_frame_sample)) (stays_quiet (stretch_of (replicate n no_frame_sample)) (quiet_after n))
+    subst IsQuiet (sym (ap stretch_of (one_more n) ∙ stretch_next (replicate n no_frame_sample) no_frame_sample)) (stays_quiet (stretch_of (replicate n no_frame_sample)) (quiet_after n))
 
 pub none_driven_after : (n : ℕ) → drive_of (stretch_of (replicate n no_frame_sample)) ≡ Recessive
 none_driven_after n = drives_none (stretch_of (replicate n no_frame_sample)) (quiet_after n)
@@ -102,7 +99,7 @@ integrates (suc (suc (suc (suc (suc (suc (suc (suc (suc zero))))))))) head few =
 integrates (suc (suc (suc (suc (suc (suc (suc (suc (suc (suc c)))))))))) head few = absurd (omega arith)
 
 pub next_of : (n : ℕ) → stretch_after (stretch_of (replicate n no_frame_sample)) no_frame_sample ≡ stretch_of (replicate (suc n) no_frame_sample)
-next_of n = sym (ap stretch_of (samples_more n) ∙ stretch_next (replicate n no_frame_sample) no_frame_sample)
+next_of n = sym (ap stretch_of (one_more n) ∙ stretch_next (replicate n no_frame_sample) no_frame_sample)
 
 any_head : (c : ℕ) (head : Option Content) → (c < 10) ⊎ (head ≡ None)
     → stretch_after (stretch_of (replicate c no_frame_sample)) (Sample (sample_of Recessive head Active)) ≡ stretch_of (replicate (suc c) no_frame_sample)
@@ -112,7 +109,7 @@ any_head c head (inr none) = ap (λ h. stretch_after (stretch_of (replicate c no
 abbrev pub NoneCounts : History → Type 0
 NoneCounts h = counts_of h.happened ≡ no_counts
 
-seen_length : (seen : ℕ → Seen) (k : ℕ) → length (seen_before seen k) ≡ k
+pub seen_length : (seen : ℕ → Seen) (k : ℕ) → length (seen_before seen k) ≡ k
 seen_length seen zero = refl
 seen_length seen (suc k) = length_more (seen_before seen k) (seen k) ∙ add-one (length (seen_before seen k)) ∙ ap suc (seen_length seen k)
 

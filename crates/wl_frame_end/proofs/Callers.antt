@@ -2,5 +2,5 @@
 -- intermission.
 pub use Rattle.wl_frame_end.proofs.Below.{ClockLaws, MachineLaws}
 pub use Rattle.wl_frame_end.proofs.Hearing.{begins_after, found_was, samples_up}
-pub use Rattle.wl_frame_end.proofs.LineEnds.{DriveExpected, FindLevels, GoesOn}
+pub use Rattle.wl_frame_end.proofs.LineEnds.{DriveExpected, FindLevels, GoesOn, levels_agree}
 pub use Rattle.wl_frame_end.proofs.Slot.{over_is}

@@ -57,7 +57,7 @@ abbrev pub FindLevels : Type 0
 FindLevels = (l : Line) (until : ℕ → ℕ) (drove : ℕ → ℕ → Bool) → IsCausal l → IsExpected l until drove → (i k : ℕ) → i < l.nodes → ((j : ℕ) → j < k → l.instant i j < until i)
     → seen l i k ≡ levels_before (levels_found l drove i) k
 
-levels_agree : (a b : ℕ → Level) (k : ℕ) → ((j : ℕ) → suc j ≤ k → a j ≡ b j) → levels_before a k ≡ levels_before b k
+pub levels_agree : (a b : ℕ → Level) (k : ℕ) → ((j : ℕ) → suc j ≤ k → a j ≡ b j) → levels_before a k ≡ levels_before b k
 levels_agree a b zero h = refl
 levels_agree a b (suc k) h = ap (λ v. v ++ a k ∷ []) (levels_agree a b k (λ j less. h j (omega arith))) ∙ ap (λ x. levels_before b k ++ x ∷ []) (h k (omega arith))
 

@@ -26,7 +26,7 @@ use Rattle.wl_frame_end.specs.Again.{RestsAgain, past_end}
 use Rattle.wl_frame_end.specs.Asked.{CanBeAnswered, EndsBefore}
 use Rattle.wl_frame_end.specs.Rests.{NodeEnds, waiting_frame}
 use Rattle.wl_frame_end.proofs.Callers.{MachineLaws, over_is}
-use Rattle.wl_frames.specs.Frames.{AreFrames, Follows, Frame, IsFrame, frame_drove, frames_drove, resting_of, third_sample}
+use Rattle.wl_frames.specs.Frames.{FollowOneAnother, ComesNext, Frame, IsBegun, frame_drove, frames_drove, resting_of, third_sample}
 use Rattle.wl_frames.specs.NextNodes.{GoesThrough, HandsNext, head_after}
 use Rattle.wl_frames.specs.NextStarts.{AreFreeNext, AreResting, Resting, has_next, outset_next, rest_next, rested, start_next}
 use Rattle.wl_frames.specs.Runs.{GoesThroughOne, HandsBetween, quiet_by}
@@ -76,7 +76,7 @@ given r i first unsent hands = elim (cases_eq (r.decides i) 0) [
     at_zero n e = ap (head_after r i first unsent) e
 
 module _ (m : MachineLaws) (nothing : NothingFound) (is_heard : IsHeard) (rest_after : RestAfter) (rests : RestsLaw) (free : FreeLaw) (wait : WaitLaw) (through : ThroughLaw)
-    (s : Stations) (are : AreStations s) (room : HaveRoom s) (fs : ℕ → Frame) (count : ℕ) (frames : AreFrames s fs count)
+    (s : Stations) (are : AreStations s) (room : HaveRoom s) (fs : ℕ → Frame) (count : ℕ) (frames : FollowOneAnother s fs count)
     (i : ℕ) (inside : i < s.count) (setup : NodeSetup) (segments : setup.segments ≡ s.lengths i) (levels : ℕ → Level) (node : ℕ → History) (run : IsRun setup levels node)
     (finds : (n q : ℕ) → n < count → q ≤ third_sample s (fs n) i → levels q ≡ level_of (driven s.count s.delay (frames_drove s fs count) i (steady_tick (s.clocks i) q)))
     (first_rest first_since : ℕ) (begins : BeginsAfter s (fs 0).outset i first_rest) (first : RestsAgain s ((fs 0).outset.past i) i levels node first_rest first_since)
@@ -104,10 +104,10 @@ module _ (m : MachineLaws) (nothing : NothingFound) (is_heard : IsHeard) (rest_a
 
   -- from one frame to the next
   module _ (n : ℕ) (less : suc n < count) (x : Goes n (omega arith)) where
-    abbrev f : IsFrame s (fs n)
+    abbrev f : IsBegun s (fs n)
     f = frames.each n (omega arith)
 
-    abbrev next : Follows s (fs n) (fs (suc n))
+    abbrev next : ComesNext s (fs n) (fs (suc n))
     next = frames.next n less
 
     abbrev r : Resting

@@ -48,15 +48,12 @@ module _ (m : MachineLaws) (s : Stations) (are : AreStations s) (room : HaveRoom
   by_sample : (n : ℕ) → from n ≤ S n
   by_sample n = from_sample m.steps m.errors m.winner m.stuffed m.six m.ten s are room o is end valid n i inside
 
-  samples : (a n : ℕ) → a ≤ n → S a ≤ S n
-  samples a n less = samples_up m s are room o is end valid over won chase catch enough a n i inside less
-
   pub from_later : (a n : ℕ) → a ≤ n → n ≤ end + 12 → from a ≤ from n
   from_later a n less high = elim (cases_eq a n) [
     | inl same ↦ (let e : from a ≡ from n = ap from same in omega arith)
     | inr other ↦
         (let one = by_sample a in
-        let two = samples a (n - 1) (omega (arith, other, less)) in
+        let two = samples_up m s are room o is end valid over won chase catch enough a (n - 1) i inside (omega (arith, other, less)) in
         let three = begun (n - 1) (omega (arith, other, less)) in
         let e : suc (n - 1) ≡ n = omega (arith, other, less) in
         let f : from (suc (n - 1)) ≡ from n = ap from e in

@@ -1,11 +1,10 @@
 -- A node that rests on a silent line, bit by bit: what it has sampled, and that nothing counts.
-use Rattle.std.proofs.Common.{◌≡◌, ◌≢◌, ◌∙◌, inl, inr, refl, sym, ap, subst, ℕ, zero, suc, ◌+◌, ◌*◌, ◌<◌, ◌≤◌, Bool, true, false, List, [], ◌∷◌, ◌++◌, length, Option, Some, None, arith, append-nil, add-one, ◌-◌}
+use Rattle.std.proofs.Common.{◌≡◌, ◌≢◌, ◌∙◌, inl, inr, refl, sym, ap, subst, ℕ, zero, suc, ◌+◌, ◌*◌, ◌<◌, ◌≤◌, Bool, true, false, List, [], ◌∷◌, ◌++◌, length, Option, Some, None, arith, append-nil, ◌-◌}
 use Rattle.std.specs.Prelude.{count_by, drop}
 use Rattle.std.proofs.lemmas.Bool.{cases_eq, cases_lt}
 use Rattle.std.proofs.lemmas.List.Sums.{fold-append}
 use Rattle.wl_level.specs.declared.Level.{Level}
 use Rattle.wl_level.specs.declared.Level.TheVariants.{Recessive}
-use Rattle.wl_level.proofs.Callers.{length_more}
 use Rattle.wl_confine.specs.declared.Happened.TheVariants.{Nothing}
 use Rattle.wl_confine.specs.declared.Mode.TheVariants.{Active}
 use Rattle.wl_confine.specs.Counts.{counts_after, counts_of, mode_of, no_counts}
@@ -32,23 +31,11 @@ use Rattle.wl_phase.specs.InStep.{seen_before}
 use Rattle.wl_phase.specs.Ways.{ByTheBook}
 use Rattle.wl_any_senders.specs.Clocked.{BitIs, EdgeLaws, NoEdgeLaws, SamplesBy}
 use Rattle.wl_any_senders.specs.Nodes.{IsRun, clock_sees}
+use Rattle.wl_first_frame.proofs.Callers.{TakesOn, goes_idle, seen_length}
 use Rattle.wl_any_senders.proofs.Callers.{drive_by as driven_by, happened_by, inputs_by, seen_are}
-
--- what a recessive sample makes of an idle machine
-record TakesOn (j : Judgement) : Type 0 where
-  happened : j.happened ≡ Nothing
-  ended : j.ended ≡ NoFrame
-
-goes_idle : (head : Option Content) → TakesOn (idle_on head)
-goes_idle None = record { happened = refl; ended = refl }
-goes_idle (Some c) = record { happened = refl; ended = refl }
 
 takes_on : (s : Stretch) (head : Option Content) → s.sort ≡ Idle → TakesOn (judged s (sample_of Recessive head Active))
 takes_on s head idle = subst (λ k. TakesOn (judged_by k s.own (sample_of Recessive head Active))) (sym idle) (goes_idle head)
-
-before_length : (seen : ℕ → Seen) (q : ℕ) → length (seen_before seen q) ≡ q
-before_length seen zero = refl
-before_length seen (suc q) = length_more (seen_before seen q) (seen q) ∙ add-one (length (seen_before seen q)) ∙ ap suc (before_length seen q)
 
 module _ (edges : EdgeLaws) (calm : NoEdgeLaws) (setup : NodeSetup) (l : Lengths) (segments : setup.segments ≡ l) (book : ByTheBook l) (levels : ℕ → Level) (node : ℕ → History) (run : IsRun setup levels node) where
   abbrev S : ℕ
@@ -149,7 +136,7 @@ module _ (edges : EdgeLaws) (calm : NoEdgeLaws) (setup : NodeSetup) (l : Lengths
     pub waiting_is : ready_head (unsent_of setup (node next)) (length (node next).seen) ≡ head
     waiting_is =
         ap (λ fs. ready_head (drop (count_by is_sent fs) setup.queue) (length (node next).seen)) last.frames
-        ∙ ap (ready_head (drop (count_by is_sent passed) setup.queue)) (ap length (seen_are setup levels node run next) ∙ before_length sees next)
+        ∙ ap (ready_head (drop (count_by is_sent passed) setup.queue)) (ap length (seen_are setup levels node run next) ∙ seen_length sees next)
 
     head_is : given.head ≡ head
     head_is = ap (λ v. (sampled_next setup (node next) v).head) silent_next ∙ waiting_is

@@ -2,6 +2,7 @@ mod Beginning
 mod Chaining
 mod Driving
 mod Free
+mod Histories
 mod Idle
 mod Lasting
 mod LineGoing
@@ -10,3 +11,4 @@ mod Resuming
 mod Rows
 mod Through
 mod Windows
+mod Winning

@@ -13,17 +13,19 @@ use Rattle.wl_plan.specs.Line.{Line}
 use Rattle.wl_one_sender.specs.Expected.{IsExpected}
 use Rattle.wl_one_sender.specs.Levels.{levels_before}
 use Rattle.wl_any_senders.specs.Expected.{IsOutset, Outset, expected_bits}
-use Rattle.wl_any_senders.specs.Lines.{BeginsAfter, IsLineOf, node_after}
+use Rattle.wl_any_senders.specs.Lines.{BeginsAfter, IsLineOf, RestsBefore, finds_expected, node_after}
 use Rattle.wl_any_senders.specs.Machines.{HasWon}
 use Rattle.wl_any_senders.specs.Nodes.{IsRun}
 use Rattle.wl_any_senders.specs.Stations.{AreStations, HaveRoom, Stations}
-use Rattle.wl_any_senders.proofs.Callers.{finds_driven, run_of, tick_next}
+use Rattle.wl_any_senders.proofs.Callers.{finds_driven, finds_what_comes, run_of, tick_next}
 use Rattle.wl_frame_end.specs.Again.{RestsAgain}
 use Rattle.wl_frame_end.specs.Asked.{EndAsAsked, EndsBefore}
-use Rattle.wl_frame_end.proofs.Callers.{DriveExpected, FindLevels, MachineLaws}
-use Rattle.wl_frames.specs.Frames.{AreFrames, Frame, frame_drove, frames_drove, third_sample}
+use Rattle.wl_frame_end.proofs.Callers.{DriveExpected, FindLevels, MachineLaws, found_was}
+use Rattle.wl_frames.specs.Frames.{FollowOneAnother, Frame, frame_drove, frames_drove, third_sample}
 use Rattle.wl_frames.specs.Lines.{BeginFrames, IsBeforeLast, LineGoes, finds_frames}
 use Rattle.wl_frames.specs.Runs.{GoesThroughOne, HandsBetween, quiet_by}
+use Rattle.wl_frames.proofs.Beginning.{rest_early}
+use Rattle.wl_frames.proofs.Histories.{rests_as}
 use Rattle.wl_frames.proofs.Driving as driving
 use Rattle.wl_frames.proofs.Windows as windows
 use Rattle.wl_frames.proofs.Windows.{IsHeard, NothingFound, RestAfter, any_alone}
@@ -33,14 +35,14 @@ abbrev pub AskedLaw : Type 0
 AskedLaw = (s : Stations) (o : Outset) (end : ℕ) → AreStations s → HaveRoom s → IsOutset s o → EndsBefore s o end → (won : HasWon s (expected_bits s o) o.frames end) → EndAsAsked s o end won.station won.frame
 
 abbrev pub NodeLaw : Type 0
-NodeLaw = (s : Stations) (frames : ℕ → Frame) (count : ℕ) → AreStations s → HaveRoom s → (are : AreFrames s frames count) → (i : ℕ) → i < s.count → (setup : NodeSetup) → setup.segments ≡ s.lengths i
+NodeLaw = (s : Stations) (frames : ℕ → Frame) (count : ℕ) → AreStations s → HaveRoom s → (are : FollowOneAnother s frames count) → (i : ℕ) → i < s.count → (setup : NodeSetup) → setup.segments ≡ s.lengths i
     → (levels : ℕ → Level) (node : ℕ → History) → IsRun setup levels node
     → ((n q : ℕ) → n < count → q ≤ third_sample s (frames n) i → levels q ≡ level_of (driven s.count s.delay (frames_drove s frames count) i (steady_tick (s.clocks i) q)))
     → (rest since : ℕ) → BeginsAfter s (frames 0).outset i rest → RestsAgain s ((frames 0).outset.past i) i levels node rest since → since ≤ rest + sample_at (s.lengths i)
     → HandsBetween s frames count are i setup node → (n : ℕ) (less : n < count) → GoesThroughOne s frames count are i since setup levels node n less
 
 module _ (m : MachineLaws) (nothing : NothingFound) (is_heard : IsHeard) (rest_after : RestAfter) (asked : AskedLaw) (node_law : NodeLaw) (l : Line) (setups : ℕ → NodeSetup) (s : Stations)
-    (line : IsLineOf l setups s) (are : AreStations s) (room : HaveRoom s) (fs : ℕ → Frame) (count : ℕ) (frames : AreFrames s fs count) (some : 0 < count)
+    (line : IsLineOf l setups s) (are : AreStations s) (room : HaveRoom s) (fs : ℕ → Frame) (count : ℕ) (frames : FollowOneAnother s fs count) (some : 0 < count)
     (begin : BeginFrames l setups s fs count frames) where
   abbrev drove : ℕ → ℕ → Bool
   drove = frames_drove s fs count
@@ -57,9 +59,25 @@ module _ (m : MachineLaws) (nothing : NothingFound) (is_heard : IsHeard) (rest_a
   abbrev node : ℕ → ℕ → History
   node i = node_after (setups i) (levels i)
 
+  -- up to its last bit before the first frame it finds what is driven in that
+  same_first : (i q : ℕ) → i < s.count → q ≤ begin.rest i + sample_at (s.lengths i) → levels i q ≡ finds_expected l s (fs 0).outset (fs 0).bits i q
+  same_first i q inside by =
+      let f = frames.each 0 some in
+      let after = rest_early s (fs 0).outset i (begin.rest i) (begin.after i inside) (f.outset.begin i inside) in
+      let end = windows.up m nothing is_heard rest_after s are room fs count frames 0 0 (fs 0).bits i some (omega arith) inside in
+      let third = windows.up m nothing is_heard rest_after s are room fs count frames 0 0 ((fs 0).bits + 12) i some (omega arith) inside in
+      finds_driven l setups s line drove i q inside
+      ∙ ap level_of (windows.alone m nothing is_heard rest_after s are room fs count frames 0 i q some inside (λ j e. absurd (omega (arith, e))) (omega arith)
+      ∙ found_was m s are room (fs 0).outset f.outset (fs 0).bits f.ends.none f.ends.there f.won f.chase f.answer.catch f.answer.room i q inside (omega arith))
+      ∙ sym (finds_what_comes l setups s line (fs 0).outset (fs 0).bits i q inside)
+
+  rests_first : (i : ℕ) → i < s.count → RestsBefore s (fs 0).outset i (levels i) (node i) (begin.rest i)
+  rests_first i inside =
+      rests_as s (fs 0).outset i (setups i) (levels i) (finds_expected l s (fs 0).outset (fs 0).bits i) (begin.rest i) (λ q by. same_first i q inside by) (begin.rests i inside)
+
   goes : (i n : ℕ) (less : n < count) → i < s.count → GoesThroughOne s fs count frames i 0 (setups i) (levels i) (node i) n less
   goes i n less inside =
-      let r = begin.rests i inside in
+      let r = rests_first i inside in
       node_law s fs count are room frames i inside (setups i) (line.segments i (let e = line.nodes in omega arith)) (levels i) (node i) (run_of (setups i) (levels i))
       (λ n q lt by. finds_driven l setups s line drove i q inside) (begin.rest i) 0 (begin.after i inside)
       (record { sampled = r.sampled; clock = r.clock; stretch = r.stretch; counts = r.counts; drive = λ q low high. r.drive q high }) (omega arith) (begin.hands i inside) n less

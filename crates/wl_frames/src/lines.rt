@@ -1,11 +1,17 @@
-//! The law of several frames on a line, proved as the contract of a function that does nothing.
+//! Laws of several frames on a line, each proved as the contract of a function that does nothing.
 
-ghost use Rattle.std.specs.Prelude.{◌<◌, ℕ};
+ghost use Rattle.std.specs.Prelude.{◌≡◌, ◌<◌, ℕ, []};
+ghost use Rattle.wl_bound.specs.Conditions.{IsSound};
+ghost use Rattle.wl_bound.specs.Families.{Bus};
 ghost use Rattle.wl_node.specs.declared.setup.NodeSetup.{NodeSetup};
 ghost use Rattle.wl_plan.specs.Line.{Line};
+ghost use Rattle.wl_plan.specs.PlanLine.{line_of, setup_at};
+ghost use Rattle.wl_plan.specs.declared.plan.Plan.{Plan};
+ghost use Rattle.wl_any_senders.specs.Bounds.{IsBusOf, IsLeftForTwo};
 ghost use Rattle.wl_any_senders.specs.Lines.{IsLineOf};
+ghost use Rattle.wl_any_senders.specs.Plans.{IsPlanOf};
 ghost use Rattle.wl_any_senders.specs.Stations.{AreStations, HaveRoom, Stations};
-ghost use Rattle.wl_frames.specs.Frames.{AreFrames, Frame};
+ghost use Rattle.wl_frames.specs.Frames.{FollowOneAnother, Frame};
 ghost use Rattle.wl_frames.specs.Lines.{BeginFrames, IsBeforeLast, LineGoes};
 
 use crate::laws::stations_rest_after_a_frame;
@@ -16,7 +22,7 @@ use crate::runs::a_node_goes_from_frame_to_frame;
 /// frame the node that has won has sent it, and each other one has received it.
 pub fn a_line_goes_from_frame_to_frame()
     ensures { (l : Line) (setups : ℕ → NodeSetup) (s : Stations) (frames : ℕ → Frame) (count stop : ℕ)
-        → IsLineOf l setups s → AreStations s → HaveRoom s → (are : AreFrames s frames count) → 0 < count
+        → IsLineOf l setups s → AreStations s → HaveRoom s → (are : FollowOneAnother s frames count) → 0 < count
         → BeginFrames l setups s frames count are → IsBeforeLast l s frames count stop
         → LineGoes l setups s frames count are stop }
 {
@@ -32,4 +38,20 @@ pub fn a_line_goes_from_frame_to_frame()
     wl_frame::laws::ten_bits_have_an_edge();
     stations_rest_after_a_frame();
     a_node_goes_from_frame_to_frame();
+}
+
+/// Law: so it is with each checked plan of one rate a clock, by the rules of the book, without disturbances and nodes that only listen. Its
+/// bus meets the condition for margins.
+pub fn a_plan_goes_from_frame_to_frame()
+    ensures { (plan : Plan) (s : Stations) (bus : Bus) (frames : ℕ → Frame) (count stop : ℕ) → IsPlanOf plan s
+        → plan.disturbances ≡ [] → IsBusOf bus s → IsLeftForTwo bus s → IsSound bus
+        → (are : FollowOneAnother s frames count) → 0 < count
+        → BeginFrames (line_of plan) (setup_at plan) s frames count are
+        → IsBeforeLast (line_of plan) s frames count stop
+        → LineGoes (line_of plan) (setup_at plan) s frames count are stop }
+{
+    wl_plan::checked_is_sound();
+    wl_any_senders::laws::a_plan_is_on_a_line();
+    wl_any_senders::laws::a_sound_bus_has_room();
+    a_line_goes_from_frame_to_frame();
 }

@@ -12,16 +12,16 @@ ghost use Rattle.wl_any_senders.specs.Lines.{BeginsAfter};
 ghost use Rattle.wl_any_senders.specs.Nodes.{IsRun};
 ghost use Rattle.wl_any_senders.specs.Stations.{AreStations, HaveRoom, Stations};
 ghost use Rattle.wl_frame_end.specs.Again.{RestsAgain};
-ghost use Rattle.wl_frames.specs.Frames.{AreFrames, Frame, frame_drove, frames_drove, third_sample};
+ghost use Rattle.wl_frames.specs.Frames.{FollowOneAnother, Frame, frame_drove, frames_drove, third_sample};
 ghost use Rattle.wl_frames.specs.Runs.{GoesThroughOne, HandsBetween};
 
 use crate::laws::stations_rest_after_a_frame;
 use crate::nodes::{a_node_goes_through_the_next_frame, a_node_waits_for_the_next_frame};
 
-/// Law: of several frames that follow one another a station finds one at a time. From its third bit of the intermission of one up to that
-/// of the next, what all drive in all frames reaches it as what they drive in that frame alone.
+/// Law: of several frames that follow one another a station finds one at a time. That is from its third bit of the intermission of one up to
+/// that of the next. What reaches it then is what all drive in that frame alone.
 pub fn each_frame_is_found_alone()
-    ensures { (s : Stations) (frames : ℕ → Frame) (count : ℕ) → AreStations s → HaveRoom s → AreFrames s frames count
+    ensures { (s : Stations) (frames : ℕ → Frame) (count : ℕ) → AreStations s → HaveRoom s → FollowOneAnother s frames count
         → (n i q : ℕ) → n < count → i < s.count → ((j : ℕ) → suc j ≡ n → third_sample s (frames j) i < q)
         → q ≤ third_sample s (frames n) i
         → driven s.count s.delay (frames_drove s frames count) i (steady_tick (s.clocks i) q)
@@ -38,12 +38,12 @@ pub fn each_frame_is_found_alone()
     stations_rest_after_a_frame();
 }
 
-/// Law: so a node that rests before the first of these frames goes through all of them as is expected, one after another, if it finds what
-/// all drive in all frames. Between two frames it is handed its next frame as that is ready. Of each frame it samples every bit as it is on
-/// the bus, and finds no error. It sends the frame if it has won with it, and else receives it, and then it rests again.
+/// Law: so a node that rests before the first of these frames goes through all of them as is expected, one after another. It has to find what
+/// all drive in all frames. Between two frames it is handed its next frame as that is ready. It samples each bit as it is on the bus, and
+/// finds no error. It sends the frame if it has won with it, and else receives it, and then it rests again.
 pub fn a_node_goes_from_frame_to_frame()
     ensures { (s : Stations) (frames : ℕ → Frame) (count : ℕ) → AreStations s → HaveRoom s
-        → (are : AreFrames s frames count) → (i : ℕ) → i < s.count → (setup : NodeSetup) → setup.segments ≡ s.lengths i
+        → (are : FollowOneAnother s frames count) → (i : ℕ) → i < s.count → (setup : NodeSetup) → setup.segments ≡ s.lengths i
         → (levels : ℕ → Level) (node : ℕ → History) → IsRun setup levels node
         → ((n q : ℕ) → n < count → q ≤ third_sample s (frames n) i
         → levels q ≡ level_of (driven s.count s.delay (frames_drove s frames count) i (steady_tick (s.clocks i) q)))

@@ -1,0 +1,50 @@
+//! Laws of the frames that stations begin, each proved as the contract of a function that does nothing.
+
+ghost use Rattle.std.specs.Prelude.{ℕ};
+ghost use Rattle.wl_any_senders.specs.Expected.{IsOutset, Outset, expected_bits};
+ghost use Rattle.wl_any_senders.specs.Machines.{HasWon};
+ghost use Rattle.wl_any_senders.specs.Stations.{AreStations, HaveRoom, Stations};
+ghost use Rattle.wl_frame_end.specs.Asked.{EndsBefore};
+ghost use Rattle.wl_frames.specs.Frames.{ComesNext, Frame, HasRoomForAll, IsBegun};
+ghost use Rattle.wl_frames.specs.NextStarts.{HaveMore};
+
+use crate::laws::{resting_stations_begin_the_next_frame, stations_rest_after_a_frame};
+
+/// Law: one station has won each frame that stations begin, whoever begins it, by the end of its CRC sequence.
+pub fn one_station_wins()
+    ensures { (s : Stations) (o : Outset) (end : ℕ) → AreStations s → HaveRoom s → IsOutset s o → EndsBefore s o end
+        → HasWon s (expected_bits s o) o.frames end }
+{
+    wl_topology::driven_laws();
+    wl_any_senders::laws::one_frame_is_left();
+    wl_any_senders::laws::what_is_expected_is_a_course();
+    wl_any_senders::laws::all_sample_the_same_bits();
+    wl_wire::laws::machines_stay_in_step();
+    wl_wire::laws::the_least_field_wins();
+    wl_machine::laws::a_transmitter_sends_its_head_stuffed();
+    wl_frame::laws::a_front_of_no_stuffing_ends_six_equal_bits();
+    wl_frame::laws::ten_bits_have_an_edge();
+}
+
+/// Law: so each frame that stations begin has so many bits and a winner, and can be acknowledged, if there is room for that whoever wins.
+/// Another frame follows it, if some station has one left, whenever each decides to send.
+pub fn another_frame_follows()
+    ensures first { (s : Stations) (o : Outset) (chase : ℕ → ℕ) → AreStations s → HaveRoom s → HasRoomForAll s chase
+        → IsOutset s o → (bits : ℕ) × IsBegun s (record { outset = o; bits = bits }) }
+    ensures next { (s : Stations) (a : Frame) (chase sent decides : ℕ → ℕ) → AreStations s → HaveRoom s
+        → HasRoomForAll s chase → IsBegun s a → HaveMore s a.outset.frames sent
+        → (b : Frame) × IsBegun s b × ComesNext s a b }
+{
+    wl_topology::driven_laws();
+    wl_any_senders::laws::one_frame_is_left();
+    wl_any_senders::laws::what_is_expected_is_a_course();
+    wl_any_senders::laws::all_sample_the_same_bits();
+    wl_any_senders::ending::the_stuffed_part_ends();
+    wl_wire::laws::machines_stay_in_step();
+    wl_wire::laws::the_least_field_wins();
+    wl_machine::laws::a_transmitter_sends_its_head_stuffed();
+    wl_frame::laws::a_front_of_no_stuffing_ends_six_equal_bits();
+    wl_frame::laws::ten_bits_have_an_edge();
+    resting_stations_begin_the_next_frame();
+    stations_rest_after_a_frame();
+}
