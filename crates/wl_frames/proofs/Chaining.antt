@@ -26,7 +26,7 @@ use Rattle.wl_frame_end.specs.Again.{RestsAgain, past_end}
 use Rattle.wl_frame_end.specs.Asked.{CanBeAnswered, EndsBefore}
 use Rattle.wl_frame_end.specs.Rests.{NodeEnds, waiting_frame}
 use Rattle.wl_frame_end.proofs.Callers.{MachineLaws, over_is}
-use Rattle.wl_frames.specs.Frames.{FollowOneAnother, ComesNext, Frame, IsBegun, frame_drove, frames_drove, resting_of, third_sample}
+use Rattle.wl_frames.specs.Frames.{FollowOneAnother, IsBegunAfter, Frame, IsBegun, frame_drove, frames_drove, resting_of, third_sample}
 use Rattle.wl_frames.specs.NextNodes.{GoesThrough, HandsNext, head_after}
 use Rattle.wl_frames.specs.NextStarts.{AreFreeNext, AreResting, Resting, has_next, outset_next, rest_next, rested, start_next}
 use Rattle.wl_frames.specs.Runs.{GoesThroughOne, HandsBetween, quiet_by}
@@ -107,7 +107,7 @@ module _ (m : MachineLaws) (nothing : NothingFound) (is_heard : IsHeard) (rest_a
     abbrev f : IsBegun s (fs n)
     f = frames.each n (omega arith)
 
-    abbrev next : ComesNext s (fs n) (fs (suc n))
+    abbrev next : IsBegunAfter s (fs n) (fs (suc n))
     next = frames.next n less
 
     abbrev r : Resting

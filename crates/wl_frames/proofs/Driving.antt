@@ -2,6 +2,7 @@
 use Rattle.std.proofs.Common.{◌≡◌, ◌≢◌, ◌∙◌, inl, inr, sym, ap, ℕ, zero, suc, ◌+◌, ◌-◌, ◌<◌, ◌≤◌, ◌&&◌, not, refl, Bool, true, false, Some, None, arith}
 use Rattle.std.specs.Prelude.{◌==◌, nat_le, nat_lt}
 use Rattle.std.proofs.lemmas.Bool.{and_right, cases_eq, cases_lt, le-leb, le-ltb, lt-leb, lt-ltb, ne_eqb}
+use Rattle.std.proofs.Math.Bool.{and-true}
 use Rattle.wl_level.specs.declared.Level.{Level}
 use Rattle.wl_level.specs.Levels.{is_dominant, level_of}
 use Rattle.wl_topology.proofs.Callers.{any_none}
@@ -19,10 +20,6 @@ use Rattle.wl_frame_end.specs.Asked.{EndAsAsked}
 use Rattle.wl_frame_end.proofs.Callers.{MachineLaws, begins_after, samples_up}
 use Rattle.wl_frames.specs.NextNodes.{GoesThrough}
 use Rattle.wl_frames.proofs.Windows.{any_alone}
-
-and_true : (b : Bool) → (b && true) ≡ b
-and_true true = refl
-and_true false = refl
 
 module _ (m : MachineLaws) (s : Stations) (are : AreStations s) (room : HaveRoom s) (o : Outset) (is : IsOutset s o) (end : ℕ)
     (valid : (n : ℕ) → n < end → stuffed_end (bus_levels s (expected_bits s o) n) ≡ None)
@@ -117,7 +114,7 @@ module _ (m : MachineLaws) (s : Stations) (are : AreStations s) (room : HaveRoom
         | inl third ↦ third_term t b third ∙ sym (ap (λ n. wants s o n i) third ∙ last_none 12 (omega arith) (omega arith))
         | inr other ↦
             ap (λ c. wants s o b i && (c && nat_lt t (tick (from (suc b))))) (le-leb (tick (from b)) t low)
-            ∙ ap (λ c. wants s o b i && c) (lt-ltb t (tick (from (suc b))) (high (omega (arith, other, small)))) ∙ and_true (wants s o b i)
+            ∙ ap (λ c. wants s o b i && c) (lt-ltb t (tick (from (suc b))) (high (omega (arith, other, small)))) ∙ and-true (wants s o b i)
       ]
 
   -- which bit a quantum is in

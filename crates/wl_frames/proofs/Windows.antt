@@ -18,7 +18,7 @@ use Rattle.wl_first_frame.specs.FirstStarts.{hard_from}
 use Rattle.wl_first_frame.proofs.Callers as reaching
 use Rattle.wl_frame_end.specs.Asked.{CanBeAnswered, EndsBefore}
 use Rattle.wl_frame_end.proofs.Callers.{MachineLaws, found_was, over_is, samples_up}
-use Rattle.wl_frames.specs.Frames.{FollowOneAnother, ComesNext, Frame, IsBegun, frame_drove, frames_drove, resting_of, third_sample}
+use Rattle.wl_frames.specs.Frames.{FollowOneAnother, IsBegunAfter, Frame, IsBegun, frame_drove, frames_drove, resting_of, third_sample}
 use Rattle.wl_frames.specs.NextStarts.{AreResting, Resting, due_next, edge_next, has_next, is_reached_next, outset_next, rest_next, rested, start_next}
 use Rattle.wl_frames.proofs.Beginning.{rest_early}
 use Rattle.wl_frames.proofs.Lasting.{after_next, last_at, silence_of, silent_of}
@@ -36,7 +36,7 @@ IsHeard = (s : Stations) (o : Outset) (end : ℕ) (chase until : ℕ → ℕ) �
     → IsAcknowledgedByAll s (chased_way s won.station chase) (expected_bits s o end).place (expected_bits s o (suc end)) (expected_bits s o (suc (suc end))).from (expected_drove s o (end + 13)) until
 
 abbrev pub RestAfter : Type 0
-RestAfter = (s : Stations) (a b : Frame) → AreStations s → HaveRoom s → IsBegun s a → (next : ComesNext s a b) → AreResting (resting_of s a b next)
+RestAfter = (s : Stations) (a b : Frame) → AreStations s → HaveRoom s → IsBegun s a → (next : IsBegunAfter s a b) → AreResting (resting_of s a b next)
 
 -- one of some alone
 pub any_alone : (count n : ℕ) (p : ℕ → Bool) → n < count → ((g : ℕ) → g < count → g ≢ n → p g ≡ false) → any_below count p ≡ p n
@@ -87,7 +87,7 @@ module _ (m : MachineLaws) (nothing : NothingFound) (is_heard : IsHeard) (rest_a
 
   -- before a frame neither
   module _ (n : ℕ) (less : suc n < count) (i : ℕ) (inside : i < s.count) where
-    abbrev next : ComesNext s (fs n) (fs (suc n))
+    abbrev next : IsBegunAfter s (fs n) (fs (suc n))
     next = frames.next n less
 
     abbrev r : Resting

@@ -21,7 +21,7 @@ use Rattle.wl_any_senders.proofs.Callers.{drives_are}
 use Rattle.wl_frame_end.specs.Again.{HasRoomToRest}
 use Rattle.wl_frame_end.specs.Asked.{CanBeAnswered, EndsBefore}
 use Rattle.wl_frame_end.proofs.Callers.{MachineLaws}
-use Rattle.wl_frames.specs.Frames.{ComesNext, Frame, HasRoomForAll, IsBegun}
+use Rattle.wl_frames.specs.Frames.{IsBegunAfter, Frame, HasRoomForAll, IsBegun}
 use Rattle.wl_frames.specs.NextStarts.{AreFreeNext, AreResting, HaveMore, Resting, outset_next, resting_after}
 
 -- the laws that this rests on
@@ -44,18 +44,15 @@ winner m left course same s o end are room is ends =
     right : (n : ℕ) → n < end → (i : ℕ) → i < s.count → IsRight s (expected_bits s o n) (expected_drove s o end) i
     right n less i inside = (same s (expected_bits s o) (expected_drove s o end) end (λ k. expected_end s o end) are room (course s o end are room is ends.none) n less).right i inside
 
-    drives : (n k : ℕ) → (expected_bits s o n).drives k ≡ wants s o n k
-    drives n k = drives_are m.steps m.errors m.winner m.stuffed m.six m.ten s are room o is n k
-
     machines : AreMachines s (expected_bits s o) (expected_drove s o end) o.frames (past_at s o) end
     machines = record {
       earlier = is.earlier;
       handed = o.handed;
       reached = is.reached;
       begin = is.may;
-      drives = λ n k less lt. drives n k;
+      drives = λ n k less lt. drives_are m.steps m.errors m.winner m.stuffed m.six m.ten s are room o is n k;
       samples = λ n k less lt. ap (λ b. past_at s o n k ++ Sample (sampled (level_of b) (o.frames k) (o.handed n k)) ∷ [])
-          (any_same s.count (wants s o n) (expected_bits s o n).drives (λ j inside. sym (drives n j)) ∙ sym (right n less k lt));
+          (any_same s.count (wants s o n) (expected_bits s o n).drives (λ j inside. sym (drives_are m.steps m.errors m.winner m.stuffed m.six m.ten s are room o is n j)) ∙ sym (right n less k lt));
     }
 
 -- the winner has begun the frame
@@ -86,7 +83,7 @@ pub another : MachineLaws → OneLeft → CourseLaw → SameBits → PartEnds �
     → ((s : Stations) (a : Frame) (sent decides : ℕ → ℕ) → AreStations s → HaveRoom s → IsBegun s a → HaveMore s a.outset.frames sent → AreResting (resting_after s a.outset a.bits sent decides))
     → ((s : Stations) (a : Frame) → AreStations s → HaveRoom s → IsBegun s a → AreFreeNext s.count a.outset.frames (past_at s a.outset (a.bits + 12)))
     → (s : Stations) (a : Frame) (chase sent decides : ℕ → ℕ) → AreStations s → HaveRoom s → HasRoomForAll s chase → IsBegun s a → HaveMore s a.outset.frames sent
-    → (b : Frame) × IsBegun s b × ComesNext s a b
+    → (b : Frame) × IsBegun s b × IsBegunAfter s a b
 another m left course same part begins rest free s a chase sent decides are room enough is more =
     let o : Outset = outset_next (resting_after s a.outset a.bits sent decides) (past_at s a.outset (a.bits + 12)) in
     let out = begins (resting_after s a.outset a.bits sent decides) (past_at s a.outset (a.bits + 12)) are.line (rest s a sent decides are room is more) (free s a are room is) in

@@ -25,7 +25,7 @@ pub record IsBegun (s : Stations) (f : Frame) : Type 0 where
   pub room : HasRoomToRest s (chased_way s won.station chase)
 
 -- Frame b is begun next after frame a, by stations that rest with the third bit of its intermission: how many frames each has sent, and with which later bit it decides to send.
-pub record ComesNext (s : Stations) (a b : Frame) : Type 0 where
+pub record IsBegunAfter (s : Stations) (a b : Frame) : Type 0 where
   pub sent : ℕ → ℕ
   pub decides : ℕ → ℕ
   pub more : HaveMore s a.outset.frames sent
@@ -33,10 +33,10 @@ pub record ComesNext (s : Stations) (a b : Frame) : Type 0 where
 
 pub record FollowOneAnother (s : Stations) (frames : ℕ → Frame) (count : ℕ) : Type 0 where
   pub each : (n : ℕ) → n < count → IsBegun s (frames n)
-  pub next : (n : ℕ) → suc n < count → ComesNext s (frames n) (frames (suc n))
+  pub next : (n : ℕ) → suc n < count → IsBegunAfter s (frames n) (frames (suc n))
 
 -- the stations between two frames
-abbrev pub resting_of : (s : Stations) (a b : Frame) → ComesNext s a b → Resting
+abbrev pub resting_of : (s : Stations) (a b : Frame) → IsBegunAfter s a b → Resting
 resting_of s a b next = resting_after s a.outset a.bits next.sent next.decides
 
 -- the quantum by which station i samples the third bit of the intermission

@@ -5,7 +5,7 @@ ghost use Rattle.wl_any_senders.specs.Expected.{IsOutset, Outset, expected_bits}
 ghost use Rattle.wl_any_senders.specs.Machines.{HasWon};
 ghost use Rattle.wl_any_senders.specs.Stations.{AreStations, HaveRoom, Stations};
 ghost use Rattle.wl_frame_end.specs.Asked.{EndsBefore};
-ghost use Rattle.wl_frames.specs.Frames.{ComesNext, Frame, HasRoomForAll, IsBegun};
+ghost use Rattle.wl_frames.specs.Frames.{IsBegunAfter, Frame, HasRoomForAll, IsBegun};
 ghost use Rattle.wl_frames.specs.NextStarts.{HaveMore};
 
 use crate::laws::{resting_stations_begin_the_next_frame, stations_rest_after_a_frame};
@@ -26,14 +26,14 @@ pub fn one_station_wins()
     wl_frame::laws::ten_bits_have_an_edge();
 }
 
-/// Law: so each frame that stations begin has so many bits and a winner, and can be acknowledged, if there is room for that whoever wins.
-/// Another frame follows it, if some station has one left, whenever each decides to send.
+/// Law: so each frame that stations begin has a number of bits and a winner, and can be acknowledged, if there is room for that whoever
+/// wins. Another frame follows it, if some station has one left, whenever each decides to send.
 pub fn another_frame_follows()
     ensures first { (s : Stations) (o : Outset) (chase : ℕ → ℕ) → AreStations s → HaveRoom s → HasRoomForAll s chase
         → IsOutset s o → (bits : ℕ) × IsBegun s (record { outset = o; bits = bits }) }
     ensures next { (s : Stations) (a : Frame) (chase sent decides : ℕ → ℕ) → AreStations s → HaveRoom s
         → HasRoomForAll s chase → IsBegun s a → HaveMore s a.outset.frames sent
-        → (b : Frame) × IsBegun s b × ComesNext s a b }
+        → (b : Frame) × IsBegun s b × IsBegunAfter s a b }
 {
     wl_topology::driven_laws();
     wl_any_senders::laws::one_frame_is_left();

@@ -21,8 +21,8 @@ use crate::nodes::{a_node_goes_through_the_next_frame, a_node_waits_for_the_next
 /// Law: of several frames that follow one another a station finds one at a time. That is from its third bit of the intermission of one up to
 /// that of the next. What reaches it then is what all drive in that frame alone.
 pub fn each_frame_is_found_alone()
-    ensures { (s : Stations) (frames : ℕ → Frame) (count : ℕ) → AreStations s → HaveRoom s → FollowOneAnother s frames count
-        → (n i q : ℕ) → n < count → i < s.count → ((j : ℕ) → suc j ≡ n → third_sample s (frames j) i < q)
+    ensures { (s : Stations) (frames : ℕ → Frame) (count : ℕ) → AreStations s → HaveRoom s
+        → FollowOneAnother s frames count → (n i q : ℕ) → n < count → i < s.count → ((j : ℕ) → suc j ≡ n → third_sample s (frames j) i < q)
         → q ≤ third_sample s (frames n) i
         → driven s.count s.delay (frames_drove s frames count) i (steady_tick (s.clocks i) q)
         ≡ driven s.count s.delay (frame_drove s (frames n)) i (steady_tick (s.clocks i) q) }
