@@ -7,6 +7,7 @@ mod Idle
 mod Lasting
 mod LineGoing
 mod Outset
+mod PoweredUp
 mod Resuming
 mod Rows
 mod Through

@@ -1,9 +1,13 @@
 //! Laws of the frames that stations begin, each proved as the contract of a function that does nothing.
 
 ghost use Rattle.std.specs.Prelude.{ℕ};
+ghost use Rattle.wl_bound.specs.Families.{Bus};
+ghost use Rattle.wl_any_senders.specs.Answers.{HasRoomToAnswer};
+ghost use Rattle.wl_any_senders.specs.Bounds.{IsBusOf};
 ghost use Rattle.wl_any_senders.specs.Expected.{IsOutset, Outset, expected_bits};
 ghost use Rattle.wl_any_senders.specs.Machines.{HasWon};
-ghost use Rattle.wl_any_senders.specs.Stations.{AreStations, HaveRoom, Stations};
+ghost use Rattle.wl_any_senders.specs.Stations.{AreOnALine, AreStations, HaveRoom, Stations};
+ghost use Rattle.wl_frame_end.specs.Again.{LeavesRoomToRest};
 ghost use Rattle.wl_frame_end.specs.Asked.{EndsBefore};
 ghost use Rattle.wl_frames.specs.Frames.{IsBegunAfter, Frame, HasRoomForAll, IsBegun};
 ghost use Rattle.wl_frames.specs.NextStarts.{HaveMore};
@@ -47,4 +51,14 @@ pub fn another_frame_follows()
     wl_frame::laws::ten_bits_have_an_edge();
     resting_stations_begin_the_next_frame();
     stations_rest_after_a_frame();
+}
+
+/// Law: a bus has that room whoever wins if it meets the inequalities for acknowledgements and for rest, wherever within its tolerance each
+/// clock lies.
+pub fn a_bus_has_room_for_all()
+    ensures { (bus : Bus) (s : Stations) (chase : ℕ → ℕ) → AreOnALine s → IsBusOf bus s → HasRoomToAnswer bus chase
+        → LeavesRoomToRest bus chase → HasRoomForAll s chase }
+{
+    wl_any_senders::ack::a_bus_has_room_to_answer();
+    wl_frame_end::laws::a_bus_has_room_to_rest();
 }

@@ -8,11 +8,13 @@ ghost use Rattle.wl_plan.specs.Line.{Line};
 ghost use Rattle.wl_plan.specs.PlanLine.{line_of, setup_at};
 ghost use Rattle.wl_plan.specs.declared.plan.Plan.{Plan};
 ghost use Rattle.wl_any_senders.specs.Bounds.{IsBusOf, IsLeftForTwo};
-ghost use Rattle.wl_any_senders.specs.Lines.{IsLineOf};
+ghost use Rattle.wl_any_senders.specs.Lines.{IsLineOf, node_after};
 ghost use Rattle.wl_any_senders.specs.Plans.{IsPlanOf};
 ghost use Rattle.wl_any_senders.specs.Stations.{AreStations, HaveRoom, Stations};
+ghost use Rattle.wl_first_frame.specs.FirstFrames.{HasFirstFrames, outset_of};
 ghost use Rattle.wl_frames.specs.Frames.{FollowOneAnother, Frame};
-ghost use Rattle.wl_frames.specs.Lines.{BeginFrames, IsBeforeLast, LineGoes};
+ghost use Rattle.wl_frames.specs.Lines.{BeginFrames, IsBeforeLast, LineGoes, finds_frames};
+ghost use Rattle.wl_frames.specs.Runs.{HandsBetween};
 
 use crate::laws::stations_rest_after_a_frame;
 use crate::runs::a_node_goes_from_frame_to_frame;
@@ -41,17 +43,27 @@ pub fn a_line_goes_from_frame_to_frame()
 }
 
 /// Law: so it is with each checked plan of one rate a clock, by the rules of the book, without disturbances and nodes that only listen. Its
-/// bus meets the condition for margins.
+/// bus meets the condition for margins. The first of the frames may be the plan's first one, from the power-up of all nodes on.
 pub fn a_plan_goes_from_frame_to_frame()
-    ensures { (plan : Plan) (s : Stations) (bus : Bus) (frames : ℕ → Frame) (count stop : ℕ) → IsPlanOf plan s
+    ensures goes { (plan : Plan) (s : Stations) (bus : Bus) (frames : ℕ → Frame) (count stop : ℕ) → IsPlanOf plan s
         → plan.disturbances ≡ [] → IsBusOf bus s → IsLeftForTwo bus s → IsSound bus
         → (are : FollowOneAnother s frames count) → 0 < count
         → BeginFrames (line_of plan) (setup_at plan) s frames count are
+        → IsBeforeLast (line_of plan) s frames count stop
+        → LineGoes (line_of plan) (setup_at plan) s frames count are stop }
+    ensures power_up { (plan : Plan) (s : Stations) (bus : Bus) (frames : ℕ → Frame) (count stop : ℕ) → IsPlanOf plan s
+        → plan.disturbances ≡ [] → IsBusOf bus s → IsLeftForTwo bus s → IsSound bus → HasFirstFrames plan s
+        → (are : FollowOneAnother s frames count) → 0 < count → (frames 0).outset ≡ outset_of plan s
+        → ((i : ℕ) → i < s.count → HandsBetween s frames count are i (setup_at plan i)
+        (node_after (setup_at plan i) (finds_frames (line_of plan) s frames count i)))
         → IsBeforeLast (line_of plan) s frames count stop
         → LineGoes (line_of plan) (setup_at plan) s frames count are stop }
 {
     wl_plan::checked_is_sound();
     wl_any_senders::laws::a_plan_is_on_a_line();
     wl_any_senders::laws::a_sound_bus_has_room();
+    wl_first_frame::laws::idle_stations_begin_a_first_frame();
+    wl_first_frame::laws::nodes_rest_before_a_first_frame();
+    wl_first_frame::laws::a_plan_has_a_first_frame();
     a_line_goes_from_frame_to_frame();
 }
