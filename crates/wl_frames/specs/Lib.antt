@@ -3,3 +3,4 @@ pub mod NextNodes
 pub mod Frames
 pub mod Runs
 pub mod Lines
+pub mod Queues

@@ -7,4 +7,5 @@ pub mod begun;
 pub mod laws;
 pub mod lines;
 pub mod nodes;
+pub mod queues;
 pub mod runs;
