@@ -46,7 +46,7 @@ ready_then : (q : List Queued) (k : ℕ) → nat_lt 0 (length (first_content q))
 ready_then [] k e less = cc
 ready_then (x ∷ more) k e less = ap (λ c. cond c (Some x.frame) None) (le-leb x.ready k less)
 
-unready_then : (q : List Queued) (k : ℕ) → k < first_ready q → ready_head q k ≡ None
+pub unready_then : (q : List Queued) (k : ℕ) → k < first_ready q → ready_head q k ≡ None
 unready_then [] k less = refl
 unready_then (x ∷ more) k less = ap (λ c. cond c (Some x.frame) None) (lt-leb x.ready k less)
 

@@ -2,7 +2,7 @@
 use Rattle.std.proofs.Common.{◌≡◌, ◌∙◌, refl, sym, ap, subst, ℕ, zero, suc, ◌+◌, ◌-◌, ◌*◌, ◌<◌, ◌≤◌, cond, Bool, true, false, List, [], ◌∷◌, length, Some, None, arith}
 use Rattle.std.specs.Prelude.{drop, nat_lt, slice_get}
 use Rattle.std.specs.Int.{div_ceil}
-use Rattle.std.proofs.lemmas.Bool.{le-leb, lt-leb, ltb-false, ltb-true}
+use Rattle.std.proofs.lemmas.Bool.{le-leb, ltb-false, ltb-true}
 use Rattle.std.proofs.lemmas.Grind.{div_ceil_times}
 use Rattle.std.proofs.Math.Nat.{mul-le-mul_right}
 use Rattle.wl_segments.specs.Lengths.{bit_quanta, sample_at}
@@ -15,7 +15,7 @@ use Rattle.wl_node.specs.declared.setup.NodeSetup.{NodeSetup}
 use Rattle.wl_any_senders.specs.Stations.{Stations}
 use Rattle.wl_any_senders.specs.Nodes.{IsRun, clock_sees}
 use Rattle.wl_any_senders.proofs.Callers.{seen_are}
-use Rattle.wl_first_frame.proofs.Callers.{seen_length}
+use Rattle.wl_first_frame.proofs.Callers.{seen_length, unready_then}
 use Rattle.wl_frame_end.specs.Rests.{waiting_frame}
 use Rattle.wl_frames.specs.Frames.{FollowOneAnother, Frame, resting_of, third_sample}
 use Rattle.wl_frames.specs.Runs.{HandsBetween}
@@ -44,10 +44,6 @@ some_left : (queue : List Queued) (n : ℕ) → n < length queue → Left queue 
 some_left [] n less = absurd (omega arith)
 some_left (q ∷ more) zero less = record { first = q; later = more; is = refl; content = refl }
 some_left (q ∷ more) (suc n) less = (let x = some_left more n (omega arith) in record { first = x.first; later = x.later; is = x.is; content = x.content })
-
-none_ready : (unsent : List Queued) (k : ℕ) → k < first_ready unsent → ready_head unsent k ≡ None
-none_ready [] k less = refl
-none_ready (q ∷ more) k less = ap (λ c. cond c (Some q.frame) None) (lt-leb q.ready k less)
 
 module _ (r : Resting) (i : ℕ) (queue : List Queued) (by : DecidesByQueue r i queue) (some : 0 < bit_quanta (r.stations.lengths i)) where
   decides : r.decides i ≡ decides_after (r.stations.lengths i) (r.place i) (first_ready (drop (r.sent i) queue))
@@ -108,7 +104,7 @@ module _ (r : Resting) (i : ℕ) (queue : List Queued) (by : DecidesByQueue r i 
   pub queue_hands : HandsNext r i (ready_head unsent (rested r i)) unsent
   queue_hands = record {
     none = nothing;
-    unready = λ n less. head_is n ∙ none_ready unsent (r.place i + n * B + S) (before n less);
+    unready = λ n less. head_is n ∙ unready_then unsent (r.place i + n * B + S) (before n less);
     ready = next;
   }
 

@@ -13,6 +13,7 @@ use Rattle.wl_any_senders.specs.Stations.{Stations}
 use Rattle.wl_any_senders.specs.Machines.{no_frame_sample}
 use Rattle.wl_frames.specs.NextStarts.{Resting, begins_next, decision_next, due_next, edge_next, has_next, last_next, rest_next, rested, start_next, waiting_past}
 use Rattle.wl_frames.specs.NextNodes.{head_after}
+use Rattle.wl_frames.specs.Queues.{contents_of, decides_after}
 
 -- a bit of 1 + 3 + 3 + 3 quanta with its sample at place 7
 abbrev l : Lengths
@@ -124,3 +125,19 @@ ready_between = refl
 
 not_ready : head_after (after 1) 0 None (record { frame = c; ready = 118 } ∷ []) 1 ≡ None
 not_ready = refl
+
+-- With a frame that is ready by quantum 107 a node decides with its third bit of the intermission, with one of quantum 108 a bit later, and with one of quantum 118 two bits later.
+decides_third : decides_after l 100 107 ≡ 0
+decides_third = refl
+
+decides_later : decides_after l 100 108 ≡ 1
+decides_later = refl
+
+decides_last : decides_after l 100 118 ≡ 2
+decides_last = refl
+
+long_ago : decides_after l 100 3 ≡ 0
+long_ago = refl
+
+queued : contents_of (record { frame = c; ready = 3 } ∷ record { frame = c; ready = 1 } ∷ []) ≡ c ∷ c ∷ []
+queued = refl

@@ -15,7 +15,7 @@ ghost use Rattle.wl_frames.specs.Queues.{DecidesByQueue, SendsByQueue};
 ghost use Rattle.wl_frames.specs.Runs.{HandsBetween};
 
 /// Law: a queue hands its next frame to a node that rests with the sample by which the frame is ready, and none before. So each queue hands
-/// its frames between those on the bus, if the node has sent as many as are counted.
+/// its frames between those on the bus, if the node has sent the number that is counted.
 pub fn a_queue_hands_its_next_frame()
     ensures next { (r : Resting) (i : ℕ) (queue : List Queued) → DecidesByQueue r i queue
         → 0 < bit_quanta (r.stations.lengths i)
