@@ -56,6 +56,14 @@ impl CheckedPlan {
         }
     }
 
+    /// Returns a plan that is known to pass its check as a checked one. It takes no time.
+    pub fn of(plan: Plan) -> CheckedPlan
+        requires { IsChecked plan }
+        ensures { result ≡ plan }
+    {
+        CheckedPlan { plan }
+    }
+
     /// Returns the number of nodes: 1 to 16.
     pub fn nodes(&self) -> u8
         ensures value { result ≡ length self.now.nodes }
