@@ -1,6 +1,7 @@
 //! The law of the first frame of a plan, proved as the contract of a function that does nothing.
 
-ghost use Rattle.std.specs.Prelude.{◌≡◌, ℕ, []};
+ghost use Rattle.std.specs.Prelude.{◌≡◌, ℕ, List, []};
+ghost use Rattle.wl_frame.specs.Grammar.{Content};
 ghost use Rattle.wl_plan.specs.declared.plan.Plan.{Plan};
 ghost use Rattle.wl_bound.specs.Conditions.{IsSound};
 ghost use Rattle.wl_bound.specs.Families.{Bus};
@@ -18,9 +19,9 @@ use crate::laws::a_plan_goes_to_the_end;
 /// for acknowledgements. Some nodes have frames, and each has sampled eleven bits before another one's start of frame reaches it. Then the
 /// least of the frames that are begun is sent and received by all others, and nobody finds an error, up to the third bit of the intermission.
 pub fn the_first_frame_gets_through()
-    ensures { (plan : Plan) (s : Stations) (bus : Bus) (chase : ℕ → ℕ) → IsPlanOf plan s → plan.disturbances ≡ []
-        → IsBusOf bus s → IsLeftForTwo bus s → IsSound bus → HasRoomToAnswer bus chase → HasFirstFrames plan s
-        → FirstGetsThrough plan s }
+    ensures { (plan : Plan) (queues : ℕ → List Content) (s : Stations) (bus : Bus) (chase : ℕ → ℕ) → IsPlanOf plan s
+        → plan.disturbances ≡ [] → IsBusOf bus s → IsLeftForTwo bus s → IsSound bus → HasRoomToAnswer bus chase
+        → HasFirstFrames plan queues s → FirstGetsThrough plan queues s }
 {
     wl_plan::checked_is_sound();
     wl_any_senders::laws::a_plan_is_on_a_line();

@@ -4,3 +4,4 @@ pub mod Frames
 pub mod Runs
 pub mod Lines
 pub mod Queues
+pub mod Silence

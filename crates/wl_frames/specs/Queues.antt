@@ -1,20 +1,14 @@
 -- What the queue of a node hands it between two frames.
-use Rattle.std.specs.Prelude.{◌≡◌, ℕ, suc, ◌+◌, ◌-◌, ◌<◌, List, [], ◌∷◌, count_by, drop}
+use Rattle.std.specs.Prelude.{◌≡◌, ℕ, suc, ◌+◌, ◌-◌, ◌<◌, List, count_by, drop}
 use Rattle.std.specs.Int.{div_ceil}
 use Rattle.wl_segments.specs.Lengths.{Lengths, bit_quanta, sample_at}
-use Rattle.wl_frame.specs.Grammar.{Content}
 use Rattle.wl_node.specs.declared.setup.NodeSetup.{NodeSetup}
 use Rattle.wl_node.specs.declared.setup.Queued.{Queued}
 use Rattle.wl_node.specs.History.{History, is_sent}
-use Rattle.wl_one_sender.specs.Through.{first_ready}
+use Rattle.wl_one_sender.specs.Through.{first_ready, queued_contents}
 use Rattle.wl_any_senders.specs.Stations.{Stations}
 use Rattle.wl_frames.specs.Frames.{FollowOneAnother, Frame, resting_of, third_sample}
 use Rattle.wl_frames.specs.NextStarts.{Resting}
-
--- the frames of a queue
-abbrev pub contents_of : List Queued → List Content
-contents_of [] = []
-contents_of (q ∷ more) = q.frame ∷ contents_of more
 
 -- The bit with whose sample a node decides to send a frame that is ready from a quantum on: that with which it rests, whose place 0 is at a quantum `place`, or the first one after it by whose
 -- sample the frame is ready (Bosch CAN 2.0 part B, section 3.2.5, bus idle).
@@ -23,7 +17,7 @@ decides_after l place ready = div_ceil (ready - (place + sample_at l)) (bit_quan
 
 -- The stations that rest are such a node's: the frames are those of its queue, and it decides as the first of them is ready that isn't sent.
 pub record DecidesByQueue (r : Resting) (i : ℕ) (queue : List Queued) : Type 0 where
-  pub frames : r.frames i ≡ contents_of queue
+  pub frames : r.frames i ≡ queued_contents queue
   pub decides : r.decides i ≡ decides_after (r.stations.lengths i) (r.place i) (first_ready (drop (r.sent i) queue))
 
 -- So it is after each frame but the last, and the node has sent as many frames by its third bit of the intermission, and with it.

@@ -9,3 +9,4 @@ pub mod lines;
 pub mod nodes;
 pub mod queues;
 pub mod runs;
+pub mod silence;

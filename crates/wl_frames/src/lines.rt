@@ -1,9 +1,12 @@
 //! Laws of several frames on a line, each proved as the contract of a function that does nothing.
 
-ghost use Rattle.std.specs.Prelude.{◌≡◌, ◌<◌, ℕ, []};
+ghost use Rattle.std.specs.Prelude.{◌≡◌, ◌+◌, ◌<◌, ◌≤◌, ℕ, suc, List, []};
+ghost use Rattle.wl_segments.specs.Lengths.{sample_at};
 ghost use Rattle.wl_bound.specs.Conditions.{IsSound};
 ghost use Rattle.wl_bound.specs.Families.{Bus};
+ghost use Rattle.wl_frame.specs.Grammar.{Content};
 ghost use Rattle.wl_node.specs.declared.setup.NodeSetup.{NodeSetup};
+ghost use Rattle.wl_node.specs.History.{error_count};
 ghost use Rattle.wl_plan.specs.Line.{Line};
 ghost use Rattle.wl_plan.specs.PlanLine.{line_of, setup_at};
 ghost use Rattle.wl_plan.specs.declared.plan.Plan.{Plan};
@@ -11,7 +14,8 @@ ghost use Rattle.wl_any_senders.specs.Bounds.{IsBusOf, IsLeftForTwo};
 ghost use Rattle.wl_any_senders.specs.Lines.{IsLineOf, node_after};
 ghost use Rattle.wl_any_senders.specs.Plans.{IsPlanOf};
 ghost use Rattle.wl_any_senders.specs.Stations.{AreStations, HaveRoom, Stations};
-ghost use Rattle.wl_first_frame.specs.FirstFrames.{HasFirstFrames, outset_of};
+ghost use Rattle.wl_first_frame.specs.FirstFrames.{HasFirstFrames, outset_of, waiting_of};
+ghost use Rattle.wl_first_frame.specs.FirstStarts.{rest_first};
 ghost use Rattle.wl_frames.specs.Frames.{FollowOneAnother, Frame};
 ghost use Rattle.wl_frames.specs.Lines.{BeginFrames, IsBeforeLast, LineGoes, finds_frames};
 ghost use Rattle.wl_frames.specs.Runs.{HandsBetween};
@@ -51,9 +55,10 @@ pub fn a_plan_goes_from_frame_to_frame()
         → BeginFrames (line_of plan) (setup_at plan) s frames count are
         → IsBeforeLast (line_of plan) s frames count stop
         → LineGoes (line_of plan) (setup_at plan) s frames count are stop }
-    ensures power_up { (plan : Plan) (s : Stations) (bus : Bus) (frames : ℕ → Frame) (count stop : ℕ) → IsPlanOf plan s
-        → plan.disturbances ≡ [] → IsBusOf bus s → IsLeftForTwo bus s → IsSound bus → HasFirstFrames plan s
-        → (are : FollowOneAnother s frames count) → 0 < count → (frames 0).outset ≡ outset_of plan s
+    ensures power_up { (plan : Plan) (queues : ℕ → List Content) (s : Stations) (bus : Bus) (frames : ℕ → Frame)
+        (count stop : ℕ) → IsPlanOf plan s
+        → plan.disturbances ≡ [] → IsBusOf bus s → IsLeftForTwo bus s → IsSound bus → HasFirstFrames plan queues s
+        → (are : FollowOneAnother s frames count) → 0 < count → (frames 0).outset ≡ outset_of plan queues s
         → ((i : ℕ) → i < s.count → HandsBetween s frames count are i (setup_at plan i)
         (node_after (setup_at plan i) (finds_frames (line_of plan) s frames count i)))
         → IsBeforeLast (line_of plan) s frames count stop
@@ -66,4 +71,31 @@ pub fn a_plan_goes_from_frame_to_frame()
     wl_first_frame::laws::nodes_rest_before_a_first_frame();
     wl_first_frame::laws::a_plan_has_a_first_frame();
     a_line_goes_from_frame_to_frame();
+}
+
+/// Law: up to its last bit before the first of these frames nothing has passed a node of such a plan, and it has found no error.
+pub fn nothing_passes_before_the_frames()
+    ensures { (plan : Plan) (queues : ℕ → List Content) (s : Stations) (bus : Bus) (frames : ℕ → Frame) (count i q : ℕ)
+        → IsPlanOf plan s → plan.disturbances ≡ [] → IsBusOf bus s → IsLeftForTwo bus s → IsSound bus
+        → HasFirstFrames plan queues s → FollowOneAnother s frames count → 0 < count
+        → (frames 0).outset ≡ outset_of plan queues s → i < s.count
+        → q ≤ suc (rest_first (waiting_of plan queues s) i + sample_at (s.lengths i))
+        → ((node_after (setup_at plan i) (finds_frames (line_of plan) s frames count i) q).frames ≡ [])
+        × (error_count (node_after (setup_at plan i) (finds_frames (line_of plan) s frames count i) q) ≡ 0) }
+{
+    wl_plan::checked_is_sound();
+    wl_topology::driven_laws();
+    wl_any_senders::laws::a_plan_is_on_a_line();
+    wl_any_senders::laws::a_sound_bus_has_room();
+    wl_any_senders::before::nothing_is_found_before_a_frame();
+    wl_first_frame::laws::idle_stations_begin_a_first_frame();
+    wl_first_frame::laws::nothing_passes_before_a_first_frame();
+    wl_first_frame::laws::a_plan_has_a_first_frame();
+    wl_frame_end::laws::what_is_expected_is_answered();
+    wl_wire::laws::machines_stay_in_step();
+    wl_wire::laws::the_least_field_wins();
+    wl_machine::laws::a_transmitter_sends_its_head_stuffed();
+    wl_frame::laws::a_front_of_no_stuffing_ends_six_equal_bits();
+    wl_frame::laws::ten_bits_have_an_edge();
+    stations_rest_after_a_frame();
 }
