@@ -1,5 +1,6 @@
 -- The first frame of a plan goes as expected.
-use Rattle.std.proofs.Common.{◌≡◌, ℕ, ◌<◌, [], None, arith}
+use Rattle.std.proofs.Common.{◌≡◌, ℕ, ◌<◌, List, [], None, arith}
+use Rattle.wl_frame.specs.Grammar.{Content}
 use Rattle.wl_machine.specs.Frames.{stuffed_end}
 use Rattle.wl_plan.specs.declared.plan.Plan.{Plan}
 use Rattle.wl_plan.specs.Checked.{CheckedIsSound}
@@ -36,15 +37,15 @@ RestLaw = (l : Line) (setups : ℕ → NodeSetup) (w : Waiting) (length i : ℕ)
     → RestsBefore w.stations (first_outset w) i (finds_expected l w.stations (first_outset w) length i)
     (node_after (setups i) (finds_expected l w.stations (first_outset w) length i)) (rest_first w i)
 
-pub goes : PlanLaw → EndLaw → BeginLaws → RestLaw → CheckedIsSound → (plan : Plan) (s : Stations) → IsPlanOf plan s → plan.disturbances ≡ [] → HaveWays s → HaveRoom s → AreOnALine s
-    → AreIdle (waiting_of plan s) → HandTheFirst (waiting_of plan s) (setup_at plan) → GoesToItsCrc plan s
-goes does ends begins rests sound plan s of calm ways room line idle hands =
+pub goes : PlanLaw → EndLaw → BeginLaws → RestLaw → CheckedIsSound → (plan : Plan) (queues : ℕ → List Content) (s : Stations) → IsPlanOf plan s → plan.disturbances ≡ [] → HaveWays s → HaveRoom s
+    → AreOnALine s → AreIdle (waiting_of plan queues s) → HandTheFirst (waiting_of plan queues s) (setup_at plan) → GoesToItsCrc plan queues s
+goes does ends begins rests sound plan queues s of calm ways room line idle hands =
     let are : AreStations s = record { line = line; ways = ways } in
-    let is : IsOutset s (outset_of plan s) = begins.outset (waiting_of plan s) line idle in
-    let bits = ends s (outset_of plan s) are room is in
-    let all : (end : ℕ) → IsBeforeEnd (line_of plan) s (outset_of plan s) bits.0 end → DoesAsExpected (line_of plan) (setup_at plan) s (outset_of plan s) bits.0 end =
-    λ end before. does plan s (outset_of plan s) (rest_first (waiting_of plan s)) bits.0 end of calm ways room is bits.1.some bits.1.going (begins.after (waiting_of plan s) line idle)
-    (λ i inside. rests (line_of plan) (setup_at plan) (waiting_of plan s) bits.0 i (line_of_plan sound plan s of calm) are room idle hands bits.1.going inside)
+    let is : IsOutset s (outset_of plan queues s) = begins.outset (waiting_of plan queues s) line idle in
+    let bits = ends s (outset_of plan queues s) are room is in
+    let all : (end : ℕ) → IsBeforeEnd (line_of plan) s (outset_of plan queues s) bits.0 end → DoesAsExpected (line_of plan) (setup_at plan) s (outset_of plan queues s) bits.0 end =
+    λ end before. does plan s (outset_of plan queues s) (rest_first (waiting_of plan queues s)) bits.0 end of calm ways room is bits.1.some bits.1.going (begins.after (waiting_of plan queues s) line idle)
+    (λ i inside. rests (line_of plan) (setup_at plan) (waiting_of plan queues s) bits.0 i (line_of_plan sound plan s of calm) are room idle hands bits.1.going inside)
     before in
     record {
       bits = bits.0;

@@ -6,3 +6,4 @@ mod Reaching
 mod Resting
 mod Rows
 mod Silent
+mod Waits

@@ -1,5 +1,5 @@
 -- The nodes of a plan are idle when the first frame of any becomes ready, and each is handed its first frame.
-use Rattle.std.proofs.Common.{◌≡◌, ◌≢◌, ◌∙◌, inl, inr, refl, sym, ap, ℕ, suc, ◌+◌, ◌-◌, ◌*◌, ◌<◌, ◌≤◌, length, not, cond, Bool, true, false, List, [], ◌∷◌, Some, None, arith}
+use Rattle.std.proofs.Common.{◌≡◌, ◌≢◌, ◌∙◌, inl, inr, refl, sym, ap, ℕ, zero, suc, ◌+◌, ◌-◌, ◌*◌, ◌<◌, ◌≤◌, length, not, cond, Bool, true, false, List, [], ◌∷◌, Some, None, arith}
 use Rattle.std.specs.Prelude.{nat_lt, slice_get}
 use Rattle.std.specs.Int.{div_ceil}
 use Rattle.std.proofs.lemmas.Bool.{cases_lt, le-leb, lt-leb, lt-ltb}
@@ -8,6 +8,7 @@ use Rattle.std.proofs.lemmas.List.{get_or_past}
 use Rattle.std.proofs.Math.Nat.{mul-le-mul_right}
 use Rattle.wl_clock.specs.Timing.{tick_of}
 use Rattle.wl_segments.specs.Lengths.{Lengths, bit_quanta, sample_at}
+use Rattle.wl_frame.specs.Grammar.{Content}
 use Rattle.wl_node.specs.declared.setup.NodeSetup.{NodeSetup}
 use Rattle.wl_node.specs.declared.setup.Queued.{Queued}
 use Rattle.wl_node.specs.History.{ready_head}
@@ -18,40 +19,42 @@ use Rattle.wl_plan.specs.PlanLine.{line_of, no_setup, setup_at}
 use Rattle.wl_plan.specs.Sound.{IsCausal}
 use Rattle.wl_bound.specs.Verdicts.{idle_at, is_ready_from}
 use Rattle.wl_one_sender.specs.Clean.{decides_at}
-use Rattle.wl_one_sender.specs.Through.{first_ready}
+use Rattle.wl_one_sender.specs.Through.{first_ready, queued_contents}
+use Rattle.wl_wire.specs.InStep.{Has}
 use Rattle.wl_any_senders.specs.Plans.{IsPlanOf}
 use Rattle.wl_any_senders.specs.Stations.{AreOnALine, Stations}
-use Rattle.wl_first_frame.specs.FirstFrames.{AreIdleWhenReady, HasFirstFrames, HasFrames, first_content, waiting_of}
+use Rattle.wl_first_frame.specs.FirstFrames.{AreIdleWhenReady, BeginAsQueues, HasFirstFrames, HasFrames, first_content, first_frames_of, waiting_of}
 use Rattle.wl_first_frame.specs.FirstStarts.{AreIdle, HandTheFirst, Waiting, decision_quantum, due_first, eleventh, has_first}
 
-same_has : (q : List Queued) → nat_lt 0 (length (first_content q)) ≡ nat_lt 0 (length q)
-same_has [] = refl
-same_has (x ∷ more) = lt-ltb 0 1 (omega arith) ∙ sym (lt-ltb 0 (length (x ∷ more)) (let h : 0 < suc (length more) = omega arith in h))
+-- lists that begin as a queue does
+abbrev Begins : List Content → List Queued → Type 0
+Begins list q = slice_get list 0 ≡ slice_get (queued_contents q) 0
 
-none_has : (q : List Queued) → nat_lt 0 (length (first_content q)) ≡ false → q ≡ []
+pub first_begins : (q : List Queued) → Begins (first_content q) q
+first_begins [] = refl
+first_begins (x ∷ more) = refl
+
+same_has : (list : List Content) (q : List Queued) → Begins list q → nat_lt 0 (length list) ≡ nat_lt 0 (length q)
+same_has [] [] b = refl
+same_has [] (x ∷ more) b = cc
+same_has (c ∷ list) [] b = cc
+same_has (c ∷ list) (x ∷ more) b =
+    lt-ltb 0 (length (c ∷ list)) (let h : 0 < suc (length list) = omega arith in h) ∙ sym (lt-ltb 0 (length (x ∷ more)) (let h : 0 < suc (length more) = omega arith in h))
+
+none_has : (q : List Queued) → nat_lt 0 (length q) ≡ false → q ≡ []
 none_has [] e = refl
-none_has (x ∷ more) e = cc
+none_has (x ∷ more) e = (let h = lt-ltb 0 (length (x ∷ more)) (let h : 0 < suc (length more) = omega arith in h) in cc)
 
--- a queue that isn't empty
-record Begins (q : List Queued) : Type 0 where
-  first : Queued
-  later : List Queued
-  is : q ≡ first ∷ later
-
-some_has : (q : List Queued) → nat_lt 0 (length (first_content q)) ≡ true → Begins q
-some_has [] e = cc
-some_has (x ∷ more) e = record { first = x; later = more; is = refl }
-
-ready_then : (q : List Queued) (k : ℕ) → nat_lt 0 (length (first_content q)) ≡ true → first_ready q ≤ k → ready_head q k ≡ slice_get (first_content q) 0
-ready_then [] k e less = cc
-ready_then (x ∷ more) k e less = ap (λ c. cond c (Some x.frame) None) (le-leb x.ready k less)
+ready_then : (list : List Content) (q : List Queued) (k : ℕ) → Begins list q → first_ready q ≤ k → ready_head q k ≡ slice_get list 0
+ready_then list [] k b less = sym b
+ready_then list (x ∷ more) k b less = ap (λ c. cond c (Some x.frame) None) (le-leb x.ready k less) ∙ sym b
 
 pub unready_then : (q : List Queued) (k : ℕ) → k < first_ready q → ready_head q k ≡ None
 unready_then [] k less = refl
 unready_then (x ∷ more) k less = ap (λ c. cond c (Some x.frame) None) (lt-leb x.ready k less)
 
 -- a frame that becomes ready from a tick on
-ready_after : (setup : NodeSetup) (q : List Queued) (t : ℕ) → nat_lt 0 (length (first_content q)) ≡ true → is_ready_from setup q t ≡ true → t ≤ tick_of setup.clock (first_ready q)
+ready_after : (setup : NodeSetup) (q : List Queued) (t : ℕ) → nat_lt 0 (length q) ≡ true → is_ready_from setup q t ≡ true → t ≤ tick_of setup.clock (first_ready q)
 ready_after setup [] t e h = cc
 ready_after setup (x ∷ more) t e h = elim (cases_lt (tick_of setup.clock x.ready) t) [
   | inl early ↦ (let f = ap not (lt-ltb (tick_of setup.clock x.ready) t early) in cc)
@@ -74,9 +77,9 @@ module _ (l : Lengths) (ready : ℕ) (some : 0 < bit_quanta l) where
       let ceil = (div_ceil_times (ready - sample_at l) (bit_quanta l) (omega arith)).1 in
       omega arith
 
-module _ (plan : Plan) (s : Stations) (of : IsPlanOf plan s) (line : AreOnALine s) (causal : IsCausal (line_of plan)) where
+module _ (plan : Plan) (queues : ℕ → List Content) (s : Stations) (of : IsPlanOf plan s) (begin : BeginAsQueues plan queues) (line : AreOnALine s) (causal : IsCausal (line_of plan)) where
   abbrev w : Waiting
-  w = waiting_of plan s
+  w = waiting_of plan queues s
 
   abbrev q_of : ℕ → List Queued
   q_of i = (setup_at plan i).queue
@@ -109,22 +112,25 @@ module _ (plan : Plan) (s : Stations) (of : IsPlanOf plan s) (line : AreOnALine 
       let b = tick_is i (suc k) inside in
       omega arith
 
+  has_is : (i : ℕ) → has_first w i ≡ nat_lt 0 (length (q_of i))
+  has_is i = same_has (queues i) (q_of i) (begin i)
+
   in_plan : (i : ℕ) → has_first w i ≡ true → i < s.count
   in_plan i e = elim (cases_lt i s.count) [
     | inl less ↦ less
     | inr past ↦
         (let count = of.count in
         let none : q_of i ≡ [] = ap (λ x. x.queue) (get_or_past plan.nodes i no_setup (omega arith)) in
-        let f : has_first w i ≡ false = ap (λ q. nat_lt 0 (length (first_content q))) none in
+        let f : has_first w i ≡ false = has_is i ∙ ap (λ q. nat_lt 0 (length q)) none in
         cc)
   ]
 
   pub hands : HandTheFirst w (setup_at plan)
   hands = record {
-    none = λ i q inside e. ap (λ x. ready_head x q) (none_has (q_of i) e);
+    none = λ i q inside e. ap (λ x. ready_head x q) (none_has (q_of i) (sym (has_is i) ∙ e));
     unready = λ i n inside more less. unready i n inside more less;
     ready = λ i inside e.
-        ready_then (q_of i) (decision_quantum w i) e
+        ready_then (queues i) (q_of i) (decision_quantum w i) (begin i)
         (let l = of.lengths i inside in
         let x : decision_quantum w i ≡ w.decides i * bit_quanta (l_of i) + sample_at (l_of i) = ap (λ k. w.decides i * bit_quanta k + sample_at k) l in
         let h = decided_after (l_of i) (ready i) (long i inside).0 in
@@ -134,28 +140,28 @@ module _ (plan : Plan) (s : Stations) (of : IsPlanOf plan s) (line : AreOnALine 
       by_frames : (i n : ℕ) → i < s.count → 10 ≤ n → n < w.decides i → (c : Bool) → has_first w i ≡ c → ready_head (q_of i) (n * bit_quanta (l_of i) + sample_at (l_of i)) ≡ None
       by_frames i n inside more less true e =
           unready_then (q_of i) (n * bit_quanta (l_of i) + sample_at (l_of i)) (undecided (l_of i) (ready i) (long i inside).0 n more less)
-      by_frames i n inside more less false e = ap (λ x. ready_head x (n * bit_quanta (l_of i) + sample_at (l_of i))) (none_has (q_of i) e)
+      by_frames i n inside more less false e = ap (λ x. ready_head x (n * bit_quanta (l_of i) + sample_at (l_of i))) (none_has (q_of i) (sym (has_is i) ∙ e))
 
       unready : (i n : ℕ) → i < s.count → 10 ≤ n → n < w.decides i → ready_head (q_of i) (n * bit_quanta (s.lengths i) + sample_at (s.lengths i)) ≡ None
       unready i n inside more less =
           ap (λ k. ready_head (q_of i) (n * bit_quanta k + sample_at k)) (of.lengths i inside) ∙ by_frames i n inside more less (has_first w i) refl
 
-  pub idle : HasFirstFrames plan s → AreIdle w
+  pub idle : HasFirstFrames plan queues s → AreIdle w
   idle first = record {
     frames = first.has.frames;
     inside = in_plan;
-    may = λ i e. first.has.may i (in_plan i e) (sym (same_has (q_of i)) ∙ e);
-    some = (first.has.some.0, same_has (q_of first.has.some.0) ∙ first.has.some.2);
+    may = λ i e. first.has.may i (in_plan i e) (sym (has_is i) ∙ e);
+    some = (first.has.some.0, has_is first.has.some.0 ∙ first.has.some.2);
     later = λ i. omega arith;
-    idle = λ i k inside apart e. first.idle i k inside (in_plan k e) apart (sym (same_has (q_of k)) ∙ e);
+    idle = λ i k inside apart e. first.idle i k inside (in_plan k e) apart (sym (has_is k) ∙ e);
   }
 
   -- all nodes are idle by then
-  module _ (has : HasFrames plan s) (by : AreIdleWhenReady plan s) where
+  module _ (has : HasFrames plan queues s) (by : AreIdleWhenReady plan s) where
     ready_from : (i k : ℕ) → i < s.count → i ≢ k → has_first w k ≡ true → steady_tick (s.clocks i) (11 * bit_quanta (l_of i)) ≤ steady_tick (s.clocks k) (ready k)
     ready_from i k inside apart e =
         let there = in_plan k e in
-        let h = ready_after (setup_at plan k) (q_of k) (idle_at (setup_at plan i)) e (by i k inside there apart) in
+        let h = ready_after (setup_at plan k) (q_of k) (idle_at (setup_at plan i)) (sym (has_is k) ∙ e) (by i k inside there apart) in
         let a = tick_is i (11 * bit_quanta (l_of i)) inside in
         let b = tick_is k (ready k) there in
         omega arith
@@ -175,8 +181,35 @@ module _ (plan : Plan) (s : Stations) (of : IsPlanOf plan s) (line : AreOnALine 
         let last = up k (ready k) (due_first w k) there (omega arith) in
         omega arith
 
-    pub first_frames : HasFirstFrames plan s
+    pub first_frames : HasFirstFrames plan queues s
     first_frames = record {
       has = has;
-      idle = λ i k inside there apart e. (let before = before_due i k inside apart (same_has (q_of k) ∙ e) in omega arith);
+      idle = λ i k inside there apart e. (let before = before_due i k inside apart (has_is k ∙ e) in omega arith);
+    }
+
+-- the first frames alone
+has_first_of : (list : List Content) (q : List Queued) (c : Content) → Begins list q → (n : ℕ) × (slice_get (first_content q) n ≡ Some c) → (n : ℕ) × (slice_get list n ≡ Some c)
+has_first_of list q c b (n, e) = (0, b ∙ at_first q n e)
+  where
+    at_first : (q : List Queued) (n : ℕ) → slice_get (first_content q) n ≡ Some c → slice_get (queued_contents q) 0 ≡ Some c
+    at_first [] n e = cc
+    at_first (x ∷ more) zero e = e
+    at_first (x ∷ more) (suc n) e = cc
+
+pub alone : (plan : Plan) (queues : ℕ → List Content) (s : Stations) → HasFirstFrames plan queues s → HasFirstFrames plan (first_frames_of plan) s
+alone plan queues s first =
+    let fs = first.has.frames in
+    let has : (k : ℕ) (c : Content) → Has (first_frames_of plan) k c → Has queues k c = λ k c h. has_first_of (queues k) (setup_at plan k).queue c (first.has.begin k) h in
+    record {
+      has = record {
+        begin = λ i. first_begins (setup_at plan i).queue;
+        frames = record {
+          two = fs.two;
+          content = λ k c less h. fs.content k c less (has k c h);
+          apart = λ j k a b lj lk apart hj hk. fs.apart j k a b lj lk apart (has j a hj) (has k b hk);
+        };
+        may = first.has.may;
+        some = first.has.some;
+      };
+      idle = first.idle;
     }

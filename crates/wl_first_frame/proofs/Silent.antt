@@ -2,7 +2,7 @@
 use Rattle.std.proofs.Common.{◌≡◌, ◌≢◌, ◌∙◌, ◌⊎◌, inl, inr, refl, sym, ap, subst, ℕ, zero, suc, ◌+◌, ◌-◌, ◌*◌, ◌<◌, ◌≤◌, cond, Bool, true, false, List, [], ◌∷◌, ◌++◌, length, replicate, Option, Some, None, arith, add-one, append-nil}
 use Rattle.std.specs.Prelude.{◌==◌, count_by, drop}
 use Rattle.std.proofs.lemmas.Bool.{cases_eq, cases_lt, lt-leb, ne_eqb}
-use Rattle.std.proofs.lemmas.List.Sums.{fold-append}
+use Rattle.std.proofs.lemmas.List.Sums.{fold-append, sum_by-append}
 use Rattle.std.proofs.Math.Nat.{lt_of_mul-lt-mul_right}
 use Rattle.wl_level.specs.declared.Level.{Level}
 use Rattle.wl_level.specs.declared.Level.TheVariants.{Recessive}
@@ -10,7 +10,7 @@ use Rattle.wl_level.specs.Places.{run_at_end}
 use Rattle.wl_level.proofs.Callers.{length_more}
 use Rattle.wl_confine.specs.declared.Happened.TheVariants.{Nothing}
 use Rattle.wl_confine.specs.declared.Mode.TheVariants.{Active}
-use Rattle.wl_confine.specs.Counts.{counts_after, counts_of, mode_of, no_counts}
+use Rattle.wl_confine.specs.Counts.{counts_after, counts_of, is_error, mode_of, no_counts}
 use Rattle.wl_segments.specs.Lengths.{Lengths, bit_quanta, sample_at}
 use Rattle.wl_sync.specs.declared.Beat.{Beat}
 use Rattle.wl_sync.specs.declared.Beat.TheVariants as beats
@@ -29,7 +29,7 @@ use Rattle.wl_machine.specs.Judged.{drive_by, drive_of, judged, judged_by, or_ne
 use Rattle.wl_machine.specs.States.{sample_of, stretch_by}
 use Rattle.wl_machine.proofs.Callers.{stretch_next}
 use Rattle.wl_node.specs.declared.setup.NodeSetup.{NodeSetup}
-use Rattle.wl_node.specs.History.{History, by_beat, handed, is_sent, passed_frames, ready_head, sampled_next, switched_off, unsent_of}
+use Rattle.wl_node.specs.History.{History, by_beat, error_count, handed, is_sent, passed_frames, ready_head, sampled_next, switched_off, unsent_of}
 use Rattle.wl_phase.specs.InStep.{seen_before}
 use Rattle.wl_phase.specs.Ways.{ByTheBook, WayLaws, sample_way, way_after}
 use Rattle.wl_phase.proofs.Callers.{IsSilent, first_silent}
@@ -159,6 +159,7 @@ module _ (ways : WayLaws) (calm : NoEdgeLaws) (edges : EdgeLaws) (setup : NodeSe
     pub stretch : stretch_of (node q).inputs ≡ stretch_of (replicate c no_frame_sample)
     pub counts : counts_of (node q).happened ≡ no_counts
     pub frames : (node q).frames ≡ []
+    pub errors : error_count (node q) ≡ 0
     pub drive : (node q).drive ≡ Recessive
 
   still_first : IsStill 0 0
@@ -172,6 +173,7 @@ module _ (ways : WayLaws) (calm : NoEdgeLaws) (edges : EdgeLaws) (setup : NodeSe
         stretch = ap (λ h. stretch_of h.inputs) first;
         counts = ap (λ h. counts_of h.happened) first;
         frames = ap (λ h. h.frames) first;
+        errors = ap error_count first;
         drive = ap (λ h. h.drive) first;
       }
 
@@ -201,6 +203,7 @@ module _ (ways : WayLaws) (calm : NoEdgeLaws) (edges : EdgeLaws) (setup : NodeSe
           stretch = ap stretch_of (inputs_by setup levels node run q beats.Plain e) ∙ a.stretch;
           counts = ap counts_of (happened_by setup levels node run q beats.Plain e) ∙ a.counts;
           frames = frames_by q beats.Plain e ∙ a.frames;
+          errors = ap (count_by is_error) (happened_by setup levels node run q beats.Plain e) ∙ a.errors;
           drive = driven_by setup levels node run q beats.Plain e ∙ a.drive;
         })
     passes apart beats.Start e =
@@ -213,6 +216,7 @@ module _ (ways : WayLaws) (calm : NoEdgeLaws) (edges : EdgeLaws) (setup : NodeSe
           stretch = ap stretch_of (inputs_by setup levels node run q beats.Start e) ∙ a.stretch;
           counts = ap counts_of (happened_by setup levels node run q beats.Start e) ∙ a.counts;
           frames = frames_by q beats.Start e ∙ a.frames;
+          errors = ap (count_by is_error) (happened_by setup levels node run q beats.Start e) ∙ a.errors;
           drive = driven_by setup levels node run q beats.Start e ∙ ap drive_of a.stretch ∙ none_driven_after c;
         })
     passes apart (beats.Sample level) e = absurd (apart (ways.only l (seen_before sees q) (sees q) level book e).1)
@@ -274,6 +278,12 @@ module _ (ways : WayLaws) (calm : NoEdgeLaws) (edges : EdgeLaws) (setup : NodeSe
           frames_by q (beats.Sample (levels q)) beat
           ∙ ap (λ x. (node q).frames ++ passed_frames (length (node q).seen) x) on.ended ∙ append-nil (node q).frames ∙ a.frames
 
+      errors_there : error_count (node (suc q)) ≡ 0
+      errors_there =
+          ap (count_by is_error) (happened_by setup levels node run q (beats.Sample (levels q)) beat)
+          ∙ sum_by-append (λ x. cond (is_error x) 1 0) (node q).happened (judgement.happened ∷ [])
+          ∙ ap (λ k. k + (0 + cond (is_error judgement.happened) 1 0)) a.errors ∙ ap (λ x. 0 + (0 + cond (is_error x) 1 0)) on.happened
+
       pub drive_there : (node (suc q)).drive ≡ Recessive
       drive_there = driven_by setup levels node run q (beats.Sample (levels q)) beat ∙ a.drive
 
@@ -290,6 +300,7 @@ module _ (ways : WayLaws) (calm : NoEdgeLaws) (edges : EdgeLaws) (setup : NodeSe
           stretch = stretch_then now (ready_head setup.queue q) refl ∙ any_head c (ready_head setup.queue q) unready;
           counts = counts_there now (ready_head setup.queue q) refl;
           frames = frames_there now (ready_head setup.queue q) refl;
+          errors = errors_there now (ready_head setup.queue q) refl;
           drive = drive_there now (ready_head setup.queue q) refl;
         }
 
@@ -357,6 +368,16 @@ module _ (ways : WayLaws) (calm : NoEdgeLaws) (edges : EdgeLaws) (setup : NodeSe
     drive_up_to head ready q less = elim (cases_lt (m * B + S) q) [
       | inl last ↦ (let e : suc (m * B + S) ≡ q = omega arith in subst (λ k. (node k).drive ≡ Recessive) e (drive_last head ready))
       | inr before ↦ still_drive q before
+    ]
+
+    -- no frame has passed it, and it has found no error
+    pub nothing_up_to : (head : Option Content) → ready_head setup.queue (m * B + S) ≡ head → (q : ℕ) → q ≤ suc (m * B + S) → ((node q).frames ≡ []) × (error_count (node q) ≡ 0)
+    nothing_up_to head ready q less = elim (cases_lt (m * B + S) q) [
+      | inl last ↦
+          (let e : suc (m * B + S) ≡ q = omega arith in
+          subst (λ k. ((node k).frames ≡ []) × (error_count (node k) ≡ 0)) e
+          (frames_there (m * B + S) m silent_last still_last way_last head ready, errors_there (m * B + S) m silent_last still_last way_last head ready))
+      | inr before ↦ (let x = still_at q before in (x.is.frames, x.is.errors))
     ]
 
   -- its bit clock after the second bit or a later one

@@ -67,6 +67,7 @@ pub fn nothing_passes_before_a_first_frame()
         × (error_count (node_after (setups i) (finds_expected l w.stations (first_outset w) length i) q) ≡ 0) }
 {
     wl_phase::laws::an_edge_moves_the_sample();
+    wl_any_senders::laws::idle_machines_may_begin_together();
     wl_any_senders::laws::no_edge_counts_then();
     wl_any_senders::laws::a_station_begins_its_bits();
     wl_any_senders::before::nothing_is_found_before_a_frame();
@@ -78,10 +79,10 @@ pub fn nothing_passes_before_a_first_frame()
 pub fn a_plan_has_a_first_frame()
     ensures ready { (plan : Plan) (queues : ℕ → List Content) (s : Stations) → IsPlanOf plan s → HasFrames plan queues s
         → AreIdleWhenReady plan s → HasFirstFrames plan queues s }
-    ensures idle { (plan : Plan) (queues : ℕ → List Content) (s : Stations) → IsPlanOf plan s → HasFirstFrames plan queues s
-        → AreIdle (waiting_of plan queues s) }
-    ensures hands { (plan : Plan) (queues : ℕ → List Content) (s : Stations) → IsPlanOf plan s → BeginAsQueues plan queues
-        → HandTheFirst (waiting_of plan queues s) (setup_at plan) }
+    ensures idle { (plan : Plan) (queues : ℕ → List Content) (s : Stations) → IsPlanOf plan s
+        → HasFirstFrames plan queues s → AreIdle (waiting_of plan queues s) }
+    ensures hands { (plan : Plan) (queues : ℕ → List Content) (s : Stations) → IsPlanOf plan s
+        → BeginAsQueues plan queues → HandTheFirst (waiting_of plan queues s) (setup_at plan) }
 {
     wl_plan::checked_is_sound();
     wl_any_senders::laws::a_plan_is_on_a_line();
