@@ -6,15 +6,15 @@ use Rattle.wl_first_frame.specs.FirstStarts.{rest_first}
 use Rattle.wl_frame_end.proofs.first.the_first_frame_gets_through.Goals as goal
 
 pub returns : goal.returns
-returns c = λ plan s bus chase of calm bus_of left sound answers has.
+returns c = λ plan queues s bus chase of calm bus_of left sound answers has.
     (let on = c.a_plan_is_on_a_line.ensures plan s of in
     let are : AreStations s = record { line = on; ways = c.a_sound_bus_has_room.ensures.ways bus s on bus_of } in
     let room = c.a_sound_bus_has_room.ensures.room bus s on bus_of left sound in
     let line = line_of_plan c.checked_is_sound.ensures plan s of calm in
-    let idle = c.a_plan_has_a_first_frame.ensures.idle plan s of has in
-    let hands = c.a_plan_has_a_first_frame.ensures.hands plan s of in
-    let w = waiting_of plan s in
-    let o = outset_of plan s in
+    let idle = c.a_plan_has_a_first_frame.ensures.idle plan queues s of has in
+    let hands = c.a_plan_has_a_first_frame.ensures.hands plan queues s of has.has.begin in
+    let w = waiting_of plan queues s in
+    let o = outset_of plan queues s in
     let is = c.idle_stations_begin_a_first_frame.ensures.outset w on idle in
     let bits = c.the_stuffed_part_ends.ensures s o are room is in
     record {
