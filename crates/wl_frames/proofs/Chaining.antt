@@ -1,5 +1,5 @@
 -- A node goes from frame to frame.
-use Rattle.std.proofs.Common.{◌≡◌, ◌∙◌, inl, inr, refl, sym, ap, subst, ℕ, zero, suc, ◌+◌, ◌*◌, ◌<◌, ◌≤◌, false, List, [], ◌∷◌, ◌++◌, length, Option, None, arith}
+use Rattle.std.proofs.Common.{◌≡◌, ◌∙◌, inl, inr, refl, sym, ap, subst, ℕ, zero, suc, ◌+◌, ◌<◌, ◌≤◌, List, [], ◌∷◌, ◌++◌, length, Option, arith}
 use Rattle.std.specs.Prelude.{slice_get}
 use Rattle.std.proofs.lemmas.Bool.{cases_Bool, cases_eq}
 use Rattle.std.proofs.lemmas.Option.{slice_get_past}
@@ -7,7 +7,7 @@ use Rattle.wl_level.specs.declared.Level.{Level}
 use Rattle.wl_level.specs.declared.Level.TheVariants.{Recessive}
 use Rattle.wl_level.specs.Levels.{level_of}
 use Rattle.wl_confine.specs.declared.Mode.TheVariants.{Active}
-use Rattle.wl_segments.specs.Lengths.{bit_quanta, sample_at}
+use Rattle.wl_segments.specs.Lengths.{sample_at}
 use Rattle.wl_topology.specs.Driven.{driven}
 use Rattle.wl_frame.specs.Grammar.{Content}
 use Rattle.wl_machine.specs.Stretch.{Input}
@@ -25,7 +25,7 @@ use Rattle.wl_any_senders.specs.Stations.{AreOnALine, AreStations, HaveRoom, Sta
 use Rattle.wl_frame_end.specs.Again.{RestsAgain, past_end}
 use Rattle.wl_frame_end.specs.Asked.{CanBeAnswered, EndsBefore}
 use Rattle.wl_frame_end.specs.Rests.{NodeEnds, waiting_frame}
-use Rattle.wl_frame_end.proofs.Callers.{MachineLaws, over_is}
+use Rattle.wl_frame_end.proofs.Callers.{MachineLaws}
 use Rattle.wl_frames.specs.Frames.{FollowOneAnother, IsBegunAfter, Frame, IsBegun, frame_drove, frames_drove, resting_of, third_sample}
 use Rattle.wl_frames.specs.NextNodes.{GoesThrough, HandsNext, head_after}
 use Rattle.wl_frames.specs.NextStarts.{AreFreeNext, AreResting, Resting, has_next, outset_next, rest_next, rested, start_next}
@@ -126,13 +126,7 @@ module _ (m : MachineLaws) (nothing : NothingFound) (is_heard : IsHeard) (rest_a
     since = (expected_bits s (fs n).outset (suc (suc (fs n).bits))).from i
 
     since_by : since ≤ T n
-    since_by =
-        let from : since ≡ (expected_bits s (fs n).outset (suc (fs n).bits)).place i + bit_quanta (s.lengths i) =
-        ap (λ b. b.from i) (over_is m s are room (fs n).outset f.outset (fs n).bits f.ends.none f.ends.there f.won) in
-        let place : (expected_bits s (fs n).outset (suc (suc (fs n).bits))).place i ≡ (expected_bits s (fs n).outset (suc (fs n).bits)).place i + bit_quanta (s.lengths i) =
-        ap (λ b. b.place i) (over_is m s are room (fs n).outset f.outset (fs n).bits f.ends.none f.ends.there f.won) in
-        let up = windows.up m nothing is_heard rest_after s are room fs count frames n (suc (suc (fs n).bits)) ((fs n).bits + 12) i (omega arith) (omega arith) inside in
-        omega arith
+    since_by = let over = windows.over_by_third m nothing is_heard rest_after s are room fs count frames n i (omega arith) inside in omega arith
 
     rests_then : RestsAgain s (before i ++ Sample (sampled Recessive ((fs n).outset.frames i) handed) ∷ []) i levels node (r.place i) since
     rests_then = rests s (fs n).outset (fs n).bits are room f.outset f.ends f.won (λ k. handed) (λ k lt. refl) i setup levels node inside x.ends which.1

@@ -1,6 +1,6 @@
 -- The nodes of a line go from frame to frame.
-use Rattle.std.proofs.Common.{◌≡◌, ◌≢◌, ◌∙◌, inl, inr, sym, ap, ℕ, zero, suc, ◌+◌, ◌-◌, ◌<◌, ◌≤◌, Bool, false, arith}
-use Rattle.std.proofs.lemmas.Bool.{cases_eq, cases_lt}
+use Rattle.std.proofs.Common.{◌≡◌, ◌∙◌, inl, inr, sym, ap, ℕ, zero, suc, ◌+◌, ◌-◌, ◌<◌, ◌≤◌, Bool, false, arith}
+use Rattle.std.proofs.lemmas.Bool.{cases_lt}
 use Rattle.wl_level.specs.declared.Level.{Level}
 use Rattle.wl_level.specs.Levels.{is_dominant, level_of}
 use Rattle.wl_segments.specs.Lengths.{sample_at}
@@ -20,11 +20,10 @@ use Rattle.wl_any_senders.specs.Stations.{AreStations, HaveRoom, Stations}
 use Rattle.wl_any_senders.proofs.Callers.{finds_driven, finds_what_comes, run_of, tick_next}
 use Rattle.wl_frame_end.specs.Again.{RestsAgain}
 use Rattle.wl_frame_end.specs.Asked.{EndAsAsked, EndsBefore}
-use Rattle.wl_frame_end.proofs.Callers.{DriveExpected, FindLevels, MachineLaws, found_was}
+use Rattle.wl_frame_end.proofs.Callers.{DriveExpected, FindLevels, MachineLaws}
 use Rattle.wl_frames.specs.Frames.{FollowOneAnother, Frame, frame_drove, frames_drove, third_sample}
 use Rattle.wl_frames.specs.Lines.{BeginFrames, IsBeforeLast, LineGoes, finds_frames}
 use Rattle.wl_frames.specs.Runs.{GoesThroughOne, HandsBetween, quiet_by}
-use Rattle.wl_frames.proofs.Beginning.{rest_early}
 use Rattle.wl_frames.proofs.Histories.{rests_as}
 use Rattle.wl_frames.proofs.Driving as driving
 use Rattle.wl_frames.proofs.Windows as windows
@@ -62,20 +61,15 @@ module _ (m : MachineLaws) (nothing : NothingFound) (is_heard : IsHeard) (rest_a
   -- up to its last bit before the first frame it finds what is driven in that
   same_first : (i q : ℕ) → i < s.count → q ≤ begin.rest i + sample_at (s.lengths i) → levels i q ≡ finds_expected l s (fs 0).outset (fs 0).bits i q
   same_first i q inside by =
-      let f = frames.each 0 some in
-      let after = rest_early s (fs 0).outset i (begin.rest i) (begin.after i inside) (f.outset.begin i inside) in
-      let end = windows.up m nothing is_heard rest_after s are room fs count frames 0 0 (fs 0).bits i some (omega arith) inside in
-      let third = windows.up m nothing is_heard rest_after s are room fs count frames 0 0 ((fs 0).bits + 12) i some (omega arith) inside in
       finds_driven l setups s line drove i q inside
-      ∙ ap level_of (windows.alone m nothing is_heard rest_after s are room fs count frames 0 i q some inside (λ j e. absurd (omega (arith, e))) (omega arith)
-      ∙ found_was m s are room (fs 0).outset f.outset (fs 0).bits f.ends.none f.ends.there f.won f.chase f.answer.catch f.answer.room i q inside (omega arith))
+      ∙ ap level_of (windows.first_alone m nothing is_heard rest_after s are room fs count frames some i (begin.rest i) q inside (begin.after i inside) by)
       ∙ sym (finds_what_comes l setups s line (fs 0).outset (fs 0).bits i q inside)
 
   rests_first : (i : ℕ) → i < s.count → RestsBefore s (fs 0).outset i (levels i) (node i) (begin.rest i)
   rests_first i inside =
       rests_as s (fs 0).outset i (setups i) (levels i) (finds_expected l s (fs 0).outset (fs 0).bits i) (begin.rest i) (λ q by. same_first i q inside by) (begin.rests i inside)
 
-  goes : (i n : ℕ) (less : n < count) → i < s.count → GoesThroughOne s fs count frames i 0 (setups i) (levels i) (node i) n less
+  pub goes : (i n : ℕ) (less : n < count) → i < s.count → GoesThroughOne s fs count frames i 0 (setups i) (levels i) (node i) n less
   goes i n less inside =
       let r = rests_first i inside in
       node_law s fs count are room frames i inside (setups i) (line.segments i (let e = line.nodes in omega arith)) (levels i) (node i) (run_of (setups i) (levels i))
@@ -143,19 +137,21 @@ module _ (m : MachineLaws) (nothing : NothingFound) (is_heard : IsHeard) (rest_a
       ])
       ∙ there n less i inside k t (quiet_low i k n after) by low high
 
-  drives_there : (i k t : ℕ) → i < s.count → k ≤ T (count - 1) i → tick i k ≤ t → t < tick i (suc k) → drove i t ≡ is_dominant (node i (suc k)).drive
+  pub drives_there : (i k t : ℕ) → i < s.count → k ≤ T (count - 1) i → tick i k ≤ t → t < tick i (suc k) → drove i t ≡ is_dominant (node i (suc k)).drive
   drives_there i k t inside by low high =
       let x = window i k (count - 1) by in
       drives_at i k t x.at inside (let h = x.small in omega arith) x.by x.after low high
+
+  -- before its first quantum it drives nothing
+  pub none_at_first : (i t : ℕ) → i < s.count → t < tick i 0 → drove i t ≡ false
+  none_at_first i t inside early =
+      any_none count (λ g. frame_drove s (fs g) i t) (λ g in_count. (let up = tick_next s are i inside 0 ((fs g).outset.start.from i) (omega arith) in none_before g in_count i inside t (omega arith)))
 
   is_expected : (stop : ℕ) → IsBeforeLast l s fs count stop → IsExpected l (λ i. stop) drove
   is_expected stop before = record {
     near = λ i j ni nj. omega arith;
     inside = λ i ni. before.inside;
-    before = λ i t ni less early. (let e = line.nodes in
-        let inside : i < s.count = omega arith in
-        let first = line.ticks i 0 ni in
-        any_none count (λ g. frame_drove s (fs g) i t) (λ g in_count. (let up = tick_next s are i inside 0 ((fs g).outset.start.from i) (omega arith) in none_before g in_count i inside t (omega arith))));
+    before = λ i t ni less early. (let e = line.nodes in none_at_first i t (omega arith) (let first = line.ticks i 0 ni in omega arith));
     drives = λ i k t ni less low high. (let e = line.nodes in
         let inside : i < s.count = omega arith in
         let one = line.ticks i k ni in

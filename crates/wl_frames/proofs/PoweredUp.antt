@@ -1,16 +1,23 @@
 -- The nodes of a plan begin with its first frame, from their power-up on.
-use Rattle.std.proofs.Common.{◌≡◌, sym, subst, ℕ, ◌<◌, None, arith}
+use Rattle.std.proofs.Common.{◌≡◌, ◌∙◌, sym, ap, subst, ℕ, suc, ◌+◌, ◌<◌, ◌≤◌, [], None, arith}
+use Rattle.wl_level.specs.Levels.{level_of}
+use Rattle.wl_segments.specs.Lengths.{sample_at}
 use Rattle.wl_machine.specs.Frames.{stuffed_end}
 use Rattle.wl_node.specs.declared.setup.NodeSetup.{NodeSetup}
+use Rattle.wl_node.specs.History.{error_count, history_of}
 use Rattle.wl_plan.specs.Line.{Line}
-use Rattle.wl_any_senders.specs.Expected.{Outset, expected_bits}
+use Rattle.wl_any_senders.specs.Expected.{expected_bits}
 use Rattle.wl_any_senders.specs.Lines.{BeginsAfter, IsLineOf, RestsBefore, finds_expected, node_after}
 use Rattle.wl_any_senders.specs.Machines.{bus_levels}
 use Rattle.wl_any_senders.specs.Stations.{AreOnALine, AreStations, HaveRoom, Stations}
+use Rattle.wl_any_senders.proofs.Callers.{finds_driven, finds_what_comes}
 use Rattle.wl_first_frame.specs.FirstStarts.{AreIdle, HandTheFirst, Waiting, first_outset, rest_first}
-use Rattle.wl_frames.specs.Frames.{FollowOneAnother, Frame}
+use Rattle.wl_frame_end.proofs.Callers.{MachineLaws, levels_agree}
+use Rattle.wl_frames.specs.Frames.{FollowOneAnother, Frame, frames_drove}
 use Rattle.wl_frames.specs.Lines.{BeginFrames, finds_frames}
 use Rattle.wl_frames.specs.Runs.{HandsBetween}
+use Rattle.wl_frames.proofs.Windows as windows
+use Rattle.wl_frames.proofs.Windows.{IsHeard, NothingFound, RestAfter}
 
 -- the laws that this rests on
 abbrev pub AfterFirst : Type 0
@@ -35,3 +42,41 @@ powered_up after rest l setups w line are room idle hand frames count all some f
       (subst (λ o. (n : ℕ) → n < (frames 0).bits → stuffed_end (bus_levels w.stations (expected_bits w.stations o) n) ≡ None) first (all.each 0 some).ends.none) inside);
   hands = hands;
 }
+
+-- up to its last bit before the first frame nothing has passed a node
+abbrev pub NothingFirst : Type 0
+NothingFirst = (l : Line) (setups : ℕ → NodeSetup) (w : Waiting) (length i : ℕ) → IsLineOf l setups w.stations → AreStations w.stations → HaveRoom w.stations → AreIdle w → HandTheFirst w setups
+    → ((n : ℕ) → n < length → stuffed_end (bus_levels w.stations (expected_bits w.stations (first_outset w)) n) ≡ None) → i < w.stations.count
+    → (q : ℕ) → q ≤ suc (rest_first w i + sample_at (w.stations.lengths i))
+    → ((node_after (setups i) (finds_expected l w.stations (first_outset w) length i) q).frames ≡ [])
+    × (error_count (node_after (setups i) (finds_expected l w.stations (first_outset w) length i) q) ≡ 0)
+
+module _ (m : MachineLaws) (nothing : NothingFound) (is_heard : IsHeard) (rest_after : RestAfter) (after : AfterFirst) (none : NothingFirst) (l : Line) (setups : ℕ → NodeSetup) (w : Waiting)
+    (line : IsLineOf l setups w.stations) (are : AreStations w.stations) (room : HaveRoom w.stations) (idle : AreIdle w) (hand : HandTheFirst w setups) (fs : ℕ → Frame) (count : ℕ)
+    (frames : FollowOneAnother w.stations fs count) (some : 0 < count) (first : (fs 0).outset ≡ first_outset w) (i : ℕ) (inside : i < w.stations.count) where
+  abbrev s : Stations
+  s = w.stations
+
+  begins : BeginsAfter s (fs 0).outset i (rest_first w i)
+  begins = subst (λ o. BeginsAfter s o i (rest_first w i)) (sym first) (after w are.line idle i inside)
+
+  same : (q : ℕ) → q ≤ rest_first w i + sample_at (s.lengths i) → finds_frames l s fs count i q ≡ finds_expected l s (fs 0).outset (fs 0).bits i q
+  same q by =
+      finds_driven l setups s line (frames_drove s fs count) i q inside
+      ∙ ap level_of (windows.first_alone m nothing is_heard rest_after s are room fs count frames some i (rest_first w i) q inside begins by)
+      ∙ sym (finds_what_comes l setups s line (fs 0).outset (fs 0).bits i q inside)
+
+  none_first : (q : ℕ) → q ≤ suc (rest_first w i + sample_at (s.lengths i)) → ((node_after (setups i) (finds_expected l s (fs 0).outset (fs 0).bits i) q).frames ≡ [])
+      × (error_count (node_after (setups i) (finds_expected l s (fs 0).outset (fs 0).bits i) q) ≡ 0)
+  none_first q by =
+      subst (λ o. ((node_after (setups i) (finds_expected l s o (fs 0).bits i) q).frames ≡ []) × (error_count (node_after (setups i) (finds_expected l s o (fs 0).bits i) q) ≡ 0)) (sym first)
+      (none l setups w (fs 0).bits i line are room idle hand
+      (subst (λ o. (n : ℕ) → n < (fs 0).bits → stuffed_end (bus_levels s (expected_bits s o) n) ≡ None) first (frames.each 0 some).ends.none) inside q by)
+
+  pub nothing_passed : (q : ℕ) → q ≤ suc (rest_first w i + sample_at (s.lengths i)) → ((node_after (setups i) (finds_frames l s fs count i) q).frames ≡ [])
+      × (error_count (node_after (setups i) (finds_frames l s fs count i) q) ≡ 0)
+  nothing_passed q by =
+      let node : node_after (setups i) (finds_frames l s fs count i) q ≡ node_after (setups i) (finds_expected l s (fs 0).outset (fs 0).bits i) q =
+      ap (history_of (setups i)) (levels_agree (finds_frames l s fs count i) (finds_expected l s (fs 0).outset (fs 0).bits i) q (λ j less. same j (omega arith))) in
+      let x = none_first q by in
+      (ap (λ h. h.frames) node ∙ x.0, ap error_count node ∙ x.1)

@@ -1,15 +1,14 @@
 -- A queue hands its next frame to a node that rests.
-use Rattle.std.proofs.Common.{◌≡◌, ◌∙◌, refl, sym, ap, subst, ℕ, zero, suc, ◌+◌, ◌-◌, ◌*◌, ◌<◌, ◌≤◌, cond, Bool, true, false, List, [], ◌∷◌, length, Some, None, arith}
-use Rattle.std.specs.Prelude.{drop, nat_lt, slice_get}
+use Rattle.std.proofs.Common.{◌≡◌, ◌∙◌, refl, sym, ap, subst, ℕ, zero, suc, ◌+◌, ◌-◌, ◌*◌, ◌<◌, ◌≤◌, cond, true, false, List, [], ◌∷◌, length, Some, None, arith}
+use Rattle.std.specs.Prelude.{drop, slice_get}
 use Rattle.std.specs.Int.{div_ceil}
 use Rattle.std.proofs.lemmas.Bool.{le-leb, ltb-false, ltb-true}
 use Rattle.std.proofs.lemmas.Grind.{div_ceil_times}
 use Rattle.std.proofs.Math.Nat.{mul-le-mul_right}
 use Rattle.wl_segments.specs.Lengths.{bit_quanta, sample_at}
-use Rattle.wl_frame.specs.Grammar.{Content}
 use Rattle.wl_node.specs.declared.setup.Queued.{Queued}
 use Rattle.wl_node.specs.History.{History, ready_head, unsent_of}
-use Rattle.wl_one_sender.specs.Through.{first_ready}
+use Rattle.wl_one_sender.specs.Through.{first_ready, queued_contents}
 use Rattle.wl_level.specs.declared.Level.{Level}
 use Rattle.wl_node.specs.declared.setup.NodeSetup.{NodeSetup}
 use Rattle.wl_any_senders.specs.Stations.{Stations}
@@ -21,9 +20,9 @@ use Rattle.wl_frames.specs.Frames.{FollowOneAnother, Frame, resting_of, third_sa
 use Rattle.wl_frames.specs.Runs.{HandsBetween}
 use Rattle.wl_frames.specs.NextNodes.{HandsNext, head_after}
 use Rattle.wl_frames.specs.NextStarts.{Resting, has_next, rested}
-use Rattle.wl_frames.specs.Queues.{DecidesByQueue, SendsByQueue, contents_of, decides_after}
+use Rattle.wl_frames.specs.Queues.{DecidesByQueue, SendsByQueue, decides_after}
 
-same_length : (queue : List Queued) → length (contents_of queue) ≡ length queue
+same_length : (queue : List Queued) → length (queued_contents queue) ≡ length queue
 same_length [] = refl
 same_length (q ∷ more) = ap suc (same_length more)
 
@@ -38,7 +37,7 @@ record Left (queue : List Queued) (n : ℕ) : Type 0 where
   first : Queued
   later : List Queued
   is : drop n queue ≡ first ∷ later
-  content : slice_get (contents_of queue) n ≡ Some first.frame
+  content : slice_get (queued_contents queue) n ≡ Some first.frame
 
 some_left : (queue : List Queued) (n : ℕ) → n < length queue → Left queue n
 some_left [] n less = absurd (omega arith)

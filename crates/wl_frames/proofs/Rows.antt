@@ -13,7 +13,8 @@ use Rattle.wl_any_senders.specs.Stations.{Stations}
 use Rattle.wl_any_senders.specs.Machines.{no_frame_sample}
 use Rattle.wl_frames.specs.NextStarts.{Resting, begins_next, decision_next, due_next, edge_next, has_next, last_next, rest_next, rested, start_next, waiting_past}
 use Rattle.wl_frames.specs.NextNodes.{head_after}
-use Rattle.wl_frames.specs.Queues.{contents_of, decides_after}
+use Rattle.wl_one_sender.specs.Through.{queued_contents}
+use Rattle.wl_frames.specs.Queues.{decides_after}
 
 -- a bit of 1 + 3 + 3 + 3 quanta with its sample at place 7
 abbrev l : Lengths
@@ -139,5 +140,5 @@ decides_last = refl
 long_ago : decides_after l 100 3 ≡ 0
 long_ago = refl
 
-queued : contents_of (record { frame = c; ready = 3 } ∷ record { frame = c; ready = 1 } ∷ []) ≡ c ∷ c ∷ []
+queued : queued_contents (record { frame = c; ready = 3 } ∷ record { frame = c; ready = 1 } ∷ []) ≡ c ∷ c ∷ []
 queued = refl

@@ -1,5 +1,5 @@
 -- Of several frames a station finds one at a time.
-use Rattle.std.proofs.Common.{◌≡◌, ◌≢◌, ◌∙◌, ◌⊎◌, inl, inr, refl, sym, ap, subst, ℕ, zero, suc, ◌+◌, ◌-◌, ◌*◌, ◌<◌, ◌≤◌, Bool, true, false, List, Option, Some, None, arith}
+use Rattle.std.proofs.Common.{◌≡◌, ◌≢◌, ◌∙◌, ◌⊎◌, inl, inr, refl, sym, ap, subst, ℕ, zero, suc, ◌+◌, ◌-◌, ◌<◌, ◌≤◌, Bool, false, List, Option, Some, None, arith}
 use Rattle.std.proofs.lemmas.Bool.{both_ways, cases_Bool, cases_eq, cases_lt, false_from_ne_true}
 use Rattle.wl_segments.specs.Lengths.{bit_quanta, sample_at}
 use Rattle.wl_topology.specs.Driven.{any_below, driven}
@@ -19,7 +19,7 @@ use Rattle.wl_first_frame.proofs.Callers as reaching
 use Rattle.wl_frame_end.specs.Asked.{CanBeAnswered, EndsBefore}
 use Rattle.wl_frame_end.proofs.Callers.{MachineLaws, found_was, over_is, samples_up}
 use Rattle.wl_frames.specs.Frames.{FollowOneAnother, IsBegunAfter, Frame, IsBegun, frame_drove, frames_drove, resting_of, third_sample}
-use Rattle.wl_frames.specs.NextStarts.{AreResting, Resting, due_next, edge_next, has_next, is_reached_next, outset_next, rest_next, rested, start_next}
+use Rattle.wl_frames.specs.NextStarts.{AreResting, Resting, due_next, edge_next, has_next, is_reached_next, outset_next, rest_next, start_next}
 use Rattle.wl_frames.proofs.Beginning.{rest_early}
 use Rattle.wl_frames.proofs.Lasting.{after_next, last_at, silence_of, silent_of}
 
@@ -70,18 +70,23 @@ module _ (m : MachineLaws) (nothing : NothingFound) (is_heard : IsHeard) (rest_a
       let f = frames.each n less in
       samples_up m s are room (fs n).outset f.outset (fs n).bits f.ends.none f.ends.there f.won f.chase f.answer.catch f.answer.room a j i inside h
 
-  -- after a frame nothing of it is found
-  past : (n i q : ℕ) → n < count → i < s.count → T n i < q → found n i q ≡ false
-  past n i q less inside more =
+  -- the acknowledgement is over by the third bit of the intermission
+  pub over_by_third : (n i : ℕ) → n < count → i < s.count → (expected_bits s (fs n).outset (suc (suc (fs n).bits))).from i + sample_at (s.lengths i) ≤ T n i
+  over_by_third n i less inside =
       let f = frames.each n less in
-      let o = (fs n).outset in
-      let end = (fs n).bits in
-      let h = is_heard s (fs n).outset (fs n).bits f.chase (λ k. suc (tick i q)) are room f.outset f.ends f.won f.answer in
       let from : (expected_bits s (fs n).outset (suc (suc (fs n).bits))).from i ≡ (expected_bits s (fs n).outset (suc (fs n).bits)).place i + bit_quanta (s.lengths i) =
       ap (λ b. b.from i) (over_is m s are room (fs n).outset f.outset (fs n).bits f.ends.none f.ends.there f.won) in
       let place : (expected_bits s (fs n).outset (suc (suc (fs n).bits))).place i ≡ (expected_bits s (fs n).outset (suc (fs n).bits)).place i + bit_quanta (s.lengths i) =
       ap (λ b. b.place i) (over_is m s are room (fs n).outset f.outset (fs n).bits f.ends.none f.ends.there f.won) in
       let later = up n (suc (suc (fs n).bits)) ((fs n).bits + 12) i less (omega arith) inside in
+      omega arith
+
+  -- after a frame nothing of it is found
+  past : (n i q : ℕ) → n < count → i < s.count → T n i < q → found n i q ≡ false
+  past n i q less inside more =
+      let f = frames.each n less in
+      let h = is_heard s (fs n).outset (fs n).bits f.chase (λ k. suc (tick i q)) are room f.outset f.ends f.won f.answer in
+      let over = over_by_third n i less inside in
       let ticks = tick_next s are i inside ((expected_bits s (fs n).outset (suc (suc (fs n).bits))).from i + sample_at (s.lengths i)) q (omega arith) in
       h.silent i (tick i q) inside ticks (λ k there. omega arith)
 
@@ -215,3 +220,28 @@ module _ (m : MachineLaws) (nothing : NothingFound) (is_heard : IsHeard) (rest_a
     alone =
         m.driven.same s.count s.delay (frames_drove s fs count) (frame_drove s (fs n)) i (tick i q)
         (λ k there come. any_alone count n (λ g. frame_drove s (fs g) k (tick i q - s.delay k i)) less (λ g in_count apart. drives_none g k in_count apart there come))
+
+  -- after all frames nothing is found
+  module _ (i q : ℕ) (inside : i < s.count) (after : (g : ℕ) → g < count → T g i < q) where
+    gone : (g k : ℕ) → g < count → k < s.count → s.delay k i ≤ tick i q → frame_drove s (fs g) k (tick i q - s.delay k i) ≡ false
+    gone g k in_count there come =
+        false_from_ne_true (frame_drove s (fs g) k (tick i q - s.delay k i))
+        (λ e. both_ways (found g i q) (past g i q in_count inside (after g in_count)) (m.driven.dominant_from s.count s.delay (frame_drove s (fs g)) k i (tick i q) there come e))
+
+    pub silent_after : driven s.count s.delay (frames_drove s fs count) i (tick i q) ≡ false
+    silent_after =
+        false_from_ne_true (driven s.count s.delay (frames_drove s fs count) i (tick i q))
+        (λ e. (let x = m.driven.dominant_by s.count s.delay (frames_drove s fs count) i (tick i q) e in
+        both_ways (frames_drove s fs count x.0 (tick i q - s.delay x.0 i))
+        (any_none count (λ g. frame_drove s (fs g) x.0 (tick i q - s.delay x.0 i)) (λ g in_count. gone g x.0 in_count x.1 x.2)) x.3))
+
+  -- up to its last bit before the first frame a station finds what its stuffed part drives
+  pub first_alone : 0 < count → (i rest q : ℕ) → i < s.count → BeginsAfter s (fs 0).outset i rest → q ≤ rest + sample_at (s.lengths i)
+      → driven s.count s.delay (frames_drove s fs count) i (tick i q) ≡ driven s.count s.delay (expected_drove s (fs 0).outset (fs 0).bits) i (tick i q)
+  first_alone some i rest q inside begins by =
+      let f = frames.each 0 some in
+      let after = rest_early s (fs 0).outset i rest begins (f.outset.begin i inside) in
+      let end = up 0 0 (fs 0).bits i some (omega arith) inside in
+      let third = up 0 0 ((fs 0).bits + 12) i some (omega arith) inside in
+      alone 0 i q some inside (λ j e. absurd (omega (arith, e))) (omega arith)
+      ∙ found_was m s are room (fs 0).outset f.outset (fs 0).bits f.ends.none f.ends.there f.won f.chase f.answer.catch f.answer.room i q inside (omega arith)
