@@ -1,13 +1,12 @@
 -- A node that rests on a silent line, bit by bit: what it has sampled, and that nothing counts.
-use Rattle.std.proofs.Common.{◌≡◌, ◌≢◌, ◌∙◌, inl, inr, refl, sym, ap, subst, ℕ, zero, suc, ◌+◌, ◌*◌, ◌<◌, ◌≤◌, Bool, true, false, List, [], ◌∷◌, ◌++◌, length, Option, Some, None, arith, append-nil, ◌-◌}
+use Rattle.std.proofs.Common.{◌≡◌, ◌∙◌, inl, inr, refl, sym, ap, subst, ℕ, zero, suc, ◌+◌, ◌<◌, ◌≤◌, cond, List, [], ◌∷◌, ◌++◌, length, Option, arith, append-nil, ◌-◌}
 use Rattle.std.specs.Prelude.{count_by, drop}
 use Rattle.std.proofs.lemmas.Bool.{cases_eq, cases_lt}
-use Rattle.std.proofs.lemmas.List.Sums.{fold-append}
+use Rattle.std.proofs.lemmas.List.Sums.{fold-append, sum_by-append}
 use Rattle.wl_level.specs.declared.Level.{Level}
 use Rattle.wl_level.specs.declared.Level.TheVariants.{Recessive}
-use Rattle.wl_confine.specs.declared.Happened.TheVariants.{Nothing}
 use Rattle.wl_confine.specs.declared.Mode.TheVariants.{Active}
-use Rattle.wl_confine.specs.Counts.{counts_after, counts_of, mode_of, no_counts}
+use Rattle.wl_confine.specs.Counts.{counts_after, counts_of, is_error, mode_of, no_counts}
 use Rattle.wl_segments.specs.Lengths.{Lengths, bit_quanta, sample_at}
 use Rattle.wl_sync.specs.declared.Beat.{Beat}
 use Rattle.wl_sync.specs.declared.Beat.TheVariants as beats
@@ -18,15 +17,13 @@ use Rattle.wl_sync.specs.Skips.{steady_clock}
 use Rattle.wl_frame.specs.Grammar.{Content}
 use Rattle.wl_machine.specs.Stretch.{Judgement, Sampled, Stretch}
 use Rattle.wl_machine.specs.Stretch.Sort.{Idle}
-use Rattle.wl_machine.specs.Stretch.Ended.{NoFrame}
 use Rattle.wl_machine.specs.Stretch.Input.{Sample}
-use Rattle.wl_machine.specs.Quiet.{idle_on}
 use Rattle.wl_machine.specs.Judged.{drive_by, drive_of, judged, judged_by, stretch_after, stretch_of}
 use Rattle.wl_machine.specs.States.{sample_of}
 use Rattle.wl_machine.proofs.Callers.{stretch_next}
 use Rattle.wl_node.specs.declared.setup.NodeSetup.{NodeSetup}
 use Rattle.wl_node.specs.declared.setup.Passed.{Passed}
-use Rattle.wl_node.specs.History.{History, by_beat, is_sent, passed_frames, ready_head, sampled_next, switched_off, unsent_of}
+use Rattle.wl_node.specs.History.{History, by_beat, error_count, is_sent, passed_frames, ready_head, sampled_next, switched_off, unsent_of}
 use Rattle.wl_phase.specs.InStep.{seen_before}
 use Rattle.wl_phase.specs.Ways.{ByTheBook}
 use Rattle.wl_any_senders.specs.Clocked.{BitIs, EdgeLaws, NoEdgeLaws, SamplesBy}
@@ -47,13 +44,14 @@ module _ (edges : EdgeLaws) (calm : NoEdgeLaws) (setup : NodeSetup) (l : Lengths
   abbrev sees : ℕ → Seen
   sees = clock_sees levels node
 
-  -- the node after its sample of a bit with place 0 at p: its machine is in this stretch, and these frames have passed it
-  pub record Rests (p : ℕ) (x : Stretch) (passed : List Passed) : Type 0 where
+  -- the node after its sample of a bit with place 0 at p: its machine is in this stretch, these frames have passed it, and it has found this number of errors
+  pub record Rests (p : ℕ) (x : Stretch) (passed : List Passed) (wrong : ℕ) : Type 0 where
     pub sampled : SamplesBy l sees (p + S) Recessive
     pub clock : clock_after l (seen_before sees (suc (p + S))) ≡ steady_clock l
     pub stretch : stretch_of (node (suc (p + S))).inputs ≡ x
     pub counts : counts_of (node (suc (p + S))).happened ≡ no_counts
     pub frames : (node (suc (p + S))).frames ≡ passed
+    pub errors : error_count (node (suc (p + S))) ≡ wrong
     pub drive : (node (suc (p + S))).drive ≡ Recessive
 
   whole : (q : ℕ) (b : Beat) → beat_of l (seen_before sees q) (sees q) ≡ b → beat_of setup.segments (seen_before sees q) (sees q) ≡ b
@@ -66,18 +64,18 @@ module _ (edges : EdgeLaws) (calm : NoEdgeLaws) (setup : NodeSetup) (l : Lengths
       ∙ ap (λ x. (by_beat setup (node q) (levels q) x).frames) (ap (λ v. beat_of setup.segments v (sees q)) (seen_are setup levels node run q) ∙ whole q b e)
 
   -- a silent bit
-  module _ (p : ℕ) (x : Stretch) (idle : x.sort ≡ Idle) (passed : List Passed) (r : Rests p x passed) (silent : (q : ℕ) → p + S < q → q ≤ p + B + S → levels q ≡ Recessive) where
+  module _ (p : ℕ) (x : Stretch) (idle : x.sort ≡ Idle) (passed : List Passed) (wrong : ℕ) (r : Rests p x passed wrong) (silent : (q : ℕ) → p + S < q → q ≤ p + B + S → levels q ≡ Recessive) where
     bit : BitIs l sees (p + S) (p + B) (p + B) Recessive
     bit = edges.silent l sees p Recessive book r.sampled silent
 
     low : 0 < B
     low = let h = book.lengths.low in omega arith
 
-    record Same (q : ℕ) : Type 0 where
-      inputs : (node q).inputs ≡ (node (suc (p + S))).inputs
-      happened : (node q).happened ≡ (node (suc (p + S))).happened
-      frames : (node q).frames ≡ passed
-      drive : (node q).drive ≡ Recessive
+    pub record Same (q : ℕ) : Type 0 where
+      pub inputs : (node q).inputs ≡ (node (suc (p + S))).inputs
+      pub happened : (node q).happened ≡ (node (suc (p + S))).happened
+      pub frames : (node q).frames ≡ passed
+      pub drive : (node q).drive ≡ Recessive
 
     wants_none : (node (suc (p + S))).inputs ≡ (node (suc (p + S))).inputs → drive_of (stretch_of (node (suc (p + S))).inputs) ≡ Recessive
     wants_none e = ap drive_of r.stretch ∙ ap (λ k. drive_by k x.own) idle
@@ -108,7 +106,7 @@ module _ (edges : EdgeLaws) (calm : NoEdgeLaws) (setup : NodeSetup) (l : Lengths
     same_up (suc m) less =
         subst Same (let e : suc (suc (p + S) + m) ≡ suc (p + S) + suc m = omega arith in e) (step (suc (p + S) + m) (omega arith) (omega arith) (same_up m (omega arith)))
 
-    same_at : (q : ℕ) → p + S < q → q ≤ p + B + S → Same q
+    pub same_at : (q : ℕ) → p + S < q → q ≤ p + B + S → Same q
     same_at q more less = subst Same (let e : suc (p + S) + (q - suc (p + S)) ≡ q = omega arith in e) (same_up (q - suc (p + S)) (omega arith))
 
     abbrev next : ℕ
@@ -178,13 +176,21 @@ module _ (edges : EdgeLaws) (calm : NoEdgeLaws) (setup : NodeSetup) (l : Lengths
         frames_by next (beats.Sample Recessive) beat
         ∙ ap (λ e. (node next).frames ++ passed_frames (length (node next).seen) e) on.ended ∙ append-nil (node next).frames ∙ last.frames
 
-    pub rests_next : Rests (p + B) (stretch_after x (Sample (sample_of Recessive head Active))) passed
+    errors_then : error_count (node (suc next)) ≡ wrong
+    errors_then =
+        ap (count_by is_error) (happened_by setup levels node run next (beats.Sample Recessive) (whole next (beats.Sample Recessive) beat))
+        ∙ sum_by-append (λ h. cond (is_error h) 1 0) (node next).happened (judgement.happened ∷ [])
+        ∙ ap (λ k. k + (0 + cond (is_error judgement.happened) 1 0)) (ap (count_by is_error) last.happened ∙ r.errors)
+        ∙ ap (λ h. wrong + (0 + cond (is_error h) 1 0)) on.happened ∙ omega arith
+
+    pub rests_next : Rests (p + B) (stretch_after x (Sample (sample_of Recessive head Active))) passed wrong
     rests_next = record {
       sampled = beat;
       clock = edges.steady l sees p Recessive book r.sampled (λ q more less. calm.recessive l (seen_before sees q) (sees q) book (silent q more less)) silent_next;
       stretch = stretch_then;
       counts = ap counts_of (happened_by setup levels node run next (beats.Sample Recessive) (whole next (beats.Sample Recessive) beat)) ∙ counts_then;
       frames = frames_then;
+      errors = errors_then;
       drive = driven_by setup levels node run next (beats.Sample Recessive) (whole next (beats.Sample Recessive) beat) ∙ last.drive;
     }
 

@@ -8,6 +8,7 @@ mod Lasting
 mod LineGoing
 mod Outset
 mod PoweredUp
+mod Quiet
 mod Queueing
 mod Resuming
 mod Rows

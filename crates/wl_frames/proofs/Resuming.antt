@@ -1,5 +1,5 @@
 -- A node that rests waits for the next frame.
-use Rattle.std.proofs.Common.{◌≡◌, ◌∙◌, inl, inr, refl, sym, ap, subst, ℕ, zero, suc, ◌+◌, ◌*◌, ◌<◌, ◌≤◌, Bool, true, false, List, [], ◌∷◌, ◌++◌, length, replicate, Option, Some, None, arith, append-nil}
+use Rattle.std.proofs.Common.{◌≡◌, ◌∙◌, inl, inr, refl, sym, ap, subst, ℕ, zero, suc, ◌+◌, ◌*◌, ◌<◌, ◌≤◌, true, false, List, [], ◌∷◌, ◌++◌, length, replicate, Option, Some, None, arith, append-nil}
 use Rattle.std.specs.Prelude.{count_by, drop, slice_get}
 use Rattle.std.proofs.lemmas.Bool.{cases_Bool, cases_lt}
 use Rattle.std.proofs.lemmas.List.{append_assoc}
@@ -18,8 +18,7 @@ use Rattle.wl_machine.specs.States.{sample_of, stretch_by}
 use Rattle.wl_machine.proofs.Callers.{stretch_next}
 use Rattle.wl_node.specs.declared.setup.NodeSetup.{NodeSetup}
 use Rattle.wl_node.specs.declared.setup.Passed.{Passed}
-use Rattle.wl_node.specs.declared.setup.Queued.{Queued}
-use Rattle.wl_node.specs.History.{History, is_sent, ready_head, unsent_of}
+use Rattle.wl_node.specs.History.{History, error_count, is_sent, ready_head, unsent_of}
 use Rattle.wl_wire.specs.Wire.{Handed, sampled}
 use Rattle.wl_any_senders.specs.Stations.{AreOnALine, Stations}
 use Rattle.wl_any_senders.specs.Clocked.{EdgeLaws, NoEdgeLaws}
@@ -70,6 +69,9 @@ module _ (wait : MayWait) (edges : EdgeLaws) (calm : NoEdgeLaws) (w : Resting) (
 
   abbrev passed : List Passed
   passed = (node (suc (rested w i))).frames
+
+  abbrev wrong : ℕ
+  wrong = error_count (node (suc (rested w i)))
 
   abbrev head : ℕ → Option Content
   head = head_after w i (slice_get (w.frames i) handed.which) (unsent_of setup (node (suc (rested w i))))
@@ -145,7 +147,7 @@ module _ (wait : MayWait) (edges : EdgeLaws) (calm : NoEdgeLaws) (w : Resting) (
 
   -- bit by bit
   abbrev Rests : ℕ → Type 0
-  Rests n = idle.Rests edges calm setup (s.lengths i) segments (line.book i inside) levels node run (p n) (x n) passed
+  Rests n = idle.Rests edges calm setup (s.lengths i) segments (line.book i inside) levels node run (p n) (x n) passed wrong
 
   p_zero : p 0 ≡ w.place i
   p_zero = omega arith
@@ -158,13 +160,14 @@ module _ (wait : MayWait) (edges : EdgeLaws) (calm : NoEdgeLaws) (w : Resting) (
 
   rests_first : Rests 0
   rests_first =
-      subst (λ k. idle.Rests edges calm setup (s.lengths i) segments (line.book i inside) levels node run k (x 0) passed) (sym p_zero)
+      subst (λ k. idle.Rests edges calm setup (s.lengths i) segments (line.book i inside) levels node run k (x 0) passed wrong) (sym p_zero)
       (record {
         sampled = first.sampled;
         clock = first.clock;
         stretch = first.stretch ∙ free_first;
         counts = first.counts;
         frames = refl;
+        errors = refl;
         drive = first.drive (suc (rested w i)) (let h = since_before in omega arith) (omega arith);
       })
 
@@ -181,9 +184,9 @@ module _ (wait : MayWait) (edges : EdgeLaws) (calm : NoEdgeLaws) (w : Resting) (
 
   rests_next_by : (n : ℕ) → n < m → Rests n → Rests (suc n)
   rests_next_by n less r =
-      subst (λ k. idle.Rests edges calm setup (s.lengths i) segments (line.book i inside) levels node run k (x (suc n)) passed) (p_next n)
-      (subst (λ h. idle.Rests edges calm setup (s.lengths i) segments (line.book i inside) levels node run (p n + B) (stretch_after (x n) (Sample (sample_of Recessive h Active))) passed) (head_is n)
-      (idle.rests_next edges calm setup (s.lengths i) segments (line.book i inside) levels node run (p n) (x n) (x_idle n less) passed r (silent_bit n less)))
+      subst (λ k. idle.Rests edges calm setup (s.lengths i) segments (line.book i inside) levels node run k (x (suc n)) passed wrong) (p_next n)
+      (subst (λ h. idle.Rests edges calm setup (s.lengths i) segments (line.book i inside) levels node run (p n + B) (stretch_after (x n) (Sample (sample_of Recessive h Active))) passed wrong) (head_is n)
+      (idle.rests_next edges calm setup (s.lengths i) segments (line.book i inside) levels node run (p n) (x n) (x_idle n less) passed wrong r (silent_bit n less)))
 
   rests_at : (n : ℕ) → n ≤ m → Rests n
   rests_at zero less = rests_first
@@ -193,7 +196,7 @@ module _ (wait : MayWait) (edges : EdgeLaws) (calm : NoEdgeLaws) (w : Resting) (
   drive_at zero less q low high = first.drive q low (omega arith)
   drive_at (suc n) less q low high = elim (cases_lt (p n + S) q) [
     | inl later ↦
-        idle.drive_next edges calm setup (s.lengths i) segments (line.book i inside) levels node run (p n) (x n) (x_idle n less) passed (rests_at n (omega arith)) (silent_bit n less) q later
+        idle.drive_next edges calm setup (s.lengths i) segments (line.book i inside) levels node run (p n) (x n) (x_idle n less) passed wrong (rests_at n (omega arith)) (silent_bit n less) q later
         (let e = p_next n in omega arith)
     | inr sooner ↦ drive_at n (omega arith) q low (omega arith)
   ]

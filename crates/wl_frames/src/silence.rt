@@ -39,7 +39,6 @@ pub fn a_node_rests_for_ever()
         → ((j : ℕ) → rest + sample_at (s.lengths i) < j → j < q → levels j ≡ Recessive)
         → StillRests node (suc (rest + sample_at (s.lengths i))) q }
 {
-    wl_any_senders::waits::idle_machines_may_wait();
     wl_any_senders::laws::a_station_begins_its_bits();
     wl_any_senders::laws::no_edge_counts_then();
 }
