@@ -1,6 +1,7 @@
 mod Beginning
 mod Chaining
 mod Driving
+mod Falling
 mod Free
 mod Histories
 mod Idle
