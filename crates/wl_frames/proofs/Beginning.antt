@@ -4,7 +4,7 @@ use Rattle.wl_level.specs.declared.Level.{Level}
 use Rattle.wl_level.specs.Levels.{level_of}
 use Rattle.std.proofs.lemmas.Bool.{cases_lt}
 use Rattle.wl_segments.specs.Lengths.{sample_at}
-use Rattle.wl_topology.specs.Driven.{DrivenLaws, driven}
+use Rattle.wl_topology.specs.Driven.{driven}
 use Rattle.wl_machine.specs.Frames.{stuffed_end}
 use Rattle.wl_node.specs.declared.setup.NodeSetup.{NodeSetup}
 use Rattle.wl_node.specs.History.{History}
@@ -18,7 +18,7 @@ use Rattle.wl_any_senders.specs.Lines.{BeginsAfter}
 use Rattle.wl_any_senders.specs.Machines.{bus_levels}
 use Rattle.wl_any_senders.specs.Nodes.{IsRun}
 use Rattle.wl_any_senders.specs.Stations.{AreStations, HaveRoom, Stations}
-use Rattle.wl_any_senders.proofs.Callers.{FindNoErrors, LeastWins, LevelGoes, SampleGoes, SendStuffed, SixOrFront, StayInStep, TenHaveEdge, bit_place_laws, bit_start_laws, has_begun}
+use Rattle.wl_any_senders.proofs.Callers.{LevelGoes, SampleGoes, bit_place_laws, bit_start_laws, has_begun}
 use Rattle.wl_frame_end.specs.Again.{RestsAgain}
 use Rattle.wl_frame_end.proofs.Callers.{MachineLaws}
 use Rattle.wl_frames.specs.NextNodes.{BeginsSince}

@@ -1,14 +1,13 @@
 -- After a frame all machines are free with the third bit of the intermission, and all stations rest before the next frame.
-use Rattle.std.proofs.Common.{◌≡◌, ◌≢◌, ◌∙◌, refl, ap, ℕ, suc, ◌+◌, ◌*◌, ◌<◌, ◌≤◌, true, List, [], ◌∷◌, ◌++◌, replicate, Option, arith}
+use Rattle.std.proofs.Common.{◌≡◌, ◌∙◌, refl, ap, ℕ, suc, ◌+◌, ◌*◌, ◌<◌, ◌≤◌, [], ◌∷◌, ◌++◌, replicate, Option, arith}
 use Rattle.std.specs.Prelude.{slice_get}
-use Rattle.wl_level.specs.declared.Level.{Level}
 use Rattle.wl_level.specs.declared.Level.TheVariants.{Recessive}
 use Rattle.wl_confine.specs.declared.Mode.TheVariants.{Active}
-use Rattle.wl_segments.specs.Lengths.{bit_quanta, sample_at}
+use Rattle.wl_segments.specs.Lengths.{bit_quanta}
 use Rattle.wl_frame.specs.Grammar.{Content}
 use Rattle.wl_machine.specs.declared.state.Role.{Role}
 use Rattle.wl_machine.specs.declared.state.Role.TheVariants.{Rx, Tx}
-use Rattle.wl_machine.specs.Stretch.{Stretch, free}
+use Rattle.wl_machine.specs.Stretch.{free}
 use Rattle.wl_machine.specs.Stretch.Sort.{Intermission}
 use Rattle.wl_machine.specs.Stretch.Input.{Sample}
 use Rattle.wl_machine.specs.Judged.{stretch_after, stretch_of}
@@ -21,8 +20,7 @@ use Rattle.wl_any_senders.specs.Stations.{AreStations, Stations}
 use Rattle.wl_any_senders.specs.Expected.{IsOutset, Outset, expected_bits, expected_sample, past_at}
 use Rattle.wl_any_senders.proofs.Callers.{tick_next}
 use Rattle.wl_frame_end.specs.Asked.{EndAsAsked, begun_frame, stuffed_levels}
-use Rattle.wl_frame_end.specs.Ends.{end_stretch}
-use Rattle.wl_frames.specs.NextStarts.{AreResting, HaveMore, due_next, has_next, resting_after}
+use Rattle.wl_frames.specs.NextStarts.{AreResting, HaveMore, due_next, resting_after}
 
 third : (r : Role) (head : Option Content) → stretch_after (stretch_by (Intermission r) (replicate 2 Recessive)) (Sample (sample_of Recessive head Active)) ≡ stretch_by (free head) []
 third Tx head = refl

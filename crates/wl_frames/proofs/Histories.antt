@@ -1,5 +1,5 @@
 -- A node rests before a frame as well if it finds the same up to then.
-use Rattle.std.proofs.Common.{◌≡◌, ◌∙◌, ap, ℕ, suc, ◌+◌, ◌<◌, ◌≤◌, arith}
+use Rattle.std.proofs.Common.{◌≡◌, ◌∙◌, ap, ℕ, suc, ◌+◌, ◌≤◌, arith}
 use Rattle.wl_level.specs.declared.Level.{Level}
 use Rattle.wl_confine.specs.Counts.{counts_of}
 use Rattle.wl_segments.specs.Lengths.{sample_at}
@@ -7,7 +7,7 @@ use Rattle.wl_sync.specs.Bits.{beat_of}
 use Rattle.wl_sync.specs.Running.{clock_after}
 use Rattle.wl_machine.specs.Judged.{stretch_of}
 use Rattle.wl_node.specs.declared.setup.NodeSetup.{NodeSetup}
-use Rattle.wl_node.specs.History.{History, history_of, seen_next}
+use Rattle.wl_node.specs.History.{history_of, seen_next}
 use Rattle.wl_phase.specs.InStep.{seen_before}
 use Rattle.wl_any_senders.specs.Stations.{Stations}
 use Rattle.wl_any_senders.specs.Expected.{Outset}

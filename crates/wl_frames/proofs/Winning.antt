@@ -1,5 +1,5 @@
 -- One station has won each frame that stations begin, and another frame follows it.
-use Rattle.std.proofs.Common.{◌≡◌, ◌∙◌, sym, ap, refl, ℕ, zero, suc, ◌+◌, ◌<◌, ◌≤◌, ◌&&◌, ◌||◌, not, Bool, true, List, [], ◌∷◌, ◌++◌, Some, None, arith}
+use Rattle.std.proofs.Common.{◌≡◌, ◌∙◌, sym, ap, refl, ℕ, zero, suc, ◌+◌, ◌<◌, ◌≤◌, ◌||◌, not, Bool, true, List, [], ◌∷◌, ◌++◌, Some, None, arith}
 use Rattle.std.proofs.lemmas.Bool.{and_parts}
 use Rattle.wl_level.specs.Levels.{level_of}
 use Rattle.wl_topology.proofs.Callers.{any_same}
@@ -9,7 +9,6 @@ use Rattle.wl_machine.specs.Stretch.Input.{Sample}
 use Rattle.wl_machine.specs.Frames.{stuffed_end}
 use Rattle.wl_wire.specs.Wire.{sampled}
 use Rattle.wl_wire.specs.InStep.{AreSoundFrames}
-use Rattle.wl_any_senders.specs.Acknowledged.{chased_way}
 use Rattle.wl_any_senders.specs.Course.{IsCourse, IsSampled, bus_bit, still_sends}
 use Rattle.wl_any_senders.specs.Ends.{HasStuffedBits}
 use Rattle.wl_any_senders.specs.Expected.{IsOutset, Outset, expected_bits, expected_drove, expected_end, past_at, wants}
@@ -18,8 +17,7 @@ use Rattle.wl_any_senders.specs.OneBit.{IsRight}
 use Rattle.wl_any_senders.specs.Starts.{Start}
 use Rattle.wl_any_senders.specs.Stations.{AreOnALine, AreStations, HaveRoom, Stations}
 use Rattle.wl_any_senders.proofs.Callers.{drives_are}
-use Rattle.wl_frame_end.specs.Again.{HasRoomToRest}
-use Rattle.wl_frame_end.specs.Asked.{CanBeAnswered, EndsBefore}
+use Rattle.wl_frame_end.specs.Asked.{EndsBefore}
 use Rattle.wl_frame_end.proofs.Callers.{MachineLaws}
 use Rattle.wl_frames.specs.Frames.{IsBegunAfter, Frame, HasRoomForAll, IsBegun}
 use Rattle.wl_frames.specs.NextStarts.{AreFreeNext, AreResting, HaveMore, Resting, outset_next, resting_after}

@@ -1,11 +1,10 @@
 -- How stations that rest on a silent line begin a frame: which begin by themselves, which follow an edge, and what each has sampled before.
-use Rattle.std.specs.Prelude.{◌≡◌, ◌≢◌, ◌⊎◌, ◌<◌, ◌≤◌, ℕ, suc, ◌+◌, ◌-◌, ◌*◌, ◌/◌, ◌&&◌, not, nat_lt, Bool, true, false, List, [], ◌∷◌, ◌++◌, length, Option, Some, None, replicate, slice_get, if◌then◌else◌}
+use Rattle.std.specs.Prelude.{◌≡◌, ◌≢◌, ◌<◌, ℕ, suc, ◌+◌, ◌-◌, ◌*◌, ◌/◌, ◌&&◌, not, nat_lt, Bool, true, false, List, [], ◌∷◌, ◌++◌, length, Option, replicate, slice_get, if◌then◌else◌}
 use Rattle.wl_level.specs.declared.Level.TheVariants.{Recessive}
 use Rattle.wl_confine.specs.declared.Mode.TheVariants.{Active}
 use Rattle.wl_segments.specs.Lengths.{bit_quanta, sample_at}
 use Rattle.wl_frame.specs.Grammar.{Content}
 use Rattle.wl_machine.specs.Stretch.{Input, free}
-use Rattle.wl_machine.specs.Stretch.Sort.{Idle}
 use Rattle.wl_machine.specs.Stretch.Input.{Sample}
 use Rattle.wl_machine.specs.Judged.{stretch_of}
 use Rattle.wl_machine.specs.States.{stretch_by}

@@ -1,4 +1,4 @@
-use Rattle.std.proofs.Common.{ℕ, ◌+◌, ◌≤◌, arith}
+use Rattle.std.proofs.Common.{ℕ, ◌+◌, arith}
 use Rattle.wl_segments.specs.Lengths.{sample_at}
 use Rattle.wl_frame_end.proofs.Callers.{MachineLaws, samples_up}
 use Rattle.wl_frames.proofs.Beginning.{rest_early}
